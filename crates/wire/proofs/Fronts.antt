@@ -1,0 +1,202 @@
+-- The whole messages of bytes are those of the longest front that texts cover.
+use Rattle.std.proofs.Common.{◌≡◌, ℕ, ◌+◌, ◌-◌, ◌*◌, ◌<◌, ◌≤◌, List, [], ◌∷◌, ◌++◌, length, take, drop, min, cond, true, false, eqb, ltb, leb, Option, Some, None, refl, sym, ap, subst, ◌∙◌, append_assoc, append-nil, length-append, length-take, arith}
+use Rattle.std.proofs.lemmas.List.{take-append-drop, append_cancel_left}
+use Rattle.std.proofs.Math.Seq.{take-append_seam, take-append-add}
+use Rattle.std.specs.Prelude.{map, if◌then◌else◌}
+use Rattle.std.specs.List.{flat_map}
+use Rattle.std.proofs.lemmas.Bool.Decides.{nat_tests}
+use Rattle.wire.specs.declared.items.Piece.{Piece}
+use Rattle.wire.specs.declared.items.Piece.TheVariants.{Message}
+use Rattle.wire.specs.Unfinished.{Unfinished, fresh}
+use Rattle.wire.specs.Items.{Step, goes, ends, refused, gone, open_at, on_length, on_header, next, item_of}
+use Rattle.wire.specs.Texts.{chunk_of, run_of, text_of}
+use Rattle.wire.specs.Runs.{AreChunks, body_of, AreRuns, messages_of, Texts, IsWhole}
+use Rattle.wire.specs.Stream.{Seen, before, on_next, items_of, Splits}
+use Rattle.wire.specs.Whole.{messages, whole, header_bytes, ReadsMessages, ReadsWhole, OneWhole, RefusesPast, BeginsNone}
+use Rattle.wire.proofs.Streams.{items_of-append}
+use Rattle.wire.proofs.Grammar.{reads_texts, reads_back, items_of-chunk}
+use Rattle.wire.proofs.Whole.{splits_into_runs, past_where}
+
+-- how much an unfinished item holds: nothing only before its first byte
+pub weight : Unfinished → ℕ
+weight s = length s.body + s.lacks + header_bytes s.header + (if s.too_big then 1 else 0)
+
+pub IsHeavy : Step → Type 0
+IsHeavy (goes t) = 0 < weight t
+IsHeavy (ends body) = Unit {0}
+IsHeavy (refused body) = Unit {0}
+
+on_length-heavy : (body : List ℕ) (n : ℕ) → IsHeavy (on_length body n)
+unfolding IsHeavy weight
+on_length-heavy body n = elim (eqb n 0) as (λ b. eqb n 0 ≡ b → IsHeavy (cond b (ends body) (cond (ltb 65536 (length body + n)) (refused body) (goes (open_at body None n))))) [
+  | true ↦ λ e. tt
+  | false ↦ λ e.
+      let some : 0 < n = grind (arith, nat_tests, e) in
+      elim (ltb 65536 (length body + n)) as (λ b. IsHeavy (cond b (refused body) (goes (open_at body None n)))) [ true ↦ tt | false ↦ omega arith ]
+] refl
+
+on_header-heavy : (body : List ℕ) (header : Option ℕ) (byte : ℕ) → IsHeavy (on_header body header byte)
+unfolding IsHeavy weight
+on_header-heavy body None byte = omega arith
+on_header-heavy body (Some high) byte = on_length-heavy body (high * 256 + byte)
+
+pub next-heavy : (s : Unfinished) (byte : ℕ) → IsHeavy (next s byte)
+unfolding IsHeavy weight
+next-heavy s byte = elim s.too_big as (λ b. IsHeavy (cond b (refused s.body) (cond (eqb s.lacks 0) (on_header s.body s.header byte) (goes (open_at (s.body ++ byte ∷ []) s.header (s.lacks - 1)))))) [
+  | true ↦ tt
+  | false ↦ elim (eqb s.lacks 0) as (λ b. IsHeavy (cond b (on_header s.body s.header byte) (goes (open_at (s.body ++ byte ∷ []) s.header (s.lacks - 1))))) [
+    | true ↦ on_header-heavy s.body s.header byte
+    | false ↦ omega (arith, length-append s.body (byte ∷ []))
+  ]
+]
+
+pub weight-goes : (t : Unfinished) → IsHeavy (goes t) → 0 < weight t
+unfolding IsHeavy
+weight-goes t h = h
+
+pub weight-gone : (body : List ℕ) → 0 < weight (gone body)
+unfolding weight
+weight-gone body = omega arith
+
+pub weight-fresh : weight fresh ≡ 0
+unfolding weight
+weight-fresh = refl
+
+-- bytes that end nothing leave something unfinished
+on_next-heavy : (n : Step) (bytes : List ℕ) → IsHeavy n → ((t : Unfinished) → 0 < weight t → (items_of t bytes).items ≡ [] → 0 < weight (items_of t bytes).rest) → (on_next n (λ t. items_of t bytes)).items ≡ [] → 0 < weight (on_next n (λ t. items_of t bytes)).rest
+unfolding IsHeavy weight
+on_next-heavy (goes t) bytes h more none = more t h none
+on_next-heavy (ends body) bytes h more none = cc
+on_next-heavy (refused body) bytes h more none = omega arith
+
+stays_heavy : (s : Unfinished) (bytes : List ℕ) → 0 < weight s → (items_of s bytes).items ≡ [] → 0 < weight (items_of s bytes).rest
+stays_heavy s [] h none = h
+stays_heavy s (b ∷ bytes) h none = on_next-heavy (next s b) bytes (next-heavy s b) (λ t. stays_heavy t bytes) none
+
+only_nothing : (bytes : List ℕ) → (items_of fresh bytes).items ≡ [] → (items_of fresh bytes).rest ≡ fresh → bytes ≡ []
+unfolding weight
+only_nothing [] none rest = refl
+only_nothing (b ∷ bytes) none rest =
+    let heavy : 0 < weight (items_of fresh (b ∷ bytes)).rest = on_next-heavy (next fresh b) bytes (next-heavy fresh b) (λ t. stays_heavy t bytes) none in
+    let light : weight (items_of fresh (b ∷ bytes)).rest ≡ weight fresh = ap weight rest in
+    absurd (omega arith)
+
+-- the items of runs are their messages and no-ops
+messages-runs : (runs : List (List (List ℕ))) → AreRuns runs → messages (map (λ run. item_of (body_of run)) runs) ≡ messages_of runs
+messages-runs [] h = refl
+messages-runs ([] ∷ runs) h = messages-runs runs h.2
+messages-runs (([] ∷ cs) ∷ runs) h = absurd (omega (arith, h.0.0))
+messages-runs (((x ∷ xs) ∷ cs) ∷ runs) h = ap (λ l. ((x ∷ xs) ++ body_of cs) ∷ l) (messages-runs runs h.2)
+
+pub reads_messages : ReadsMessages
+reads_messages ms bytes t =
+    let e : items_of fresh bytes ≡ record { items = map (λ run. item_of (body_of run)) t.runs; rest = fresh } = ap (items_of fresh) t.whole ∙ reads_texts t.runs t.sound in
+    (ap (λ (x : Seen). messages x.items) e ∙ messages-runs t.runs t.sound ∙ sym t.messages, ap (λ (x : Seen). x.rest) e)
+
+pub nil_left : {A : Type 0} (xs ys : List A) → xs ++ ys ≡ [] → xs ≡ []
+nil_left [] ys e = refl
+nil_left (x ∷ xs) ys e = cc
+
+pub nil_right : {A : Type 0} (xs ys : List A) → xs ++ ys ≡ xs → ys ≡ []
+nil_right xs ys e = append_cancel_left xs ys [] (e ∙ sym (append-nil xs))
+
+-- nothing longer is covered
+module _ (bytes : List ℕ) (runs : List (List (List ℕ))) (tail : List ℕ) (sound : AreRuns runs) (split : bytes ≡ flat_map run_of runs ++ tail) (items : (items_of fresh bytes).items ≡ map (λ run. item_of (body_of run)) runs) where
+  abbrev F : List ℕ
+  F = flat_map run_of runs
+
+  read_front : (t : List ℕ) → items_of fresh (F ++ t) ≡ before (map (λ run. item_of (body_of run)) runs) (items_of fresh t)
+  read_front t = items_of-append fresh F t ∙ ap (λ (x : Seen). before x.items (items_of x.rest t)) (reads_texts runs sound)
+
+  none_left : (items_of fresh tail).items ≡ []
+  none_left = nil_right (map (λ run. item_of (body_of run)) runs) (items_of fresh tail).items (sym (ap (λ b. (items_of fresh b).items) split ∙ ap (λ (x : Seen). x.items) (read_front tail)) ∙ items)
+
+  none_in : (k : ℕ) → (items_of fresh (take k tail)).items ≡ []
+  none_in k = nil_left (items_of fresh (take k tail)).items (items_of (items_of fresh (take k tail)).rest (drop k tail)).items
+      (ap (λ (x : Seen). x.items) (sym (items_of-append fresh (take k tail) (drop k tail))) ∙ ap (λ b. (items_of fresh b).items) (take-append-drop k tail) ∙ none_left)
+
+  no_longer : (k : ℕ) (others : List (List ℕ)) → Texts others (take (length F + k) bytes) → take k tail ≡ []
+  no_longer k others t =
+      let front : take (length F + k) bytes ≡ F ++ take k tail = ap (take (length F + k)) split ∙ take-append-add F tail k in
+      let end : (items_of fresh (F ++ take k tail)).rest ≡ fresh = ap (λ b. (items_of fresh b).rest) (sym front) ∙ (reads_messages others (take (length F + k) bytes) t).1 in
+      only_nothing (take k tail) (none_in k) (sym (ap (λ (x : Seen). x.rest) (read_front (take k tail))) ∙ end)
+
+  longest : (n : ℕ) (others : List (List ℕ)) → n ≤ length bytes → Texts others (take n bytes) → n ≤ length F
+  longest n others h t = elim (leb n (length F)) as (λ b. leb n (length F) ≡ b → n ≤ length F) [
+    | true ↦ λ e. grind (arith, nat_tests, e)
+    | false ↦ λ e.
+        let over : length F < n = grind (arith, nat_tests, e) in
+        let k : ℕ = n - length F in
+        let is : n ≡ length F + (n - length F) = omega arith in
+        let len : length bytes ≡ length F + length tail = ap length split ∙ length-append F tail in
+        let none : length (take (n - length F) tail) ≡ 0 = ap length (no_longer (n - length F) others (subst (λ m. Texts others (take m bytes)) is t)) in
+        let taken : length (take (n - length F) tail) ≡ min (n - length F) (length tail) = length-take (n - length F) tail in
+        omega arith
+  ] refl
+
+  front_whole : IsWhole (whole bytes) bytes
+  front_whole = record {
+    front = length F;
+    within = omega (arith, ap length split, length-append F tail);
+    texts = record {
+      runs = runs;
+      sound = sound;
+      messages = ap messages items ∙ messages-runs runs sound;
+      whole = ap (take (length F)) split ∙ take-append_seam F tail;
+    };
+    longest = longest;
+  }
+
+pub reads_whole : ReadsWhole
+reads_whole bytes h =
+    let p : Splits bytes = splits_into_runs bytes h in
+    front_whole bytes p.runs p.tail p.sound p.whole p.items
+
+-- the longest front is one
+pub one_whole : OneWhole
+one_whole ms bytes h w =
+    let v : IsWhole (whole bytes) bytes = reads_whole bytes h in
+    let up : v.front ≤ w.front = w.longest v.front (whole bytes) v.within v.texts in
+    let down : w.front ≤ v.front = v.longest w.front ms w.within w.texts in
+    let same : w.front ≡ v.front = omega arith in
+    sym (reads_messages ms (take w.front bytes) w.texts).0 ∙ ap (λ n. whole (take n bytes)) same ∙ (reads_messages (whole bytes) (take v.front bytes) v.texts).0
+
+-- a header that takes a message past the limit is refused
+past_header : (body : List ℕ) (high low : ℕ) (more : List ℕ) → length body ≤ 65536 → 65536 < length body + (high * 256 + low) → (items_of (open_at body None 0) (high ∷ low ∷ more)).rest.too_big ≡ true
+past_header body high low more held over =
+    let some : eqb (high * 256 + low) 0 ≡ false = grind (arith, nat_tests) in
+    let large : ltb 65536 (length body + (high * 256 + low)) ≡ true = grind (arith, nat_tests) in
+    rw (some, large) refl
+
+past_chunks : (cs : List (List ℕ)) (body : List ℕ) (high low : ℕ) (more : List ℕ) → AreChunks cs → length (body ++ body_of cs) ≤ 65536 → 65536 < length (body ++ body_of cs) + (high * 256 + low) → (items_of (open_at body None 0) (flat_map chunk_of cs ++ high ∷ low ∷ more)).rest.too_big ≡ true
+past_chunks [] body high low more h held over =
+    let e : body ++ [] ≡ body = append-nil body in
+    past_header body high low more (rw (← e) held) (rw (← e) over)
+past_chunks (c ∷ cs) body high low more h held over =
+    let same : (body ++ c) ++ body_of cs ≡ body ++ (c ++ body_of cs) = append_assoc body c (body_of cs) in
+    let fits : length body + length c ≤ 65536 = omega (arith, ap length same, length-append (body ++ c) (body_of cs), length-append body c) in
+    ap (λ b. (items_of (open_at body None 0) b).rest.too_big) (append_assoc (chunk_of c) (flat_map chunk_of cs) (high ∷ low ∷ more))
+    ∙ ap (λ (x : Seen). x.rest.too_big) (items_of-chunk c body (flat_map chunk_of cs ++ high ∷ low ∷ more) h.0 h.1 fits)
+    ∙ past_chunks cs (body ++ c) high low more h.2 (rw same held) (rw same over)
+
+pub refuses_past : RefusesPast
+refuses_past bytes h = (
+  past_where bytes h,
+  λ p.
+      ap (λ b. (items_of fresh b).rest.too_big) p.whole
+      ∙ ap (λ (x : Seen). x.rest.too_big) (items_of-append fresh (flat_map run_of p.runs) (flat_map chunk_of p.chunks ++ p.high ∷ p.low ∷ p.more))
+      ∙ ap (λ (x : Seen). (items_of x.rest (flat_map chunk_of p.chunks ++ p.high ∷ p.low ∷ p.more)).rest.too_big) (reads_texts p.runs p.sound)
+      ∙ past_chunks p.chunks [] p.high p.low p.more p.good p.held p.past,
+)
+
+-- texts of messages
+same_message : (m other : List ℕ) (items : List Piece) → Message other ∷ [] ≡ Message m ∷ items → (m ≡ other) × (items ≡ [])
+same_message m other items e = (cc, cc)
+
+pub begins_none : BeginsNone
+begins_none m other more some fits some_other fits_other e =
+    let one : items_of fresh (text_of m ++ more) ≡ before (Message m ∷ []) (items_of fresh more) =
+    items_of-append fresh (text_of m) more ∙ ap (λ (x : Seen). before x.items (items_of x.rest more)) (reads_back m some fits) in
+    let both = sym (reads_back other some_other fits_other) ∙ ap (items_of fresh) e ∙ one in
+    let same = same_message m other (items_of fresh more).items (ap (λ (x : Seen). x.items) both) in
+    (same.0, only_nothing more same.1 (sym (ap (λ (x : Seen). x.rest) both)))

@@ -1,0 +1,52 @@
+-- The proposals one by one.
+use Rattle.std.proofs.Common.{◌≡◌, ℕ, zero, suc, ◌+◌, ◌≤◌, List, [], ◌∷◌, length, get_or, drop, Option, Some, None, false, refl, sym, ap, ◌∙◌, arith}
+use Rattle.std.specs.Prelude.{is_some}
+use Rattle.wire.specs.declared.offers.Version.{Version}
+use Rattle.wire.specs.declared.offers.Version.TheVariants.{V44, V51}
+use Rattle.wire.specs.declared.offers.Wish.{Wish}
+use Rattle.wire.specs.declared.offers.Wish.TheVariants.{Newest, Only}
+use Rattle.wire.specs.Offers.{chosen, covered_by, or_else, version_answer, Taken, OffersTaken}
+
+-- the proposal at a place comes before those after it
+pub chosen-at : (xs : List ℕ) (k : ℕ) → k + 4 ≤ length xs → chosen (drop k xs) ≡ or_else (covered_by (get_or xs k 0) (get_or xs (k + 1) 0) (get_or xs (k + 2) 0) (get_or xs (k + 3) 0)) (chosen (drop (k + 4) xs))
+chosen-at [] k h = absurd (omega arith)
+chosen-at (a ∷ []) zero h = absurd (omega arith)
+chosen-at (a ∷ b ∷ []) zero h = absurd (omega arith)
+chosen-at (a ∷ b ∷ c ∷ []) zero h = absurd (omega arith)
+chosen-at (a ∷ b ∷ c ∷ d ∷ xs) zero h = refl
+chosen-at (x ∷ xs) (suc k) h =
+    let one : suc k + 1 ≡ suc (k + 1) = omega arith in
+    let two : suc k + 2 ≡ suc (k + 2) = omega arith in
+    let three : suc k + 3 ≡ suc (k + 3) = omega arith in
+    let four : suc k + 4 ≡ suc (k + 4) = omega arith in
+    rw (one, two, three, four) (chosen-at xs k (omega arith))
+
+-- a proposal that covers nothing is passed over
+pub chosen-past : (xs : List ℕ) (k j : ℕ) (v : Option Version) → k + 4 ≤ length xs → j ≡ k + 4 → v ≡ covered_by (get_or xs k 0) (get_or xs (k + 1) 0) (get_or xs (k + 2) 0) (get_or xs (k + 3) 0) → is_some v ≡ false → chosen (drop k xs) ≡ chosen (drop j xs)
+chosen-past xs k j None fits e covered none = chosen-at xs k fits ∙ rw (← covered) (ap (λ i. chosen (drop i xs)) (sym e))
+chosen-past xs k j (Some v) fits e covered none = cc
+
+-- what is offered
+taken : (wish : Wish) → Taken wish
+taken Newest = record { long = refl; magical = refl; version = refl }
+taken (Only V44) = record { long = refl; magical = refl; version = refl }
+taken (Only V51) = record { long = refl; magical = refl; version = refl }
+
+answer_length : (v : Option Version) → length (version_answer v) ≡ 4
+answer_length None = refl
+answer_length (Some V44) = refl
+answer_length (Some V51) = refl
+
+answer_tells : (v w : Option Version) → version_answer v ≡ version_answer w → v ≡ w
+answer_tells None None e = refl
+answer_tells None (Some V44) e = cc
+answer_tells None (Some V51) e = cc
+answer_tells (Some V44) None e = cc
+answer_tells (Some V44) (Some V44) e = refl
+answer_tells (Some V44) (Some V51) e = cc
+answer_tells (Some V51) None e = cc
+answer_tells (Some V51) (Some V44) e = cc
+answer_tells (Some V51) (Some V51) e = refl
+
+pub offers_taken : OffersTaken
+offers_taken = (taken, answer_length, answer_tells)

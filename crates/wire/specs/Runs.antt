@@ -1,0 +1,54 @@
+-- Streams of chunks as a grammar ("Bolt message chunking"): a run of chunks is a message, and two zero bytes between messages are a no-op.
+use Rattle.std.specs.Prelude.{◌≡◌, ℕ, ◌+◌, ◌*◌, ◌<◌, ◌≤◌, List, [], ◌∷◌, ◌++◌, length, take}
+use Rattle.std.specs.List.{flat_map}
+use Rattle.wire.specs.Texts.{chunk_of, run_of}
+
+-- bytes are numbers below 256
+abbrev pub AreBytes : List ℕ → Type 0
+AreBytes [] = Unit {0}
+AreBytes (b ∷ bs) = (b < 256) × AreBytes bs
+
+-- Chunks that may come: from one byte to 65,535 each. A run of no chunks is a no-op.
+abbrev pub AreChunks : List (List ℕ) → Type 0
+AreChunks [] = Unit {0}
+AreChunks (c ∷ cs) = (0 < length c) × (length c < 65536) × AreChunks cs
+
+abbrev pub body_of : List (List ℕ) → List ℕ
+body_of chunks = flat_map (λ c. c) chunks
+
+abbrev pub AreRuns : List (List (List ℕ)) → Type 0
+AreRuns [] = Unit {0}
+AreRuns (run ∷ runs) = AreChunks run × (length (body_of run) ≤ 65536) × AreRuns runs
+
+-- the messages of runs
+abbrev pub messages_of : List (List (List ℕ)) → List (List ℕ)
+messages_of [] = []
+messages_of ([] ∷ runs) = messages_of runs
+messages_of ((c ∷ cs) ∷ runs) = body_of (c ∷ cs) ∷ messages_of runs
+
+-- The bytes are a concatenation of no-ops and runs, and these are the messages, each of at most 65,536 bytes.
+pub record Texts (ms : List (List ℕ)) (bytes : List ℕ) : Type 0 where
+  pub runs : List (List (List ℕ))
+  pub sound : AreRuns runs
+  pub messages : ms ≡ messages_of runs
+  pub whole : bytes ≡ flat_map run_of runs
+
+-- These are the messages of the longest front of the bytes that some Texts covers.
+pub record IsWhole (ms : List (List ℕ)) (bytes : List ℕ) : Type 0 where
+  pub front : ℕ
+  pub within : front ≤ length bytes
+  pub texts : Texts ms (take front bytes)
+  pub longest : (n : ℕ) (others : List (List ℕ)) → n ≤ length bytes → Texts others (take n bytes) → n ≤ front
+
+-- After no-ops and runs, and chunks of one message more, comes a header that takes that message past 65,536 bytes.
+pub record IsPast (bytes : List ℕ) : Type 0 where
+  pub runs : List (List (List ℕ))
+  pub chunks : List (List ℕ)
+  pub high : ℕ
+  pub low : ℕ
+  pub more : List ℕ
+  pub sound : AreRuns runs
+  pub good : AreChunks chunks
+  pub whole : bytes ≡ flat_map run_of runs ++ (flat_map chunk_of chunks ++ high ∷ low ∷ more)
+  pub held : length (body_of chunks) ≤ 65536
+  pub past : 65536 < length (body_of chunks) + (high * 256 + low)

@@ -1,0 +1,179 @@
+//! Whole messages and no-ops out of a stream of chunks ("Bolt message chunking").
+
+ghost use Rattle.std.specs.Prelude.{◌≡◌, ℕ, ◌+◌, ◌-◌, ◌<◌, ◌≤◌, List, [], ◌++◌, length, take, min, false, Option, IfOk, IfErr, IsErrOf, OnOk, OnErr};
+ghost use Rattle.wire.specs.Unfinished.{Unfinished, fresh, unfinished};
+ghost use Rattle.wire.specs.Items.{item_of, IsSized, Answers};
+ghost use Rattle.wire.specs.Stream.{used_of};
+ghost use Rattle.wire.specs.Whole.{kept_bytes};
+ghost use Rattle.wire.specs.Scanning.{Holds, Taken, After, Scanned, Stops, used_by};
+
+use crate::MAX_MESSAGE;
+use crate::faults::WireFault;
+use crate::parts::{Chunks, Cut, Part};
+use bytes::{Bytes, BytesMut};
+use std::alloc::{AllocError, Global};
+use std::marker::Model;
+
+/// What ended with the last byte that was used.
+#[derive(Drop)]
+pub enum Piece {
+    /// Nothing: the piece is used up.
+    Nothing,
+    Noop,
+    /// The data of a message, at least one byte.
+    Message(Bytes),
+}
+
+/// How many bytes of a piece were used, and what ended with the last of them.
+#[derive(Drop)]
+pub struct Fed {
+    pub used: usize,
+    pub what: Piece,
+}
+
+/// Reads a stream of chunks in pieces. It holds what came of the message that isn't whole.
+#[derive(Drop)]
+pub struct Dechunk {
+    body: BytesMut,
+    chunks: Chunks,
+}
+
+impl Model for Dechunk {
+    ghost use Rattle.std.specs.Prelude.{◌≡◌, ◌+◌, ◌≤◌, length};
+    ghost use Rattle.wire.specs.Unfinished.{Unfinished, unfinished};
+
+    ghost Value = { Unfinished };
+
+    ghost view = { λ d. unfinished d.chunks d.body.items };
+
+    ghost invariant = { λ d. (d.chunks.sum ≡ length d.body.items + d.chunks.lacks) × (d.chunks.sum ≤ 65536) };
+}
+
+impl Dechunk {
+    /// At the start of a stream. It takes no memory.
+    pub fn new(alloc: Global) -> Dechunk
+        ensures { result ≡ fresh }
+    {
+        Dechunk {
+            body: BytesMut::new(alloc),
+            chunks: Chunks::new(),
+        }
+    }
+
+    /// An equal one, or X2.
+    pub fn clone(&self) -> Result<Dechunk, WireFault>
+        ensures ok { IfOk result (λ d. d ≡ self.now) }
+        ensures err { IfErr result (λ e. e ≡ WireFault.Memory) }
+    {
+        let Ok(body) = self.body.clone() else {
+            return Err(WireFault::Memory);
+        };
+        Ok(Dechunk {
+            body,
+            chunks: self.chunks,
+        })
+    }
+
+    /// Uses the piece to the end of the item begun, a no-op or a message, and hands that out; else all of the piece.
+    ///
+    /// X1 exactly at the header that takes a message past 65,536 bytes, with the bytes used to that header's end, and from then on
+    /// with 0 used, taking no memory. X2 for want of memory: nothing was used, nothing has changed.
+    #[tactic(auto, using(crate::proofs::Limits::header_one))]
+    pub fn feed(&mut self, piece: &[u8]) -> Result<Fed, WireFault>
+        ensures answer { Answers self.old piece.now result self.new }
+        ensures bounded { length self.new.body + self.new.lacks ≤ 65536 }
+        ensures few { kept_bytes self.new ≤ 65537 }
+        ensures within { used_of result ≤ length piece.now }
+        ensures sized { IfOk result (λ fed. IsSized fed.what) }
+        ensures memory { IsErrOf result WireFault.Memory → self.old.too_big ≡ false }
+    {
+        if self.chunks.is_too_big() {
+            return Err(WireFault::TooBig { used: 0 });
+        }
+        let (len, chunks) = (self.body.len(), self.chunks);
+        let room = (MAX_MESSAGE - len).min(piece.len());
+        if self.body.reserve(room).is_err() {
+            return Err(WireFault::Memory);
+        }
+        match scan_piece(&mut self.body, &mut self.chunks, piece) {
+            Scan::Nothing => Ok(Fed {
+                used: piece.len(),
+                what: Piece::Nothing,
+            }),
+            Scan::TooBig(used) => Err(WireFault::TooBig { used }),
+            Scan::Item(used) => match end_item(&mut self.body) {
+                Ok(what) => Ok(Fed { used, what }),
+                Err(_) => {
+                    self.body.truncate(len);
+                    self.chunks = chunks;
+                    Err(WireFault::Memory)
+                }
+            },
+        }
+    }
+}
+
+/// How far a scan of a piece came.
+enum Scan {
+    /// The piece was used up.
+    Nothing,
+    /// An item ends after so many bytes.
+    Item(usize),
+    TooBig(usize),
+}
+
+/// Takes the bytes up to the end of the item. There is room for its data.
+fn scan_piece(body: &mut BytesMut, chunks: &mut Chunks, piece: &[u8]) -> Scan
+    requires holds { Holds body.old.items chunks.old }
+    requires going { chunks.old.too_big ≡ false }
+    requires room { min (65536 - length body.old.items) (length piece.now) ≤ body.old.spare }
+    ensures scanned { Scanned (unfinished chunks.old body.old.items) piece.now result (unfinished chunks.new body.new.items) }
+    ensures within { used_by result (length piece.now) ≤ length piece.now }
+    ensures holds { Stops result body.new.items chunks.new }
+    ensures kept { take (length body.old.items) body.new.items ≡ body.old.items }
+{
+    let mut used = 0;
+    while used < piece.len() {
+        let cut = take_part(body, chunks, &piece[used..]);
+        used += cut.used;
+        match cut.what {
+            Part::Head | Part::Data => {}
+            Part::Noop | Part::End => return Scan::Item(used),
+            Part::TooBig => return Scan::TooBig(used),
+        }
+    }
+    Scan::Nothing
+}
+
+/// Takes one part, with its data.
+fn take_part(body: &mut BytesMut, chunks: &mut Chunks, piece: &[u8]) -> Cut
+    requires some { 0 < length piece.now }
+    requires holds { Holds body.old.items chunks.old }
+    requires going { chunks.old.too_big ≡ false }
+    requires room { min (65536 - length body.old.items) (length piece.now) ≤ body.old.spare }
+    ensures took { Taken (unfinished chunks.old body.old.items) piece.now result.used result.what (unfinished chunks.new body.new.items) }
+    ensures within { result.used ≤ length piece.now }
+    ensures after { After result.what chunks.new body.new.items }
+    ensures room { min (65536 - length body.new.items) (length piece.now - result.used) ≤ body.new.spare }
+    ensures kept { take (length body.old.items) body.new.items ≡ body.old.items }
+{
+    let cut = chunks.next(piece);
+    let Part::Data = cut.what else {
+        return cut;
+    };
+    body.extend_reserved(&piece[..cut.used]);
+    cut
+}
+
+/// Hands out the item that has ended.
+fn end_item(body: &mut BytesMut) -> Result<Piece, AllocError>
+    ensures ok { IfOk result (λ what. what ≡ item_of body.old.items) }
+    ensures sized { length body.old.items ≤ 65536 → IfOk result IsSized }
+    ensures empty { OnOk result (body.new.items ≡ []) }
+    ensures err { OnErr result (body.new.items ≡ body.old.items) }
+{
+    if body.is_empty() {
+        return Ok(Piece::Noop);
+    }
+    Ok(Piece::Message(body.freeze_to(body.len())?))
+}

@@ -1,0 +1,104 @@
+//! Laws on the definitions, for callers to rely on. Each function has an empty body, and its contract is the law.
+
+ghost use Rattle.std.specs.Prelude.{ℕ, List};
+ghost use Rattle.wire.specs.Offers.{OffersTaken};
+ghost use Rattle.wire.specs.Unfinished.{Unfinished};
+ghost use Rattle.wire.specs.Items.{answer_to};
+ghost use Rattle.wire.specs.Scanning.{CutsAgree};
+ghost use Rattle.wire.specs.Whole.{ReadsMessages, ReadsWhole, OneWhole, RefusesPast, TextsOne, NoShorter, BeginsNone, KeepsFew};
+ghost use Rattle.wire.specs.Stream.{HandsOutItems, ReadsBack, KeepsWithin, ItemsOfParts, SplitsIntoRuns, TellsTooBig, TextIsShort, ReadsTexts, AnswerFacts};
+
+/// In whatever pieces a stream comes, the items of the bytes used are what was handed out.
+pub fn hands_out_items()
+    ensures { HandsOutItems }
+{}
+
+/// A stream that is runs of chunks has their messages and no-ops as its items, and no others.
+pub fn reads_texts()
+    ensures { ReadsTexts }
+{}
+
+/// Of each piece, what is handed out is an item of the bytes used, and no fewer bytes have one.
+pub fn answers_items()
+    ensures { (s : Unfinished) (bytes : List ℕ) → AnswerFacts s bytes (answer_to s bytes) }
+{}
+
+/// What `put_message` writes is read as that message.
+pub fn reads_back()
+    ensures { ReadsBack }
+{}
+
+/// The unfinished item stays within the limit of a message.
+pub fn keeps_within()
+    ensures { KeepsWithin }
+{}
+
+/// The items of a stream are those of its parts.
+pub fn items_of_parts()
+    ensures { ItemsOfParts }
+{}
+
+/// Chunks add six bytes at most.
+pub fn text_is_short()
+    ensures { TextIsShort }
+{}
+
+/// An answer is a refusal exactly where the item is refused from then on.
+pub fn tells_too_big()
+    ensures { TellsTooBig }
+{}
+
+/// Whatever bytes come, what is read of them is runs of chunks from their front.
+pub fn splits_into_runs()
+    ensures { SplitsIntoRuns }
+{}
+
+/// The parts that `Chunks` cuts off a stream are those of its items: the data up to an end is the message.
+pub fn cuts_agree()
+    ensures { CutsAgree }
+{}
+
+/// Of any bytes, the messages of the longest front that is runs and no-ops are read.
+pub fn reads_whole()
+    ensures { ReadsWhole }
+{}
+
+/// Of bytes that are runs and no-ops, the messages are read and nothing else, and nothing is unfinished after them.
+pub fn reads_messages()
+    ensures { ReadsMessages }
+{}
+
+/// The messages of the longest front that is runs and no-ops are the only ones.
+pub fn one_whole()
+    ensures { OneWhole }
+{}
+
+/// A message is refused exactly where, after runs, no-ops and chunks, a header takes it past 65,536 bytes.
+pub fn refuses_past()
+    ensures { RefusesPast }
+{}
+
+/// What `put_message` writes is one run, of its message.
+pub fn texts_one()
+    ensures { TextsOne }
+{}
+
+/// No text of a message is a proper beginning of another's.
+pub fn begins_none()
+    ensures { BeginsNone }
+{}
+
+/// An unfinished item, with the byte of a header that isn't whole, has at most 65,537 bytes.
+pub fn keeps_few()
+    ensures { KeepsFew }
+{}
+
+/// Of what a client offers, a server of this product takes what it wishes; an offer has 20 bytes, and an answer to it 4.
+pub fn offers_taken()
+    ensures { OffersTaken }
+{}
+
+/// No run of a message is shorter than what `put_message` writes.
+pub fn no_shorter()
+    ensures { NoShorter }
+{}

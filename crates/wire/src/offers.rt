@@ -1,0 +1,90 @@
+//! The versions of the protocol, what a client offers and what a server takes ("Bolt handshake").
+
+ghost use Rattle.std.specs.Prelude.{◌≡◌, ◌≢◌, ℕ, ◌+◌, List, take, drop, Option, Some, None, IfOk, IsErr, OnOk, ◌↔◌};
+ghost use Rattle.wire.specs.Offers.{magic, chosen, covered_by, offered};
+
+use thiserror::Error;
+
+/// A version of the protocol that this product speaks.
+#[derive(Clone, Copy, Debug, PartialEq, Eq)]
+pub enum Version {
+    V44,
+    V51,
+}
+
+/// Which versions a client offers.
+#[derive(Clone, Copy, Debug, PartialEq, Eq)]
+pub enum Wish {
+    /// Each of them, the newest first.
+    Newest,
+    Only(Version),
+}
+
+/// The first four bytes of a connection aren't `60 60 B0 17`.
+#[derive(Clone, Copy, Debug, PartialEq, Eq, Error)]
+#[error("not the magic of the protocol")]
+pub struct BadMagic;
+
+const MAGIC: [u8; 4] = [0x60, 0x60, 0xB0, 0x17];
+
+/// The bytes with which a client opens a connection: `60 60 B0 17` and four proposals of four bytes, each `00`, a range, a minor
+/// version and a major version ("Bolt handshake"). `Newest` proposes 5.1, then 4.4; `Only` its version alone. A proposal that is
+/// left is four zero bytes. It takes no memory.
+pub fn offer(wish: Wish) -> [u8; 20]
+    ensures { result ≡ offered wish }
+{
+    match wish {
+        Wish::Newest => [
+            0x60, 0x60, 0xB0, 0x17, 0, 0, 1, 5, 0, 0, 4, 4, 0, 0, 0, 0, 0, 0, 0, 0,
+        ],
+        Wish::Only(Version::V51) => [
+            0x60, 0x60, 0xB0, 0x17, 0, 0, 1, 5, 0, 0, 0, 0, 0, 0, 0, 0, 0, 0, 0, 0,
+        ],
+        Wish::Only(Version::V44) => [
+            0x60, 0x60, 0xB0, 0x17, 0, 0, 4, 4, 0, 0, 0, 0, 0, 0, 0, 0, 0, 0, 0, 0,
+        ],
+    }
+}
+
+/// The version that a server takes of an offer: that of the first of the four proposals, in the client's order, that covers a version
+/// of this product; none where no proposal does. A proposal whose first byte isn't 0 covers nothing; any other covers its major
+/// version with the minor versions from `minor - range`, or 0 where that is negative, to `minor` ("Bolt handshake").
+///
+/// `BadMagic` exactly where the first four bytes aren't `60 60 B0 17`. It takes no memory.
+pub fn choose(offer: &[u8; 20]) -> Result<Option<Version>, BadMagic>
+    ensures bad { IsErr result ↔ (take 4 offer.now ≢ magic) }
+    ensures good { OnOk result (take 4 offer.now ≡ magic) }
+    ensures chosen { IfOk result (λ v. v ≡ chosen (drop 4 offer.now)) }
+{
+    if &offer[..4] != MAGIC.as_slice() {
+        return Err(BadMagic);
+    }
+    for at in 0..4 {
+        let start = 4 + 4 * at;
+        let version = covered(
+            offer[start],
+            offer[start + 1],
+            offer[start + 2],
+            offer[start + 3],
+        );
+        if version.is_some() {
+            return Ok(version);
+        }
+    }
+    Ok(None)
+}
+
+/// The newest version that a proposal covers.
+fn covered(first: u8, range: u8, minor: u8, major: u8) -> Option<Version>
+    ensures { result ≡ covered_by first range minor major }
+{
+    if first != 0 {
+        None
+    } else if major == 5 && minor >= 1 && minor - range.min(minor) <= 1 {
+        Some(Version::V51)
+    } else if major == 4 && minor >= 4 && minor - range.min(minor) <= 4 {
+        Some(Version::V44)
+    } else {
+        None
+    }
+}
