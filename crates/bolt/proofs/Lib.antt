@@ -1,0 +1,10 @@
+pub mod Digits
+pub mod Openings
+pub mod Served
+pub mod Steps
+pub mod Feeding
+pub mod Hearing
+pub mod Hellos
+pub mod Greetings
+pub mod Wholes
+pub mod Once

@@ -1,0 +1,7 @@
+//! What holds of the answers, whatever gives them. Each function has an empty body, and its contract is the law.
+ghost use Rattle.bolt.specs.Laws.{HasOneAnswer};
+
+/// Bytes have one answer.
+pub fn has_one_answer()
+    ensures { HasOneAnswer }
+{}
