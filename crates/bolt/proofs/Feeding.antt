@@ -1,7 +1,6 @@
 -- What a piece gives to a stream of chunks that goes on.
-use Rattle.std.proofs.Common.{◌≡◌, ℕ, zero, suc, ◌+◌, ◌<◌, ◌≤◌, List, [], ◌∷◌, length, take, Bool, cond, true, false, Result, Ok, Err, refl, sym, ap, subst, ◌∙◌, arith}
+use Rattle.std.proofs.Common.{◌≡◌, ℕ, zero, suc, ◌<◌, ◌≤◌, List, [], ◌∷◌, length, take, cond, true, false, Result, Ok, Err, refl, sym, ap, subst, ◌∙◌, arith}
 use Rattle.std.specs.Prelude.{is_err}
-use Rattle.std.proofs.lemmas.List.{take_all}
 use Rattle.wire.specs.declared.items.Piece.{Piece}
 use Rattle.wire.specs.declared.items.Piece.TheVariants.{Nothing, Noop, Message}
 use Rattle.wire.specs.declared.items.Fed.{Fed}

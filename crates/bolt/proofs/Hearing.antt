@@ -1,20 +1,17 @@
 -- A piece that was fed to an open session.
-use Rattle.std.proofs.Common.{◌≡◌, ◌⊎◌, inl, inr, ℕ, List, [], ◌∷◌, ◌++◌, length, take, Bool, true, false, Option, Some, None, refl, sym, ap, subst, ◌∙◌}
+use Rattle.std.proofs.Common.{◌≡◌, inl, inr, ℕ, List, [], ◌∷◌, ◌++◌, true, false, Option, Some, refl, sym, subst}
 use Rattle.wire.specs.declared.offers.Version.{Version}
 use Rattle.wire.specs.declared.items.Piece.{Piece}
 use Rattle.wire.specs.declared.items.Piece.TheVariants.{Nothing, Noop, Message}
 use Rattle.wire.specs.Unfinished.{Unfinished}
 use Rattle.wire.specs.Stream.{items_of, given}
-use Rattle.wire.specs.Texts.{text_of}
-use Rattle.packstream.specs.Canon.{canon}
 use Rattle.bolt.specs.declared.«end».End.{End}
 use Rattle.bolt.specs.declared.«end».End.TheVariants.{Live, Over}
 use Rattle.bolt.specs.declared.«end».State.{State}
 use Rattle.bolt.specs.declared.«end».State.TheVariants.{Fresh, Unauth}
 use Rattle.bolt.specs.declared.«end».Cause.TheVariants.{TooBig, Malformed}
 use Rattle.bolt.specs.Kept.{Kept}
-use Rattle.bolt.specs.Hello.{IsHello}
-use Rattle.bolt.specs.Answers.{success, messages, Answers}
+use Rattle.bolt.specs.Answers.{messages, Answers}
 use Rattle.bolt.specs.Standing.{IsOpen, StandsAs, Stands, Hears, HearsItem}
 use Rattle.bolt.proofs.Steps.{open_by, goes, greeted, other_first, second, past_limit}
 

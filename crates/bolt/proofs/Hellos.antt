@@ -1,14 +1,13 @@
 -- Which values and messages are a HELLO.
-use Rattle.std.proofs.Common.{◌≡◌, ◌≢◌, ℕ, ◌+◌, List, [], ◌∷◌, length, get_or, Result, Ok, Err, refl, sym, ap, subst, ◌∙◌, arith}
+use Rattle.std.proofs.Common.{◌≡◌, ◌≢◌, ℕ, List, [], ◌∷◌, length, get_or, Ok, Err, refl, sym, ap, subst, ◌∙◌, arith}
 use Rattle.std.specs.Prelude.{◌↔◌, IsTrue, Bool}
 use Rattle.std.specs.Prelude.{codes}
 use Rattle.wire.specs.declared.offers.Version.{Version}
 use Rattle.wire.specs.declared.offers.Version.TheVariants.{V44, V51}
 use Rattle.packstream.specs.declared.value.Value.{Value}
 use Rattle.packstream.specs.declared.fault.Reason.{Reason}
-use Rattle.packstream.specs.declared.fault.PackFault.{PackFault}
 use Rattle.packstream.specs.declared.fault.PackFault.TheVariants.{Refused}
-use Rattle.packstream.specs.Tree.{Tree, null, boolean, int, float, byte_string, text, list, dict, structure, Trees, tree_then, no_trees, Entries}
+use Rattle.packstream.specs.Tree.{Tree, dict, structure, Trees, tree_then, no_trees, Entries}
 use Rattle.packstream.specs.Good.{IsGood}
 use Rattle.packstream.specs.Spelling.{Spells}
 use Rattle.packstream.specs.View.{tree, trees, trees_of}

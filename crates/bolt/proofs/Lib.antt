@@ -8,3 +8,4 @@ pub mod Hellos
 pub mod Greetings
 pub mod Wholes
 pub mod Once
+pub mod Checkings

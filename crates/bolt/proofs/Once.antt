@@ -1,12 +1,11 @@
 -- Bytes have one answer.
-use Rattle.std.proofs.Common.{◌≡◌, ◌⊎◌, inl, inr, ℕ, List, [], ◌∷◌, ◌++◌, drop, Bool, Option, Some, None, refl, sym, ap, ◌∙◌}
+use Rattle.std.proofs.Common.{◌≡◌, inl, inr, ℕ, List, [], ◌∷◌, ◌++◌, drop, Bool, Some, None, sym, ap, ◌∙◌}
 use Rattle.wire.specs.declared.offers.Version.{Version}
 use Rattle.wire.specs.Unfinished.{fresh}
 use Rattle.wire.specs.Stream.{items_of}
 use Rattle.bolt.specs.declared.«end».End.{End}
 use Rattle.bolt.specs.Handshake.{Opening, waiting, strange, settled, opening, version_bytes}
-use Rattle.bolt.specs.Hello.{IsHello}
-use Rattle.bolt.specs.Answers.{messages, Greeted, Serves, AnswersFrom, Answers}
+use Rattle.bolt.specs.Answers.{messages, Greeted, Serves, AnswersFrom}
 use Rattle.bolt.specs.Laws.{HasOneAnswer}
 
 greeted_once : (ms : List (List ℕ)) (big : Bool) (o p : List ℕ) (l m : End) → Greeted ms big o l → Greeted ms big p m → (o ≡ p) × (l ≡ m)

@@ -1,12 +1,12 @@
 -- The twenty bytes of a handshake, and what comes after them.
-use Rattle.std.proofs.Common.{◌≡◌, ℕ, ◌+◌, ◌<◌, ◌≤◌, List, [], ◌∷◌, ◌++◌, length, take, drop, Bool, cond, true, false, ltb, eqb, Option, Some, None, refl, sym, ap, subst, ◌∙◌, append-nil, length-append, arith}
+use Rattle.std.proofs.Common.{◌≡◌, ℕ, ◌≤◌, List, [], ◌++◌, length, take, drop, Bool, cond, true, false, ltb, Option, refl, sym, ap, ◌∙◌, append-nil, length-append, arith}
 use Rattle.std.specs.Str.{bytes_eq}
 use Rattle.std.proofs.lemmas.Bool.Decides.{nat_tests}
 use Rattle.std.proofs.lemmas.List.{take-append-le, drop-append-le}
-use Rattle.std.proofs.Math.Seq.{take-append_seam, drop-append_seam, take-length}
+use Rattle.std.proofs.Math.Seq.{drop-append_seam, take-length}
 use Rattle.wire.specs.declared.offers.Version.{Version}
 use Rattle.wire.specs.Offers.{magic, chosen}
-use Rattle.bolt.specs.Handshake.{Opening, waiting, strange, settled, judged, opening}
+use Rattle.bolt.specs.Handshake.{waiting, strange, settled, judged, opening}
 
 -- twenty bytes are there
 long_by : (b : List ℕ) (v : Option Version) (t : Bool) → ltb (length b) 20 ≡ t → cond t waiting (judged (take 20 b)) ≡ settled v → 20 ≤ length b

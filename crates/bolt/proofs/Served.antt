@@ -1,17 +1,16 @@
 -- What is put out as messages are heard one by one.
-use Rattle.std.proofs.Common.{◌≡◌, ◌⊎◌, inl, inr, ℕ, List, [], ◌∷◌, ◌++◌, Bool, true, false, refl, sym, ap, subst, ◌∙◌}
+use Rattle.std.proofs.Common.{◌≡◌, inl, inr, ℕ, List, [], ◌∷◌, ◌++◌, Bool, true, false, refl, ap}
 use Rattle.wire.specs.declared.offers.Version.{Version}
 use Rattle.wire.specs.declared.items.Piece.{Piece}
 use Rattle.wire.specs.declared.items.Piece.TheVariants.{Nothing, Noop, Message}
 use Rattle.wire.specs.Texts.{text_of}
 use Rattle.packstream.specs.Canon.{canon}
-use Rattle.bolt.specs.declared.«end».End.{End}
 use Rattle.bolt.specs.declared.«end».End.TheVariants.{Live, Over}
 use Rattle.bolt.specs.declared.«end».State.{State}
 use Rattle.bolt.specs.declared.«end».State.TheVariants.{Fresh, Unauth}
-use Rattle.bolt.specs.declared.«end».Cause.TheVariants.{BadMagic, NoVersion, TooBig, Malformed}
+use Rattle.bolt.specs.declared.«end».Cause.TheVariants.{TooBig, Malformed}
 use Rattle.bolt.specs.Hello.{IsHello}
-use Rattle.bolt.specs.Answers.{success, messages, Greeted, Serves}
+use Rattle.bolt.specs.Answers.{success, messages, Serves}
 
 pub messages-append : (is js : List Piece) → messages (is ++ js) ≡ messages is ++ messages js
 messages-append [] js = refl

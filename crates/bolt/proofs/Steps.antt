@@ -1,14 +1,13 @@
 -- How a session stands as more bytes come.
-use Rattle.std.proofs.Common.{◌≡◌, ◌⊎◌, inl, inr, ℕ, ◌+◌, ◌<◌, ◌≤◌, List, [], ◌∷◌, ◌++◌, length, take, drop, Bool, cond, true, false, Option, Some, None, refl, sym, ap, subst, ◌∙◌, append_assoc, append-nil, length-append, arith}
+use Rattle.std.proofs.Common.{◌≡◌, ℕ, ◌<◌, ◌≤◌, List, [], ◌∷◌, ◌++◌, length, take, drop, Bool, true, false, Option, Some, None, refl, sym, ap, subst, ◌∙◌, append_assoc, append-nil, length-append, arith}
 use Rattle.std.specs.Prelude.{is_some}
 use Rattle.std.proofs.lemmas.List.{take_all}
 use Rattle.wire.specs.declared.offers.Version.{Version}
 use Rattle.wire.specs.declared.items.Piece.{Piece}
-use Rattle.wire.specs.declared.items.Piece.TheVariants.{Nothing, Noop, Message}
 use Rattle.wire.specs.Offers.{magic, chosen}
 use Rattle.wire.specs.Texts.{text_of}
 use Rattle.wire.specs.Unfinished.{Unfinished, fresh}
-use Rattle.wire.specs.Stream.{Seen, before, items_of, given}
+use Rattle.wire.specs.Stream.{Seen, before, items_of}
 use Rattle.wire.proofs.Streams.{items_of-append}
 use Rattle.packstream.specs.Canon.{canon}
 use Rattle.bolt.specs.declared.«end».End.{End}
@@ -16,9 +15,9 @@ use Rattle.bolt.specs.declared.«end».End.TheVariants.{Live, Over}
 use Rattle.bolt.specs.declared.«end».State.{State}
 use Rattle.bolt.specs.declared.«end».State.TheVariants.{Fresh, Unauth}
 use Rattle.bolt.specs.declared.«end».Cause.{Cause}
-use Rattle.bolt.specs.declared.«end».Cause.TheVariants.{BadMagic, NoVersion, TooBig, Malformed}
+use Rattle.bolt.specs.declared.«end».Cause.TheVariants.{NoVersion, TooBig, Malformed}
 use Rattle.bolt.specs.Kept.{Kept}
-use Rattle.bolt.specs.Handshake.{Opening, settled, opening, version_bytes}
+use Rattle.bolt.specs.Handshake.{settled, opening, version_bytes}
 use Rattle.bolt.specs.Hello.{IsHello}
 use Rattle.bolt.specs.Answers.{success, messages, Serves, ServesStream, AnswersFrom, Answers}
 use Rattle.bolt.specs.Kept.{IsReady}

@@ -1,16 +1,14 @@
 -- A session that was sent all of its bytes.
-use Rattle.std.proofs.Common.{◌≡◌, inl, inr, ℕ, ◌<◌, List, [], ◌∷◌, ◌++◌, length, take, drop, Bool, cond, true, false, ltb, Option, Some, None, refl, sym, ap, subst, ◌∙◌, append_assoc, append-nil, take-append-drop, arith}
+use Rattle.std.proofs.Common.{◌≡◌, inr, ℕ, ◌<◌, List, [], ◌++◌, length, take, drop, cond, true, ltb, Option, Some, None, refl, sym, ap, subst, ◌∙◌, append_assoc, append-nil, take-append-drop, arith}
 use Rattle.std.proofs.lemmas.Bool.Decides.{nat_tests}
 use Rattle.wire.specs.declared.offers.Version.{Version}
-use Rattle.wire.specs.Stream.{Seen, items_of}
-use Rattle.wire.specs.Unfinished.{fresh}
 use Rattle.bolt.specs.declared.«end».End.{End}
 use Rattle.bolt.specs.declared.«end».End.TheVariants.{Live, Over}
 use Rattle.bolt.specs.declared.«end».State.{State}
 use Rattle.bolt.specs.declared.«end».State.TheVariants.{Fresh, Unauth}
 use Rattle.bolt.specs.declared.«end».Cause.TheVariants.{Malformed}
 use Rattle.bolt.specs.Kept.{Kept}
-use Rattle.bolt.specs.Handshake.{opening, waiting, judged}
+use Rattle.bolt.specs.Handshake.{waiting, judged}
 use Rattle.bolt.specs.Hello.{IsHello}
 use Rattle.bolt.specs.Answers.{messages, Serves, ServesStream, AnswersFrom, Answers}
 use Rattle.bolt.specs.Standing.{is_over, IsOpen, StandsAs, Stands, Hears}

@@ -1,5 +1,5 @@
 -- What a session puts out for the bytes that it was sent, and how it stands then: the whole of them, however they came.
-use Rattle.std.specs.Prelude.{◌≡◌, ◌⊎◌, ℕ, Bool, if◌then◌else◌, List, [], ◌∷◌, ◌++◌, drop, codes, Option, Some, None}
+use Rattle.std.specs.Prelude.{◌≡◌, ◌⊎◌, ℕ, Bool, if◌then◌else◌, List, [], ◌∷◌, ◌++◌, drop, codes, Some, None}
 use Rattle.wire.specs.declared.offers.Version.{Version}
 use Rattle.wire.specs.declared.items.Piece.{Piece}
 use Rattle.wire.specs.declared.items.Piece.TheVariants.{Nothing, Noop, Message}

@@ -5,3 +5,6 @@ pub mod Kept
 pub mod Standing
 pub mod Hexadecimal
 pub mod Laws
+pub mod Streams
+pub mod Checks
+pub mod Commands

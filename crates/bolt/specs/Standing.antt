@@ -1,5 +1,5 @@
 -- That a session stands as these bytes leave it.
-use Rattle.std.specs.Prelude.{◌≡◌, ◌⊎◌, ◌+◌, ◌<◌, ◌≤◌, ℕ, Bool, true, false, List, [], ◌∷◌, ◌++◌, length, take, drop, Option, Some, None, Result, Ok, Err}
+use Rattle.std.specs.Prelude.{◌≡◌, ◌⊎◌, ◌<◌, ◌≤◌, ℕ, Bool, true, false, List, [], ◌++◌, length, take, drop, Option, Some, None, Result, Ok, Err}
 use Rattle.wire.specs.declared.offers.Version.{Version}
 use Rattle.wire.specs.declared.items.Piece.{Piece}
 use Rattle.wire.specs.declared.items.Piece.TheVariants.{Nothing, Noop, Message}
@@ -7,7 +7,7 @@ use Rattle.wire.specs.declared.items.Fed.{Fed}
 use Rattle.wire.specs.declared.faults.WireFault.{WireFault}
 use Rattle.wire.specs.declared.faults.WireFault.TheVariants.{TooBig, Memory}
 use Rattle.wire.specs.Unfinished.{Unfinished, fresh}
-use Rattle.wire.specs.Stream.{Seen, items_of, given}
+use Rattle.wire.specs.Stream.{items_of, given}
 use Rattle.bolt.specs.declared.«end».End.{End}
 use Rattle.bolt.specs.declared.«end».End.TheVariants.{Live, Over}
 use Rattle.bolt.specs.declared.«end».State.{State}

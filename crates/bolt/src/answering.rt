@@ -58,7 +58,7 @@ pub fn answer(alloc: Global, text: &str) -> Result<Answered, AnswerFault>
 
 /// Whether the text is hex of whole bytes.
 #[tactic(auto, using(crate::proofs::Digits::digits_decode, crate::proofs::Digits::decoded_digits))]
-fn is_hex(text: &str) -> bool
+pub(crate) fn is_hex(text: &str) -> bool
     ensures { IsTrue result ↔ IsOk (decode_of text.now) }
 {
     text.len() % 2 == 0 && are_digits(text.as_bytes())

@@ -1,5 +1,6 @@
 //! How a session stands.
-use std::fmt;
+ghost use Rattle.std.specs.Prelude.{◌≡◌};
+ghost use Rattle.bolt.specs.Commands.{end_words};
 
 /// What a session waits for.
 #[derive(Clone, Copy, Debug, PartialEq, Eq)]
@@ -30,32 +31,16 @@ pub enum End {
     Over(Cause),
 }
 
-impl fmt::Display for State {
-    fn fmt<W: fmt::Write>(&self, f: &mut fmt::Formatter<W>) -> fmt::Result {
-        match self {
-            State::Fresh => write!(f, "Fresh"),
-            State::Unauth => write!(f, "Unauth"),
-        }
-    }
-}
-
-impl fmt::Display for Cause {
-    fn fmt<W: fmt::Write>(&self, f: &mut fmt::Formatter<W>) -> fmt::Result {
-        match self {
-            Cause::BadMagic => write!(f, "E1"),
-            Cause::NoVersion => write!(f, "E2"),
-            Cause::TooBig => write!(f, "E3"),
-            Cause::Malformed => write!(f, "E4"),
-        }
-    }
-}
-
-/// As the program prints it: `state Unauth`, `ended E4`.
-impl fmt::Display for End {
-    fn fmt<W: fmt::Write>(&self, f: &mut fmt::Formatter<W>) -> fmt::Result {
-        match self {
-            End::Live(state) => write!(f, "state {state}"),
-            End::Over(cause) => write!(f, "ended {cause}"),
-        }
+/// How a session stands, as the program prints it: `state Unauth`, `ended E4`.
+pub fn end_text(end: End) -> &'static str
+    ensures { result.now ≡ end_words end }
+{
+    match end {
+        End::Live(State::Fresh) => "state Fresh",
+        End::Live(State::Unauth) => "state Unauth",
+        End::Over(Cause::BadMagic) => "ended E1",
+        End::Over(Cause::NoVersion) => "ended E2",
+        End::Over(Cause::TooBig) => "ended E3",
+        End::Over(Cause::Malformed) => "ended E4",
     }
 }

@@ -1,4 +1,7 @@
 use crate::answering::{AnswerFault, answer};
+use crate::commands::command;
+use crate::end::end_text;
+use crate::streams::{Buffer, Failed, Sink, Slice};
 use std::alloc::Global;
 use std::process::Abort;
 use std::test::Fail;
@@ -13,8 +16,7 @@ const SUCCESS: &str =
 fn answers(rt: &impl Abort, alloc: Global, text: &str, out: &str, last: &str) -> Result<(), Fail> {
     let answered = answer(alloc, text)?;
     assert_eq!(rt; answered.out.as_str(), out);
-    let printed = format!(in alloc; "{}", answered.last)?;
-    assert_eq!(rt; printed.as_str(), last);
+    assert_eq!(rt; end_text(answered.last), last);
     Ok(())
 }
 
@@ -70,4 +72,148 @@ fn ends_at_another_message(rt: HostRuntime) -> Result<(), Fail> {
 fn refuses_what_is_no_hex(rt: HostRuntime) {
     assert_eq!(rt; answer(rt.alloc(), "606").err(), Some(AnswerFault::BadHex));
     assert_eq!(rt; answer(rt.alloc(), "6g").err(), Some(AnswerFault::BadHex));
+}
+
+/// Runs the command on memory streams.
+fn says(
+    rt: &impl Abort,
+    alloc: Global,
+    words: &[&str],
+    out: &str,
+    err: &str,
+    status: u8,
+) -> Result<(), Fail> {
+    let mut list = Vec::new(alloc);
+    list.push(String::from_str(alloc, "bolt")?)?;
+    for word in words {
+        list.push(String::from_str(alloc, word)?)?;
+    }
+    let mut input = Slice::new(&[]);
+    let mut printed = Buffer::new(Vec::new(alloc));
+    let mut told = Buffer::new(Vec::new(alloc));
+    let answered = command(alloc, list.as_slice(), &mut input, &mut printed, &mut told);
+    assert_eq!(rt; printed.bytes(), out.as_bytes());
+    assert_eq!(rt; told.bytes(), err.as_bytes());
+    assert_eq!(rt; answered, status);
+    Ok(())
+}
+
+#[test]
+fn prints_an_answer(rt: HostRuntime) -> Result<(), Fail> {
+    let out = format!(in rt.alloc(); "{SUCCESS}\nstate Unauth\n")?;
+    says(&rt, rt.alloc(), &["answer", HELLO], out.as_str(), "", 0)?;
+    says(&rt, rt.alloc(), &["answer", ""], "\nstate Fresh\n", "", 0)?;
+    says(&rt, rt.alloc(), &["answer", "606"], "", "fault I4\n", 2)
+}
+
+#[test]
+fn checks_values(rt: HostRuntime) -> Result<(), Fail> {
+    let alloc = rt.alloc();
+    says(&rt, alloc, &["check", "5.1", "C90001"], "ok 01\n", "", 0)?;
+    says(
+        &rt,
+        alloc,
+        &["check", "4.4", "C17FF0000000000001"],
+        "ok c17ff0000000000001\n",
+        "",
+        0,
+    )?;
+    says(
+        &rt,
+        alloc,
+        &["check", "5.1", "A2816101816102"],
+        "refused P5 at 4\n",
+        "",
+        1,
+    )?;
+    says(
+        &rt,
+        alloc,
+        &["check", "5.1", ""],
+        "refused P1 at 0\n",
+        "",
+        1,
+    )?;
+    says(
+        &rt,
+        alloc,
+        &["check", "5.1", "0102"],
+        "refused P7 at 1\n",
+        "",
+        1,
+    )?;
+    says(
+        &rt,
+        alloc,
+        &["check", "5.1", "D6000F4240"],
+        "refused P1 at 5\n",
+        "",
+        1,
+    )?;
+    says(
+        &rt,
+        alloc,
+        &["check", "4.4", "B34E01918141A0"],
+        "ok b34e01918141a0\n",
+        "",
+        0,
+    )?;
+    says(&rt, alloc, &["check", "4.4", "0"], "", "fault I4\n", 2)
+}
+
+#[test]
+fn passes_the_vectors(rt: HostRuntime) -> Result<(), Fail> {
+    let out = "pass V1\npass V2\npass V3\npass V4\npass V5\n";
+    says(&rt, rt.alloc(), &["vectors"], out, "", 0)
+}
+
+/// A sink that takes nothing.
+#[derive(Drop)]
+struct Broken;
+
+impl Sink for Broken {
+    ghost use Rattle.std.specs.Prelude.{None, true};
+
+    ghost taken = { λ _. None };
+
+    ghost has_failed = { λ _. true };
+
+    fn write(&mut self, _bytes: &[u8]) -> Result<usize, Failed> {
+        Err(Failed)
+    }
+}
+
+fn status_of(alloc: Global, words: &[&str], told: &mut Buffer) -> Result<u8, Fail> {
+    let mut list = Vec::new(alloc);
+    for word in words {
+        list.push(String::from_str(alloc, word)?)?;
+    }
+    let mut out = Broken;
+    let mut input = Slice::new(&[]);
+    Ok(command(alloc, list.as_slice(), &mut input, &mut out, told))
+}
+
+#[test]
+fn tells_a_failed_stream(rt: HostRuntime) -> Result<(), Fail> {
+    let mut told = Buffer::new(Vec::new(rt.alloc()));
+    let status = status_of(rt.alloc(), &["bolt", "vectors"], &mut told)?;
+    assert_eq!(rt; status, 1);
+    assert_eq!(rt; told.bytes(), "fault I2\n".as_bytes());
+    Ok(())
+}
+
+#[test]
+fn refuses_other_words(rt: HostRuntime) -> Result<(), Fail> {
+    let mut told = Buffer::new(Vec::new(rt.alloc()));
+    assert_eq!(rt; status_of(rt.alloc(), &["bolt"], &mut told)?, 2);
+    assert_eq!(rt; status_of(rt.alloc(), &["bolt", "answer"], &mut told)?, 2);
+    assert_eq!(rt;
+        status_of(rt.alloc(), &["bolt", "check", "5.0", "01"], &mut told)?,
+        2
+    );
+    assert_eq!(rt;
+        status_of(rt.alloc(), &["bolt", "vectors", "01"], &mut told)?,
+        2
+    );
+    Ok(())
 }

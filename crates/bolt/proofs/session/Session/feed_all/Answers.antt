@@ -1,4 +1,4 @@
-use Rattle.std.proofs.Common.{◌≡◌, ◌++◌, take, drop, subst, append_assoc, true, rules}
+use Rattle.std.proofs.Common.{◌≡◌, ◌++◌, take, subst, append_assoc, true, rules}
 use Rattle.bolt.specs.Standing.{Stands, is_over}
 use Rattle.bolt.proofs.Wholes.{fed_more, over_as}
 use Rattle.bolt.proofs.session.Session.feed_all.Goals as goal

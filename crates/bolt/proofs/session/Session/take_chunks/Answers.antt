@@ -1,7 +1,6 @@
-use Rattle.std.proofs.Common.{◌≡◌, ◌++◌, ◌∷◌, [], take, false, true, Option, Some, Result, Ok, Err, subst, rules}
+use Rattle.std.proofs.Common.{◌≡◌, take, Some, Ok, Err, subst, rules}
 use Rattle.wire.specs.declared.faults.WireFault.TheVariants.{TooBig}
-use Rattle.wire.specs.Stream.{items_of, given}
-use Rattle.bolt.specs.declared.«end».End.TheVariants.{Live, Over}
+use Rattle.bolt.specs.declared.«end».End.TheVariants.{Live}
 use Rattle.bolt.specs.Kept.{Kept}
 use Rattle.bolt.specs.Handshake.{held_bytes}
 use Rattle.bolt.specs.Standing.{Stands, TakesItem, HearsItem}

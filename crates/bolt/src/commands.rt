@@ -1,0 +1,224 @@
+//! The commands of the program, over streams.
+ghost use Rattle.std.specs.Prelude.{◌≡◌, ◌≤◌, ◌⊎◌, [], string_bytes, true, false, IfOk};
+ghost use Rattle.std.specs.Io.KnownBytes.{Appends};
+ghost use Rattle.bolt.specs.Commands.{IsBadHex, SaysAnswer, SaysCheck, SaysChecked};
+
+use crate::answering::{AnswerFault, answer};
+use crate::checking::{Checked, check_text};
+use crate::end::end_text;
+use crate::streams::{Sink, Source, write_all};
+use crate::vectors::{is_refused_so, vectors};
+use clap::error::{Error, ErrorKind};
+use clap::{Arg, ArgAction, ArgMatches, Command};
+use std::alloc::{AllocError, Global};
+
+/// A refused value, a failed vector, or a stream that failed.
+const REFUSED: u8 = 1;
+
+/// Words or text that can't be read.
+const UNREADABLE: u8 = 2;
+
+/// Want of memory.
+const NO_MEMORY: u8 = 3;
+
+/// What a command says: on standard output, on standard error, and by its exit status.
+#[derive(Debug, Drop)]
+pub(crate) struct Said {
+    pub out: String,
+    pub err: String,
+    pub status: u8,
+}
+
+/// Does the command that the words, after the program's name, are: `answer HEX`, `check VERSION HEX` or `vectors`.
+/// The exit status is 0; 1 for a refused value, a failed vector and a stream that failed (`fault I2`); 2 for words
+/// that are no command with just its arguments, and for bad hex (`fault I4`); 3 for want of memory (`fault I3`).
+pub fn command<S: Source, O: Sink, E: Sink>(
+    alloc: Global,
+    words: &[String],
+    _input: &mut S,
+    out: &mut O,
+    err: &mut E,
+) -> u8
+    ensures status { result ≤ 3 }
+    ensures failed { O.has_failed out.old ≡ true → O.has_failed out.new ≡ true }
+{
+    match say(alloc, words) {
+        Ok(said) => put_said(&said, out, err),
+        Err(_) => put_fault(b"fault I3\n", NO_MEMORY, err),
+    }
+}
+
+/// Writes what a command says.
+fn put_said<O: Sink, E: Sink>(said: &Said, out: &mut O, err: &mut E) -> u8
+    ensures status { (result ≡ said.now.status) ⊎ ((result ≡ 1) × ((O.has_failed out.new ≡ true) ⊎ (E.has_failed err.new ≡ true))) }
+    ensures out { O.has_failed out.new ≡ false → Appends (O.taken out.old) (O.taken out.new) (string_bytes said.now.out) }
+    ensures err { O.has_failed out.new ≡ false → E.has_failed err.new ≡ false → Appends (E.taken err.old) (E.taken err.new) (string_bytes said.now.err) }
+    ensures stays { O.has_failed out.old ≡ true → O.has_failed out.new ≡ true }
+{
+    if write_all(out, said.out.as_bytes()).is_err() {
+        return put_fault(b"fault I2\n", REFUSED, err);
+    }
+    if write_all(err, said.err.as_bytes()).is_err() {
+        return REFUSED;
+    }
+    said.status
+}
+
+/// Writes a fault, and answers the status.
+fn put_fault<E: Sink>(text: &[u8], status: u8, err: &mut E) -> u8
+    ensures { result ≡ status }
+{
+    let _ = write_all(err, text);
+    status
+}
+
+fn matches_of<'a>(alloc: Global, words: &'a [String]) -> Result<ArgMatches<'a>, Error> {
+    let answer = Command::new(alloc, "answer")
+        .about("Prints what a server answers to these bytes")
+        .arg(hex_argument(alloc))?;
+    let version = Arg::new(alloc, "VERSION")
+        .required(true)
+        .action(ArgAction::Set)
+        .value_parser(["4.4", "5.1"].as_slice());
+    let check = Command::new(alloc, "check")
+        .about("Reads these bytes as a value, and prints its shortest spelling")
+        .arg(version)?
+        .arg(hex_argument(alloc))?;
+    let vectors = Command::new(alloc, "vectors").about("Runs the test vectors");
+    Command::new(alloc, "bolt")
+        .subcommand_required(true)
+        .subcommand(answer)?
+        .subcommand(check)?
+        .subcommand(vectors)?
+        .try_get_matches_from(words)
+}
+
+fn hex_argument<'a>(alloc: Global) -> Arg<'a> {
+    Arg::new(alloc, "HEX").required(true).action(ArgAction::Set)
+}
+
+fn say(alloc: Global, words: &[String]) -> Result<Said, AllocError>
+    ensures { IfOk result (λ s. s.status ≤ 2) }
+{
+    match matches_of(alloc, words) {
+        Ok(matches) => say_matched(alloc, &matches),
+        Err(error) => say_error(alloc, &error),
+    }
+}
+
+/// What the parser says to words that are no command.
+fn say_error(alloc: Global, error: &Error) -> Result<Said, AllocError>
+    ensures { IfOk result (λ s. (string_bytes s.out ≡ []) × (s.status ≡ 2)) }
+{
+    if error.kind() == ErrorKind::OutOfMemory {
+        return Err(AllocError);
+    }
+    Ok(Said {
+        out: String::new(alloc),
+        err: format!(in alloc; "{error}")?,
+        status: UNREADABLE,
+    })
+}
+
+fn say_matched(alloc: Global, matches: &ArgMatches<'_>) -> Result<Said, AllocError>
+    ensures { IfOk result (λ s. s.status ≤ 2) }
+{
+    let Some((name, inner)) = matches.subcommand() else {
+        return say_vectors(alloc);
+    };
+    let Some(text) = inner.get_str("HEX") else {
+        return say_vectors(alloc);
+    };
+    if name == "answer" {
+        say_answer(alloc, text)
+    } else {
+        say_check(alloc, text)
+    }
+}
+
+fn say_bad_hex(alloc: Global) -> Result<Said, AllocError>
+    ensures { IfOk result (λ s. IsBadHex s) }
+{
+    Ok(Said {
+        out: String::new(alloc),
+        err: String::from_str(alloc, "fault I4\n")?,
+        status: UNREADABLE,
+    })
+}
+
+fn say_out(alloc: Global, out: String, status: u8) -> Said
+    ensures { (string_bytes result.out ≡ string_bytes out) × (string_bytes result.err ≡ []) × (result.status ≡ status) }
+{
+    Said {
+        out,
+        err: String::new(alloc),
+        status,
+    }
+}
+
+/// What is put out, on a line, and how the session stands, on the next.
+fn say_answer(alloc: Global, text: &str) -> Result<Said, AllocError>
+    ensures says { IfOk result (λ s. SaysAnswer text.now s) }
+    ensures status { IfOk result (λ s. s.status ≤ 2) }
+{
+    let answered = match answer(alloc, text) {
+        Ok(answered) => answered,
+        Err(AnswerFault::BadHex) => return say_bad_hex(alloc),
+        Err(AnswerFault::Memory) => return Err(AllocError),
+    };
+    let mut out = answered.out;
+    out.push_str("\n")?;
+    out.push_str(end_text(answered.last))?;
+    out.push_str("\n")?;
+    Ok(say_out(alloc, out, 0))
+}
+
+/// `ok HEX`, or `refused P5 at 4`.
+fn say_check(alloc: Global, text: &str) -> Result<Said, AllocError>
+    ensures says { IfOk result (λ s. SaysCheck text.now s) }
+    ensures status { IfOk result (λ s. s.status ≤ 2) }
+{
+    match check_text(alloc, text) {
+        Ok(checked) => say_checked(alloc, &checked),
+        Err(AnswerFault::BadHex) => say_bad_hex(alloc),
+        Err(AnswerFault::Memory) => Err(AllocError),
+    }
+}
+
+fn say_checked(alloc: Global, checked: &Checked) -> Result<Said, AllocError>
+    ensures says { IfOk result (λ s. SaysChecked checked.now s) }
+    ensures status { IfOk result (λ s. s.status ≤ 1) }
+{
+    match checked {
+        Checked::Fine(hex) => {
+            let mut out = String::from_str(alloc, "ok ")?;
+            out.push_str(hex.as_str())?;
+            out.push_str("\n")?;
+            Ok(say_out(alloc, out, 0))
+        }
+        Checked::Refused(reason, place) => {
+            let out = format!(in alloc; "refused {reason} at {place}\n")?;
+            Ok(say_out(alloc, out, REFUSED))
+        }
+    }
+}
+
+/// `pass V1` or `fail V1`, and so on.
+fn say_vectors(alloc: Global) -> Result<Said, AllocError>
+    ensures { IfOk result (λ s. (string_bytes s.err ≡ []) × (s.status ≤ 1)) }
+{
+    let mut out = String::new(alloc);
+    let mut all_pass = true;
+    for vector in vectors() {
+        if is_refused_so(alloc, vector)? {
+            out.push_str("pass ")?;
+        } else {
+            out.push_str("fail ")?;
+            all_pass = false;
+        }
+        out.push_str(vector.name)?;
+        out.push_str("\n")?;
+    }
+    let status = if all_pass { 0 } else { REFUSED };
+    Ok(say_out(alloc, out, status))
+}

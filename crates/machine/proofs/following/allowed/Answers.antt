@@ -1,0 +1,24 @@
+use Rattle.std.proofs.Common.{◌+◌, sym, subst, ◌∙◌, ◌≡◌, arith, get_or, true}
+use Rattle.machine.specs.declared.states.Phase.{Phase}
+use Rattle.machine.specs.Following.{allows}
+use Rattle.machine.proofs.Gathered.{Checked, checked-some, checked-none, checked-all, live}
+use Rattle.machine.proofs.following.allowed.Goals as goal
+use Rattle.machine.proofs.following.allowed.Goals.{then-has+else-not-is_allowed, else-has}
+
+pub loop-phase-preserved : goal.loop-phase-preserved
+loop-phase-preserved c =
+    let i = c.loop-phase.phase-index in
+    elim c.if-has.branch [
+      | then-has+else-not-is_allowed w ↦
+          let may : allows c.args.version (get_or live i Phase.Fresh) c.args.kind ≡ true = sym w.is_allowed.ensures ∙ w.if-not-is_allowed.false in
+          subst (λ some. Checked c.args.version c.args.set c.args.kind some (i + 1)) (sym w.some-is)
+          (checked-some c.args.version c.args.set c.args.kind c.loop-phase.some i Phase.Fresh c.loop-phase-test.true (sym c.has.ensures ∙ w.if-has.true) may c.loop-phase.invariant)
+      | else-has w ↦
+          subst (λ some. Checked c.args.version c.args.set c.args.kind some (i + 1)) (sym w.some-is)
+          (checked-none c.args.version c.args.set c.args.kind c.loop-phase.some i Phase.Fresh c.loop-phase-test.true (sym c.has.ensures ∙ w.if-has.false) c.loop-phase.invariant)
+    ]
+
+pub returns : goal.returns
+returns c =
+    let over : c.loop-phase.phase-index ≡ 7 = omega arith in
+    checked-all c.args.version c.args.set c.args.kind c.loop-phase.some (subst (λ i. Checked c.args.version c.args.set c.args.kind c.loop-phase.some i) over c.loop-phase.invariant)

@@ -1,0 +1,58 @@
+-- What the machine sees of a request: its kind, and whether it asks for a part of the rows.
+use Rattle.std.specs.Prelude.{Bool, true, false}
+use Rattle.wire.specs.declared.Version.{Version}
+use Rattle.messages.specs.declared.request.Count.{Count}
+use Rattle.messages.specs.View.{Ask}
+use Rattle.machine.specs.declared.kinds.Kind.{Kind}
+
+-- the kind of a request
+abbrev pub kind_of : Ask → Kind
+kind_of (Ask.Hello agent auth) = Kind.Hello
+kind_of (Ask.Logon auth) = Kind.Logon
+kind_of Ask.Logoff = Kind.Logoff
+kind_of Ask.Goodbye = Kind.Goodbye
+kind_of Ask.Reset = Kind.Reset
+kind_of (Ask.Run text params mode) = Kind.Run
+kind_of (Ask.Begin mode) = Kind.Begin
+kind_of Ask.Commit = Kind.Commit
+kind_of Ask.Rollback = Kind.Rollback
+kind_of (Ask.Discard count) = Kind.Discard
+kind_of (Ask.Pull count) = Kind.Pull
+
+-- a count that may leave rows
+abbrev pub is_part : Count → Bool
+is_part Count.All = false
+is_part (Count.Of rows) = true
+
+-- a PULL or DISCARD of so many rows, and not of all
+abbrev pub in_part : Ask → Bool
+in_part (Ask.Discard count) = is_part count
+in_part (Ask.Pull count) = is_part count
+in_part _ = false
+
+-- LOGON and LOGOFF are requests of 5.1 alone
+abbrev pub is_of : Version → Kind → Bool
+is_of Version.V44 Kind.Logon = false
+is_of Version.V44 Kind.Logoff = false
+is_of _ _ = true
+
+-- two names of one version
+abbrev pub same_version : Version → Version → Bool
+same_version Version.V44 Version.V44 = true
+same_version Version.V51 Version.V51 = true
+same_version _ _ = false
+
+-- two names of one kind
+abbrev pub same_kind : Kind → Kind → Bool
+same_kind Kind.Hello Kind.Hello = true
+same_kind Kind.Logon Kind.Logon = true
+same_kind Kind.Logoff Kind.Logoff = true
+same_kind Kind.Goodbye Kind.Goodbye = true
+same_kind Kind.Reset Kind.Reset = true
+same_kind Kind.Run Kind.Run = true
+same_kind Kind.Begin Kind.Begin = true
+same_kind Kind.Commit Kind.Commit = true
+same_kind Kind.Rollback Kind.Rollback = true
+same_kind Kind.Discard Kind.Discard = true
+same_kind Kind.Pull Kind.Pull = true
+same_kind _ _ = false

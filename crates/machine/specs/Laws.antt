@@ -1,0 +1,67 @@
+-- What holds of the rows and of the phases that may follow.
+use Rattle.std.specs.Prelude.{◌≡◌, ℕ, Bool, true, false, Some, option_to_list, List, ◌++◌}
+use Rattle.std.specs.List.{list_any}
+use Rattle.wire.specs.declared.Version.{Version}
+use Rattle.messages.specs.View.{Ask}
+use Rattle.machine.specs.declared.states.State.{State}
+use Rattle.machine.specs.declared.states.Phase.{Phase}
+use Rattle.machine.specs.declared.kinds.Kind.{Kind}
+use Rattle.machine.specs.declared.rows.Verdict.{Verdict}
+use Rattle.machine.specs.States.{phase_of}
+use Rattle.machine.specs.Rows.{Next, Commits, line_of, row_of, row_at, nexts_of}
+use Rattle.machine.specs.Following.{has, next, table, joined, follow, possible, commits, could, interruptible}
+
+-- each phase of the first is one of the second
+abbrev pub IsWithin : List Phase → List Phase → Type 0
+IsWithin ps qs = (x : Phase) → has x ps ≡ true → has x qs ≡ true
+
+-- the table of what may follow says what the rows say over every verdict
+abbrev pub TableIsRows : Type 0
+TableIsRows = (v : Version) (p : Phase) (k : Kind) (part : Bool) (x : Phase) → has x (next v p k part) ≡ has x (table v p k part)
+
+-- so it does of sets
+abbrev pub JoinedIsFollow : Type 0
+JoinedIsFollow = (v : Version) (ps : List Phase) (a : Ask) → joined v ps a ≡ follow v ps a
+
+-- more may follow more phases
+abbrev pub AfterGrows : Type 0
+AfterGrows = (v : Version) (ps qs : List Phase) (a : Ask) → IsWithin ps qs → IsWithin (joined v ps a) (joined v qs a)
+
+abbrev pub PossibleGrows : Type 0
+PossibleGrows = (v : Version) (ps qs : List Phase) (asks : List Ask) → IsWithin ps qs → IsWithin (possible v ps asks) (possible v qs asks)
+
+-- and what could have committed from fewer phases could have from more
+abbrev pub CouldGrows : Type 0
+CouldGrows = (v : Version) (ps qs : List Phase) (asks : List Ask) (i : ℕ) → IsWithin ps qs → could v ps asks i ≡ true → could v qs asks i ≡ true
+
+-- requests in turn are their list
+abbrev pub PossibleInTurn : Type 0
+PossibleInTurn = (v : Version) (ps : List Phase) (first second : List Ask) → possible v ps (first ++ second) ≡ possible v (possible v ps first) second
+
+-- the place is marked: what leads there commits
+abbrev pub is_marked : Next → Bool
+is_marked (Commits s) = true
+is_marked _ = false
+
+abbrev pub marked_in : Version → State → Kind → Bool
+marked_in v s k = list_any (λ x. is_marked x.success) (option_to_list (line_of v s k))
+
+-- the rows that commit are those marked in the table
+abbrev pub CommitsAreMarked : Type 0
+CommitsAreMarked = (v : Version) (s : State) (k : Kind) → commits (phase_of s) k ≡ marked_in v s k
+
+-- no two places of the tables are for one request at one verdict
+abbrev pub OneNext : Type 0
+OneNext = (v : Version) (s : State) (k : Kind) (d : Verdict) → nexts_of v s k d ≡ option_to_list (row_of v s k d)
+
+-- what a row leads to is among what may follow, where no RESET has struck
+abbrev pub RowsFollow : Type 0
+RowsFollow =
+    (v : Version) (s t : State) (k : Kind) (d : Verdict) (part : Bool) → (d ≡ Verdict.More → part ≡ true) → row_at v s k d ≡ Some t
+    → has (phase_of t) (next v (phase_of s) k part) ≡ true
+
+-- and where one has
+abbrev pub StruckRowsFollow : Type 0
+StruckRowsFollow =
+    (v : Version) (s t : State) (k : Kind) (d : Verdict) (part : Bool) → (d ≡ Verdict.More → part ≡ true) → interruptible s ≡ true
+    → row_at v State.Interrupted k d ≡ Some t → has (phase_of t) (next v (phase_of s) k part) ≡ true

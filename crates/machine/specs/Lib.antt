@@ -1,0 +1,6 @@
+pub mod States
+pub mod Asks
+pub mod Rows
+pub mod Following
+pub mod Members
+pub mod Laws

@@ -1,0 +1,35 @@
+ghost use Rattle.std.specs.Prelude.{◌≡◌};
+ghost use Rattle.messages.specs.View.{ask};
+ghost use Rattle.machine.specs.Asks.{kind_of, in_part};
+
+use crate::kinds::Kind;
+use messages::{Count, Request};
+
+/// The kind of a request.
+pub fn kind(request: &Request) -> Kind
+    ensures { result ≡ kind_of (ask request.now) }
+{
+    match request {
+        Request::Hello { .. } => Kind::Hello,
+        Request::Logon(_) => Kind::Logon,
+        Request::Logoff => Kind::Logoff,
+        Request::Goodbye => Kind::Goodbye,
+        Request::Reset => Kind::Reset,
+        Request::Run { .. } => Kind::Run,
+        Request::Begin(_) => Kind::Begin,
+        Request::Commit => Kind::Commit,
+        Request::Rollback => Kind::Rollback,
+        Request::Discard(_) => Kind::Discard,
+        Request::Pull(_) => Kind::Pull,
+    }
+}
+
+/// Whether a request asks for so many rows, and not for all.
+pub(crate) fn is_partial(request: &Request) -> bool
+    ensures { result ≡ in_part (ask request.now) }
+{
+    matches!(
+        request,
+        Request::Discard(Count::Of(_)) | Request::Pull(Count::Of(_))
+    )
+}

@@ -1,0 +1,53 @@
+//! What holds of the rows, and of the phases that may follow requests.
+
+ghost use Rattle.machine.specs.Laws.{AfterGrows, CommitsAreMarked, CouldGrows, JoinedIsFollow, OneNext, PossibleGrows, PossibleInTurn, RowsFollow, StruckRowsFollow, TableIsRows};
+
+/// A request has at most one next state at a verdict: no two places of the tables are for it.
+pub fn one_next()
+    ensures { OneNext }
+{}
+
+/// What a row leads to is among what may follow.
+pub fn rows_follow()
+    ensures { RowsFollow }
+{}
+
+/// So is what a row leads to from Interrupted, where a RESET has struck.
+pub fn struck_rows_follow()
+    ensures { StruckRowsFollow }
+{}
+
+/// The table of what may follow one request says what the rows say over every verdict.
+pub fn table_is_rows()
+    ensures { TableIsRows }
+{}
+
+/// So it does of sets.
+pub fn sets_are_rows()
+    ensures { JoinedIsFollow }
+{}
+
+/// More may follow more phases.
+pub fn after_grows()
+    ensures { AfterGrows }
+{}
+
+/// More may follow more phases, over a list of requests.
+pub fn possible_grows()
+    ensures { PossibleGrows }
+{}
+
+/// What could have committed from fewer phases could have from more.
+pub fn could_grows()
+    ensures { CouldGrows }
+{}
+
+/// What may follow two lists of requests in turn is what may follow the list of both.
+pub fn possible_in_turn()
+    ensures { PossibleInTurn }
+{}
+
+/// The rows that commit are those marked in the table.
+pub fn commits_are_marked()
+    ensures { CommitsAreMarked }
+{}

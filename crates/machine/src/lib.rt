@@ -1,0 +1,23 @@
+//! The states of a session of the Bolt protocol: what each request may make of them, and which may follow where answers are
+//! still waited for.
+#![tactic(auto)]
+
+mod asking;
+mod following;
+mod kinds;
+pub mod laws;
+mod phase_set;
+mod phases;
+mod rows;
+mod states;
+
+pub use asking::kind;
+pub use following::{after, allowed};
+pub use kinds::Kind;
+pub use phase_set::PhaseSet;
+pub use phases::phase;
+pub use rows::{Verdict, row};
+pub use states::{Phase, State};
+
+#[cfg(test)]
+mod tests;

@@ -1,0 +1,36 @@
+/// Where a session of the server stands.
+#[derive(Clone, Copy, Debug, PartialEq, Eq)]
+pub enum State {
+    /// The version is chosen, and nobody has said hello.
+    Fresh,
+    /// Said hello, and nobody is logged on.
+    Unauth,
+    /// Waiting for a query or a transaction.
+    Ready,
+    /// The rows of a result are open.
+    Streaming,
+    /// In a transaction.
+    TxReady,
+    /// In a transaction, and the rows of a result are open.
+    TxStreaming,
+    /// A request failed: what follows is ignored, up to a RESET.
+    Failed,
+    /// A RESET has struck: what stands before it is ignored.
+    Interrupted,
+    /// Over.
+    Defunct,
+}
+
+/// What a client can tell apart of a state.
+#[derive(Clone, Copy, Debug, PartialEq, Eq)]
+pub enum Phase {
+    Fresh,
+    Unauth,
+    Ready,
+    Streaming,
+    TxReady,
+    TxStreaming,
+    /// Failed or interrupted: IGNORED doesn't tell which.
+    Halted,
+    Defunct,
+}

@@ -1,0 +1,158 @@
+-- What is written is told again.
+use Rattle.std.proofs.Common.{◌≡◌, ℕ, ℤ, pos, negsuc, int_le, ◌++◌, Bool, true, false, cond, List, [], ◌∷◌, Option, None, Some, Result, Ok, Err, codes, refl, ap, sym, subst, ◌∙◌}
+use Rattle.packstream.specs.declared.fault.Reason.{Reason as PackReason}
+use Rattle.packstream.specs.Tree.{Tree, text, dict, list, int, structure, no_trees, tree_then, Entries, entry_then, no_entries}
+use Rattle.packstream.specs.View.{entries_of, trees_of}
+use Rattle.packstream.specs.Making.{first_fault, faults_in}
+use Rattle.wire.specs.declared.Version.{Version}
+use Rattle.wire.specs.declared.Version.TheVariants.{V44, V51}
+use Rattle.structures.specs.declared.fault.Reason.{Reason as CellReason}
+use Rattle.structures.specs.Faults.{scan, structures}
+use Rattle.structures.specs.Writing.{unwritten}
+use Rattle.std.specs.Ordering.{int_eq}
+use Rattle.structures.specs.Form.{form, form_under, form_all}
+use Rattle.structures.specs.Shape.{shape}
+use Rattle.structures.specs.declared.cell.Cell.{Cell, Dict as DictCell, List as ListCell}
+use Rattle.structures.proofs.Views.{shape-Dict, shape-List}
+use Rattle.structures.proofs.Fine.{fine_scan}
+use Rattle.structures.proofs.Formed.{form_is as formed_is}
+use Rattle.messages.specs.declared.request.Request.{Request}
+use Rattle.messages.specs.declared.request.Request.TheVariants as request
+use Rattle.messages.specs.declared.response.Response.{Response}
+use Rattle.messages.specs.declared.response.Response.TheVariants as response
+use Rattle.messages.specs.declared.request.Mode.TheVariants.{Read, Write}
+use Rattle.messages.specs.declared.request.Count.TheVariants.{All, Of}
+use Rattle.messages.specs.declared.fault.MsgFault.{MsgFault}
+use Rattle.messages.specs.declared.fault.MsgFault.TheVariants as fault
+use Rattle.messages.specs.Table.{Row, requests, responses, Name, DISCARD, PULL, SUCCESS, RECORD, RUN}
+use Rattle.messages.specs.View.{ask, say, Ask, Hello, Logon, Logoff, Goodbye, Reset, Run, Begin, Commit, Rollback, Discard, Pull, Say, Success, Record, Ignored, Failure}
+use Rattle.messages.specs.Reading.{◌>>=◌, Said, said, message_told, mode_told, lookup, cell_told, cell_by, asks, says}
+use Rattle.messages.specs.Cells.{value_by, form_by, cell_put}
+use Rattle.messages.specs.Writing.{form_put}
+
+-- a field of cells that is written is told as these cells again
+abbrev pub IsBack : Version → Tree → Type 0
+IsBack v c = (u : Tree) → cell_put v c ≡ Ok u → cell_told v u ≡ Ok c
+
+abbrev pub AreBack : Version → Ask → Type 0
+AreBack v (Run s ps m) = IsBack v (dict (entries_of ps))
+AreBack v m = Unit {0}
+
+abbrev pub AreAnsweredBack : Version → Say → Type 0
+AreAnsweredBack v (Success ms) = IsBack v (dict (entries_of ms))
+AreAnsweredBack v (Record cs) = IsBack v (list (trees_of cs))
+AreAnsweredBack v m = Unit {0}
+
+told_from : (v : Version) (table : List Row) (s : Said) (x t : Tree) → ◌≡◌ {A = Result Tree MsgFault} (Ok x) (Ok t) → message_told v table x ≡ Ok s → message_told v table t ≡ Ok s
+told_from v table s x t e k = let same : x ≡ t = cc in rw (sym same) k
+
+value_is : (r : Result ℕ (PackReason × ℕ)) (t u : Tree) → value_by r t ≡ Ok u → u ≡ t
+value_is (Ok n) t u h = cc
+value_is (Err e) t u h = absurd cc
+
+form_is : (r : Result ℕ (CellReason × ℕ)) (t u : Tree) → form_by r t ≡ Ok u → u ≡ t
+form_is (Ok n) t u h = value_is (first_fault (faults_in 0 false t) 0) t u h
+form_is (Err e) t u h = absurd cc
+
+-- what is written of a field of cells is its form
+put_is : (v : Version) (s u : Tree) → cell_put v s ≡ Ok u → u ≡ form v s
+put_is v s u h = form_is (scan (unwritten v) 0 (structures s)) (form v s) u h
+
+not_minus : (z : ℤ) → int_le (pos 1) z ≡ true → int_eq z (negsuc 0) ≡ false
+not_minus (pos n) h = refl
+not_minus (negsuc n) h = absurd cc
+
+pull_back : (v : Version) (z : ℤ) (b : Bool) (t : Tree) → int_le (pos 1) z ≡ b → form_put v (asks (Pull (Of z))) ≡ Ok t → message_told v requests t ≡ Ok (asks (Pull (Of z)))
+pull_back v z true t e h = told_from v requests _ _ t (rw e at h) (rw (not_minus z e, e) refl)
+pull_back v z false t e h = let k = rw e at h in absurd cc
+
+discard_back : (v : Version) (z : ℤ) (b : Bool) (t : Tree) → int_le (pos 1) z ≡ b → form_put v (asks (Discard (Of z))) ≡ Ok t → message_told v requests t ≡ Ok (asks (Discard (Of z)))
+discard_back v z true t e h = told_from v requests _ _ t (rw e at h) (rw (not_minus z e, e) refl)
+discard_back v z false t e h = let k = rw e at h in absurd cc
+
+-- a RUN whose entries are these, and one whose parameters are told
+run_told_as : (v : Version) (s : List ℕ) (es : Entries) (x : List Tree) (u c : Tree) (f : Entries) → u ≡ dict f → cell_told v u ≡ Ok c → (mode_told (lookup (codes "mode") es) ≡ Ok x)
+    → message_told v requests (structure 0x10 (tree_then (text s) (tree_then u (tree_then (dict es) no_trees)))) ≡ Ok (said RUN (text s ∷ c ∷ []) (x ++ []))
+run_told_as v s es x u c f is k m =
+    let k' : cell_told v (dict f) ≡ Ok c = ap (cell_told v) (sym is) ∙ k in
+    rw is (rw (m, k') refl)
+
+read_back : (v : Version) (s : List ℕ) (ps : List (List ℕ × Tree)) (r : Result Tree MsgFault) (t : Tree) → cell_put v (dict (entries_of ps)) ≡ r → IsBack v (dict (entries_of ps)) → form_put v (asks (Run s ps Read)) ≡ Ok t → message_told v requests t ≡ Ok (asks (Run s ps Read))
+read_back v s ps (Ok u) t e p h = told_from v requests _ _ t (rw e at h) (run_told_as v s (entry_then (codes "mode") (text (codes "r")) no_entries) (text (codes "r") ∷ []) u (dict (entries_of ps)) (form_under v (entries_of ps)) (put_is v (dict (entries_of ps)) u e) (p u e) refl)
+read_back v s ps (Err x) t e p h = let k = rw e at h in absurd cc
+
+write_back : (v : Version) (s : List ℕ) (ps : List (List ℕ × Tree)) (r : Result Tree MsgFault) (t : Tree) → cell_put v (dict (entries_of ps)) ≡ r → IsBack v (dict (entries_of ps)) → form_put v (asks (Run s ps Write)) ≡ Ok t → message_told v requests t ≡ Ok (asks (Run s ps Write))
+write_back v s ps (Ok u) t e p h = told_from v requests _ _ t (rw e at h) (run_told_as v s no_entries (text (codes "w") ∷ []) u (dict (entries_of ps)) (form_under v (entries_of ps)) (put_is v (dict (entries_of ps)) u e) (p u e) refl)
+write_back v s ps (Err x) t e p h = let k = rw e at h in absurd cc
+
+pub told_back : (v : Version) (m : Ask) (t : Tree) → AreBack v m → form_put v (asks m) ≡ Ok t → message_told v requests t ≡ Ok (asks m)
+told_back V44 (Hello a None) t p h = absurd cc
+told_back V51 (Hello a None) t p h = told_from V51 requests _ _ t h refl
+told_back V44 (Hello a (Some l)) t p h = told_from V44 requests _ _ t h refl
+told_back V51 (Hello a (Some l)) t p h = absurd cc
+told_back V44 (Logon l) t p h = absurd cc
+told_back V51 (Logon l) t p h = told_from V51 requests _ _ t h refl
+told_back V44 Logoff t p h = absurd cc
+told_back V51 Logoff t p h = told_from V51 requests _ _ t h refl
+told_back v Goodbye t p h = told_from v requests _ _ t h refl
+told_back v Reset t p h = told_from v requests _ _ t h refl
+told_back v (Run s ps Read) t p h = read_back v s ps (cell_put v (dict (entries_of ps))) t refl p h
+told_back v (Run s ps Write) t p h = write_back v s ps (cell_put v (dict (entries_of ps))) t refl p h
+told_back v (Begin Read) t p h = told_from v requests _ _ t h refl
+told_back v (Begin Write) t p h = told_from v requests _ _ t h refl
+told_back v Commit t p h = told_from v requests _ _ t h refl
+told_back v Rollback t p h = told_from v requests _ _ t h refl
+told_back v (Discard All) t p h = told_from v requests _ _ t h refl
+told_back v (Discard (Of z)) t p h = discard_back v z (int_le (pos 1) z) t refl h
+told_back v (Pull All) t p h = told_from v requests _ _ t h refl
+told_back v (Pull (Of z)) t p h = pull_back v z (int_le (pos 1) z) t refl h
+
+success_back : (v : Version) (ms : List (List ℕ × Tree)) (r : Result Tree MsgFault) (t : Tree) → cell_put v (dict (entries_of ms)) ≡ r → IsBack v (dict (entries_of ms)) → form_put v (says (Success ms)) ≡ Ok t → message_told v responses t ≡ Ok (says (Success ms))
+success_back v ms (Ok u) t e p h =
+    let is = put_is v (dict (entries_of ms)) u e in
+    let k : cell_told v (dict (form_under v (entries_of ms))) ≡ Ok (dict (entries_of ms)) = ap (cell_told v) (sym is) ∙ p u e in
+    told_from v responses _ _ t (rw e at h) (rw is (rw k refl))
+success_back v ms (Err x) t e p h = let k = rw e at h in absurd cc
+
+record_back : (v : Version) (cs : List Tree) (r : Result Tree MsgFault) (t : Tree) → cell_put v (list (trees_of cs)) ≡ r → IsBack v (list (trees_of cs)) → form_put v (says (Record cs)) ≡ Ok t → message_told v responses t ≡ Ok (says (Record cs))
+record_back v cs (Ok u) t e p h =
+    let is = put_is v (list (trees_of cs)) u e in
+    let k : cell_told v (list (form_all v (trees_of cs))) ≡ Ok (list (trees_of cs)) = ap (cell_told v) (sym is) ∙ p u e in
+    told_from v responses _ _ t (rw e at h) (rw is (rw k refl))
+record_back v cs (Err x) t e p h = let k = rw e at h in absurd cc
+
+pub answered_back_told : (v : Version) (m : Say) (t : Tree) → AreAnsweredBack v m → form_put v (says m) ≡ Ok t → message_told v responses t ≡ Ok (says m)
+answered_back_told v (Success ms) t p h = success_back v ms (cell_put v (dict (entries_of ms))) t refl p h
+answered_back_told v (Record cs) t p h = record_back v cs (cell_put v (list (trees_of cs))) t refl p h
+answered_back_told v Ignored t p h = told_from v responses _ _ t h refl
+answered_back_told v (Failure c m) t p h = told_from v responses _ _ t h refl
+
+writable_in : (r : Result ℕ (CellReason × ℕ)) (t u : Tree) → form_by r t ≡ Ok u → (n : ℕ) × (r ≡ Ok n)
+writable_in (Ok n) t u h = (n, refl)
+writable_in (Err e) t u h = absurd cc
+
+-- what is written of a cell is told as that cell
+pub cell_back : (v : Version) (c : Cell) → IsBack v (shape c)
+cell_back v c u h =
+    let w = writable_in (scan (unwritten v) 0 (structures (shape c))) (form v (shape c)) u h in
+    let f = formed_is v c (fine_scan (unwritten v) 0 w.0 (structures (shape c)) w.1) in
+    ap (cell_told v) (put_is v (shape c) u h) ∙ ap (λ r. cell_by r (form v (shape c))) f.0.1 ∙ ap Ok (sym f.1)
+
+pub request_back : (v : Version) (r : Request) → AreBack v (ask r)
+request_back v (request.Run s ps m) = subst (IsBack v) (shape-Dict ps) (cell_back v (DictCell ps))
+request_back v (request.Hello a o) = tt
+request_back v (request.Logon l) = tt
+request_back v request.Logoff = tt
+request_back v request.Goodbye = tt
+request_back v request.Reset = tt
+request_back v (request.Begin m) = tt
+request_back v request.Commit = tt
+request_back v request.Rollback = tt
+request_back v (request.Discard c) = tt
+request_back v (request.Pull c) = tt
+
+pub response_back : (v : Version) (r : Response) → AreAnsweredBack v (say r)
+response_back v (response.Success ms) = subst (IsBack v) (shape-Dict ms) (cell_back v (DictCell ms))
+response_back v (response.Record cs) = subst (IsBack v) (shape-List cs) (cell_back v (ListCell cs))
+response_back v response.Ignored = tt
+response_back v (response.Failure c m) = tt

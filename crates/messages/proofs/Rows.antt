@@ -1,0 +1,55 @@
+-- What a structure says by its row, a field at a time.
+use Rattle.std.proofs.Common.{◌≡◌, ℕ, List, [], ◌∷◌, refl, ap, codes, ◌++◌, append-nil, Result, Ok, Err}
+use Rattle.packstream.specs.Tree.{Tree, text, list, dict, Trees, no_trees, tree_then, Entries}
+use Rattle.wire.specs.declared.Version.{Version}
+use Rattle.messages.specs.declared.fault.MsgFault.{MsgFault}
+use Rattle.messages.specs.Table.{Name, Others, Named, ignored, extra, text_field, cells, cell_list, RUN, mode_alone}
+use Rattle.structures.specs.Form.{typed_under}
+use Rattle.messages.specs.Reading.{◌>>=◌, Said, said, row_told, extra_told, all_told, cell_told, mode_told, lookup, cell_by}
+use Rattle.messages.specs.Parts.{no_field, one_field, dict_told, list_told, only_dict, run_parts, run_told, as_dict, as_list}
+use Rattle.structures.specs.declared.fault.Reason.{Reason as CellReason}
+use Rattle.structures.specs.Faults.{scan, fault as structure_fault, structures}
+
+pub none_row : (v : Version) (n : Name) (ts : Trees) → row_told v n [] ts ≡ (no_field ts >>= λ x. Ok (said n [] []))
+none_row v n no_trees = refl
+none_row v n (tree_then t ts) = refl
+
+pub extra_row : (v : Version) (n : Name) (o : Others) (ns : List Named) (ts : Trees) → row_told v n (extra o ns ∷ []) ts ≡ (only_dict ts >>= λ es. extra_told v o ns es >>= λ xs. Ok (said n [] xs))
+extra_row v n o ns (tree_then (dict es) no_trees) = refl
+extra_row v n o ns (tree_then (dict es) (tree_then t ts)) = refl
+extra_row v n o ns (tree_then t no_trees) = refl
+extra_row v n o ns (tree_then t (tree_then u ts)) = refl
+extra_row v n o ns no_trees = refl
+
+one_dict : (n : Name) (es : Entries) (r : Result ℕ (CellReason × ℕ)) → ((cell_by r (dict es) >>= λ x. Ok (x ∷ [])) >>= λ fs. Ok (said n fs [])) ≡ ((cell_by r (dict es) >>= as_dict) >>= λ c. Ok (said n (c ∷ []) []))
+one_dict n es (Ok k) = refl
+one_dict n es (Err e) = refl
+
+one_list : (n : Name) (ts : Trees) (r : Result ℕ (CellReason × ℕ)) → ((cell_by r (list ts) >>= λ x. Ok (x ∷ [])) >>= λ fs. Ok (said n fs [])) ≡ ((cell_by r (list ts) >>= as_list) >>= λ c. Ok (said n (c ∷ []) []))
+one_list n ts (Ok k) = refl
+one_list n ts (Err e) = refl
+
+pub cells_row : (v : Version) (n : Name) (ts : Trees) → row_told v n (cells ∷ []) ts ≡ (one_field ts >>= λ t. dict_told t >>= λ es. (cell_told v t >>= as_dict) >>= λ c. Ok (said n (c ∷ []) []))
+cells_row v n (tree_then (dict es) no_trees) = one_dict n es (scan (structure_fault v) 0 (structures (dict es)))
+cells_row v n (tree_then (dict es) (tree_then t ts)) = refl
+cells_row v n (tree_then t no_trees) = refl
+cells_row v n (tree_then t (tree_then u ts)) = refl
+cells_row v n no_trees = refl
+
+pub list_row : (v : Version) (n : Name) (ts : Trees) → row_told v n (cell_list ∷ []) ts ≡ (one_field ts >>= λ t. list_told t >>= λ us. (cell_told v t >>= as_list) >>= λ c. Ok (said n (c ∷ []) []))
+list_row v n (tree_then (list us) no_trees) = one_list n us (scan (structure_fault v) 0 (structures (list us)))
+list_row v n (tree_then (list us) (tree_then t ts)) = refl
+list_row v n (tree_then t no_trees) = refl
+list_row v n (tree_then t (tree_then u ts)) = refl
+list_row v n no_trees = refl
+
+text_and_dict : (n : Name) (t : Tree) (es : Entries) (a : Result (List Tree) MsgFault) (r : Result ℕ (CellReason × ℕ))
+    → ((a >>= λ x. Ok (x ++ [])) >>= λ x. ((cell_by r (dict es) >>= λ x. Ok (x ∷ [])) >>= λ xs. Ok (t ∷ xs)) >>= λ fs. Ok (said n fs x)) ≡ (a >>= λ x. (cell_by r (dict es) >>= as_dict) >>= λ c. Ok (said n (t ∷ c ∷ []) x))
+text_and_dict n t es (Ok a) (Ok b) = ap (λ x. Ok (said n (t ∷ dict (typed_under es) ∷ []) x)) (append-nil a)
+text_and_dict n t es (Ok a) (Err b) = refl
+text_and_dict n t es (Err a) b = refl
+
+pub run_row : (v : Version) (ts : Trees)
+    → row_told v RUN (text_field ∷ cells ∷ extra ignored mode_alone ∷ []) ts ≡ (run_parts ts >>= λ p. run_told v p.0 p.1 p.2)
+run_row v (tree_then (text s) (tree_then (dict ps) (tree_then (dict es) no_trees))) = text_and_dict RUN (text s) ps (mode_told (lookup (codes "mode") es)) (scan (structure_fault v) 0 (structures (dict ps)))
+run_row v ts = refl

@@ -1,0 +1,61 @@
+-- The text of a structure, from what making its value and its spelling told.
+use Rattle.std.proofs.Common.{◌≡◌, ◌↔◌, ◌<◌, ℕ, List, ◌++◌, length, Bool, true, false, cond, nat_lt, Result, Ok, Err, OnOk, refl, ap, sym, ◌∙◌, arith}
+use borrow.Author.Tests.{ltb-true, ltb-false}
+use Rattle.packstream.specs.declared.fault.Reason.{Reason}
+use Rattle.packstream.specs.declared.fault.PackFault.{PackFault}
+use Rattle.packstream.specs.declared.fault.PackFault.TheVariants as pack
+use Rattle.packstream.specs.Tree.{Tree}
+use Rattle.packstream.specs.Canon.{canon}
+use Rattle.packstream.specs.Making.{first_fault, faults_in}
+use Rattle.messages.specs.declared.fault.MsgFault.{MsgFault}
+use Rattle.messages.specs.declared.fault.MsgFault.TheVariants as fault
+use Rattle.messages.specs.Faults.{of_pack}
+use Rattle.messages.specs.Reading.{◌>>=◌}
+use Rattle.messages.specs.Writing.{packed_by, sized, text_put_of, Appends}
+
+size_fits : (n : ℕ) (b : Bool) (s : List ℕ) → nat_lt 65536 n ≡ b → (65536 < n → ⊥) → cond {A = Result (List ℕ) MsgFault} b (Err fault.Size) (Ok s) ≡ Ok s
+size_fits n true s e h = absurd (h (ltb-true _ _ e))
+size_fits n false s e h = refl
+
+size_past : (n : ℕ) (b : Bool) (s : List ℕ) → nat_lt 65536 n ≡ b → 65536 < n → cond {A = Result (List ℕ) MsgFault} b (Err fault.Size) (Ok s) ≡ Err fault.Size
+size_past n true s e h = refl
+size_past n false s e h = absurd (omega (arith, ltb-false _ _ e, h))
+
+pub sized_fits : (t : Tree) → (65536 < length (canon t) → ⊥) → sized t ≡ Ok (canon t)
+sized_fits t h = size_fits (length (canon t)) _ (canon t) refl h
+
+pub sized_past : (t : Tree) → 65536 < length (canon t) → sized t ≡ Err fault.Size
+sized_past t h = size_past (length (canon t)) _ (canon t) refl h
+
+abbrev pub Told : Tree → Result Tree PackFault → Type 0
+Told t made = (r : Reason) (o : ℕ) → (made ≡ Err (pack.Refused r o)) ↔ (first_fault (faults_in 0 false t) 0 ≡ Err (r, o))
+
+good_by : (t u : Tree) (r : Result ℕ (Reason × ℕ)) → first_fault (faults_in 0 false t) 0 ≡ r → Told t (Ok u) → (packed_by r t >>= sized) ≡ sized t
+good_by t u (Ok n) w h = refl
+good_by t u (Err e) w h = absurd (let k = (h e.0 e.1).1 w in cc)
+
+pub good_text : (t u : Tree) → Told t (Ok u) → text_put_of t ≡ sized t
+good_text t u h = good_by t u (first_fault (faults_in 0 false t) 0) refl h
+
+pub bad_text : (t : Tree) (p : PackFault) → Told t (Err p) → (◌≡◌ {A = Result Tree PackFault} (Err p) (Err pack.Memory) → ⊥) → text_put_of t ≡ Err (of_pack p)
+bad_text t (pack.Refused r o) h m = ap (λ x. packed_by x t >>= sized) ((h r o).0 refl)
+bad_text t pack.Memory h m = absurd (m refl)
+
+pub nothing_appended : {A : Type 0} (r : Result A MsgFault) (old : List ℕ) (s : Result (List ℕ) MsgFault) (e : MsgFault) → r ≡ Err e → s ≡ Err e → Appends r old old s
+nothing_appended r old s e h k = rw h (refl, λ n. k)
+
+sized_is : (n : ℕ) (c : Bool) (s b : List ℕ) → nat_lt 65536 n ≡ c → cond {A = Result (List ℕ) MsgFault} c (Err fault.Size) (Ok s) ≡ Ok b → b ≡ s
+sized_is n true s b e h = absurd cc
+sized_is n false s b e h = cc
+
+packed_is : (t : Tree) (r : Result ℕ (Reason × ℕ)) (b : List ℕ) → (packed_by r t >>= sized) ≡ Ok b → b ≡ canon t
+packed_is t (Ok n) b h = sized_is (length (canon t)) _ (canon t) b refl h
+packed_is t (Err e) b h = absurd cc
+
+-- the text of a structure is its shortest spelling
+pub canon_is : (t : Tree) (b : List ℕ) → text_put_of t ≡ Ok b → b ≡ canon t
+canon_is t b h = packed_is t (first_fault (faults_in 0 false t) 0) b h
+
+pub on_ok : {A : Type 0} (r : Result A MsgFault) (P Q : Type 0) → (P → Q) → OnOk r P → OnOk r Q
+on_ok (Ok x) P Q f p = f p
+on_ok (Err e) P Q f p = tt

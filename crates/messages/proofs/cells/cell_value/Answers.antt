@@ -1,0 +1,11 @@
+use Rattle.std.proofs.Common.{◌∙◌, Ok, ap, sym}
+use Rattle.structures.specs.Shape.{shape}
+use Rattle.messages.proofs.Meanings.{err_is}
+use Rattle.messages.proofs.Forms.{put_value, put_fault, told_fault}
+use Rattle.messages.proofs.cells.cell_value.Goals as goal
+
+pub returns-in_err-packed : goal.returns-in_err-packed
+returns-in_err-packed c = told_fault _ _ _ _ (err_is _ _ c.from_residual.ensures.1) (put_fault c.args.version (shape c.args.cell.now) c.in_err-packed.field-0.0 c.in_err-packed.ensures)
+
+pub returns : goal.returns
+returns c = put_value c.args.version (shape c.args.cell.now) c.in_ok-packed.packed c.in_ok-packed.ensures ∙ ap Ok (sym c.into_value.ensures)

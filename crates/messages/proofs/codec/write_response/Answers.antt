@@ -1,0 +1,23 @@
+use Rattle.std.proofs.Common.{◌≡◌, ℕ, List, Ok, refl, ap, sym, ◌∙◌}
+use Rattle.packstream.specs.View.{tree}
+use Rattle.packstream.specs.Good.{IsGood}
+use Rattle.packstream.specs.Spelling.{Spells}
+use Rattle.packstream.specs.Canon.{canon}
+use Rattle.messages.specs.Table.{responses}
+use Rattle.messages.specs.View.{say}
+use Rattle.messages.specs.Reading.{◌>>=◌, says}
+use Rattle.messages.specs.Writing.{response_text, text_put_of}
+use Rattle.messages.proofs.Texts.{on_ok, canon_is}
+use Rattle.messages.proofs.Rounds.{answered_back_told, response_back}
+use Rattle.messages.proofs.codec.write_response.Goals as goal
+
+pub returns-clause-read_back : goal.returns-clause-read_back
+unfolding response_text
+returns-clause-read_back c =
+    let v = c.args.version in
+    let m = say c.args.response.now in
+    let t = tree c.in_ok-value.value in
+    on_ok c.put.result _ _ (λ g b e.
+    let same : b ≡ canon t = canon_is t b (sym (ap (λ r. r >>= text_put_of) c.in_ok-value.ensures) ∙ e) in
+    rw same (t, g.0, g.1, answered_back_told v m t (response_back v c.args.response.now) c.in_ok-value.ensures))
+    c.put.ensures.spells

@@ -1,0 +1,7 @@
+use Rattle.std.proofs.Common.{◌≡◌, drop}
+use Rattle.packstream.specs.View.{entries, entries_of}
+use Rattle.messages.specs.Reading.{lookup}
+use Rattle.messages.proofs.entries.entry.Given as goal
+
+abbrev pub invariant-loop-pair : goal.invariant-loop-pair
+invariant-loop-pair l = lookup l.name (entries_of (entries (drop l.pair-index l.pairs))) ≡ lookup l.name (entries_of (entries l.pairs))

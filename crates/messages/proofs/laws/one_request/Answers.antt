@@ -1,0 +1,21 @@
+use Rattle.std.proofs.Common.{◌≡◌, Ok, Err, ap, sym, ◌∙◌}
+use Rattle.messages.specs.Table.{requests}
+use Rattle.messages.specs.Reading.{◌>>=◌, asks}
+use Rattle.messages.specs.Messages.{asked, request_of}
+use Rattle.messages.proofs.Meanings.{means_one, means_said, none_said, said_none, asked_back, kept_fault}
+use Rattle.messages.proofs.laws.one_request.Goals as goal
+
+pub returns-clause-one : goal.returns-clause-one
+returns-clause-one c = λ v b m n p q. sym (asked_back m) ∙ ap asked (means_one v requests (asks m) (asks n) b p q) ∙ asked_back n
+
+pub returns-clause-request : goal.returns-clause-request
+unfolding request_of
+returns-clause-request c = λ v b m bytes p. ap (λ r. r >>= λ s. Ok (asked s)) (means_said v requests (asks m) b bytes p) ∙ ap Ok (asked_back m)
+
+pub returns-clause-fault : goal.returns-clause-fault
+unfolding request_of
+returns-clause-fault c = λ v b e bytes p. ap (λ r. r >>= λ s. Ok (asked s)) (none_said v requests e b bytes p)
+
+pub returns-clause-told : goal.returns-clause-told
+unfolding request_of
+returns-clause-told c = λ v b e bytes p. said_none v requests e b bytes (kept_fault asked _ e p)

@@ -1,0 +1,16 @@
+-- The faults of the layers below, as those of a message.
+use Rattle.packstream.specs.declared.fault.PackFault.{PackFault}
+use Rattle.packstream.specs.declared.fault.PackFault.TheVariants as pack
+use Rattle.structures.specs.declared.fault.CellFault.{CellFault}
+use Rattle.structures.specs.declared.fault.CellFault.TheVariants as cell
+use Rattle.messages.specs.declared.fault.MsgFault.{MsgFault}
+use Rattle.messages.specs.declared.fault.MsgFault.TheVariants.{Pack, Cell, Memory}
+
+abbrev pub of_pack : PackFault → MsgFault
+of_pack (pack.Refused r o) = Pack (pack.Refused r o)
+of_pack pack.Memory = Memory
+
+abbrev pub of_cell : CellFault → MsgFault
+of_cell (cell.Refused r k) = Cell (cell.Refused r k)
+of_cell (cell.Pack r o) = Cell (cell.Pack r o)
+of_cell cell.Memory = Memory

@@ -1,0 +1,297 @@
+//! Values of requests and responses.
+ghost use Rattle.std.specs.Prelude.{◌≡◌, ◌∷◌, [], ◌++◌, Ok, IfOk, OnOk, codes, Some, None, string_bytes};
+ghost use Rattle.packstream.specs.Tree.{int, text, dict, list, structure, no_trees, tree_then};
+ghost use Rattle.packstream.specs.View.{tree, trees, trees_of, entries as value_entries, entries_of};
+ghost use Rattle.structures.specs.Shape.{entries, shapes, text_of};
+ghost use Rattle.messages.specs.View.{ask, say, auth_in, auth_of, Hello, Logon, Logoff, Run, Success, Record, Failure};
+ghost use Rattle.messages.specs.Table.{RUN, LOGON, each_version, credentials, how_many, mode_alone};
+ghost use Rattle.messages.specs.Reading.{Answers, asks, says, said, mode_tree, count_tree, login_trees};
+ghost use Rattle.messages.specs.Writing.{form_put, named_put};
+ghost use Rattle.messages.specs.Parts.{with_dict, count_number};
+ghost use Rattle.messages.specs.Cells.{cell_put};
+ghost use Rattle.wire.specs.declared.Version.TheVariants.{V44, V51};
+
+use crate::cells::cell_value;
+use crate::clone::{copy_cells, copy_row};
+use crate::fault::MsgFault;
+use crate::request::{Auth, Count, Mode, Request};
+use crate::response::Response;
+use packstream::Value;
+use std::alloc::{AllocError, Global};
+use structures::{Cell, Version};
+
+/// Adds an entry.
+fn push(pairs: &mut Vec<(String, Value)>, name: &str, value: Value) -> Result<(), AllocError>
+    ensures { OnOk result (value_entries pairs.new.items ≡ value_entries pairs.old.items ++ (name.now, tree value) ∷ []) }
+{
+    let key = String::from_str(*pairs.allocator(), name)?;
+    pairs.push((key, value))?;
+    Ok(())
+}
+
+/// Adds a text.
+fn push_text(pairs: &mut Vec<(String, Value)>, name: &str, text: &String) -> Result<(), AllocError>
+    ensures { OnOk result (value_entries pairs.new.items ≡ value_entries pairs.old.items ++ (name.now, text_of text.now) ∷ []) }
+{
+    push(pairs, name, Value::Text(text.clone()?))
+}
+
+/// Adds who a client is.
+fn push_auth(pairs: &mut Vec<(String, Value)>, auth: &Auth) -> Result<(), AllocError>
+    ensures { OnOk result (value_entries pairs.new.items ≡ value_entries pairs.old.items ++ (codes "scheme", text_of auth.now.scheme) ∷ [] ++ (codes "principal", text_of auth.now.principal) ∷ [] ++ (codes "credentials", text_of auth.now.credentials) ∷ []) }
+{
+    push_text(pairs, "scheme", &auth.scheme)?;
+    push_text(pairs, "principal", &auth.principal)?;
+    push_text(pairs, "credentials", &auth.credentials)?;
+    Ok(())
+}
+
+/// A structure of one field.
+fn of_one(alloc: Global, tag: u8, field: Value) -> Result<Value, AllocError>
+    ensures { IfOk result (λ w. tree w ≡ structure tag (tree_then (tree field) no_trees)) }
+{
+    Ok(Value::Struct(tag, vec![in alloc; field]?))
+}
+
+/// A structure of one dictionary.
+#[tactic(auto, using(crate::proofs::Fields::tree_of_dict))]
+fn of_dict(alloc: Global, tag: u8, pairs: Vec<(String, Value)>) -> Result<Value, AllocError>
+    ensures { IfOk result (λ w. tree w ≡ structure tag (tree_then (dict (entries_of (value_entries pairs.items))) no_trees)) }
+{
+    of_one(alloc, tag, Value::Dict(pairs))
+}
+
+fn hello_with_auth(alloc: Global, agent: &String, auth: &Auth) -> Result<Value, MsgFault>
+    ensures { Answers tree result (form_put V44 (asks (Hello (string_bytes agent.now) (Some (auth_of auth.now))))) }
+{
+    let mut pairs = Vec::new(alloc);
+    push_text(&mut pairs, "user_agent", agent)?;
+    push_auth(&mut pairs, auth)?;
+    Ok(of_dict(alloc, 0x01, pairs)?)
+}
+
+fn hello_alone(alloc: Global, agent: &String) -> Result<Value, MsgFault>
+    ensures { Answers tree result (form_put V51 (asks (Hello (string_bytes agent.now) None))) }
+{
+    let mut pairs = Vec::new(alloc);
+    push_text(&mut pairs, "user_agent", agent)?;
+    Ok(of_dict(alloc, 0x01, pairs)?)
+}
+
+/// HELLO, with who the client is at 4.4 alone.
+fn hello_value(
+    alloc: Global,
+    version: Version,
+    agent: &String,
+    auth: &Option<Auth>,
+) -> Result<Value, MsgFault>
+    ensures { Answers tree result (form_put version (asks (Hello (string_bytes agent.now) (auth_in auth.now)))) }
+{
+    match version {
+        Version::V44 => match auth {
+            Some(auth) => hello_with_auth(alloc, agent, auth),
+            None => Err(MsgFault::Extra),
+        },
+        Version::V51 => match auth {
+            Some(_) => Err(MsgFault::Extra),
+            None => hello_alone(alloc, agent),
+        },
+    }
+}
+
+/// LOGON, at 5.1 alone.
+fn logon_value(alloc: Global, version: Version, auth: &Auth) -> Result<Value, MsgFault>
+    ensures { Answers tree result (form_put version (asks (Logon (auth_of auth.now)))) }
+{
+    match version {
+        Version::V44 => Err(MsgFault::UnknownTag),
+        Version::V51 => {
+            let mut pairs = Vec::new(alloc);
+            push_auth(&mut pairs, auth)?;
+            Ok(of_dict(alloc, 0x6A, pairs)?)
+        }
+    }
+}
+
+fn logoff_value(alloc: Global, version: Version) -> Result<Value, MsgFault>
+    ensures { Answers tree result (form_put version (asks Logoff)) }
+{
+    match version {
+        Version::V44 => Err(MsgFault::UnknownTag),
+        Version::V51 => plain(alloc, 0x6B),
+    }
+}
+
+/// The entries of a mode; that of writing isn't written.
+fn mode_entries(alloc: Global, mode: Mode) -> Result<Vec<(String, Value)>, AllocError>
+    ensures { IfOk result (λ v. named_put V44 mode_alone (mode_tree mode ∷ []) ≡ Ok (entries_of (value_entries v.items))) }
+{
+    let mut pairs = Vec::new(alloc);
+    if mode == Mode::Read {
+        let text = String::from_str(alloc, "r")?;
+        push(&mut pairs, "mode", Value::Text(text))?;
+    }
+    Ok(pairs)
+}
+
+fn begin_value(alloc: Global, mode: Mode) -> Result<Value, MsgFault>
+    ensures { Answers tree result (with_dict 0x11 (named_put V44 mode_alone (mode_tree mode ∷ []))) }
+{
+    let pairs = mode_entries(alloc, mode)?;
+    Ok(of_dict(alloc, 0x11, pairs)?)
+}
+
+/// The number that stands for a count.
+fn number_of(count: Count) -> Result<i64, MsgFault>
+    ensures { Answers int result (count_number (count_tree count)) }
+{
+    match count {
+        Count::All => Ok(-1),
+        Count::Of(n) => { if n >= 1 { Ok(n) } else { Err(MsgFault::Extra) } }
+    }
+}
+
+/// A structure of a count.
+fn count_value(alloc: Global, tag: u8, count: Count) -> Result<Value, MsgFault>
+    ensures { Answers tree result (with_dict tag (named_put V44 how_many (count_tree count ∷ []))) }
+{
+    let number = number_of(count)?;
+    let mut pairs = Vec::new(alloc);
+    push(&mut pairs, "n", Value::Int(number))?;
+    Ok(of_dict(alloc, tag, pairs)?)
+}
+
+/// A structure of three fields.
+fn of_three(
+    alloc: Global,
+    tag: u8,
+    first: Value,
+    second: Value,
+    third: Value,
+) -> Result<Value, AllocError>
+    ensures { IfOk result (λ w. tree w ≡ structure tag (tree_then (tree first) (tree_then (tree second) (tree_then (tree third) no_trees)))) }
+{
+    Ok(Value::Struct(tag, vec![in alloc; first, second, third]?))
+}
+
+/// A RUN of a text, the parameters' value and the other entries.
+fn of_run(
+    alloc: Global,
+    text: &String,
+    params: Value,
+    pairs: Vec<(String, Value)>,
+) -> Result<Value, AllocError>
+    ensures { IfOk result (λ w. tree w ≡ structure 0x10 (tree_then (text_of text.now) (tree_then (tree params) (tree_then (dict (entries_of (value_entries pairs.items))) no_trees)))) }
+{
+    let text = text.clone()?;
+    of_three(alloc, 0x10, Value::Text(text), params, Value::Dict(pairs))
+}
+
+/// The value of a dictionary of cells.
+fn cells_value(
+    alloc: Global,
+    version: Version,
+    cells: &Vec<(String, Cell)>,
+) -> Result<Value, MsgFault>
+    ensures { Answers tree result (cell_put version (dict (entries_of (entries cells.now.items)))) }
+{
+    let copies = copy_cells(cells)?;
+    let copy = Cell::Dict(copies);
+    cell_value(alloc, version, &copy)
+}
+
+/// The value of a list of cells.
+fn row_value(alloc: Global, version: Version, row: &Vec<Cell>) -> Result<Value, MsgFault>
+    ensures { Answers tree result (cell_put version (list (trees_of (shapes row.now.items)))) }
+{
+    let copies = copy_row(row)?;
+    let copy = Cell::List(copies);
+    cell_value(alloc, version, &copy)
+}
+
+fn run_value(
+    alloc: Global,
+    version: Version,
+    text: &String,
+    params: &Vec<(String, Cell)>,
+    mode: Mode,
+) -> Result<Value, MsgFault>
+    ensures { Answers tree result (form_put version (asks (Run (string_bytes text.now) (entries params.now.items) mode))) }
+{
+    let pairs = mode_entries(alloc, mode)?;
+    let field = cells_value(alloc, version, params)?;
+    Ok(of_run(alloc, text, field, pairs)?)
+}
+
+fn success_value(
+    alloc: Global,
+    version: Version,
+    metadata: &Vec<(String, Cell)>,
+) -> Result<Value, MsgFault>
+    ensures { Answers tree result (form_put version (says (Success (entries metadata.now.items)))) }
+{
+    let field = cells_value(alloc, version, metadata)?;
+    Ok(of_one(alloc, 0x70, field)?)
+}
+
+fn record_value(alloc: Global, version: Version, row: &Vec<Cell>) -> Result<Value, MsgFault>
+    ensures { Answers tree result (form_put version (says (Record (shapes row.now.items)))) }
+{
+    let field = row_value(alloc, version, row)?;
+    Ok(of_one(alloc, 0x71, field)?)
+}
+
+fn failure_value(alloc: Global, code: &String, message: &String) -> Result<Value, MsgFault>
+    ensures { Answers tree result (form_put V44 (says (Failure (string_bytes code.now) (string_bytes message.now)))) }
+{
+    let mut pairs = Vec::new(alloc);
+    push_text(&mut pairs, "code", code)?;
+    push_text(&mut pairs, "message", message)?;
+    Ok(of_dict(alloc, 0x7F, pairs)?)
+}
+
+/// A structure without fields.
+fn plain(alloc: Global, tag: u8) -> Result<Value, MsgFault>
+    ensures { Answers tree result (Ok (structure tag no_trees)) }
+{
+    Ok(Value::Struct(tag, Vec::new(alloc)))
+}
+
+/// The value of a request.
+pub(crate) fn request_value(
+    alloc: Global,
+    version: Version,
+    request: &Request,
+) -> Result<Value, MsgFault>
+    ensures { Answers tree result (form_put version (asks (ask request.now))) }
+{
+    match request {
+        Request::Hello { agent, auth } => hello_value(alloc, version, agent, auth),
+        Request::Logon(auth) => logon_value(alloc, version, auth),
+        Request::Logoff => logoff_value(alloc, version),
+        Request::Goodbye => plain(alloc, 0x02),
+        Request::Reset => plain(alloc, 0x0F),
+        Request::Run { text, params, mode } => run_value(alloc, version, text, params, *mode),
+        Request::Begin(mode) => begin_value(alloc, *mode),
+        Request::Commit => plain(alloc, 0x12),
+        Request::Rollback => plain(alloc, 0x13),
+        Request::Discard(count) => count_value(alloc, 0x2F, *count),
+        Request::Pull(count) => count_value(alloc, 0x3F, *count),
+    }
+}
+
+/// The value of a response.
+pub(crate) fn response_value(
+    alloc: Global,
+    version: Version,
+    response: &Response,
+) -> Result<Value, MsgFault>
+    ensures { Answers tree result (form_put version (says (say response.now))) }
+{
+    match response {
+        Response::Success(metadata) => success_value(alloc, version, metadata),
+        Response::Record(row) => record_value(alloc, version, row),
+        Response::Ignored => plain(alloc, 0x7E),
+        Response::Failure { code, message } => failure_value(alloc, code, message),
+    }
+}

@@ -1,0 +1,135 @@
+//! Messages of bytes.
+ghost use Rattle.std.specs.Prelude.{◌≡◌, ◌↔◌, ℕ, List, Ok, Err, OnOk};
+ghost use Rattle.packstream.specs.Canon.{canon};
+ghost use Rattle.packstream.specs.Good.{IsGood};
+ghost use Rattle.packstream.specs.Spelling.{Spells};
+ghost use Rattle.packstream.specs.View.{tree};
+ghost use Rattle.messages.specs.declared.fault.MsgFault.{MsgFault as AnyFault};
+ghost use Rattle.messages.specs.Table.{requests, responses};
+ghost use Rattle.messages.specs.View.{ask, say, Ask, Say};
+ghost use Rattle.messages.specs.Reading.{Answers, asks, says, message_told};
+ghost use Rattle.messages.specs.Messages.{Req, Resp, NoRequest, NoResponse, Gave, UnlessMemory, said_in, request_of, response_of};
+ghost use Rattle.messages.specs.Writing.{Appends, sized, text_put_of, request_text, response_text};
+
+use crate::building::{request_value, response_value};
+use crate::fault::MsgFault;
+use crate::reading::{request_tagged, response_tagged};
+use crate::request::Request;
+use crate::response::Response;
+use bytes::BytesMut;
+use packstream::{PackFault, Packed, Value, decode, encode};
+use std::alloc::Global;
+use structures::Version;
+
+/// The request of a value.
+fn request_of_value(alloc: Global, version: Version, value: &Value) -> Result<Request, MsgFault>
+    ensures { Answers (λ r. asks (ask r)) result (message_told version requests (tree value.now)) }
+{
+    match value {
+        Value::Struct(tag, fields) => request_tagged(alloc, version, *tag, fields),
+        _ => Err(MsgFault::NotAMessage),
+    }
+}
+
+/// The response of a value.
+fn response_of_value(alloc: Global, version: Version, value: &Value) -> Result<Response, MsgFault>
+    ensures { Answers (λ r. says (say r)) result (message_told version responses (tree value.now)) }
+{
+    match value {
+        Value::Struct(tag, fields) => response_tagged(alloc, version, *tag, fields),
+        _ => Err(MsgFault::NotAMessage),
+    }
+}
+
+fn request_in(alloc: Global, version: Version, bytes: &[u8]) -> Result<Request, MsgFault>
+    ensures { Answers (λ r. asks (ask r)) result (said_in version requests bytes.now) }
+{
+    let packed = decode(alloc, bytes)?;
+    request_of_value(alloc, version, packed.value())
+}
+
+fn response_in(alloc: Global, version: Version, bytes: &[u8]) -> Result<Response, MsgFault>
+    ensures { Answers (λ r. says (say r)) result (said_in version responses bytes.now) }
+{
+    let packed = decode(alloc, bytes)?;
+    response_of_value(alloc, version, packed.value())
+}
+
+/// The request of the bytes of one message, without chunks (Bolt message specification).
+pub fn read_request(alloc: Global, version: Version, bytes: &[u8]) -> Result<Request, MsgFault>
+    // Apart from memory, it is the request that the bytes stand for at the version, where they stand for one ..
+    ensures request { (m : Ask) → UnlessMemory result (Gave ask result m ↔ Req version m bytes.now) }
+
+    // .. and the first fault that they have, where they have one.
+    ensures fault { (e : AnyFault) → UnlessMemory result ((result ≡ Err e) ↔ NoRequest version e bytes.now) }
+
+    // The same as a function of the bytes.
+    ensures same { Answers ask result (request_of version bytes.now) }
+{
+    request_in(alloc, version, bytes)
+}
+
+/// The response of the bytes of one message, without chunks (Bolt message specification).
+pub fn read_response(alloc: Global, version: Version, bytes: &[u8]) -> Result<Response, MsgFault>
+    // Apart from memory, it is the response that the bytes stand for at the version, where they stand for one ..
+    ensures response { (m : Say) → UnlessMemory result (Gave say result m ↔ Resp version m bytes.now) }
+
+    // .. and the first fault that they have, where they have one.
+    ensures fault { (e : AnyFault) → UnlessMemory result ((result ≡ Err e) ↔ NoResponse version e bytes.now) }
+
+    // The same as a function of the bytes.
+    ensures same { Answers say result (response_of version bytes.now) }
+{
+    response_in(alloc, version, bytes)
+}
+
+fn put_packed(packed: &Packed, out: &mut BytesMut) -> Result<(), MsgFault>
+    ensures text { Appends result out.old.items out.new.items (sized packed.now) }
+    ensures spells { OnOk result (Spells packed.now (canon packed.now)) }
+{
+    match encode(packed, out) {
+        Ok(()) => Ok(()),
+        Err(PackFault::Memory) => Err(MsgFault::Memory),
+        Err(PackFault::Refused(_, _)) => Err(MsgFault::Size),
+    }
+}
+
+fn put(value: Value, out: &mut BytesMut) -> Result<(), MsgFault>
+    ensures text { Appends result out.old.items out.new.items (text_put_of (tree value)) }
+    ensures spells { OnOk result (IsGood (tree value) × Spells (tree value) (canon (tree value))) }
+{
+    let packed = Packed::new(value)?;
+    put_packed(&packed, out)
+}
+
+/// Appends the one text of a request, the shortest of its spellings (PackStream version 1), or nothing: the fault is the
+/// first of `UnknownTag`, `Extra`, `Cell`, `Pack` and `Size`, unless memory ran out.
+/// What is written reads back as the request.
+#[tactic(auto, unfolding(crate::specs::Writing::request_text))]
+pub fn write_request(
+    version: Version,
+    request: &Request,
+    out: &mut BytesMut,
+) -> Result<(), MsgFault>
+    ensures text { Appends result out.old.items out.new.items (request_text version (ask request.now)) }
+    ensures read_back { OnOk result ((b : List ℕ) → request_text version (ask request.now) ≡ Ok b → Req version (ask request.now) b) }
+{
+    let value = request_value(*out.allocator(), version, request)?;
+    put(value, out)
+}
+
+/// Appends the one text of a response, the shortest of its spellings (PackStream version 1), or nothing: the fault is
+/// the first of `Cell`, `Pack` and `Size`, unless memory ran out.
+/// What is written reads back as the response.
+#[tactic(auto, unfolding(crate::specs::Writing::response_text))]
+pub fn write_response(
+    version: Version,
+    response: &Response,
+    out: &mut BytesMut,
+) -> Result<(), MsgFault>
+    ensures text { Appends result out.old.items out.new.items (response_text version (say response.now)) }
+    ensures read_back { OnOk result ((b : List ℕ) → response_text version (say response.now) ≡ Ok b → Resp version (say response.now) b) }
+{
+    let value = response_value(*out.allocator(), version, response)?;
+    put(value, out)
+}

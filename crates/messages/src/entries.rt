@@ -1,0 +1,145 @@
+//! The named entries of a dictionary.
+ghost use Rattle.std.specs.Prelude.{◌≡◌, codes, MatchOption, IsNone, Some, None, ◌∷◌, []};
+ghost use Rattle.packstream.specs.View.{tree, entries, entries_of};
+ghost use Rattle.packstream.specs.Tree.{text};
+ghost use Rattle.structures.specs.Shape.{text_of};
+ghost use Rattle.messages.specs.Reading.{Answers, lookup, text_told, mode_told, count_told, query_told, mode_tree, count_tree, login_trees, all_named, extra_told};
+ghost use Rattle.messages.specs.Parts.{login_told, Seen};
+ghost use Rattle.messages.specs.Table.{refused, how_many};
+ghost use Rattle.messages.specs.View.{auth_of as login};
+ghost use Rattle.wire.specs.declared.Version.{Version as AnyVersion};
+
+use crate::fault::MsgFault;
+use crate::request::{Auth, Count, Mode};
+use packstream::Value;
+
+/// The value of the first entry with this name.
+pub(crate) fn entry<'a>(pairs: &'a [(String, Value)], name: &str) -> Option<&'a Value>
+    ensures { Seen result (lookup name.now (entries_of (entries pairs.now))) }
+{
+    for pair in pairs {
+        if name == pair.0.as_str() {
+            return Some(&pair.1);
+        }
+    }
+    None
+}
+
+/// A text that has to be there.
+pub(crate) fn text_in(pairs: &[(String, Value)], name: &str) -> Result<String, MsgFault>
+    ensures { Answers (λ s. text_of s ∷ []) result (text_told (lookup name.now (entries_of (entries pairs.now)))) }
+{
+    match entry(pairs, name) {
+        Some(Value::Text(text)) => Ok(text.clone()?),
+        _ => Err(MsgFault::Extra),
+    }
+}
+
+fn mode_of(value: &Value) -> Result<Mode, MsgFault>
+    ensures { Answers (λ m. mode_tree m ∷ []) result (mode_told (Some (tree value.now))) }
+{
+    let Value::Text(text) = value else {
+        return Err(MsgFault::Extra);
+    };
+    if text.as_str() == "r" {
+        return Ok(Mode::Read);
+    }
+    if text.as_str() == "w" {
+        return Ok(Mode::Write);
+    }
+    Err(MsgFault::Extra)
+}
+
+/// The mode, to write where it is absent.
+pub(crate) fn mode_in(pairs: &[(String, Value)]) -> Result<Mode, MsgFault>
+    ensures { Answers (λ m. mode_tree m ∷ []) result (mode_told (lookup (codes "mode") (entries_of (entries pairs.now)))) }
+{
+    match entry(pairs, "mode") {
+        None => Ok(Mode::Write),
+        Some(value) => mode_of(value),
+    }
+}
+
+fn count_of(value: &Value) -> Result<Count, MsgFault>
+    ensures { Answers (λ c. count_tree c ∷ []) result (count_told (Some (tree value.now))) }
+{
+    let Value::Int(n) = value else {
+        return Err(MsgFault::Extra);
+    };
+    if *n == -1 {
+        return Ok(Count::All);
+    }
+    if *n >= 1 {
+        return Ok(Count::Of(*n));
+    }
+    Err(MsgFault::Extra)
+}
+
+fn query_of(value: &Value) -> Result<(), MsgFault>
+    ensures { Answers (λ _. []) result (query_told (Some (tree value.now))) }
+{
+    let Value::Int(n) = value else {
+        return Err(MsgFault::Extra);
+    };
+    if *n != -1 {
+        return Err(MsgFault::Extra);
+    }
+    Ok(())
+}
+
+/// That the last query is meant, if one is named.
+fn query_in(pairs: &[(String, Value)]) -> Result<(), MsgFault>
+    ensures { Answers (λ _. []) result (query_told (lookup (codes "qid") (entries_of (entries pairs.now)))) }
+{
+    match entry(pairs, "qid") {
+        None => Ok(()),
+        Some(value) => query_of(value),
+    }
+}
+
+fn number_in(pairs: &[(String, Value)]) -> Result<Count, MsgFault>
+    ensures { Answers (λ c. count_tree c ∷ []) result (count_told (lookup (codes "n") (entries_of (entries pairs.now)))) }
+{
+    match entry(pairs, "n") {
+        None => Err(MsgFault::Extra),
+        Some(value) => count_of(value),
+    }
+}
+
+/// Whether `n` and `qid` are the only names.
+fn say_how_many_alone(pairs: &[(String, Value)]) -> bool
+    ensures { result ≡ all_named how_many (entries_of (entries pairs.now)) }
+{
+    for pair in pairs {
+        if pair.0.as_str() != "n" && pair.0.as_str() != "qid" {
+            return false;
+        }
+    }
+    true
+}
+
+/// How many rows; no other entry is allowed.
+pub(crate) fn count_in(pairs: &[(String, Value)]) -> Result<Count, MsgFault>
+    ensures { (v : AnyVersion) → Answers (λ c. count_tree c ∷ []) result (extra_told v refused how_many (entries_of (entries pairs.now))) }
+{
+    if !say_how_many_alone(pairs) {
+        return Err(MsgFault::Extra);
+    }
+    let count = number_in(pairs)?;
+    query_in(pairs)?;
+    Ok(count)
+}
+
+/// Who a client is.
+pub(crate) fn auth_of(pairs: &[(String, Value)]) -> Result<Auth, MsgFault>
+    ensures { Answers (λ a. login_trees (login a)) result (login_told (entries_of (entries pairs.now))) }
+{
+    let scheme = text_in(pairs, "scheme")?;
+    let principal = text_in(pairs, "principal")?;
+    let credentials = text_in(pairs, "credentials")?;
+    Ok(Auth {
+        scheme,
+        principal,
+        credentials,
+    })
+}

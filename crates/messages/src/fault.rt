@@ -1,0 +1,74 @@
+//! Why bytes are no message, or a message can't be written.
+ghost use Rattle.std.specs.Prelude.{◌≡◌};
+ghost use Rattle.messages.specs.declared.fault.MsgFault.TheVariants.{Memory};
+
+use packstream::PackFault;
+use std::alloc::{AllocError, AllocFailed};
+use structures::CellFault;
+
+/// Why bytes are no message of a version, or a message can't be written at it.
+#[derive(Debug, Drop)]
+pub enum MsgFault {
+    /// The bytes spell no value, or the message is too deep to be one; never for want of memory.
+    Pack(PackFault),
+    /// The value is no structure.
+    NotAMessage,
+    /// No request, or no response, of the version has the tag.
+    UnknownTag,
+    /// Another number of fields, or a field of another kind.
+    Fields,
+    /// A named entry is missing, of another kind or out of range, or an entry isn't allowed there.
+    Extra,
+    /// The fault of the cells in parameters, metadata or a record, numbered within that field; never for want of
+    /// memory.
+    Cell(CellFault),
+    /// Memory ran out.
+    Memory,
+    /// The message takes more than 65,536 bytes.
+    Size,
+}
+
+impl From<AllocError> for MsgFault {
+    ghost from_gives = { λ _ e. e ≡ Memory };
+
+    fn from(_e: AllocError) -> MsgFault {
+        MsgFault::Memory
+    }
+}
+
+impl<T: Drop> From<AllocFailed<T>> for MsgFault {
+    ghost from_gives = { λ _ e. e ≡ Memory };
+
+    fn from(_e: AllocFailed<T>) -> MsgFault {
+        MsgFault::Memory
+    }
+}
+
+impl From<PackFault> for MsgFault {
+    ghost use Rattle.messages.specs.Faults.{of_pack};
+
+    ghost from_gives = { λ p e. e ≡ of_pack p };
+
+    fn from(fault: PackFault) -> MsgFault {
+        match fault {
+            PackFault::Memory => MsgFault::Memory,
+            PackFault::Refused(reason, place) => MsgFault::Pack(PackFault::Refused(reason, place)),
+        }
+    }
+}
+
+impl From<CellFault> for MsgFault {
+    ghost use Rattle.messages.specs.Faults.{of_cell};
+
+    ghost from_gives = { λ f e. e ≡ of_cell f };
+
+    fn from(fault: CellFault) -> MsgFault {
+        match fault {
+            CellFault::Memory => MsgFault::Memory,
+            CellFault::Refused(reason, number) => MsgFault::Cell(CellFault::Refused(
+                reason, number,
+            )),
+            CellFault::Pack(reason, place) => MsgFault::Cell(CellFault::Pack(reason, place)),
+        }
+    }
+}

@@ -1,0 +1,29 @@
+//! What holds of messages and their bytes, whatever reads them.
+ghost use Rattle.std.specs.Prelude.{◌≡◌, ◌++◌, [], List, ℕ, Ok, Err};
+ghost use Rattle.packstream.specs.Plain.{AreBytes};
+ghost use Rattle.wire.specs.declared.Version.{Version as AnyVersion};
+ghost use Rattle.messages.specs.declared.fault.MsgFault.{MsgFault as AnyFault};
+ghost use Rattle.messages.specs.View.{Ask, Say};
+ghost use Rattle.messages.specs.Messages.{Req, Resp, NoRequest, NoResponse, request_of, response_of};
+
+/// Bytes stand for one request at most, and then have no fault; `request_of` is it, or their fault.
+pub fn one_request()
+    ensures one { (v : AnyVersion) (b : List ℕ) (m n : Ask) → Req v m b → Req v n b → m ≡ n }
+    ensures request { (v : AnyVersion) (b : List ℕ) (m : Ask) → AreBytes b → Req v m b → request_of v b ≡ Ok m }
+    ensures fault { (v : AnyVersion) (b : List ℕ) (e : AnyFault) → AreBytes b → NoRequest v e b → request_of v b ≡ Err e }
+    ensures told { (v : AnyVersion) (b : List ℕ) (e : AnyFault) → AreBytes b → request_of v b ≡ Err e → NoRequest v e b }
+{}
+
+/// Bytes stand for one response at most, and then have no fault; `response_of` is it, or their fault.
+pub fn one_response()
+    ensures one { (v : AnyVersion) (b : List ℕ) (m n : Say) → Resp v m b → Resp v n b → m ≡ n }
+    ensures response { (v : AnyVersion) (b : List ℕ) (m : Say) → AreBytes b → Resp v m b → response_of v b ≡ Ok m }
+    ensures fault { (v : AnyVersion) (b : List ℕ) (e : AnyFault) → AreBytes b → NoResponse v e b → response_of v b ≡ Err e }
+    ensures told { (v : AnyVersion) (b : List ℕ) (e : AnyFault) → AreBytes b → response_of v b ≡ Err e → NoResponse v e b }
+{}
+
+/// The bytes of no message are a proper beginning of another's.
+pub fn no_proper_beginning()
+    ensures requests { (v w : AnyVersion) (m n : Ask) (b more : List ℕ) → Req v m b → Req w n (b ++ more) → more ≡ [] }
+    ensures responses { (v w : AnyVersion) (m n : Say) (b more : List ℕ) → Resp v m b → Resp w n (b ++ more) → more ≡ [] }
+{}

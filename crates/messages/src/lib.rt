@@ -1,0 +1,23 @@
+//! The messages of Bolt 4.4 and 5.1: requests, responses, and their bytes.
+#![tactic(auto)]
+
+mod building;
+mod cells;
+mod clone;
+mod codec;
+mod entries;
+mod fault;
+mod laws;
+mod reading;
+mod request;
+mod response;
+
+pub use codec::{read_request, read_response, write_request, write_response};
+pub use fault::MsgFault;
+pub use laws::{no_proper_beginning, one_request, one_response};
+pub use request::{Auth, Count, Mode, Request};
+pub use response::Response;
+pub use structures::Version;
+
+#[cfg(test)]
+mod tests;

@@ -1,0 +1,252 @@
+//! Requests and responses of values.
+ghost use Rattle.std.specs.Prelude.{◌≡◌, ◌∷◌, [], Ok, IfOk};
+ghost use Rattle.packstream.specs.Tree.{Tree, text, list, dict, Trees, Entries};
+ghost use Rattle.packstream.specs.View.{tree, trees, trees_of, entries as value_entries, entries_of};
+ghost use Rattle.structures.specs.Shape.{shape, shapes, entries};
+ghost use Rattle.wire.specs.declared.Version.{Version as AnyVersion};
+ghost use Rattle.messages.specs.Table.{each_version, old_alone, ignored, refused, extra, text_field, cells, cell_list, hello, credentials, mode_alone, how_many, of_error, Name, HELLO, LOGON, LOGOFF, GOODBYE, RESET, RUN, BEGIN, COMMIT, ROLLBACK, DISCARD, PULL, SUCCESS, RECORD, IGNORED, FAILURE, requests, responses};
+ghost use Rattle.messages.specs.View.{ask, say};
+ghost use Rattle.messages.specs.Reading.{said, Answers, row_told, cell_told, tagged, asks, says, count_tree};
+ghost use Rattle.messages.specs.Parts.{plain_told, run_told, dict_told, list_told, only_dict, only_list, run_parts, field_text, no_field, one_field};
+
+use crate::cells::{cells_in, row_in};
+use crate::entries::{auth_of, count_in, mode_in, text_in};
+use crate::fault::MsgFault;
+use crate::request::Request;
+use crate::response::Response;
+use packstream::Value;
+use std::alloc::Global;
+use structures::Version;
+
+/// No field.
+fn none(fields: &[Value]) -> Result<(), MsgFault>
+    ensures { Answers (λ _. tt) result (no_field (trees_of (trees fields.now))) }
+{
+    if fields.is_empty() {
+        Ok(())
+    } else {
+        Err(MsgFault::Fields)
+    }
+}
+
+/// One field.
+fn one(fields: &[Value]) -> Result<&Value, MsgFault>
+    ensures { Answers (λ x. tree x.now) result (one_field (trees_of (trees fields.now))) }
+{
+    if fields.len() != 1 {
+        return Err(MsgFault::Fields);
+    }
+    Ok(&fields[0])
+}
+
+/// A dictionary.
+fn entries_in(field: &Value) -> Result<&[(String, Value)], MsgFault>
+    ensures { Answers (λ x. entries_of (value_entries x.now)) result (dict_told (tree field.now)) }
+{
+    match field {
+        Value::Dict(pairs) => Ok(pairs),
+        _ => Err(MsgFault::Fields),
+    }
+}
+
+/// One field, a dictionary.
+fn extra_in(fields: &[Value]) -> Result<&[(String, Value)], MsgFault>
+    ensures { Answers (λ x. entries_of (value_entries x.now)) result (only_dict (trees_of (trees fields.now))) }
+{
+    entries_in(one(fields)?)
+}
+
+/// A list.
+fn members_in(field: &Value) -> Result<&[Value], MsgFault>
+    ensures { Answers (λ x. trees_of (trees x.now)) result (list_told (tree field.now)) }
+{
+    match field {
+        Value::List(members) => Ok(members),
+        _ => Err(MsgFault::Fields),
+    }
+}
+
+/// A request without fields.
+fn plain(request: Request, fields: &[Value]) -> Result<Request, MsgFault>
+    ensures { Answers (λ r. asks (ask r)) result (plain_told (asks (ask request)) (trees_of (trees fields.now))) }
+{
+    none(fields)?;
+    Ok(request)
+}
+
+/// HELLO: the client's name, and who it is where the version tells that with it.
+#[tactic(auto, using(crate::proofs::Rows::extra_row))]
+fn hello_of(version: Version, fields: &[Value]) -> Result<Request, MsgFault>
+    ensures { Answers (λ r. asks (ask r)) result (row_told version HELLO (extra ignored hello ∷ []) (trees_of (trees fields.now))) }
+{
+    let pairs = extra_in(fields)?;
+    let agent = text_in(pairs, "user_agent")?;
+    match version {
+        Version::V44 => {
+            let auth = auth_of(pairs)?;
+            Ok(Request::Hello {
+                agent,
+                auth: Some(auth),
+            })
+        }
+        Version::V51 => Ok(Request::Hello { agent, auth: None }),
+    }
+}
+
+#[tactic(auto, using(crate::proofs::Rows::extra_row))]
+fn logon_of(fields: &[Value]) -> Result<Request, MsgFault>
+    ensures { (v : AnyVersion) → Answers (λ r. asks (ask r)) result (row_told v LOGON (extra ignored (credentials each_version) ∷ []) (trees_of (trees fields.now))) }
+{
+    let pairs = extra_in(fields)?;
+    let auth = auth_of(pairs)?;
+    Ok(Request::Logon(auth))
+}
+
+#[tactic(auto, using(crate::proofs::Rows::extra_row))]
+fn begin_of(fields: &[Value]) -> Result<Request, MsgFault>
+    ensures { (v : AnyVersion) → Answers (λ r. asks (ask r)) result (row_told v BEGIN (extra ignored mode_alone ∷ []) (trees_of (trees fields.now))) }
+{
+    let pairs = extra_in(fields)?;
+    Ok(Request::Begin(mode_in(pairs)?))
+}
+
+#[tactic(auto, using(crate::proofs::Rows::extra_row))]
+fn discard_of(fields: &[Value]) -> Result<Request, MsgFault>
+    ensures { (v : AnyVersion) → Answers (λ r. asks (ask r)) result (row_told v DISCARD (extra refused how_many ∷ []) (trees_of (trees fields.now))) }
+{
+    let pairs = extra_in(fields)?;
+    Ok(Request::Discard(count_in(pairs)?))
+}
+
+#[tactic(auto, using(crate::proofs::Rows::extra_row))]
+fn pull_of(fields: &[Value]) -> Result<Request, MsgFault>
+    ensures { (v : AnyVersion) → Answers (λ r. asks (ask r)) result (row_told v PULL (extra refused how_many ∷ []) (trees_of (trees fields.now))) }
+{
+    let pairs = extra_in(fields)?;
+    Ok(Request::Pull(count_in(pairs)?))
+}
+
+#[tactic(auto, using(crate::proofs::Rows::cells_row))]
+fn success_of(alloc: Global, version: Version, fields: &[Value]) -> Result<Response, MsgFault>
+    ensures { Answers (λ r. says (say r)) result (row_told version SUCCESS (cells ∷ []) (trees_of (trees fields.now))) }
+{
+    let field = one(fields)?;
+    let _ = entries_in(field)?;
+    Ok(Response::Success(cells_in(alloc, version, field)?))
+}
+
+#[tactic(auto, using(crate::proofs::Rows::list_row))]
+fn record_of(alloc: Global, version: Version, fields: &[Value]) -> Result<Response, MsgFault>
+    ensures { Answers (λ r. says (say r)) result (row_told version RECORD (cell_list ∷ []) (trees_of (trees fields.now))) }
+{
+    let field = one(fields)?;
+    let _ = members_in(field)?;
+    Ok(Response::Record(row_in(alloc, version, field)?))
+}
+
+fn ignored_of(fields: &[Value]) -> Result<Response, MsgFault>
+    ensures { Answers (λ r. says (say r)) result (plain_told (said IGNORED [] []) (trees_of (trees fields.now))) }
+{
+    none(fields)?;
+    Ok(Response::Ignored)
+}
+
+#[tactic(auto, using(crate::proofs::Rows::extra_row))]
+fn failure_of(fields: &[Value]) -> Result<Response, MsgFault>
+    ensures { (v : AnyVersion) → Answers (λ r. says (say r)) result (row_told v FAILURE (extra ignored of_error ∷ []) (trees_of (trees fields.now))) }
+{
+    let pairs = extra_in(fields)?;
+    let code = text_in(pairs, "code")?;
+    let message = text_in(pairs, "message")?;
+    Ok(Response::Failure { code, message })
+}
+
+fn text_in_field(field: &Value) -> Result<&str, MsgFault>
+    ensures { Answers (λ s. s.now) result (field_text (tree field.now)) }
+{
+    match field {
+        Value::Text(text) => Ok(text.as_str()),
+        _ => Err(MsgFault::Fields),
+    }
+}
+
+/// The text, the parameters and the other entries of a RUN.
+fn run_fields(fields: &[Value]) -> Result<(&str, &Value, &[(String, Value)]), MsgFault>
+    ensures { Answers (λ x. (x.0.now, tree x.1.now, entries_of (value_entries x.2.now))) result (run_parts (trees_of (trees fields.now))) }
+{
+    if fields.len() != 3 {
+        return Err(MsgFault::Fields);
+    }
+    let text = text_in_field(&fields[0])?;
+    let _ = entries_in(&fields[1])?;
+    let pairs = entries_in(&fields[2])?;
+    Ok((text, &fields[1], pairs))
+}
+
+fn run_with(
+    alloc: Global,
+    version: Version,
+    text: &str,
+    field: &Value,
+    pairs: &[(String, Value)],
+) -> Result<Request, MsgFault>
+    ensures { Answers (λ r. asks (ask r)) result (run_told version text.now (tree field.now) (entries_of (value_entries pairs.now))) }
+{
+    let mode = mode_in(pairs)?;
+    let params = cells_in(alloc, version, field)?;
+    let text = String::from_str(alloc, text)?;
+    Ok(Request::Run { text, params, mode })
+}
+
+#[tactic(auto, using(crate::proofs::Rows::run_row))]
+fn run_of(alloc: Global, version: Version, fields: &[Value]) -> Result<Request, MsgFault>
+    ensures { Answers (λ r. asks (ask r)) result (row_told version RUN (text_field ∷ cells ∷ extra ignored mode_alone ∷ []) (trees_of (trees fields.now))) }
+{
+    let (text, field, pairs) = run_fields(fields)?;
+    run_with(alloc, version, text, field, pairs)
+}
+
+/// The request of a structure with this tag and these fields.
+#[tactic(auto, using(crate::proofs::Rows::none_row))]
+pub(crate) fn request_tagged(
+    alloc: Global,
+    version: Version,
+    tag: u8,
+    fields: &[Value],
+) -> Result<Request, MsgFault>
+    ensures { Answers (λ r. asks (ask r)) result (tagged version requests tag (trees_of (trees fields.now))) }
+{
+    match (tag, version) {
+        (0x01, _) => hello_of(version, fields),
+        (0x6A, Version::V51) => logon_of(fields),
+        (0x6B, Version::V51) => plain(Request::Logoff, fields),
+        (0x02, _) => plain(Request::Goodbye, fields),
+        (0x0F, _) => plain(Request::Reset, fields),
+        (0x10, _) => run_of(alloc, version, fields),
+        (0x11, _) => begin_of(fields),
+        (0x12, _) => plain(Request::Commit, fields),
+        (0x13, _) => plain(Request::Rollback, fields),
+        (0x2F, _) => discard_of(fields),
+        (0x3F, _) => pull_of(fields),
+        _ => Err(MsgFault::UnknownTag),
+    }
+}
+
+/// The response of a structure with this tag and these fields.
+#[tactic(auto, using(crate::proofs::Rows::none_row))]
+pub(crate) fn response_tagged(
+    alloc: Global,
+    version: Version,
+    tag: u8,
+    fields: &[Value],
+) -> Result<Response, MsgFault>
+    ensures { Answers (λ r. says (say r)) result (tagged version responses tag (trees_of (trees fields.now))) }
+{
+    match tag {
+        0x70 => success_of(alloc, version, fields),
+        0x71 => record_of(alloc, version, fields),
+        0x7E => ignored_of(fields),
+        0x7F => failure_of(fields),
+        _ => Err(MsgFault::UnknownTag),
+    }
+}

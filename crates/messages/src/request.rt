@@ -1,0 +1,54 @@
+//! What a client asks.
+
+use structures::Cell;
+
+/// Whether a query may write (Bolt message specification, the entry `mode` of BEGIN and RUN).
+#[derive(Clone, Copy, Debug, PartialEq, Eq)]
+pub enum Mode {
+    Read,
+    Write,
+}
+
+/// How many rows a PULL or a DISCARD takes (the entry `n`).
+#[derive(Clone, Copy, Debug, PartialEq, Eq)]
+pub enum Count {
+    /// All that are left, -1 in bytes.
+    All,
+    /// At most so many. A number below 1 can't be written.
+    Of(i64),
+}
+
+/// Who a client is, and how it proves it.
+#[derive(Debug, Drop)]
+pub struct Auth {
+    pub scheme: String,
+    pub principal: String,
+    pub credentials: String,
+}
+
+/// A request.
+#[derive(Debug, Drop)]
+pub enum Request {
+    /// The name of the client; at 4.4 with `auth`, at 5.1 without.
+    Hello {
+        agent: String,
+        auth: Option<Auth>,
+    },
+    /// Stands at 5.1 alone.
+    Logon(Auth),
+    /// Stands at 5.1 alone.
+    Logoff,
+    Goodbye,
+    Reset,
+    Run {
+        text: String,
+        /// The parameters in their order.
+        params: Vec<(String, Cell)>,
+        mode: Mode,
+    },
+    Begin(Mode),
+    Commit,
+    Rollback,
+    Discard(Count),
+    Pull(Count),
+}

@@ -1,0 +1,295 @@
+-- The form of a cell that can be written has no fault.
+use Rattle.std.proofs.Common.{◌≡◌, ℕ, suc, ℤ, pos, neg_ℤ, ◌+ℤ◌, ◌≤ℤ◌, int_le, List, [], ◌∷◌, ◌++◌, length, Bool, true, false, not, cond, ◌&&◌, ◌==◌, Option, Some, None, is_none, Result, Ok, Err, inl, inr, ◌⊎◌, refl, sym, ap, ◌∙◌, arith, eqb-true, subst}
+use Rattle.std.proofs.lemmas.Int.{ints}
+use Rattle.packstream.specs.Tree.{Tree, null, boolean, int, float, byte_string, text, list, dict, structure, Trees, no_trees, tree_then, Entries, no_entries, entry_then}
+use Rattle.packstream.specs.Good.{count}
+use Rattle.wire.specs.declared.Version.{Version}
+use Rattle.wire.specs.declared.Version.TheVariants.{V44, V51}
+use Rattle.structures.specs.declared.table.Field.{Field}
+use Rattle.structures.specs.declared.table.Field.TheVariants.{Whole, Nanosecond, DayNanosecond, Offset, UtcSecond, Number, Text, Labels, Properties, Nodes, Relationships, Indices}
+use Rattle.structures.specs.declared.fault.Reason.{Reason}
+use Rattle.structures.specs.declared.fault.Reason.TheVariants.{FieldCount, FieldKind, Range, PathShape}
+use Rattle.structures.specs.declared.cell.Cell.{Cell}
+use Rattle.structures.specs.Shape.{shape}
+use Rattle.structures.proofs.Typed.{typed_shape}
+use Rattle.structures.proofs.Faulty.{fault_is, wrong_is}
+use Rattle.structures.specs.Table.{Stands, both, old, new, Row, fields_at, fields_of, kinds, row_in, table}
+use Rattle.structures.specs.Faults.{first_failed, to_utc, dated, is_int, is_float, is_text, is_dict, has_tag, each, is_list_of, is_kind, are_kinds, in_range, are_in_range, is_path, fault, structures, structures_in, structures_under}
+use Rattle.structures.specs.Form.{Form, form, form_all, form_under, moment, all_fine}
+use Rattle.structures.specs.Writing.{moment_tag, unwritten, unwritten_by, is_row, is_typed, are_typed, have_typed}
+use Rattle.structures.proofs.Got.{and_left, and_right, le_true}
+use Rattle.structures.proofs.Back.{back, an_int, Three, three, three_ints, there_and_back}
+use Rattle.structures.proofs.Fine.{scan_fine, fine_append, fine_itself, fine_within, fine_left, fine_right}
+
+both_true : (a b : Bool) → a ≡ true → b ≡ true → (a && b) ≡ true
+both_true true b e f = f
+both_true false b e f = e
+
+int_same : (v : Version) (t : Tree) → is_int t ≡ true → form v t ≡ t
+int_same v t h = let x = an_int t h in subst (λ u. form v u ≡ u) (sym x.1) refl
+
+float_kept : (v : Version) (t : Tree) → is_float t ≡ true → is_float (form v t) ≡ true
+float_kept v (float n) h = refl
+float_kept v null h = absurd cc
+float_kept v (boolean b) h = absurd cc
+float_kept v (int n) h = absurd cc
+float_kept v (byte_string s) h = absurd cc
+float_kept v (text s) h = absurd cc
+float_kept v (list ts) h = absurd cc
+float_kept v (dict es) h = absurd cc
+float_kept v (structure tag ts) h = absurd cc
+
+text_kept : (v : Version) (t : Tree) → is_text t ≡ true → is_text (form v t) ≡ true
+text_kept v (text s) h = refl
+text_kept v null h = absurd cc
+text_kept v (boolean b) h = absurd cc
+text_kept v (int n) h = absurd cc
+text_kept v (byte_string s) h = absurd cc
+text_kept v (float n) h = absurd cc
+text_kept v (list ts) h = absurd cc
+text_kept v (dict es) h = absurd cc
+text_kept v (structure tag ts) h = absurd cc
+
+dict_kept : (v : Version) (t : Tree) → is_dict t ≡ true → is_dict (form v t) ≡ true
+dict_kept v (dict es) h = refl
+dict_kept v null h = absurd cc
+dict_kept v (boolean b) h = absurd cc
+dict_kept v (int n) h = absurd cc
+dict_kept v (byte_string s) h = absurd cc
+dict_kept v (float n) h = absurd cc
+dict_kept v (list ts) h = absurd cc
+dict_kept v (text s) h = absurd cc
+dict_kept v (structure tag ts) h = absurd cc
+
+tag_kept_by : (v : Version) (k tag : ℕ) (ts : Trees) (b : Bool) → (tag == 0x49) ≡ b → (k == 0x49) ≡ false → (tag == k) ≡ true → has_tag k (cond b (moment v ts) (structure tag ts)) ≡ true
+tag_kept_by v k tag ts true e n h = absurd (let same : (k == 0x49) ≡ true = ap (λ m. m == 0x49) (sym (eqb-true _ _ h)) ∙ e in cc)
+tag_kept_by v k tag ts false e n h = h
+
+tag_kept : (v : Version) (k : ℕ) (t : Tree) → (k == 0x49) ≡ false → has_tag k t ≡ true → has_tag k (form v t) ≡ true
+tag_kept v k (structure tag ts) n h = tag_kept_by v k tag (form_all v ts) (tag == 0x49) refl n h
+tag_kept v k null n h = absurd cc
+tag_kept v k (boolean b) n h = absurd cc
+tag_kept v k (int z) n h = absurd cc
+tag_kept v k (byte_string s) n h = absurd cc
+tag_kept v k (float z) n h = absurd cc
+tag_kept v k (list ts) n h = absurd cc
+tag_kept v k (text s) n h = absurd cc
+tag_kept v k (dict es) n h = absurd cc
+
+each_kept : (v : Version) (p : Tree → Bool) (kept : (t : Tree) → p t ≡ true → p (form v t) ≡ true) (ts : Trees) → each p ts ≡ true → each p (form_all v ts) ≡ true
+each_kept v p kept no_trees h = refl
+each_kept v p kept (tree_then t ts) h = both_true _ _ (kept t (and_left _ _ h)) (each_kept v p kept ts (and_right (p t) _ h))
+
+list_kept : (v : Version) (p : Tree → Bool) (kept : (t : Tree) → p t ≡ true → p (form v t) ≡ true) (t : Tree) → is_list_of p t ≡ true → is_list_of p (form v t) ≡ true
+list_kept v p kept (list ts) h = each_kept v p kept ts h
+list_kept v p kept null h = absurd cc
+list_kept v p kept (boolean b) h = absurd cc
+list_kept v p kept (int z) h = absurd cc
+list_kept v p kept (byte_string s) h = absurd cc
+list_kept v p kept (float z) h = absurd cc
+list_kept v p kept (dict es) h = absurd cc
+list_kept v p kept (text s) h = absurd cc
+list_kept v p kept (structure tag ts) h = absurd cc
+
+int_kept : (v : Version) (t : Tree) → is_int t ≡ true → is_int (form v t) ≡ true
+int_kept v t h = ap is_int (int_same v t h) ∙ h
+
+kind_kept : (v : Version) (k : Field) (t : Tree) → is_kind k t ≡ true → is_kind k (form v t) ≡ true
+kind_kept v Whole t h = int_kept v t h
+kind_kept v Nanosecond t h = int_kept v t h
+kind_kept v DayNanosecond t h = int_kept v t h
+kind_kept v Offset t h = int_kept v t h
+kind_kept v UtcSecond t h = int_kept v t h
+kind_kept v Number t h = float_kept v t h
+kind_kept v Text t h = text_kept v t h
+kind_kept v Labels t h = list_kept v is_text (text_kept v) t h
+kind_kept v Properties t h = dict_kept v t h
+kind_kept v Nodes t h = list_kept v (has_tag 0x4E) (λ u. tag_kept v 0x4E u refl) t h
+kind_kept v Relationships t h = list_kept v (has_tag 0x72) (λ u. tag_kept v 0x72 u refl) t h
+kind_kept v Indices t h = list_kept v is_int (int_kept v) t h
+
+kinds_kept : (v : Version) (ks : List Field) (ts : Trees) → are_kinds ks ts ≡ true → are_kinds ks (form_all v ts) ≡ true
+kinds_kept v [] ts h = refl
+kinds_kept v (k ∷ ks) no_trees h = refl
+kinds_kept v (k ∷ ks) (tree_then t ts) h = both_true _ _ (kind_kept v k t (and_left _ _ h)) (kinds_kept v ks ts (and_right (is_kind k t) _ h))
+
+range_kept : (v : Version) (k : Field) (t : Tree) → is_kind k t ≡ true → in_range k (form v t) ≡ in_range k t
+range_kept v Nanosecond t h = ap (in_range Nanosecond) (int_same v t h)
+range_kept v DayNanosecond t h = ap (in_range DayNanosecond) (int_same v t h)
+range_kept v Offset t h = ap (in_range Offset) (int_same v t h)
+range_kept v UtcSecond t h = ap (in_range UtcSecond) (int_same v t h)
+range_kept v k t h = refl
+
+ranges_kept : (v : Version) (ks : List Field) (ts : Trees) → are_kinds ks ts ≡ true → are_in_range ks (form_all v ts) ≡ are_in_range ks ts
+ranges_kept v [] ts h = refl
+ranges_kept v (k ∷ ks) no_trees h = refl
+ranges_kept v (k ∷ ks) (tree_then t ts) h = ap (λ b. b && are_in_range ks (form_all v ts)) (range_kept v k t (and_left _ _ h)) ∙ ap (λ b. in_range k t && b) (ranges_kept v ks ts (and_right (is_kind k t) _ h))
+
+count_kept : (v : Version) (ts : Trees) → count (form_all v ts) ≡ count ts
+count_kept v no_trees = refl
+count_kept v (tree_then t ts) = ap suc (count_kept v ts)
+
+ints_same : (v : Version) (ts : Trees) → each is_int ts ≡ true → form_all v ts ≡ ts
+ints_same v no_trees h = refl
+ints_same v (tree_then t ts) h = ap (λ x. tree_then x (form_all v ts)) (int_same v t (and_left _ _ h)) ∙ ap (λ x. tree_then t x) (ints_same v ts (and_right (is_int t) _ h))
+
+path_lists : (v : Version) (a b d : Trees) → each is_int d ≡ true → is_path (form_all v (tree_then (list a) (tree_then (list b) (tree_then (list d) no_trees)))) ≡ is_path (tree_then (list a) (tree_then (list b) (tree_then (list d) no_trees)))
+path_lists v a b d h = rw (count_kept v a, count_kept v b, ints_same v d h) refl
+
+a_list : (p : Tree → Bool) (t : Tree) → is_list_of p t ≡ true → (ts : Trees) × (t ≡ list ts)
+a_list p (list ts) h = (ts, refl)
+a_list p null h = absurd cc
+a_list p (boolean b) h = absurd cc
+a_list p (int z) h = absurd cc
+a_list p (byte_string s) h = absurd cc
+a_list p (float z) h = absurd cc
+a_list p (dict es) h = absurd cc
+a_list p (text s) h = absurd cc
+a_list p (structure tag ts) h = absurd cc
+
+path_from : (v : Version) (t u w : Tree) (x : (ts : Trees) × (t ≡ list ts)) (y : (ts : Trees) × (u ≡ list ts)) (z : (ts : Trees) × (w ≡ list ts)) → is_list_of is_int w ≡ true
+    → is_path (form_all v (tree_then t (tree_then u (tree_then w no_trees)))) ≡ is_path (tree_then t (tree_then u (tree_then w no_trees)))
+path_from v t u w x y z h =
+    let e = path_lists v x.0 y.0 z.0 (ap (is_list_of is_int) (sym z.1) ∙ h) in
+    rw (x.1, y.1, z.1) e
+
+path_kept : (v : Version) (ts : Trees) → count ts ≡ 3 → are_kinds (Nodes ∷ Relationships ∷ Indices ∷ []) ts ≡ true → is_path (form_all v ts) ≡ is_path ts
+path_kept v no_trees n h = absurd cc
+path_kept v (tree_then t no_trees) n h = absurd cc
+path_kept v (tree_then t (tree_then u no_trees)) n h = absurd cc
+path_kept v (tree_then t (tree_then u (tree_then w no_trees))) n h =
+    let ht = and_left (is_kind Nodes t) _ h in
+    let r = and_right (is_kind Nodes t) _ h in
+    let hu = and_left (is_kind Relationships u) _ r in
+    let hw = and_left (is_kind Indices w) _ (and_right (is_kind Relationships u) _ r) in
+    path_from v t u w (a_list (has_tag 0x4E) t ht) (a_list (has_tag 0x72) u hu) (a_list is_int w hw) hw
+path_kept v (tree_then t (tree_then u (tree_then w (tree_then x ts)))) n h = absurd (omega (arith, n))
+
+prefix : (fs more : List Field) (ts : Trees) → are_kinds (fs ++ more) ts ≡ true → are_kinds fs ts ≡ true
+prefix [] more ts h = refl
+prefix (f ∷ fs) more no_trees h = refl
+prefix (f ∷ fs) more (tree_then t ts) h = both_true _ _ (and_left _ _ h) (prefix fs more ts (and_right (is_kind f t) _ h))
+
+ok_same : (ks js : List Field) (ts : Trees) → ◌≡◌ {A = Result (List Field) Reason} (Ok ks) (Ok js) → are_kinds ks ts ≡ true → are_kinds js ts ≡ true
+ok_same ks js ts e h = let same : ks ≡ js = cc in subst (λ x. are_kinds x ts ≡ true) same h
+
+row_kinds : (v : Version) (s : Stands) (fs more ks : List Field) (ts : Trees) → fields_at v s fs more ≡ Ok ks → are_kinds (fs ++ more) ts ≡ true → are_kinds ks ts ≡ true
+row_kinds V44 both fs more ks ts e h = ok_same fs ks ts e (prefix fs more ts h)
+row_kinds V51 both fs more ks ts e h = ok_same (fs ++ more) ks ts e h
+row_kinds V44 old fs more ks ts e h = ok_same fs ks ts e (prefix fs more ts h)
+row_kinds V51 old fs more ks ts e h = absurd cc
+row_kinds V44 new fs more ks ts e h = absurd cc
+row_kinds V51 new fs more ks ts e h = ok_same (fs ++ more) ks ts e h
+
+table_kinds : (v : Version) (o : Option Row) (ks : List Field) (ts : Trees) → fields_of v o ≡ Ok ks → is_row o ts ≡ true → are_kinds ks ts ≡ true
+table_kinds v None ks ts e h = absurd cc
+table_kinds v (Some r) ks ts e h = row_kinds v r.stands r.fields r.added ks ts e h
+
+pub record Written (ks : List Field) (tag : ℕ) (ts : Trees) : Type 0 where
+  pub counted : (count ts == length ks) ≡ true
+  pub ranged : are_in_range ks ts ≡ true
+  pub shaped : cond (tag == 0x50) (is_path ts) true ≡ true
+
+first_none : (p : Bool) (r : Reason) (rest : Option Reason) → cond p rest (Some r) ≡ None → (p ≡ true) × (rest ≡ None)
+first_none true r rest h = (refl, h)
+first_none false r rest h = absurd cc
+
+pub passes : (ks : List Field) (tag : ℕ) (ts : Trees) → unwritten_by (Ok ks) tag ts ≡ None → Written ks tag ts
+passes ks tag ts h =
+    let a = first_none (count ts == length ks) _ _ h in
+    let b = first_none (are_in_range ks ts) _ _ a.1 in
+    let d = first_none (cond (tag == 0x50) (is_path ts) true) _ _ b.1 in
+    record { counted = a.0; ranged = b.0; shaped = d.0 }
+
+shape_kept : (v : Version) (tag : ℕ) (ts : Trees) (b : Bool) → (tag == 0x50) ≡ b → is_row (row_in tag table) ts ≡ true → count ts ≡ 3 ⊎ (b ≡ false) → cond b (is_path ts) true ≡ true → cond b (is_path (form_all v ts)) true ≡ true
+shape_kept v tag ts false e r n h = refl
+shape_kept v tag ts true e r (inl n) h = path_kept v ts n (subst (λ k. is_row (row_in k table) ts ≡ true) (eqb-true _ _ e) r) ∙ h
+shape_kept v tag ts true e r (inr n) h = absurd cc
+
+path_count : (v : Version) (tag : ℕ) (ks : List Field) (ts : Trees) (b : Bool) → (tag == 0x50) ≡ b → kinds v tag ≡ Ok ks → (count ts == length ks) ≡ true → count ts ≡ 3 ⊎ (b ≡ false)
+path_count v tag ks ts false e k n = inr refl
+path_count V44 tag ks ts true e k n = inl (let d : kinds V44 0x50 ≡ Ok ks = subst (λ m. kinds V44 m ≡ Ok ks) (eqb-true _ _ e) k in let l : length ks ≡ 3 = cc in eqb-true _ _ n ∙ l)
+path_count V51 tag ks ts true e k n = inl (let d : kinds V51 0x50 ≡ Ok ks = subst (λ m. kinds V51 m ≡ Ok ks) (eqb-true _ _ e) k in let l : length ks ≡ 3 = cc in eqb-true _ _ n ∙ l)
+
+is_not : (b : Bool) → not b ≡ true → b ≡ false
+is_not true h = absurd cc
+is_not false h = refl
+
+moment_three : (v : Version) (a b d : ℤ) → are_in_range dated (three a b d) ≡ true → all_fine (fault v) (structures (moment v (three a b d))) ≡ true
+moment_three V44 a b d h =
+    let e = ap (λ z. are_in_range dated (three z b d)) (there_and_back a d) ∙ h in
+    ap (λ x. is_none (first_failed ((true, FieldCount) ∷ (true, FieldKind) ∷ (x, Range) ∷ (true, PathShape) ∷ [])) && true) e
+moment_three V51 a b d h = ap (λ x. is_none (first_failed ((true, FieldCount) ∷ (true, FieldKind) ∷ (x, Range) ∷ (true, PathShape) ∷ [])) && true) h
+
+moment_unwritten : (v : Version) (ts : Trees) → unwritten v 0x49 ts ≡ None → unwritten_by (Ok dated) 0x49 ts ≡ None
+moment_unwritten V44 ts h = h
+moment_unwritten V51 ts h = h
+
+moment_from : (v : Version) (ts : Trees) → Three ts → are_in_range dated ts ≡ true → all_fine (fault v) (structures (moment v (form_all v ts))) ≡ true
+moment_from v ts x h = subst (λ us. all_fine (fault v) (structures (moment v (form_all v us))) ≡ true) (sym x.are) (moment_three v x.first x.second x.third (ap (are_in_range dated) (sym x.are) ∙ h))
+
+moment_fine : (v : Version) (ts : Trees) → are_kinds dated ts ≡ true → unwritten v 0x49 ts ≡ None → all_fine (fault v) (structures (moment v (form_all v ts))) ≡ true
+moment_fine v ts k u = let p = passes dated 0x49 ts (moment_unwritten v ts u) in moment_from v ts (three_ints ts (eqb-true _ _ p.counted) k) p.ranged
+
+plain_fine : (v : Version) (tag : ℕ) (ts : Trees) (r : Result (List Field) Reason) → kinds v tag ≡ r → unwritten_by r tag ts ≡ None → (tag == 0x46) ≡ false → is_row (row_in tag table) ts ≡ true → is_none (fault v tag (form_all v ts)) ≡ true
+plain_fine v tag ts (Err x) e u n r = absurd cc
+plain_fine v tag ts (Ok ks) e u n r =
+    let us = form_all v ts in
+    let p = passes ks tag ts u in
+    let k = table_kinds v (row_in tag table) ks ts e r in
+    let a = ap (λ m. m == length ks) (count_kept v ts) ∙ p.counted in
+    let b = kinds_kept v ks ts k in
+    let d = ap (λ c. are_in_range ks (cond c (to_utc us) us)) n ∙ ranges_kept v ks ts k ∙ p.ranged in
+    let s = shape_kept v tag ts (tag == 0x50) refl r (path_count v tag ks ts (tag == 0x50) refl e p.counted) p.shaped in
+    ap is_none (fault_is v tag us ks e ∙ wrong_is ks tag us true true true true a b d s)
+
+structure_fine : (v : Version) (tag : ℕ) (ts : Trees) (b : Bool) → (tag == 0x49) ≡ b → not (tag == 0x46) ≡ true → is_row (row_in tag table) ts ≡ true → unwritten v tag ts ≡ None → all_fine (fault v) (structures_in (form_all v ts)) ≡ true
+    → all_fine (fault v) (structures (cond b (moment v (form_all v ts)) (structure tag (form_all v ts)))) ≡ true
+structure_fine v tag ts true e n r u i =
+    moment_fine v ts (subst (λ m. is_row (row_in m table) ts ≡ true) (eqb-true _ _ e) r) (subst (λ m. unwritten v m ts ≡ None) (eqb-true _ _ e) u)
+structure_fine v tag ts false e n r u i =
+    both_true _ _ (plain_fine v tag ts (kinds v tag) refl (subst (λ c. unwritten_by (kinds v (cond c (moment_tag v) tag)) tag ts ≡ None) e u) (is_not _ n) r) i
+
+mutual
+  pub formed : (v : Version) (t : Tree) → is_typed t ≡ true → all_fine (unwritten v) (structures t) ≡ true → all_fine (fault v) (structures (form v t)) ≡ true
+  formed v null k h = refl
+  formed v (boolean b) k h = refl
+  formed v (int z) k h = refl
+  formed v (float n) k h = refl
+  formed v (byte_string s) k h = refl
+  formed v (text s) k h = refl
+  formed v (list ts) k h = formed_all v ts k h
+  formed v (dict es) k h = formed_under v es k h
+  formed v (structure tag ts) k h =
+      let m = and_right (not (tag == 0x46)) _ k in
+      structure_fine v tag ts (tag == 0x49) refl (and_left (not (tag == 0x46)) _ k) (and_left (is_row (row_in tag table) ts) _ m) (fine_itself (unwritten v) tag ts h) (formed_all v ts (and_right (is_row (row_in tag table) ts) _ m) (fine_within (unwritten v) tag ts h))
+
+  pub formed_all : (v : Version) (ts : Trees) → are_typed ts ≡ true → all_fine (unwritten v) (structures_in ts) ≡ true → all_fine (fault v) (structures_in (form_all v ts)) ≡ true
+  formed_all v no_trees k h = refl
+  formed_all v (tree_then t ts) k h =
+      fine_append (fault v) (structures (form v t)) (structures_in (form_all v ts)) ∙ both_true _ _ (formed v t (and_left (is_typed t) _ k) (fine_left (unwritten v) (structures t) (structures_in ts) h)) (formed_all v ts (and_right (is_typed t) _ k) (fine_right (unwritten v) (structures t) (structures_in ts) h))
+
+  pub formed_under : (v : Version) (es : Entries) → have_typed es ≡ true → all_fine (unwritten v) (structures_under es) ≡ true → all_fine (fault v) (structures_under (form_under v es)) ≡ true
+  formed_under v no_entries k h = refl
+  formed_under v (entry_then x t es) k h =
+      fine_append (fault v) (structures (form v t)) (structures_under (form_under v es)) ∙ both_true _ _ (formed v t (and_left (is_typed t) _ k) (fine_left (unwritten v) (structures t) (structures_under es) h)) (formed_under v es (and_right (is_typed t) _ k) (fine_right (unwritten v) (structures t) (structures_under es) h))
+
+-- the form of a cell that can be written
+pub form_is : (v : Version) (c : Cell) → all_fine (unwritten v) (structures (shape c)) ≡ true → Form v (shape c) (form v (shape c))
+form_is v c h = (scan_fine (fault v) 0 (structures (form v (shape c))) (formed v (shape c) (typed_shape c) h), sym (back v (shape c) (typed_shape c)))
+
+pub record Sum (u o : ℤ) : Type 0 where
+  pub above : neg_ℤ (pos 100000000000064800) ≤ℤ (u +ℤ o)
+  pub below : (u +ℤ o) ≤ℤ pos 100000000000064800
+
+-- the sum of a DateTime that can be written
+pub local_sum : (u n o : ℤ) → unwritten V44 0x49 (three u n o) ≡ None → Sum u o
+local_sum u n o h =
+    let r = (passes dated 0x49 (three u n o) h).ranged in
+    let a : (int_le (neg_ℤ (pos 100000000000000000)) u && int_le u (pos 100000000000000000)) ≡ true = and_left (in_range UtcSecond (int u)) _ r in
+    let b : (int_le (neg_ℤ (pos 64800)) o && int_le o (pos 64800)) ≡ true = and_left (in_range Offset (int o)) _ (and_right (in_range Nanosecond (int n)) _ (and_right (in_range UtcSecond (int u)) _ r)) in
+    let a0 = le_true (neg_ℤ (pos 100000000000000000)) u (and_left (int_le (neg_ℤ (pos 100000000000000000)) u) _ a) in
+    let a1 = le_true u (pos 100000000000000000) (and_right (int_le (neg_ℤ (pos 100000000000000000)) u) _ a) in
+    let b0 = le_true (neg_ℤ (pos 64800)) o (and_left (int_le (neg_ℤ (pos 64800)) o) _ b) in
+    let b1 = le_true o (pos 64800) (and_right (int_le (neg_ℤ (pos 64800)) o) _ b) in
+    record { above = omega (arith, ints, a0, b0); below = omega (arith, ints, a1, b1) }

@@ -1,0 +1,205 @@
+-- The fields of a structure.
+use Rattle.std.proofs.Common.{◌≡◌, ◌++◌, take, Result, IfOk, add-one, ℤ, pos, neg_ℤ, ◌-ℤ◌, ◌≤ℤ◌, int_le, ℕ, suc, zero, ◌+◌, ◌<◌, ◌≤◌, List, [], ◌∷◌, map, length, get_or, Bool, true, false, ◌&&◌, ◌==◌, cond, Option, Some, None, Ok, Err, refl, sym, ap, ◌∙◌, arith, eqb-true}
+use Rattle.std.proofs.lemmas.Int.{ints}
+use Rattle.packstream.specs.Tree.{Tree, null, int, Trees, no_trees, tree_then}
+use Rattle.packstream.specs.Good.{count}
+use Rattle.packstream.specs.View.{tree, trees, trees_of}
+use Rattle.packstream.specs.declared.value.Value.{Value}
+use Rattle.structures.specs.declared.table.Field.{Field}
+use Rattle.wire.specs.declared.Version.{Version}
+use Rattle.wire.specs.declared.Version.TheVariants.{V44, V51}
+use Rattle.structures.specs.declared.table.Field.TheVariants.{Whole, Text, Properties, Nodes, Relationships, Indices}
+use Rattle.structures.specs.declared.fault.Reason.{Reason}
+use Rattle.structures.specs.Table.{kinds}
+use Rattle.structures.specs.Faults.{dated, to_utc, each, is_kind, are_kinds, are_in_range, utc_fields, is_path, wrong, fault, fault_by}
+use Rattle.structures.specs.Form.{tree_at, typed, typed_all, ReadElements}
+use Rattle.structures.proofs.Faulty.{count_seen}
+
+pub at_some : (xs : List Value) (i : ℕ) (d : Value) → i < length xs → d ≡ get_or xs i d → tree_at i (trees_of (trees xs)) ≡ tree d
+at_some [] i d h e = absurd (omega arith)
+at_some (x ∷ xs) zero d h e = ap tree (sym e)
+at_some (x ∷ xs) (suc i) d h e = at_some xs i d (omega arith) e
+
+pub at_none : (xs : List Value) (i : ℕ) → length xs ≤ i → tree_at i (trees_of (trees xs)) ≡ null
+at_none [] i h = refl
+at_none (x ∷ xs) zero h = absurd (omega arith)
+at_none (x ∷ xs) (suc i) h = at_none xs i (omega arith)
+
+-- each field of us, where it is there, is what was read at its place
+abbrev pub Got : ℕ → List Field → Trees → Trees → Type 0
+Got i [] us ts = Unit {0}
+Got i (k ∷ ks) no_trees ts = Unit {0}
+Got i (k ∷ ks) (tree_then u us) ts = (is_kind k (tree_at i ts) ≡ true → u ≡ typed (tree_at i ts)) × Got (suc i) ks us ts
+
+got_tail : (i : ℕ) (ks : List Field) (us : Trees) (t : Tree) (ts : Trees) → Got (suc i) ks us (tree_then t ts) → Got i ks us ts
+got_tail i [] us t ts h = h
+got_tail i (k ∷ ks) no_trees t ts h = h
+got_tail i (k ∷ ks) (tree_then u us) t ts h = (h.0, got_tail (suc i) ks us t ts h.1)
+
+pub and_left : (a b : Bool) → (a && b) ≡ true → a ≡ true
+and_left true b h = refl
+and_left false b h = h
+
+pub and_right : (a b : Bool) → (a && b) ≡ true → b ≡ true
+and_right true b h = h
+and_right false b h = absurd cc
+
+-- fields read by a list of kinds are the structure's fields
+pub fields_are : (ks : List Field) (us ts : Trees) → count ts ≡ length ks → count us ≡ length ks → are_kinds ks ts ≡ true → Got 0 ks us ts → us ≡ typed_all ts
+fields_are [] no_trees no_trees n m h g = refl
+fields_are [] (tree_then u us) ts n m h g = absurd cc
+fields_are [] no_trees (tree_then t ts) n m h g = absurd cc
+fields_are (k ∷ ks) no_trees ts n m h g = absurd cc
+fields_are (k ∷ ks) (tree_then u us) no_trees n m h g = absurd cc
+fields_are (k ∷ ks) (tree_then u us) (tree_then t ts) n m h g =
+    let e : u ≡ typed t = g.0 (and_left _ _ h) in
+    let r = fields_are ks us ts (omega arith) (omega arith) (and_right _ _ h) (got_tail 0 ks us t ts g.1) in
+    ap (λ x. tree_then x us) e ∙ ap (λ x. tree_then (typed t) x) r
+
+first_none : (p : Bool) (r : Reason) (rest : Option Reason) → cond p rest (Some r) ≡ None → (p ≡ true) × (rest ≡ None)
+first_none true r rest h = (refl, h)
+first_none false r rest h = absurd cc
+
+pub record Passed (ks : List Field) (tag : ℕ) (ts : Trees) : Type 0 where
+  pub counted : count ts ≡ length ks
+  pub kinded : are_kinds ks ts ≡ true
+  pub ranged : are_in_range ks (utc_fields tag ts) ≡ true
+  pub shaped : cond (tag == 0x50) (is_path ts) true ≡ true
+
+pub passed : (v : Version) (tag : ℕ) (ts : Trees) (ks : List Field) → kinds v tag ≡ Ok ks → fault v tag ts ≡ None → Passed ks tag ts
+passed v tag ts ks e h =
+    let w : wrong ks tag ts ≡ None = sym (ap (λ r. fault_by r tag ts) e) ∙ h in
+    let a = first_none (count ts == length ks) _ _ w in
+    let b = first_none (are_kinds ks ts) _ _ a.1 in
+    let d = first_none (are_in_range ks (utc_fields tag ts)) _ _ b.1 in
+    let s = first_none (cond (tag == 0x50) (is_path ts) true) _ _ d.1 in
+    record { counted = eqb-true _ _ a.0; kinded = b.0; ranged = d.0; shaped = s.0 }
+
+pub at_both : (v : Version) (tag : ℕ) (ks : List Field) → kinds V44 tag ≡ Ok ks → kinds V51 tag ≡ Ok ks → kinds v tag ≡ Ok ks
+at_both V44 tag ks a b = a
+at_both V51 tag ks a b = b
+
+-- a tag that stands at one version alone
+pub at_old : (v : Version) (tag : ℕ) (ks : List Field) (r : Reason) (ts : Trees) → kinds V44 tag ≡ Ok ks → kinds V51 tag ≡ Err r → fault v tag ts ≡ None → kinds v tag ≡ Ok ks
+at_old V44 tag ks r ts a b h = a
+at_old V51 tag ks r ts a b h = absurd (let e : Some r ≡ None = sym (ap (λ k. fault_by k tag ts) b) ∙ h in cc)
+
+pub at_new : (v : Version) (tag : ℕ) (ks : List Field) (r : Reason) (ts : Trees) → kinds V51 tag ≡ Ok ks → kinds V44 tag ≡ Err r → fault v tag ts ≡ None → kinds v tag ≡ Ok ks
+at_new V51 tag ks r ts a b h = a
+at_new V44 tag ks r ts a b h = absurd (let e : Some r ≡ None = sym (ap (λ k. fault_by k tag ts) b) ∙ h in cc)
+
+pub read_by : (v : Version) (tag : ℕ) (ts us : Trees) (ks : List Field) → kinds v tag ≡ Ok ks → fault v tag ts ≡ None → count us ≡ length ks → Got 0 ks us ts → us ≡ typed_all ts
+read_by v tag ts us ks e h n g = let p = passed v tag ts ks e h in fields_are ks us ts p.counted n p.kinded g
+
+pub same_dated : (ts : Trees) → count ts ≡ 3 → are_kinds dated ts ≡ true → typed_all ts ≡ ts
+same_dated (tree_then (int a) (tree_then (int b) (tree_then (int d) no_trees))) n h = refl
+same_dated (tree_then (int a) (tree_then (int b) (tree_then (int d) (tree_then e ts)))) n h = absurd (omega arith)
+same_dated ts n h = absurd cc
+
+pub record Utc (s n o : ℤ) : Type 0 where
+  pub above : neg_ℤ (pos 100000000000000000) ≤ℤ (s -ℤ o)
+  pub below : (s -ℤ o) ≤ℤ pos 100000000000000000
+
+pub le_true : (x y : ℤ) → int_le x y ≡ true → x ≤ℤ y
+le_true x y h = grind (arith, ints)
+
+-- local seconds in range at UTC
+pub dated_range : (s n o : ℤ) → are_in_range dated (to_utc (tree_then (int s) (tree_then (int n) (tree_then (int o) no_trees)))) ≡ true → Utc s n o
+dated_range s n o h =
+    let a : (int_le (neg_ℤ (pos 100000000000000000)) (s -ℤ o) && int_le (s -ℤ o) (pos 100000000000000000)) ≡ true = and_left _ _ h in
+    record { above = le_true _ _ (and_left (int_le (neg_ℤ (pos 100000000000000000)) (s -ℤ o)) _ a); below = le_true _ _ (and_right (int_le (neg_ℤ (pos 100000000000000000)) (s -ℤ o)) _ a) }
+
+-- what was read of local seconds, nanoseconds and offset
+pub dated_by : (v : Version) (ts : Trees) (s n o : ℤ) → fault v 0x46 ts ≡ None → Got 0 dated (tree_then (int s) (tree_then (int n) (tree_then (int o) no_trees))) ts
+    → (typed_all ts ≡ tree_then (int s) (tree_then (int n) (tree_then (int o) no_trees))) × Utc s n o
+dated_by v ts s n o h g =
+    let e = at_old v 0x46 dated _ ts refl refl h in
+    let p = passed v 0x46 ts dated e h in
+    let us = read_by v 0x46 ts (tree_then (int s) (tree_then (int n) (tree_then (int o) no_trees))) dated e h refl g in
+    let same = us ∙ same_dated ts p.counted p.kinded in
+    (sym us, dated_range s n o (ap (λ (x : Trees). are_in_range dated (to_utc x)) same ∙ p.ranged))
+
+pub typed_list : (ts : List Tree) → typed_all (trees_of ts) ≡ trees_of (map typed ts)
+typed_list [] = refl
+typed_list (t ∷ ts) = ap (λ x. tree_then (typed t) x) (typed_list ts)
+
+-- a test of each member, at one of them
+pub each_at : (p : Tree → Bool) (xs : List Value) (i : ℕ) (d : Value) → i < length xs → d ≡ get_or xs i d → each p (trees_of (trees xs)) ≡ true → p (tree d) ≡ true
+each_at p [] i d h e a = absurd (omega arith)
+each_at p (x ∷ xs) zero d h e a = ap (λ v. p (tree v)) e ∙ and_left _ _ a
+each_at p (x ∷ xs) (suc i) d h e a = each_at p xs i d (omega arith) e (and_right _ _ a)
+
+pub if_ok : {A E : Type 0} (r : Result A E) (P Q : A → Type 0) → ((x : A) → P x → Q x) → IfOk r P → IfOk r Q
+if_ok (Ok x) P Q f h = f x h
+if_ok (Err e) P Q f h = h
+
+go : {A B : Type 0} (f : A → B) (xs : List A) (i : ℕ) (d : A) → i < length xs → d ≡ get_or xs i d → map f (take (suc i) xs) ≡ map f (take i xs) ++ f d ∷ []
+go f [] i d h e = absurd (omega arith)
+go f (x ∷ xs) zero d h e = ap (λ v. f v ∷ []) (sym e)
+go f (x ∷ xs) (suc i) d h e = ap (λ r. f x ∷ r) (go f xs i d (omega arith) e)
+
+pub take_next : {A B : Type 0} (f : A → B) (xs : List A) (i : ℕ) (d : A) → i < length xs → d ≡ get_or xs i d → map f (take (i + 1) xs) ≡ map f (take i xs) ++ f d ∷ []
+take_next f xs i d h e = rw add-one (go f xs i d h e)
+
+pub typed_seen : (xs : List Value) → map typed (trees xs) ≡ map (λ v. typed (tree v)) xs
+typed_seen [] = refl
+typed_seen (x ∷ xs) = ap (λ r. typed (tree x) ∷ r) (typed_seen xs)
+
+-- one more member read
+pub typed_next : (out : List Tree) (t : Tree) (xs : List Value) (i : ℕ) (d : Value) → i < length xs → d ≡ get_or xs i d → t ≡ typed (tree d) → out ≡ map typed (trees (take i xs))
+    → out ++ t ∷ [] ≡ map typed (trees (take (i + 1) xs))
+typed_next out t xs i d h e t-is o =
+    let a = take_next (λ v. typed (tree v)) xs i d h e in
+    let b = typed_seen (take (i + 1) xs) in
+    let p = typed_seen (take i xs) in
+    ap (λ (r : List Tree). r ++ t ∷ []) (o ∙ p) ∙ ap (λ (u : Tree). map (λ v. typed (tree v)) (take i xs) ++ u ∷ []) t-is ∙ sym a ∙ sym b
+
+abbrev pub field_at : ℕ → List Field → Option Field
+field_at i [] = None
+field_at zero (k ∷ ks) = Some k
+field_at (suc i) (k ∷ ks) = field_at i ks
+
+pub kind_at : (i : ℕ) (k : Field) (ks : List Field) (ts : Trees) → count ts ≡ length ks → are_kinds ks ts ≡ true → field_at i ks ≡ Some k → is_kind k (tree_at i ts) ≡ true
+kind_at i k [] ts n h e = absurd cc
+kind_at i k (x ∷ ks) no_trees n h e = absurd cc
+kind_at zero k (x ∷ ks) (tree_then t ts) n h e = let same : x ≡ k = cc in ap (λ y. is_kind y t) (sym same) ∙ and_left _ _ h
+kind_at (suc i) k (x ∷ ks) (tree_then t ts) n h e = kind_at i k ks ts (omega arith) (and_right _ _ h) e
+
+-- three fields, and an element id where the version adds one
+pub named_by : (v : Version) (tag : ℕ) (ts : Trees) (k0 k1 k2 : Field) (u0 u1 u2 : Tree) (element : Trees) → kinds V44 tag ≡ Ok (k0 ∷ k1 ∷ k2 ∷ []) → kinds V51 tag ≡ Ok (k0 ∷ k1 ∷ k2 ∷ Text ∷ []) → fault v tag ts ≡ None
+    → Got 0 (k0 ∷ k1 ∷ k2 ∷ []) (tree_then u0 (tree_then u1 (tree_then u2 no_trees))) ts
+    → (count ts ≡ 3 → element ≡ no_trees) → (3 < count ts → is_kind Text (tree_at 3 ts) ≡ true → element ≡ tree_then (typed (tree_at 3 ts)) no_trees)
+    → tree_then u0 (tree_then u1 (tree_then u2 element)) ≡ typed_all ts
+named_by V44 tag ts k0 k1 k2 u0 u1 u2 element a b h g absent there =
+    let p = passed V44 tag ts (k0 ∷ k1 ∷ k2 ∷ []) a h in
+    ap (λ x. tree_then u0 (tree_then u1 (tree_then u2 x))) (absent p.counted) ∙ read_by V44 tag ts _ (k0 ∷ k1 ∷ k2 ∷ []) a h refl g
+named_by V51 tag ts k0 k1 k2 u0 u1 u2 element a b h g absent there =
+    let p = passed V51 tag ts (k0 ∷ k1 ∷ k2 ∷ Text ∷ []) b h in
+    let here : is_kind Text (tree_at 3 ts) ≡ true = kind_at 3 Text (k0 ∷ k1 ∷ k2 ∷ Text ∷ []) ts p.counted p.kinded refl in
+    ap (λ x. tree_then u0 (tree_then u1 (tree_then u2 x))) (there (omega (arith, p.counted)) here) ∙ read_by V51 tag ts _ (k0 ∷ k1 ∷ k2 ∷ Text ∷ []) b h refl (g.0, (g.1.0, (g.1.1.0, ((λ z. refl), tt))))
+
+pub path_length : (v : Version) (xs : List Value) → fault v 0x50 (trees_of (trees xs)) ≡ None → length xs ≡ 3
+path_length v xs h =
+    let p = passed v 0x50 (trees_of (trees xs)) (Nodes ∷ Relationships ∷ Indices ∷ []) (at_both v 0x50 _ refl refl) h in
+    sym (count_seen xs) ∙ p.counted
+
+pub path_field : (v : Version) (xs : List Value) (i : ℕ) (d : Value) (k : Field) → fault v 0x50 (trees_of (trees xs)) ≡ None → d ≡ get_or xs i d → i < length xs → field_at i (Nodes ∷ Relationships ∷ Indices ∷ []) ≡ Some k → is_kind k (tree d) ≡ true
+path_field v xs i d k h e lt f =
+    let p = passed v 0x50 (trees_of (trees xs)) (Nodes ∷ Relationships ∷ Indices ∷ []) (at_both v 0x50 _ refl refl) h in
+    sym (ap (is_kind k) (at_some xs i d lt e)) ∙ kind_at i k (Nodes ∷ Relationships ∷ Indices ∷ []) (trees_of (trees xs)) p.counted p.kinded f
+
+-- the five fields of a relationship, and three element ids where the version adds them
+pub bound_by : (v : Version) (ts : Trees) (u0 u1 u2 u3 u4 : Tree) (es : Trees) → fault v 0x52 ts ≡ None
+    → Got 0 (Whole ∷ Whole ∷ Whole ∷ Text ∷ Properties ∷ []) (tree_then u0 (tree_then u1 (tree_then u2 (tree_then u3 (tree_then u4 no_trees))))) ts
+    → (count ts ≡ 5 → es ≡ no_trees) → (5 < count ts → ReadElements ts es)
+    → tree_then u0 (tree_then u1 (tree_then u2 (tree_then u3 (tree_then u4 es)))) ≡ typed_all ts
+bound_by V44 ts u0 u1 u2 u3 u4 es h g absent there =
+    let p = passed V44 0x52 ts (Whole ∷ Whole ∷ Whole ∷ Text ∷ Properties ∷ []) refl h in
+    ap (λ x. tree_then u0 (tree_then u1 (tree_then u2 (tree_then u3 (tree_then u4 x))))) (absent p.counted) ∙ read_by V44 0x52 ts _ (Whole ∷ Whole ∷ Whole ∷ Text ∷ Properties ∷ []) refl h refl g
+bound_by V51 ts u0 u1 u2 u3 u4 es h g absent there =
+    let p = passed V51 0x52 ts (Whole ∷ Whole ∷ Whole ∷ Text ∷ Properties ∷ Text ∷ Text ∷ Text ∷ []) refl h in
+    let k5 : is_kind Text (tree_at 5 ts) ≡ true = kind_at 5 Text (Whole ∷ Whole ∷ Whole ∷ Text ∷ Properties ∷ Text ∷ Text ∷ Text ∷ []) ts p.counted p.kinded refl in
+    let k6 : is_kind Text (tree_at 6 ts) ≡ true = kind_at 6 Text (Whole ∷ Whole ∷ Whole ∷ Text ∷ Properties ∷ Text ∷ Text ∷ Text ∷ []) ts p.counted p.kinded refl in
+    let k7 : is_kind Text (tree_at 7 ts) ≡ true = kind_at 7 Text (Whole ∷ Whole ∷ Whole ∷ Text ∷ Properties ∷ Text ∷ Text ∷ Text ∷ []) ts p.counted p.kinded refl in
+    ap (λ x. tree_then u0 (tree_then u1 (tree_then u2 (tree_then u3 (tree_then u4 x))))) (there (omega (arith, p.counted)) k5 k6 k7)
+    ∙ read_by V51 0x52 ts _ (Whole ∷ Whole ∷ Whole ∷ Text ∷ Properties ∷ Text ∷ Text ∷ Text ∷ []) refl h refl (g.0, (g.1.0, (g.1.1.0, (g.1.1.1.0, (g.1.1.1.1.0, ((λ z. refl), ((λ z. refl), ((λ z. refl), tt))))))))

@@ -1,0 +1,12 @@
+use Rattle.std.proofs.Common.{◌≡◌, sym, ap, ◌∙◌, rules, to_z, of_z, w64}
+use borrow.Author.Tests.{ltb-true, ltb-false}
+use Rattle.packstream.specs.Tree.{int}
+use Rattle.structures.proofs.Got.{at_some, at_none}
+use Rattle.structures.proofs.fields.int_at.Goals as goal
+
+pub returns-in-Some : goal.returns-in-Some
+returns-in-Some c = rw (at_some c.args.fields.now c.args.i c.in-Some.value.now (ltb-true _ _ (sym c.in-Some.ensures.lookup.0)) (search rules))
+    (let z : to_z w64 (of_z w64 c.int_of.result) ≡ c.int_of.result = search rules in λ h. ap int z ∙ c.int_of.ensures h)
+
+pub returns-in-None : goal.returns-in-None
+returns-in-None c = rw (at_none c.args.fields.now c.args.i (ltb-false _ _ (sym c.in-None.ensures.lookup.0))) (λ h. cc)

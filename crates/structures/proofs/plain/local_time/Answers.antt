@@ -1,0 +1,12 @@
+use Rattle.std.proofs.Common.{◌≡◌, ◌∷◌, [], refl, ◌∙◌, rules, to_z, of_z, w64}
+use Rattle.packstream.specs.Tree.{int, no_trees, tree_then}
+use Rattle.structures.specs.declared.table.Field.TheVariants.{DayNanosecond}
+use Rattle.structures.proofs.Views.{shape-LocalTime}
+use Rattle.structures.proofs.Got.{read_by, at_both}
+use Rattle.structures.proofs.plain.local_time.Goals as goal
+
+pub returns : goal.returns
+returns c =
+    let e = read_by c.args.version 0x74 _ (tree_then (int c.int_at-nanos.result) no_trees) (DayNanosecond ∷ []) (at_both c.args.version 0x74 _ refl refl) c.requires refl (c.int_at-nanos.ensures, tt) in
+    let z-nanos : to_z w64 (of_z w64 c.int_at-nanos.result) ≡ c.int_at-nanos.result = search rules in
+    shape-LocalTime _ ∙ (cc)

@@ -1,0 +1,49 @@
+-- What reading and writing answer.
+use Rattle.std.specs.Prelude.{◌≡◌, ℕ, false, ◌⊎◌, Result, Ok, Err}
+use Rattle.packstream.specs.declared.fault.Reason.{Reason as PackReason}
+use Rattle.packstream.specs.Good.{IsGood}
+use Rattle.packstream.specs.Making.{first_fault, faults_in}
+use Rattle.structures.specs.Writing.{IsWritable, IsUnwritable}
+use Rattle.packstream.specs.Tree.{Tree}
+use Rattle.wire.specs.declared.Version.{Version}
+use Rattle.structures.specs.declared.cell.Cell.{Cell}
+use Rattle.structures.specs.declared.fault.Reason.{Reason}
+use Rattle.structures.specs.declared.fault.CellFault.{CellFault}
+use Rattle.structures.specs.declared.fault.CellFault.TheVariants as fault
+use Rattle.structures.specs.Shape.{shape}
+use Rattle.structures.specs.Faults.{IsBad}
+use Rattle.structures.specs.Form.{Form}
+
+-- the value's cell, or its first fault, unless memory ran out
+abbrev pub Reads : Version → Tree → Result Cell CellFault → Type 0
+Reads v t (Ok c) = Form v (shape c) t
+Reads v t (Err (fault.Refused r k)) = IsBad v t k r
+Reads v t (Err fault.Memory) = Unit {0}
+Reads v t (Err (fault.Pack r o)) = ⊥
+
+-- what `Packed::new` answers of this tree
+abbrev pub IsUnpacked : Tree → PackReason → ℕ → Type 0
+IsUnpacked t r o = first_fault (faults_in 0 false t) 0 ≡ Err (r, o)
+
+-- The cell's form, or its first fault; where it has none and its form isn't good, the form's fault; unless memory ran out.
+abbrev pub Writes : Version → Tree → Result Tree CellFault → Type 0
+Writes v s (Ok t) = IsWritable v s × Form v s t × IsGood t
+Writes v s (Err (fault.Refused r k)) = IsUnwritable v s k r
+Writes v s (Err fault.Memory) = Unit {0}
+Writes v s (Err (fault.Pack r o)) = IsWritable v s × ((t : Tree) × Form v s t × IsUnpacked t r o)
+
+-- the value itself, or its fault
+abbrev pub Packs : Tree → Result Tree CellFault → Type 0
+Packs t (Ok u) = (u ≡ t) × IsGood t
+Packs t (Err (fault.Refused r k)) = ⊥
+Packs t (Err fault.Memory) = ⊥
+Packs t (Err (fault.Pack r o)) = IsUnpacked t r o
+
+abbrev pub StandsForOne : Version → Tree → Type 0
+StandsForOne v t = (s : Tree) × Form v s t × ((u : Tree) → Form v u t → s ≡ u) × ((k : ℕ) (r : Reason) → IsBad v t k r → ⊥)
+
+abbrev pub IsBadOnce : Version → Tree → Type 0
+IsBadOnce v t = (k : ℕ) × (r : Reason) × IsBad v t k r × ((j : ℕ) (q : Reason) → IsBad v t j q → (k ≡ j) × (r ≡ q)) × ((s : Tree) → Form v s t → ⊥)
+
+abbrev pub HasOneReading : Version → Tree → Type 0
+HasOneReading v t = StandsForOne v t ⊎ IsBadOnce v t

@@ -1,0 +1,88 @@
+-- What a tree is read as, and how a cell is written.
+use Rattle.std.specs.Prelude.{◌≡◌, ℕ, suc, zero, ◌+ℤ◌, List, [], ◌∷◌, Bool, true, cond, ◌&&◌, ◌==◌, is_none}
+use Rattle.packstream.specs.Tree.{Tree, null, boolean, int, float, byte_string, text, list, dict, structure, Trees, no_trees, tree_then, Entries, no_entries, entry_then}
+use Rattle.wire.specs.declared.Version.{Version}
+use Rattle.wire.specs.declared.Version.TheVariants.{V44, V51}
+use Rattle.structures.specs.Faults.{FaultOf, utc_fields, IsFine, is_text}
+
+-- Read: the same tree, but local seconds are brought to UTC.
+abbrev pub typed_tag : ℕ → ℕ
+typed_tag tag = cond (tag == 0x46) 0x49 tag
+
+abbrev mutual
+  pub typed : Tree → Tree
+  typed null = null
+  typed (boolean b) = boolean b
+  typed (int z) = int z
+  typed (float n) = float n
+  typed (byte_string s) = byte_string s
+  typed (text s) = text s
+  typed (list ts) = list (typed_all ts)
+  typed (dict es) = dict (typed_under es)
+  typed (structure tag ts) = structure (typed_tag tag) (utc_fields tag (typed_all ts))
+
+  pub typed_all : Trees → Trees
+  typed_all no_trees = no_trees
+  typed_all (tree_then t ts) = tree_then (typed t) (typed_all ts)
+
+  pub typed_under : Entries → Entries
+  typed_under no_entries = no_entries
+  typed_under (entry_then k t es) = entry_then k (typed t) (typed_under es)
+
+abbrev pub typed_entry : List ℕ × Tree → List ℕ × Tree
+typed_entry e = (e.0, typed e.1)
+
+-- the form table as a relation: a cell, seen as its tree, and a value
+abbrev pub Form : Version → Tree → Tree → Type 0
+Form v cell t = IsFine v t × (cell ≡ typed t)
+
+-- Written: at version 4.4 a DateTime has local seconds.
+abbrev pub to_local : Trees → Trees
+to_local (tree_then (int utc) (tree_then t (tree_then (int offset) no_trees))) = tree_then (int (utc +ℤ offset)) (tree_then t (tree_then (int offset) no_trees))
+to_local ts = ts
+
+abbrev pub moment : Version → Trees → Tree
+moment V44 ts = structure 0x46 (to_local ts)
+moment V51 ts = structure 0x49 ts
+
+abbrev pub written : Version → ℕ → Trees → Tree
+written v tag ts = cond (tag == 0x49) (moment v ts) (structure tag ts)
+
+abbrev mutual
+  pub form : Version → Tree → Tree
+  form v null = null
+  form v (boolean b) = boolean b
+  form v (int z) = int z
+  form v (float n) = float n
+  form v (byte_string s) = byte_string s
+  form v (text s) = text s
+  form v (list ts) = list (form_all v ts)
+  form v (dict es) = dict (form_under v es)
+  form v (structure tag ts) = written v tag (form_all v ts)
+
+  pub form_all : Version → Trees → Trees
+  form_all v no_trees = no_trees
+  form_all v (tree_then t ts) = tree_then (form v t) (form_all v ts)
+
+  pub form_under : Version → Entries → Entries
+  form_under v no_entries = no_entries
+  form_under v (entry_then k t es) = entry_then k (form v t) (form_under v es)
+
+-- each of these structures passes by itself
+abbrev pub all_fine : FaultOf → List (ℕ × Trees) → Bool
+all_fine f [] = true
+all_fine f (s ∷ ss) = is_none (f s.0 s.1) && all_fine f ss
+
+abbrev pub tree_at : ℕ → Trees → Tree
+tree_at i no_trees = null
+tree_at zero (tree_then t ts) = t
+tree_at (suc i) (tree_then t ts) = tree_at i ts
+
+-- the texts of the fields 5 to 7, where they are texts
+abbrev pub ReadElements : Trees → Trees → Type 0
+ReadElements ts es =
+    is_text (tree_at 5 ts) ≡ true → is_text (tree_at 6 ts) ≡ true → is_text (tree_at 7 ts) ≡ true
+    → es ≡ tree_then (typed (tree_at 5 ts)) (tree_then (typed (tree_at 6 ts)) (tree_then (typed (tree_at 7 ts)) no_trees))
+
+abbrev pub form_entry : Version → List ℕ × Tree → List ℕ × Tree
+form_entry v e = (e.0, form v e.1)

@@ -1,0 +1,255 @@
+//! The first typed cell that can't be written.
+ghost use Rattle.std.specs.Prelude.{◌≡◌, ◌≤◌, Ok, length, map, true};
+ghost use Rattle.packstream.specs.Tree.{int};
+ghost use Rattle.packstream.specs.View.{trees_of, entries_of};
+ghost use Rattle.structures.specs.Faults.{scan, scanned, next, structures, structures_in, structures_under, is_walk};
+ghost use Rattle.packstream.specs.Good.{count};
+ghost use Rattle.structures.specs.Shape.{element_of, elements_of, shape, shapes, entries, node_shape, unbound_shape, relationship_shape};
+ghost use Rattle.structures.specs.Writing.{unwritten, judged, numbers_in_range, tag_at, walk_fault};
+
+use crate::cell::{Cell, ElementIds, Node, Relationship, UnboundRelationship};
+use crate::fault::Reason;
+use crate::kinds::is_within;
+use crate::path::indices_walk;
+use crate::table::{Field, kinds_of};
+use packstream::Value;
+use wire::Version;
+
+fn tag_of(version: Version, tag: u8) -> u8
+    ensures { result ≡ tag_at version tag }
+{
+    match version {
+        Version::V44 => { if tag == 0x49 { 0x46 } else { tag } }
+        Version::V51 => tag,
+    }
+}
+
+fn are_within(kinds: &[Field], numbers: &[i64]) -> bool
+    requires { length numbers.now ≤ length kinds.now }
+    ensures { result ≡ numbers_in_range numbers.now kinds.now }
+{
+    for (i, number) in numbers.iter().enumerate() {
+        if !is_within(kinds[i], &Value::Int(*number)) {
+            return false;
+        }
+    }
+    true
+}
+
+/// The fault of a typed cell by its number of fields and the numbers that they begin with.
+fn fault_by(version: Version, tag: u8, count: usize, numbers: &[i64]) -> Option<Reason>
+    requires { length numbers.now ≤ count }
+    ensures { result ≡ judged version tag count numbers.now }
+{
+    let kinds = match kinds_of(version, tag_of(version, tag)) {
+        Ok(kinds) => kinds,
+        Err(reason) => return Some(reason),
+    };
+    if count != kinds.len() {
+        return Some(Reason::NotInVersion);
+    }
+    if !are_within(kinds, numbers) {
+        return Some(Reason::Range);
+    }
+    None
+}
+
+fn judge(
+    version: Version,
+    tag: u8,
+    count: usize,
+    numbers: &[i64],
+    seen: u64,
+) -> Result<u64, (Reason, u64)>
+    requires { length numbers.now ≤ count }
+    ensures { result ≡ scanned (judged version tag count numbers.now) seen (Ok (next seen)) }
+{
+    match fault_by(version, tag, count, numbers) {
+        Some(reason) => Err((reason, seen)),
+        None => Ok(seen.saturating_add(1)),
+    }
+}
+
+fn element_count(id: &Option<String>) -> usize
+    ensures counted { result ≡ count (element_of id.now) }
+    ensures few { result ≤ 1 }
+{
+    match id {
+        None => 0,
+        Some(_) => 1,
+    }
+}
+
+fn elements_count(ids: &Option<ElementIds>) -> usize
+    ensures counted { result ≡ count (elements_of ids.now) }
+    ensures few { result ≤ 3 }
+{
+    match ids {
+        None => 0,
+        Some(_) => 3,
+    }
+}
+
+/// Looks at the typed cells in preorder, the first with this number; answers the number after them.
+#[cycle(judge)]
+pub(crate) fn check_cell(version: Version, cell: &Cell, seen: u64) -> Result<u64, (Reason, u64)>
+    ensures { result ≡ scan (unwritten version) seen (structures (shape cell.now)) }
+{
+    match cell {
+        Cell::Null
+        | Cell::Bool(_)
+        | Cell::Int(_)
+        | Cell::Float(_)
+        | Cell::Bytes(_)
+        | Cell::Text(_) => Ok(seen),
+        Cell::List(members) => check_cells(version, members, seen),
+        Cell::Dict(pairs) => check_entries(version, pairs, seen),
+        Cell::Node(node) => check_node(version, node, seen),
+        Cell::Relationship(relationship) => check_relationship(version, relationship, seen),
+        Cell::UnboundRelationship(unbound) => check_unbound(version, unbound, seen),
+        Cell::Path {
+            nodes,
+            relationships,
+            indices,
+        } => {
+            let number = check_walk(nodes.len(), relationships.len(), indices, seen)?;
+            let number = check_nodes(version, nodes, number)?;
+            check_unbounds(version, relationships, number)
+        }
+        Cell::Date { days } => judge(version, 0x44, 1, &[*days], seen),
+        Cell::Time { nanos, offset } => judge(version, 0x54, 2, &[*nanos, *offset], seen),
+        Cell::LocalTime { nanos } => judge(version, 0x74, 1, &[*nanos], seen),
+        Cell::LocalDateTime { seconds, nanos } => judge(
+            version,
+            0x64,
+            2,
+            &[*seconds, *nanos],
+            seen,
+        ),
+        Cell::DateTime { utc, nanos, offset } => judge(
+            version,
+            0x49,
+            3,
+            &[*utc, *nanos, *offset],
+            seen,
+        ),
+        Cell::ZonedLocal { seconds, nanos, .. } => judge(
+            version,
+            0x66,
+            3,
+            &[*seconds, *nanos],
+            seen,
+        ),
+        Cell::ZonedUtc { seconds, nanos, .. } => judge(version, 0x69, 3, &[*seconds, *nanos], seen),
+        Cell::Duration {
+            months,
+            days,
+            seconds,
+            nanos,
+        } => judge(version, 0x45, 4, &[*months, *days, *seconds, *nanos], seen),
+        Cell::Point2D { srid, .. } => judge(version, 0x58, 3, &[*srid], seen),
+        Cell::Point3D { srid, .. } => judge(version, 0x59, 4, &[*srid], seen),
+    }
+}
+
+fn check_walk(
+    nodes: usize,
+    relationships: usize,
+    indices: &[i64],
+    seen: u64,
+) -> Result<u64, (Reason, u64)>
+    ensures { result ≡ scanned (walk_fault nodes relationships indices.now) seen (Ok (next seen)) }
+{
+    if 0 < nodes && indices_walk(nodes, relationships, indices) {
+        return Ok(seen.saturating_add(1));
+    }
+    Err((Reason::PathShape, seen))
+}
+
+#[cycle(judge)]
+fn check_cells(version: Version, members: &Vec<Cell>, seen: u64) -> Result<u64, (Reason, u64)>
+    ensures { result ≡ scan (unwritten version) seen (structures_in (trees_of (shapes members.now.items))) }
+{
+    let mut number = seen;
+    for member in members {
+        number = check_cell(version, member, number)?;
+    }
+    Ok(number)
+}
+
+#[cycle(judge)]
+fn check_entries(
+    version: Version,
+    pairs: &Vec<(String, Cell)>,
+    seen: u64,
+) -> Result<u64, (Reason, u64)>
+    ensures { result ≡ scan (unwritten version) seen (structures_under (entries_of (entries pairs.now.items))) }
+{
+    let mut number = seen;
+    for pair in pairs {
+        number = check_cell(version, &pair.1, number)?;
+    }
+    Ok(number)
+}
+
+#[cycle(judge)]
+fn check_node(version: Version, node: &Node, seen: u64) -> Result<u64, (Reason, u64)>
+    ensures { result ≡ scan (unwritten version) seen (structures (node_shape node.now)) }
+{
+    let count = 3 + element_count(&node.element_id);
+    let number = judge(version, 0x4E, count, &[node.id], seen)?;
+    check_entries(version, &node.properties, number)
+}
+
+#[cycle(judge)]
+fn check_unbound(
+    version: Version,
+    unbound: &UnboundRelationship,
+    seen: u64,
+) -> Result<u64, (Reason, u64)>
+    ensures { result ≡ scan (unwritten version) seen (structures (unbound_shape unbound.now)) }
+{
+    let count = 3 + element_count(&unbound.element_id);
+    let number = judge(version, 0x72, count, &[unbound.id], seen)?;
+    check_entries(version, &unbound.properties, number)
+}
+
+#[cycle(judge)]
+fn check_relationship(
+    version: Version,
+    relationship: &Relationship,
+    seen: u64,
+) -> Result<u64, (Reason, u64)>
+    ensures { result ≡ scan (unwritten version) seen (structures (relationship_shape relationship.now)) }
+{
+    let count = 5 + elements_count(&relationship.element_ids);
+    let numbers = [relationship.id, relationship.start, relationship.end];
+    let number = judge(version, 0x52, count, &numbers, seen)?;
+    check_entries(version, &relationship.properties, number)
+}
+
+#[cycle(judge)]
+fn check_nodes(version: Version, nodes: &Vec<Node>, seen: u64) -> Result<u64, (Reason, u64)>
+    ensures { result ≡ scan (unwritten version) seen (structures_in (trees_of (map node_shape nodes.now.items))) }
+{
+    let mut number = seen;
+    for node in nodes {
+        number = check_node(version, node, number)?;
+    }
+    Ok(number)
+}
+
+#[cycle(judge)]
+fn check_unbounds(
+    version: Version,
+    unbounds: &Vec<UnboundRelationship>,
+    seen: u64,
+) -> Result<u64, (Reason, u64)>
+    ensures { result ≡ scan (unwritten version) seen (structures_in (trees_of (map unbound_shape unbounds.now.items))) }
+{
+    let mut number = seen;
+    for unbound in unbounds {
+        number = check_unbound(version, unbound, number)?;
+    }
+    Ok(number)
+}

@@ -1,0 +1,296 @@
+//! Cells of values whose structures have no fault.
+ghost use Rattle.std.specs.Prelude.{◌≡◌, IfOk, None, true, map};
+ghost use Rattle.packstream.specs.Tree.{structure, dict, list};
+ghost use Rattle.packstream.specs.View.{tree, trees, trees_of, entries_of, entries as seen_entries};
+ghost use Rattle.structures.specs.Faults.{fault, structures, structures_in, structures_under, is_kind, each, has_tag};
+ghost use Rattle.structures.specs.Form.{typed, typed_entry, all_fine, tree_at};
+ghost use Rattle.structures.specs.Shape.{shape, shapes, node_shape, unbound_shape, relationship_shape, entries};
+
+use crate::cell::{Cell, Node, Relationship, UnboundRelationship};
+use crate::fields::{element_at, elements_at, int_at, ints_of, text_at, texts_at};
+use crate::plain::{
+    date, date_time, duration, local_date_time, local_moment, local_time, point_2d, point_3d, time,
+    zoned_local, zoned_utc,
+};
+use crate::table::Field;
+use packstream::Value;
+use std::alloc::{AllocError, Global};
+use wire::Version;
+
+#[cycle(read)]
+pub(crate) fn cell_of(alloc: Global, version: Version, value: &Value) -> Result<Cell, AllocError>
+    requires { all_fine (fault version) (structures (tree value.now)) ≡ true }
+    ensures { IfOk result (λ c. shape c ≡ typed (tree value.now)) }
+{
+    match value {
+        Value::Null => Ok(Cell::Null),
+        Value::Bool(b) => Ok(Cell::Bool(*b)),
+        Value::Int(n) => Ok(Cell::Int(*n)),
+        Value::Float(bits) => Ok(Cell::Float(*bits)),
+        Value::Bytes(bytes) => Ok(Cell::Bytes(bytes.clone()?)),
+        Value::Text(text) => Ok(Cell::Text(text.clone()?)),
+        Value::List(members) => Ok(Cell::List(cells_of(alloc, version, members)?)),
+        Value::Dict(pairs) => Ok(Cell::Dict(pairs_of(alloc, version, pairs)?)),
+        Value::Struct(tag, fields) => structure_of(alloc, version, *tag, fields),
+    }
+}
+
+#[cycle(read)]
+fn cells_of(alloc: Global, version: Version, members: &Vec<Value>) -> Result<Vec<Cell>, AllocError>
+    requires { all_fine (fault version) (structures_in (trees_of (trees members.now.items))) ≡ true }
+    ensures { IfOk result (λ v. shapes v.items ≡ map typed (trees members.now.items)) }
+{
+    let mut cells = Vec::with_capacity(alloc, members.len())?;
+    for member in members {
+        cells.push(cell_of(alloc, version, member)?)?;
+    }
+    Ok(cells)
+}
+
+#[cycle(read)]
+fn pairs_of(
+    alloc: Global,
+    version: Version,
+    pairs: &Vec<(String, Value)>,
+) -> Result<Vec<(String, Cell)>, AllocError>
+    requires { all_fine (fault version) (structures_under (entries_of (seen_entries pairs.now.items))) ≡ true }
+    ensures { IfOk result (λ v. entries v.items ≡ map typed_entry (seen_entries pairs.now.items)) }
+{
+    let mut cells = Vec::with_capacity(alloc, pairs.len())?;
+    for (key, value) in pairs {
+        let name = key.clone()?;
+        cells.push((name, cell_of(alloc, version, value)?))?;
+    }
+    Ok(cells)
+}
+
+#[cycle(read)]
+fn structure_of(
+    alloc: Global,
+    version: Version,
+    tag: u8,
+    fields: &Vec<Value>,
+) -> Result<Cell, AllocError>
+    requires fine { fault version tag (trees_of (trees fields.now.items)) ≡ None }
+    requires inner { all_fine (fault version) (structures_in (trees_of (trees fields.now.items))) ≡ true }
+    ensures { IfOk result (λ c. shape c ≡ typed (structure tag (trees_of (trees fields.now.items)))) }
+{
+    match tag {
+        0x4E => Ok(Cell::Node(node_of(alloc, version, fields)?)),
+        0x72 => Ok(Cell::UnboundRelationship(unbound_of(alloc, version, fields)?)),
+        0x52 => Ok(Cell::Relationship(relationship_of(alloc, version, fields)?)),
+        0x50 => path_of(alloc, version, fields),
+        0x44 => Ok(date(version, fields)),
+        0x54 => Ok(time(version, fields)),
+        0x74 => Ok(local_time(version, fields)),
+        0x64 => Ok(local_date_time(version, fields)),
+        0x46 => Ok(local_moment(version, fields)),
+        0x49 => Ok(date_time(version, fields)),
+        0x66 => zoned_local(alloc, version, fields),
+        0x69 => zoned_utc(alloc, version, fields),
+        0x45 => Ok(duration(version, fields)),
+        0x58 => Ok(point_2d(version, fields)),
+        0x59 => Ok(point_3d(version, fields)),
+        _ => unreachable!(),
+    }
+}
+
+#[cycle(read)]
+fn node_of(alloc: Global, version: Version, fields: &Vec<Value>) -> Result<Node, AllocError>
+    requires fine { fault version 0x4E (trees_of (trees fields.now.items)) ≡ None }
+    requires inner { all_fine (fault version) (structures_in (trees_of (trees fields.now.items))) ≡ true }
+    ensures { IfOk result (λ n. node_shape n ≡ typed (structure 0x4E (trees_of (trees fields.now.items)))) }
+{
+    let id = int_at(fields, 0);
+    let labels = texts_at(alloc, fields, 1)?;
+    let properties = properties_of(alloc, version, fields, 2)?;
+    let element_id = element_at(alloc, fields, 3)?;
+    Ok(Node {
+        id,
+        labels,
+        properties,
+        element_id,
+    })
+}
+
+#[cycle(read)]
+fn unbound_of(
+    alloc: Global,
+    version: Version,
+    fields: &Vec<Value>,
+) -> Result<UnboundRelationship, AllocError>
+    requires fine { fault version 0x72 (trees_of (trees fields.now.items)) ≡ None }
+    requires inner { all_fine (fault version) (structures_in (trees_of (trees fields.now.items))) ≡ true }
+    ensures { IfOk result (λ n. unbound_shape n ≡ typed (structure 0x72 (trees_of (trees fields.now.items)))) }
+{
+    let id = int_at(fields, 0);
+    let kind = text_at(alloc, fields, 1)?;
+    let properties = properties_of(alloc, version, fields, 2)?;
+    let element_id = element_at(alloc, fields, 3)?;
+    Ok(UnboundRelationship {
+        id,
+        kind,
+        properties,
+        element_id,
+    })
+}
+
+#[cycle(read)]
+fn relationship_of(
+    alloc: Global,
+    version: Version,
+    fields: &Vec<Value>,
+) -> Result<Relationship, AllocError>
+    requires fine { fault version 0x52 (trees_of (trees fields.now.items)) ≡ None }
+    requires inner { all_fine (fault version) (structures_in (trees_of (trees fields.now.items))) ≡ true }
+    ensures { IfOk result (λ n. relationship_shape n ≡ typed (structure 0x52 (trees_of (trees fields.now.items)))) }
+{
+    let id = int_at(fields, 0);
+    let start = int_at(fields, 1);
+    let end = int_at(fields, 2);
+    let kind = text_at(alloc, fields, 3)?;
+    let properties = properties_of(alloc, version, fields, 4)?;
+    let element_ids = elements_at(alloc, fields)?;
+    Ok(Relationship {
+        id,
+        start,
+        end,
+        kind,
+        properties,
+        element_ids,
+    })
+}
+
+#[cycle(read)]
+fn path_of(alloc: Global, version: Version, fields: &Vec<Value>) -> Result<Cell, AllocError>
+    requires fine { fault version 0x50 (trees_of (trees fields.now.items)) ≡ None }
+    requires inner { all_fine (fault version) (structures_in (trees_of (trees fields.now.items))) ≡ true }
+    ensures { IfOk result (λ c. shape c ≡ typed (structure 0x50 (trees_of (trees fields.now.items)))) }
+{
+    let nodes = nodes_of(alloc, version, &fields[0])?;
+    let relationships = unbounds_of(alloc, version, &fields[1])?;
+    let indices = ints_of(alloc, &fields[2])?;
+    Ok(Cell::Path {
+        nodes,
+        relationships,
+        indices,
+    })
+}
+
+#[cycle(read)]
+fn nodes_of(alloc: Global, version: Version, value: &Value) -> Result<Vec<Node>, AllocError>
+    requires fine { all_fine (fault version) (structures (tree value.now)) ≡ true }
+    requires kind { is_kind Field.Nodes (tree value.now) ≡ true }
+    ensures { IfOk result (λ v. list (trees_of (map node_shape v.items)) ≡ typed (tree value.now)) }
+{
+    match value {
+        Value::List(members) => nodes_in(alloc, version, members),
+        _ => unreachable!(),
+    }
+}
+
+#[cycle(read)]
+fn nodes_in(alloc: Global, version: Version, members: &Vec<Value>) -> Result<Vec<Node>, AllocError>
+    requires fine { all_fine (fault version) (structures_in (trees_of (trees members.now.items))) ≡ true }
+    requires tagged { each (has_tag 0x4E) (trees_of (trees members.now.items)) ≡ true }
+    ensures { IfOk result (λ v. map node_shape v.items ≡ map typed (trees members.now.items)) }
+{
+    let mut nodes = Vec::with_capacity(alloc, members.len())?;
+    for member in members {
+        nodes.push(node_from(alloc, version, member)?)?;
+    }
+    Ok(nodes)
+}
+
+#[cycle(read)]
+fn node_from(alloc: Global, version: Version, value: &Value) -> Result<Node, AllocError>
+    requires fine { all_fine (fault version) (structures (tree value.now)) ≡ true }
+    requires tagged { has_tag 0x4E (tree value.now) ≡ true }
+    ensures { IfOk result (λ n. node_shape n ≡ typed (tree value.now)) }
+{
+    match value {
+        Value::Struct(_, fields) => node_of(alloc, version, fields),
+        _ => unreachable!(),
+    }
+}
+
+#[cycle(read)]
+fn unbounds_of(
+    alloc: Global,
+    version: Version,
+    value: &Value,
+) -> Result<Vec<UnboundRelationship>, AllocError>
+    requires fine { all_fine (fault version) (structures (tree value.now)) ≡ true }
+    requires kind { is_kind Field.Relationships (tree value.now) ≡ true }
+    ensures { IfOk result (λ v. list (trees_of (map unbound_shape v.items)) ≡ typed (tree value.now)) }
+{
+    match value {
+        Value::List(members) => unbounds_in(alloc, version, members),
+        _ => unreachable!(),
+    }
+}
+
+#[cycle(read)]
+fn unbounds_in(
+    alloc: Global,
+    version: Version,
+    members: &Vec<Value>,
+) -> Result<Vec<UnboundRelationship>, AllocError>
+    requires fine { all_fine (fault version) (structures_in (trees_of (trees members.now.items))) ≡ true }
+    requires tagged { each (has_tag 0x72) (trees_of (trees members.now.items)) ≡ true }
+    ensures { IfOk result (λ v. map unbound_shape v.items ≡ map typed (trees members.now.items)) }
+{
+    let mut relationships = Vec::with_capacity(alloc, members.len())?;
+    for member in members {
+        relationships.push(unbound_from(alloc, version, member)?)?;
+    }
+    Ok(relationships)
+}
+
+#[cycle(read)]
+fn unbound_from(
+    alloc: Global,
+    version: Version,
+    value: &Value,
+) -> Result<UnboundRelationship, AllocError>
+    requires fine { all_fine (fault version) (structures (tree value.now)) ≡ true }
+    requires tagged { has_tag 0x72 (tree value.now) ≡ true }
+    ensures { IfOk result (λ n. unbound_shape n ≡ typed (tree value.now)) }
+{
+    match value {
+        Value::Struct(_, fields) => unbound_of(alloc, version, fields),
+        _ => unreachable!(),
+    }
+}
+
+#[cycle(read)]
+fn properties_in(
+    alloc: Global,
+    version: Version,
+    value: &Value,
+) -> Result<Vec<(String, Cell)>, AllocError>
+    requires { all_fine (fault version) (structures (tree value.now)) ≡ true }
+    ensures { IfOk result (λ v. is_kind Field.Properties (tree value.now) ≡ true → dict (entries_of (entries v.items)) ≡ typed (tree value.now)) }
+{
+    match value {
+        Value::Dict(pairs) => pairs_of(alloc, version, pairs),
+        _ => Ok(Vec::new(alloc)),
+    }
+}
+
+/// The entries in a field, none where it holds no dictionary.
+#[cycle(read)]
+fn properties_of(
+    alloc: Global,
+    version: Version,
+    fields: &Vec<Value>,
+    i: usize,
+) -> Result<Vec<(String, Cell)>, AllocError>
+    requires { all_fine (fault version) (structures_in (trees_of (trees fields.now.items))) ≡ true }
+    ensures { IfOk result (λ v. is_kind Field.Properties (tree_at i (trees_of (trees fields.now.items))) ≡ true → dict (entries_of (entries v.items)) ≡ typed (tree_at i (trees_of (trees fields.now.items)))) }
+{
+    match fields.get(i) {
+        Some(value) => properties_in(alloc, version, value),
+        None => Ok(Vec::new(alloc)),
+    }
+}

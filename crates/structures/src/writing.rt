@@ -1,0 +1,338 @@
+//! Values of cells.
+ghost use Rattle.std.specs.Prelude.{◌≡◌, IfOk, map, None, true};
+ghost use Rattle.packstream.specs.Tree.{Tree, int, float, structure, no_trees, tree_then};
+ghost use Rattle.packstream.specs.View.{tree, trees, trees_of, entries_of, entries as seen_entries};
+ghost use Rattle.structures.specs.Faults.{structures, structures_in, structures_under};
+ghost use Rattle.structures.specs.Form.{form, form_entry, all_fine};
+ghost use Rattle.structures.specs.Writing.{unwritten};
+ghost use Rattle.structures.specs.Shape.{shape, shapes, entries, node_shape, unbound_shape, relationship_shape, text_of, texts_of, numbers_of, element_of, elements_of};
+
+use crate::cell::{Cell, ElementIds, Node, Relationship, UnboundRelationship};
+use packstream::Value;
+use std::alloc::{AllocError, Global};
+use wire::Version;
+
+/// A structure of numbers.
+fn of_ints(alloc: Global, tag: u8, ints: &[i64]) -> Result<Value, AllocError>
+    ensures { IfOk result (λ w. tree w ≡ structure tag (trees_of (map int ints.now))) }
+{
+    let mut fields = Vec::with_capacity(alloc, ints.len())?;
+    for n in ints {
+        fields.push(Value::Int(*n))?;
+    }
+    Ok(Value::Struct(tag, fields))
+}
+
+/// A list of numbers.
+fn list_of_ints(alloc: Global, ints: &[i64]) -> Result<Value, AllocError>
+    ensures { IfOk result (λ w. tree w ≡ numbers_of ints.now) }
+{
+    let mut members = Vec::with_capacity(alloc, ints.len())?;
+    for n in ints {
+        members.push(Value::Int(*n))?;
+    }
+    Ok(Value::List(members))
+}
+
+/// A list of texts.
+fn list_of_texts(alloc: Global, texts: &Vec<String>) -> Result<Value, AllocError>
+    ensures { IfOk result (λ w. tree w ≡ texts_of texts.now.items) }
+{
+    let mut members = Vec::with_capacity(alloc, texts.len())?;
+    for text in texts {
+        members.push(Value::Text(text.clone()?))?;
+    }
+    Ok(Value::List(members))
+}
+
+/// A number, then floats.
+fn of_point(alloc: Global, tag: u8, srid: i64, floats: &[u64]) -> Result<Value, AllocError>
+    ensures { IfOk result (λ w. tree w ≡ structure tag (tree_then (int srid) (trees_of (map float floats.now)))) }
+{
+    let mut fields = vec![in alloc; Value::Int(srid)]?;
+    for bits in floats {
+        fields.push(Value::Float(*bits))?;
+    }
+    Ok(Value::Struct(tag, fields))
+}
+
+/// Two numbers and a zone.
+fn of_zoned(
+    alloc: Global,
+    tag: u8,
+    seconds: i64,
+    nanos: i64,
+    zone: &String,
+) -> Result<Value, AllocError>
+    ensures { IfOk result (λ w. tree w ≡ structure tag (tree_then (int seconds) (tree_then (int nanos) (tree_then (text_of zone.now) no_trees)))) }
+{
+    let zone = Value::Text(zone.clone()?);
+    Ok(Value::Struct(
+        tag,
+        vec![in alloc; Value::Int(seconds), Value::Int(nanos), zone]?,
+    ))
+}
+
+/// Three fields, and the element id where it is there.
+fn of_named(
+    alloc: Global,
+    tag: u8,
+    first: Value,
+    second: Value,
+    third: Value,
+    id: &Option<String>,
+) -> Result<Value, AllocError>
+    ensures { IfOk result (λ w. tree w ≡ structure tag (tree_then (tree first) (tree_then (tree second) (tree_then (tree third) (element_of id.now))))) }
+{
+    match id {
+        None => Ok(Value::Struct(tag, vec![in alloc; first, second, third]?)),
+        Some(id) => {
+            let fourth = Value::Text(id.clone()?);
+            Ok(Value::Struct(tag, vec![in alloc; first, second, third, fourth]?))
+        }
+    }
+}
+
+/// The fields of a DateTime: at 4.4 local seconds.
+fn of_moment(
+    alloc: Global,
+    version: Version,
+    utc: i64,
+    nanos: i64,
+    offset: i64,
+) -> Result<Value, AllocError>
+    requires { unwritten version 0x49 (tree_then (int utc) (tree_then (int nanos) (tree_then (int offset) no_trees))) ≡ None }
+    ensures { IfOk result (λ w. tree w ≡ form version (structure 0x49 (tree_then (int utc) (tree_then (int nanos) (tree_then (int offset) no_trees))))) }
+{
+    match version {
+        Version::V51 => of_ints(alloc, 0x49, &[utc, nanos, offset]),
+        Version::V44 => of_ints(alloc, 0x46, &[utc + offset, nanos, offset]),
+    }
+}
+
+#[cycle(write)]
+pub(crate) fn value_of(alloc: Global, version: Version, cell: &Cell) -> Result<Value, AllocError>
+    requires { all_fine (unwritten version) (structures (shape cell.now)) ≡ true }
+    ensures { IfOk result (λ w. tree w ≡ form version (shape cell.now)) }
+{
+    match cell {
+        Cell::Null => Ok(Value::Null),
+        Cell::Bool(b) => Ok(Value::Bool(*b)),
+        Cell::Int(n) => Ok(Value::Int(*n)),
+        Cell::Float(bits) => Ok(Value::Float(*bits)),
+        Cell::Bytes(bytes) => Ok(Value::Bytes(bytes.clone()?)),
+        Cell::Text(text) => Ok(Value::Text(text.clone()?)),
+        Cell::List(members) => Ok(Value::List(values_of(alloc, version, members)?)),
+        Cell::Dict(pairs) => Ok(Value::Dict(pair_values(alloc, version, pairs)?)),
+        Cell::Node(node) => Ok(node_value(alloc, version, node)?),
+        Cell::UnboundRelationship(unbound) => Ok(unbound_value(alloc, version, unbound)?),
+        Cell::Relationship(relationship) => Ok(relationship_value(alloc, version, relationship)?),
+        Cell::Path {
+            nodes,
+            relationships,
+            indices,
+        } => {
+            let places = Value::List(node_values(alloc, version, nodes)?);
+            let ways = Value::List(unbound_values(alloc, version, relationships)?);
+            let steps = list_of_ints(alloc, indices)?;
+            Ok(of_path(alloc, places, ways, steps)?)
+        }
+        Cell::Date { days } => Ok(of_ints(alloc, 0x44, &[*days])?),
+        Cell::Time { nanos, offset } => Ok(of_ints(alloc, 0x54, &[*nanos, *offset])?),
+        Cell::LocalTime { nanos } => Ok(of_ints(alloc, 0x74, &[*nanos])?),
+        Cell::LocalDateTime { seconds, nanos } => Ok(of_ints(alloc, 0x64, &[*seconds, *nanos])?),
+        Cell::DateTime { utc, nanos, offset } => Ok(of_moment(
+            alloc, version, *utc, *nanos, *offset,
+        )?),
+        Cell::ZonedLocal {
+            seconds,
+            nanos,
+            zone,
+        } => Ok(of_zoned(alloc, 0x66, *seconds, *nanos, zone)?),
+        Cell::ZonedUtc {
+            seconds,
+            nanos,
+            zone,
+        } => Ok(of_zoned(alloc, 0x69, *seconds, *nanos, zone)?),
+        Cell::Duration {
+            months,
+            days,
+            seconds,
+            nanos,
+        } => Ok(of_ints(alloc, 0x45, &[*months, *days, *seconds, *nanos])?),
+        Cell::Point2D { srid, x, y } => Ok(of_point(alloc, 0x58, *srid, &[*x, *y])?),
+        Cell::Point3D { srid, x, y, z } => Ok(of_point(alloc, 0x59, *srid, &[*x, *y, *z])?),
+    }
+}
+
+#[cycle(write)]
+fn values_of(alloc: Global, version: Version, members: &Vec<Cell>) -> Result<Vec<Value>, AllocError>
+    requires { all_fine (unwritten version) (structures_in (trees_of (shapes members.now.items))) ≡ true }
+    ensures { IfOk result (λ v. trees v.items ≡ map (form version) (shapes members.now.items)) }
+{
+    let mut values = Vec::with_capacity(alloc, members.len())?;
+    for member in members {
+        values.push(value_of(alloc, version, member)?)?;
+    }
+    Ok(values)
+}
+
+#[cycle(write)]
+fn pair_values(
+    alloc: Global,
+    version: Version,
+    pairs: &Vec<(String, Cell)>,
+) -> Result<Vec<(String, Value)>, AllocError>
+    requires { all_fine (unwritten version) (structures_under (entries_of (entries pairs.now.items))) ≡ true }
+    ensures { IfOk result (λ v. seen_entries v.items ≡ map (form_entry version) (entries pairs.now.items)) }
+{
+    let mut values = Vec::with_capacity(alloc, pairs.len())?;
+    for (key, cell) in pairs {
+        let name = key.clone()?;
+        values.push((name, value_of(alloc, version, cell)?))?;
+    }
+    Ok(values)
+}
+
+#[cycle(write)]
+fn node_value(alloc: Global, version: Version, node: &Node) -> Result<Value, AllocError>
+    requires { all_fine (unwritten version) (structures (node_shape node.now)) ≡ true }
+    ensures { IfOk result (λ w. tree w ≡ form version (node_shape node.now)) }
+{
+    let labels = list_of_texts(alloc, &node.labels)?;
+    let properties = pair_values(alloc, version, &node.properties)?;
+    Ok(of_named(
+        alloc,
+        0x4E,
+        Value::Int(node.id),
+        labels,
+        Value::Dict(properties),
+        &node.element_id,
+    )?)
+}
+
+#[cycle(write)]
+fn unbound_value(
+    alloc: Global,
+    version: Version,
+    unbound: &UnboundRelationship,
+) -> Result<Value, AllocError>
+    requires { all_fine (unwritten version) (structures (unbound_shape unbound.now)) ≡ true }
+    ensures { IfOk result (λ w. tree w ≡ form version (unbound_shape unbound.now)) }
+{
+    let kind = Value::Text(unbound.kind.clone()?);
+    let properties = pair_values(alloc, version, &unbound.properties)?;
+    Ok(of_named(
+        alloc,
+        0x72,
+        Value::Int(unbound.id),
+        kind,
+        Value::Dict(properties),
+        &unbound.element_id,
+    )?)
+}
+
+/// Five fields, and the element ids where they are there.
+fn of_bound(
+    alloc: Global,
+    id: i64,
+    start: i64,
+    end: i64,
+    kind: Value,
+    properties: Value,
+    ids: &Option<ElementIds>,
+) -> Result<Value, AllocError>
+    ensures { IfOk result (λ w. tree w ≡ structure 0x52 (tree_then (int id) (tree_then (int start) (tree_then (int end) (tree_then (tree kind) (tree_then (tree properties) (elements_of ids.now))))))) }
+{
+    match ids {
+        None => Ok(Value::Struct(
+            0x52,
+            vec![in alloc;
+                Value::Int(id),
+                Value::Int(start),
+                Value::Int(end),
+                kind,
+                properties,
+            ]?,
+        )),
+        Some(ids) => {
+            let own = Value::Text(ids.own.clone()?);
+            let first = Value::Text(ids.start.clone()?);
+            let last = Value::Text(ids.end.clone()?);
+            Ok(Value::Struct(
+                0x52,
+                vec![in alloc;
+                    Value::Int(id),
+                    Value::Int(start),
+                    Value::Int(end),
+                    kind,
+                    properties,
+                    own,
+                    first,
+                    last,
+                ]?,
+            ))
+        }
+    }
+}
+
+#[cycle(write)]
+fn relationship_value(
+    alloc: Global,
+    version: Version,
+    relationship: &Relationship,
+) -> Result<Value, AllocError>
+    requires { all_fine (unwritten version) (structures (relationship_shape relationship.now)) ≡ true }
+    ensures { IfOk result (λ w. tree w ≡ form version (relationship_shape relationship.now)) }
+{
+    let kind = Value::Text(relationship.kind.clone()?);
+    let properties = pair_values(alloc, version, &relationship.properties)?;
+    Ok(of_bound(
+        alloc,
+        relationship.id,
+        relationship.start,
+        relationship.end,
+        kind,
+        Value::Dict(properties),
+        &relationship.element_ids,
+    )?)
+}
+
+fn of_path(
+    alloc: Global,
+    nodes: Value,
+    relationships: Value,
+    steps: Value,
+) -> Result<Value, AllocError>
+    ensures { IfOk result (λ w. tree w ≡ structure 0x50 (tree_then (tree nodes) (tree_then (tree relationships) (tree_then (tree steps) no_trees)))) }
+{
+    Ok(Value::Struct(0x50, vec![in alloc; nodes, relationships, steps]?))
+}
+
+#[cycle(write)]
+fn node_values(alloc: Global, version: Version, nodes: &Vec<Node>) -> Result<Vec<Value>, AllocError>
+    requires { all_fine (unwritten version) (structures_in (trees_of (map node_shape nodes.now.items))) ≡ true }
+    ensures { IfOk result (λ v. trees v.items ≡ map (form version) (map node_shape nodes.now.items)) }
+{
+    let mut values = Vec::with_capacity(alloc, nodes.len())?;
+    for node in nodes {
+        values.push(node_value(alloc, version, node)?)?;
+    }
+    Ok(values)
+}
+
+#[cycle(write)]
+fn unbound_values(
+    alloc: Global,
+    version: Version,
+    relationships: &Vec<UnboundRelationship>,
+) -> Result<Vec<Value>, AllocError>
+    requires { all_fine (unwritten version) (structures_in (trees_of (map unbound_shape relationships.now.items))) ≡ true }
+    ensures { IfOk result (λ v. trees v.items ≡ map (form version) (map unbound_shape relationships.now.items)) }
+{
+    let mut values = Vec::with_capacity(alloc, relationships.len())?;
+    for unbound in relationships {
+        values.push(unbound_value(alloc, version, unbound)?)?;
+    }
+    Ok(values)
+}
