@@ -1,28 +1,58 @@
--- What is said of bytes that were refused.
-use Rattle.std.proofs.Common.{◌≡◌, inl, inr, ℕ, ◌<◌, List, length, Result, Err, refl, ap, ◌∙◌}
-use Rattle.std.specs.Prelude.{◌↔◌}
+-- What is said of bytes that were read, or refused.
+use Rattle.std.proofs.Common.{◌≡◌, inl, inr, ℕ, false, ◌<◌, List, length, Result, Err, refl, sym, ap, subst, ◌∙◌}
+use Rattle.std.specs.Prelude.{◌↔◌, Ok, IfOk}
 use Rattle.packstream.specs.declared.fault.Reason.{Reason}
 use Rattle.packstream.specs.declared.fault.Reason.TheVariants as reason
 use Rattle.packstream.specs.declared.fault.PackFault.{PackFault}
-use Rattle.packstream.specs.declared.fault.PackFault.TheVariants.{Refused, Memory}
+use Rattle.packstream.specs.declared.fault.PackFault.TheVariants as pack
 use Rattle.packstream.specs.Tree.{Tree}
 use Rattle.packstream.specs.Good.{IsGood}
 use Rattle.packstream.specs.Spelling.{Spells}
 use Rattle.packstream.specs.Canon.{canon}
+use Rattle.packstream.specs.Making.{first_fault, faults_in}
 use Rattle.packstream.specs.Faults.{Bad}
 use Rattle.packstream.specs.Answers.{UnlessMemory}
-use Rattle.bolt.specs.Checks.{ChecksFault}
+use Rattle.packstream.proofs.Checking.{bad_when}
+use Rattle.wire.specs.declared.Version.{Version}
+use Rattle.structures.specs.declared.fault.CellFault.TheVariants as cell_fault
+use Rattle.structures.specs.Faults.{fault, structures}
+use Rattle.structures.specs.Form.{Form, form}
+use Rattle.structures.proofs.Back.{again}
+use Rattle.structures.proofs.Fine.{fine_scan}
+use Rattle.bolt.specs.declared.checking.Checked.{Checked}
+use Rattle.bolt.specs.declared.checking.Checked.TheVariants.{Fine, Refused, Unfit}
+use Rattle.bolt.specs.Checks.{Checks, ChecksFault, IsSpelled, IsWrittenBack}
 
 -- what the decoder refused
-pub refused_checks : (b : List ℕ) (f : PackFault) (r : Result Tree PackFault) → r ≡ Err f → ((q : Reason) (o : ℕ) → UnlessMemory r ((r ≡ Err (Refused q o)) ↔ Bad b o q)) → ChecksFault b f
-refused_checks b (Refused q o) r e h = let g = rw e at h in inl ((g q o).0 refl)
-refused_checks b Memory r e h = tt
+pub refused_checks : (b : List ℕ) (f : PackFault) (r : Result Tree PackFault) → r ≡ Err f → ((q : Reason) (o : ℕ) → UnlessMemory r ((r ≡ Err (pack.Refused q o)) ↔ Bad b o q)) → ChecksFault b f
+refused_checks b (pack.Refused q o) r e h = let g = rw e at h in (g q o).0 refl
+refused_checks b pack.Memory r e h = tt
 
--- what can't be spelled
-pub long_checks : (b : List ℕ) (t : Tree) (f : PackFault) (r : Result (Unit {0}) PackFault) → IsGood t → Spells t b → r ≡ Err f → UnlessMemory r ((r ≡ Err (Refused reason.Size 0)) ↔ (65536 < length (canon t))) → ((q : Reason) (o : ℕ) → r ≡ Err (Refused q o) → (q ≡ reason.Size) × (o ≡ 0)) → ChecksFault b f
-long_checks b t (Refused q o) r good spells e size other =
+-- what can't be spelled is too long
+pub long_spelled : (t : Tree) (q : Reason) (o : ℕ) (r : Result (Unit {0}) PackFault) → r ≡ Err (pack.Refused q o) → UnlessMemory r ((r ≡ Err (pack.Refused reason.Size 0)) ↔ (65536 < length (canon t))) → ((p : Reason) (n : ℕ) → r ≡ Err (pack.Refused p n) → (p ≡ reason.Size) × (n ≡ 0)) → IsSpelled t (Refused q o)
+long_spelled t q o r e size other =
     let p = other q o e in
-    let full : r ≡ Err (Refused reason.Size 0) = e ∙ ap (λ x. Err (Refused x o)) p.0 ∙ ap (λ x. Err (Refused reason.Size x)) p.1 in
+    let full : r ≡ Err (pack.Refused reason.Size 0) = e ∙ ap (λ x. Err (pack.Refused x o)) p.0 ∙ ap (λ x. Err (pack.Refused reason.Size x)) p.1 in
     let s = rw full at size in
-    inr (p.0, p.1, (t, good, spells, s.0 refl))
-long_checks b t Memory r good spells e size other = tt
+    (p.0, p.1, s.0 refl)
+
+-- a cell has one form
+one_form : (v : Version) (s t u : Tree) → Form v s t → Form v s u → u ≡ t
+one_form v s t u f g =
+    sym (again v u (fine_scan (fault v) 0 g.0.0 (structures u) g.0.1)) ∙ ap (form v) (sym g.1) ∙ ap (form v) f.1 ∙ again v t (fine_scan (fault v) 0 f.0.0 (structures t) f.0.1)
+
+spelled_checks : (v : Version) (b : List ℕ) (t s : Tree) (c : Checked) → IsGood t → Spells t b → Form v s t → IsSpelled t c → Checks v b c
+spelled_checks v b t s (Fine hex) good spells f h = (t, good, spells, (s, f), h.0, h.1)
+spelled_checks v b t s (Refused r o) good spells f h = inr (h.0, h.1, (t, good, spells, (s, f), h.2))
+spelled_checks v b t s (Unfit r k) good spells f h = absurd h
+
+-- what is written of a cell is the value that was read
+pub written_checks : (v : Version) (b : List ℕ) (t s : Tree) (c : Checked) → IsGood t → Spells t b → Form v s t → IsWrittenBack v s c → Checks v b c
+written_checks v b t s c good spells f (inl (u, g, fine, h)) = spelled_checks v b t s c good spells f (subst (λ x. IsSpelled x c) (one_form v s t u f g) h)
+written_checks v b t s c good spells f (inr (cell_fault.Refused r k, w, is)) = subst (Checks v b) (sym is) (t, good, spells, inr (s, f, w))
+written_checks v b t s c good spells f (inr (cell_fault.Pack r o, w, is)) = absurd (bad_when t (r, o) (subst (λ x. Err (r, o) ≡ first_fault (faults_in 0 false x) 0) (one_form v s t w.1.0 f w.1.1) (sym w.1.2)) good)
+written_checks v b t s c good spells f (inr (cell_fault.Memory, w, is)) = absurd is
+
+pub written_ok : {E : Type 0} (v : Version) (b : List ℕ) (t s : Tree) (r : Result Checked E) → IsGood t → Spells t b → Form v s t → IfOk r (λ c. IsWrittenBack v s c) → IfOk r (λ c. Checks v b c)
+written_ok v b t s (Ok c) good spells f h = written_checks v b t s c good spells f h
+written_ok v b t s (Err e) good spells f h = tt

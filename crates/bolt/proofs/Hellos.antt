@@ -1,55 +1,40 @@
--- Which values and messages are a HELLO.
-use Rattle.std.proofs.Common.{◌≡◌, ◌≢◌, ℕ, List, [], ◌∷◌, length, get_or, Ok, Err, refl, sym, ap, subst, ◌∙◌, arith}
-use Rattle.std.specs.Prelude.{◌↔◌, IsTrue, Bool}
-use Rattle.std.specs.Prelude.{codes}
-use Rattle.wire.specs.declared.offers.Version.{Version}
-use Rattle.wire.specs.declared.offers.Version.TheVariants.{V44, V51}
-use Rattle.packstream.specs.declared.value.Value.{Value}
-use Rattle.packstream.specs.declared.fault.Reason.{Reason}
-use Rattle.packstream.specs.declared.fault.PackFault.TheVariants.{Refused}
-use Rattle.packstream.specs.Tree.{Tree, dict, structure, Trees, tree_then, no_trees, Entries}
-use Rattle.packstream.specs.Good.{IsGood}
-use Rattle.packstream.specs.Spelling.{Spells}
-use Rattle.packstream.specs.View.{tree, trees, trees_of}
-use Rattle.bolt.specs.Hello.{HasText, NamesAgent, IsHelloTree, IsHello}
+-- Which messages are a HELLO.
+use Rattle.std.proofs.Common.{◌≡◌, ℕ, List, Bool, true, false, Ok, Err, refl, sym, ap, ◌∙◌}
+use Rattle.std.specs.Prelude.{◌↔◌, IsTrue, Some, None}
+use Rattle.wire.specs.declared.offers.Version.TheVariants.{V51}
+use Rattle.messages.specs.declared.fault.MsgFault.{MsgFault}
+use Rattle.messages.specs.declared.fault.MsgFault.TheVariants.{Memory}
+use Rattle.messages.specs.declared.request.Request.{Request}
+use Rattle.messages.specs.View.{ask, Ask, Hello, Logon, Logoff, Goodbye, Reset, Run, Begin, Commit, Rollback, Discard, Pull}
+use Rattle.messages.specs.Messages.{Req, Gave, UnlessMemory}
+use Rattle.bolt.specs.Hello.{NamesAgent, is_greeting}
 
-abbrev fields_of : Tree → Trees
-fields_of (structure tag ts) = ts
-fields_of t = no_trees
+greeting_of : (a : Ask) → is_greeting a ≡ true → (agent : List ℕ) × (a ≡ Hello agent None)
+greeting_of (Hello agent None) h = (agent, refl)
+greeting_of (Hello agent (Some login)) h = cc h
+greeting_of (Logon login) h = cc h
+greeting_of Logoff h = cc h
+greeting_of Goodbye h = cc h
+greeting_of Reset h = cc h
+greeting_of (Run s ps mode) h = cc h
+greeting_of (Begin mode) h = cc h
+greeting_of Commit h = cc h
+greeting_of Rollback h = cc h
+greeting_of (Discard count) h = cc h
+greeting_of (Pull count) h = cc h
 
--- one field, a dictionary
-one_of : (ts : List Tree) (es : Entries) → trees_of ts ≡ tree_then (dict es) no_trees → ts ≡ dict es ∷ []
-one_of [] es h = cc h
-one_of (t ∷ []) es h = cc h
-one_of (t ∷ u ∷ ts) es h = cc h
-
-the_one : (ts : List Tree) → IsHelloTree (structure 1 (trees_of ts)) → (es : Entries) × HasText (codes "user_agent") es × (ts ≡ dict es ∷ [])
-the_one ts h = (h.0, h.1, one_of ts h.0 (ap fields_of h.2))
-
-pub not_one : (vs : List Value) → length vs ≢ 1 → IsHelloTree (structure 1 (trees_of (trees vs))) → ⊥
-not_one [] n h = let p = the_one [] h in let e : [] ≡ dict p.0 ∷ [] = p.2 in cc e
-not_one (v ∷ []) n h = n refl
-not_one (v ∷ w ∷ vs) n h = let p = the_one (tree v ∷ tree w ∷ trees vs) h in let e : tree v ∷ tree w ∷ trees vs ≡ dict p.0 ∷ [] = p.2 in cc e
-
-pub one_dict : (vs : List Value) (d : Value) → length vs ≡ 1 → IsHelloTree (structure 1 (trees_of (trees vs))) ↔ NamesAgent (tree (get_or vs 0 d))
-one_dict [] d n = absurd (omega arith)
-one_dict (v ∷ []) d n = (
-  λ h. let p = the_one (tree v ∷ []) h in let f : tree v ∷ [] ≡ dict p.0 ∷ [] = p.2 in (p.0, p.1, cc),
-  λ h. (h.0, h.1, ap (λ t. structure 1 (tree_then t no_trees)) h.2),
+-- the request that was read is the one that the message stands for
+pub read_hello : (m : List ℕ) (x : Request) (b : Bool) → ((a : Ask) → UnlessMemory (Ok x) (Gave ask (Ok x) a ↔ Req V51 a m)) → b ≡ is_greeting (ask x) → IsTrue b ↔ NamesAgent m
+unfolding NamesAgent
+read_hello m x b f e = (
+  λ h. let g = greeting_of (ask x) (sym e ∙ h) in (g.0, (f (Hello g.0 None)).0 g.1),
+  λ h. e ∙ ap is_greeting ((f (Hello h.0 None)).1 h.1),
 )
-one_dict (v ∷ w ∷ vs) d n = absurd (omega arith)
 
 -- what is refused is no HELLO
-pub refused_hello : (v : Version) (m : List ℕ) (r : Reason) (o : ℕ) → ((t : Tree) → (Err (Refused r o) ≡ Ok t) ↔ (IsGood t × Spells t m)) → IsHello v m → ⊥
-refused_hello V44 m r o f h = h
-refused_hello V51 m r o f h = let e : Err (Refused r o) ≡ Ok h.0 = (f h.0).1 (h.2, h.3) in cc e
+pub refused_hello : (m : List ℕ) (e : MsgFault) → ((a : Ask) → UnlessMemory {A = Request} (Err e) (Gave ask (Err e) a ↔ Req V51 a m)) → (e ≡ Memory → ⊥) → NamesAgent m → ⊥
+unfolding NamesAgent
+refused_hello m e f n h = (f (Hello h.0 None) n).1 h.1
 
-same_entries : (es fs : Entries) → dict es ≡ dict fs → es ≡ fs
-same_entries es fs e = cc
-
--- a dictionary names a user agent where its entries do
-pub names_by : (t : Tree) (es : Entries) (b : Bool) → t ≡ dict es → IsTrue b ↔ HasText (codes "user_agent") es → IsTrue b ↔ NamesAgent t
-names_by t es b e h = (
-  λ yes. (es, h.0 yes, e),
-  λ n. h.1 (subst (HasText (codes "user_agent")) (same_entries n.0 es (sym n.2 ∙ e)) n.1),
-)
+pub not_memory : (b : Bool) (e : MsgFault) → b ≡ false → IsTrue b ↔ (e ≡ Memory) → e ≡ Memory → ⊥
+not_memory b e f h m = let t : b ≡ true = h.1 m in let q : false ≡ true = sym f ∙ t in cc q

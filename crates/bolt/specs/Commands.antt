@@ -1,9 +1,14 @@
 -- What a command says.
-use Rattle.std.specs.Prelude.{◌≡◌, ◌⊎◌, ℕ, List, [], ◌∷◌, ◌++◌, string_bytes, codes, IsErr}
+use Rattle.std.specs.Prelude.{◌≡◌, ◌⊎◌, ℕ, if◌then◌else◌, List, [], ◌∷◌, ◌++◌, string_bytes, codes, IsErr}
 use Rattle.hex.specs.Hex.{decode_of}
+use Rattle.std.specs.Str.{bytes_eq}
+use Rattle.wire.specs.declared.Version.{Version}
+use Rattle.wire.specs.declared.Version.TheVariants.{V44, V51}
+use Rattle.structures.specs.declared.fault.Reason.{Reason}
+use Rattle.structures.specs.declared.fault.Reason.TheVariants.{UnknownTag, FieldCount, FieldKind, Range, PathShape, NotInVersion}
 use Rattle.bolt.specs.declared.commands.Said.{Said}
 use Rattle.bolt.specs.declared.checking.Checked.{Checked}
-use Rattle.bolt.specs.declared.checking.Checked.TheVariants.{Fine, Refused}
+use Rattle.bolt.specs.declared.checking.Checked.TheVariants.{Fine, Refused, Unfit}
 use Rattle.bolt.specs.declared.«end».End.{End}
 use Rattle.bolt.specs.declared.«end».End.TheVariants.{Live, Over}
 use Rattle.bolt.specs.declared.«end».State.TheVariants.{Fresh, Unauth}
@@ -33,10 +38,24 @@ SaysAnswer text s =
     (IsErr (decode_of text) × IsBadHex s)
     ⊎ ((hex : List ℕ) × (last : End) × AnswersHex text hex last × Says (hex ++ 10 ∷ [] ++ end_words last ++ 10 ∷ []) [] 0 s)
 
+-- the version of a word: 4.4, else 5.1
+abbrev pub version_named : List ℕ → Version
+version_named word = if bytes_eq word (codes "4.4") then V44 else V51
+
+-- the codes of what is wrong with a structure
+abbrev pub cell_code_of : Reason → List ℕ
+cell_code_of UnknownTag = codes "S1"
+cell_code_of FieldCount = codes "S2"
+cell_code_of FieldKind = codes "S3"
+cell_code_of Range = codes "S4"
+cell_code_of PathShape = codes "S5"
+cell_code_of NotInVersion = codes "S6"
+
 -- the shortest spelling on a line, or a refusal with status 1
 abbrev pub SaysChecked : Checked → Said → Type 0
 SaysChecked (Fine hex) s = Says (codes "ok " ++ string_bytes hex ++ 10 ∷ []) [] 0 s
 SaysChecked (Refused r o) s = (string_bytes s.err ≡ []) × (s.status ≡ 1)
+SaysChecked (Unfit r k) s = (string_bytes s.err ≡ []) × (s.status ≡ 1)
 
-abbrev pub SaysCheck : List ℕ → Said → Type 0
-SaysCheck text s = (IsErr (decode_of text) × IsBadHex s) ⊎ ((c : Checked) × ChecksHex text c × SaysChecked c s)
+abbrev pub SaysCheck : Version → List ℕ → Said → Type 0
+SaysCheck v text s = (IsErr (decode_of text) × IsBadHex s) ⊎ ((c : Checked) × ChecksHex v text c × SaysChecked c s)

@@ -1,16 +1,18 @@
 //! The commands of the program, over streams.
 ghost use Rattle.std.specs.Prelude.{◌≡◌, ◌≤◌, ◌⊎◌, [], string_bytes, true, false, IfOk};
 ghost use Rattle.std.specs.Io.KnownBytes.{Appends};
-ghost use Rattle.bolt.specs.Commands.{IsBadHex, SaysAnswer, SaysCheck, SaysChecked};
+ghost use Rattle.bolt.specs.Commands.{IsBadHex, SaysAnswer, SaysCheck, SaysChecked, version_named, cell_code_of};
 
 use crate::answering::{AnswerFault, answer};
 use crate::checking::{Checked, check_text};
 use crate::end::end_text;
 use crate::streams::{Sink, Source, write_all};
-use crate::vectors::{is_refused_so, vectors};
+use crate::vectors::{passes, vectors};
 use clap::error::{Error, ErrorKind};
 use clap::{Arg, ArgAction, ArgMatches, Command};
 use std::alloc::{AllocError, Global};
+use structures::Reason;
+use wire::Version;
 
 /// A refused value, a failed vector, or a stream that failed.
 const REFUSED: u8 = 1;
@@ -81,7 +83,7 @@ fn matches_of<'a>(alloc: Global, words: &'a [String]) -> Result<ArgMatches<'a>, 
         .action(ArgAction::Set)
         .value_parser(["4.4", "5.1"].as_slice());
     let check = Command::new(alloc, "check")
-        .about("Reads these bytes as a value, and prints its shortest spelling")
+        .about("Reads these bytes as a cell, and prints its shortest spelling")
         .arg(version)?
         .arg(hex_argument(alloc))?;
     let vectors = Command::new(alloc, "vectors").about("Runs the test vectors");
@@ -123,16 +125,26 @@ fn say_error(alloc: Global, error: &Error) -> Result<Said, AllocError>
 fn say_matched(alloc: Global, matches: &ArgMatches<'_>) -> Result<Said, AllocError>
     ensures { IfOk result (λ s. s.status ≤ 2) }
 {
-    let Some((name, inner)) = matches.subcommand() else {
+    let Some((_, inner)) = matches.subcommand() else {
         return say_vectors(alloc);
     };
     let Some(text) = inner.get_str("HEX") else {
         return say_vectors(alloc);
     };
-    if name == "answer" {
-        say_answer(alloc, text)
+    let Some(version) = inner.get_str("VERSION") else {
+        return say_answer(alloc, text);
+    };
+    say_check(alloc, version_of(version), text)
+}
+
+/// The version of a word: 4.4, else 5.1.
+fn version_of(word: &str) -> Version
+    ensures { result ≡ version_named word.now }
+{
+    if word == "4.4" {
+        Version::V44
     } else {
-        say_check(alloc, text)
+        Version::V51
     }
 }
 
@@ -173,12 +185,12 @@ fn say_answer(alloc: Global, text: &str) -> Result<Said, AllocError>
     Ok(say_out(alloc, out, 0))
 }
 
-/// `ok HEX`, or `refused P5 at 4`.
-fn say_check(alloc: Global, text: &str) -> Result<Said, AllocError>
-    ensures says { IfOk result (λ s. SaysCheck text.now s) }
+/// `ok HEX`, or `refused P5 at 4`, or `refused S2 at 0`.
+fn say_check(alloc: Global, version: Version, text: &str) -> Result<Said, AllocError>
+    ensures says { IfOk result (λ s. SaysCheck version text.now s) }
     ensures status { IfOk result (λ s. s.status ≤ 2) }
 {
-    match check_text(alloc, text) {
+    match check_text(alloc, version, text) {
         Ok(checked) => say_checked(alloc, &checked),
         Err(AnswerFault::BadHex) => say_bad_hex(alloc),
         Err(AnswerFault::Memory) => Err(AllocError),
@@ -200,6 +212,25 @@ fn say_checked(alloc: Global, checked: &Checked) -> Result<Said, AllocError>
             let out = format!(in alloc; "refused {reason} at {place}\n")?;
             Ok(say_out(alloc, out, REFUSED))
         }
+        Checked::Unfit(reason, number) => {
+            let code = cell_code(*reason);
+            let out = format!(in alloc; "refused {code} at {number}\n")?;
+            Ok(say_out(alloc, out, REFUSED))
+        }
+    }
+}
+
+/// The code of what is wrong with a structure.
+fn cell_code(reason: Reason) -> &'static str
+    ensures { result.now ≡ cell_code_of reason }
+{
+    match reason {
+        Reason::UnknownTag => "S1",
+        Reason::FieldCount => "S2",
+        Reason::FieldKind => "S3",
+        Reason::Range => "S4",
+        Reason::PathShape => "S5",
+        Reason::NotInVersion => "S6",
     }
 }
 
@@ -210,7 +241,7 @@ fn say_vectors(alloc: Global) -> Result<Said, AllocError>
     let mut out = String::new(alloc);
     let mut all_pass = true;
     for vector in vectors() {
-        if is_refused_so(alloc, vector)? {
+        if passes(alloc, vector)? {
             out.push_str("pass ")?;
         } else {
             out.push_str("fail ")?;

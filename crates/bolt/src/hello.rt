@@ -1,61 +1,44 @@
 //! Whether a message is a HELLO.
-ghost use Rattle.std.specs.Prelude.{◌≡◌, ◌↔◌, IsTrue, IfOk, codes};
-ghost use Rattle.packstream.specs.Tree.{structure};
-ghost use Rattle.packstream.specs.View.{tree, trees, trees_of, entries, entries_of};
-ghost use Rattle.bolt.specs.Hello.{HasText, IsText, NamesAgent, IsHelloTree, IsHello};
+ghost use Rattle.std.specs.Prelude.{◌≡◌, ◌↔◌, IsTrue, IfOk};
+ghost use Rattle.messages.specs.View.{ask};
+ghost use Rattle.messages.specs.declared.fault.MsgFault.TheVariants as fault;
+ghost use Rattle.bolt.specs.Hello.{IsHello, NamesAgent, is_greeting};
 
-use packstream::{PackFault, Value, decode};
+use messages::{MsgFault, Request, read_request};
 use std::alloc::{AllocError, Global};
 use wire::Version;
 
-/// Whether the key stands among the pairs with a text.
-fn has_text(pairs: &[(String, Value)], key: &str) -> bool
-    ensures { IsTrue result ↔ HasText key.now (entries_of (entries pairs.now)) }
+/// Whether the request is a HELLO without credentials.
+fn is_hello(request: &Request) -> bool
+    ensures { result ≡ is_greeting (ask request.now) }
 {
-    for pair in pairs {
-        if pair.0.as_str() == key && is_text(&pair.1) {
-            return true;
+    match request {
+        Request::Hello { auth, .. } => auth.is_none(),
+        _ => false,
+    }
+}
+
+fn is_memory(told: &MsgFault) -> bool
+    ensures { IsTrue result ↔ (told.now ≡ fault.Memory) }
+{
+    match told {
+        MsgFault::Memory => true,
+        _ => false,
+    }
+}
+
+/// Whether the message is a HELLO of version 5.1.
+fn reads_hello(alloc: Global, message: &[u8]) -> Result<bool, AllocError>
+    ensures { IfOk result (λ b. IsTrue b ↔ NamesAgent message.now) }
+{
+    match read_request(alloc, Version::V51, message) {
+        Ok(request) => Ok(is_hello(&request)),
+        Err(told) => {
+            if is_memory(&told) {
+                return Err(AllocError);
+            }
+            Ok(false)
         }
-    }
-    false
-}
-
-fn is_text(value: &Value) -> bool
-    ensures { IsTrue result ↔ IsText (tree value.now) }
-{
-    match value {
-        Value::Text(_) => true,
-        _ => false,
-    }
-}
-
-/// Whether the value is a dictionary that names a user agent.
-fn names_agent(value: &Value) -> bool
-    ensures { IsTrue result ↔ NamesAgent (tree value.now) }
-{
-    match value {
-        Value::Dict(entries) => has_text(entries, "user_agent"),
-        _ => false,
-    }
-}
-
-/// Whether the one field is such a dictionary.
-fn has_agent(fields: &[Value]) -> bool
-    ensures { IsTrue result ↔ IsHelloTree (structure 1 (trees_of (trees fields.now))) }
-{
-    if fields.len() != 1 {
-        return false;
-    }
-    names_agent(&fields[0])
-}
-
-/// Whether the value is a HELLO as version 5.1 has it.
-fn is_hello(value: &Value) -> bool
-    ensures { IsTrue result ↔ IsHelloTree (tree value.now) }
-{
-    match value {
-        Value::Struct(0x01, fields) => has_agent(fields),
-        _ => false,
     }
 }
 
@@ -67,12 +50,8 @@ pub(crate) fn asks_hello(
 ) -> Result<bool, AllocError>
     ensures { IfOk result (λ b. IsTrue b ↔ IsHello version message.now) }
 {
-    if version == Version::V44 {
-        return Ok(false);
-    }
-    match decode(alloc, message) {
-        Ok(packed) => Ok(is_hello(packed.value())),
-        Err(PackFault::Refused(_, _)) => Ok(false),
-        Err(PackFault::Memory) => Err(AllocError),
+    match version {
+        Version::V44 => Ok(false),
+        Version::V51 => reads_hello(alloc, message),
     }
 }

@@ -9,6 +9,7 @@ mod greeting;
 mod handshake;
 mod hello;
 mod laws;
+mod samples;
 mod session;
 mod streams;
 #[cfg(test)]

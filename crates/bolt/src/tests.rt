@@ -161,10 +161,108 @@ fn checks_values(rt: HostRuntime) -> Result<(), Fail> {
     says(&rt, alloc, &["check", "4.4", "0"], "", "fault I4\n", 2)
 }
 
+/// The check of these bytes at the version prints one line; the status is 0 after `ok` and 1 after `refused`.
+fn checks(
+    rt: &impl Abort,
+    alloc: Global,
+    version: &str,
+    hex: &str,
+    line: &str,
+    status: u8,
+) -> Result<(), Fail> {
+    let out = format!(in alloc; "{line}\n")?;
+    says(
+        rt,
+        alloc,
+        &["check", version, hex],
+        out.as_str(),
+        "",
+        status,
+    )
+}
+
+#[test]
+fn checks_cells(rt: HostRuntime) -> Result<(), Fail> {
+    let alloc = rt.alloc();
+    checks(&rt, alloc, "4.4", "B144C948E5", "ok b144c948e5", 0)?;
+    checks(&rt, alloc, "5.1", "B144C948E5", "ok b144c948e5", 0)?;
+    checks(&rt, alloc, "5.1", "B34E01918141A0", "refused S2 at 0", 1)?;
+    checks(
+        &rt,
+        alloc,
+        "5.1",
+        "B44E01918141A08131",
+        "ok b44e01918141a08131",
+        0,
+    )?;
+    checks(
+        &rt,
+        alloc,
+        "4.4",
+        "B346C90E1000C90E10",
+        "ok b346c90e1000c90e10",
+        0,
+    )?;
+    checks(
+        &rt,
+        alloc,
+        "5.1",
+        "B346C90E1000C90E10",
+        "refused S6 at 0",
+        1,
+    )?;
+    checks(&rt, alloc, "5.1", "B3490000C90E10", "ok b3490000c90e10", 0)?;
+    checks(&rt, alloc, "4.4", "B3490000C90E10", "refused S6 at 0", 1)
+}
+
+#[test]
+fn refuses_what_is_no_cell(rt: HostRuntime) -> Result<(), Fail> {
+    let alloc = rt.alloc();
+    checks(&rt, alloc, "4.4", "92B14400B2440000", "refused S2 at 1", 1)?;
+    checks(&rt, alloc, "5.1", "B15A00", "refused S1 at 0", 1)?;
+    checks(
+        &rt,
+        alloc,
+        "5.1",
+        "B445000000CA3B9ACA00",
+        "refused S4 at 0",
+        1,
+    )?;
+    checks(&rt, alloc, "5.1", "B25400CA0000FD21", "refused S4 at 0", 1)?;
+    checks(
+        &rt,
+        alloc,
+        "5.1",
+        "B25400CA0000FD20",
+        "ok b25400ca0000fd20",
+        0,
+    )?;
+    checks(
+        &rt,
+        alloc,
+        "4.4",
+        "B25400CA0000FD20",
+        "ok b25400ca0000fd20",
+        0,
+    )?;
+    checks(
+        &rt,
+        alloc,
+        "4.4",
+        "B346CB80000000000000000001",
+        "refused S4 at 0",
+        1,
+    )?;
+    checks(&rt, alloc, "4.4", "B350909090", "refused S5 at 0", 1)?;
+    checks(&rt, alloc, "4.4", "B144C0", "refused S3 at 0", 1)
+}
+
 #[test]
 fn passes_the_vectors(rt: HostRuntime) -> Result<(), Fail> {
-    let out = "pass V1\npass V2\npass V3\npass V4\npass V5\n";
-    says(&rt, rt.alloc(), &["vectors"], out, "", 0)
+    let old = "pass V1\npass V2\npass V3\npass V4\npass V5\npass V6\npass V7\npass V8\npass V9\n";
+    let new = "pass V10\npass V11\npass V12\npass V13\npass V14\npass V15\npass V16\n";
+    let out = format!(in rt.alloc(); "{old}{new}")?;
+    says(&rt, rt.alloc(), &["vectors"], out.as_str(), "", 0)
 }
 
 /// A sink that takes nothing.
