@@ -1,6 +1,6 @@
 -- The fields of a structure by their number.
-use Rattle.std.proofs.Common.{◌≡◌, ℕ, suc, List, [], ◌∷◌, length, get_or, Bool, true, false, nat_eq, ◌==◌, refl, ap, sym, ◌∙◌, Result, Ok, Err, Vec, Global, String, rules, arith}
-use Rattle.packstream.specs.Tree.{Tree, list, dict, text, Trees, no_trees, tree_then}
+use Rattle.std.proofs.Common.{◌≡◌, suc, List, [], ◌∷◌, length, get_or, false, ◌==◌, refl, ap, sym, ◌∙◌, Err, Vec, Global, String, rules, arith}
+use Rattle.packstream.specs.Tree.{dict, text, Trees, no_trees, tree_then}
 use Rattle.packstream.specs.Good.{count}
 use Rattle.packstream.specs.View.{tree, trees, trees_of, entries, entries_of}
 use Rattle.packstream.proofs.Views.{Pair, tree-Dict}

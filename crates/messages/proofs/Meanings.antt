@@ -1,9 +1,9 @@
 -- What is read of bytes, by the relations and by the functions.
-use Rattle.std.proofs.Common.{◌++◌, append-nil, ◌≡◌, ◌↔◌, ◌⊎◌, ℕ, List, [], ◌∷◌, Option, None, Some, Result, Ok, Err, IsErrAnd, inl, inr, sym, ap, ◌∙◌, refl}
+use Rattle.std.proofs.Common.{◌++◌, append-nil, ◌≡◌, ◌↔◌, ℕ, List, [], ◌∷◌, None, Some, Result, Ok, Err, IsErrAnd, inl, inr, sym, ap, ◌∙◌, refl}
 use Rattle.packstream.specs.declared.fault.Reason.{Reason}
 use Rattle.packstream.specs.declared.fault.PackFault.{PackFault}
 use Rattle.packstream.specs.declared.fault.PackFault.TheVariants as pack
-use Rattle.packstream.specs.Tree.{Tree, Trees}
+use Rattle.packstream.specs.Tree.{Tree}
 use Rattle.packstream.specs.Good.{IsGood}
 use Rattle.packstream.specs.Spelling.{Spells}
 use Rattle.packstream.specs.Plain.{AreBytes}

@@ -1,7 +1,7 @@
 -- What is written is told again.
-use Rattle.std.proofs.Common.{◌≡◌, ℕ, ℤ, pos, negsuc, int_le, ◌++◌, Bool, true, false, cond, List, [], ◌∷◌, Option, None, Some, Result, Ok, Err, codes, refl, ap, sym, subst, ◌∙◌}
+use Rattle.std.proofs.Common.{◌≡◌, ℕ, ℤ, pos, negsuc, int_le, ◌++◌, Bool, true, false, List, [], ◌∷◌, None, Some, Result, Ok, Err, codes, refl, ap, sym, subst, ◌∙◌}
 use Rattle.packstream.specs.declared.fault.Reason.{Reason as PackReason}
-use Rattle.packstream.specs.Tree.{Tree, text, dict, list, int, structure, no_trees, tree_then, Entries, entry_then, no_entries}
+use Rattle.packstream.specs.Tree.{Tree, text, dict, list, structure, no_trees, tree_then, Entries, entry_then, no_entries}
 use Rattle.packstream.specs.View.{entries_of, trees_of}
 use Rattle.packstream.specs.Making.{first_fault, faults_in}
 use Rattle.wire.specs.declared.Version.{Version}
@@ -23,10 +23,9 @@ use Rattle.messages.specs.declared.response.Response.TheVariants as response
 use Rattle.messages.specs.declared.request.Mode.TheVariants.{Read, Write}
 use Rattle.messages.specs.declared.request.Count.TheVariants.{All, Of}
 use Rattle.messages.specs.declared.fault.MsgFault.{MsgFault}
-use Rattle.messages.specs.declared.fault.MsgFault.TheVariants as fault
-use Rattle.messages.specs.Table.{Row, requests, responses, Name, DISCARD, PULL, SUCCESS, RECORD, RUN}
+use Rattle.messages.specs.Table.{Row, requests, responses, RUN}
 use Rattle.messages.specs.View.{ask, say, Ask, Hello, Logon, Logoff, Goodbye, Reset, Run, Begin, Commit, Rollback, Discard, Pull, Say, Success, Record, Ignored, Failure}
-use Rattle.messages.specs.Reading.{◌>>=◌, Said, said, message_told, mode_told, lookup, cell_told, cell_by, asks, says}
+use Rattle.messages.specs.Reading.{Said, said, message_told, mode_told, lookup, cell_told, cell_by, asks, says}
 use Rattle.messages.specs.Cells.{value_by, form_by, cell_put}
 use Rattle.messages.specs.Writing.{form_put}
 

@@ -5,7 +5,7 @@ use Rattle.wire.specs.declared.Version.{Version}
 use Rattle.messages.specs.declared.fault.MsgFault.{MsgFault}
 use Rattle.messages.specs.Table.{Name, Others, Named, ignored, extra, text_field, cells, cell_list, RUN, mode_alone}
 use Rattle.structures.specs.Form.{typed_under}
-use Rattle.messages.specs.Reading.{◌>>=◌, Said, said, row_told, extra_told, all_told, cell_told, mode_told, lookup, cell_by}
+use Rattle.messages.specs.Reading.{◌>>=◌, said, row_told, extra_told, cell_told, mode_told, lookup, cell_by}
 use Rattle.messages.specs.Parts.{no_field, one_field, dict_told, list_told, only_dict, run_parts, run_told, as_dict, as_list}
 use Rattle.structures.specs.declared.fault.Reason.{Reason as CellReason}
 use Rattle.structures.specs.Faults.{scan, fault as structure_fault, structures}

@@ -1,5 +1,5 @@
 -- The text of a structure, from what making its value and its spelling told.
-use Rattle.std.proofs.Common.{◌≡◌, ◌↔◌, ◌<◌, ℕ, List, ◌++◌, length, Bool, true, false, cond, nat_lt, Result, Ok, Err, OnOk, refl, ap, sym, ◌∙◌, arith}
+use Rattle.std.proofs.Common.{◌≡◌, ◌↔◌, ◌<◌, ℕ, List, length, Bool, true, false, cond, nat_lt, Result, Ok, Err, OnOk, refl, ap, arith}
 use borrow.Author.Tests.{ltb-true, ltb-false}
 use Rattle.packstream.specs.declared.fault.Reason.{Reason}
 use Rattle.packstream.specs.declared.fault.PackFault.{PackFault}

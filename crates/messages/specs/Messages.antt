@@ -1,5 +1,5 @@
 -- Which bytes stand for a message, and what is wrong with those that stand for none.
-use Rattle.std.specs.Prelude.{◌≡◌, ◌⊎◌, ℕ, List, [], ◌∷◌, cond, codes, Option, None, Some, Result, Ok, Err}
+use Rattle.std.specs.Prelude.{◌≡◌, ◌⊎◌, ℕ, List, [], ◌∷◌, cond, codes, None, Some, Result, Ok, Err}
 use Rattle.std.specs.Str.{bytes_eq}
 use Rattle.packstream.specs.declared.fault.Reason.{Reason}
 use Rattle.packstream.specs.declared.fault.PackFault.TheVariants as pack
@@ -15,7 +15,7 @@ use Rattle.messages.specs.declared.request.Mode.{Mode}
 use Rattle.messages.specs.declared.request.Mode.TheVariants.{Read, Write}
 use Rattle.messages.specs.declared.request.Count.{Count}
 use Rattle.messages.specs.declared.request.Count.TheVariants.{All, Of}
-use Rattle.messages.specs.Table.{Row, requests, responses, HELLO, LOGON, LOGOFF, GOODBYE, RESET, RUN, BEGIN, COMMIT, ROLLBACK, DISCARD, PULL, SUCCESS, RECORD, IGNORED, FAILURE}
+use Rattle.messages.specs.Table.{Row, requests, responses, HELLO, LOGON, LOGOFF, GOODBYE, RUN, BEGIN, COMMIT, ROLLBACK, DISCARD, PULL, SUCCESS, RECORD, FAILURE}
 use Rattle.messages.specs.View.{Login, Ask, Hello, Logon, Logoff, Goodbye, Reset, Run, Begin, Commit, Rollback, Discard, Pull, Say, Success, Record, Ignored, Failure}
 use Rattle.messages.specs.Reading.{◌>>=◌, Said, said, message_told, asks, says}
 

@@ -1,5 +1,5 @@
 -- Messages a part at a time, as the code reads and builds them. Proofs alone use it: what it says is compared with the table.
-use Rattle.std.specs.Prelude.{◌≡◌, ℕ, ℤ, pos, negsuc, int_le, List, [], ◌∷◌, cond, codes, Option, None, Some, Result, Ok, Err}
+use Rattle.std.specs.Prelude.{◌≡◌, ℕ, pos, negsuc, int_le, List, [], ◌∷◌, cond, codes, Option, None, Some, Result, Ok, Err}
 use Rattle.std.specs.Borrow.{Bor}
 use Rattle.packstream.specs.declared.value.Value.{Value}
 use Rattle.packstream.specs.Tree.{Tree, null, int, text, list, dict, structure, Trees, no_trees, tree_then, Entries}

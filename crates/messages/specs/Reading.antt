@@ -1,6 +1,6 @@
 -- What a value says as a message, by the table of the messages; or its fault, the first in this order: no structure, no row
 -- for the tag at the version, other fields, other entries, a fault of the cells in a field.
-use Rattle.std.specs.Prelude.{◌≡◌, ◌⊎◌, ℕ, ℤ, pos, negsuc, int_le, List, [], ◌∷◌, ◌++◌, Bool, true, false, cond, ◌&&◌, ◌||◌, Option, None, Some, Result, Ok, Err, codes}
+use Rattle.std.specs.Prelude.{◌≡◌, ℕ, ℤ, pos, negsuc, int_le, List, [], ◌∷◌, ◌++◌, Bool, true, false, cond, ◌&&◌, ◌||◌, Option, None, Some, Result, Ok, Err, codes}
 use Rattle.std.specs.Ordering.{int_eq}
 use Rattle.std.specs.Str.{bytes_eq}
 use Rattle.packstream.specs.Tree.{Tree, null, int, text, list, dict, structure, Trees, no_trees, tree_then, Entries, no_entries, entry_then}
@@ -17,7 +17,7 @@ use Rattle.messages.specs.declared.request.Mode.TheVariants.{Read, Write}
 use Rattle.messages.specs.declared.request.Count.{Count}
 use Rattle.messages.specs.declared.request.Count.TheVariants.{All, Of}
 use Rattle.messages.specs.View.{Login, Ask, Hello, Logon, Logoff, Goodbye, Reset, Run, Begin, Commit, Rollback, Discard, Pull, Say, Success, Record, Ignored, Failure}
-use Rattle.messages.specs.Table.{HELLO, LOGON, LOGOFF, GOODBYE, RESET, RUN, BEGIN, COMMIT, ROLLBACK, DISCARD, PULL, SUCCESS, RECORD, IGNORED, FAILURE, Stands, Holds, a_text, a_mode, a_count, last_query, Named, Others, ignored, refused, Field, text_field, cells, cell_list, extra, Name, Row, has, row_in}
+use Rattle.messages.specs.Table.{HELLO, LOGON, LOGOFF, GOODBYE, RESET, RUN, BEGIN, COMMIT, ROLLBACK, DISCARD, PULL, SUCCESS, RECORD, IGNORED, FAILURE, Holds, a_text, a_mode, a_count, last_query, Named, Others, ignored, refused, Field, text_field, cells, cell_list, extra, Name, Row, has, row_in}
 
 infixl 10 ◌>>=◌
 abbrev pub ◌>>=◌ : {A B : Type 0} → Result A MsgFault → (A → Result B MsgFault) → Result B MsgFault

@@ -1,6 +1,6 @@
 -- The one written form of a message, or why it can't be written, the first in this order: no message of the version, an entry
 -- that is missing, not allowed or out of range, a fault of its cells, the whole too deep, more than 65,536 bytes.
-use Rattle.std.specs.Prelude.{◌≡◌, ◌≤◌, ℕ, pos, negsuc, int_le, nat_lt, List, [], ◌∷◌, ◌++◌, length, false, cond, codes, Result, Ok, Err}
+use Rattle.std.specs.Prelude.{◌≡◌, ℕ, pos, negsuc, int_le, nat_lt, List, [], ◌∷◌, ◌++◌, length, false, cond, codes, Result, Ok, Err}
 use Rattle.std.specs.Str.{bytes_eq}
 use Rattle.packstream.specs.declared.fault.Reason.{Reason as PackReason}
 use Rattle.packstream.specs.declared.fault.PackFault.TheVariants as pack
@@ -10,7 +10,7 @@ use Rattle.packstream.specs.Making.{first_fault, faults_in}
 use Rattle.wire.specs.declared.Version.{Version}
 use Rattle.messages.specs.declared.fault.MsgFault.{MsgFault}
 use Rattle.messages.specs.declared.fault.MsgFault.TheVariants as fault
-use Rattle.messages.specs.Table.{Holds, a_text, a_mode, a_count, last_query, Named, Others, Field, text_field, cells, cell_list, extra, Name, Row, layout, has}
+use Rattle.messages.specs.Table.{Holds, a_text, a_mode, a_count, last_query, Named, Field, text_field, cells, cell_list, extra, Row, layout, has}
 use Rattle.messages.specs.View.{Ask, Say}
 use Rattle.messages.specs.Reading.{◌>>=◌, Said, said, asks, says}
 use Rattle.messages.specs.Cells.{cell_put}

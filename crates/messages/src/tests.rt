@@ -249,7 +249,8 @@ fn parameters_are_a_value(rt: HostRuntime) -> Result<(), Fail> {
     let Ok(packed) = decode(rt.alloc(), PUT_PARAMS) else {
         return Err(Fail::from("refused"));
     };
-    match read(rt.alloc(), Version::V51, &packed) {
+    let answer = read(rt.alloc(), Version::V51, &packed);
+    match &answer {
         Ok(Cell::Dict(pairs)) => assert_eq!(rt; pairs.len(), 2),
         _ => assert!(rt; false),
     }

@@ -1,6 +1,5 @@
 use Rattle.packstream.proofs.Ranges.{bytes_from_each}
-use Rattle.std.proofs.Common.{◌≡◌, Ok, Err, refl, ap}
-use Rattle.packstream.specs.declared.fault.PackFault.TheVariants as pack
+use Rattle.std.proofs.Common.{refl, ap}
 use Rattle.packstream.proofs.Deciding.{whole_value}
 use Rattle.messages.specs.Table.{responses}
 use Rattle.messages.specs.View.{say}

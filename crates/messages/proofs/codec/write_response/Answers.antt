@@ -1,11 +1,8 @@
-use Rattle.std.proofs.Common.{◌≡◌, ℕ, List, Ok, refl, ap, sym, ◌∙◌}
+use Rattle.std.proofs.Common.{◌≡◌, ap, sym, ◌∙◌}
 use Rattle.packstream.specs.View.{tree}
-use Rattle.packstream.specs.Good.{IsGood}
-use Rattle.packstream.specs.Spelling.{Spells}
 use Rattle.packstream.specs.Canon.{canon}
-use Rattle.messages.specs.Table.{responses}
 use Rattle.messages.specs.View.{say}
-use Rattle.messages.specs.Reading.{◌>>=◌, says}
+use Rattle.messages.specs.Reading.{◌>>=◌}
 use Rattle.messages.specs.Writing.{response_text, text_put_of}
 use Rattle.messages.proofs.Texts.{on_ok, canon_is}
 use Rattle.messages.proofs.Rounds.{answered_back_told, response_back}

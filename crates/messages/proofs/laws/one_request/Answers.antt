@@ -1,4 +1,4 @@
-use Rattle.std.proofs.Common.{◌≡◌, Ok, Err, ap, sym, ◌∙◌}
+use Rattle.std.proofs.Common.{Ok, ap, sym, ◌∙◌}
 use Rattle.messages.specs.Table.{requests}
 use Rattle.messages.specs.Reading.{◌>>=◌, asks}
 use Rattle.messages.specs.Messages.{asked, request_of}

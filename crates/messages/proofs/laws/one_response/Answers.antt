@@ -1,4 +1,4 @@
-use Rattle.std.proofs.Common.{◌≡◌, Ok, Err, ap, sym, ◌∙◌}
+use Rattle.std.proofs.Common.{Ok, ap, sym, ◌∙◌}
 use Rattle.messages.specs.Table.{responses}
 use Rattle.messages.specs.Reading.{◌>>=◌, says}
 use Rattle.messages.specs.Messages.{answered, response_of}
