@@ -25,6 +25,14 @@ fn answers_a_hello(rt: HostRuntime) -> Result<(), Fail> {
     answers(&rt, rt.alloc(), HELLO, SUCCESS, "state Unauth")
 }
 
+/// HELLO with a further entry, which is no cell and isn't read as one.
+#[test]
+fn ignores_other_entries_of_a_hello(rt: HostRuntime) -> Result<(), Fail> {
+    let hello = "0017B101A28A757365725F6167656E7483742F318178B15A000000";
+    let text = format!(in rt.alloc(); "{}{hello}", &HELLO[..40])?;
+    answers(&rt, rt.alloc(), text.as_str(), SUCCESS, "state Unauth")
+}
+
 #[test]
 fn waits_for_the_last_byte(rt: HostRuntime) -> Result<(), Fail> {
     answers(&rt, rt.alloc(), &HELLO[..82], "00000105", "state Fresh")
