@@ -5,25 +5,12 @@
 //!   bench_append(bytes, turns): the same onto an output that holds a byte and has room
 mod twin;
 use std::hint::black_box;
-use std::time::Instant;
 use twin::*;
 
 unsafe extern "C" {
     fn bench_decode(bytes: *const u8, len: usize, turns: u32) -> u64;
     fn bench_encode(bytes: *const u8, len: usize, turns: u32) -> u64;
     fn bench_append(bytes: *const u8, len: usize, turns: u32) -> u64;
-}
-
-/// The least time of many runs, in nanoseconds.
-fn least(mut f: impl FnMut()) -> f64 {
-    let mut best = f64::MAX;
-    let begin = Instant::now();
-    while begin.elapsed().as_millis() < 300 {
-        let t = Instant::now();
-        f();
-        best = best.min(t.elapsed().as_nanos() as f64);
-    }
-    best
 }
 
 /// One of the calls that decode once and encode so many times: the time of one encoding. There are enough turns that the
