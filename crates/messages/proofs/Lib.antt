@@ -4,3 +4,12 @@ pub mod Meanings
 pub mod Texts
 pub mod Forms
 pub mod Rounds
+pub mod Telling
+pub mod Sayings
+pub mod Sent
+pub mod Arriving
+pub mod Hearing
+pub mod Following
+pub mod Samples
+pub mod Fitting
+pub mod Layouts

@@ -6,3 +6,6 @@ pub mod Parts
 pub mod Messages
 pub mod Cells
 pub mod Writing
+pub mod Arrivals
+pub mod Summaries
+pub mod Saying

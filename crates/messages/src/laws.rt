@@ -12,6 +12,7 @@ pub fn one_request()
     ensures request { (v : AnyVersion) (b : List ℕ) (m : Ask) → AreBytes b → Req v m b → request_of v b ≡ Ok m }
     ensures fault { (v : AnyVersion) (b : List ℕ) (e : AnyFault) → AreBytes b → NoRequest v e b → request_of v b ≡ Err e }
     ensures told { (v : AnyVersion) (b : List ℕ) (e : AnyFault) → AreBytes b → request_of v b ≡ Err e → NoRequest v e b }
+    ensures back { (v : AnyVersion) (b : List ℕ) (m : Ask) → AreBytes b → request_of v b ≡ Ok m → Req v m b }
 {}
 
 /// Bytes stand for one response at most, and then have no fault; `response_of` is it, or their fault.
@@ -20,6 +21,7 @@ pub fn one_response()
     ensures response { (v : AnyVersion) (b : List ℕ) (m : Say) → AreBytes b → Resp v m b → response_of v b ≡ Ok m }
     ensures fault { (v : AnyVersion) (b : List ℕ) (e : AnyFault) → AreBytes b → NoResponse v e b → response_of v b ≡ Err e }
     ensures told { (v : AnyVersion) (b : List ℕ) (e : AnyFault) → AreBytes b → response_of v b ≡ Err e → NoResponse v e b }
+    ensures back { (v : AnyVersion) (b : List ℕ) (m : Say) → AreBytes b → response_of v b ≡ Ok m → Resp v m b }
 {}
 
 /// The bytes of no message are a proper beginning of another's.

@@ -7,17 +7,25 @@ mod clone;
 mod codec;
 mod entries;
 mod fault;
+mod framing;
 mod laws;
 mod reading;
 mod request;
 mod response;
+mod saying;
+mod summaries;
 
 pub use codec::{read_request, read_response, write_request, write_response};
 pub use fault::MsgFault;
+pub use framing::{
+    arrivals_go_on, no_version_arrives, nothing_follows, requests_arrive, says_arrive,
+};
 pub use laws::{no_proper_beginning, one_request, one_response};
 pub use request::{Auth, Count, Mode, Request};
 pub use response::Response;
+pub use saying::messages_are_rows;
 pub use structures::Version;
+pub use summaries::short_fits;
 
 #[cfg(test)]
 mod tests;

@@ -1,8 +1,9 @@
-use Rattle.std.proofs.Common.{Ok, ap, sym, ◌∙◌}
+use Rattle.std.proofs.Common.{Ok, refl, ap, sym, ◌∙◌}
 use Rattle.messages.specs.Table.{requests}
 use Rattle.messages.specs.Reading.{◌>>=◌, asks}
-use Rattle.messages.specs.Messages.{asked, request_of}
+use Rattle.messages.specs.Messages.{said_in, asked, request_of}
 use Rattle.messages.proofs.Meanings.{means_one, means_said, none_said, said_none, asked_back, kept_fault}
+use Rattle.messages.proofs.Sayings.{means_told, told_asks}
 use Rattle.messages.proofs.laws.one_request.Goals as goal
 
 pub returns-clause-one : goal.returns-clause-one
@@ -19,3 +20,7 @@ returns-clause-fault c = λ v b e bytes p. ap (λ r. r >>= λ s. Ok (asked s)) (
 pub returns-clause-told : goal.returns-clause-told
 unfolding request_of
 returns-clause-told c = λ v b e bytes p. said_none v requests e b bytes (kept_fault asked _ e p)
+
+pub returns-clause-back : goal.returns-clause-back
+unfolding request_of
+returns-clause-back c = λ v b m bytes p. means_told asks asked v requests (told_asks v) b bytes m (said_in v requests b) refl p

@@ -1,8 +1,9 @@
-use Rattle.std.proofs.Common.{Ok, ap, sym, ◌∙◌}
+use Rattle.std.proofs.Common.{Ok, refl, ap, sym, ◌∙◌}
 use Rattle.messages.specs.Table.{responses}
 use Rattle.messages.specs.Reading.{◌>>=◌, says}
-use Rattle.messages.specs.Messages.{answered, response_of}
+use Rattle.messages.specs.Messages.{said_in, answered, response_of}
 use Rattle.messages.proofs.Meanings.{means_one, means_said, none_said, said_none, answered_back, kept_fault}
+use Rattle.messages.proofs.Sayings.{means_told, told_says}
 use Rattle.messages.proofs.laws.one_response.Goals as goal
 
 pub returns-clause-one : goal.returns-clause-one
@@ -19,3 +20,7 @@ returns-clause-fault c = λ v b e bytes p. ap (λ r. r >>= λ s. Ok (answered s)
 pub returns-clause-told : goal.returns-clause-told
 unfolding response_of
 returns-clause-told c = λ v b e bytes p. said_none v responses e b bytes (kept_fault answered _ e p)
+
+pub returns-clause-back : goal.returns-clause-back
+unfolding response_of
+returns-clause-back c = λ v b m bytes p. means_told says answered v responses (told_says v) b bytes m (said_in v responses b) refl p

@@ -1,0 +1,165 @@
+-- What the bytes of a connection say to the end that reads them: at a server an offer and requests, at a client the answer to an
+-- offer and responses.
+use Rattle.std.specs.Prelude.{◌≡◌, ℕ, ◌-◌, nat_le, if◌then◌else◌, Option, Some, None, Result, Ok, Err, List, [], ◌∷◌, ◌++◌, length, take, drop, map, reverse}
+use Rattle.std.specs.Str.{bytes_eq}
+use Rattle.wire.specs.declared.Version.{Version}
+use Rattle.wire.specs.declared.Version.TheVariants.{V44, V51}
+use Rattle.wire.specs.declared.Wish.{Wish}
+use Rattle.wire.specs.Offers.{magic, chosen as version_taken, offered, wished, version_answer}
+use Rattle.wire.specs.Texts.{text_of, noop}
+use Rattle.wire.specs.Framing.{Item, Opening, Noop, Message, TooBig, received, heard as items_heard, texts, within, said_text, said_within}
+use Rattle.messages.specs.declared.fault.MsgFault.{MsgFault}
+use Rattle.messages.specs.View.{Ask, Say}
+use Rattle.messages.specs.Messages.{Req, Resp, request_of, response_of}
+use Rattle.messages.specs.Writing.{request_text, response_text}
+
+-- What a server takes a whole item of the bytes as: an offer, with the version taken of it, or none; an offer that doesn't begin
+-- with the magic; a no-op; a request; bytes that stand for no request; the header that takes a message past its limit.
+pub data Arrival : Type 0 where
+  Shook : Option Version → Arrival
+  NoMagic : Arrival
+  Idle : Arrival
+  Asked : Ask → Arrival
+  Unread : MsgFault → Arrival
+  TooLong : Arrival
+
+-- by the bytes of an offer
+abbrev pub shaken : List ℕ → Arrival
+shaken bytes = if bytes_eq (take 4 bytes) magic then Shook (version_taken (drop 4 bytes)) else NoMagic
+
+-- after bytes that stand for no request nothing is read
+abbrev pub then_asked : Result Ask MsgFault → List Arrival → List Arrival
+then_asked (Ok m) rest = Asked m ∷ rest
+then_asked (Err e) rest = Unread e ∷ []
+
+abbrev pub asked_in : Version → List Item → List Arrival
+asked_in v [] = []
+asked_in v (Opening bytes ∷ xs) = []
+asked_in v (Noop ∷ xs) = Idle ∷ asked_in v xs
+asked_in v (Message b ∷ xs) = then_asked (request_of v b) (asked_in v xs)
+asked_in v (TooBig ∷ xs) = TooLong ∷ []
+
+-- requests are read by the version that was taken, and where none was, nothing is
+abbrev pub after_shake : Arrival → List Item → List Arrival
+after_shake (Shook (Some v)) xs = asked_in v xs
+after_shake a xs = []
+
+abbrev pub arrivals_of : List Item → List Arrival
+arrivals_of (Opening bytes ∷ xs) = shaken bytes ∷ after_shake (shaken bytes) xs
+arrivals_of xs = []
+
+-- what arrives at a server, the oldest first
+abbrev pub arrivals : List ℕ → List Arrival
+arrivals bytes = arrivals_of (received bytes)
+
+-- the chunks of what is written, empty where it can't be
+abbrev pub framed : Result (List ℕ) MsgFault → List ℕ
+framed (Ok b) = text_of b
+framed (Err e) = []
+
+abbrev pub request_bytes : Version → Ask → List ℕ
+request_bytes v m = framed (request_text v m)
+
+-- a request with a text that stands for it, as each has that this product wrote
+abbrev pub IsWritten : Version → Ask → Type 0
+IsWritten v m = (b : List ℕ) × (request_text v m ≡ Ok b) × Req v m b
+
+abbrev pub AreWritten : Version → List Ask → Type 0
+AreWritten v [] = Unit {0}
+AreWritten v (m ∷ ms) = IsWritten v m × AreWritten v ms
+
+-- Of every front of an offer and requests' texts, the version that was wished and the requests that lie whole in it arrive.
+abbrev pub RequestsArrive : Type 0
+RequestsArrive = (wish : Wish) (ms : List Ask) (n : ℕ) → AreWritten (wished wish) ms
+    → arrivals (take n (offered wish ++ texts (request_bytes (wished wish)) ms))
+    ≡ (if nat_le (length (offered wish)) n then Shook (Some (wished wish)) ∷ map Asked (within (request_bytes (wished wish)) (n - length (offered wish)) ms) else [])
+
+-- What arrives of more bytes begins with what arrived.
+abbrev pub ArrivalsGoOn : Type 0
+ArrivalsGoOn = (bytes more : List ℕ) → (rest : List Arrival) × (arrivals (bytes ++ more) ≡ arrivals bytes ++ rest)
+
+-- after which nothing is read
+abbrev pub IsLast : Arrival → Type 0
+IsLast (Shook (Some v)) = ⊥
+IsLast (Shook None) = Unit {0}
+IsLast NoMagic = Unit {0}
+IsLast Idle = ⊥
+IsLast (Asked m) = ⊥
+IsLast (Unread e) = Unit {0}
+IsLast TooLong = Unit {0}
+
+abbrev pub NothingFollows : Type 0
+NothingFollows = (bytes more : List ℕ) (before after : List Arrival) (last : Arrival) → IsLast last → arrivals bytes ≡ before ++ last ∷ after → arrivals (bytes ++ more) ≡ arrivals bytes
+
+-- What a client takes a whole item of the bytes as: the answer to its offer, with a version, or none; four bytes that are no such
+-- answer; a no-op; a response; bytes that stand for no response; the header that takes a message past its limit.
+pub data Heard : Type 0 where
+  Chosen : Option Version → Heard
+  Strange : Heard
+  Quiet : Heard
+  Told : Say → Heard
+  Unheard : MsgFault → Heard
+  Over : Heard
+
+-- by the bytes of an answer
+abbrev pub heard_version : List ℕ → Heard
+heard_version bytes =
+    if bytes_eq bytes (version_answer (Some V51)) then Chosen (Some V51)
+    else (if bytes_eq bytes (version_answer (Some V44)) then Chosen (Some V44)
+    else (if bytes_eq bytes (version_answer None) then Chosen None else Strange))
+
+-- after bytes that stand for no response nothing is read
+abbrev pub then_told : Result Say MsgFault → List Heard → List Heard
+then_told (Ok m) rest = Told m ∷ rest
+then_told (Err e) rest = Unheard e ∷ []
+
+abbrev pub heard_in : Version → List Item → List Heard
+heard_in v [] = []
+heard_in v (Opening bytes ∷ xs) = []
+heard_in v (Noop ∷ xs) = Quiet ∷ heard_in v xs
+heard_in v (Message b ∷ xs) = then_told (response_of v b) (heard_in v xs)
+heard_in v (TooBig ∷ xs) = Over ∷ []
+
+-- responses are read by the version that was answered, and where none was, nothing is
+abbrev pub after_version : Heard → List Item → List Heard
+after_version (Chosen (Some v)) xs = heard_in v xs
+after_version h xs = []
+
+abbrev pub heard_of : List Item → List Heard
+heard_of (Opening bytes ∷ xs) = heard_version bytes ∷ after_version (heard_version bytes) xs
+heard_of xs = []
+
+-- what a client hears, the newest first
+abbrev pub hears : List ℕ → List Heard
+hears bytes = reverse (heard_of (reverse (items_heard bytes)))
+
+-- the bytes with which a server says it, empty where it can't be said
+abbrev pub heard_bytes : Version → Heard → List ℕ
+heard_bytes v (Chosen o) = version_answer o
+heard_bytes v Strange = []
+heard_bytes v Quiet = noop
+heard_bytes v (Told m) = framed (response_text v m)
+heard_bytes v (Unheard e) = []
+heard_bytes v Over = []
+
+-- a response with a text that stands for it, as each has that this product wrote
+abbrev pub IsSaid : Version → Say → Type 0
+IsSaid v m = (b : List ℕ) × (response_text v m ≡ Ok b) × Resp v m b
+
+-- what a server of this product says where it takes a version, the newest first: the version, and after it no-ops and responses
+abbrev pub IsSpoken : Version → List Heard → Type 0
+IsSpoken v [] = ⊥
+IsSpoken v (Chosen o ∷ xs) = (o ≡ Some v) × (xs ≡ [])
+IsSpoken v (Strange ∷ xs) = ⊥
+IsSpoken v (Quiet ∷ xs) = IsSpoken v xs
+IsSpoken v (Told m ∷ xs) = IsSaid v m × IsSpoken v xs
+IsSpoken v (Unheard e ∷ xs) = ⊥
+IsSpoken v (Over ∷ xs) = ⊥
+
+-- Of every front of what a server says, a client hears what lies whole in it.
+abbrev pub SaysArrive : Type 0
+SaysArrive = (v : Version) (xs : List Heard) (n : ℕ) → IsSpoken v xs → hears (take n (said_text (heard_bytes v) xs)) ≡ said_within (heard_bytes v) n xs
+
+-- The answer of a server that takes no version is heard as that, once it is there whole.
+abbrev pub NoVersionArrives : Type 0
+NoVersionArrives = (n : ℕ) → hears (take n (version_answer None)) ≡ (if nat_le 4 n then Chosen None ∷ [] else [])

@@ -1,0 +1,80 @@
+-- What a server of this product answers but for rows and the SUCCESS of a RUN, as messages.
+use Rattle.std.specs.Prelude.{◌≡◌, ◌<◌, ◌≤◌, ◌+◌, ◌^◌, ℕ, pos, List, [], ◌∷◌, ◌++◌, length, true, Option, None, Some, codes, Ok}
+use Rattle.std.specs.Str.{IsUtf8}
+use Rattle.std.specs.Fmt.{decimal}
+use Rattle.packstream.specs.Tree.{Tree, boolean, int, text}
+use Rattle.wire.specs.declared.Version.{Version}
+use Rattle.messages.specs.declared.request.Mode.{Mode}
+use Rattle.messages.specs.View.{Say, Success, Ignored, Failure}
+use Rattle.messages.specs.Reading.{mode_tree}
+use Rattle.messages.specs.Messages.{Resp}
+use Rattle.messages.specs.Writing.{response_text}
+
+pub data Summary : Type 0 where
+  -- of a HELLO, by the number of the connection
+  Greeting : ℕ → Summary
+  -- of a PULL after which rows are left
+  RowsLeft : Summary
+  -- of the last PULL or DISCARD of a result, with the length of the ledger where it committed, and what the result was for
+  Closing : Option ℕ → Mode → Summary
+  -- of a COMMIT, with the length of the ledger
+  Committed : ℕ → Summary
+  -- with nothing to tell
+  Plain : Summary
+  -- a failure, with its code and message
+  Refused : List ℕ → List ℕ → Summary
+  -- of a request that was passed over
+  Passed : Summary
+
+abbrev pub Metadata : Type 0
+Metadata = List (List ℕ × Tree)
+
+-- the bookmark of the ledger when it is so long
+abbrev pub bookmark : ℕ → Metadata
+bookmark n = (codes "bookmark", text (codes "bk:" ++ decimal n)) ∷ []
+
+abbrev pub bookmark_of : Option ℕ → Metadata
+bookmark_of None = []
+bookmark_of (Some n) = bookmark n
+
+abbrev pub greeting : ℕ → Metadata
+greeting n = (codes "server", text (codes "BoltTable/1")) ∷ (codes "connection_id", text (codes "bolt-" ++ decimal n)) ∷ []
+
+abbrev pub ending : Mode → Metadata
+ending m = (codes "type", mode_tree m) ∷ (codes "t_last", int (pos 0)) ∷ []
+
+-- the response
+abbrev pub said_of : Summary → Say
+said_of (Greeting n) = Success (greeting n)
+said_of RowsLeft = Success ((codes "has_more", boolean true) ∷ [])
+said_of (Closing bookmarked m) = Success (bookmark_of bookmarked ++ ending m)
+said_of (Committed n) = Success (bookmark n)
+said_of Plain = Success []
+said_of (Refused code message) = Failure code message
+said_of Passed = Ignored
+
+-- the numbers of connections and of the ledger's entries are in their ranges, and a failure's texts are short
+abbrev pub IsShort : Summary → Type 0
+IsShort (Greeting n) = n < 2 ^ 64
+IsShort (Closing (Some n) m) = n < 2 ^ 63
+IsShort (Committed n) = n < 2 ^ 63
+IsShort (Refused code message) = length code + length message ≤ 65000
+IsShort s = Unit {0}
+
+-- a failure's code and message are texts
+abbrev pub HasTexts : Summary → Type 0
+HasTexts (Refused code message) = IsUtf8 code × IsUtf8 message
+HasTexts s = Unit {0}
+
+-- how many bytes are enough for it
+abbrev pub room : Summary → ℕ
+room (Refused code message) = length code + length message + 38
+room s = 100
+
+-- it is written, in no more bytes than that
+abbrev pub FitsRoom : Version → Summary → Type 0
+FitsRoom v s = (b : List ℕ) × (response_text v (said_of s) ≡ Ok b) × (length b ≤ room s)
+
+-- what is written stands for it
+abbrev pub ReadsBack : Version → Summary → Type 0
+ReadsBack v s = (b : List ℕ) × (response_text v (said_of s) ≡ Ok b) × Resp v (said_of s) b

@@ -1,0 +1,9 @@
+//! What holds of the responses of a server that are neither rows nor the SUCCESS of a RUN.
+ghost use Rattle.messages.specs.Summaries.{Summary, IsShort, HasTexts, FitsRoom, ReadsBack};
+ghost use Rattle.wire.specs.declared.Version.{Version as AnyVersion};
+
+/// Each fits a message, in the room that `room` tells; and what is written stands for it.
+pub fn short_fits()
+    ensures fits { (v : AnyVersion) (s : Summary) → IsShort s → FitsRoom v s }
+    ensures back { (v : AnyVersion) (s : Summary) → IsShort s → HasTexts s → ReadsBack v s }
+{}
