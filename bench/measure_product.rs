@@ -3,6 +3,8 @@
 //!   bench_decode(bytes, turns): decodes the bytes so many times, answers how often it succeeded
 //!   bench_encode(bytes, turns): decodes once, encodes so many times, answers the bytes appended in all
 //!   bench_append(bytes, turns): the same onto an output that holds a byte and has room
+// The twin's own program uses the rest of it.
+#[allow(dead_code)]
 mod twin;
 use std::hint::black_box;
 use twin::*;
@@ -13,17 +15,33 @@ unsafe extern "C" {
     fn bench_append(bytes: *const u8, len: usize, turns: u32) -> u64;
 }
 
-/// One of the calls that decode once and encode so many times: the time of one encoding. There are enough turns that the
-/// decoding, which is taken off, is a small part.
-fn one_of(turns: u32, call: impl Fn(u32)) -> f64 {
-    let turns = turns.max(200);
-    let once = least(|| call(1));
-    let many = least(|| call(turns + 1));
-    (many - once).max(1.0) / turns as f64
+/// The least time of each call in nanoseconds. They are made in turn, so that other work on the machine slows all of them.
+fn least_of<const N: usize>(mut calls: [&mut dyn FnMut(); N]) -> [f64; N] {
+    let mut best = [f64::MAX; N];
+    let begin = std::time::Instant::now();
+    while begin.elapsed().as_millis() < 1000 {
+        for (call, best) in calls.iter_mut().zip(&mut best) {
+            let start = std::time::Instant::now();
+            call();
+            *best = best.min(start.elapsed().as_nanos() as f64);
+        }
+    }
+    best
+}
+
+/// The time of one encoding, the product's and the twin's. The product's call decodes once and encodes so many times; there
+/// are enough turns that the decoding, which is taken off, is a small part.
+fn encodings(turns: u32, product: impl Fn(u32), mut twin: impl FnMut()) -> (f64, f64) {
+    let [once, many, twin] = least_of([&mut || product(1), &mut || product(turns + 1), &mut || {
+        for _ in 0..turns {
+            twin();
+        }
+    }]);
+    ((many - once).max(1.0) / turns as f64, twin / turns as f64)
 }
 
 /// The product beside the twin, and their ratio.
-fn beside(product: f64, twin: f64) -> String {
+fn beside((product, twin): (f64, f64)) -> String {
     format!("{product:.0}, {twin:.0}, {:.2}", product / twin)
 }
 
@@ -37,32 +55,36 @@ fn main() {
         encode(&v, &mut b);
         let (at, len) = (b.as_ptr(), b.len());
         let turns = (200_000 / len).clamp(1, 1000) as u32;
-        let n = turns as f64;
         assert_eq!(unsafe { bench_decode(at, len, 1) }, 1, "{name}");
         assert_eq!(unsafe { bench_encode(at, len, 1) }, len as u64, "{name}");
         assert_eq!(unsafe { bench_append(at, len, 2) }, 2 * len as u64, "{name}");
 
-        let decode_product = least(|| { black_box(unsafe { bench_decode(at, len, turns) }); }) / n;
-        let decode_twin = least(|| for _ in 0..turns { black_box(decode(black_box(&b)).unwrap()); }) / n;
+        let [product, twin] = least_of([&mut || { black_box(unsafe { bench_decode(at, len, turns) }); }, &mut || {
+            for _ in 0..turns {
+                black_box(decode(black_box(&b)).unwrap());
+            }
+        }]);
+        let decoding = (product / turns as f64, twin / turns as f64);
 
-        let encode_product = one_of(turns, |k| { black_box(unsafe { bench_encode(at, len, k) }); });
-        let encode_twin = least(|| for _ in 0..turns {
+        let turns = turns.max(100);
+        let encoding = encodings(turns, |k| { black_box(unsafe { bench_encode(at, len, k) }); }, || {
             let mut out = Vec::new();
             encode(black_box(&v), &mut out);
             black_box(out);
-        }) / n;
+        });
 
-        let append_product = one_of(turns, |k| { black_box(unsafe { bench_append(at, len, k) }); });
         let mut out = vec![0];
-        let append_twin = least(|| for _ in 0..turns {
+        let appending = encodings(turns, |k| { black_box(unsafe { bench_append(at, len, k) }); }, || {
             encode(black_box(&v), &mut out);
             black_box(&out);
             out.truncate(1);
-        }) / n;
+        });
 
-        println!("{name} | {len} | {} | {} | {}", beside(decode_product, decode_twin), beside(encode_product, encode_twin), beside(append_product, append_twin));
-        worst = worst.max(decode_product / decode_twin).max(encode_product / encode_twin).max(append_product / append_twin);
-        each_byte.push((name, decode_product / len as f64, encode_product / len as f64));
+        println!("{name} | {len} | {} | {} | {}", beside(decoding), beside(encoding), beside(appending));
+        for (product, twin) in [decoding, encoding, appending] {
+            worst = worst.max(product / twin);
+        }
+        each_byte.push((name, decoding.0 / len as f64, encoding.0 / len as f64));
     }
     println!("worst ratio {worst:.2}");
     let of = |wanted: &str| each_byte.iter().find(|(name, ..)| *name == wanted).unwrap();

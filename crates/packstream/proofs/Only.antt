@@ -257,12 +257,3 @@ none_short t good = (
         | inr fits ↦ none (canon t) (canon_spells t good fits)
       ]),
 )
-
-same_err : (A B : Type 0) (e x : PackFault) → ◌≡◌ {A = Result A PackFault} (Err e) (Err x) → ◌≡◌ {A = Result B PackFault} (Err e) (Err x)
-same_err A B e x h = let k : e ≡ x = cc in ap (λ (f : PackFault). Err f) k
-
--- a fault that is passed on is still told exactly where it was
-pub pass_on : (A B : Type 0) (e x : PackFault) (q r : Type 0) → UnlessMemory {A = A} (Err e) (◌≡◌ {A = Result A PackFault} (Err e) (Err x) ↔ q) → q ↔ r
-    → UnlessMemory {A = B} (Err e) (◌≡◌ {A = Result B PackFault} (Err e) (Err x) ↔ r)
-pass_on A B (fault.Refused s o) x q r h k = ((λ a. k.0 (h.0 (same_err B A (fault.Refused s o) x a))), (λ b. same_err A B (fault.Refused s o) x (h.1 (k.1 b))))
-pass_on A B fault.Memory x q r h k = tt
