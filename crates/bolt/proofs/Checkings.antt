@@ -19,6 +19,7 @@ use Rattle.structures.specs.Faults.{fault, structures}
 use Rattle.structures.specs.Form.{Form, form}
 use Rattle.structures.proofs.Back.{again}
 use Rattle.structures.proofs.Fine.{fine_scan}
+use Rattle.structures.proofs.Writable.{never_unwritable}
 use Rattle.bolt.specs.declared.checking.Checked.{Checked}
 use Rattle.bolt.specs.declared.checking.Checked.TheVariants.{Fine, Refused, Unfit}
 use Rattle.bolt.specs.Checks.{Checks, ChecksFault, IsSpelled, IsWrittenBack}
@@ -49,7 +50,7 @@ spelled_checks v b t s (Unfit r k) good spells f h = absurd h
 -- what is written of a cell is the value that was read
 pub written_checks : (v : Version) (b : List ℕ) (t s : Tree) (c : Checked) → IsGood t → Spells t b → Form v s t → IsWrittenBack v s c → Checks v b c
 written_checks v b t s c good spells f (inl (u, g, fine, h)) = spelled_checks v b t s c good spells f (subst (λ x. IsSpelled x c) (one_form v s t u f g) h)
-written_checks v b t s c good spells f (inr (cell_fault.Refused r k, w, is)) = subst (Checks v b) (sym is) (t, good, spells, inr (s, f, w))
+written_checks v b t s c good spells f (inr (cell_fault.Refused r k, w, is)) = absurd (never_unwritable v s t k r f w)
 written_checks v b t s c good spells f (inr (cell_fault.Pack r o, w, is)) = absurd (bad_when t (r, o) (subst (λ x. Err (r, o) ≡ first_fault (faults_in 0 false x) 0) (one_form v s t w.1.0 f w.1.1) (sym w.1.2)) good)
 written_checks v b t s c good spells f (inr (cell_fault.Memory, w, is)) = absurd is
 

@@ -9,3 +9,4 @@ pub mod Greetings
 pub mod Wholes
 pub mod Once
 pub mod Checkings
+pub mod CheckedOnce

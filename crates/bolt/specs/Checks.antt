@@ -11,12 +11,10 @@ use Rattle.packstream.specs.Spelling.{Spells}
 use Rattle.packstream.specs.Canon.{canon}
 use Rattle.packstream.specs.Faults.{Bad}
 use Rattle.wire.specs.declared.Version.{Version}
-use Rattle.structures.specs.declared.fault.Reason.{Reason as CellReason}
 use Rattle.structures.specs.declared.fault.CellFault.{CellFault}
 use Rattle.structures.specs.declared.fault.CellFault.TheVariants as cell_fault
 use Rattle.structures.specs.Form.{Form}
 use Rattle.structures.specs.Faults.{IsBad}
-use Rattle.structures.specs.Writing.{IsUnwritable}
 use Rattle.structures.specs.Answers.{Writes}
 use Rattle.bolt.specs.declared.checking.Checked.{Checked}
 use Rattle.bolt.specs.declared.checking.Checked.TheVariants.{Fine, Refused, Unfit}
@@ -39,16 +37,12 @@ IsTooLong v b = (t : Tree) × IsGood t × Spells t b × IsCell v t × (65536 < l
 abbrev pub IsRefused : Version → List ℕ → Reason → ℕ → Type 0
 IsRefused v b r o = Bad b o r ⊎ ((r ≡ Size) × (o ≡ 0) × IsTooLong v b)
 
--- The first structure with a fault has this number and this fault, as the value is read, or as its cell is written.
-abbrev pub IsNoCell : Version → Tree → CellReason → ℕ → Type 0
-IsNoCell v t r k = IsBad v t k r ⊎ ((s : Tree) × Form v s t × IsUnwritable v s k r)
-
 -- The shortest spelling of the value that the bytes spell, which is a cell; or what is wrong with them, and where; or
--- what is wrong with its structures.
+-- what is wrong with the first of its structures that has a fault, and its number.
 abbrev pub Checks : Version → List ℕ → Checked → Type 0
 Checks v b (Fine hex) = (t : Tree) × IsGood t × Spells t b × IsCell v t × (length (canon t) ≤ 65536) × (string_bytes hex ≡ encode_lower (canon t))
 Checks v b (Refused r o) = IsRefused v b r o
-Checks v b (Unfit r k) = (t : Tree) × IsGood t × Spells t b × IsNoCell v t r k
+Checks v b (Unfit r k) = (t : Tree) × IsGood t × Spells t b × IsBad v t k r
 
 -- the same for the bytes that a text spells
 abbrev pub ChecksHex : Version → List ℕ → Checked → Type 0

@@ -5,26 +5,36 @@ ghost use Rattle.messages.specs.declared.fault.MsgFault.TheVariants.{Memory};
 use packstream::PackFault;
 use std::alloc::{AllocError, AllocFailed};
 use structures::CellFault;
+use thiserror::Error;
 
-/// Why bytes are no message of a version, or a message can't be written at it.
-#[derive(Debug, Drop)]
+/// Why bytes are no message of a version, or a message can't be written at it. The texts are the codes that programs
+/// print; a fault of a value or of cells prints as itself.
+#[derive(Debug, Drop, Error)]
 pub enum MsgFault {
-    /// The bytes spell no value, or the message is too deep to be one; never for want of memory.
+    /// M1: the bytes spell no value, or the message is too deep to be one; never for want of memory.
+    #[error("{0}")]
     Pack(PackFault),
-    /// The value is no structure.
+    /// M2: the value is no structure.
+    #[error("M2")]
     NotAMessage,
-    /// No request, or no response, of the version has the tag.
+    /// M3: no request, or no response, of the version has the tag.
+    #[error("M3")]
     UnknownTag,
-    /// Another number of fields, or a field of another kind.
+    /// M4: another number of fields, or a field of another kind.
+    #[error("M4")]
     Fields,
-    /// A named entry is missing, of another kind or out of range, or an entry isn't allowed there.
+    /// M5: a named entry is missing, of another kind or out of range, or an entry isn't allowed there.
+    #[error("M5")]
     Extra,
-    /// The fault of the cells in parameters, metadata or a record, numbered within that field; never for want of
+    /// M6: the fault of the cells in parameters, metadata or a record, numbered within that field; never for want of
     /// memory.
+    #[error("{0}")]
     Cell(CellFault),
-    /// Memory ran out.
+    /// M7: memory ran out.
+    #[error("out of memory")]
     Memory,
-    /// The message takes more than 65,536 bytes.
+    /// M8: the message takes more than 65,536 bytes.
+    #[error("M8")]
     Size,
 }
 

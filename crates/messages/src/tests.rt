@@ -1,6 +1,6 @@
 use super::*;
 use bytes::BytesMut;
-use packstream::decode;
+use packstream::{PackFault, decode};
 use std::alloc::Global;
 use std::process::Abort;
 use std::test::*;
@@ -253,6 +253,31 @@ fn parameters_are_a_value(rt: HostRuntime) -> Result<(), Fail> {
     match &answer {
         Ok(Cell::Dict(pairs)) => assert_eq!(rt; pairs.len(), 2),
         _ => assert!(rt; false),
+    }
+    Ok(())
+}
+
+#[test]
+fn texts_of_faults(rt: HostRuntime) -> Result<(), Fail> {
+    let faults = [
+        (
+            MsgFault::Pack(PackFault::Refused(packstream::Reason::Trailing, 2)),
+            "P7 at 2",
+        ),
+        (MsgFault::NotAMessage, "M2"),
+        (MsgFault::UnknownTag, "M3"),
+        (MsgFault::Fields, "M4"),
+        (MsgFault::Extra, "M5"),
+        (
+            MsgFault::Cell(CellFault::Refused(structures::Reason::Range, 1)),
+            "S4 at 1",
+        ),
+        (MsgFault::Memory, "out of memory"),
+        (MsgFault::Size, "M8"),
+    ];
+    for (fault, wanted) in faults {
+        let text = format!(in rt.alloc(); "{fault}")?;
+        assert_eq!(rt; text.as_str(), wanted);
     }
     Ok(())
 }

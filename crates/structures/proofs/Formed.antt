@@ -21,7 +21,7 @@ use Rattle.structures.proofs.Got.{and_left, and_right, le_true}
 use Rattle.structures.proofs.Back.{back, an_int, Three, three, three_ints, there_and_back}
 use Rattle.structures.proofs.Fine.{scan_fine, fine_append, fine_itself, fine_within, fine_left, fine_right}
 
-both_true : (a b : Bool) → a ≡ true → b ≡ true → (a && b) ≡ true
+pub both_true : (a b : Bool) → a ≡ true → b ≡ true → (a && b) ≡ true
 both_true true b e f = f
 both_true false b e f = e
 
@@ -136,7 +136,7 @@ ints_same v (tree_then t ts) h = ap (λ x. tree_then x (form_all v ts)) (int_sam
 path_lists : (v : Version) (a b d : Trees) → each is_int d ≡ true → is_path (form_all v (tree_then (list a) (tree_then (list b) (tree_then (list d) no_trees)))) ≡ is_path (tree_then (list a) (tree_then (list b) (tree_then (list d) no_trees)))
 path_lists v a b d h = rw (count_kept v a, count_kept v b, ints_same v d h) refl
 
-a_list : (p : Tree → Bool) (t : Tree) → is_list_of p t ≡ true → (ts : Trees) × (t ≡ list ts)
+pub a_list : (p : Tree → Bool) (t : Tree) → is_list_of p t ≡ true → (ts : Trees) × (t ≡ list ts)
 a_list p (list ts) h = (ts, refl)
 a_list p null h = absurd cc
 a_list p (boolean b) h = absurd cc

@@ -10,3 +10,4 @@ pub mod Typed
 pub mod Formed
 pub mod Packing
 pub mod Fitted
+pub mod Writable

@@ -5,257 +5,177 @@ ghost use Rattle.structures.specs.Shape.{shape, node_shape, unbound_shape, relat
 
 use crate::cell::{Cell, ElementIds, Node, Relationship, UnboundRelationship};
 use crate::fault::CellFault;
-use crate::parts::copy_texts;
 use std::alloc::{AllocError, Global};
 use wire::Version;
 
 /// The same cell in the form of a version: without element ids at 4.4, and at 5.1 with the decimal texts of the ids
-/// where element ids were absent, in the whole of the cell. It refuses for want of memory alone.
+/// where element ids were absent, in the whole of the cell. It refuses for want of memory alone, and takes memory for
+/// the texts of ids alone.
 pub fn fit(alloc: Global, cell: Cell, version: Version) -> Result<Cell, CellFault>
     ensures { Fits version (shape cell) result }
 {
-    match fit_cell(alloc, version, &cell) {
-        Ok(fitted) => Ok(fitted),
+    let mut fitted = cell;
+    match fit_cell(alloc, version, &mut fitted) {
+        Ok(()) => Ok(fitted),
         Err(_) => Err(CellFault::Memory),
     }
 }
 
+/// The element id of a node or of a relationship in a path.
 fn fit_element(
     alloc: Global,
     version: Version,
     id: i64,
-    element_id: &Option<String>,
-) -> Result<Option<String>, AllocError>
-    ensures { IfOk result (λ e. element_of e ≡ element_at version id (element_of element_id.now)) }
+    element_id: &mut Option<String>,
+) -> Result<(), AllocError>
+    ensures { IfOk result (λ _. element_of element_id.new ≡ element_at version id (element_of element_id.old)) }
 {
-    match (version, element_id) {
-        (Version::V44, _) => Ok(None),
-        (Version::V51, None) => Ok(Some(id.to_string(alloc)?)),
-        (Version::V51, Some(text)) => Ok(Some(text.clone()?)),
+    match version {
+        Version::V44 => {
+            *element_id = None;
+        }
+        Version::V51 => {
+            if element_id.is_none() {
+                *element_id = Some(id.to_string(alloc)?);
+            }
+        }
     }
+    Ok(())
 }
 
+/// The element ids of a relationship.
 fn fit_elements(
     alloc: Global,
     version: Version,
-    relationship: &Relationship,
-) -> Result<Option<ElementIds>, AllocError>
-    ensures { IfOk result (λ e. elements_of e ≡ elements_at version relationship.now.id relationship.now.start relationship.now.end (elements_of relationship.now.element_ids)) }
+    id: i64,
+    start: i64,
+    end: i64,
+    element_ids: &mut Option<ElementIds>,
+) -> Result<(), AllocError>
+    ensures { IfOk result (λ _. elements_of element_ids.new ≡ elements_at version id start end (elements_of element_ids.old)) }
 {
-    match (version, &relationship.element_ids) {
-        (Version::V44, _) => Ok(None),
-        (Version::V51, None) => {
-            let own = relationship.id.to_string(alloc)?;
-            let start = relationship.start.to_string(alloc)?;
-            let end = relationship.end.to_string(alloc)?;
-            Ok(Some(ElementIds { own, start, end }))
+    match version {
+        Version::V44 => {
+            *element_ids = None;
         }
-        (Version::V51, Some(ids)) => {
-            let own = ids.own.clone()?;
-            let start = ids.start.clone()?;
-            let end = ids.end.clone()?;
-            Ok(Some(ElementIds { own, start, end }))
+        Version::V51 => {
+            if element_ids.is_none() {
+                let own = id.to_string(alloc)?;
+                let start = start.to_string(alloc)?;
+                let end = end.to_string(alloc)?;
+                *element_ids = Some(ElementIds { own, start, end });
+            }
         }
     }
+    Ok(())
 }
 
 #[cycle(fitting)]
-fn fit_cell(alloc: Global, version: Version, cell: &Cell) -> Result<Cell, AllocError>
-    ensures { IfOk result (λ c. shape c ≡ fitted version (shape cell.now)) }
+fn fit_cell(alloc: Global, version: Version, cell: &mut Cell) -> Result<(), AllocError>
+    ensures { IfOk result (λ _. shape cell.new ≡ fitted version (shape cell.old)) }
 {
     match cell {
-        Cell::Null => Ok(Cell::Null),
-        Cell::Bool(b) => Ok(Cell::Bool(*b)),
-        Cell::Int(n) => Ok(Cell::Int(*n)),
-        Cell::Float(bits) => Ok(Cell::Float(*bits)),
-        Cell::Bytes(bytes) => Ok(Cell::Bytes(bytes.clone()?)),
-        Cell::Text(text) => Ok(Cell::Text(text.clone()?)),
-        Cell::List(members) => Ok(Cell::List(fit_members(alloc, version, members)?)),
-        Cell::Dict(pairs) => Ok(Cell::Dict(fit_pairs(alloc, version, pairs)?)),
-        Cell::Node(node) => Ok(Cell::Node(fit_node(alloc, version, node)?)),
-        Cell::Relationship(relationship) => Ok(Cell::Relationship(fit_relationship(
-            alloc,
-            version,
-            relationship,
-        )?)),
-        Cell::UnboundRelationship(unbound) => Ok(Cell::UnboundRelationship(fit_unbound(
-            alloc, version, unbound,
-        )?)),
+        Cell::List(members) => fit_members(alloc, version, members)?,
+        Cell::Dict(pairs) => fit_pairs(alloc, version, pairs)?,
+        Cell::Node(node) => fit_node(alloc, version, node)?,
+        Cell::Relationship(relationship) => fit_relationship(alloc, version, relationship)?,
+        Cell::UnboundRelationship(unbound) => fit_unbound(alloc, version, unbound)?,
         Cell::Path {
             nodes,
             relationships,
-            indices,
-        } => Ok(Cell::Path {
-            nodes: fit_nodes(alloc, version, nodes)?,
-            relationships: fit_unbounds(alloc, version, relationships)?,
-            indices: indices.clone()?,
-        }),
-        Cell::Date { days } => Ok(Cell::Date { days: *days }),
-        Cell::Time { nanos, offset } => Ok(Cell::Time {
-            nanos: *nanos,
-            offset: *offset,
-        }),
-        Cell::LocalTime { nanos } => Ok(Cell::LocalTime { nanos: *nanos }),
-        Cell::LocalDateTime { seconds, nanos } => Ok(Cell::LocalDateTime {
-            seconds: *seconds,
-            nanos: *nanos,
-        }),
-        Cell::DateTime { utc, nanos, offset } => Ok(Cell::DateTime {
-            utc: *utc,
-            nanos: *nanos,
-            offset: *offset,
-        }),
-        Cell::ZonedLocal {
-            seconds,
-            nanos,
-            zone,
-        } => Ok(Cell::ZonedLocal {
-            seconds: *seconds,
-            nanos: *nanos,
-            zone: zone.clone()?,
-        }),
-        Cell::ZonedUtc {
-            seconds,
-            nanos,
-            zone,
-        } => Ok(Cell::ZonedUtc {
-            seconds: *seconds,
-            nanos: *nanos,
-            zone: zone.clone()?,
-        }),
-        Cell::Duration {
-            months,
-            days,
-            seconds,
-            nanos,
-        } => Ok(Cell::Duration {
-            months: *months,
-            days: *days,
-            seconds: *seconds,
-            nanos: *nanos,
-        }),
-        Cell::Point2D { srid, x, y } => Ok(Cell::Point2D {
-            srid: *srid,
-            x: *x,
-            y: *y,
-        }),
-        Cell::Point3D { srid, x, y, z } => Ok(Cell::Point3D {
-            srid: *srid,
-            x: *x,
-            y: *y,
-            z: *z,
-        }),
+            indices: _indices,
+        } => {
+            fit_nodes(alloc, version, nodes)?;
+            fit_unbounds(alloc, version, relationships)?;
+        }
+        _ => {}
     }
+    Ok(())
 }
 
 #[cycle(fitting)]
-fn fit_members(
-    alloc: Global,
-    version: Version,
-    members: &Vec<Cell>,
-) -> Result<Vec<Cell>, AllocError>
-    ensures { IfOk result (λ v. shapes v.items ≡ map (fitted version) (shapes members.now.items)) }
+fn fit_members(alloc: Global, version: Version, members: &mut Vec<Cell>) -> Result<(), AllocError>
+    ensures { IfOk result (λ _. shapes members.new.items ≡ map (fitted version) (shapes members.old.items)) }
 {
-    let mut copies = Vec::with_capacity(alloc, members.len())?;
-    for member in members {
-        copies.push(fit_cell(alloc, version, member)?)?;
+    for i in 0..members.len() {
+        fit_cell(alloc, version, &mut members[i])?;
     }
-    Ok(copies)
+    Ok(())
 }
 
 #[cycle(fitting)]
 fn fit_pairs(
     alloc: Global,
     version: Version,
-    pairs: &Vec<(String, Cell)>,
-) -> Result<Vec<(String, Cell)>, AllocError>
-    ensures { IfOk result (λ v. entries v.items ≡ map (fitted_entry version) (entries pairs.now.items)) }
+    pairs: &mut Vec<(String, Cell)>,
+) -> Result<(), AllocError>
+    ensures { IfOk result (λ _. entries pairs.new.items ≡ map (fitted_entry version) (entries pairs.old.items)) }
 {
-    let mut copies = Vec::with_capacity(alloc, pairs.len())?;
-    for (key, cell) in pairs {
-        let name = key.clone()?;
-        copies.push((name, fit_cell(alloc, version, cell)?))?;
+    for i in 0..pairs.len() {
+        fit_cell(alloc, version, &mut pairs[i].1)?;
     }
-    Ok(copies)
+    Ok(())
 }
 
 #[cycle(fitting)]
-fn fit_nodes(alloc: Global, version: Version, nodes: &Vec<Node>) -> Result<Vec<Node>, AllocError>
-    ensures { IfOk result (λ v. map node_shape v.items ≡ map (fitted version) (map node_shape nodes.now.items)) }
+fn fit_nodes(alloc: Global, version: Version, nodes: &mut Vec<Node>) -> Result<(), AllocError>
+    ensures { IfOk result (λ _. map node_shape nodes.new.items ≡ map (fitted version) (map node_shape nodes.old.items)) }
 {
-    let mut copies = Vec::with_capacity(alloc, nodes.len())?;
-    for node in nodes {
-        copies.push(fit_node(alloc, version, node)?)?;
+    for i in 0..nodes.len() {
+        fit_node(alloc, version, &mut nodes[i])?;
     }
-    Ok(copies)
+    Ok(())
 }
 
 #[cycle(fitting)]
 fn fit_unbounds(
     alloc: Global,
     version: Version,
-    relationships: &Vec<UnboundRelationship>,
-) -> Result<Vec<UnboundRelationship>, AllocError>
-    ensures { IfOk result (λ v. map unbound_shape v.items ≡ map (fitted version) (map unbound_shape relationships.now.items)) }
+    relationships: &mut Vec<UnboundRelationship>,
+) -> Result<(), AllocError>
+    ensures { IfOk result (λ _. map unbound_shape relationships.new.items ≡ map (fitted version) (map unbound_shape relationships.old.items)) }
 {
-    let mut copies = Vec::with_capacity(alloc, relationships.len())?;
-    for unbound in relationships {
-        copies.push(fit_unbound(alloc, version, unbound)?)?;
+    for i in 0..relationships.len() {
+        fit_unbound(alloc, version, &mut relationships[i])?;
     }
-    Ok(copies)
+    Ok(())
 }
 
 #[cycle(fitting)]
-fn fit_node(alloc: Global, version: Version, node: &Node) -> Result<Node, AllocError>
-    ensures { IfOk result (λ n. node_shape n ≡ fitted version (node_shape node.now)) }
+fn fit_node(alloc: Global, version: Version, node: &mut Node) -> Result<(), AllocError>
+    ensures { IfOk result (λ _. node_shape node.new ≡ fitted version (node_shape node.old)) }
 {
-    let labels = copy_texts(&node.labels)?;
-    let properties = fit_pairs(alloc, version, &node.properties)?;
-    let element_id = fit_element(alloc, version, node.id, &node.element_id)?;
-    Ok(Node {
-        id: node.id,
-        labels,
-        properties,
-        element_id,
-    })
+    fit_pairs(alloc, version, &mut node.properties)?;
+    fit_element(alloc, version, node.id, &mut node.element_id)
 }
 
 #[cycle(fitting)]
 fn fit_unbound(
     alloc: Global,
     version: Version,
-    unbound: &UnboundRelationship,
-) -> Result<UnboundRelationship, AllocError>
-    ensures { IfOk result (λ r. unbound_shape r ≡ fitted version (unbound_shape unbound.now)) }
+    unbound: &mut UnboundRelationship,
+) -> Result<(), AllocError>
+    ensures { IfOk result (λ _. unbound_shape unbound.new ≡ fitted version (unbound_shape unbound.old)) }
 {
-    let kind = unbound.kind.clone()?;
-    let properties = fit_pairs(alloc, version, &unbound.properties)?;
-    let element_id = fit_element(alloc, version, unbound.id, &unbound.element_id)?;
-    Ok(UnboundRelationship {
-        id: unbound.id,
-        kind,
-        properties,
-        element_id,
-    })
+    fit_pairs(alloc, version, &mut unbound.properties)?;
+    fit_element(alloc, version, unbound.id, &mut unbound.element_id)
 }
 
 #[cycle(fitting)]
 fn fit_relationship(
     alloc: Global,
     version: Version,
-    relationship: &Relationship,
-) -> Result<Relationship, AllocError>
-    ensures { IfOk result (λ r. relationship_shape r ≡ fitted version (relationship_shape relationship.now)) }
+    relationship: &mut Relationship,
+) -> Result<(), AllocError>
+    ensures { IfOk result (λ _. relationship_shape relationship.new ≡ fitted version (relationship_shape relationship.old)) }
 {
-    let kind = relationship.kind.clone()?;
-    let properties = fit_pairs(alloc, version, &relationship.properties)?;
-    let element_ids = fit_elements(alloc, version, relationship)?;
-    Ok(Relationship {
-        id: relationship.id,
-        start: relationship.start,
-        end: relationship.end,
-        kind,
-        properties,
-        element_ids,
-    })
+    fit_pairs(alloc, version, &mut relationship.properties)?;
+    fit_elements(
+        alloc,
+        version,
+        relationship.id,
+        relationship.start,
+        relationship.end,
+        &mut relationship.element_ids,
+    )
 }

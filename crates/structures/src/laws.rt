@@ -4,6 +4,7 @@ ghost use Rattle.packstream.specs.Tree.{Tree};
 ghost use Rattle.structures.specs.Answers.{HasOneReading};
 ghost use Rattle.structures.specs.Form.{Form, form, typed};
 ghost use Rattle.structures.specs.Shape.{shape};
+ghost use Rattle.structures.specs.Writing.{IsWritable};
 ghost use Rattle.structures.specs.declared.cell.Cell.{Cell as AnyCell};
 ghost use Rattle.wire.specs.declared.Version.{Version as AnyVersion};
 
@@ -20,4 +21,9 @@ pub fn written_is_read_back()
 /// A cell has at most one form: what a value was read as is written as that value again.
 pub fn one_form()
     ensures { (v : AnyVersion) (s t u : Tree) → Form v s t → Form v s u → t ≡ u }
+{}
+
+/// A cell that was read can be written at the same version.
+pub fn read_can_be_written()
+    ensures { (v : AnyVersion) (s t : Tree) → Form v s t → IsWritable v s }
 {}

@@ -23,7 +23,7 @@ pub use cell::{Cell, ElementIds, Node, Relationship, UnboundRelationship};
 pub use codec::{read, read_value, write};
 pub use fault::{CellFault, Reason};
 pub use fitting::fit;
-pub use laws::{one_form, one_reading, written_is_read_back};
+pub use laws::{one_form, one_reading, read_can_be_written, written_is_read_back};
 pub use wire::Version;
 
 #[cfg(test)]

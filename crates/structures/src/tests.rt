@@ -307,3 +307,26 @@ fn cells_without_bytes(rt: HostRuntime) -> Result<(), Fail> {
     }
     Ok(())
 }
+
+#[test]
+fn texts_of_faults(rt: HostRuntime) -> Result<(), Fail> {
+    let alloc = rt.alloc();
+    let reasons = [
+        (Reason::UnknownTag, "S1 at 4"),
+        (Reason::FieldCount, "S2 at 4"),
+        (Reason::FieldKind, "S3 at 4"),
+        (Reason::Range, "S4 at 4"),
+        (Reason::PathShape, "S5 at 4"),
+        (Reason::NotInVersion, "S6 at 4"),
+    ];
+    for (reason, wanted) in reasons {
+        let fault = CellFault::Refused(reason, 4);
+        let text = format!(in alloc; "{fault}")?;
+        assert_eq!(rt; text.as_str(), wanted);
+    }
+    let packing = CellFault::Pack(packstream::Reason::KeyTwice, 2);
+    assert_eq!(rt; format!(in alloc; "{packing}")?.as_str(), "P5 at 2");
+    let memory = CellFault::Memory;
+    assert_eq!(rt; format!(in alloc; "{memory}")?.as_str(), "out of memory");
+    Ok(())
+}
