@@ -1,7 +1,10 @@
 -- What a command says.
 use Rattle.std.specs.Prelude.{◌≡◌, ◌⊎◌, ℕ, if◌then◌else◌, List, [], ◌∷◌, ◌++◌, string_bytes, codes, IsErr}
 use Rattle.hex.specs.Hex.{decode_of}
+use Rattle.std.specs.Fmt.{decimal}
 use Rattle.std.specs.Str.{bytes_eq}
+use Rattle.packstream.specs.declared.fault.Reason.{Reason as PackReason}
+use Rattle.packstream.specs.declared.fault.Reason.TheVariants as pack
 use Rattle.wire.specs.declared.Version.{Version}
 use Rattle.wire.specs.declared.Version.TheVariants.{V44, V51}
 use Rattle.structures.specs.declared.fault.Reason.{Reason}
@@ -42,6 +45,17 @@ SaysAnswer text s =
 abbrev pub version_named : List ℕ → Version
 version_named word = if bytes_eq word (codes "4.4") then V44 else V51
 
+-- the codes of what is wrong with a value
+abbrev pub pack_code_of : PackReason → List ℕ
+pack_code_of pack.Short = codes "P1"
+pack_code_of pack.Marker = codes "P2"
+pack_code_of pack.Utf8 = codes "P3"
+pack_code_of pack.KeyKind = codes "P4"
+pack_code_of pack.KeyTwice = codes "P5"
+pack_code_of pack.Depth = codes "P6"
+pack_code_of pack.Trailing = codes "P7"
+pack_code_of pack.Size = codes "P9"
+
 -- the codes of what is wrong with a structure
 abbrev pub cell_code_of : Reason → List ℕ
 cell_code_of UnknownTag = codes "S1"
@@ -51,11 +65,15 @@ cell_code_of Range = codes "S4"
 cell_code_of PathShape = codes "S5"
 cell_code_of NotInVersion = codes "S6"
 
--- the shortest spelling on a line, or a refusal with status 1
+-- a refusal on a line, with status 1
+abbrev pub SaysRefused : List ℕ → ℕ → Said → Type 0
+SaysRefused code place s = Says (codes "refused " ++ code ++ codes " at " ++ decimal place ++ 10 ∷ []) [] 1 s
+
+-- the shortest spelling on a line, or a refusal with its code and its place
 abbrev pub SaysChecked : Checked → Said → Type 0
 SaysChecked (Fine hex) s = Says (codes "ok " ++ string_bytes hex ++ 10 ∷ []) [] 0 s
-SaysChecked (Refused r o) s = (string_bytes s.err ≡ []) × (s.status ≡ 1)
-SaysChecked (Unfit r k) s = (string_bytes s.err ≡ []) × (s.status ≡ 1)
+SaysChecked (Refused r o) s = SaysRefused (pack_code_of r) o s
+SaysChecked (Unfit r k) s = SaysRefused (cell_code_of r) k s
 
 abbrev pub SaysCheck : Version → List ℕ → Said → Type 0
 SaysCheck v text s = (IsErr (decode_of text) × IsBadHex s) ⊎ ((c : Checked) × ChecksHex v text c × SaysChecked c s)

@@ -1,7 +1,7 @@
 //! The commands of the program, over streams.
 ghost use Rattle.std.specs.Prelude.{◌≡◌, ◌≤◌, ◌⊎◌, [], string_bytes, true, false, IfOk};
 ghost use Rattle.std.specs.Io.KnownBytes.{Appends};
-ghost use Rattle.bolt.specs.Commands.{IsBadHex, SaysAnswer, SaysCheck, SaysChecked, version_named, cell_code_of};
+ghost use Rattle.bolt.specs.Commands.{IsBadHex, SaysAnswer, SaysCheck, SaysChecked, SaysRefused, version_named, pack_code_of, cell_code_of};
 
 use crate::answering::{AnswerFault, answer};
 use crate::checking::{Checked, check_text};
@@ -10,6 +10,7 @@ use crate::streams::{Sink, Source, write_all};
 use crate::vectors::{passes, vectors};
 use clap::error::{Error, ErrorKind};
 use clap::{Arg, ArgAction, ArgMatches, Command};
+use packstream::Reason as PackReason;
 use std::alloc::{AllocError, Global};
 use structures::Reason;
 use wire::Version;
@@ -208,15 +209,32 @@ fn say_checked(alloc: Global, checked: &Checked) -> Result<Said, AllocError>
             out.push_str("\n")?;
             Ok(say_out(alloc, out, 0))
         }
-        Checked::Refused(reason, place) => {
-            let out = format!(in alloc; "refused {reason} at {place}\n")?;
-            Ok(say_out(alloc, out, REFUSED))
-        }
-        Checked::Unfit(reason, number) => {
-            let code = cell_code(*reason);
-            let out = format!(in alloc; "refused {code} at {number}\n")?;
-            Ok(say_out(alloc, out, REFUSED))
-        }
+        Checked::Refused(reason, place) => { say_refused(alloc, pack_code(*reason), *place as u64) }
+        Checked::Unfit(reason, number) => say_refused(alloc, cell_code(*reason), *number),
+    }
+}
+
+/// A refusal by its code, and its place.
+fn say_refused(alloc: Global, code: &str, place: u64) -> Result<Said, AllocError>
+    ensures { IfOk result (λ s. SaysRefused code.now place s) }
+{
+    let out = format!(in alloc; "refused {code} at {place}\n")?;
+    Ok(say_out(alloc, out, REFUSED))
+}
+
+/// The code of what is wrong with a value.
+fn pack_code(reason: PackReason) -> &'static str
+    ensures { result.now ≡ pack_code_of reason }
+{
+    match reason {
+        PackReason::Short => "P1",
+        PackReason::Marker => "P2",
+        PackReason::Utf8 => "P3",
+        PackReason::KeyKind => "P4",
+        PackReason::KeyTwice => "P5",
+        PackReason::Depth => "P6",
+        PackReason::Trailing => "P7",
+        PackReason::Size => "P9",
     }
 }
 

@@ -153,7 +153,7 @@ pub struct Over<S> {
 
 impl<S> Over<S> {
     pub fn new(stream: S) -> Over<S>
-        ensures { (result.stream ≡ stream) × (result.failed ≡ false) }
+        ensures { (result.stream ≡ stream) × (result.failed ≡ false) × (result.reads ≡ 2 ^ 63) }
     {
         Over {
             stream,
