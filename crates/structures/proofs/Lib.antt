@@ -11,3 +11,5 @@ pub mod Formed
 pub mod Packing
 pub mod Fitted
 pub mod Writable
+pub mod Laid
+pub mod Related

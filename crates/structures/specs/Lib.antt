@@ -5,3 +5,4 @@ pub mod Form
 pub mod Answers
 pub mod Writing
 pub mod Fitting
+pub mod Laying

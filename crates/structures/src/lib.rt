@@ -11,6 +11,7 @@ mod fitting;
 mod judging;
 mod kinds;
 mod laws;
+mod laying;
 mod parts;
 mod path;
 mod plain;
@@ -24,6 +25,7 @@ pub use codec::{read, read_value, write};
 pub use fault::{CellFault, Reason};
 pub use fitting::fit;
 pub use laws::{one_form, one_reading, read_can_be_written, written_is_read_back};
+pub use laying::cells_are_rows;
 pub use wire::Version;
 
 #[cfg(test)]

@@ -1,0 +1,11 @@
+//! That cells and their values are what the rows of the table lay out.
+ghost use Rattle.std.specs.Prelude.{◌↔◌};
+ghost use Rattle.packstream.specs.Tree.{Tree};
+ghost use Rattle.structures.specs.Form.{Form};
+ghost use Rattle.structures.specs.Laying.{IsForm};
+ghost use Rattle.wire.specs.declared.Version.{Version as AnyVersion};
+
+/// A cell and its value are related by reading the value exactly where the rows of the table relate them.
+pub fn cells_are_rows()
+    ensures { (v : AnyVersion) (s t : Tree) → Form v s t ↔ IsForm v s t }
+{}
