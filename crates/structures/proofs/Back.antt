@@ -15,7 +15,7 @@ use Rattle.structures.proofs.Fine.{fine_itself, fine_within, fine_left, fine_rig
 pub there_and_back : (u o : ℤ) → (u +ℤ o) -ℤ o ≡ u
 there_and_back u o = omega (arith, ints)
 
-back_and_there : (u o : ℤ) → (u -ℤ o) +ℤ o ≡ u
+pub back_and_there : (u o : ℤ) → (u -ℤ o) +ℤ o ≡ u
 back_and_there u o = omega (arith, ints)
 
 local_back : (us : Trees) → to_utc (typed_all (to_local us)) ≡ typed_all us

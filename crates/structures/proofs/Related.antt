@@ -1,6 +1,5 @@
 -- A cell and its value are one relation, by reading and by the rows of the table.
 use Rattle.std.proofs.Common.{◌≡◌, ◌≢◌, ◌↔◌, ℕ, ℤ, ◌+ℤ◌, ◌-ℤ◌, List, [], ◌∷◌, Bool, true, false, cond, ◌==◌, None, is_none, Result, Ok, Err, refl, ap, sym, subst, ◌∙◌, arith, eqb-true, eq-eqb, ne_eqb}
-use Rattle.std.proofs.lemmas.Int.{ints}
 use Rattle.packstream.specs.Tree.{Tree, null, boolean, int, float, byte_string, text, list, dict, structure, Trees, no_trees, tree_then, Entries, no_entries, entry_then}
 use Rattle.wire.specs.declared.Version.{Version}
 use Rattle.wire.specs.declared.Version.TheVariants.{V44, V51}
@@ -13,18 +12,15 @@ use Rattle.structures.specs.Form.{Form, typed, typed_all, typed_under, all_fine}
 use Rattle.structures.specs.Laying.{IsShaped, no_path, IsForm, of_null, of_boolean, of_int, of_float, of_bytes, of_text, of_list, of_dict, of_structure, of_local_seconds, AreForms, no_forms, then_form, HaveForms, no_entry_forms, then_entry_form}
 use Rattle.structures.proofs.Faulty.{fault_is, wrong_is}
 use Rattle.structures.proofs.Got.{passed, at_both}
-use Rattle.structures.proofs.Back.{there_and_back, Three, three, three_ints}
+use Rattle.structures.proofs.Back.{there_and_back, back_and_there, Three, three, three_ints}
 use Rattle.structures.proofs.Fine.{fine_scan, scan_fine, fine_append, fine_itself, fine_within, fine_left, fine_right}
 use Rattle.structures.proofs.Formed.{both_true}
 use Rattle.structures.proofs.Laid.{kinds_laid, AreOf, kinds_are, path_laid, shaped_is, row_is, row_laid}
 
 -- Local seconds.
-local_and_back : (u o : ℤ) → (u -ℤ o) +ℤ o ≡ u
-local_and_back u o = omega (arith, ints)
-
 local_laid : (a b d : ℤ) → are_in_range dated (to_utc (three a b d)) ≡ true → IsForm V44 (structure 0x49 (to_utc (three a b d))) (structure 0x46 (three a b d))
 local_laid a b d h =
-    subst (λ z. IsForm V44 (structure 0x49 (three (a -ℤ d) b d)) (structure 0x46 (three z b d))) (local_and_back a d) (of_local_seconds dated (a -ℤ d) b d (row_laid V44 0x46 dated refl) (kinds_laid dated (three (a -ℤ d) b d) refl refl h))
+    subst (λ z. IsForm V44 (structure 0x49 (three (a -ℤ d) b d)) (structure 0x46 (three z b d))) (back_and_there a d) (of_local_seconds dated (a -ℤ d) b d (row_laid V44 0x46 dated refl) (kinds_laid dated (three (a -ℤ d) b d) refl refl h))
 
 local_from : (ts : Trees) → Three ts → are_in_range dated (to_utc ts) ≡ true → IsForm V44 (structure 0x49 (to_utc (typed_all ts))) (structure 0x46 ts)
 local_from ts x h = subst (λ us. IsForm V44 (structure 0x49 (to_utc (typed_all us))) (structure 0x46 us)) (sym x.are) (local_laid x.first x.second x.third (ap (λ us. are_in_range dated (to_utc us)) (sym x.are) ∙ h))
