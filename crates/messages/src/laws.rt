@@ -9,7 +9,7 @@ ghost use Rattle.messages.specs.Messages.{Req, Resp, NoRequest, NoResponse, requ
 /// Bytes stand for one request at most, and then have no fault; `request_of` is it, or their fault.
 pub fn one_request()
     ensures one { (v : AnyVersion) (b : List ℕ) (m n : Ask) → Req v m b → Req v n b → m ≡ n }
-    ensures request { (v : AnyVersion) (b : List ℕ) (m : Ask) → AreBytes b → Req v m b → request_of v b ≡ Ok m }
+    ensures request { (v : AnyVersion) (b : List ℕ) (m : Ask) → Req v m b → request_of v b ≡ Ok m }
     ensures fault { (v : AnyVersion) (b : List ℕ) (e : AnyFault) → AreBytes b → NoRequest v e b → request_of v b ≡ Err e }
     ensures told { (v : AnyVersion) (b : List ℕ) (e : AnyFault) → AreBytes b → request_of v b ≡ Err e → NoRequest v e b }
     ensures back { (v : AnyVersion) (b : List ℕ) (m : Ask) → AreBytes b → request_of v b ≡ Ok m → Req v m b }
@@ -18,7 +18,7 @@ pub fn one_request()
 /// Bytes stand for one response at most, and then have no fault; `response_of` is it, or their fault.
 pub fn one_response()
     ensures one { (v : AnyVersion) (b : List ℕ) (m n : Say) → Resp v m b → Resp v n b → m ≡ n }
-    ensures response { (v : AnyVersion) (b : List ℕ) (m : Say) → AreBytes b → Resp v m b → response_of v b ≡ Ok m }
+    ensures response { (v : AnyVersion) (b : List ℕ) (m : Say) → Resp v m b → response_of v b ≡ Ok m }
     ensures fault { (v : AnyVersion) (b : List ℕ) (e : AnyFault) → AreBytes b → NoResponse v e b → response_of v b ≡ Err e }
     ensures told { (v : AnyVersion) (b : List ℕ) (e : AnyFault) → AreBytes b → response_of v b ≡ Err e → NoResponse v e b }
     ensures back { (v : AnyVersion) (b : List ℕ) (m : Say) → AreBytes b → response_of v b ≡ Ok m → Resp v m b }

@@ -2,16 +2,16 @@ use Rattle.std.proofs.Common.{Ok, refl, ap, sym, ◌∙◌}
 use Rattle.messages.specs.Table.{requests}
 use Rattle.messages.specs.Reading.{◌>>=◌, asks}
 use Rattle.messages.specs.Messages.{said_in, asked, request_of}
-use Rattle.messages.proofs.Meanings.{means_one, means_said, none_said, said_none, asked_back, kept_fault}
+use Rattle.messages.proofs.Meanings.{means_one, none_said, said_none, asked_back, kept_fault}
 use Rattle.messages.proofs.Sayings.{means_told, told_asks}
+use Rattle.messages.proofs.Sent.{request_is}
 use Rattle.messages.proofs.laws.one_request.Goals as goal
 
 pub returns-clause-one : goal.returns-clause-one
 returns-clause-one c = λ v b m n p q. sym (asked_back m) ∙ ap asked (means_one v requests (asks m) (asks n) b p q) ∙ asked_back n
 
 pub returns-clause-request : goal.returns-clause-request
-unfolding request_of
-returns-clause-request c = λ v b m bytes p. ap (λ r. r >>= λ s. Ok (asked s)) (means_said v requests (asks m) b bytes p) ∙ ap Ok (asked_back m)
+returns-clause-request c = λ v b m p. request_is v m b p
 
 pub returns-clause-fault : goal.returns-clause-fault
 unfolding request_of

@@ -2,16 +2,16 @@ use Rattle.std.proofs.Common.{Ok, refl, ap, sym, ◌∙◌}
 use Rattle.messages.specs.Table.{responses}
 use Rattle.messages.specs.Reading.{◌>>=◌, says}
 use Rattle.messages.specs.Messages.{said_in, answered, response_of}
-use Rattle.messages.proofs.Meanings.{means_one, means_said, none_said, said_none, answered_back, kept_fault}
+use Rattle.messages.proofs.Meanings.{means_one, none_said, said_none, answered_back, kept_fault}
 use Rattle.messages.proofs.Sayings.{means_told, told_says}
+use Rattle.messages.proofs.Sent.{response_is}
 use Rattle.messages.proofs.laws.one_response.Goals as goal
 
 pub returns-clause-one : goal.returns-clause-one
 returns-clause-one c = λ v b m n p q. sym (answered_back m) ∙ ap answered (means_one v responses (says m) (says n) b p q) ∙ answered_back n
 
 pub returns-clause-response : goal.returns-clause-response
-unfolding response_of
-returns-clause-response c = λ v b m bytes p. ap (λ r. r >>= λ s. Ok (answered s)) (means_said v responses (says m) b bytes p) ∙ ap Ok (answered_back m)
+returns-clause-response c = λ v b m p. response_is v m b p
 
 pub returns-clause-fault : goal.returns-clause-fault
 unfolding response_of
