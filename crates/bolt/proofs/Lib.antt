@@ -10,3 +10,5 @@ pub mod Wholes
 pub mod Once
 pub mod Checkings
 pub mod CheckedOnce
+pub mod Parsed
+pub mod Found

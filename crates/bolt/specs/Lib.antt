@@ -8,3 +8,5 @@ pub mod Laws
 pub mod Streams
 pub mod Checks
 pub mod Commands
+pub mod Asked
+pub mod Line

@@ -1,6 +1,9 @@
 //! The commands of the program, over streams.
-ghost use Rattle.std.specs.Prelude.{◌≡◌, ◌≤◌, ◌⊎◌, [], string_bytes, true, false, IfOk};
+ghost use Rattle.std.specs.Prelude.{◌≡◌, ◌≤◌, ◌⊎◌, [], ◌∷◌, ◌++◌, codes, string_bytes, true, false, map, IfOk, IsErr};
 ghost use Rattle.std.specs.Io.KnownBytes.{Appends};
+ghost use Rattle.clap.specs.Words.{app_of, kind_of, rule_of, subcommand_rows_of};
+ghost use Rattle.bolt.specs.Line.{IsLine, hex_rule};
+ghost use Rattle.bolt.specs.Asked.{Parses, SaysTo, asked, asked_in, has_flag, values_of};
 ghost use Rattle.bolt.specs.Commands.{IsBadHex, SaysAnswer, SaysCheck, SaysChecked, SaysRefused, version_named, pack_code_of, cell_code_of};
 
 use crate::answering::{AnswerFault, answer};
@@ -44,6 +47,15 @@ pub fn command<S: Source, O: Sink, E: Sink>(
 ) -> u8
     ensures status { result ≤ 3 }
     ensures failed { O.has_failed out.old ≡ true → O.has_failed out.new ≡ true }
+    ensures memory { result ≡ 3 → (O.taken out.new ≡ O.taken out.old)
+        × (E.has_failed err.new ≡ false → Appends (E.taken err.old) (E.taken err.new) (codes "fault I3" ++ 10 ∷ [])) }
+    ensures says { (result ≡ 3) ⊎ ((s : Said)
+        × (has_flag (map string_bytes words.now) ≡ false → SaysTo (asked (map string_bytes words.now)) s)
+        × (O.has_failed out.new ≡ false → Appends (O.taken out.old) (O.taken out.new) (string_bytes s.out))
+        × (O.has_failed out.new ≡ false → E.has_failed err.new ≡ false
+        → Appends (E.taken err.old) (E.taken err.new) (string_bytes s.err) × (result ≡ s.status))
+        × (O.has_failed out.old ≡ false → O.has_failed out.new ≡ true → result ≡ 1)
+        × (E.has_failed err.old ≡ false → E.has_failed err.new ≡ true → result ≡ 1)) }
 {
     match say(alloc, words) {
         Ok(said) => put_said(&said, out, err),
@@ -57,6 +69,8 @@ fn put_said<O: Sink, E: Sink>(said: &Said, out: &mut O, err: &mut E) -> u8
     ensures out { O.has_failed out.new ≡ false → Appends (O.taken out.old) (O.taken out.new) (string_bytes said.now.out) }
     ensures err { O.has_failed out.new ≡ false → E.has_failed err.new ≡ false → Appends (E.taken err.old) (E.taken err.new) (string_bytes said.now.err) }
     ensures stays { O.has_failed out.old ≡ true → O.has_failed out.new ≡ true }
+    ensures out_fails { O.has_failed out.old ≡ false → O.has_failed out.new ≡ true → result ≡ 1 }
+    ensures err_fails { E.has_failed err.old ≡ false → E.has_failed err.new ≡ true → result ≡ 1 }
 {
     if write_all(out, said.out.as_bytes()).is_err() {
         return put_fault(b"fault I2\n", REFUSED, err);
@@ -69,13 +83,26 @@ fn put_said<O: Sink, E: Sink>(said: &Said, out: &mut O, err: &mut E) -> u8
 
 /// Writes a fault, and answers the status.
 fn put_fault<E: Sink>(text: &[u8], status: u8, err: &mut E) -> u8
-    ensures { result ≡ status }
+    ensures status { result ≡ status }
+    ensures text { E.has_failed err.new ≡ false → Appends (E.taken err.old) (E.taken err.new) text.now }
+    ensures stays { E.has_failed err.old ≡ true → E.has_failed err.new ≡ true }
 {
     let _ = write_all(err, text);
     status
 }
 
-fn matches_of<'a>(alloc: Global, words: &'a [String]) -> Result<ArgMatches<'a>, Error> {
+/// What the parser finds in the words.
+fn matches_of<'a>(alloc: Global, words: &'a [String]) -> Result<ArgMatches<'a>, Error>
+    ensures { has_flag (map string_bytes words.entry.now) ≡ false → Parses (asked (map string_bytes words.entry.now)) result }
+{
+    let line = command_line(alloc)?;
+    line.try_get_matches_from(words)
+}
+
+/// The program's name with its three subcommands.
+fn command_line<'a>(alloc: Global) -> Result<Command<'a>, AllocError>
+    ensures { IfOk result (λ c. IsLine (app_of c)) }
+{
     let answer = Command::new(alloc, "answer")
         .about("Prints what a server answers to these bytes")
         .arg(hex_argument(alloc))?;
@@ -92,16 +119,20 @@ fn matches_of<'a>(alloc: Global, words: &'a [String]) -> Result<ArgMatches<'a>, 
         .subcommand_required(true)
         .subcommand(answer)?
         .subcommand(check)?
-        .subcommand(vectors)?
-        .try_get_matches_from(words)
+        .subcommand(vectors)
 }
 
-fn hex_argument<'a>(alloc: Global) -> Arg<'a> {
+/// The bytes in hex.
+fn hex_argument<'a>(alloc: Global) -> Arg<'a>
+    ensures { (rule_of result ≡ hex_rule) × (result.global ≡ false) }
+{
     Arg::new(alloc, "HEX").required(true).action(ArgAction::Set)
 }
 
+/// What the words ask for is said, or what the parser says to them.
 fn say(alloc: Global, words: &[String]) -> Result<Said, AllocError>
-    ensures { IfOk result (λ s. s.status ≤ 2) }
+    ensures says { IfOk result (λ s. has_flag (map string_bytes words.now) ≡ false → SaysTo (asked (map string_bytes words.now)) s) }
+    ensures status { IfOk result (λ s. s.status ≤ 2) }
 {
     match matches_of(alloc, words) {
         Ok(matches) => say_matched(alloc, &matches),
@@ -111,7 +142,8 @@ fn say(alloc: Global, words: &[String]) -> Result<Said, AllocError>
 
 /// What the parser says to words that are no command.
 fn say_error(alloc: Global, error: &Error) -> Result<Said, AllocError>
-    ensures { IfOk result (λ s. (string_bytes s.out ≡ []) × (s.status ≡ 2)) }
+    ensures says { IfOk result (λ s. (string_bytes s.out ≡ []) × (s.status ≡ 2)) }
+    ensures memory { kind_of error.now ≡ ErrorKind.OutOfMemory → IsErr result }
 {
     if error.kind() == ErrorKind::OutOfMemory {
         return Err(AllocError);
@@ -123,8 +155,10 @@ fn say_error(alloc: Global, error: &Error) -> Result<Said, AllocError>
     })
 }
 
+/// What the values of the subcommand ask for is said.
 fn say_matched(alloc: Global, matches: &ArgMatches<'_>) -> Result<Said, AllocError>
-    ensures { IfOk result (λ s. s.status ≤ 2) }
+    ensures says { IfOk result (SaysTo (asked_in (values_of (subcommand_rows_of matches.now)))) }
+    ensures status { IfOk result (λ s. s.status ≤ 2) }
 {
     let Some((_, inner)) = matches.subcommand() else {
         return say_vectors(alloc);

@@ -53,6 +53,7 @@ pub fn write_all<S: Sink>(sink: &mut S, bytes: &[u8]) -> Result<(), Failed>
     ensures front { OnErr result (AppendsFront (S.taken sink.old) (S.taken sink.new) bytes.now) }
     ensures failed { OnErr result (S.has_failed sink.new ≡ true) }
     ensures stays { S.has_failed sink.old ≡ true → S.has_failed sink.new ≡ true }
+    ensures whole { OnOk result (S.has_failed sink.new ≡ true → S.has_failed sink.old ≡ true) }
 {
     let mut rest = bytes;
     while !rest.is_empty() {
