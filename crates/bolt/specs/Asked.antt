@@ -1,6 +1,7 @@
 -- Which command the words are.
-use Rattle.std.specs.Prelude.{⊤, ◌≡◌, ◌≤◌, ◌==◌, ℕ, Bool, false, if◌then◌else◌, List, [], ◌∷◌, Option, Some, None, drop, option_map, string_bytes, codes, Result, MatchResult}
+use Rattle.std.specs.Prelude.{⊤, ◌≡◌, ◌≤◌, ◌==◌, ℕ, Bool, true, false, if◌then◌else◌, List, [], ◌∷◌, Option, Some, None, drop, option_map, string_bytes, codes, Result, MatchResult}
 use Rattle.std.specs.List.{list_any}
+use Rattle.std.specs.Io.KnownBytes.{Appends}
 use Rattle.std.specs.Str.{bytes_eq}
 use Rattle.clap.specs.Words.{Row, first_of, kind_of, subcommand_rows_of}
 use Rattle.clap.specs.declared.error.Error.{Error}
@@ -68,6 +69,26 @@ SaysTo (ToAnswer hex) s = SaysAnswer hex s
 SaysTo (ToCheck version hex) s = SaysCheck (version_named version) hex s
 SaysTo ToPass s = (string_bytes s.err ≡ []) × (s.status ≤ 1)
 SaysTo Nothing s = (string_bytes s.out ≡ []) × (s.status ≡ 2)
+
+-- the same, where no word after the program's name is a flag
+abbrev pub SaysWords : List Text → Said → Type 0
+SaysWords words s = has_flag words ≡ false → SaysTo (asked words) s
+
+-- a stream over a call: what it had taken before and has taken after, and whether it had failed, and has
+pub record Passage : Type 0 where
+  pub before : Option (List ℕ)
+  pub after : Option (List ℕ)
+  pub had_failed : Bool
+  pub has_failed : Bool
+
+-- What is said is put on both streams, unless they fail, and its status is answered; a stream that fails on the way makes the
+-- status 1.
+abbrev pub IsPut : Said → Passage → Passage → ℕ → Type 0
+IsPut s out err status =
+    (out.has_failed ≡ false → Appends out.before out.after (string_bytes s.out))
+    × (out.has_failed ≡ false → err.has_failed ≡ false → Appends err.before err.after (string_bytes s.err) × (status ≡ s.status))
+    × (out.had_failed ≡ false → out.has_failed ≡ true → status ≡ 1)
+    × (err.had_failed ≡ false → err.has_failed ≡ true → status ≡ 1)
 
 -- the values of HEX and VERSION of the subcommand that was met
 abbrev pub values_of : Option (Text × List Row) → Option (Option Text × Option Text)

@@ -3,7 +3,7 @@ ghost use Rattle.std.specs.Prelude.{◌≡◌, ◌≤◌, ◌⊎◌, [], ◌∷�
 ghost use Rattle.std.specs.Io.KnownBytes.{Appends};
 ghost use Rattle.clap.specs.Words.{app_of, kind_of, rule_of, subcommand_rows_of};
 ghost use Rattle.bolt.specs.Line.{IsLine, hex_rule};
-ghost use Rattle.bolt.specs.Asked.{Parses, SaysTo, asked, asked_in, has_flag, values_of};
+ghost use Rattle.bolt.specs.Asked.{Parses, Passage, SaysTo, SaysWords, IsPut, asked, asked_in, has_flag, values_of};
 ghost use Rattle.bolt.specs.Commands.{IsBadHex, SaysAnswer, SaysCheck, SaysChecked, SaysRefused, version_named, pack_code_of, cell_code_of};
 
 use crate::answering::{AnswerFault, answer};
@@ -47,15 +47,13 @@ pub fn command<S: Source, O: Sink, E: Sink>(
 ) -> u8
     ensures status { result ≤ 3 }
     ensures failed { O.has_failed out.old ≡ true → O.has_failed out.new ≡ true }
+    // Want of memory puts nothing out, and says so.
     ensures memory { result ≡ 3 → (O.taken out.new ≡ O.taken out.old)
         × (E.has_failed err.new ≡ false → Appends (E.taken err.old) (E.taken err.new) (codes "fault I3" ++ 10 ∷ [])) }
-    ensures says { (result ≡ 3) ⊎ ((s : Said)
-        × (has_flag (map string_bytes words.now) ≡ false → SaysTo (asked (map string_bytes words.now)) s)
-        × (O.has_failed out.new ≡ false → Appends (O.taken out.old) (O.taken out.new) (string_bytes s.out))
-        × (O.has_failed out.new ≡ false → E.has_failed err.new ≡ false
-        → Appends (E.taken err.old) (E.taken err.new) (string_bytes s.err) × (result ≡ s.status))
-        × (O.has_failed out.old ≡ false → O.has_failed out.new ≡ true → result ≡ 1)
-        × (E.has_failed err.old ≡ false → E.has_failed err.new ≡ true → result ≡ 1)) }
+    // Else what the words ask for is said, and put on the streams.
+    ensures says { let output : Passage = record { before = O.taken out.old; after = O.taken out.new; had_failed = O.has_failed out.old; has_failed = O.has_failed out.new } in
+        let errors : Passage = record { before = E.taken err.old; after = E.taken err.new; had_failed = E.has_failed err.old; has_failed = E.has_failed err.new } in
+        (result ≡ 3) ⊎ ((s : Said) × SaysWords (map string_bytes words.now) s × IsPut s output errors result) }
 {
     match say(alloc, words) {
         Ok(said) => put_said(&said, out, err),
