@@ -4,3 +4,4 @@ pub mod Sets
 pub mod Gathered
 pub mod Growing
 pub mod Leading
+pub mod Ways

@@ -26,15 +26,32 @@ is_part (Count.Of rows) = true
 
 -- a PULL or DISCARD of so many rows, and not of all
 abbrev pub in_part : Ask → Bool
+in_part (Ask.Hello agent auth) = false
+in_part (Ask.Logon auth) = false
+in_part Ask.Logoff = false
+in_part Ask.Goodbye = false
+in_part Ask.Reset = false
+in_part (Ask.Run text params mode) = false
+in_part (Ask.Begin mode) = false
+in_part Ask.Commit = false
+in_part Ask.Rollback = false
 in_part (Ask.Discard count) = is_part count
 in_part (Ask.Pull count) = is_part count
-in_part _ = false
 
 -- LOGON and LOGOFF are requests of 5.1 alone
 abbrev pub is_of : Version → Kind → Bool
+is_of Version.V44 Kind.Hello = true
 is_of Version.V44 Kind.Logon = false
 is_of Version.V44 Kind.Logoff = false
-is_of _ _ = true
+is_of Version.V44 Kind.Goodbye = true
+is_of Version.V44 Kind.Reset = true
+is_of Version.V44 Kind.Run = true
+is_of Version.V44 Kind.Begin = true
+is_of Version.V44 Kind.Commit = true
+is_of Version.V44 Kind.Rollback = true
+is_of Version.V44 Kind.Discard = true
+is_of Version.V44 Kind.Pull = true
+is_of Version.V51 k = true
 
 -- two names of one version
 abbrev pub same_version : Version → Version → Bool

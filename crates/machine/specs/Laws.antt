@@ -1,5 +1,5 @@
 -- What holds of the rows and of the phases that may follow.
-use Rattle.std.specs.Prelude.{◌≡◌, ℕ, Bool, true, false, Some, option_to_list, List, ◌++◌}
+use Rattle.std.specs.Prelude.{◌≡◌, ℕ, ◌&&◌, Bool, true, false, not, if◌then◌else◌, is_some, None, Some, option_to_list, List, [], ◌∷◌, ◌++◌, length, filter}
 use Rattle.std.specs.List.{list_any}
 use Rattle.wire.specs.declared.Version.{Version}
 use Rattle.messages.specs.View.{Ask}
@@ -7,9 +7,10 @@ use Rattle.machine.specs.declared.states.State.{State}
 use Rattle.machine.specs.declared.states.Phase.{Phase}
 use Rattle.machine.specs.declared.kinds.Kind.{Kind}
 use Rattle.machine.specs.declared.rows.Verdict.{Verdict}
-use Rattle.machine.specs.States.{phase_of}
+use Rattle.machine.specs.States.{phase_of, same_state}
+use Rattle.machine.specs.Asks.{is_of}
 use Rattle.machine.specs.Rows.{Next, Commits, line_of, row_of, row_at, nexts_of}
-use Rattle.machine.specs.Following.{has, next, table, joined, follow, possible, commits, could, interruptible}
+use Rattle.machine.specs.Following.{has, next, table, joined, follow, possible, commits, could, interruptible, allowed_in}
 
 -- each phase of the first is one of the second
 abbrev pub IsWithin : List Phase → List Phase → Type 0
@@ -53,6 +54,18 @@ CommitsAreMarked = (v : Version) (s : State) (k : Kind) → commits (phase_of s)
 -- no two places of the tables are for one request at one verdict
 abbrev pub OneNext : Type 0
 OneNext = (v : Version) (s : State) (k : Kind) (d : Verdict) → nexts_of v s k d ≡ option_to_list (row_of v s k d)
+
+-- the ways in which a request may be met in a state: worked, passed over, refused, or not answered at all
+abbrev pub ways : Version → State → Kind → List Verdict
+ways v s k = filter (λ d. is_some (row_at v s k d)) (Verdict.Success ∷ Verdict.Ignored ∷ Verdict.Invalid ∷ Verdict.Gone ∷ [])
+
+-- each kind of the version has exactly one of them in each state that isn't over, and otherwise none
+abbrev pub OneWay : Type 0
+OneWay = (v : Version) (s : State) (k : Kind) → length (ways v s k) ≡ (if is_of v k && not (same_state s State.Defunct) then 1 else 0)
+
+-- what is allowed in a set is refused as invalid in no state of the set
+abbrev pub AllowedIsValid : Type 0
+AllowedIsValid = (v : Version) (ps : List Phase) (s : State) (k : Kind) → allowed_in v ps k ≡ true → has (phase_of s) ps ≡ true → row_at v s k Verdict.Invalid ≡ None
 
 -- what a row leads to is among what may follow, where no RESET has struck
 abbrev pub RowsFollow : Type 0

@@ -1,4 +1,4 @@
--- A set of phases as it is kept, a flag for each.
+-- A set of phases as it is kept, a flag for each. Proofs alone need it.
 use Rattle.std.specs.Prelude.{◌≡◌, refl, Bool, true, ◌&&◌, List}
 use Rattle.std.proofs.Common.{sym, ap, ◌∙◌, true≢false}
 use Rattle.std.proofs.Math.Bool.{and-true}

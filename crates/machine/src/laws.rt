@@ -1,10 +1,21 @@
 //! What holds of the rows, and of the phases that may follow requests.
 
-ghost use Rattle.machine.specs.Laws.{AfterGrows, CommitsAreMarked, CouldGrows, JoinedIsFollow, OneNext, PossibleGrows, PossibleInTurn, RowsFollow, StruckRowsFollow, TableIsRows};
+ghost use Rattle.machine.specs.Laws.{AfterGrows, AllowedIsValid, CommitsAreMarked, CouldGrows, JoinedIsFollow, OneNext, OneWay, PossibleGrows, PossibleInTurn, RowsFollow, StruckRowsFollow, TableIsRows};
 
 /// A request has at most one next state at a verdict: no two places of the tables are for it.
 pub fn one_next()
     ensures { OneNext }
+{}
+
+/// Each kind of the version is met in exactly one way in each state that isn't over: worked, passed over, refused, or not
+/// answered at all; in a state that is over in none, nor is a kind of the other version alone.
+pub fn one_way()
+    ensures { OneWay }
+{}
+
+/// What is allowed in a set is refused as invalid in no state of the set.
+pub fn allowed_is_valid()
+    ensures { AllowedIsValid }
 {}
 
 /// What a row leads to is among what may follow.

@@ -112,7 +112,7 @@ numbered_le k n s h lt =
     let all = text_le (20 + k) (s ++ decimal n) (omega (arith, length-append s (decimal n), length-decimal-le 20 n (omega arith) (omega arith) lt)) in
     omega (arith, all)
 
-bookmark_le : (n m : ℕ) (es : Entries) → n < 2 ^ 63 → length (canon_entries es) ≤ m → length (canon_entries (entry_then (codes "bookmark") (text (codes "bk:" ++ decimal n)) es)) ≤ 41 + m
+bookmark_le : (n m : ℕ) (es : Entries) → n < 2 ^ 64 → length (canon_entries es) ≤ m → length (canon_entries (entry_then (codes "bookmark") (text (codes "bk:" ++ decimal n)) es)) ≤ 41 + m
 bookmark_le n m es lt h = entry_le 8 28 m (codes "bookmark") (text (codes "bk:" ++ decimal n)) es (omega arith) (numbered_le 3 n (codes "bk:") (omega arith) (omega arith)) h
 
 zero_le : length (canon (int (pos 0))) ≤ 1
@@ -177,7 +177,7 @@ fits_room v s h = (canon (form_of s), text_is v s h, form_le s h)
 numbered : (s : List ℕ) (n : ℕ) → IsUtf8 s → n < 2 ^ 64 → IsUtf8 (s ++ decimal n)
 numbered s n u h = IsUtf8-append s (decimal n) u (IsUtf8-from_ascii (decimal n) (IsAscii-decimal n h))
 
-bookmark_plain : (n : ℕ) → n < 2 ^ 63 → HavePlain (entries_of (bookmark n))
+bookmark_plain : (n : ℕ) → n < 2 ^ 64 → HavePlain (entries_of (bookmark n))
 unfolding lib.Utf8.encode
 bookmark_plain n h = ((codes "bookmark", (refl, refl)), numbered (codes "bk:") n (codes "bk:", (refl, refl)) (omega arith), tt)
 

@@ -1,6 +1,7 @@
 -- What of a server's bytes a client hears.
 use Rattle.std.proofs.Common.{◌≡◌, ℕ, Bool, true, false, cond, Option, Some, None, List, [], ◌∷◌, ◌++◌, length, take, refl, sym, ap, subst, ◌∙◌, append-nil, append_assoc, ◌⊎◌, inl, inr}
 use Rattle.std.specs.Prelude.{nat_le, map, reverse}
+use Rattle.std.proofs.Math.Seq.{take-nil}
 use Rattle.std.proofs.lemmas.List.{reverse-append, reverse-reverse}
 use Rattle.wire.specs.declared.Version.{Version}
 use Rattle.wire.specs.declared.Version.TheVariants.{V44, V51}
@@ -8,7 +9,7 @@ use Rattle.wire.specs.Offers.{version_answer}
 use Rattle.wire.specs.Framing.{Item, Opening, Noop, Message, item_text, said_text, said_within, Spoken}
 use Rattle.wire.proofs.Opened.{said_text-map, said_within-map, said_arrives}
 use Rattle.messages.specs.Writing.{response_text}
-use Rattle.messages.specs.Arrivals.{Heard, Chosen, Strange, Quiet, Told, Unheard, Over, heard_version, then_told, heard_in, after_version, heard_of, hears, heard_bytes, IsSaid, IsSpoken, SaysArrive, NoVersionArrives}
+use Rattle.messages.specs.Arrivals.{Heard, Chosen, Strange, Quiet, Told, Unheard, Over, heard_version, then_told, heard_in, after_version, heard_of, hears, heard_bytes, IsSaid, IsSpoken, SaysArrive, SoFarArrives, NoVersionArrives}
 use Rattle.messages.proofs.Sent.{response_fits, response_is, Fits, sent, sent_text}
 
 abbrev item_of : Version → Heard → Item
@@ -117,6 +118,10 @@ says_arrive v xs n h =
     ap (λ t. hears (take n t)) (sym (said_text-map Heard (heard_bytes v) (item_of v) (same_text v) xs))
     ∙ ap (λ l. reverse (heard_of (reverse l))) (said_arrives (map (item_of v) xs) n (spoken v xs h) ∙ said_within-map Heard (heard_bytes v) (item_of v) (same_text v) n xs)
     ∙ heard_back v (said_within (heard_bytes v) n xs) (front_spoken v (heard_bytes v) n xs h)
+
+pub so_far_arrives : SoFarArrives
+so_far_arrives v xs n (inl e) = subst (λ (l : List Heard). hears (take n (said_text (heard_bytes v) l)) ≡ said_within (heard_bytes v) n l) (sym e) (ap hears (take-nil n))
+so_far_arrives v xs n (inr h) = says_arrive v xs n h
 
 pub no_version_arrives : NoVersionArrives
 no_version_arrives n = ap (λ l. reverse (heard_of (reverse l))) (said_arrives (Opening (version_answer None) ∷ []) n (refl, refl)) ∙ go (nat_le 4 n)

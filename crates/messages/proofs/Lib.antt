@@ -13,3 +13,8 @@ pub mod Following
 pub mod Samples
 pub mod Fitting
 pub mod Layouts
+pub mod Wholes
+pub mod HeardOn
+pub mod Again
+pub mod Apart
+pub mod Made

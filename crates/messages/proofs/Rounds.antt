@@ -54,7 +54,7 @@ form_is (Ok n) t u h = value_is (first_fault (faults_in 0 false t) 0) t u h
 form_is (Err e) t u h = absurd cc
 
 -- what is written of a field of cells is its form
-put_is : (v : Version) (s u : Tree) → cell_put v s ≡ Ok u → u ≡ form v s
+pub put_is : (v : Version) (s u : Tree) → cell_put v s ≡ Ok u → u ≡ form v s
 put_is v s u h = form_is (scan (unwritten v) 0 (structures s)) (form v s) u h
 
 not_minus : (z : ℤ) → int_le (pos 1) z ≡ true → int_eq z (negsuc 0) ≡ false

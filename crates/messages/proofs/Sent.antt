@@ -23,7 +23,7 @@ short_by : (c : Bool) (s b : List ℕ) → nat_lt 65536 (length s) ≡ c → con
 short_by true s b e h = absurd cc
 short_by false s b e h = let same : s ≡ b = cc in subst (λ (x : List ℕ). length x ≤ 65536) same (omega (arith, ltb-false _ _ e))
 
-short_packed : (t : Tree) (r : Result ℕ (Reason × ℕ)) (b : List ℕ) → (packed_by r t >>= sized) ≡ Ok b → length b ≤ 65536
+pub short_packed : (t : Tree) (r : Result ℕ (Reason × ℕ)) (b : List ℕ) → (packed_by r t >>= sized) ≡ Ok b → length b ≤ 65536
 short_packed t (Ok n) b h = short_by (nat_lt 65536 (length (canon t))) (canon t) b refl h
 short_packed t (Err e) b h = absurd cc
 

@@ -129,7 +129,7 @@ Tells B v r = (ts : Trees) → IfOk (row_told v r.name r.fields ts) B
 pub none_tells : (B : Said → Type 0) (v : Version) (n : Name) (ts : Trees) → B (said n [] []) → IfOk (row_told v n [] ts) B
 none_tells B v n ts h = subst (λ r. IfOk r B) (sym (none_row v n ts)) (if_bind (no_field ts) (λ x. Ok (said n [] [])) (λ x. Unit {0}) B (if_any (no_field ts)) (λ x p. h))
 
-extra_said : (v : Version) (o : Others) (ns : List Named) (es : Entries) (P : List Tree → Type 0) → IfOk (all_told v ns es) P → IfOk (extra_told v o ns es) P
+pub extra_said : (v : Version) (o : Others) (ns : List Named) (es : Entries) (P : List Tree → Type 0) → IfOk (all_told v ns es) P → IfOk (extra_told v o ns es) P
 extra_said v ignored ns es P h = h
 extra_said v refused ns es P h = go (all_named ns es)
   where

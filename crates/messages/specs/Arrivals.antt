@@ -1,6 +1,6 @@
 -- What the bytes of a connection say to the end that reads them: at a server an offer and requests, at a client the answer to an
 -- offer and responses.
-use Rattle.std.specs.Prelude.{◌≡◌, ℕ, ◌-◌, nat_le, if◌then◌else◌, Option, Some, None, Result, Ok, Err, List, [], ◌∷◌, ◌++◌, length, take, drop, map, reverse}
+use Rattle.std.specs.Prelude.{◌≡◌, ◌⊎◌, Bool, ℕ, ◌-◌, nat_le, if◌then◌else◌, Option, Some, None, Result, Ok, Err, List, [], ◌∷◌, ◌++◌, length, take, drop, map, reverse}
 use Rattle.std.specs.Str.{bytes_eq}
 use Rattle.wire.specs.declared.Version.{Version}
 use Rattle.wire.specs.declared.Version.TheVariants.{V44, V51}
@@ -8,6 +8,9 @@ use Rattle.wire.specs.declared.Wish.{Wish}
 use Rattle.wire.specs.Offers.{magic, chosen as version_taken, offered, wished, version_answer}
 use Rattle.wire.specs.Texts.{text_of, noop}
 use Rattle.wire.specs.Framing.{Item, Opening, Noop, Message, TooBig, received, heard as items_heard, texts, within, said_text, said_within}
+use Rattle.wire.specs.Unfinished.{fresh}
+use Rattle.wire.specs.Stream.{items_of}
+use Rattle.wire.specs.Whole.{whole}
 use Rattle.messages.specs.declared.fault.MsgFault.{MsgFault}
 use Rattle.messages.specs.View.{Ask, Say}
 use Rattle.messages.specs.Messages.{Req, Resp, request_of, response_of}
@@ -51,6 +54,31 @@ arrivals_of xs = []
 -- what arrives at a server, the oldest first
 abbrev pub arrivals : List ℕ → List Arrival
 arrivals bytes = arrivals_of (received bytes)
+
+-- what arrives but no-ops
+abbrev pub without_idle : List Arrival → List Arrival
+without_idle [] = []
+without_idle (Shook o ∷ xs) = Shook o ∷ without_idle xs
+without_idle (NoMagic ∷ xs) = NoMagic ∷ without_idle xs
+without_idle (Idle ∷ xs) = without_idle xs
+without_idle (Asked m ∷ xs) = Asked m ∷ without_idle xs
+without_idle (Unread e ∷ xs) = Unread e ∷ without_idle xs
+without_idle (TooLong ∷ xs) = TooLong ∷ without_idle xs
+
+-- a header may take the message after these past its limit
+abbrev pub too_long : Bool → List Arrival
+too_long past = if past then TooLong ∷ [] else []
+
+-- the requests that messages stand for, up to the first that stands for none
+abbrev pub asked_of : Version → List (List ℕ) → Bool → List Arrival
+asked_of v [] past = too_long past
+asked_of v (b ∷ bs) past = then_asked (request_of v b) (asked_of v bs past)
+
+-- What arrives after an offer of which a version is taken is the requests of the whole messages of the bytes after it, and the
+-- refusal of a message past its limit; no-ops aside.
+abbrev pub ArrivesWhole : Type 0
+ArrivesWhole = (offer bytes : List ℕ) (v : Version) → length offer ≡ 20 → shaken offer ≡ Shook (Some v)
+    → without_idle (arrivals (offer ++ bytes)) ≡ Shook (Some v) ∷ asked_of v (whole bytes) (items_of fresh bytes).rest.too_big
 
 -- the chunks of what is written, empty where it can't be
 abbrev pub framed : Result (List ℕ) MsgFault → List ℕ
@@ -160,6 +188,30 @@ IsSpoken v (Over ∷ xs) = ⊥
 abbrev pub SaysArrive : Type 0
 SaysArrive = (v : Version) (xs : List Heard) (n : ℕ) → IsSpoken v xs → hears (take n (said_text (heard_bytes v) xs)) ≡ said_within (heard_bytes v) n xs
 
+-- The same of all that a server has said by a moment: nothing yet, or what begins with a version.
+abbrev pub IsSaidSoFar : Version → List Heard → Type 0
+IsSaidSoFar v xs = (xs ≡ []) ⊎ IsSpoken v xs
+
+abbrev pub SoFarArrives : Type 0
+SoFarArrives = (v : Version) (xs : List Heard) (n : ℕ) → IsSaidSoFar v xs → hears (take n (said_text (heard_bytes v) xs)) ≡ said_within (heard_bytes v) n xs
+
 -- The answer of a server that takes no version is heard as that, once it is there whole.
 abbrev pub NoVersionArrives : Type 0
 NoVersionArrives = (n : ℕ) → hears (take n (version_answer None)) ≡ (if nat_le 4 n then Chosen None ∷ [] else [])
+
+-- What is heard of more bytes is what was heard, and what is newer.
+abbrev pub HearsGoOn : Type 0
+HearsGoOn = (bytes more : List ℕ) → (newer : List Heard) × (hears (bytes ++ more) ≡ newer ++ hears bytes)
+
+-- after which nothing is heard
+abbrev pub IsLastHeard : Heard → Type 0
+IsLastHeard (Chosen (Some v)) = ⊥
+IsLastHeard (Chosen None) = Unit {0}
+IsLastHeard Strange = Unit {0}
+IsLastHeard Quiet = ⊥
+IsLastHeard (Told m) = ⊥
+IsLastHeard (Unheard e) = Unit {0}
+IsLastHeard Over = Unit {0}
+
+abbrev pub NothingMoreHeard : Type 0
+NothingMoreHeard = (bytes more : List ℕ) (newer older : List Heard) (last : Heard) → IsLastHeard last → hears bytes ≡ newer ++ last ∷ older → hears (bytes ++ more) ≡ hears bytes

@@ -9,3 +9,4 @@ pub mod Writing
 pub mod Arrivals
 pub mod Summaries
 pub mod Saying
+pub mod Sound

@@ -15,7 +15,7 @@ use Rattle.messages.specs.declared.request.Mode.{Mode}
 use Rattle.messages.specs.declared.request.Mode.TheVariants.{Read, Write}
 use Rattle.messages.specs.declared.request.Count.{Count}
 use Rattle.messages.specs.declared.request.Count.TheVariants.{All, Of}
-use Rattle.messages.specs.Table.{Row, requests, responses, HELLO, LOGON, LOGOFF, GOODBYE, RUN, BEGIN, COMMIT, ROLLBACK, DISCARD, PULL, SUCCESS, RECORD, FAILURE}
+use Rattle.messages.specs.Table.{Row, requests, responses, HELLO, LOGON, LOGOFF, GOODBYE, RESET, RUN, BEGIN, COMMIT, ROLLBACK, DISCARD, PULL, SUCCESS, RECORD, IGNORED, FAILURE}
 use Rattle.messages.specs.View.{Login, Ask, Hello, Logon, Logoff, Goodbye, Reset, Run, Begin, Commit, Rollback, Discard, Pull, Say, Success, Record, Ignored, Failure}
 use Rattle.messages.specs.Reading.{◌>>=◌, Said, said, message_told, asks, says}
 
@@ -109,7 +109,8 @@ abbrev pub count_in : Tree → Count
 count_in (int z) = Of z
 count_in t = All
 
--- the request, or the response, that holds this
+-- The request that holds this, and the response. What a response says asks nothing, nor is a request's an answer: no table
+-- of the other tells them, and they are taken as a RESET and as IGNORED.
 abbrev pub asked : Said → Ask
 asked (said HELLO fs es) = hello_in es
 asked (said LOGON fs es) = Logon (login_in es)
@@ -121,13 +122,28 @@ asked (said COMMIT fs es) = Commit
 asked (said ROLLBACK fs es) = Rollback
 asked (said DISCARD fs es) = Discard (count_in (first es))
 asked (said PULL fs es) = Pull (count_in (first es))
-asked (said n fs es) = Reset
+asked (said RESET fs es) = Reset
+asked (said SUCCESS fs es) = Reset
+asked (said RECORD fs es) = Reset
+asked (said IGNORED fs es) = Reset
+asked (said FAILURE fs es) = Reset
 
 abbrev pub answered : Said → Say
 answered (said SUCCESS fs es) = Success (dict_pairs (first fs))
 answered (said RECORD fs es) = Record (list_members (first fs))
 answered (said FAILURE fs es) = Failure (bytes_of (first es)) (bytes_of (second es))
-answered (said n fs es) = Ignored
+answered (said IGNORED fs es) = Ignored
+answered (said HELLO fs es) = Ignored
+answered (said LOGON fs es) = Ignored
+answered (said LOGOFF fs es) = Ignored
+answered (said GOODBYE fs es) = Ignored
+answered (said RESET fs es) = Ignored
+answered (said RUN fs es) = Ignored
+answered (said BEGIN fs es) = Ignored
+answered (said COMMIT fs es) = Ignored
+answered (said ROLLBACK fs es) = Ignored
+answered (said DISCARD fs es) = Ignored
+answered (said PULL fs es) = Ignored
 
 -- the request that the bytes of a message stand for, or their fault
 unfoldable pub request_of : Version → List ℕ → Result Ask MsgFault

@@ -1,4 +1,4 @@
--- Messages a part at a time, as the code reads and builds them. Proofs alone use it: what it says is compared with the table.
+-- Messages a part at a time, as the code reads and builds them. Proofs alone need it: what it says is compared with the table.
 use Rattle.std.specs.Prelude.{◌≡◌, ℕ, pos, negsuc, int_le, List, [], ◌∷◌, cond, codes, Option, None, Some, Result, Ok, Err}
 use Rattle.std.specs.Borrow.{Bor}
 use Rattle.packstream.specs.declared.value.Value.{Value}

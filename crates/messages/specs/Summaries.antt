@@ -56,20 +56,33 @@ said_of Passed = Ignored
 -- the numbers of connections and of the ledger's entries are in their ranges, and a failure's texts are short
 abbrev pub IsShort : Summary → Type 0
 IsShort (Greeting n) = n < 2 ^ 64
-IsShort (Closing (Some n) m) = n < 2 ^ 63
-IsShort (Committed n) = n < 2 ^ 63
+IsShort (Closing (Some n) m) = n < 2 ^ 64
+IsShort (Committed n) = n < 2 ^ 64
 IsShort (Refused code message) = length code + length message ≤ 65000
-IsShort s = Unit {0}
+IsShort RowsLeft = Unit {0}
+IsShort (Closing None m) = Unit {0}
+IsShort Plain = Unit {0}
+IsShort Passed = Unit {0}
 
 -- a failure's code and message are texts
 abbrev pub HasTexts : Summary → Type 0
 HasTexts (Refused code message) = IsUtf8 code × IsUtf8 message
-HasTexts s = Unit {0}
+HasTexts (Greeting n) = Unit {0}
+HasTexts RowsLeft = Unit {0}
+HasTexts (Closing bookmarked m) = Unit {0}
+HasTexts (Committed n) = Unit {0}
+HasTexts Plain = Unit {0}
+HasTexts Passed = Unit {0}
 
 -- how many bytes are enough for it
 abbrev pub room : Summary → ℕ
 room (Refused code message) = length code + length message + 38
-room s = 100
+room (Greeting n) = 100
+room RowsLeft = 100
+room (Closing bookmarked m) = 100
+room (Committed n) = 100
+room Plain = 100
+room Passed = 100
 
 -- it is written, in no more bytes than that
 abbrev pub FitsRoom : Version → Summary → Type 0

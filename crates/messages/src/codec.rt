@@ -98,7 +98,7 @@ fn put(value: Value, out: &mut BytesMut) -> Result<(), MsgFault>
     ensures text { Appends result out.old.items out.new.items (text_put_of (tree value)) }
     ensures spells { OnOk result (IsGood (tree value) × Spells (tree value) (canon (tree value))) }
 {
-    let packed = Packed::new(value)?;
+    let packed = Packed::new_in(*out.allocator(), value)?;
     put_packed(&packed, out)
 }
 

@@ -33,7 +33,7 @@ pub enum MsgFault {
     /// M7: memory ran out.
     #[error("out of memory")]
     Memory,
-    /// M8: the message takes more than 65,536 bytes.
+    /// M8: no spelling of the message has at most 65,536 bytes.
     #[error("M8")]
     Size,
 }

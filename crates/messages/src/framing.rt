@@ -1,6 +1,6 @@
 //! Laws on the messages that arrive of a connection's bytes. Each function has an empty body, and its contract is the law.
 
-ghost use Rattle.messages.specs.Arrivals.{RequestsArrive, SaysArrive, NoVersionArrives, ArrivalsGoOn, NothingFollows};
+ghost use Rattle.messages.specs.Arrivals.{RequestsArrive, ArrivesWhole, SaysArrive, SoFarArrives, NoVersionArrives, ArrivalsGoOn, NothingFollows, HearsGoOn, NothingMoreHeard};
 
 /// Of every front of an offer and requests' texts, a server takes the version that was wished and the requests that lie whole in it.
 pub fn requests_arrive()
@@ -10,6 +10,11 @@ pub fn requests_arrive()
 /// Of every front of a version answer, no-ops and responses' texts, a client hears what lies whole in it.
 pub fn says_arrive()
     ensures { SaysArrive }
+{}
+
+/// The same of all that a server has said by a moment, which may be nothing.
+pub fn so_far_arrives()
+    ensures { SoFarArrives }
 {}
 
 /// The answer of a server that takes no version is heard as that, once it is there whole.
@@ -25,4 +30,19 @@ pub fn arrivals_go_on()
 /// After an offer of which no version is taken, bytes that stand for no request, or a message past the limit, nothing arrives.
 pub fn nothing_follows()
     ensures { NothingFollows }
+{}
+
+/// What arrives after an offer of which a version is taken is the requests of the whole messages of the bytes after it.
+pub fn arrives_whole()
+    ensures { ArrivesWhole }
+{}
+
+/// What a client hears of more bytes ends with what it heard.
+pub fn hears_go_on()
+    ensures { HearsGoOn }
+{}
+
+/// After the answer of no version, four bytes that are no answer, bytes that stand for no response, or a message past the limit, nothing is heard.
+pub fn nothing_more_heard()
+    ensures { NothingMoreHeard }
 {}

@@ -4,6 +4,7 @@ ghost use Rattle.packstream.specs.Plain.{AreBytes};
 ghost use Rattle.wire.specs.declared.Version.{Version as AnyVersion};
 ghost use Rattle.messages.specs.declared.fault.MsgFault.{MsgFault as AnyFault};
 ghost use Rattle.messages.specs.View.{Ask, Say};
+ghost use Rattle.messages.specs.Sound.{RequestsAreMade, RequestsReadBack, ResponsesAreMade, ResponsesReadBack};
 ghost use Rattle.messages.specs.Messages.{Req, Resp, NoRequest, NoResponse, request_of, response_of};
 
 /// Bytes stand for one request at most, and then have no fault; `request_of` is it, or their fault.
@@ -24,8 +25,24 @@ pub fn one_response()
     ensures back { (v : AnyVersion) (b : List ℕ) (m : Say) → AreBytes b → response_of v b ≡ Ok m → Resp v m b }
 {}
 
-/// The bytes of no message are a proper beginning of another's.
+/// The bytes of no message are a proper beginning of another's, and those of a request are none of a response, nor begin them,
+/// nor the other way round.
 pub fn no_proper_beginning()
     ensures requests { (v w : AnyVersion) (m n : Ask) (b more : List ℕ) → Req v m b → Req w n (b ++ more) → more ≡ [] }
     ensures responses { (v w : AnyVersion) (m n : Say) (b more : List ℕ) → Resp v m b → Resp w n (b ++ more) → more ≡ [] }
+    ensures request_first { (v w : AnyVersion) (m : Ask) (n : Say) (b more : List ℕ) → Req v m b → Resp w n (b ++ more) → ⊥ }
+    ensures response_first { (v w : AnyVersion) (m : Say) (n : Ask) (b more : List ℕ) → Resp v m b → Req w n (b ++ more) → ⊥ }
+{}
+
+/// A text that is written of a message stands for it, and is read as it: of each request and response, seen as plain data,
+/// that is made of texts, of numbers in their ranges and of cells of the version.
+pub fn texts_read_back()
+    ensures requests { RequestsReadBack }
+    ensures responses { ResponsesReadBack }
+{}
+
+/// What bytes stand for is made of texts, of numbers in their ranges and of cells of the version.
+pub fn read_are_made()
+    ensures requests { RequestsAreMade }
+    ensures responses { ResponsesAreMade }
 {}

@@ -18,9 +18,10 @@ mod summaries;
 pub use codec::{read_request, read_response, write_request, write_response};
 pub use fault::MsgFault;
 pub use framing::{
-    arrivals_go_on, no_version_arrives, nothing_follows, requests_arrive, says_arrive,
+    arrivals_go_on, arrives_whole, hears_go_on, no_version_arrives, nothing_follows,
+    nothing_more_heard, requests_arrive, says_arrive, so_far_arrives,
 };
-pub use laws::{no_proper_beginning, one_request, one_response};
+pub use laws::{no_proper_beginning, one_request, one_response, read_are_made, texts_read_back};
 pub use request::{Auth, Count, Mode, Request};
 pub use response::Response;
 pub use saying::messages_are_rows;

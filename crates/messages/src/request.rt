@@ -1,5 +1,6 @@
 //! What a client asks.
 
+use std::fmt;
 use structures::Cell;
 
 /// Whether a query may write (Bolt message specification, the entry `mode` of BEGIN and RUN).
@@ -18,12 +19,22 @@ pub enum Count {
     Of(i64),
 }
 
-/// Who a client is, and how it proves it.
-#[derive(Debug, Drop)]
+/// Who a client is, and how it proves it. Its credentials aren't printed.
+#[derive(Drop)]
 pub struct Auth {
     pub scheme: String,
     pub principal: String,
     pub credentials: String,
+}
+
+impl fmt::Debug for Auth {
+    fn fmt<W: fmt::Write>(&self, f: &mut fmt::Formatter<W>) -> fmt::Result {
+        let (scheme, principal) = (self.scheme.as_str(), self.principal.as_str());
+        write!(
+            f,
+            "Auth {{ scheme: {scheme:?}, principal: {principal:?}, .. }}"
+        )
+    }
 }
 
 /// A request.

@@ -281,3 +281,16 @@ fn texts_of_faults(rt: HostRuntime) -> Result<(), Fail> {
     }
     Ok(())
 }
+
+#[test]
+fn credentials_are_not_printed(rt: HostRuntime) -> Result<(), Fail> {
+    let Ok(request) = read_request(rt.alloc(), Version::V51, LOGON_OF_USER) else {
+        return Err(Fail::from("refused"));
+    };
+    let text = format!(in rt.alloc(); "{request:?}")?;
+    assert_eq!(rt;
+        text.as_str(),
+        "Logon(Auth { scheme: \"basic\", principal: \"user\", .. })"
+    );
+    Ok(())
+}

@@ -6,7 +6,8 @@ use Rattle.packstream.specs.declared.value.Value.{Value, Struct as StructCase, t
 use Rattle.wire.specs.declared.Version.{Version}
 use Rattle.structures.specs.declared.fault.Reason.{Reason}
 use Rattle.structures.specs.Faults.{FaultOf, fault, scan, scanned, next, structures, structures_in, structures_under}
-use Rattle.structures.specs.Form.{all_fine, typed, typed_entry, typed_under}
+use Rattle.structures.specs.Form.{typed, typed_under}
+use Rattle.structures.specs.Steps.{all_fine, typed_entry}
 use Rattle.structures.proofs.Got.{and_left, and_right, take_next}
 use Rattle.structures.proofs.Scanning.{Pair, Found}
 use Rattle.structures.specs.Answers.{HasOneReading}

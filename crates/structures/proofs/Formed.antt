@@ -15,8 +15,10 @@ use Rattle.structures.proofs.Typed.{typed_shape}
 use Rattle.structures.proofs.Faulty.{fault_is, wrong_is}
 use Rattle.structures.specs.Table.{Stands, both, old, new, Row, fields_at, fields_of, kinds, row_in, table}
 use Rattle.structures.specs.Faults.{first_failed, to_utc, dated, is_int, is_float, is_text, is_dict, has_tag, each, is_list_of, is_kind, are_kinds, in_range, are_in_range, is_path, fault, structures, structures_in, structures_under}
-use Rattle.structures.specs.Form.{Form, form, form_all, form_under, moment, all_fine}
-use Rattle.structures.specs.Writing.{moment_tag, unwritten, unwritten_by, is_row, is_typed, are_typed, have_typed}
+use Rattle.structures.specs.Form.{Form, form, form_all, form_under, moment}
+use Rattle.structures.specs.Steps.{all_fine}
+use Rattle.structures.specs.Writing.{moment_tag, unwritten, unwritten_by}
+use Rattle.structures.specs.Steps.{is_row, is_typed, are_typed, have_typed}
 use Rattle.structures.proofs.Got.{and_left, and_right, le_true}
 use Rattle.structures.proofs.Back.{back, an_int, Three, three, three_ints, there_and_back}
 use Rattle.structures.proofs.Fine.{scan_fine, fine_append, fine_itself, fine_within, fine_left, fine_right}

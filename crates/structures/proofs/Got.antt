@@ -12,7 +12,8 @@ use Rattle.structures.specs.declared.table.Field.TheVariants.{Whole, Text, Prope
 use Rattle.structures.specs.declared.fault.Reason.{Reason}
 use Rattle.structures.specs.Table.{kinds}
 use Rattle.structures.specs.Faults.{dated, to_utc, each, is_kind, are_kinds, are_in_range, utc_fields, is_path, wrong, fault, fault_by}
-use Rattle.structures.specs.Form.{tree_at, typed, typed_all, ReadElements}
+use Rattle.structures.specs.Form.{typed, typed_all}
+use Rattle.structures.specs.Steps.{tree_at, ReadElements}
 use Rattle.structures.proofs.Faulty.{count_seen}
 
 pub at_some : (xs : List Value) (i : ℕ) (d : Value) → i < length xs → d ≡ get_or xs i d → tree_at i (trees_of (trees xs)) ≡ tree d

@@ -12,9 +12,10 @@ use Rattle.structures.specs.declared.fault.Reason.{Reason}
 use Rattle.structures.specs.Table.{kinds}
 use Rattle.structures.specs.Faults.{FaultOf, scan, scanned, next, structures, structures_in, structures_under, is_int, each, between, in_range, are_in_range}
 use Rattle.structures.specs.Shape.{text_of, texts_of, numbers_of, element_of, elements_of, entries, path_of}
-use Rattle.structures.specs.Writing.{unwritten, unwritten_by, judged, judged_by, numbers_in_range, walk_fault}
+use Rattle.structures.specs.Writing.{unwritten, unwritten_by}
+use Rattle.structures.specs.Steps.{judged, judged_by, numbers_in_range, walk_fault}
 use Rattle.structures.proofs.Views.{Pair, node_parts, unbound_parts, relationship_parts}
-use Rattle.structures.specs.Form.{all_fine}
+use Rattle.structures.specs.Steps.{all_fine}
 use Rattle.structures.proofs.Fine.{fine_within, fine_left, fine_right}
 
 abbrev is_no_int : Tree → Bool

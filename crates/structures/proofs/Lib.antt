@@ -13,3 +13,5 @@ pub mod Fitted
 pub mod Writable
 pub mod Laid
 pub mod Related
+pub mod OneWriting
+pub mod Narrow

@@ -1,5 +1,5 @@
 -- A cell and its value are one relation, by reading and by the rows of the table.
-use Rattle.std.proofs.Common.{◌≡◌, ◌≢◌, ◌↔◌, ℕ, ℤ, ◌+ℤ◌, ◌-ℤ◌, List, [], ◌∷◌, Bool, true, false, cond, ◌==◌, None, is_none, Result, Ok, Err, refl, ap, sym, subst, ◌∙◌, arith, eqb-true, eq-eqb, ne_eqb}
+use Rattle.std.proofs.Common.{◌≡◌, ◌≢◌, ◌↔◌, ℕ, ℤ, ◌+ℤ◌, ◌-ℤ◌, List, [], ◌∷◌, Bool, true, false, cond, ◌==◌, None, is_none, Result, Ok, Err, refl, ap, sym, subst, ◌∙◌, eqb-true, eq-eqb, ne_eqb}
 use Rattle.packstream.specs.Tree.{Tree, null, boolean, int, float, byte_string, text, list, dict, structure, Trees, no_trees, tree_then, Entries, no_entries, entry_then}
 use Rattle.wire.specs.declared.Version.{Version}
 use Rattle.wire.specs.declared.Version.TheVariants.{V44, V51}
@@ -8,7 +8,8 @@ use Rattle.structures.specs.declared.table.Field.TheVariants.{Nodes, Relationshi
 use Rattle.structures.specs.declared.fault.Reason.{Reason}
 use Rattle.structures.specs.Table.{kinds}
 use Rattle.structures.specs.Faults.{dated, to_utc, are_in_range, fault, fault_by, structures, structures_in, structures_under}
-use Rattle.structures.specs.Form.{Form, typed, typed_all, typed_under, all_fine}
+use Rattle.structures.specs.Form.{Form, typed, typed_all, typed_under}
+use Rattle.structures.specs.Steps.{all_fine}
 use Rattle.structures.specs.Laying.{IsShaped, no_path, IsForm, of_null, of_boolean, of_int, of_float, of_bytes, of_text, of_list, of_dict, of_structure, of_local_seconds, AreForms, no_forms, then_form, HaveForms, no_entry_forms, then_entry_form}
 use Rattle.structures.proofs.Faulty.{fault_is, wrong_is}
 use Rattle.structures.proofs.Got.{passed, at_both}

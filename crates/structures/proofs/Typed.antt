@@ -12,7 +12,7 @@ use Rattle.structures.specs.declared.cell.Cell.TheFolds.{ind-Cell, map-Cell, map
 use Rattle.structures.specs.declared.table.Field.TheVariants.{Text as TextField}
 use Rattle.structures.specs.Faults.{is_text, is_int, has_tag, each, are_kinds}
 use Rattle.structures.specs.Shape.{shape, node_shape, unbound_shape, relationship_shape, cell_step, node_step, relationship_step, unbound_step, text_of, element_of, elements_of}
-use Rattle.structures.specs.Writing.{is_typed, are_typed, have_typed}
+use Rattle.structures.specs.Steps.{is_typed, are_typed, have_typed}
 use Rattle.structures.proofs.Views.{node-out, unbound-out}
 
 abbrev TypedCell : Type 0

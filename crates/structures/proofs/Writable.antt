@@ -10,7 +10,8 @@ use Rattle.structures.specs.declared.fault.Reason.{Reason}
 use Rattle.structures.specs.declared.fault.Reason.TheVariants.{NotInVersion, Range, PathShape}
 use Rattle.structures.specs.Table.{kinds}
 use Rattle.structures.specs.Faults.{first_failed, to_utc, dated, is_int, has_tag, each, is_list_of, is_kind, are_kinds, in_range, are_in_range, is_path, fault, fault_by, structures, structures_in, structures_under}
-use Rattle.structures.specs.Form.{Form, typed, typed_all, typed_under, all_fine}
+use Rattle.structures.specs.Form.{Form, typed, typed_all, typed_under}
+use Rattle.structures.specs.Steps.{all_fine}
 use Rattle.structures.specs.Writing.{moment_tag, unwritten, unwritten_by, IsWritable, IsUnwritable}
 use Rattle.structures.proofs.Scanning.{Found}
 use Rattle.structures.proofs.Got.{and_left, and_right, passed}

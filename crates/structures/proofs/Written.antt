@@ -5,7 +5,8 @@ use Rattle.packstream.specs.View.{tree, trees_of, entries_of}
 use Rattle.packstream.specs.declared.value.Value.{Int as IntCase, the_lemmas}
 use Rattle.wire.specs.declared.Version.{Version}
 use Rattle.structures.specs.declared.cell.ElementIds.{ElementIds}
-use Rattle.structures.specs.Form.{form, form_all, form_under, form_entry}
+use Rattle.structures.specs.Form.{form, form_all, form_under}
+use Rattle.structures.specs.Steps.{form_entry}
 use Rattle.structures.specs.Shape.{text_of, texts_of, element_of, elements_of, numbers_of, entries}
 use Rattle.structures.proofs.Views.{Pair, node_parts, unbound_parts, relationship_parts}
 

@@ -1,6 +1,7 @@
 -- What reading and writing answer.
 use Rattle.std.specs.Prelude.{◌≡◌, ℕ, false, ◌⊎◌, Result, Ok, Err}
 use Rattle.packstream.specs.declared.fault.Reason.{Reason as PackReason}
+use Rattle.packstream.specs.declared.fault.Reason.TheVariants as pack
 use Rattle.packstream.specs.Good.{IsGood}
 use Rattle.packstream.specs.Making.{first_fault, faults_in}
 use Rattle.structures.specs.Writing.{IsWritable, IsUnwritable}
@@ -11,25 +12,25 @@ use Rattle.structures.specs.declared.fault.Reason.{Reason}
 use Rattle.structures.specs.declared.fault.CellFault.{CellFault}
 use Rattle.structures.specs.declared.fault.CellFault.TheVariants as fault
 use Rattle.structures.specs.Shape.{shape}
-use Rattle.structures.specs.Faults.{IsBad}
+use Rattle.structures.specs.Faults.{IsBad, IsFine}
 use Rattle.structures.specs.Form.{Form}
 
--- the value's cell, or its first fault, unless memory ran out
+-- the value's cell, or its first fault; memory runs out only where it has none
 abbrev pub Reads : Version → Tree → Result Cell CellFault → Type 0
 Reads v t (Ok c) = Form v (shape c) t
 Reads v t (Err (fault.Refused r k)) = IsBad v t k r
-Reads v t (Err fault.Memory) = Unit {0}
+Reads v t (Err fault.Memory) = IsFine v t
 Reads v t (Err (fault.Pack r o)) = ⊥
 
 -- what `Packed::new` answers of this tree
 abbrev pub IsUnpacked : Tree → PackReason → ℕ → Type 0
 IsUnpacked t r o = first_fault (faults_in 0 false t) 0 ≡ Err (r, o)
 
--- The cell's form, or its first fault; where it has none and its form isn't good, the form's fault; unless memory ran out.
+-- The cell's form, or its first fault; where it has none and its form isn't good, the form's fault; memory runs out only where it has none.
 abbrev pub Writes : Version → Tree → Result Tree CellFault → Type 0
 Writes v s (Ok t) = IsWritable v s × Form v s t × IsGood t
 Writes v s (Err (fault.Refused r k)) = IsUnwritable v s k r
-Writes v s (Err fault.Memory) = Unit {0}
+Writes v s (Err fault.Memory) = IsWritable v s
 Writes v s (Err (fault.Pack r o)) = IsWritable v s × ((t : Tree) × Form v s t × IsUnpacked t r o)
 
 -- the value itself, or its fault
@@ -47,3 +48,17 @@ IsBadOnce v t = (k : ℕ) × (r : Reason) × IsBad v t k r × ((j : ℕ) (q : Re
 
 abbrev pub HasOneReading : Version → Tree → Type 0
 HasOneReading v t = StandsForOne v t ⊎ IsBadOnce v t
+
+-- The same of writing: a cell has one form, or one first fault.
+abbrev pub HasOneForm : Version → Tree → Type 0
+HasOneForm v s = (t : Tree) × IsWritable v s × Form v s t × ((u : Tree) → Form v s u → t ≡ u) × ((k : ℕ) (r : Reason) → IsUnwritable v s k r → ⊥)
+
+abbrev pub IsUnwritableOnce : Version → Tree → Type 0
+IsUnwritableOnce v s = (k : ℕ) × (r : Reason) × IsUnwritable v s k r × ((j : ℕ) (q : Reason) → IsUnwritable v s j q → (k ≡ j) × (r ≡ q)) × (IsWritable v s → ⊥) × ((t : Tree) → Form v s t → ⊥)
+
+abbrev pub HasOneWriting : Version → Tree → Type 0
+HasOneWriting v s = HasOneForm v s ⊎ IsUnwritableOnce v s
+
+-- the faults of packing that a form may have
+abbrev pub IsOfPacking : PackReason → Type 0
+IsOfPacking r = (r ≡ pack.KeyTwice) ⊎ (r ≡ pack.Depth)

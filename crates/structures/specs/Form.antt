@@ -1,9 +1,9 @@
 -- What a tree is read as, and how a cell is written.
-use Rattle.std.specs.Prelude.{◌≡◌, ℕ, suc, zero, ◌+ℤ◌, List, [], ◌∷◌, Bool, true, cond, ◌&&◌, ◌==◌, is_none}
+use Rattle.std.specs.Prelude.{◌≡◌, ℕ, ◌+ℤ◌, cond, ◌==◌}
 use Rattle.packstream.specs.Tree.{Tree, null, boolean, int, float, byte_string, text, list, dict, structure, Trees, no_trees, tree_then, Entries, no_entries, entry_then}
 use Rattle.wire.specs.declared.Version.{Version}
 use Rattle.wire.specs.declared.Version.TheVariants.{V44, V51}
-use Rattle.structures.specs.Faults.{FaultOf, utc_fields, IsFine, is_text}
+use Rattle.structures.specs.Faults.{utc_fields, IsFine}
 
 -- Read: the same tree, but local seconds are brought to UTC.
 abbrev pub typed_tag : ℕ → ℕ
@@ -28,9 +28,6 @@ abbrev mutual
   pub typed_under : Entries → Entries
   typed_under no_entries = no_entries
   typed_under (entry_then k t es) = entry_then k (typed t) (typed_under es)
-
-abbrev pub typed_entry : List ℕ × Tree → List ℕ × Tree
-typed_entry e = (e.0, typed e.1)
 
 -- the form table as a relation: a cell, seen as its tree, and a value
 abbrev pub Form : Version → Tree → Tree → Type 0
@@ -67,22 +64,3 @@ abbrev mutual
   pub form_under : Version → Entries → Entries
   form_under v no_entries = no_entries
   form_under v (entry_then k t es) = entry_then k (form v t) (form_under v es)
-
--- each of these structures passes by itself
-abbrev pub all_fine : FaultOf → List (ℕ × Trees) → Bool
-all_fine f [] = true
-all_fine f (s ∷ ss) = is_none (f s.0 s.1) && all_fine f ss
-
-abbrev pub tree_at : ℕ → Trees → Tree
-tree_at i no_trees = null
-tree_at zero (tree_then t ts) = t
-tree_at (suc i) (tree_then t ts) = tree_at i ts
-
--- the texts of the fields 5 to 7, where they are texts
-abbrev pub ReadElements : Trees → Trees → Type 0
-ReadElements ts es =
-    is_text (tree_at 5 ts) ≡ true → is_text (tree_at 6 ts) ≡ true → is_text (tree_at 7 ts) ≡ true
-    → es ≡ tree_then (typed (tree_at 5 ts)) (tree_then (typed (tree_at 6 ts)) (tree_then (typed (tree_at 7 ts)) no_trees))
-
-abbrev pub form_entry : Version → List ℕ × Tree → List ℕ × Tree
-form_entry v e = (e.0, form v e.1)

@@ -6,3 +6,4 @@ pub mod Answers
 pub mod Writing
 pub mod Fitting
 pub mod Laying
+pub mod Steps

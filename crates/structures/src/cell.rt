@@ -3,6 +3,9 @@
 /// A cell: a value of PackStream 1, or one of the structures that Bolt's structure semantics give.
 /// Nanoseconds count from the second or from midnight, an offset is in seconds east of UTC, and a float is 64
 /// opaque bits.
+///
+/// Nothing bounds how deep a program nests one, and a level takes a call: writing, fitting, cloning and dropping one that is
+/// many thousands deep runs out of stack. What `read` gives is at most 32 deep.
 #[derive(Debug, Drop)]
 #[cycle(cells)]
 pub enum Cell {

@@ -39,10 +39,10 @@ pub fn read(alloc: Global, version: Version, packed: &Packed) -> Result<Cell, Ce
     read_value(alloc, version, packed.value())
 }
 
-fn pack(value: Value) -> Result<Packed, CellFault>
+fn pack(alloc: Global, value: Value) -> Result<Packed, CellFault>
     ensures { Packs (tree value) result }
 {
-    match Packed::new(value) {
+    match Packed::new_in(alloc, value) {
         Ok(packed) => Ok(packed),
         Err(PackFault::Refused(reason, place)) => Err(CellFault::Pack(reason, place)),
         Err(PackFault::Memory) => unreachable!(),
@@ -54,7 +54,7 @@ fn write_fine(alloc: Global, version: Version, cell: &Cell) -> Result<Packed, Ce
     ensures { Writes version (shape cell.now) result }
 {
     let value = value_of(alloc, version, cell)?;
-    pack(value)
+    pack(alloc, value)
 }
 
 /// The value of a cell in the form of a version.

@@ -35,7 +35,7 @@ pub enum CellFault {
     /// S7: memory ran out.
     #[error("out of memory")]
     Memory,
-    /// S8: the written value is too deep or has a key twice: the fault of `Packed::new` with its place.
+    /// S8: the written value has a key twice or is too deep: the fault of `Packed::new`, P5 or P6, with its place.
     #[error("{0} at {1}")]
     Pack(packstream::Reason, usize),
 }

@@ -5,7 +5,8 @@ ghost use Rattle.packstream.specs.View.{trees_of, entries_of};
 ghost use Rattle.structures.specs.Faults.{scan, scanned, next, structures, structures_in, structures_under, is_walk};
 ghost use Rattle.packstream.specs.Good.{count};
 ghost use Rattle.structures.specs.Shape.{element_of, elements_of, shape, shapes, entries, node_shape, unbound_shape, relationship_shape};
-ghost use Rattle.structures.specs.Writing.{unwritten, judged, numbers_in_range, tag_at, walk_fault};
+ghost use Rattle.structures.specs.Writing.{unwritten, tag_at};
+ghost use Rattle.structures.specs.Steps.{judged, numbers_in_range, walk_fault};
 
 use crate::cell::{Cell, ElementIds, Node, Relationship, UnboundRelationship};
 use crate::fault::Reason;

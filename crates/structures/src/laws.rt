@@ -1,7 +1,8 @@
 //! What holds of values and cells, whatever reads them.
-ghost use Rattle.std.specs.Prelude.{◌≡◌};
+ghost use Rattle.std.specs.Prelude.{◌≡◌, ℕ};
 ghost use Rattle.packstream.specs.Tree.{Tree};
-ghost use Rattle.structures.specs.Answers.{HasOneReading};
+ghost use Rattle.packstream.specs.declared.fault.Reason.{Reason as PackReason};
+ghost use Rattle.structures.specs.Answers.{HasOneReading, HasOneWriting, IsOfPacking, IsUnpacked};
 ghost use Rattle.structures.specs.Form.{Form, form, typed};
 ghost use Rattle.structures.specs.Shape.{shape};
 ghost use Rattle.structures.specs.Writing.{IsWritable};
@@ -13,9 +14,20 @@ pub fn one_reading()
     ensures { (v : AnyVersion) (t : Tree) → HasOneReading v t }
 {}
 
-/// What is written of a cell is read back as that cell.
+/// A cell has one form, or one first fault, and never both.
+pub fn one_writing()
+    ensures { (v : AnyVersion) (c : AnyCell) → HasOneWriting v (shape c) }
+{}
+
+/// What packing a cell's form is refused for is a key that stands twice, or its depth.
+pub fn packing_faults()
+    ensures { (v : AnyVersion) (s t : Tree) (r : PackReason) (o : ℕ) → Form v s t → IsUnpacked t r o → IsOfPacking r }
+{}
+
+/// A cell without a fault has a form, which is read back as that cell.
 pub fn written_is_read_back()
-    ensures { (v : AnyVersion) (c : AnyCell) → typed (form v (shape c)) ≡ shape c }
+    ensures back { (v : AnyVersion) (c : AnyCell) → typed (form v (shape c)) ≡ shape c }
+    ensures form { (v : AnyVersion) (c : AnyCell) → IsWritable v (shape c) → Form v (shape c) (form v (shape c)) }
 {}
 
 /// A cell has at most one form: what a value was read as is written as that value again.

@@ -24,7 +24,9 @@ pub use cell::{Cell, ElementIds, Node, Relationship, UnboundRelationship};
 pub use codec::{read, read_value, write};
 pub use fault::{CellFault, Reason};
 pub use fitting::fit;
-pub use laws::{one_form, one_reading, read_can_be_written, written_is_read_back};
+pub use laws::{
+    one_form, one_reading, one_writing, packing_faults, read_can_be_written, written_is_read_back,
+};
 pub use laying::cells_are_rows;
 pub use wire::Version;
 

@@ -3,7 +3,8 @@ ghost use Rattle.std.specs.Prelude.{◌≡◌, IfOk, None, true, map};
 ghost use Rattle.packstream.specs.Tree.{structure, dict, list};
 ghost use Rattle.packstream.specs.View.{tree, trees, trees_of, entries_of, entries as seen_entries};
 ghost use Rattle.structures.specs.Faults.{fault, structures, structures_in, structures_under, is_kind, each, has_tag};
-ghost use Rattle.structures.specs.Form.{typed, typed_entry, all_fine, tree_at};
+ghost use Rattle.structures.specs.Form.{typed};
+ghost use Rattle.structures.specs.Steps.{typed_entry, all_fine, tree_at};
 ghost use Rattle.structures.specs.Shape.{shape, shapes, node_shape, unbound_shape, relationship_shape, entries};
 
 use crate::cell::{Cell, Node, Relationship, UnboundRelationship};

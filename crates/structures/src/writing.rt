@@ -3,7 +3,8 @@ ghost use Rattle.std.specs.Prelude.{◌≡◌, IfOk, map, None, true};
 ghost use Rattle.packstream.specs.Tree.{Tree, int, float, structure, no_trees, tree_then};
 ghost use Rattle.packstream.specs.View.{tree, trees, trees_of, entries_of, entries as seen_entries};
 ghost use Rattle.structures.specs.Faults.{structures, structures_in, structures_under};
-ghost use Rattle.structures.specs.Form.{form, form_entry, all_fine};
+ghost use Rattle.structures.specs.Form.{form};
+ghost use Rattle.structures.specs.Steps.{form_entry, all_fine};
 ghost use Rattle.structures.specs.Writing.{unwritten};
 ghost use Rattle.structures.specs.Shape.{shape, shapes, entries, node_shape, unbound_shape, relationship_shape, text_of, texts_of, numbers_of, element_of, elements_of};
 

@@ -26,6 +26,20 @@ messages_of [] = []
 messages_of ([] ∷ runs) = messages_of runs
 messages_of ((c ∷ cs) ∷ runs) = body_of (c ∷ cs) ∷ messages_of runs
 
+-- every chunk but the last has so many bytes
+abbrev pub AreLong : ℕ → List (List ℕ) → Type 0
+AreLong most [] = Unit {0}
+AreLong most (c ∷ []) = Unit {0}
+AreLong most (c ∷ (d ∷ ds)) = (length c ≡ most) × AreLong most (d ∷ ds)
+
+-- The bytes are one run, of this message, and every chunk but the last has so many bytes.
+pub record IsRun (most : ℕ) (m bytes : List ℕ) : Type 0 where
+  pub chunks : List (List ℕ)
+  pub good : AreChunks chunks
+  pub body : body_of chunks ≡ m
+  pub long : AreLong most chunks
+  pub whole : bytes ≡ run_of chunks
+
 -- The bytes are a concatenation of no-ops and runs, and these are the messages, each of at most 65,536 bytes.
 pub record Texts (ms : List (List ℕ)) (bytes : List ℕ) : Type 0 where
   pub runs : List (List (List ℕ))

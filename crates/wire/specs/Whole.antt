@@ -4,7 +4,7 @@ use Rattle.wire.specs.declared.items.Piece.{Piece}
 use Rattle.wire.specs.declared.items.Piece.TheVariants.{Nothing, Noop, Message}
 use Rattle.wire.specs.Unfinished.{Unfinished, fresh}
 use Rattle.wire.specs.Texts.{run_of, text_of}
-use Rattle.wire.specs.Runs.{AreBytes, AreChunks, body_of, Texts, IsWhole, IsPast}
+use Rattle.wire.specs.Runs.{AreBytes, AreChunks, body_of, Texts, IsRun, IsWhole, IsPast}
 use Rattle.wire.specs.Stream.{items_of}
 
 -- the messages among items
@@ -37,6 +37,10 @@ RefusesPast = (bytes : List ℕ) → AreBytes bytes → ((items_of fresh bytes).
 -- What is written of a message is its text.
 abbrev pub TextsOne : Type 0
 TextsOne = (m : List ℕ) → 0 < length m → length m ≤ 65536 → Texts (m ∷ []) (text_of m)
+
+-- What is written of a message is one run, its chunks as long as they may be.
+abbrev pub WritesRun : Type 0
+WritesRun = (m : List ℕ) → 0 < length m → length m ≤ 65536 → IsRun 65535 m (text_of m)
 
 -- No run of the message is shorter: its chunks are as long as they may be.
 abbrev pub NoShorter : Type 0

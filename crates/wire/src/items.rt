@@ -1,13 +1,12 @@
 //! Whole messages and no-ops out of a stream of chunks ("Bolt message chunking").
 
-ghost use Rattle.std.specs.Prelude.{◌≡◌, ℕ, ◌+◌, ◌-◌, ◌<◌, ◌≤◌, List, [], ◌++◌, length, take, min, false, Option, IfOk, IfErr, IsErrOf, OnOk, OnErr};
+ghost use Rattle.std.specs.Prelude.{◌≡◌, ℕ, ◌+◌, ◌-◌, ◌<◌, ◌≤◌, List, [], ◌++◌, length, take, min, false, true, Option, IfOk, IsErr, IfErr, IsErrOf, OnOk, OnErr};
 ghost use Rattle.wire.specs.Unfinished.{Unfinished, fresh, unfinished};
-ghost use Rattle.wire.specs.Items.{item_of, IsSized, Answers};
+ghost use Rattle.wire.specs.Items.{item_of, IsSized, Answers, wants_room, answer_from, answer_to};
 ghost use Rattle.wire.specs.Stream.{used_of};
 ghost use Rattle.wire.specs.Whole.{kept_bytes};
 ghost use Rattle.wire.specs.Scanning.{Holds, Taken, After, Scanned, Stops, used_by};
 
-use crate::MAX_MESSAGE;
 use crate::faults::WireFault;
 use crate::parts::{Chunks, Cut, Part};
 use bytes::{Bytes, BytesMut};
@@ -77,7 +76,8 @@ impl Dechunk {
     /// Uses the piece to the end of the item begun, a no-op or a message, and hands that out; else all of the piece.
     ///
     /// X1 exactly at the header that takes a message past 65,536 bytes, with the bytes used to that header's end, and from then on
-    /// with 0 used, taking no memory. X2 for want of memory: nothing was used, nothing has changed.
+    /// with 0 used, taking no memory. X2 for want of memory: nothing was used, nothing has changed. Memory is wanted where data of the
+    /// piece is kept or a message handed out, never for headers and no-ops.
     #[tactic(auto, using(crate::proofs::Limits::header_one))]
     pub fn feed(&mut self, piece: &[u8]) -> Result<Fed, WireFault>
         ensures answer { Answers self.old piece.now result self.new }
@@ -86,22 +86,24 @@ impl Dechunk {
         ensures within { used_of result ≤ length piece.now }
         ensures sized { IfOk result (λ fed. IsSized fed.what) }
         ensures memory { IsErrOf result WireFault.Memory → self.old.too_big ≡ false }
+        ensures room { IsErrOf result WireFault.Memory → wants_room (length self.old.body) (answer_to self.old piece.now) ≡ true }
     {
         if self.chunks.is_too_big() {
             return Err(WireFault::TooBig { used: 0 });
         }
         let (len, chunks) = (self.body.len(), self.chunks);
-        let room = (MAX_MESSAGE - len).min(piece.len());
-        if self.body.reserve(room).is_err() {
-            return Err(WireFault::Memory);
-        }
         match scan_piece(&mut self.body, &mut self.chunks, piece) {
-            Scan::Nothing => Ok(Fed {
+            Err(_) => {
+                self.body.truncate(len);
+                self.chunks = chunks;
+                Err(WireFault::Memory)
+            }
+            Ok(Scan::Nothing) => Ok(Fed {
                 used: piece.len(),
                 what: Piece::Nothing,
             }),
-            Scan::TooBig(used) => Err(WireFault::TooBig { used }),
-            Scan::Item(used) => match end_item(&mut self.body) {
+            Ok(Scan::TooBig(used)) => Err(WireFault::TooBig { used }),
+            Ok(Scan::Item(used)) => match end_item(&mut self.body) {
                 Ok(what) => Ok(Fed { used, what }),
                 Err(_) => {
                     self.body.truncate(len);
@@ -122,47 +124,46 @@ enum Scan {
     TooBig(usize),
 }
 
-/// Takes the bytes up to the end of the item. There is room for its data.
-fn scan_piece(body: &mut BytesMut, chunks: &mut Chunks, piece: &[u8]) -> Scan
+/// Takes the bytes up to the end of the item. Where there is no memory for its data, what was there before stays in front.
+fn scan_piece(body: &mut BytesMut, chunks: &mut Chunks, piece: &[u8]) -> Result<Scan, AllocError>
     requires holds { Holds body.old.items chunks.old }
     requires going { chunks.old.too_big ≡ false }
-    requires room { min (65536 - length body.old.items) (length piece.now) ≤ body.old.spare }
-    ensures scanned { Scanned (unfinished chunks.old body.old.items) piece.now result (unfinished chunks.new body.new.items) }
-    ensures within { used_by result (length piece.now) ≤ length piece.now }
-    ensures holds { Stops result body.new.items chunks.new }
+    ensures scanned { IfOk result (λ scan. Scanned (unfinished chunks.old body.old.items) piece.now scan (unfinished chunks.new body.new.items)) }
+    ensures within { IfOk result (λ scan. used_by scan (length piece.now) ≤ length piece.now) }
+    ensures holds { IfOk result (λ scan. Stops scan body.new.items chunks.new) }
+    ensures room { IsErr result → wants_room (length body.old.items) (answer_from (unfinished chunks.old body.old.items) piece.now) ≡ true }
     ensures kept { take (length body.old.items) body.new.items ≡ body.old.items }
 {
     let mut used = 0;
     while used < piece.len() {
-        let cut = take_part(body, chunks, &piece[used..]);
+        let cut = take_part(body, chunks, &piece[used..])?;
         used += cut.used;
         match cut.what {
             Part::Head | Part::Data => {}
-            Part::Noop | Part::End => return Scan::Item(used),
-            Part::TooBig => return Scan::TooBig(used),
+            Part::Noop | Part::End => return Ok(Scan::Item(used)),
+            Part::TooBig => return Ok(Scan::TooBig(used)),
         }
     }
-    Scan::Nothing
+    Ok(Scan::Nothing)
 }
 
-/// Takes one part, with its data.
-fn take_part(body: &mut BytesMut, chunks: &mut Chunks, piece: &[u8]) -> Cut
+/// Takes one part, with its data. Room is made for the data of one chunk that the piece holds, and for nothing else.
+fn take_part(body: &mut BytesMut, chunks: &mut Chunks, piece: &[u8]) -> Result<Cut, AllocError>
     requires some { 0 < length piece.now }
     requires holds { Holds body.old.items chunks.old }
     requires going { chunks.old.too_big ≡ false }
-    requires room { min (65536 - length body.old.items) (length piece.now) ≤ body.old.spare }
-    ensures took { Taken (unfinished chunks.old body.old.items) piece.now result.used result.what (unfinished chunks.new body.new.items) }
-    ensures within { result.used ≤ length piece.now }
-    ensures after { After result.what chunks.new body.new.items }
-    ensures room { min (65536 - length body.new.items) (length piece.now - result.used) ≤ body.new.spare }
+    ensures took { IfOk result (λ cut. Taken (unfinished chunks.old body.old.items) piece.now cut.used cut.what (unfinished chunks.new body.new.items)) }
+    ensures within { IfOk result (λ cut. cut.used ≤ length piece.now) }
+    ensures after { IfOk result (λ cut. After cut.what chunks.new body.new.items) }
+    ensures room { IsErr result → wants_room (length body.old.items) (answer_from (unfinished chunks.old body.old.items) piece.now) ≡ true }
     ensures kept { take (length body.old.items) body.new.items ≡ body.old.items }
 {
     let cut = chunks.next(piece);
     let Part::Data = cut.what else {
-        return cut;
+        return Ok(cut);
     };
-    body.extend_reserved(&piece[..cut.used]);
-    cut
+    body.extend_from_slice(&piece[..cut.used])?;
+    Ok(cut)
 }
 
 /// Hands out the item that has ended.
@@ -171,6 +172,7 @@ fn end_item(body: &mut BytesMut) -> Result<Piece, AllocError>
     ensures sized { length body.old.items ≤ 65536 → IfOk result IsSized }
     ensures empty { OnOk result (body.new.items ≡ []) }
     ensures err { OnErr result (body.new.items ≡ body.old.items) }
+    ensures some { IsErr result → 0 < length body.old.items }
 {
     if body.is_empty() {
         return Ok(Piece::Noop);

@@ -1,11 +1,11 @@
 //! Laws on the definitions, for callers to rely on. Each function has an empty body, and its contract is the law.
 
 ghost use Rattle.std.specs.Prelude.{ℕ, List};
-ghost use Rattle.wire.specs.Offers.{OffersTaken};
+ghost use Rattle.wire.specs.Offers.{OffersTaken, ProposalsChoose};
 ghost use Rattle.wire.specs.Unfinished.{Unfinished};
 ghost use Rattle.wire.specs.Items.{answer_to};
 ghost use Rattle.wire.specs.Scanning.{CutsAgree};
-ghost use Rattle.wire.specs.Whole.{ReadsMessages, ReadsWhole, OneWhole, RefusesPast, TextsOne, NoShorter, BeginsNone, KeepsFew};
+ghost use Rattle.wire.specs.Whole.{ReadsMessages, ReadsWhole, OneWhole, RefusesPast, TextsOne, WritesRun, NoShorter, BeginsNone, KeepsFew};
 ghost use Rattle.wire.specs.Stream.{HandsOutItems, ReadsBack, KeepsWithin, ItemsOfParts, SplitsIntoRuns, TellsTooBig, TextIsShort, ReadsTexts, AnswerFacts};
 
 /// In whatever pieces a stream comes, the items of the bytes used are what was handed out.
@@ -83,6 +83,11 @@ pub fn texts_one()
     ensures { TextsOne }
 {}
 
+/// What `put_message` writes is one run, of its message, with every chunk but the last as long as a chunk may be.
+pub fn writes_run()
+    ensures { WritesRun }
+{}
+
 /// No text of a message is a proper beginning of another's.
 pub fn begins_none()
     ensures { BeginsNone }
@@ -96,6 +101,11 @@ pub fn keeps_few()
 /// Of what a client offers, a server of this product takes what it wishes; an offer has 20 bytes, and an answer to it 4.
 pub fn offers_taken()
     ensures { OffersTaken }
+{}
+
+/// Of proposals, the version chosen is the one that the first covers of those that cover any, by the rule of the handshake.
+pub fn proposals_choose()
+    ensures { ProposalsChoose }
 {}
 
 /// No run of a message is shorter than what `put_message` writes.

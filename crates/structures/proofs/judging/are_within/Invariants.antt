@@ -1,5 +1,5 @@
 use Rattle.std.proofs.Common.{◌≡◌, drop}
-use Rattle.structures.specs.Writing.{numbers_in_range}
+use Rattle.structures.specs.Steps.{numbers_in_range}
 use Rattle.structures.proofs.judging.are_within.Given as goal
 
 abbrev pub invariant-loop-i : goal.invariant-loop-i

@@ -5,7 +5,8 @@ use Rattle.packstream.specs.View.{tree, entry, trees, trees_of, entries_of, entr
 use Rattle.packstream.specs.declared.value.Value.{the_lemmas as value_lemmas}
 use Rattle.structures.specs.declared.table.Field.TheVariants.{Whole, Text, Labels, Properties, Nodes, Relationships, Indices}
 use Rattle.structures.specs.Faults.{structures, fault, is_list_of, has_tag}
-use Rattle.structures.specs.Form.{typed, all_fine}
+use Rattle.structures.specs.Form.{typed}
+use Rattle.structures.specs.Steps.{all_fine}
 use Rattle.structures.specs.Shape.{entries, text_of, texts_of, numbers_of, element_of, elements_of, node_shape, unbound_shape}
 use Rattle.structures.specs.declared.cell.Cell.{the_lemmas}
 use Rattle.structures.proofs.Scanning.{tree-Dict}

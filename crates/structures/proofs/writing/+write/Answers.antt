@@ -4,7 +4,8 @@ use Rattle.packstream.specs.Tree.{Tree, int, list, dict}
 use Rattle.packstream.specs.View.{tree, trees_of, entries_of}
 use Rattle.packstream.specs.declared.value.Value.{the_lemmas as value_lemmas}
 use Rattle.structures.specs.Faults.{structures}
-use Rattle.structures.specs.Form.{form, all_fine}
+use Rattle.structures.specs.Form.{form}
+use Rattle.structures.specs.Steps.{all_fine}
 use Rattle.structures.specs.Writing.{unwritten}
 use Rattle.structures.proofs.Fine.{fine_member, fine_pair}
 use Rattle.structures.proofs.Judged.{node_fine, unbound_fine, relationship_fine, path_nodes_fine, path_unbounds_fine}

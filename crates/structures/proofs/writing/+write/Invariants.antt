@@ -1,6 +1,7 @@
 use Rattle.std.proofs.Common.{◌≡◌, take, map}
 use Rattle.packstream.specs.View.{trees, entries as seen_entries}
-use Rattle.structures.specs.Form.{form, form_entry}
+use Rattle.structures.specs.Form.{form}
+use Rattle.structures.specs.Steps.{form_entry}
 use Rattle.structures.specs.Shape.{shapes, entries, node_shape, unbound_shape}
 use Rattle.structures.proofs.writing.+write.Given as goal
 

@@ -1,4 +1,4 @@
-use Rattle.std.proofs.Common.{◌≡◌, ◌-◌, ◌≤◌, false, min, length, take, drop}
+use Rattle.std.proofs.Common.{◌≡◌, ◌-◌, ◌≤◌, false, length, take, drop}
 use Rattle.wire.specs.Items.{answer_from, further}
 use Rattle.wire.specs.Unfinished.{unfinished}
 use Rattle.wire.specs.Scanning.{Holds}
@@ -9,7 +9,6 @@ invariant-loop-used l = record {
   within : l.used ≤ length l.piece;
   holds : Holds l.body.items l.chunks;
   going : l.chunks.too_big ≡ false;
-  room : min (65536 - length l.body.items) (length l.piece - l.used) ≤ l.body.spare;
   kept : take (length l.fn.body.items) l.body.items ≡ l.fn.body.items;
   ahead : answer_from (unfinished l.fn.chunks l.fn.body.items) l.piece ≡ further l.used (answer_from (unfinished l.chunks l.body.items) (drop l.used l.piece));
 }

@@ -1,0 +1,63 @@
+-- Which requests and responses are made of texts, of numbers in their ranges and of cells of a version. Each that was made in
+-- memory and written is, and each that was read.
+use Rattle.std.specs.Prelude.{◌≡◌, ℕ, List, FitsSigned, Option, None, Some, Ok}
+use Rattle.std.specs.Int.{w64}
+use Rattle.std.specs.Str.{IsUtf8}
+use Rattle.packstream.specs.Plain.{IsPlain}
+use Rattle.packstream.specs.Tree.{Tree, list, dict}
+use Rattle.packstream.specs.View.{entries_of, trees_of}
+use Rattle.wire.specs.declared.Version.{Version}
+use Rattle.structures.specs.Form.{Form}
+use Rattle.messages.specs.declared.request.Count.{Count}
+use Rattle.messages.specs.declared.request.Count.TheVariants.{All, Of}
+use Rattle.messages.specs.View.{Login, Ask, Hello, Logon, Logoff, Goodbye, Reset, Run, Begin, Commit, Rollback, Discard, Pull, Say, Success, Record, Ignored, Failure}
+use Rattle.messages.specs.Messages.{Req, Resp, request_of, response_of}
+use Rattle.messages.specs.Writing.{request_text, response_text}
+
+-- a cell of the version: a value with its texts in UTF-8 and its numbers in their ranges stands for it
+abbrev pub IsCell : Version → Tree → Type 0
+IsCell v s = (t : Tree) × IsPlain t × Form v s t
+
+abbrev pub HasTexts : Login → Type 0
+HasTexts l = IsUtf8 l.scheme × IsUtf8 l.principal × IsUtf8 l.credentials
+
+abbrev pub HasLogin : Option Login → Type 0
+HasLogin None = Unit {0}
+HasLogin (Some l) = HasTexts l
+
+abbrev pub IsCount : Count → Type 0
+IsCount All = Unit {0}
+IsCount (Of n) = FitsSigned w64 n
+
+abbrev pub IsRequest : Version → Ask → Type 0
+IsRequest v (Hello agent l) = IsUtf8 agent × HasLogin l
+IsRequest v (Logon l) = HasTexts l
+IsRequest v Logoff = Unit {0}
+IsRequest v Goodbye = Unit {0}
+IsRequest v Reset = Unit {0}
+IsRequest v (Run s ps m) = IsUtf8 s × IsCell v (dict (entries_of ps))
+IsRequest v (Begin m) = Unit {0}
+IsRequest v Commit = Unit {0}
+IsRequest v Rollback = Unit {0}
+IsRequest v (Discard c) = IsCount c
+IsRequest v (Pull c) = IsCount c
+
+abbrev pub IsResponse : Version → Say → Type 0
+IsResponse v (Success ms) = IsCell v (dict (entries_of ms))
+IsResponse v (Record cs) = IsCell v (list (trees_of cs))
+IsResponse v Ignored = Unit {0}
+IsResponse v (Failure code message) = IsUtf8 code × IsUtf8 message
+
+-- What has a text reads back: the text stands for the message, and is read as it.
+abbrev pub RequestsReadBack : Type 0
+RequestsReadBack = (v : Version) (m : Ask) (b : List ℕ) → IsRequest v m → request_text v m ≡ Ok b → Req v m b × (request_of v b ≡ Ok m)
+
+abbrev pub ResponsesReadBack : Type 0
+ResponsesReadBack = (v : Version) (m : Say) (b : List ℕ) → IsResponse v m → response_text v m ≡ Ok b → Resp v m b × (response_of v b ≡ Ok m)
+
+-- What was read is so made.
+abbrev pub RequestsAreMade : Type 0
+RequestsAreMade = (v : Version) (m : Ask) (b : List ℕ) → Req v m b → IsRequest v m
+
+abbrev pub ResponsesAreMade : Type 0
+ResponsesAreMade = (v : Version) (m : Say) (b : List ℕ) → Resp v m b → IsResponse v m

@@ -1,0 +1,60 @@
+-- The first key that stands before it too.
+use Rattle.std.proofs.Common.{◌≡◌, ◌<◌, ◌≤◌, ◌+◌, ℕ, zero, suc, List, [], ◌∷◌, ◌++◌, length, take, get_or, string_bytes, Bool, true, false, ◌==◌, Result, Ok, Err, refl, sym, ap, subst, ◌∙◌, arith, below_more, eqb-true}
+use Rattle.std.proofs.lemmas.Bool.{eqb-false}
+use Rattle.packstream.specs.declared.fault.Reason.{Reason}
+use Rattle.packstream.specs.declared.fault.Reason.TheVariants as reason
+use Rattle.packstream.specs.Tree.{Tree}
+use Rattle.packstream.specs.Good.{is_among}
+use Rattle.packstream.specs.Making.{first_fault, faults_in}
+use Rattle.packstream.specs.Twins.{Pair, names, stands_before, IsFirstTwin}
+use Rattle.std.specs.Ordering.{nat_cmp}
+use Rattle.std.specs.Cmp.Lexicographic.{slice_cmp}
+use Rattle.std.specs.BTreeSet.{BTreeSet, UpdatesBy}
+use Rattle.std.specs.Borrow.{Bor}
+use Rattle.packstream.specs.Reading.{Knows}
+use Rattle.packstream.proofs.Checking.{fault_again}
+use Rattle.packstream.proofs.Keys.{knows_more, names_take}
+
+abbrev pub AllNew : List Pair → ℕ → Type 0
+AllNew es i = (k : ℕ) → k < i → stands_before es k ≡ false
+
+pub name_is : (es : List Pair) (i : ℕ) (e : Pair) → i < length es → e ≡ get_or es i e → get_or (names es) i [] ≡ string_bytes e.0
+name_is [] i e h is = absurd (omega arith)
+name_is (x ∷ es) zero e h is = ap (λ (y : Pair). string_bytes y.0) (sym is)
+name_is (x ∷ es) (suc i) e h is = name_is es i e (omega arith) is
+
+-- whether a pair's key stands before it
+pub before_is : (es : List Pair) (i : ℕ) (e : Pair) → i < length es → e ≡ get_or es i e → stands_before es i ≡ is_among (string_bytes e.0) (names (take i es))
+before_is es i e h is = ap (λ (s : List ℕ). is_among s (names (take i es))) (name_is es i e h is)
+
+pub none_yet : (es : List Pair) → AllNew es 0
+none_yet es k h = absurd (omega arith)
+
+pub new_more : (es : List Pair) (i : ℕ) (e : Pair) → i < length es → e ≡ get_or es i e → AllNew es i → is_among (string_bytes e.0) (names (take i es)) ≡ false → AllNew es (i + 1)
+new_more es i e h is all f = below_more (λ k. stands_before es k ≡ false) i all (before_is es i e h is ∙ f)
+
+pub twin_here : (es : List Pair) (i : ℕ) (e : Pair) → i < length es → e ≡ get_or es i e → AllNew es i → is_among (string_bytes e.0) (names (take i es)) ≡ true → IsFirstTwin es i
+twin_here es i e h is all t = record { within = omega arith; fresh = all; twin = λ l. before_is es i e h is ∙ t }
+
+pub no_twin : (es : List Pair) (i : ℕ) → length es ≤ i → AllNew es i → IsFirstTwin es (length es)
+no_twin es i h all = record { within = omega arith; fresh = λ k l. all k (omega arith); twin = λ l. absurd (omega arith) }
+
+same_by : (es : List Pair) (n i : ℕ) (b : Bool) → (i == n) ≡ b → IsFirstTwin es n → i ≤ n → i < length es → stands_before es i ≡ b
+same_by es n i true e t le lt = let at : i ≡ n = eqb-true _ _ e in subst (λ (k : ℕ). stands_before es k ≡ true) (sym at) (t.twin (omega arith))
+same_by es n i false e t le lt = let off : i ≡ n → ⊥ = eqb-false _ _ e in t.fresh i (omega arith)
+
+-- up to the first twin, a key stands before it exactly where it is that
+pub twin_is : (es : List Pair) (n i : ℕ) (e : Pair) → IsFirstTwin es n → i ≤ n → i < length es → e ≡ get_or es i e → (i == n) ≡ is_among (string_bytes e.0) (names (take i es))
+twin_is es n i e t le lt is = sym (same_by es n i (i == n) refl t le lt) ∙ before_is es i e lt is
+
+-- what passes isn't the twin
+pub still_before : (n i h at next : ℕ) (t : Tree) (b : Bool) → (i == n) ≡ b → i ≤ n → ◌≡◌ {A = Result ℕ (Reason × ℕ)} (Ok next) (first_fault (faults_in h b t) at) → i + 1 ≤ n
+still_before n i h at next t true e le f = absurd (let two : ◌≡◌ {A = Result ℕ (Reason × ℕ)} (Ok next) (Err (reason.KeyTwice, at)) = f ∙ fault_again t h at in cc)
+still_before n i h at next t false e le f = let off : i ≡ n → ⊥ = eqb-false _ _ e in omega arith
+
+-- the set has one key more
+pub knows_one_more : (old new : BTreeSet (Bor (List ℕ))) (es : List Pair) (i : ℕ) (e : Pair) (k : List ℕ) → i < length es → e ≡ get_or es i e → k ≡ string_bytes e.0 → Knows old (names (take i es))
+    → UpdatesBy (λ x y. slice_cmp nat_cmp x.now y.now) (λ y. slice_cmp nat_cmp k y.now) old new true → Knows new (names (take (i + 1) es))
+knows_one_more old new es i e k h is key knows up =
+    let more : names (take (i + 1) es) ≡ names (take i es) ++ k ∷ [] = names_take es i e h ∙ ap (λ (y : Pair). names (take i es) ++ string_bytes y.0 ∷ []) (sym is) ∙ ap (λ (s : List ℕ). names (take i es) ++ s ∷ []) (sym key) in
+    subst (λ (ns : List (List ℕ)). Knows new ns) (sym more) (knows_more old new (names (take i es)) k knows up)

@@ -1,0 +1,5 @@
+use Rattle.packstream.proofs.FirstTwin.{AllNew}
+use Rattle.packstream.proofs.twins.twin_compared.Given as goal
+
+abbrev pub invariant-loop-i : goal.invariant-loop-i
+invariant-loop-i l = AllNew l.pairs l.i

@@ -1,0 +1,8 @@
+use Rattle.std.proofs.Common.{take}
+use Rattle.packstream.specs.Twins.{names}
+use Rattle.packstream.specs.Reading.{Knows}
+use Rattle.packstream.proofs.FirstTwin.{AllNew}
+use Rattle.packstream.proofs.twins.twin_in_set.Given as goal
+
+abbrev pub invariant-loop-i : goal.invariant-loop-i
+invariant-loop-i l = AllNew l.pairs l.i × Knows l.seen (names (take l.i l.pairs))

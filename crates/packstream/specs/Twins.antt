@@ -1,0 +1,21 @@
+-- The first pair of a dictionary whose key stands before it too. Proofs alone need it.
+use Rattle.std.specs.Prelude.{◌≡◌, ◌<◌, ◌≤◌, ℕ, List, [], length, take, map, get_or, Bool, true, false, String, string_bytes}
+use Rattle.std.proofs.Common.{Global}
+use Rattle.packstream.specs.declared.value.Value.{Value}
+use Rattle.packstream.specs.Good.{is_among}
+
+abbrev pub Pair : Type 0
+Pair = String Global × Value
+
+abbrev pub names : List Pair → List (List ℕ)
+names es = map (λ e. string_bytes e.0) es
+
+-- the key of the pair with this index is one of those before it
+abbrev pub stands_before : List Pair → ℕ → Bool
+stands_before es k = is_among (get_or (names es) k []) (names (take k es))
+
+-- n is the index of the first such pair, or the number of pairs where there is none
+pub record IsFirstTwin (es : List Pair) (n : ℕ) : Type 0 where
+  pub within : n ≤ length es
+  pub fresh : (k : ℕ) → k < n → stands_before es k ≡ false
+  pub twin : n < length es → stands_before es n ≡ true

@@ -1,0 +1,78 @@
+-- What the code sees of values and cells, a part at a time. Proofs alone need it.
+use Rattle.std.specs.Prelude.{◌≡◌, ℕ, suc, zero, ℤ, nat_lt, map, length, List, [], ◌∷◌, ◌++◌, Bool, true, false, not, ◌&&◌, ◌==◌, Option, None, Some, is_none, Result, Ok, Err}
+use Rattle.packstream.specs.Tree.{Tree, null, boolean, int, float, byte_string, text, list, dict, structure, Trees, no_trees, tree_then, Entries, no_entries, entry_then}
+use Rattle.packstream.specs.View.{trees_of}
+use Rattle.wire.specs.declared.Version.{Version}
+use Rattle.structures.specs.declared.table.Field.{Field}
+use Rattle.structures.specs.declared.fault.Reason.{Reason}
+use Rattle.structures.specs.declared.fault.Reason.TheVariants.{NotInVersion, Range, PathShape}
+use Rattle.structures.specs.Table.{Row, row_in, table, kinds}
+use Rattle.structures.specs.Faults.{FaultOf, first_failed, are_kinds, in_range, is_walk, is_text}
+use Rattle.structures.specs.Form.{typed, form}
+use Rattle.structures.specs.Writing.{tag_at}
+
+abbrev pub typed_entry : List ℕ × Tree → List ℕ × Tree
+typed_entry e = (e.0, typed e.1)
+
+-- each of these structures passes by itself
+abbrev pub all_fine : FaultOf → List (ℕ × Trees) → Bool
+all_fine f [] = true
+all_fine f (s ∷ ss) = is_none (f s.0 s.1) && all_fine f ss
+
+abbrev pub tree_at : ℕ → Trees → Tree
+tree_at i no_trees = null
+tree_at zero (tree_then t ts) = t
+tree_at (suc i) (tree_then t ts) = tree_at i ts
+
+-- the texts of the fields 5 to 7, where they are texts
+abbrev pub ReadElements : Trees → Trees → Type 0
+ReadElements ts es =
+    is_text (tree_at 5 ts) ≡ true → is_text (tree_at 6 ts) ≡ true → is_text (tree_at 7 ts) ≡ true
+    → es ≡ tree_then (typed (tree_at 5 ts)) (tree_then (typed (tree_at 6 ts)) (tree_then (typed (tree_at 7 ts)) no_trees))
+
+abbrev pub form_entry : Version → List ℕ × Tree → List ℕ × Tree
+form_entry v e = (e.0, form v e.1)
+
+-- The fault of one typed cell but for a path's walk, by its number of fields and the numbers that they begin with.
+abbrev pub numbers_in_range : List ℤ → List Field → Bool
+numbers_in_range [] ks = true
+numbers_in_range (z ∷ zs) [] = true
+numbers_in_range (z ∷ zs) (k ∷ ks) = in_range k (int z) && numbers_in_range zs ks
+
+abbrev pub judged_by : Result (List Field) Reason → ℕ → List ℤ → Option Reason
+judged_by (Ok ks) n zs = first_failed ((n == length ks, NotInVersion) ∷ (numbers_in_range zs ks, Range) ∷ [])
+judged_by (Err r) n zs = Some r
+
+abbrev pub judged : Version → ℕ → ℕ → List ℤ → Option Reason
+judged v tag n zs = judged_by (kinds v (tag_at v tag)) n zs
+
+-- the fault of a path by its numbers of nodes and relationships and its indices
+abbrev pub walk_fault : ℕ → ℕ → List ℤ → Option Reason
+walk_fault nodes relationships indices =
+    first_failed ((nat_lt 0 nodes && is_walk nodes relationships true (trees_of (map int indices)), PathShape) ∷ [])
+
+-- Each structure is one of the table, with its fields or those that version 5.1 adds too, of their kinds; local
+-- seconds don't occur. So are the trees of cells.
+abbrev pub is_row : Option Row → Trees → Bool
+is_row None ts = false
+is_row (Some r) ts = are_kinds (r.fields ++ r.added) ts
+
+abbrev mutual
+  pub is_typed : Tree → Bool
+  is_typed null = true
+  is_typed (boolean b) = true
+  is_typed (int z) = true
+  is_typed (float n) = true
+  is_typed (byte_string s) = true
+  is_typed (text s) = true
+  is_typed (list ts) = are_typed ts
+  is_typed (dict es) = have_typed es
+  is_typed (structure tag ts) = not (tag == 0x46) && (is_row (row_in tag table) ts && are_typed ts)
+
+  pub are_typed : Trees → Bool
+  are_typed no_trees = true
+  are_typed (tree_then t ts) = is_typed t && are_typed ts
+
+  pub have_typed : Entries → Bool
+  have_typed no_entries = true
+  have_typed (entry_then k t es) = is_typed t && have_typed es
