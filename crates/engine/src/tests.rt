@@ -1,4 +1,5 @@
 use super::*;
+use indexmap::IndexMap;
 use std::alloc::{AllocError, Global};
 use std::test::*;
 use structures::Cell;
@@ -8,11 +9,17 @@ fn text(alloc: Global, bytes: &str) -> Result<Cell, AllocError> {
 }
 
 fn write(alloc: Global, key: &str, value: i64) -> Result<Vec<Write>, AllocError> {
+    puts(alloc, &[(key, value)])
+}
+
+fn puts(alloc: Global, pairs: &[(&str, i64)]) -> Result<Vec<Write>, AllocError> {
     let mut writes = Vec::new(alloc);
-    writes.push(Write {
-        key: String::from_str(alloc, key)?,
-        value: Cell::Int(value),
-    })?;
+    for (key, value) in pairs {
+        writes.push(Write {
+            key: String::from_str(alloc, key)?,
+            value: Cell::Int(*value),
+        })?;
+    }
     Ok(writes)
 }
 
@@ -113,6 +120,29 @@ fn own_writes(rt: HostRuntime) -> Result<(), Fail> {
     let none = table.run(&[], "GET", &key_param(alloc, "c")?, Mode::Read)?;
     assert!(rt; reads_numbers(&none, "value", &[]));
     assert!(rt; table.ledger().len() == 3);
+    Ok(())
+}
+
+/// Whether the pair at a place has this key and number.
+fn is_pair(pairs: &IndexMap<String, Cell>, place: usize, key: &str, n: i64) -> bool {
+    match pairs.get_index(place) {
+        Some((held, value)) => held.as_str() == key && is_int(value, n),
+        None => false,
+    }
+}
+
+#[test]
+fn key_twice_in_a_commit(rt: HostRuntime) -> Result<(), Fail> {
+    let alloc = rt.alloc();
+    let mut table = FixedTable::new(alloc);
+    let id = EntryId {
+        conn: 0,
+        ordinal: 4,
+    };
+    let len = table.commit(id, puts(alloc, &[("a", 1), ("b", 2), ("a", 3)])?);
+    assert!(rt; matches!(len, Ok(1)));
+    let pairs = table.pairs();
+    assert!(rt; pairs.len() == 2 && is_pair(pairs, 0, "a", 3) && is_pair(pairs, 1, "b", 2));
     Ok(())
 }
 
@@ -267,5 +297,13 @@ fn one_user(rt: HostRuntime) -> Result<(), Fail> {
     assert!(rt; gate.check("user", "pass"));
     assert!(rt; !gate.check("user", "bad"));
     assert!(rt; !gate.check("other", "pass"));
+    Ok(())
+}
+
+#[test]
+fn one_user_prints_no_credentials(rt: HostRuntime) -> Result<(), Fail> {
+    let gate = OneUser::new(rt.alloc(), "user", "pass")?;
+    let printed = format!(in rt.alloc(); "{gate:?}")?;
+    assert!(rt; printed.as_str() == "OneUser { principal: \"user\", .. }");
     Ok(())
 }
