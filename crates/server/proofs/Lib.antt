@@ -1,0 +1,16 @@
+pub mod Readings
+pub mod Queues
+pub mod Placed
+pub mod Calls
+pub mod Saids
+pub mod Writes
+pub mod Replies
+pub mod Turns
+pub mod Bounds
+pub mod Runs
+pub mod Ledgers
+pub mod Streams
+pub mod Arriving
+pub mod Following
+pub mod Pasts
+pub mod Looks

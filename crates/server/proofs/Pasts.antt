@@ -1,0 +1,257 @@
+-- What came of the bytes of each session, over every list of calls.
+use Rattle.std.proofs.Common.{◌≡◌, ◌≢◌, refl, sym, ◌∙◌, ap, subst, ℕ, ◌≤◌, Bool, true, false, cond, eqb, ◌⊎◌, inl, inr, Option, Some, None, Result, Ok, Err, List, [], ◌∷◌, ◌++◌, take, arith, append-nil, append_assoc}
+use Rattle.std.specs.Prelude.{option_map}
+use Rattle.std.proofs.lemmas.Bool.Decides.{nat_tests}
+use Rattle.wire.specs.declared.Version.{Version}
+use Rattle.wire.specs.Unfinished.{fresh as unread}
+use Rattle.wire.specs.Stream.{items_of}
+use Rattle.wire.specs.Whole.{whole}
+use Rattle.messages.specs.View.{Ask}
+use Rattle.messages.specs.Messages.{request_of}
+use Rattle.messages.specs.declared.fault.MsgFault.{MsgFault}
+use Rattle.messages.specs.Arrivals.{Arrival, Shook, NoMagic, Idle, Asked, Unread, TooLong, arrivals, asked_of, then_asked, without_idle}
+use Rattle.messages.proofs.Wholes.{arrives_whole}
+use Rattle.engine.specs.declared.answer.Mode.{Mode as QueryMode}
+use Rattle.engine.specs.Views.{WriteView, ParameterView, EntryView, AnswerView, QueryFault}
+use Rattle.server.specs.Rest.{take_kept, work_kept}
+use Rattle.server.specs.Serving.{Live, Rest, after_step, empty, fed_live, find, fresh, is_full, noop_put, opened, replace, setting, taken_from, with_kept, with_session, without}
+use Rattle.server.specs.Running.{AreBelow, Event, opens, feeds, works, takes, noops, loses, after_call, after_event, after_events}
+use Rattle.server.specs.Past.{Asks, Follows, answered_by, bytes_taken, call_answered, placed, requests_answered, step_answered, took_by, used_of}
+use Rattle.server.proofs.Bounds.{FewRows}
+use Rattle.server.proofs.Following.{follows_begun, follows_feed, follows_noop, follows_same, follows_unsent, follows_work}
+use Rattle.server.proofs.Runs.{Held, find-conn, find_other-replace, held_empty, held_event}
+
+-- Who is found after a call.
+find_replaced : (conn : ℕ) (s t : Live) (ss : List Live) → find conn ss ≡ Some s → t.conn ≡ conn → find conn (replace conn t ss) ≡ Some t
+find_replaced conn s t [] f e = cc
+find_replaced conn s t (r ∷ ss) f e = elim (eqb r.conn conn) as (λ c. eqb r.conn conn ≡ c → cond c (Some r) (find conn ss) ≡ Some s → find conn (cond c (t ∷ ss) (r ∷ replace conn t ss)) ≡ Some t) [
+  | true ↦ λ h g. let same : eqb t.conn conn ≡ true = grind (arith, nat_tests) in rw same refl
+  | false ↦ λ h g. rw h (find_replaced conn s t ss g e)
+] refl f
+
+find_below : (n conn : ℕ) (ss : List Live) → AreBelow n ss → n ≤ conn → find conn ss ≡ None
+find_below n conn [] h l = refl
+find_below n conn (s ∷ ss) h l =
+    let other : eqb s.conn conn ≡ false = let b = h.0 in grind (arith, nat_tests) in
+    rw other (find_below n conn ss h.2 l)
+
+find_kept : (n c conn : ℕ) (ss : List Live) (s : Live) → AreBelow n ss → find conn (without c ss) ≡ Some s → find conn ss ≡ Some s
+find_kept n c conn [] s h f = cc
+find_kept n c conn (r ∷ ss) s h f = elim (eqb r.conn c) as (λ b. find conn (cond b ss (r ∷ without c ss)) ≡ Some s → cond (eqb r.conn conn) (Some r) (find conn ss) ≡ Some s) [
+  | true ↦ λ g. elim (eqb r.conn conn) as (λ b. eqb r.conn conn ≡ b → cond b (Some r) (find conn ss) ≡ Some s) [
+    | true ↦ λ e.
+        let same : r.conn ≡ conn = grind (arith, nat_tests, e) in
+        let none : find conn ss ≡ None = ap (λ k. find k ss) (sym same) ∙ h.1 in
+        cc
+    | false ↦ λ e. g
+  ] refl
+  | false ↦ λ g. elim (eqb r.conn conn) as (λ b. cond b (Some r) (find conn (without c ss)) ≡ Some s → cond b (Some r) (find conn ss) ≡ Some s) [
+    | true ↦ λ e. e
+    | false ↦ λ e. find_kept n c conn ss s h.2 e
+  ] g
+] f
+
+find_pushed : (conn n : ℕ) (ss : List Live) (s : Live) → find conn (ss ++ fresh n ∷ []) ≡ Some s → (find conn ss ≡ Some s) ⊎ ((conn ≡ n) × (s ≡ fresh n))
+find_pushed conn n [] s f = elim (eqb n conn) as (λ b. eqb n conn ≡ b → cond b (Some (fresh n)) None ≡ Some s → (None ≡ Some s) ⊎ ((conn ≡ n) × (s ≡ fresh n))) [
+  | true ↦ λ e g. let same : conn ≡ n = grind (arith, nat_tests, e) in let is : fresh n ≡ s = cc in inr (same, sym is)
+  | false ↦ λ e g. inl g
+] refl f
+find_pushed conn n (r ∷ ss) s f = elim (eqb r.conn conn) as (λ b. cond b (Some r) (find conn (ss ++ fresh n ∷ [])) ≡ Some s → (cond b (Some r) (find conn ss) ≡ Some s) ⊎ ((conn ≡ n) × (s ≡ fresh n))) [
+  | true ↦ λ g. inl g
+  | false ↦ λ g. find_pushed conn n ss s g
+] f
+
+-- after a call on one session: it, or another
+record Its (c conn : ℕ) (s t : Live) : Type 0 where
+  test : eqb c conn ≡ true
+  same : conn ≡ c
+  is : s ≡ t
+
+record Others (c conn : ℕ) (s : Live) (ss : List Live) : Type 0 where
+  test : eqb c conn ≡ false
+  found : find conn ss ≡ Some s
+
+whose : (c conn : ℕ) (before t s : Live) (ss : List Live) → find c ss ≡ Some before → t.conn ≡ c → find conn (replace t.conn t ss) ≡ Some s → Its c conn s t ⊎ Others c conn s ss
+whose c conn before t s ss f e g = elim (eqb c conn) as (λ b. eqb c conn ≡ b → Its c conn s t ⊎ Others c conn s ss) [
+  | true ↦ λ h.
+      let same : conn ≡ c = grind (arith, nat_tests, h) in
+      let there : find c (replace c t ss) ≡ Some t = find_replaced c before t ss f e in
+      let here : find c (replace c t ss) ≡ Some s = ap (λ n. find n (replace c t ss)) (sym same) ∙ ap (λ n. find conn (replace n t ss)) (sym e) ∙ g in
+      let is : Some s ≡ Some t = sym here ∙ there in
+      inl (record { test = h; same = same; is = cc })
+  | false ↦ λ h.
+      let differ : c ≢ conn = grind (arith, nat_tests, h) in
+      inr (record { test = h; found = sym (find_other-replace conn c t ss differ e) ∙ ap (λ n. find conn (replace n t ss)) (sym e) ∙ g })
+] refl
+
+-- What is known of each live session, and that nothing came of the numbers that aren't given yet.
+record Traced {G : Type 0} (r : Rest G) (taken : ℕ → List ℕ) (answered : ℕ → List Ask) : Type 0 where
+  live : (conn : ℕ) (s : Live) → find conn r.sessions ≡ Some s → Follows (taken conn) (answered conn) s
+  none : (conn : ℕ) → r.next ≤ conn → (taken conn ≡ []) × (answered conn ≡ [])
+
+traced_same : {G : Type 0} (r : Rest G) (taken more : ℕ → List ℕ) (answered later : ℕ → List Ask) → ((n : ℕ) → more n ≡ taken n) → ((n : ℕ) → later n ≡ answered n) → Traced r taken answered → Traced r more later
+traced_same r taken more answered later b a h = record {
+  live = λ conn s f. follows_same (taken conn) (more conn) (answered conn) (later conn) s (b conn) (a conn) (h.live conn s f);
+  none = λ conn l. (b conn ∙ (h.none conn l).0, a conn ∙ (h.none conn l).1);
+}
+
+module _ {G : Type 0} (answer : List EntryView → List WriteView → List ℕ → List ParameterView → QueryMode → Result AnswerView QueryFault) (few : (ledger : List EntryView) (own : List WriteView) (query : List ℕ) (params : List ParameterView) (m : QueryMode) → FewRows (answer ledger own query params m)) (accepts : G → List ℕ → List ℕ → Bool) where
+  module _ (r : Rest G) (taken : ℕ → List ℕ) (answered : ℕ → List Ask) (numbers : AreBelow r.next r.sessions) (h : Traced r taken answered) where
+    still : (conn : ℕ) (s : Live) (b : List ℕ) (a : List Ask) → b ≡ [] → a ≡ [] → find conn r.sessions ≡ Some s → Follows (taken conn ++ b) (answered conn ++ a) s
+    still conn s b a none_taken none_answered f =
+        follows_same (taken conn) (taken conn ++ b) (answered conn) (answered conn ++ a) s (ap (λ z. taken conn ++ z) none_taken ∙ append-nil (taken conn)) (ap (λ z. answered conn ++ z) none_answered ∙ append-nil (answered conn)) (h.live conn s f)
+
+    if_none : {A : Type 0} (b : Bool) → cond {A = List A} b [] [] ≡ []
+    if_none true = refl
+    if_none false = refl
+
+    if_other : {A : Type 0} (b : Bool) (xs : List A) → b ≡ false → cond b xs [] ≡ []
+    if_other true xs e = cc
+    if_other false xs e = refl
+
+    if_its : {A : Type 0} (b : Bool) (xs : List A) → b ≡ true → cond b xs [] ≡ xs
+    if_its true xs e = refl
+    if_its false xs e = cc
+
+    -- a call on one session
+    called : (c conn : ℕ) (before t s : Live) (b : List ℕ) (a : List Ask) → find c r.sessions ≡ Some before → t.conn ≡ c → (Follows (taken c) (answered c) before → Follows (taken c ++ b) (answered c ++ a) t)
+        → find conn (replace t.conn t r.sessions) ≡ Some s → Follows (taken conn ++ cond (eqb c conn) b []) (answered conn ++ cond (eqb c conn) a []) s
+    called c conn before t s b a f e keeps g = go (whose c conn before t s r.sessions f e g)
+      where
+        go : Its c conn s t ⊎ Others c conn s r.sessions → Follows (taken conn ++ cond (eqb c conn) b []) (answered conn ++ cond (eqb c conn) a []) s
+        go (inl i) = follows_same (taken c ++ b) _ (answered c ++ a) _ s
+            (ap (λ z. taken conn ++ z) (if_its (eqb c conn) b i.test) ∙ ap (λ n. taken n ++ b) i.same)
+            (ap (λ z. answered conn ++ z) (if_its (eqb c conn) a i.test) ∙ ap (λ n. answered n ++ a) i.same)
+            (subst (λ x. Follows (taken c ++ b) (answered c ++ a) x) (sym i.is) (keeps (h.live c before f)))
+        go (inr o) = still conn s _ _ (if_other (eqb c conn) b o.test) (if_other (eqb c conn) a o.test) o.found
+
+    pushed : (conn : ℕ) (s : Live) (b : Bool) → find conn (cond b r (opened r)).sessions ≡ Some s → Follows (taken conn ++ []) (answered conn ++ []) s
+    pushed conn s true f = still conn s [] [] refl refl f
+    pushed conn s false f = go (find_pushed conn r.next r.sessions s f)
+      where
+        go : (find conn r.sessions ≡ Some s) ⊎ ((conn ≡ r.next) × (s ≡ fresh r.next)) → Follows (taken conn ++ []) (answered conn ++ []) s
+        go (inl g) = still conn s [] [] refl refl g
+        go (inr g) =
+            let none = h.none conn (omega (arith, g.0)) in
+            follows_same [] (taken conn ++ []) [] (answered conn ++ []) s (ap (λ z. z ++ []) none.0) (ap (λ z. z ++ []) none.1) (subst (λ x. Follows [] [] x) (sym g.1) (follows_begun r.next))
+
+    fed : (c conn : ℕ) (piece : List ℕ) (s : Live) (o : Option Live) → find c r.sessions ≡ o → find conn (after_call (option_map (λ t. ((fed_live t piece).0, with_session (fed_live t piece).1 r)) o) r).sessions ≡ Some s
+        → Follows (taken conn ++ cond (eqb c conn) (used_of piece (option_map (λ t. ((fed_live t piece).0, with_session (fed_live t piece).1 r)) o)) []) (answered conn ++ []) s
+    fed c conn piece s None e f = still conn s _ [] (if_none (eqb c conn)) refl f
+    fed c conn piece s (Some t) e f =
+        follows_same _ _ (answered conn ++ cond (eqb c conn) [] []) (answered conn ++ []) s refl (ap (λ z. answered conn ++ z) (sym (if_none (eqb c conn))))
+        (called c conn t (fed_live t piece).1 s (take (fed_live t piece).0.used piece) [] e (find-conn c r.sessions t e)
+        (λ k. follows_same _ _ (answered c) (answered c ++ []) _ refl (append-nil (answered c)) (follows_feed (taken c) (answered c) t k piece)) f)
+
+    worked : (c conn : ℕ) (s : Live) (o : Option Live) → find c r.sessions ≡ o
+        → find conn (after_call (option_map (λ t. after_step t (work_kept (setting answer accepts r) t.conn r.ledger t.kept t.kept.ended) r) o) r).sessions ≡ Some s
+        → Follows (taken conn ++ []) (answered conn ++ cond (eqb c conn) (step_answered answer accepts o r) []) s
+    worked c conn s None e f = still conn s [] _ refl (if_none (eqb c conn)) f
+    worked c conn s (Some t) e f =
+        let d = work_kept (setting answer accepts r) t.conn r.ledger t.kept t.kept.ended in
+        follows_same (taken conn ++ cond (eqb c conn) [] []) (taken conn ++ []) _ _ s (ap (λ z. taken conn ++ z) (sym (if_none (eqb c conn)))) refl
+        (called c conn t (with_kept t d.kept) s [] (answered_by d.answer) e (find-conn c r.sessions t e)
+        (λ k. follows_same (taken c) (taken c ++ []) _ _ _ (append-nil (taken c)) refl (follows_work (setting answer accepts r) r.ledger (taken c) (answered c) t k)) f)
+
+    -- a call that neither takes bytes nor answers
+    kept_call : {A : Type 0} (c conn : ℕ) (f : Live → A × Live) (s : Live) → ((t : Live) → (f t).1.conn ≡ t.conn) → ((b : List ℕ) (a : List Ask) (t : Live) → Follows b a t → Follows b a (f t).1) → (o : Option Live) → find c r.sessions ≡ o
+        → find conn (after_call (option_map (λ t. ((f t).0, with_session (f t).1 r)) o) r).sessions ≡ Some s → Follows (taken conn ++ []) (answered conn ++ []) s
+    kept_call c conn f s keeps follows None e g = still conn s [] [] refl refl g
+    kept_call c conn f s keeps follows (Some t) e g =
+        follows_same (taken conn ++ cond (eqb c conn) [] []) (taken conn ++ []) (answered conn ++ cond (eqb c conn) [] []) (answered conn ++ []) s
+        (ap (λ z. taken conn ++ z) (sym (if_none (eqb c conn)))) (ap (λ z. answered conn ++ z) (sym (if_none (eqb c conn))))
+        (called c conn t (f t).1 s [] [] e (keeps t ∙ find-conn c r.sessions t e)
+        (λ k. follows_same (taken c) (taken c ++ []) (answered c) (answered c ++ []) _ (append-nil (taken c)) (append-nil (answered c)) (follows (taken c) (answered c) t k)) g)
+
+    traced_live : (e : Event) (conn : ℕ) (s : Live) → find conn (after_event answer accepts e r).sessions ≡ Some s → Follows (taken conn ++ took_by conn e r) (answered conn ++ call_answered answer accepts conn e r) s
+    traced_live opens conn s f = pushed conn s (is_full r) f
+    traced_live (feeds c piece) conn s f = fed c conn piece s (find c r.sessions) refl f
+    traced_live (works c) conn s f = worked c conn s (find c r.sessions) refl f
+    traced_live (takes c max) conn s f = kept_call c conn (taken_from max) s (λ t. refl) (λ b a t k. follows_unsent b a t (take_kept max t.kept).unsent k) (find c r.sessions) refl f
+    traced_live (noops c) conn s f = kept_call c conn noop_put s (λ t. refl) follows_noop (find c r.sessions) refl f
+    traced_live (loses c) conn s f = still conn s [] [] refl refl (find_kept r.next c conn r.sessions s numbers f)
+
+    next_call : {A : Type 0} (f : Live → A × Rest G) → ((t : Live) → (f t).1.next ≡ r.next) → (o : Option Live) → (after_call (option_map f o) r).next ≡ r.next
+    next_call f e None = refl
+    next_call f e (Some t) = e t
+
+    next_open : (b : Bool) → r.next ≤ (cond b r (opened r)).next
+    next_open true = omega arith
+    next_open false = omega arith
+
+    next_grows : (e : Event) → r.next ≤ (after_event answer accepts e r).next
+    next_grows opens = next_open (is_full r)
+    next_grows (feeds c piece) = let n = next_call (λ t. ((fed_live t piece).0, with_session (fed_live t piece).1 r)) (λ t. refl) (find c r.sessions) in omega (arith, n)
+    next_grows (works c) = let n = next_call (λ t. after_step t (work_kept (setting answer accepts r) t.conn r.ledger t.kept t.kept.ended) r) (λ t. refl) (find c r.sessions) in omega (arith, n)
+    next_grows (takes c max) = let n = next_call (λ t. ((taken_from max t).0, with_session (taken_from max t).1 r)) (λ t. refl) (find c r.sessions) in omega (arith, n)
+    next_grows (noops c) = let n = next_call (λ t. ((noop_put t).0, with_session (noop_put t).1 r)) (λ t. refl) (find c r.sessions) in omega (arith, n)
+    next_grows (loses c) = omega arith
+
+    -- nothing comes of a number that isn't given
+    if_found : {A : Type 0} (c conn : ℕ) (f : Option Live → List A) → f None ≡ [] → find conn r.sessions ≡ None → cond (eqb c conn) (f (find c r.sessions)) [] ≡ []
+    if_found c conn f e none = elim (eqb c conn) as (λ b. eqb c conn ≡ b → cond b (f (find c r.sessions)) [] ≡ []) [
+      | true ↦ λ t. let same : c ≡ conn = grind (arith, nat_tests, t) in ap (λ n. f (find n r.sessions)) same ∙ ap f none ∙ e
+      | false ↦ λ t. refl
+    ] refl
+
+    nothing : (e : Event) (conn : ℕ) → find conn r.sessions ≡ None → (took_by conn e r ≡ []) × (call_answered answer accepts conn e r ≡ [])
+    nothing opens conn f = (refl, refl)
+    nothing (feeds c piece) conn f = (if_found c conn (λ o. used_of piece (option_map (λ t. ((fed_live t piece).0, with_session (fed_live t piece).1 r)) o)) refl f, refl)
+    nothing (works c) conn f = (refl, if_found c conn (λ o. step_answered answer accepts o r) refl f)
+    nothing (takes c max) conn f = (refl, refl)
+    nothing (noops c) conn f = (refl, refl)
+    nothing (loses c) conn f = (refl, refl)
+
+    traced_event : (e : Event) → Traced (after_event answer accepts e r) (λ n. taken n ++ took_by n e r) (λ n. answered n ++ call_answered answer accepts n e r)
+    traced_event e = record {
+      live = traced_live e;
+      none = λ conn l.
+          let below : r.next ≤ conn = let g = next_grows e in omega arith in
+          let before = h.none conn below in
+          let none = nothing e conn (find_below r.next conn r.sessions numbers below) in
+          (ap (λ z. z ++ took_by conn e r) before.0 ∙ none.0, ap (λ z. z ++ call_answered answer accepts conn e r) before.1 ∙ none.1);
+    }
+
+  traced_events : (es : List Event) (r : Rest G) (taken : ℕ → List ℕ) (answered : ℕ → List Ask) → Held r → Traced r taken answered
+      → Traced (after_events answer accepts es r) (λ n. taken n ++ bytes_taken answer accepts n es r) (λ n. answered n ++ requests_answered answer accepts n es r)
+  traced_events [] r taken answered k h = traced_same r taken _ answered _ (λ n. append-nil (taken n)) (λ n. append-nil (answered n)) h
+  traced_events (e ∷ es) r taken answered k h =
+      let after = after_event answer accepts e r in
+      traced_same (after_events answer accepts es after) _ _ _ _ (λ n. sym (append_assoc (taken n) (took_by n e r) (bytes_taken answer accepts n es after)))
+      (λ n. sym (append_assoc (answered n) (call_answered answer accepts n e r) (requests_answered answer accepts n es after)))
+      (traced_events es after (λ n. taken n ++ took_by n e r) (λ n. answered n ++ call_answered answer accepts n e r) (held_event answer few accepts e r k) (traced_event r taken answered k.numbers h e))
+
+  -- nothing has come of a server without sessions
+  untraced : (ledger : List EntryView) (gate : G) → Traced (empty ledger gate) (λ n. []) (λ n. [])
+  untraced ledger gate = record { live = λ conn s f. let bad : None ≡ Some s = f in cc; none = λ conn l. (refl, refl) }
+
+  pub places_follow : (ledger : List EntryView) (gate : G) (events : List Event) (conn : ℕ) (s : Live) → find conn (after_events answer accepts events (empty ledger gate)).sessions ≡ Some s
+      → Follows (bytes_taken answer accepts conn events (empty ledger gate)) (requests_answered answer accepts conn events (empty ledger gate)) s
+  places_follow ledger gate events conn s f = (traced_events events (empty ledger gate) (λ n. []) (λ n. []) (held_empty ledger gate) (untraced ledger gate)).live conn s f
+
+-- What arrives after an offer takes its places by the grammar of chunks.
+placed_quiet : (xs : List Arrival) → placed (without_idle xs) ≡ placed xs
+placed_quiet [] = refl
+placed_quiet (Shook o ∷ xs) = placed_quiet xs
+placed_quiet (NoMagic ∷ xs) = placed_quiet xs
+placed_quiet (Idle ∷ xs) = placed_quiet xs
+placed_quiet (Asked q ∷ xs) = ap (λ z. Asked q ∷ z) (placed_quiet xs)
+placed_quiet (Unread e ∷ xs) = ap (λ z. Unread e ∷ z) (placed_quiet xs)
+placed_quiet (TooLong ∷ xs) = ap (λ z. TooLong ∷ z) (placed_quiet xs)
+
+placed_all : (v : Version) (ms : List (List ℕ)) (past : Bool) → placed (asked_of v ms past) ≡ asked_of v ms past
+placed_all v [] true = refl
+placed_all v [] false = refl
+placed_all v (b ∷ ms) past = go (request_of v b) (placed_all v ms past)
+  where
+    go : (r : Result Ask MsgFault) → placed (asked_of v ms past) ≡ asked_of v ms past → placed (then_asked r (asked_of v ms past)) ≡ then_asked r (asked_of v ms past)
+    go (Ok q) h = ap (λ z. Asked q ∷ z) h
+    go (Err e) h = refl
+
+pub follows_asks : (bytes : List ℕ) (answered : List Ask) (s : Live) → Follows bytes answered s → Asks bytes answered s
+follows_asks bytes answered s h =
+    λ offer more v long shakes is.
+    h.places ∙ ap (λ z. placed (arrivals z)) is
+    ∙ sym (placed_quiet (arrivals (offer ++ more)))
+    ∙ ap placed (arrives_whole offer more v long shakes)
+    ∙ placed_all v (whole more) (items_of unread more).rest.too_big

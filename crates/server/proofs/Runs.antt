@@ -1,0 +1,210 @@
+-- What is kept over every list of calls.
+use Rattle.std.proofs.Common.{◌≡◌, ◌≢◌, ℕ, suc, ◌+◌, ◌^◌, ◌<◌, ◌≤◌, List, [], ◌∷◌, ◌++◌, length, Bool, cond, true, false, eqb, leb, Option, Some, None, Result, refl, sym, ap, subst, ◌∙◌, length-append, lit≤, arith}
+use Rattle.std.specs.Prelude.{option_map, ◌||◌}
+use Rattle.std.proofs.lemmas.Bool.Decides.{nat_tests}
+use Rattle.engine.specs.declared.answer.Mode.{Mode as QueryMode}
+use Rattle.engine.specs.Views.{WriteView, ParameterView, EntryView, AnswerView, QueryFault}
+use Rattle.server.specs.Serving.{empty, with_sessions, committed, Live, Rest, fresh, find, replace, without, is_full, opened, fed_live, taken_from, noop_put, on_live, with_kept, with_session, after_step, setting}
+use Rattle.server.specs.Rest.{work_kept}
+use Rattle.server.proofs.Bounds.{Fine, fine_bounded, FewRows, few_answers, begun_fine, feed_fine, work_fine, taken_fine, noop_fine}
+use Rattle.server.specs.Running.{AllBounded, AreBelow, IsKept, after_events, Event, opens, feeds, works, takes, noops, loses, after_call, after_event, conn_of}
+
+pub find-conn : (conn : ℕ) (ss : List Live) (s : Live) → find conn ss ≡ Some s → s.conn ≡ conn
+find-conn conn [] s e = cc
+find-conn conn (r ∷ ss) s e = elim (eqb r.conn conn) as (λ c. eqb r.conn conn ≡ c → cond c (Some r) (find conn ss) ≡ Some s → s.conn ≡ conn) [
+  | true ↦ λ t f. let same : r ≡ s = cc in let here : r.conn ≡ conn = grind (arith, nat_tests, t) in ap (λ (q : Live). q.conn) (sym same) ∙ here
+  | false ↦ λ t f. find-conn conn ss s f
+] refl e
+
+-- another number finds what it found
+pub find_other-replace : (other conn : ℕ) (t : Live) (ss : List Live) → conn ≢ other → t.conn ≡ conn → find other (replace conn t ss) ≡ find other ss
+find_other-replace other conn t [] differ e = refl
+find_other-replace other conn t (s ∷ ss) differ e = elim (eqb s.conn conn) as (λ c. eqb s.conn conn ≡ c → find other (cond c (t ∷ ss) (s ∷ replace conn t ss)) ≡ cond (eqb s.conn other) (Some s) (find other ss)) [
+  | true ↦ λ h.
+      let not_t : eqb t.conn other ≡ false = grind (arith, nat_tests) in
+      let not_s : eqb s.conn other ≡ false = grind (arith, nat_tests) in
+      rw (not_t, not_s) refl
+  | false ↦ λ h. ap (cond (eqb s.conn other) (Some s)) (find_other-replace other conn t ss differ e)
+] refl
+
+pub find_other-without : (other conn : ℕ) (ss : List Live) → conn ≢ other → find other (without conn ss) ≡ find other ss
+find_other-without other conn [] differ = refl
+find_other-without other conn (s ∷ ss) differ = elim (eqb s.conn conn) as (λ c. eqb s.conn conn ≡ c → find other (cond c ss (s ∷ without conn ss)) ≡ cond (eqb s.conn other) (Some s) (find other ss)) [
+  | true ↦ λ h. let not_s : eqb s.conn other ≡ false = grind (arith, nat_tests) in rw not_s refl
+  | false ↦ λ h. ap (cond (eqb s.conn other) (Some s)) (find_other-without other conn ss differ)
+] refl
+
+pub find_other-push : (other n : ℕ) (ss : List Live) → n ≢ other → find other (ss ++ fresh n ∷ []) ≡ find other ss
+find_other-push other n [] differ = let no : eqb n other ≡ false = grind (arith, nat_tests) in rw no refl
+find_other-push other n (s ∷ ss) differ = ap (cond (eqb s.conn other) (Some s)) (find_other-push other n ss differ)
+
+-- A call on one session leaves every other as it was.
+module _ {G : Type 0} (answer : List EntryView → List WriteView → List ℕ → List ParameterView → QueryMode → Result AnswerView QueryFault) (accepts : G → List ℕ → List ℕ → Bool) (other : ℕ) where
+  other_call : {A : Type 0} (r : Rest G) (conn : ℕ) (f : Live → A × Rest G) → ((s : Live) → s.conn ≡ conn → find other (f s).1.sessions ≡ find other r.sessions) → (o : Option Live) → find conn r.sessions ≡ o → find other (after_call (option_map f o) r).sessions ≡ find other r.sessions
+  other_call r conn f k None e = refl
+  other_call r conn f k (Some s) e = k s (find-conn conn r.sessions s e)
+
+  other_live : {A : Type 0} (r : Rest G) (conn : ℕ) (f : Live → A × Live) → ((s : Live) → (f s).1.conn ≡ s.conn) → conn ≢ other → find other (after_call (on_live f conn r) r).sessions ≡ find other r.sessions
+  other_live r conn f keeps differ =
+      other_call r conn (λ s. ((f s).0, with_session (f s).1 r)) (λ s e. ap (λ n. find other (replace n (f s).1 r.sessions)) (keeps s ∙ e) ∙ find_other-replace other conn (f s).1 r.sessions differ (keeps s ∙ e)) (find conn r.sessions) refl
+
+  other_open : (r : Rest G) (b : Bool) → r.next ≢ other → find other (cond b r (opened r)).sessions ≡ find other r.sessions
+  other_open r true differ = refl
+  other_open r false differ = find_other-push other r.next r.sessions differ
+
+  pub leaves_others : (e : Event) (r : Rest G) → conn_of e r ≢ other → find other (after_event answer accepts e r).sessions ≡ find other r.sessions
+  leaves_others opens r differ = other_open r (is_full r) differ
+  leaves_others (feeds conn piece) r differ = other_live r conn (λ s. fed_live s piece) (λ s. refl) differ
+  leaves_others (works conn) r differ =
+      other_call r conn (λ s. after_step s (work_kept (setting answer accepts r) s.conn r.ledger s.kept s.kept.ended) r)
+      (λ s e. let t = with_kept s (work_kept (setting answer accepts r) s.conn r.ledger s.kept s.kept.ended).kept in ap (λ n. find other (replace n t r.sessions)) e ∙ find_other-replace other conn t r.sessions differ e) (find conn r.sessions) refl
+  leaves_others (takes conn max) r differ = other_live r conn (taken_from max) (λ s. refl) differ
+  leaves_others (noops conn) r differ = other_live r conn noop_put (λ s. refl) differ
+  leaves_others (loses conn) r differ = find_other-without other conn r.sessions differ
+
+-- What every session keeps.
+pub AllFine : List Live → Type 0
+AllFine [] = Unit {0}
+AllFine (s ∷ ss) = Fine s.kept s.unfinished × AllFine ss
+
+all_bounded : (ss : List Live) → AllFine ss → AllBounded ss
+unfolding AllFine
+all_bounded [] h = tt
+all_bounded (s ∷ ss) h = (fine_bounded s h.0, all_bounded ss h.1)
+
+replace-fine : (conn : ℕ) (t : Live) (ss : List Live) → AllFine ss → Fine t.kept t.unfinished → AllFine (replace conn t ss)
+unfolding AllFine
+replace-fine conn t [] h b = tt
+replace-fine conn t (s ∷ ss) h b = elim (eqb s.conn conn) as (λ c. AllFine (cond c (t ∷ ss) (s ∷ replace conn t ss))) [
+  | true ↦ (b, h.1)
+  | false ↦ (h.0, replace-fine conn t ss h.1 b)
+]
+
+without-fine : (conn : ℕ) (ss : List Live) → AllFine ss → AllFine (without conn ss)
+unfolding AllFine
+without-fine conn [] h = tt
+without-fine conn (s ∷ ss) h = elim (eqb s.conn conn) as (λ c. AllFine (cond c ss (s ∷ without conn ss))) [
+  | true ↦ h.1
+  | false ↦ (h.0, without-fine conn ss h.1)
+]
+
+push-fine : (ss : List Live) (t : Live) → AllFine ss → Fine t.kept t.unfinished → AllFine (ss ++ t ∷ [])
+unfolding AllFine
+push-fine [] t h b = (b, tt)
+push-fine (s ∷ ss) t h b = (h.0, push-fine ss t h.1 b)
+
+find-fine : (conn : ℕ) (ss : List Live) (s : Live) → AllFine ss → find conn ss ≡ Some s → Fine s.kept s.unfinished
+unfolding AllFine
+find-fine conn [] s h e = cc
+find-fine conn (r ∷ ss) s h e = elim (eqb r.conn conn) as (λ c. cond c (Some r) (find conn ss) ≡ Some s → Fine s.kept s.unfinished) [
+  | true ↦ λ f. let same : r ≡ s = cc in subst (λ (l : Live). Fine l.kept l.unfinished) same h.0
+  | false ↦ λ f. find-fine conn ss s h.1 f
+] e
+
+length-replace : (conn : ℕ) (t : Live) (ss : List Live) → length (replace conn t ss) ≡ length ss
+length-replace conn t [] = refl
+length-replace conn t (s ∷ ss) = elim (eqb s.conn conn) as (λ c. length (cond c (t ∷ ss) (s ∷ replace conn t ss)) ≡ suc (length ss)) [
+  | true ↦ refl
+  | false ↦ ap suc (length-replace conn t ss)
+]
+
+length-without : (conn : ℕ) (ss : List Live) → length (without conn ss) ≤ length ss
+length-without conn [] = omega arith
+length-without conn (s ∷ ss) = elim (eqb s.conn conn) as (λ c. length (cond c ss (s ∷ without conn ss)) ≤ suc (length ss)) [
+  | true ↦ omega arith
+  | false ↦ let h : length (without conn ss) ≤ length ss = length-without conn ss in omega arith
+]
+
+replace-below : (n conn : ℕ) (t : Live) (ss : List Live) → t.conn ≡ conn → AreBelow n ss → AreBelow n (replace conn t ss)
+replace-below n conn t [] e h = tt
+replace-below n conn t (s ∷ ss) e h = elim (eqb s.conn conn) as (λ c. eqb s.conn conn ≡ c → AreBelow n (cond c (t ∷ ss) (s ∷ replace conn t ss))) [
+  | true ↦ λ q.
+      let here : t.conn ≡ s.conn = grind (arith, nat_tests) in
+      (omega arith, ap (λ k. find k ss) here ∙ h.1, h.2)
+  | false ↦ λ q.
+      let differ : conn ≢ s.conn = grind (arith, nat_tests) in
+      (h.0, find_other-replace s.conn conn t ss differ e ∙ h.1, replace-below n conn t ss e h.2)
+] refl
+
+without-below : (n conn : ℕ) (ss : List Live) → AreBelow n ss → AreBelow n (without conn ss)
+without-below n conn [] h = tt
+without-below n conn (s ∷ ss) h = elim (eqb s.conn conn) as (λ c. eqb s.conn conn ≡ c → AreBelow n (cond c ss (s ∷ without conn ss))) [
+  | true ↦ λ q. h.2
+  | false ↦ λ q.
+      let differ : conn ≢ s.conn = grind (arith, nat_tests) in
+      (h.0, find_other-without s.conn conn ss differ ∙ h.1, without-below n conn ss h.2)
+] refl
+
+push-below : (n : ℕ) (ss : List Live) → AreBelow n ss → AreBelow (n + 1) (ss ++ fresh n ∷ [])
+push-below n [] h = (omega arith, refl, tt)
+push-below n (s ∷ ss) h =
+    let differ : n ≢ s.conn = omega (arith, h.0) in
+    (omega (arith, h.0), find_other-push s.conn n ss differ ∙ h.1, push-below n ss h.2)
+
+or-left : (a b : Bool) → (a || b) ≡ false → a ≡ false
+or-left true b e = e
+or-left false b e = refl
+
+few_if : (ss : List Live) (n : ℕ) → (leb 16 (length ss) || leb (2 ^ 63) n) ≡ false → length ss < 16
+few_if ss n e = let few : leb 16 (length ss) ≡ false = or-left _ _ e in grind (arith, nat_tests, few)
+
+none_fine : AllFine []
+unfolding AllFine
+none_fine = tt
+
+pub record Held {G : Type 0} (r : Rest G) : Type 0 where
+  pub fine : AllFine r.sessions
+  pub live : length r.sessions ≤ 16
+  pub numbers : AreBelow r.next r.sessions
+
+pub held_empty : {G : Type 0} (ledger : List EntryView) (gate : G) → Held (empty ledger gate)
+held_empty ledger gate = record { fine = none_fine; live = lit≤ tt; numbers = tt }
+
+module _ {G : Type 0} where
+  held_replace : (r : Rest G) (conn : ℕ) (t : Live) (ledger : List EntryView) → Held r → Fine t.kept t.unfinished → t.conn ≡ conn → (let w : Rest G = record { sessions = replace t.conn t r.sessions; next = r.next; ledger = ledger; gate = r.gate } in Held w)
+  held_replace r conn t ledger h b e = record {
+    fine = replace-fine t.conn t r.sessions h.fine b;
+    live = rw (length-replace t.conn t r.sessions) h.live;
+    numbers = replace-below r.next t.conn t r.sessions refl h.numbers;
+  }
+
+  held_without : (r : Rest G) (conn : ℕ) → Held r → Held (with_sessions (without conn r.sessions) r)
+  held_without r conn h = record {
+    fine = without-fine conn r.sessions h.fine;
+    live = let shorter : length (without conn r.sessions) ≤ length r.sessions = length-without conn r.sessions in omega (arith, h.live);
+    numbers = without-below r.next conn r.sessions h.numbers;
+  }
+
+  held_call : {A : Type 0} (r : Rest G) (conn : ℕ) (f : Live → A × Rest G) → Held r → ((s : Live) → Fine s.kept s.unfinished → s.conn ≡ conn → Held (f s).1) → (o : Option Live) → find conn r.sessions ≡ o → Held (after_call (option_map f o) r)
+  held_call r conn f h k None e = h
+  held_call r conn f h k (Some s) e = k s (find-fine conn r.sessions s h.fine e) (find-conn conn r.sessions s e)
+
+  held_open : (r : Rest G) (b : Bool) → is_full r ≡ b → Held r → Held (cond b r (opened r))
+  held_open r true e h = h
+  held_open r false e h = record {
+    fine = push-fine r.sessions (fresh r.next) h.fine begun_fine;
+    live = let few : length r.sessions < 16 = few_if r.sessions r.next e in omega (arith, length-append r.sessions (fresh r.next ∷ []));
+    numbers = push-below r.next r.sessions h.numbers;
+  }
+
+module _ {G : Type 0} (answer : List EntryView → List WriteView → List ℕ → List ParameterView → QueryMode → Result AnswerView QueryFault) (few : (ledger : List EntryView) (own : List WriteView) (query : List ℕ) (params : List ParameterView) (m : QueryMode) → FewRows (answer ledger own query params m)) (accepts : G → List ℕ → List ℕ → Bool) where
+  pub held_event : (e : Event) (r : Rest G) → Held r → Held (after_event answer accepts e r)
+  held_event opens r h = held_open r (is_full r) refl h
+  held_event (feeds conn piece) r h = held_call r conn _ h (λ s b e. held_replace r conn (fed_live s piece).1 r.ledger h (feed_fine s.unfinished piece s.kept b) e) (find conn r.sessions) refl
+  held_event (works conn) r h =
+      let S = setting answer accepts r in
+      held_call r conn (λ s. after_step s (work_kept S s.conn r.ledger s.kept s.kept.ended) r) h
+      (λ s b e. let d = work_kept S s.conn r.ledger s.kept s.kept.ended in
+      held_replace r conn (with_kept s d.kept) (r.ledger ++ committed s.conn s.kept.first d.commit) h (work_fine S (few_answers S few) s.conn r.ledger s.kept s.unfinished s.kept.ended b) e) (find conn r.sessions) refl
+  held_event (takes conn max) r h = held_call r conn _ h (λ s b e. held_replace r conn (taken_from max s).1 r.ledger h (taken_fine max s.kept s.unfinished b) e) (find conn r.sessions) refl
+  held_event (noops conn) r h = held_call r conn _ h (λ s b e. held_replace r conn (noop_put s).1 r.ledger h (noop_fine s.kept s.unfinished b) e) (find conn r.sessions) refl
+  held_event (loses conn) r h = held_without r conn h
+
+  held_events : (events : List Event) (r : Rest G) → Held r → Held (after_events answer accepts events r)
+  held_events [] r h = h
+  held_events (e ∷ es) r h = held_events es (after_event answer accepts e r) (held_event e r h)
+
+  pub keeps_limits : (ledger : List EntryView) (gate : G) (events : List Event) → IsKept (after_events answer accepts events (empty ledger gate))
+  keeps_limits ledger gate events =
+      let h = held_events events (empty ledger gate) (held_empty ledger gate) in
+      record { bounded = all_bounded _ h.fine; live = h.live; numbers = h.numbers }

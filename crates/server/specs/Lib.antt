@@ -1,0 +1,13 @@
+pub mod Faults
+pub mod Said
+pub mod Session
+pub mod Rest
+pub mod Serving
+pub mod Sound
+pub mod Rows
+pub mod Views
+pub mod Places
+pub mod Acts
+pub mod Running
+pub mod Past
+pub mod Looking

@@ -1,0 +1,178 @@
+//! Up to sixteen sessions over one engine and one gate.
+ghost use Rattle.std.specs.Prelude.{◌≡◌, List, IfOk, IfSome, IsErrOf};
+ghost use Rattle.server.specs.Serving.{Rest, empty, find, feed_at, work_at, take_out_at, noop_at, lost_at, state_at, cause_at, is_full, Answers, Opens, MayFeed, MayWork, MayPutNoop, IsCounted};
+ghost use Rattle.server.specs.Views.{Fits};
+
+use crate::kinds::{Cause, Refused, Took, Worked};
+use crate::places::place_of;
+use crate::session::Session;
+use bytes::Bytes;
+use engine::{Engine, Gate};
+use machine::State;
+use std::alloc::Global;
+
+/// The most sessions that live.
+const MAX_SESSIONS: usize = 16;
+
+/// The numbers of connections stay below this.
+const MAX_NUMBERS: u64 = 1 << 63;
+
+/// A server: its live sessions in the order in which they were opened, over one engine and one gate.
+#[derive(Drop)]
+pub struct Server<E, G> {
+    engine: E,
+    gate: G,
+    sessions: Vec<Session>,
+    next: u64,
+    alloc: Global,
+}
+
+impl<E: Engine, G: Gate> Server<E, G> {
+    /// A server without sessions. Takes no memory.
+    #[tactic(auto, unfolding(crate::specs::Views::Fits))]
+    pub fn new(alloc: Global, engine: E, gate: G) -> Server<E, G>
+        ensures { Fits E.entries result (empty (E.entries engine) gate) }
+    {
+        Server {
+            engine,
+            gate,
+            sessions: Vec::new(alloc),
+            next: 0,
+            alloc,
+        }
+    }
+
+    /// Whether `open` would refuse: 16 sessions live, or no number is left. Takes no memory.
+    #[tactic(auto, unfolding(crate::specs::Views::Fits))]
+    pub fn is_full(&self) -> bool
+        ensures { (r : Rest G) → Fits E.entries self.now r → result ≡ is_full r }
+    {
+        MAX_SESSIONS <= self.sessions.len() || MAX_NUMBERS <= self.next
+    }
+
+    /// Opens a session, and answers its number. Numbers go from 0, each once.
+    #[tactic(auto, unfolding(crate::specs::Views::Fits))]
+    pub fn open(&mut self) -> Result<u64, Refused>
+        ensures { (r : Rest G) → Fits E.entries self.old r → Opens result r (Fits E.entries self.new) }
+    {
+        if self.sessions.len() >= MAX_SESSIONS || self.next >= MAX_NUMBERS {
+            return Err(Refused::SessionsFull);
+        }
+        let conn = self.next;
+        let Ok(session) = Session::new(self.alloc, conn) else {
+            return Err(Refused::Memory);
+        };
+        if self.sessions.push(session).is_err() {
+            return Err(Refused::Memory);
+        }
+        self.next += 1;
+        Ok(conn)
+    }
+
+    /// Takes at most one handshake, no-op or message of the piece, else all of it.
+    #[tactic(auto, unfolding(crate::specs::Views::Fits))]
+    pub fn feed(&mut self, conn: u64, piece: &[u8]) -> Result<Took, Refused>
+        ensures answers { (r : Rest G) → Fits E.entries self.old r → Answers result (feed_at conn piece.now r) r (Fits E.entries self.new) }
+        ensures memory { (r : Rest G) → Fits E.entries self.old r → IsErrOf result Refused.Memory → IfSome (find conn r.sessions) MayFeed }
+    {
+        let Some(at) = place_of(&self.sessions, conn) else {
+            return Err(Refused::NoSuchConnection);
+        };
+        let session = &mut self.sessions[at];
+        let Ok(took) = session.feed(piece) else {
+            return Err(Refused::Memory);
+        };
+        Ok(took)
+    }
+
+    /// Does one step of a session: a row, a summary or an end.
+    #[tactic(auto, unfolding(crate::specs::Views::Fits))]
+    pub fn work(&mut self, conn: u64) -> Result<Worked, Refused>
+        ensures answers { (r : Rest G) → Fits E.entries self.old r → Answers result (work_at E.answer G.accepts conn r) r (Fits E.entries self.new) }
+        ensures memory { (r : Rest G) → Fits E.entries self.old r → IsErrOf result Refused.Memory → IfSome (find conn r.sessions) MayWork }
+        ensures counted { IfOk result IsCounted }
+    {
+        let Some(at) = place_of(&self.sessions, conn) else {
+            return Err(Refused::NoSuchConnection);
+        };
+        let session = &mut self.sessions[at];
+        let Ok(worked) = session.work(&mut self.engine, &self.gate) else {
+            return Err(Refused::Memory);
+        };
+        Ok(worked)
+    }
+
+    /// Takes out the smaller of `max` and what waits to go, in order.
+    #[tactic(auto, unfolding(crate::specs::Views::Fits))]
+    pub fn take_out(&mut self, conn: u64, max: usize) -> Result<Bytes, Refused>
+        ensures { (r : Rest G) → Fits E.entries self.old r → Answers result (take_out_at conn max r) r (Fits E.entries self.new) }
+    {
+        let Some(at) = place_of(&self.sessions, conn) else {
+            return Err(Refused::NoSuchConnection);
+        };
+        let session = &mut self.sessions[at];
+        let Ok(bytes) = session.take_out(max) else {
+            return Err(Refused::Memory);
+        };
+        Ok(bytes)
+    }
+
+    /// Puts a no-op, and answers whether it did: not before a version is chosen, after the end, or while 65,536 bytes or more wait
+    /// to go.
+    #[tactic(auto, unfolding(crate::specs::Views::Fits))]
+    pub fn noop(&mut self, conn: u64) -> Result<bool, Refused>
+        ensures answers { (r : Rest G) → Fits E.entries self.old r → Answers result (noop_at conn r) r (Fits E.entries self.new) }
+        ensures memory { (r : Rest G) → Fits E.entries self.old r → IsErrOf result Refused.Memory → IfSome (find conn r.sessions) MayPutNoop }
+    {
+        let Some(at) = place_of(&self.sessions, conn) else {
+            return Err(Refused::NoSuchConnection);
+        };
+        let session = &mut self.sessions[at];
+        let Ok(put) = session.noop() else {
+            return Err(Refused::Memory);
+        };
+        Ok(put)
+    }
+
+    /// Gives a session up, and answers the cause of its end; `Lost` where it hadn't ended, None where it doesn't live. Takes no memory.
+    #[tactic(auto, unfolding(crate::specs::Views::Fits))]
+    pub fn lost(&mut self, conn: u64) -> Option<Cause>
+        ensures { (r : Rest G) → Fits E.entries self.old r → (result ≡ (lost_at conn r).0) × Fits E.entries self.new (lost_at conn r).1 }
+    {
+        match place_of(&self.sessions, conn) {
+            None => None,
+            Some(at) => {
+                let session = self.sessions.remove(at);
+                Some(session.cause().unwrap_or(Cause::Lost))
+            }
+        }
+    }
+
+    /// The state of a live session. Takes no memory.
+    #[tactic(auto, unfolding(crate::specs::Views::Fits))]
+    pub fn state(&self, conn: u64) -> Option<State>
+        ensures { (r : Rest G) → Fits E.entries self.now r → result ≡ state_at conn r }
+    {
+        let at = place_of(&self.sessions, conn)?;
+        let session = &self.sessions[at];
+        Some(session.state())
+    }
+
+    /// Why a live session has ended, where it has. Takes no memory.
+    #[tactic(auto, unfolding(crate::specs::Views::Fits))]
+    pub fn cause(&self, conn: u64) -> Option<Cause>
+        ensures { (r : Rest G) → Fits E.entries self.now r → result ≡ cause_at conn r }
+    {
+        let at = place_of(&self.sessions, conn)?;
+        let session = &self.sessions[at];
+        session.cause()
+    }
+
+    /// Lends the engine. Takes no memory.
+    #[tactic(auto, unfolding(crate::specs::Views::Fits))]
+    pub fn engine(&self) -> &E
+        ensures { (r : Rest G) → Fits E.entries self.now r → E.entries result.now ≡ r.ledger }
+    {
+        &self.engine
+    }
+}
