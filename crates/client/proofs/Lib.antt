@@ -1,0 +1,11 @@
+pub mod Judging
+pub mod Waiting
+pub mod Foreseeing
+pub mod Taking
+pub mod Pieces
+pub mod Steps
+pub mod Later
+pub mod Hears
+pub mod Runs
+pub mod Few
+pub mod Refusing

@@ -1,0 +1,121 @@
+-- What a piece does to the rest of a client's run.
+use Rattle.std.proofs.Common.{◌≡◌, refl, sym, ◌∙◌, ap, subst, ℕ, ◌<◌, ◌≤◌, Bool, true, false, Option, Some, None, Result, Ok, Err, List, [], ◌∷◌, length, arith}
+use Rattle.std.specs.Prelude.{IfOk, IsErrOf, if◌then◌else◌}
+use Rattle.wire.specs.declared.Wish.{Wish}
+use Rattle.wire.specs.Framing.{Item, Opened, at_client}
+use Rattle.wire.specs.Reader.{Took, ends_at, takes}
+use Rattle.wire.proofs.Readers.{reads_pieces}
+use Rattle.messages.specs.Arrivals.{Heard as AnyHeard}
+use Rattle.client.specs.declared.heard.Heard.{Heard}
+use Rattle.client.specs.declared.faults.ClientFault.{ClientFault}
+use Rattle.client.specs.declared.faults.ClientFault.TheVariants as client_fault
+use Rattle.client.specs.Rest.{Rest, Knows, Hearing, Note, note_of, heard_as, hears_item, fed_heard, fed_item, fed_open, fed}
+use Rattle.client.specs.Notes.{note, noted}
+use Rattle.client.specs.Fits.{UnlessMemory}
+use Rattle.client.specs.Hearings.{plain, came_in, Hears, Feeds}
+
+-- bytes that stand for nothing are all heard alike
+same_plain : (r : Rest) (used : ℕ) (x : AnyHeard) → fed_heard r used x (hears_item r.wish r.knows x) ≡ fed_heard r used (plain x) (hears_item r.wish r.knows (plain x))
+same_plain r used (AnyHeard.Chosen o) = refl
+same_plain r used AnyHeard.Strange = refl
+same_plain r used AnyHeard.Quiet = refl
+same_plain r used (AnyHeard.Told a) = refl
+same_plain r used (AnyHeard.Unheard e) = refl
+same_plain r used AnyHeard.Over = refl
+
+fed_came : (r : Rest) (used : ℕ) (o : Option Item) → fed_item r used o ≡ fed_heard r used (came_in r.knows.version o) (hears_item r.wish r.knows (came_in r.knows.version o))
+fed_came r used None = refl
+fed_came r used (Some x) = same_plain r used (heard_as r.knows.version x)
+
+-- what is told of a piece, from what is told of its item
+ok_note : (used : ℕ) (n m : Note) (b : Bool) → ◌≡◌ {A = Result Note ClientFault} (Ok n) (if b then Err client_fault.BadPeer else Ok m) → ◌≡◌ {A = Result (ℕ × Note) ClientFault} (Ok (used, n)) (if b then Err client_fault.BadPeer else Ok (used, m))
+ok_note used n m true h = absurd cc
+ok_note used n m false h = let e : n ≡ m = cc in ap (λ z. Ok (used, z)) e
+
+err_note : (used : ℕ) (e : ClientFault) (m : Note) (b : Bool) → ◌≡◌ {A = Result Note ClientFault} (Err e) (if b then Err client_fault.BadPeer else Ok m)
+    → (e ≡ client_fault.BadPeer) × (◌≡◌ {A = Result (ℕ × Note) ClientFault} (Err client_fault.BadPeer) (if b then Err client_fault.BadPeer else Ok (used, m)))
+err_note used e m true h = (cc, refl)
+err_note used e m false h = absurd cc
+
+module _ (r : Rest) (m : Took Opened Item) (x : AnyHeard) (came : x ≡ came_in r.knows.version m.item) (knows : Knows) (item : Opened) (kept : item ≡ m.rest) where
+  abbrev heard : Hearing
+  heard = hears_item r.wish r.knows x
+
+  abbrev after : Rest
+  after = record r { item = item; knows = knows }
+
+  same_rest : knows ≡ heard.knows → after ≡ record r { item = m.rest; knows = heard.knows }
+  same_rest e = ap (λ i. record r { item = i; knows = knows }) kept ∙ ap (λ z. record r { item = m.rest; knows = z }) e
+
+  by_heard : fed_open r m ≡ fed_heard (record r { item = m.rest }) m.used x heard
+  by_heard = fed_came (record r { item = m.rest }) m.used m.item ∙ ap (λ y. fed_heard (record r { item = m.rest }) m.used y (hears_item r.wish r.knows y)) (sym came)
+
+  pub heard_feeds : (used : ℕ) (told : Heard) → used ≡ m.used → Hears heard x (Ok told) knows → Feeds r (fed_open r m) (Ok (used, told)) after
+  heard_feeds used told u k =
+      (ap (λ n. Ok (n, note told)) u ∙ ok_note m.used (note told) (note_of x heard) heard.bad k.0 ∙ sym (ap (λ f. f.answer) by_heard), same_rest k.1 ∙ sym (ap (λ f. f.rest) by_heard))
+
+  pub refused_feeds : (e : ClientFault) → Hears heard x (Err e) knows → Feeds r (fed_open r m) (Err e) after
+  refused_feeds e k =
+      let bad = err_note m.used e (note_of x heard) heard.bad k.0 in
+      subst (λ z. Feeds r (fed_open r m) (Err z) after) (sym bad.0) (bad.1 ∙ sym (ap (λ f. f.answer) by_heard), same_rest k.1 ∙ sym (ap (λ f. f.rest) by_heard))
+
+-- a message past the limit ends the client
+pub spoils_going : (wish : Wish) (k : Knows) (x : AnyHeard) (big : Bool) → (big ≡ true → x ≡ AnyHeard.Strange) → (hears_item wish k x).knows.over ≡ false → big ≡ false
+spoils_going wish k x false h o = refl
+spoils_going wish k x true h o = let e = ap (λ y. (hears_item wish k y).knows.over) (h refl) in absurd cc
+
+-- for every rest that the client fitted
+same_open : (r : Rest) (piece : List ℕ) → r.knows.over ≡ false → fed r piece ≡ fed_open r (takes at_client r.item piece)
+same_open r piece o = rw o refl
+
+pub feeds_rests : (old new : Rest) (piece : List ℕ) (result : Result (ℕ × Heard) ClientFault) → old.knows.over ≡ false → Feeds old (fed_open old (takes at_client old.item piece)) result new
+    → (r : Rest) → old ≡ r → UnlessMemory result ((noted result ≡ (fed r piece).answer) × (new ≡ (fed r piece).rest))
+feeds_rests old new piece result o h r e = subst (λ z. UnlessMemory result ((noted result ≡ (fed z piece).answer) × (new ≡ (fed z piece).rest))) e (go result h)
+  where
+    f : fed old piece ≡ fed_open old (takes at_client old.item piece)
+    f = same_open old piece o
+
+    go : (x : Result (ℕ × Heard) ClientFault) → Feeds old (fed_open old (takes at_client old.item piece)) x new → UnlessMemory x ((noted x ≡ (fed old piece).answer) × (new ≡ (fed old piece).rest))
+    go (Ok used) k = (k.0 ∙ sym (ap (λ z. z.answer) f), k.1 ∙ sym (ap (λ z. z.rest) f))
+    go (Err client_fault.Closed) k = (k.0 ∙ sym (ap (λ z. z.answer) f), k.1 ∙ sym (ap (λ z. z.rest) f))
+    go (Err client_fault.BadPeer) k = (k.0 ∙ sym (ap (λ z. z.answer) f), k.1 ∙ sym (ap (λ z. z.rest) f))
+    go (Err client_fault.Memory) k = tt
+
+pub keeps_rests : (old new : Rest) (piece : List ℕ) (result : Result (ℕ × Heard) ClientFault) → old.knows.over ≡ false → Feeds old (fed_open old (takes at_client old.item piece)) result new
+    → (r : Rest) → old ≡ r → IsErrOf result client_fault.Memory → (new ≡ r) × (r.knows.over ≡ false)
+keeps_rests old new piece result o h r e = go result h
+  where
+    go : (x : Result (ℕ × Heard) ClientFault) → Feeds old (fed_open old (takes at_client old.item piece)) x new → IsErrOf x client_fault.Memory → (new ≡ r) × (r.knows.over ≡ false)
+    go (Ok used) k m = absurd cc
+    go (Err client_fault.Closed) k m = absurd cc
+    go (Err client_fault.BadPeer) k m = absurd cc
+    go (Err client_fault.Memory) k m = (k ∙ e, sym (ap (λ z. z.knows.over) e) ∙ o)
+
+-- how many bytes are used: some, where there are any, and no more than there are
+some_used : (s : Opened) (piece : List ℕ) → 0 < length piece → 0 < (takes at_client s piece).used
+some_used s [] h = h
+some_used s (b ∷ bs) h = go (at_client.item s b) (takes at_client (at_client.byte s b) bs)
+  where
+    go : (o : Option Item) (t : Took Opened Item) → 0 < (ends_at (at_client.byte s b) o t).used
+    go None t = omega arith
+    go (Some x) t = omega arith
+
+abbrev used_in : Result (ℕ × Note) ClientFault → ℕ
+used_in (Ok t) = t.0
+used_in (Err e) = 0
+
+told_used : (used n : ℕ) (m note : Note) (b : Bool) → ◌≡◌ {A = Result (ℕ × Note) ClientFault} (Ok (used, m)) (if b then Err client_fault.BadPeer else Ok (n, note)) → used ≡ n
+told_used used n m note true h = absurd cc
+told_used used n m note false h = ap used_in h
+
+item_used : (r : Rest) (used n : ℕ) (m : Note) (o : Option Item) → Ok (used, m) ≡ (fed_item r n o).answer → used ≡ n
+item_used r used n m None h = ap used_in h
+item_used r used n m (Some x) h = told_used used n m _ (hears_item r.wish r.knows (heard_as r.knows.version x)).bad h
+
+pub piece_used : (r : Rest) (piece : List ℕ) (result : Result (ℕ × Heard) ClientFault) (new : Rest) → Feeds r (fed_open r (takes at_client r.item piece)) result new → IfOk result (λ t. t.0 ≤ length piece) × (0 < length piece → IfOk result (λ t. 0 < t.0))
+piece_used r piece (Err e) new h = (tt, λ some. tt)
+piece_used r piece (Ok t) new h =
+    let took = takes at_client r.item piece in
+    let same : t.0 ≡ took.used = item_used (record r { item = took.rest }) t.0 took.used (note t.1) took.item h.0 in
+    let most = (reads_pieces Opened Item at_client).within r.item piece in
+    (omega arith, λ some. let l = some_used r.item piece some in omega arith)

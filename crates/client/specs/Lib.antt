@@ -1,0 +1,9 @@
+pub mod Client
+pub mod Rest
+pub mod Answers
+pub mod Ahead
+pub mod Notes
+pub mod Fits
+pub mod Hearings
+pub mod Moments
+pub mod Refusals

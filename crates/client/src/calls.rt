@@ -1,0 +1,168 @@
+//! The calls of a client.
+
+ghost use Rattle.std.specs.Prelude.{◌≡◌, ◌≤◌, ◌<◌, ◌^◌, false, take, length, IfOk, IfErr, OnErr, IsErrOf};
+ghost use Rattle.messages.specs.View.{ask};
+ghost use Rattle.client.specs.Rest.{Rest, begun, refuses, refuses_at_once, submitted, fed, fed_open, taken_out, losses, dropped, awaits};
+ghost use Rattle.client.specs.Notes.{noted};
+ghost use Rattle.wire.specs.Framing.{at_client};
+ghost use Rattle.wire.specs.Reader.{takes};
+ghost use Rattle.client.specs.Hearings.{Feeds};
+ghost use Rattle.client.specs.Fits.{kept, Fits, IsAccepted, UnlessMemory};
+
+use crate::client::Client;
+use crate::faults::{ClientFault, SubmitFault};
+use crate::feeding::Taken;
+use crate::heard::Heard;
+use crate::losses::{Losses, MAX_WAITING};
+use crate::opening::Opening;
+use crate::pipeline::Pipeline;
+use crate::sending::text_of;
+use crate::stream::Stream;
+use bytes::{Bytes, BytesMut};
+use machine::Phase;
+use messages::Request;
+use std::alloc::Global;
+use std::collections::VecDeque;
+use wire::{Chunks, Dechunk, Wish, offer, put_reserved, text_len};
+
+impl Client {
+    /// Its offer is to be taken out. C5 for want of memory.
+    pub fn new(alloc: Global, wish: Wish) -> Result<Client, ClientFault>
+        ensures new { IfOk result (λ client. Fits client (begun wish)) }
+        ensures fault { IfErr result (λ e. e ≡ ClientFault.Memory) }
+    {
+        let Ok(waiting) = VecDeque::with_capacity(alloc, MAX_WAITING) else {
+            return Err(ClientFault::Memory);
+        };
+        let mut out = BytesMut::new(alloc);
+        if out.extend_from_slice(&offer(wish)).is_err() {
+            return Err(ClientFault::Memory);
+        }
+        Ok(Client {
+            wish,
+            pipeline: Pipeline {
+                version: None,
+                over: false,
+                first: 0,
+                phase: Phase::Fresh,
+                waiting,
+            },
+            stream: Stream {
+                opening: Opening::new(),
+                chunks: Dechunk::new(alloc),
+                place: Chunks::new(),
+            },
+            out,
+            alloc,
+        })
+    }
+
+    /// Takes a request, and answers its ordinal, from 0: it waits, and its bytes are to be taken out. It is taken exactly where
+    /// the client is open, the version is known, each phase that may follow the requests that wait allows it, fewer than 32 wait,
+    /// an ordinal is left, and it can be written.
+    ///
+    /// Else the first of C4, C1, C2, C7 and C3 that holds, or C5; C4, C1 and C2 take no memory. Nothing has changed then.
+    pub fn submit(&mut self, request: Request) -> Result<u64, SubmitFault>
+        ensures ok { (r : Rest) → Fits self.old r → IfOk result (λ n. IsAccepted r (ask request) n × Fits self.new (submitted r (ask request))) }
+        ensures err { (r : Rest) → Fits self.old r → OnErr result (Fits self.new r) }
+        ensures fault { (r : Rest) → Fits self.old r → IfErr result (λ e. (e ≡ SubmitFault.Memory → ⊥) → refuses r.knows (ask request) ≡ Some e) }
+        ensures memory { (r : Rest) → Fits self.old r → IsErrOf result SubmitFault.Memory → refuses_at_once r.knows (ask request) ≡ None }
+    {
+        let version = self.pipeline.admit(&request)?;
+        let text = text_of(self.alloc, version, &request)?;
+        if self.out.reserve(text_len(&text)).is_err() {
+            return Err(SubmitFault::Memory);
+        }
+        put_reserved(&text, &mut self.out);
+        Ok(self.pipeline.place(request))
+    }
+
+    /// The next bytes that aren't taken out, the smaller of `max` and what waits, after the client's end too; or C5, and nothing
+    /// has changed.
+    pub fn take_out(&mut self, max: usize) -> Result<Bytes, ClientFault>
+        ensures ok { (r : Rest) → Fits self.old r → IfOk result (λ bytes. (bytes ≡ take max r.unsent) × Fits self.new (taken_out r max)) }
+        ensures err { (r : Rest) → Fits self.old r → OnErr result (Fits self.new r) }
+        ensures fault { IfErr result (λ e. e ≡ ClientFault.Memory) }
+        ensures short { IfOk result (λ bytes. length bytes < 2 ^ 63) }
+    {
+        let count = max.min(self.out.len());
+        let Ok(bytes) = self.out.freeze_to(count) else {
+            return Err(ClientFault::Memory);
+        };
+        Ok(bytes)
+    }
+
+    /// Uses a piece of the server's bytes to the end of the item begun (the version answer, a no-op, a message), else all of it,
+    /// and tells what ended with the last byte used.
+    ///
+    /// C4 where the client has ended; C6 at a bad answer, with which it has ended: one that can't be read or is past 65,536 bytes, a
+    /// row where the first waiting request is no PULL, a summary that isn't accepted, a version that wasn't offered. C5 for want
+    /// of memory: nothing was used, nothing has changed.
+    pub fn feed(&mut self, piece: &[u8]) -> Result<(usize, Heard), ClientFault>
+        ensures told { (r : Rest) → Fits self.old r → UnlessMemory result ((noted result ≡ (fed r piece.now).answer) × Fits self.new (fed r piece.now).rest) }
+        ensures memory { (r : Rest) → Fits self.old r → IsErrOf result ClientFault.Memory → Fits self.new r × (r.knows.over ≡ false) }
+        ensures within { IfOk result (λ t. t.0 ≤ length piece.now) }
+        ensures goes_on { 0 < length piece.now → IfOk result (λ t. 0 < t.0) }
+    {
+        if self.pipeline.over {
+            return Err(ClientFault::Closed);
+        }
+        self.feed_open(piece)
+    }
+
+    fn feed_open(&mut self, piece: &[u8]) -> Result<(usize, Heard), ClientFault>
+        requires { self.old.pipeline.over ≡ false }
+        ensures { Feeds (kept self.old) (fed_open (kept self.old) (takes at_client (kept self.old).item piece.now)) result (kept self.new) }
+    {
+        let taken = self.stream.take(self.alloc, self.pipeline.version, piece)?;
+        let Taken { used, came } = taken;
+        match self.pipeline.hear(self.wish, came) {
+            Ok(heard) => Ok((used, heard)),
+            Err(fault) => Err(fault),
+        }
+    }
+
+    /// The client is lost: no byte comes any more, and the outcome of each request that waited is known. It takes no memory.
+    pub fn lost(&mut self) -> Losses
+        ensures { (r : Rest) → Fits self.old r → (result ≡ losses r.knows) × Fits self.new (dropped r) }
+    {
+        self.pipeline.lose()
+    }
+
+    /// The phase that the last summary told, Fresh before one. It takes no memory.
+    pub fn phase(&self) -> Phase
+        ensures { (r : Rest) → Fits self.now r → result ≡ r.knows.phase }
+    {
+        self.pipeline.phase
+    }
+
+    /// How many requests wait, none after `lost`. It takes no memory.
+    pub fn pending(&self) -> usize
+        ensures count { (r : Rest) → Fits self.now r → result ≡ length r.knows.waiting }
+        ensures few { result ≤ 32 }
+    {
+        self.pipeline.waiting.len()
+    }
+
+    /// The ordinal of the first request that waits; where none does, that of the next. It takes no memory.
+    pub fn first_waiting(&self) -> u64
+        ensures { (r : Rest) → Fits self.now r → result ≡ r.knows.first }
+    {
+        self.pipeline.first
+    }
+
+    /// Whether the client has ended: by itself, by a bad answer, or because it was lost. It takes no memory.
+    pub fn has_ended(&self) -> bool
+        ensures { (r : Rest) → Fits self.now r → result ≡ r.knows.over }
+    {
+        self.pipeline.over
+    }
+
+    /// Whether an answer is still to come: the version, or the summary of a request that isn't GOODBYE, which has none. None comes
+    /// after the client's end. It takes no memory.
+    pub fn awaits(&self) -> bool
+        ensures { (r : Rest) → Fits self.now r → result ≡ awaits r.knows }
+    {
+        self.pipeline.awaits()
+    }
+}

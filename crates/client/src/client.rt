@@ -1,0 +1,21 @@
+//! What a client holds.
+
+ghost use Rattle.std.specs.Prelude.{◌≡◌, true, false};
+
+use crate::pipeline::Pipeline;
+use crate::stream::Stream;
+use bytes::BytesMut;
+use std::alloc::Global;
+use wire::Wish;
+
+/// One end of a connection: it puts out an offer and the requests that it accepts, and tells what it hears of a server.
+#[derive(Drop)]
+pub struct Client {
+    pub(crate) wish: Wish,
+    pub(crate) pipeline: Pipeline,
+    pub(crate) stream: Stream,
+    /// What isn't taken out.
+    pub(crate) out: BytesMut,
+    pub(crate) alloc: Global,
+    ghost going: { pipeline.over ≡ false → stream.chunks.too_big ≡ false },
+}
