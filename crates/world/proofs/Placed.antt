@@ -1,0 +1,126 @@
+-- From what an event does at its connection to what the world then stands for.
+use Rattle.std.proofs.Common.{◌≡◌, refl, sym, ◌∙◌, ap, subst, ℕ, zero, suc, ◌<◌, ◌≤◌, Bool, true, false, Some, None, Result, Ok, Err, List, [], ◌∷◌, ◌++◌, length, slice_get, slice_set, slice_index_or, arith, append-nil}
+use Rattle.engine.specs.Views.{EntryView}
+use Rattle.server.specs.declared.Server.{Server}
+use Rattle.server.specs.declared.Refused.{Refused as ServerRefused}
+use Rattle.server.specs.declared.Refused.TheVariants as server_refused
+use Rattle.server.specs.Session.{Setting}
+use Rattle.server.specs.Serving as serving
+use Rattle.server.specs.Views as server
+use Rattle.world.specs.declared.kinds.Peer.{Peer as PeerTold}
+use Rattle.world.specs.declared.kinds.Seen.{Seen as SeenTold}
+use Rattle.world.specs.declared.kinds.Refused.{Refused}
+use Rattle.world.specs.declared.kinds.Refused.TheVariants.{NoSuchConnection, WrongPeer, SessionsFull, Memory}
+use Rattle.world.specs.declared.link.Link.{Link as LinkHeld}
+use Rattle.world.specs.declared.world.World.{World as WorldHeld}
+use Rattle.world.specs.World.{Peer, World, Event, Opens, Seen, Opened, place, empty, Reached}
+use Rattle.world.specs.Fits.{Link, Rest, Fits}
+use Rattle.world.specs.Contract.{Answers}
+use Rattle.world.specs.Seeing.{IsOpens}
+use Rattle.world.specs.Views.{link_of, peer_of, client_of, opened_link, IsOpened}
+use Rattle.world.specs.Turns.{Definition, setting_of, seen_in, Holds, HoldLinks, IsWorld, Turns, Now, Before}
+use Rattle.world.proofs.Answering.{answers, no_connection, sessions_full}
+use Rattle.world.proofs.Turning.{ok_of}
+use Rattle.world.proofs.Stepping.{opens_fits}
+
+-- what holds of the answer's world may be said otherwise
+pub answers_with : (S : Setting) (w : World) (e : Event) (res : Result Seen Refused) (P Q : World → Type 0) → ((w2 : World) → P w2 → Q w2) → Answers S w e res P → Answers S w e res Q
+answers_with S w e (Ok seen) P Q f a = (a.0, a.1, a.2, f a.0 a.3)
+answers_with S w e (Err NoSuchConnection) P Q f a = (a.0, f w a.1)
+answers_with S w e (Err WrongPeer) P Q f a = (a.0, f w a.1)
+answers_with S w e (Err SessionsFull) P Q f a = (a.0, f w a.1)
+answers_with S w e (Err Memory) P Q f a = (a.0, (a.1.0, a.1.1, f a.1.0 a.1.2))
+
+-- what a server holds that refused to open a session
+pub open_refused : {G : Type 0} (e : ServerRefused) (r : serving.Rest G) (P : serving.Rest G → Type 0) → serving.Opens (Err e) r P → P r
+open_refused server_refused.NoSuchConnection r P a = absurd a
+open_refused server_refused.SessionsFull r P a = a.1
+open_refused server_refused.Memory r P a = a.1
+
+-- a new server fits the world without connections
+pub new_fits : {G : Type 0} (gate : G) (es : List EntryView) → Fits (record { links = []; server = serving.empty es gate }) (empty es)
+new_fits {G} gate es = record { server = ap (λ (z : List EntryView). let q : serving.Rest G = record { sessions = []; next = 0; ledger = z; gate = gate } in q) (sym (append-nil es)); links = tt }
+
+-- links place by place
+pub held_at : (ls : List LinkHeld) (ms : List Link) (c : ℕ) (l : LinkHeld) → HoldLinks ls ms → c < length ls → l ≡ slice_index_or ls c l → (m : Link) × (slice_get ms c ≡ Some m) × Holds l m
+held_at [] ms c l h few is = absurd (omega arith)
+held_at (x ∷ ls) [] c l h few is = absurd h
+held_at (x ∷ ls) (y ∷ ms) zero l h few is = (y, refl, subst (λ z. Holds z y) (sym is) h.0)
+held_at (x ∷ ls) (y ∷ ms) (suc c) l h few is = held_at ls ms c l h.1 (omega arith) is
+
+pub held_past : (ls : List LinkHeld) (ms : List Link) (c : ℕ) → HoldLinks ls ms → length ls ≤ c → slice_get ms c ≡ None
+held_past [] [] c h past = refl
+held_past [] (y ∷ ms) c h past = absurd h
+held_past (x ∷ ls) [] c h past = absurd h
+held_past (x ∷ ls) (y ∷ ms) zero h past = absurd (omega arith)
+held_past (x ∷ ls) (y ∷ ms) (suc c) h past = held_past ls ms c h.1 (omega arith)
+
+pub held_set : (ls : List LinkHeld) (ms : List Link) (c : ℕ) (l2 : LinkHeld) (m2 : Link) → HoldLinks ls ms → Holds l2 m2 → HoldLinks (slice_set ls c l2) (slice_set ms c m2)
+held_set [] [] c l2 m2 h g = h
+held_set [] (y ∷ ms) c l2 m2 h g = absurd h
+held_set (x ∷ ls) [] c l2 m2 h g = absurd h
+held_set (x ∷ ls) (y ∷ ms) zero l2 m2 h g = (g, h.1)
+held_set (x ∷ ls) (y ∷ ms) (suc c) l2 m2 h g = (h.0, held_set ls ms c l2 m2 h.1 g)
+
+pub held_more : (ls : List LinkHeld) (ms : List Link) (l2 : LinkHeld) (m2 : Link) → HoldLinks ls ms → Holds l2 m2 → HoldLinks (ls ++ l2 ∷ []) (ms ++ m2 ∷ [])
+held_more [] [] l2 m2 h g = (g, tt)
+held_more [] (y ∷ ms) l2 m2 h g = absurd h
+held_more (x ∷ ls) [] l2 m2 h g = absurd h
+held_more (x ∷ ls) (y ∷ ms) l2 m2 h g = (h.0, held_more ls ms l2 m2 h.1 g)
+
+module _ {E G : Type 0} (entries : E → List EntryView) (answer : Definition) (accepts : G → List ℕ → List ℕ → Bool)
+    (s : WorldHeld E G) (gate : G) (w : World) (f : IsWorld entries s gate w) (brought : List EntryView) (reached : Reached (setting_of answer accepts gate) brought w) where
+  abbrev r : Rest G
+  r = f.rest
+
+  reached_here : Reached (serving.setting answer accepts r.server) brought w
+  reached_here = subst (λ (g : G). Reached (setting_of answer accepts g) brought w) (sym f.gated) reached
+
+  pub nowhere : (e : Event) → (IsOpens e → ⊥) → length s.links.items ≤ place e → Answers (setting_of answer accepts gate) w e (Err NoSuchConnection) (IsWorld entries s gate)
+  nowhere e opens past = let a = no_connection (setting_of answer accepts gate) r w f.fits e opens (held_past s.links.items r.links (place e) f.links past) in (a.0, f)
+
+  pub placed : (e : Event) (c : ℕ) → c ≡ place e → c < length s.links.items → (l : LinkHeld) → l ≡ slice_index_or s.links.items c l → (res : Result SeenTold Refused) (l2 : LinkHeld) (s2 : Server E G)
+      → Turns entries answer accepts e l s.server res l2 s2 → (t : WorldHeld E G) → t.links.items ≡ slice_set s.links.items c l2 → t.server ≡ s2
+      → Answers (setting_of answer accepts gate) w e (seen_in res) (IsWorld entries t gate)
+  placed e c at few l is res l2 s2 turn t links_are server_is =
+      let h = held_at s.links.items r.links c l f.links few is in
+      let link_is : slice_get r.links (place e) ≡ Some (link_of l h.2.0) = ap (slice_get r.links) (sym at) ∙ h.1 ∙ ap (λ z. Some z) h.2.1 in
+      let b : Before entries answer accepts e l s.server r w = record { brought = brought; reached = reached_here; client = h.2.0; ends = h.2.2; server = f.server; at = link_is; fits = f.fits } in
+      answers_with (setting_of answer accepts gate) w e (seen_in res) (Now entries answer accepts r (place e) l2 s2) (IsWorld entries t gate)
+      (λ w2 n. record {
+        rest = record { links = slice_set r.links (place e) (link_of l2 n.client); server = n.rest };
+        links = subst (λ ls. HoldLinks ls (slice_set r.links (place e) (link_of l2 n.client))) (ap (λ i. slice_set s.links.items i l2) (sym at) ∙ sym links_are)
+            (held_set s.links.items r.links (place e) l2 (link_of l2 n.client) f.links (n.client, refl, n.ends));
+        server = subst (λ z. server.Fits entries z n.rest) (sym server_is) n.server;
+        gated = n.gated ∙ f.gated;
+        fits = n.fits;
+      })
+      (subst (λ (g : G). Answers (setting_of answer accepts g) w e (seen_in res) (Now entries answer accepts r (place e) l2 s2)) f.gated (turn r w b))
+
+  -- an opening
+  pub opens_full : (peer : Peer) → serving.is_full r.server ≡ true → Answers (setting_of answer accepts gate) w (Opens peer) (Err SessionsFull) (IsWorld entries s gate)
+  opens_full peer full = let a = sessions_full G (setting_of answer accepts gate) r w f.fits peer full in (a.0, f)
+
+  pub opens_lacks : (peer : Peer) → serving.is_full r.server ≡ false → (t : WorldHeld E G) → t.links.items ≡ s.links.items → server.Fits entries t.server r.server
+      → Answers (setting_of answer accepts gate) w (Opens peer) (Err Memory) (IsWorld entries t gate)
+  opens_lacks peer room t links_are serves =
+      let h = opens_fits G (setting_of answer accepts gate) r w f.fits peer room in
+      (ok_of _ _ h.1, (w, refl, record { rest = r; links = subst (λ ls. HoldLinks ls r.links) (sym links_are) f.links; server = serves; gated = f.gated; fits = f.fits }))
+
+  pub opens_done : (peer : PeerTold) → serving.is_full r.server ≡ false → (l : LinkHeld) → IsOpened peer l → (conn : ℕ) → conn ≡ r.server.next → (t : WorldHeld E G)
+      → t.links.items ≡ s.links.items ++ l ∷ [] → server.Fits entries t.server (serving.opened r.server)
+      → Answers (setting_of answer accepts gate) w (Opens (peer_of peer)) (Ok (Opened conn)) (IsWorld entries t gate)
+  opens_done peer room l opened conn is t links_are serves =
+      let h = opens_fits G (setting_of answer accepts gate) r w f.fits (peer_of peer) room in
+      answers (setting_of answer accepts gate) brought w reached (Opens (peer_of peer)) (Opened conn) (IsWorld entries t gate) (
+        h.0,
+        h.1 ∙ ap (λ i. Ok (h.0, Opened i)) (sym is),
+        record {
+          rest = record { links = r.links ++ opened_link (peer_of peer) ∷ []; server = serving.opened r.server };
+          links = subst (λ ls. HoldLinks ls (r.links ++ opened_link (peer_of peer) ∷ [])) (sym links_are)
+              (held_more s.links.items r.links l (opened_link (peer_of peer)) f.links (client_of (peer_of peer), sym opened.0, opened.1));
+          server = serves;
+          gated = f.gated;
+          fits = h.2;
+        },
+      ) (λ w2. tt) tt

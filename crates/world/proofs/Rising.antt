@@ -1,0 +1,284 @@
+-- The links of a world: bytes that go to the server.
+use Rattle.std.proofs.Common.{◌≡◌, refl, sym, ◌∙◌, ap, ap₂, subst, ℕ, ◌+◌, ◌-◌, ◌^◌, ◌≤◌, Bool, true, false, ◌||◌, if◌then◌else◌, nat_le, min, max, Option, Some, None, is_some, List, [], ◌∷◌, ◌++◌, length, take, drop, arith, append-nil, length-append, length-take, length-drop, map}
+use Rattle.std.proofs.lemmas.List.{drop-drop}
+use Rattle.wire.specs.declared.Version.{Version}
+use Rattle.wire.specs.declared.Wish.{Wish}
+use Rattle.wire.specs.Reader.{reach, state}
+use Rattle.wire.specs.Framing.{at_client, said_text}
+use Rattle.messages.specs.Arrivals.{Arrival, Shook, NoMagic, Asked, Unread, TooLong, arrivals, heard_bytes}
+use Rattle.machine.specs.declared.State.{State}
+use Rattle.machine.specs.Asks.{kind_of}
+use Rattle.machine.specs.Following.{interruptible}
+use Rattle.server.specs.declared.Cause.{Cause}
+use Rattle.server.specs.Session.{Open, Tx, closed, no_tx, is_reset}
+use Rattle.server.specs.Rest.{unread_among}
+use Rattle.messages.specs.View.{Ask}
+use Rattle.client.specs.declared.Outcome.{Outcome}
+use Rattle.client.specs.Client.{Reading}
+use Rattle.client.specs.Client.{read as reader}
+use Rattle.client.specs.Rest as asking
+use Rattle.client.specs.Rest.{knows_of, losses}
+use Rattle.world.specs.World.{Peer, Ours, Foreign, Connection, Effect, Seen, Fed, SaysVersion, heard_as, output, said_version, delivered, client, wish_of, input, arrived, waiting, last_item, take_item, feed, strike_if}
+use Rattle.world.specs.Rests.{client_rest}
+use Rattle.world.specs.Reports.{wrote, read_after, by_peer}
+use Rattle.world.specs.Fits.{Link, FitsClient, FitsLink, cause_seen}
+use Rattle.world.proofs.Reaching.{reach_within}
+use Rattle.world.proofs.Fed.{none_left, unsaid, last_same}
+use Rattle.world.proofs.Sound.{Sound}
+use Rattle.world.proofs.Served.{drop_min}
+use Rattle.world.proofs.Fitting.{some_is, window_front, window_rest}
+
+abbrev pub used_seen : Seen → ℕ
+used_seen (Fed used what) = used
+used_seen seen = 0
+
+-- what a feed takes of a piece
+abbrev Takes : Connection → List ℕ → Effect → Type 0
+Takes k piece e = (e.conn.up ≡ k.up ++ take (used_seen e.seen) piece) × (used_seen e.seen ≤ length piece)
+
+takes_if : (k : Connection) (piece : List ℕ) (b : Bool) (x y : Effect) → Takes k piece x → Takes k piece y → Takes k piece (if b then x else y)
+takes_if k piece true x y a d = a
+takes_if k piece false x y a d = d
+
+strike_up : (b : Bool) (k : Connection) → (strike_if b k).up ≡ k.up
+strike_up false k = refl
+strike_up true k = go (interruptible k.state)
+  where
+    go : (b : Bool) → (if b then record k { state = State.Interrupted; result = closed; tx = no_tx } else k).up ≡ k.up
+    go true = refl
+    go false = refl
+
+item_takes : (k : Connection) (piece : List ℕ) (used : ℕ) → used ≤ length piece → (o : Option Arrival) → Takes k piece (take_item (record k { up = k.up ++ take used piece }) used o)
+item_takes k piece used l None = (refl, l)
+item_takes k piece used l (Some (Shook (Some v))) = (refl, l)
+item_takes k piece used l (Some (Shook None)) = (refl, l)
+item_takes k piece used l (Some NoMagic) = (refl, l)
+item_takes k piece used l (Some Arrival.Idle) = (refl, l)
+item_takes k piece used l (Some (Unread e)) = (refl, l)
+item_takes k piece used l (Some TooLong) = (refl, l)
+item_takes k piece used l (Some (Asked q)) = (strike_up (is_reset (kind_of q)) (record k { up = k.up ++ take used piece }), l)
+
+pub feed_takes : (k : Connection) (piece : List ℕ) → Takes k piece (feed piece k)
+feed_takes k piece =
+    takes_if k piece k.server_lost _ _ none (takes_if k piece k.cut _ _ none (takes_if k piece (is_some k.ended || unread_among (arrived k)) _ _ none
+    (takes_if k piece (nat_le 32 (length (waiting k)) || nat_le (2 ^ 63) (length (arrived k))) _ _ none (item_takes k piece (reach arrivals k.up piece) (reach_within arrivals k.up piece) _))))
+  where
+    none : (k.up ≡ k.up ++ []) × (0 ≤ length piece)
+    none = (sym (append-nil k.up), omega arith)
+
+-- what a feed leaves of what was said, and of the flags
+pub record Leaves (k k3 : Connection) : Type 0 where
+  pub peer : k3.peer ≡ k.peer
+  pub sent : k3.sent ≡ k.sent
+  pub cut : k3.cut ≡ k.cut
+  pub client_lost : k3.client_lost ≡ k.client_lost
+  pub server_lost : k3.server_lost ≡ k.server_lost
+  pub given : delivered k3 ≡ delivered k
+  pub falling : take (k3.taken - k3.down) (drop k3.down (output k3)) ≡ take (k.taken - k.down) (drop k.down (output k))
+  pub wrote : wrote k3 ≡ wrote k
+
+leaves_all : (k : Connection) → Leaves k k
+leaves_all k = record { peer = refl; sent = refl; cut = refl; client_lost = refl; server_lost = refl; given = refl; falling = refl; wrote = refl }
+
+leaves_if : (k : Connection) (b : Bool) (x y : Effect) → Leaves k x.conn → (b ≡ false → Leaves k y.conn) → Leaves k (if b then x else y).conn
+leaves_if k true x y a f = a
+leaves_if k false x y a f = f refl
+
+strike_leaves : (b : Bool) (k k2 : Connection) → Leaves k k2 → Leaves k (strike_if b k2)
+strike_leaves false k k2 h = h
+strike_leaves true k k2 h = go (interruptible k2.state)
+  where
+    go : (b : Bool) → Leaves k (if b then record k2 { state = State.Interrupted; result = closed; tx = no_tx } else k2)
+    go true = record { peer = h.peer; sent = h.sent; cut = h.cut; client_lost = h.client_lost; server_lost = h.server_lost; given = h.given; falling = h.falling; wrote = h.wrote }
+    go false = h
+
+module _ (k : Connection) (s : Sound k) where
+  -- nothing was given where nothing was said
+  none_given : k.says ≡ [] → (k.taken ≡ 0) × (k.down ≡ 0)
+  none_given e =
+      let l : length (output k) ≡ 0 = ap (λ xs. length (said_text (heard_bytes (said_version k)) (map heard_as xs))) e in
+      let a = s.counts in let b = s.below in (omega arith, omega arith)
+
+  version_leaves : (up : List ℕ) (o v : Option Version) (c : Option Cause) (st : State) (re : Open) (tr : Tx) → k.says ≡ []
+      → Leaves k (record k { up = up; version = v; says = SaysVersion o ∷ k.says; ended = c; state = st; result = re; tx = tr })
+  version_leaves up o v c st re tr e =
+      let z = none_given e in
+      let k3 = record k { up = up; version = v; says = SaysVersion o ∷ k.says; ended = c; state = st; result = re; tx = tr } in
+      record {
+        peer = refl;
+        sent = refl;
+        cut = refl;
+        client_lost = refl;
+        server_lost = refl;
+        given = ap (λ d. take d (output k3)) z.1 ∙ sym (ap (λ d. take d (output k)) z.1);
+        falling = ap₂ (λ t d. take (t - d) (drop d (output k3))) z.0 z.1 ∙ sym (ap₂ (λ t d. take (t - d) (drop d (output k))) z.0 z.1);
+        wrote = refl;
+      }
+
+  item_leaves : (up : List ℕ) (used : ℕ) (x : Option Arrival) → ((o : Option Version) → x ≡ Some (Shook o) → k.says ≡ []) → Leaves k (take_item (record k { up = up }) used x).conn
+  item_leaves up used None f = plain
+    where
+      plain : Leaves k (record k { up = up })
+      plain = record { peer = refl; sent = refl; cut = refl; client_lost = refl; server_lost = refl; given = refl; falling = refl; wrote = refl }
+  item_leaves up used (Some (Shook (Some v))) f = version_leaves up (Some v) (Some v) k.ended k.state k.result k.tx (f (Some v) refl)
+  item_leaves up used (Some (Shook None)) f = version_leaves up None k.version (Some Cause.NoVersion) State.Defunct closed no_tx (f None refl)
+  item_leaves up used (Some NoMagic) f = record { peer = refl; sent = refl; cut = refl; client_lost = refl; server_lost = refl; given = refl; falling = refl; wrote = refl }
+  item_leaves up used (Some Arrival.Idle) f = record { peer = refl; sent = refl; cut = refl; client_lost = refl; server_lost = refl; given = refl; falling = refl; wrote = refl }
+  item_leaves up used (Some (Unread e)) f = record { peer = refl; sent = refl; cut = refl; client_lost = refl; server_lost = refl; given = refl; falling = refl; wrote = refl }
+  item_leaves up used (Some TooLong) f = record { peer = refl; sent = refl; cut = refl; client_lost = refl; server_lost = refl; given = refl; falling = refl; wrote = refl }
+  item_leaves up used (Some (Asked q)) f =
+      strike_leaves (is_reset (kind_of q)) k (record k { up = up }) (record { peer = refl; sent = refl; cut = refl; client_lost = refl; server_lost = refl; given = refl; falling = refl; wrote = refl })
+
+  pub feed_leaves : (piece : List ℕ) → Leaves k (feed piece k).conn
+  feed_leaves piece =
+      leaves_if k k.server_lost _ _ (leaves_all k) (λ _. leaves_if k k.cut _ _ (leaves_all k) (λ _. leaves_if k (is_some k.ended || unread_among (arrived k)) _ _ (leaves_all k)
+      (λ going. leaves_if k (nat_le 32 (length (waiting k)) || nat_le (2 ^ 63) (length (arrived k))) _ _ (leaves_all k)
+      (λ _. let g = none_left k.ended (unread_among (arrived k)) going in
+      item_leaves (k.up ++ take (reach arrivals k.up piece) piece) (reach arrivals k.up piece) (last_item (arrivals k.up) (arrivals (k.up ++ take (reach arrivals k.up piece) piece)))
+      (λ o e. (unsaid k.up k.version k.says (s.stage g.0) g.1 piece o (sym (last_same k.up k.version k.says (s.stage g.0) g.1 piece) ∙ e)).1)))))
+
+abbrev lost_by : Peer → Bool → Reading → List Ask → List (ℕ × Outcome)
+lost_by p b r sent = by_peer p (if b then losses (knows_of r sent false) else [])
+
+module _ (l : Link) (k : Connection) (f : FitsLink l k) (s : Sound k) (lives : k.server_lost ≡ false) (piece : List ℕ) where
+  abbrev k3 : Connection
+  k3 = (feed piece k).conn
+
+  lv : Leaves k k3
+  lv = feed_leaves k s piece
+
+  client_same : client k3 ≡ client k
+  client_same = ap₂ (λ p (x : List Ask × List ℕ). reader (wish_of p) x.0 x.1) lv.peer (ap₂ (λ (x : List Ask) (y : List ℕ). (x, y)) lv.sent lv.given)
+
+  pub rest_same : (out : ℕ) → client_rest out k3 ≡ client_rest out k
+  rest_same out =
+      ap₂ (λ (x : Peer × List Ask) (y : Reading × (List ℕ × Bool)). record { wish = wish_of x.0; knows = knows_of y.0 x.1 y.1.1; item = state at_client at_client.start y.1.0; unsent = drop out (input (wish_of x.0) x.1) })
+      (ap₂ (λ (p : Peer) (q : List Ask). (p, q)) lv.peer lv.sent)
+      (ap₂ (λ (r : Reading) (z : List ℕ × Bool). (r, z)) client_same (ap₂ (λ (d : List ℕ) (b : Bool). (d, b)) lv.given lv.client_lost))
+
+  no_cause : (b : Bool) (o : Option Cause) → b ≡ false → cause_seen b o ≡ None
+  no_cause false o e = refl
+  no_cause true o e = cc
+
+  -- the link after it, with the client and the bytes that are held for the server
+  pub feed_link : (o : Option asking.Rest) (u : List ℕ) → FitsClient k.peer o u k3 → FitsLink (record l { client = o; up = u }) k3
+  feed_link o u c =
+      record {
+        peer = f.peer ∙ sym lv.peer;
+        client = subst (λ p. FitsClient p o u k3) (sym lv.peer) c;
+        down = f.down ∙ sym lv.falling;
+        cut = f.cut ∙ sym lv.cut;
+        client_lost = f.client_lost ∙ sym lv.client_lost;
+        gone = f.gone ∙ no_cause k.server_lost k.ended lives ∙ sym (no_cause k3.server_lost k3.ended (lv.server_lost ∙ lives));
+        wrote = f.wrote ∙ sym lv.wrote;
+        read = f.read ∙ sym (ap₂ (λ p (r : Reading). by_peer p (read_after r.told [])) lv.peer client_same);
+        lost = f.lost ∙ sym (ap₂ (λ (x : Peer × Bool) (y : Reading × List Ask). lost_by x.0 x.1 y.0 y.1) (ap₂ (λ (p : Peer) (b : Bool). (p, b)) lv.peer lv.client_lost) (ap₂ (λ (r : Reading) (q : List Ask). (r, q)) client_same lv.sent));
+      }
+
+-- a feed of bytes of a foreign peer
+pub foreign_feeds : (l : Link) (k : Connection) (piece : List ℕ) → FitsLink l k → Sound k → k.server_lost ≡ false → k.peer ≡ Foreign → FitsLink l (feed piece k).conn
+foreign_feeds l k piece f s lives e = feed_link l k f s lives piece l.client l.up (subst (λ p. FitsClient p l.client l.up (feed piece k).conn) (sym e) (subst (λ p. FitsClient p l.client l.up k) e f.client))
+
+-- `take_out` of what is lacking of a client of ours, and a feed
+module _ (l : Link) (k : Connection) (f : FitsLink l k) (s : Sound k) (lives : k.server_lost ≡ false) (wish : Wish) (ours : k.peer ≡ Ours wish) (n : ℕ) (r : asking.Rest) (here : l.client ≡ Some r) where
+  old : FitsClient (Ours wish) l.client l.up k
+  old = subst (λ p. FitsClient p l.client l.up k) ours f.client
+
+  abbrev all : List ℕ
+  all = input wish k.sent
+
+  abbrev a : ℕ
+  a = length k.up
+
+  abbrev bytes : List ℕ
+  bytes = drop a all
+
+  abbrev h : ℕ
+  h = old.0 - a
+
+  abbrev lacking : ℕ
+  lacking = n - length l.up
+
+  -- what is held with what was taken out for it
+  abbrev held : List ℕ
+  held = l.up ++ take lacking r.unsent
+
+  is : r ≡ client_rest old.0 k
+  is = some_is r (client_rest old.0 k) (sym here ∙ old.3)
+
+  unsent_is : r.unsent ≡ drop old.0 all
+  unsent_is = ap (λ z. z.unsent) is ∙ ap (λ p. drop old.0 (input (wish_of p) k.sent)) ours
+
+  few : h ≤ length bytes
+  few = let x = old.1 in let y = old.2 in let m = length-drop a all in omega arith
+
+  held_long : length l.up ≡ h
+  held_long = ap length old.4 ∙ length-take h bytes ∙ smaller h (length bytes) few
+    where
+      smaller : (x y : ℕ) → x ≤ y → min x y ≡ x
+      smaller x y l = omega arith
+
+  held_is : held ≡ take h bytes ++ take (n - h) (drop h bytes)
+  held_is =
+      let d : r.unsent ≡ drop h bytes = unsent_is ∙ ap (λ i. drop i all) (parts old.0 a old.1) ∙ sym (drop-drop h a all) in
+      ap₂ (λ x (y : List ℕ × ℕ). x ++ take (n - y.1) y.0) old.4 (ap₂ (λ (x : List ℕ) (y : ℕ). (x, y)) d held_long)
+    where
+      parts : (x y : ℕ) → y ≤ x → x ≡ y + (x - y)
+      parts x y l = omega arith
+
+  -- the piece is the model's
+  pub piece_is : take n held ≡ take n bytes
+  piece_is = ap (take n) held_is ∙ window_front h n bytes few
+
+  abbrev e3 : Effect
+  e3 = feed (take n bytes) k
+
+  abbrev used : ℕ
+  used = used_seen e3.seen
+
+  tk : Takes k (take n bytes) e3
+  tk = feed_takes k (take n bytes)
+
+  up_long : length e3.conn.up ≡ a + used
+  up_long = ap length tk.0 ∙ length-append k.up (take used (take n bytes)) ∙ ap (λ z. a + z) (length-take used (take n bytes) ∙ smaller used (length (take n bytes)) tk.1)
+    where
+      smaller : (x y : ℕ) → x ≤ y → min x y ≡ x
+      smaller x y l = omega arith
+
+  abbrev out : ℕ
+  out = min (old.0 + lacking) (length all)
+
+  up_is : drop used held ≡ take (out - length e3.conn.up) (drop (length e3.conn.up) all)
+  up_is =
+      let m = length-drop a all in
+      let t = tk.1 in
+      let u = length-take n bytes in
+      ap (drop used) held_is ∙ window_rest h n bytes few used (omega arith) (omega arith)
+      ∙ ap₂ (λ i z. take i z) (same old.0 a (length all) n used (length l.up) (length bytes) m held_long old.1 old.2) (drop-drop used a all)
+      ∙ ap (λ i. take (out - i) (drop i all)) (sym up_long)
+    where
+      same : (o a i n used q m : ℕ) → m ≡ i - a → q ≡ o - a → a ≤ o → o ≤ i → min (max (o - a) n) m - used ≡ min (o + (n - q)) i - (a + used)
+      same o a i n used q m e g x y = omega arith
+
+  pub server_link : FitsLink (record l { client = Some (asking.taken_out r lacking); up = drop used held }) e3.conn
+  server_link = feed_link l k f s lives (take n bytes) (Some (asking.taken_out r lacking)) (drop used held) (subst (λ p. FitsClient p (Some (asking.taken_out r lacking)) (drop used held) e3.conn) (sym ours) fits)
+    where
+      lv3 : Leaves k e3.conn
+      lv3 = feed_leaves k s (take n bytes)
+
+      client_is : asking.taken_out r lacking ≡ client_rest out e3.conn
+      client_is =
+          ap (λ z. asking.taken_out z lacking) is
+          ∙ ap (λ u. record (client_rest old.0 k) { unsent = u }) (drop-drop lacking old.0 (input (wish_of k.peer) k.sent) ∙ sym (drop_min (old.0 + lacking) (input (wish_of k.peer) k.sent)))
+          ∙ ap (λ p. record (client_rest old.0 k) { unsent = drop (min (old.0 + lacking) (length (input (wish_of p) k.sent))) (input (wish_of k.peer) k.sent) }) ours
+          ∙ sym (rest_same l k f s lives (take n bytes) out)
+
+      fits : FitsClient (Ours wish) (Some (asking.taken_out r lacking)) (drop used held) e3.conn
+      fits =
+          let x = old.1 in let y = old.2 in let m = length-drop a all in let t = tk.1 in let u = length-take n bytes in let w = held_long in (
+            out,
+            subst (λ z. z ≤ out) (sym up_long) (omega arith),
+            subst (λ z. out ≤ length (input wish z)) (sym lv3.sent) (omega arith),
+            ap (λ z. Some z) client_is,
+            up_is ∙ ap (λ z. take (out - length e3.conn.up) (drop (length e3.conn.up) (input wish z))) (sym lv3.sent),
+          )

@@ -1,0 +1,78 @@
+-- A report tells what the model has.
+use Rattle.std.proofs.Common.{◌≡◌, refl, sym, ◌∙◌, ap, ap₂, subst, ℕ, ◌+◌, ◌<◌, ◌≤◌, Bool, Option, Some, None, List, [], ◌∷◌, length, slice_get, slice_index_or, arith}
+use Rattle.engine.specs.Views.{EntryView}
+use Rattle.server.specs.declared.Cause.{Cause}
+use Rattle.client.specs.declared.Outcome.{Outcome}
+use Rattle.machine.specs.declared.Phase.{Phase}
+use Rattle.client.specs.Rest as asking
+use Rattle.world.specs.declared.link.Link.{Link as LinkHeld}
+use Rattle.world.specs.declared.report.Standing.{Standing as StandingTold}
+use Rattle.world.specs.declared.world.World.{World as WorldHeld}
+use Rattle.world.specs.World.{Peer, Ours, Foreign, Connection, World, Said, SaysVersion, SaysNoop, SaysRow, SaysSummary, answered, client, Reached}
+use Rattle.machine.specs.States.{phase_of}
+use Rattle.world.specs.Good.{heard, delivered_whole, server_outcome, Good}
+use Rattle.world.specs.Reports.{by_peer, read_after, read, waits, ordinals, standing, standing_of}
+use Rattle.world.specs.Rests.{client_rest}
+use Rattle.world.specs.Fits.{Link, FitsClient, FitsLink}
+use Rattle.world.specs.Views.{link_of, waiting_at}
+use Rattle.world.specs.Turns.{Definition, setting_of, Holds, IsWorld}
+use Rattle.world.specs.Reported.{standing_seen, StandsBy}
+use Rattle.world.proofs.Sound.{Sound, reached_sound}
+use Rattle.world.proofs.Headline.{headline}
+use Rattle.world.proofs.Answering.{link_at, link_none}
+use Rattle.world.proofs.Reporting.{standing_lives, standing_gone, waits_are}
+use Rattle.world.proofs.Placed.{held_at, held_past}
+
+read_long : (xs : List Said) (later : List (ℕ × Phase × Outcome)) → length (read_after (heard xs) later) ≡ answered xs + length later
+read_long [] later = omega arith
+read_long (SaysVersion o ∷ xs) later = read_long xs later
+read_long (SaysNoop ∷ xs) later = read_long xs later
+read_long (SaysRow row ∷ xs) later = read_long xs later
+read_long (SaysSummary x ∷ xs) later = let h = read_long xs ((x.ordinal, phase_of x.state, server_outcome x) ∷ later) in omega (arith, h)
+
+module _ {E G : Type 0} (entries : E → List EntryView) (answer : Definition) (accepts : G → List ℕ → List ℕ → Bool)
+    (s : WorldHeld E G) (gate : G) (w : World) (f : IsWorld entries s gate w) (brought : List EntryView) (reached : Reached (setting_of answer accepts gate) brought w)
+    (c : ℕ) where
+  pub not_opened : length s.links.items ≤ c → slice_get w.conns c ≡ None
+  not_opened past = link_none f.rest.links w.conns c f.fits.links (held_past s.links.items f.rest.links c f.links past)
+
+  module _ (few : c < length s.links.items) (l : LinkHeld) (is : l ≡ slice_index_or s.links.items c l) where
+    abbrev pub held : (m : Link) × (slice_get f.rest.links c ≡ Some m) × Holds l m
+    held = held_at s.links.items f.rest.links c l f.links few is
+
+    abbrev m : Link
+    m = link_of l held.2.0
+
+    pub there : (k : Connection) × (slice_get w.conns c ≡ Some k) × FitsLink m k
+    there = link_at f.rest.links w.conns c m f.fits.links (held.1 ∙ ap (λ z. Some z) held.2.1)
+
+    abbrev k : Connection
+    k = there.0
+
+    sound : Sound k
+    sound = reached_sound (setting_of answer accepts gate) brought reached c k there.1
+
+    pub stands_as : (gone : Option Cause) → l.gone ≡ gone → (told : StandingTold) → StandsBy gone c f.rest.server told → standing_seen told ≡ standing k
+    stands_as (Some cause) e told h = h ∙ sym (standing_gone m k there.2 cause e)
+    stands_as None e told h =
+        let lives = standing_lives f.rest w f.fits c k there.1 m there.2 sound e in
+        h k.state lives.0 ∙ ap (λ o. standing_of k.state o) lives.1
+
+    -- those that wait follow those that were read
+    pub waits_as : (count : ℕ) → length (read k) ≡ count → waits k ≡ ordinals count (waiting_at held.2.0)
+    waits_as count long = go k.peer refl there.2.client
+      where
+        go : (p : Peer) → k.peer ≡ p → FitsClient k.peer m.client m.up k → waits k ≡ ordinals count (waiting_at held.2.0)
+        go (Ours wish) p g =
+            let old : FitsClient (Ours wish) m.client m.up k = subst (λ q. FitsClient q m.client m.up k) p g in
+            let y = client_rest old.0 k in
+            let good : Good (setting_of answer accepts gate) w c k = headline (setting_of answer accepts gate) brought w reached c k wish there.1 p in
+            let n : length (read k) ≡ (client k).count =
+            ap (λ q. length (by_peer q (read_after (client k).told []))) p ∙ ap (λ ts. length (read_after ts [])) good.told ∙ read_long (delivered_whole k) [] ∙ sym (good.count_told ∙ plus_none (answered (delivered_whole k))) in
+            waits_are m k there.2 wish p y old.3 ∙ ap₂ (λ i j. ordinals i j) (sym n ∙ long) (ap waiting_at (sym old.3))
+          where
+            plus_none : (i : ℕ) → i ≡ i + 0
+            plus_none i = omega arith
+        go Foreign p g =
+            let old : FitsClient Foreign m.client m.up k = subst (λ q. FitsClient q m.client m.up k) p g in
+            ap (λ q. by_peer q (ordinals (asking.knows_of (client k) k.sent k.client_lost).first (length (asking.knows_of (client k) k.sent k.client_lost).waiting))) p ∙ ap (λ o. ordinals count (waiting_at o)) (sym old.0)

@@ -1,0 +1,15 @@
+use Rattle.std.proofs.Common.{refl, subst, List, []}
+use Rattle.engine.specs.Kept.{ledger_of}
+use Rattle.engine.specs.Views.{EntryView}
+use Rattle.world.specs.World.{empty, begins}
+use Rattle.world.specs.Turns.{FitsWorld}
+use Rattle.world.proofs.replaying.replay.Goals as goal
+
+pub returns-clause-ok : goal.returns-clause-ok
+returns-clause-ok c =
+    let P : List EntryView → Type 0 = λ es. FitsWorld ledger_of c.new-world.result c.in-Ok.gate (empty es) in (
+      c.in-Ok.gate,
+      c.in-Ok.ensures.principal,
+      c.in-Ok.ensures.credentials,
+      c.in-Ok-follow_all.ensures c.in-Ok.gate [] (empty []) (record { after = empty []; replays = refl; reached = begins; fits = subst P c.new-2.ensures c.new-world.ensures.fits }),
+    )

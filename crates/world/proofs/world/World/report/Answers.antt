@@ -1,0 +1,34 @@
+use Rattle.std.proofs.Common.{sym, ◌∙◌, ap, arith, ◌<◌, length, map, refl}
+use Rattle.std.proofs.lemmas.List.{length-map}
+use Rattle.world.specs.Reports.{ordinals}
+use Rattle.world.specs.Views.{wrote_of, read_of}
+use Rattle.world.specs.Turns.{FitsWorld}
+use Rattle.world.proofs.Told.{not_opened, held, there, stands_as, waits_as}
+use Rattle.world.proofs.world.World.report.Goals as goal
+
+pub returns-then-conn-len : goal.returns-then-conn-len
+unfolding FitsWorld
+returns-then-conn-len g c = λ gate brought w reached f.
+    not_opened g.E.Engine.entries g.E.Engine.answer g.G.Gate.accepts c.args.self.now gate w f brought reached c.args.conn (omega (arith, c.if-conn-len.true, c.len.ensures, c.args.self.now.links.ok.0))
+
+pub returns : goal.returns
+unfolding FitsWorld
+returns g c = λ gate brought w reached f.
+    let few : c.args.conn < length c.args.self.now.links.items = omega (arith, c.if-conn-len.false, c.len.ensures, c.args.self.now.links.ok.0) in
+    let l = c.index-link.result.now in
+    let h = held g.E.Engine.entries g.E.Engine.answer g.G.Gate.accepts c.args.self.now gate w f brought reached c.args.conn few l c.index-link.ensures in
+    let t = there g.E.Engine.entries g.E.Engine.answer g.G.Gate.accepts c.args.self.now gate w f brought reached c.args.conn few l c.index-link.ensures in
+    let shown = ap (map read_of) c.as_slice-2.ensures.value ∙ t.2.read in
+    let count = length c.as_slice-2.result.now in (
+      t.0,
+      t.1,
+      record {
+        peer = c.peer.ensures ∙ t.2.peer;
+        wrote = ap (map wrote_of) c.as_slice.ensures.value ∙ t.2.wrote;
+        read = shown;
+        lost = c.losses.ensures ∙ t.2.lost;
+        waits = ap (λ n. ordinals count n) (c.waiting.ensures h.2.0 h.2.2)
+            ∙ sym (waits_as g.E.Engine.entries g.E.Engine.answer g.G.Gate.accepts c.args.self.now gate w f brought reached c.args.conn few l c.index-link.ensures count (sym (ap length shown) ∙ length-map c.as_slice-2.result.now read_of));
+        standing = stands_as g.E.Engine.entries g.E.Engine.answer g.G.Gate.accepts c.args.self.now gate w f brought reached c.args.conn few l c.index-link.ensures l.gone refl c.standing_at.result (c.standing_at.ensures f.rest.server f.server);
+      },
+    )

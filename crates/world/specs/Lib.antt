@@ -1,0 +1,12 @@
+pub mod World
+pub mod Good
+pub mod Rests
+pub mod Reports
+pub mod Fits
+pub mod Contract
+pub mod Seeing
+pub mod Others
+pub mod Views
+pub mod Turns
+pub mod Drawing
+pub mod Reported

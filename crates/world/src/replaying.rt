@@ -1,0 +1,72 @@
+//! A list of events, one after the other.
+ghost use Rattle.std.specs.Prelude.{◌≡◌, List, [], map, codes, IfOk, IfErr, OnOk};
+ghost use Rattle.engine.specs.Views.{EntryView};
+ghost use Rattle.engine.specs.Queries.{fixed_answer};
+ghost use Rattle.engine.specs.Kept.{is_user, ledger_of, principal_of, credentials_of};
+ghost use Rattle.world.specs.World.{World as WorldSeen, empty, Reached};
+ghost use Rattle.world.specs.Contract.{Follows, Replays};
+ghost use Rattle.world.specs.Views.{event_of};
+ghost use Rattle.world.specs.Turns.{FitsWorld, setting_of, Goes};
+
+use crate::kinds::{Event, Refused, Seen};
+use crate::world::World;
+use engine::{Engine, FixedTable, Gate, OneUser};
+use std::alloc::{AllocError, Global};
+
+/// The world after one step for each event in order, over an empty `FixedTable` and the gate of `user` with `pass`. Events that V1
+/// to V3 refuse are left out, and no others; V4 where a step, or making the gate, finds no memory.
+pub fn replay(alloc: Global, events: &[Event]) -> Result<World<FixedTable, OneUser>, Refused>
+    ensures ok { IfOk result (λ world. (gate : OneUser) × (principal_of gate ≡ codes "user") × (credentials_of gate ≡ codes "pass") × Goes ledger_of (setting_of fixed_answer is_user gate) gate [] (empty []) (map event_of events.now) world) }
+    ensures fault { IfErr result (λ e. e ≡ Refused.Memory) }
+{
+    let Ok(gate) = OneUser::new(alloc, "user", "pass") else {
+        return Err(Refused::Memory);
+    };
+    let mut world = World::new(alloc, FixedTable::new(alloc), gate);
+    let Ok(()) = follow_all(&mut world, events) else {
+        return Err(Refused::Memory);
+    };
+    Ok(world)
+}
+
+/// Each event in order.
+fn follow_all<E: Engine, G: Gate>(
+    world: &mut World<E, G>,
+    events: &[Event],
+) -> Result<(), AllocError>
+    ensures { (gate : G) (brought : List EntryView) (w : WorldSeen) → Goes E.entries (setting_of E.answer G.accepts gate) gate brought w [] world.old → OnOk result (Goes E.entries (setting_of E.answer G.accepts gate) gate brought w (map event_of events.now) world.new) }
+{
+    for event in events {
+        follow(world, event)?;
+    }
+    Ok(())
+}
+
+/// One event, which V1 to V3 may refuse.
+fn follow<E: Engine, G: Gate>(world: &mut World<E, G>, event: &Event) -> Result<(), AllocError>
+    ensures { (gate : G) (brought : List EntryView) (w : WorldSeen) → Reached (setting_of E.answer G.accepts gate) brought w → FitsWorld E.entries world.old gate w
+        → OnOk result ((w2 : WorldSeen) × Follows (setting_of E.answer G.accepts gate) w (event_of event.now) w2 × Reached (setting_of E.answer G.accepts gate) brought w2 × FitsWorld E.entries world.new gate w2) }
+{
+    let event = event.clone()?;
+    settled(world.step(event))
+}
+
+/// Whether an event was done or may be left out.
+fn settled(answer: Result<Seen, Refused>) -> Result<(), AllocError>
+    ensures { OnOk result (answer ≡ Err Refused.Memory → ⊥) }
+{
+    let Err(refused) = answer else {
+        return Ok(());
+    };
+    left_out(refused)
+}
+
+/// Whether a refused event may be left out.
+fn left_out(refused: Refused) -> Result<(), AllocError>
+    ensures { OnOk result (refused ≡ Refused.Memory → ⊥) }
+{
+    match refused {
+        Refused::Memory => Err(AllocError),
+        _ => Ok(()),
+    }
+}
