@@ -1,0 +1,193 @@
+-- What comes of asking: the output that is written, the bytes that are read, and the end.
+use Rattle.std.proofs.Common.{◌≡◌, refl, sym, ◌∙◌, ap, subst, ℕ, zero, suc, ◌<◌, ◌≤◌, Bool, true, false, Option, Some, None, Result, Ok, Err, List, [], ◌∷◌, ◌++◌, length, take, drop, append_assoc, append-nil, true≢false, ◌⊎◌, inl, inr, ⊎_elim, arith}
+use Rattle.std.specs.Prelude.{not, ◌&&◌, ◌==◌, is_err, OnErr, IfErr}
+use Rattle.std.specs.Result.{result_err}
+use Rattle.std.specs.Io.KnownBytes.{Appends, Consumes, IsAtEnd, Keeps}
+use Rattle.std.proofs.lemmas.Bool.Decides.{nat_tests}
+use Rattle.client.specs.declared.Outcome.{Outcome}
+use Rattle.client.specs.Rest.{Knows, Note, Rest, losses, dropped, taken_out, awaits}
+use Rattle.streams.specs.declared.fault.StreamFault.{StreamFault}
+use Rattle.streams.specs.declared.fault.StreamFault.TheVariants as stream_fault
+use Rattle.streams.specs.Fronts.{AppendsFront}
+use Rattle.streams.specs.Asking.{hears_all, after_all, FeedsPiece, IsNeeded, ReadsOn, ReadsAll, Writes, Asks, PutsOut, all_answered, GivesUp}
+use Rattle.streams.proofs.Tales.{hears_all-append, after_all-append}
+
+-- fewer than were asked for are all that there is
+taken_short : (n : ℕ) (xs : List ℕ) → length (take n xs) < n → (take n xs ≡ xs) × (drop n xs ≡ [])
+taken_short zero xs h = absurd (omega arith)
+taken_short (suc n) [] h = (refl, refl)
+taken_short (suc n) (x ∷ xs) h = let t = taken_short n xs (omega arith) in (ap (λ z. x ∷ z) t.0, t.1)
+
+pub all_taken : (n : ℕ) (xs bytes : List ℕ) → bytes ≡ take n xs → length bytes < n → (bytes ≡ xs) × (drop n xs ≡ [])
+all_taken n xs bytes e l = let t = taken_short n xs (subst (λ (z : List ℕ). length z < n) e l) in (e ∙ t.0, t.1)
+
+-- the client is lost
+and_false : (b : Bool) → (b && false) ≡ false
+and_false true = refl
+and_false false = refl
+
+pub unanswered_awaits : (k : Knows) → awaits k ≡ true → all_answered k ≡ false
+unanswered_awaits k e = rw e refl
+
+pub unanswered_waits : (k : Knows) → 0 < length k.waiting → all_answered k ≡ false
+unanswered_waits k l =
+    let some : (length k.waiting == 0) ≡ false = grind (arith, nat_tests) in
+    ap (λ b. not (awaits k) && b) some ∙ and_false (not (awaits k))
+
+pub loses : (r : Rest) (Now : Rest → Type 0) (lost : List (ℕ × Outcome)) → all_answered r.knows ≡ false → (lost ≡ losses r.knows) × Now (dropped r) → GivesUp Now lost r
+loses r Now lost e h = rw e (h.1, h.0)
+
+-- bytes that are consumed in turn
+consumes_more : (a b c : Option (List ℕ)) (xs ys : List ℕ) → Consumes a b xs → Consumes b c ys → Consumes a c (xs ++ ys)
+consumes_more None b c xs ys h k = tt
+consumes_more (Some zs) None c xs ys h k = absurd h
+consumes_more (Some zs) (Some ws) None xs ys h k = absurd k
+consumes_more (Some zs) (Some ws) (Some vs) xs ys h k = h ∙ ap (λ l. xs ++ l) k ∙ sym (append_assoc xs ys vs)
+
+keeps_consumes : (a b : Option (List ℕ)) → Keeps a b → Consumes a b []
+keeps_consumes None b h = tt
+keeps_consumes (Some zs) None h = absurd h
+keeps_consumes (Some zs) (Some ws) h = sym h
+
+consumes_none : (a : Option (List ℕ)) → Consumes a a []
+consumes_none None = tt
+consumes_none (Some zs) = refl
+
+pub reads_none : (r : Rest) (left : Option (List ℕ)) (before : List Note) (Now : Rest → Type 0) → Now r → ReadsOn r left left before before Now
+reads_none r left before Now now = record { fed = []; unheard = []; input = consumes_none left; told = sym (append-nil before); now = now; needed = inl refl; whole = inl refl }
+
+awaits_open : (k : Knows) → awaits k ≡ true → k.over ≡ true → ⊥
+awaits_open k e o = let f : awaits k ≡ false = rw o refl in true≢false (sym e ∙ f)
+
+module _ (r : Rest) (left mid : Option (List ℕ)) (before notes : List Note) (Was : Rest → Type 0) (so : ReadsOn r left mid before notes Was) where
+  -- it stops
+  stops : (left_now : Option (List ℕ)) (fault : Option StreamFault) → Consumes mid left_now [] → (fault ≡ None → IsAtEnd left_now ⊎ (awaits (hears_all r so.fed).knows ≡ false)) → ReadsAll r left left_now before notes Was fault
+  stops left_now fault h e = record {
+    fed = so.fed;
+    unheard = so.unheard;
+    input = subst (Consumes left left_now) (append-nil (so.fed ++ so.unheard)) (consumes_more left mid left_now (so.fed ++ so.unheard) [] so.input h);
+    told = so.told;
+    now = so.now;
+    needed = so.needed;
+    whole = λ _. so.whole;
+    ends = e;
+  }
+
+  pub stops_waiting : awaits (hears_all r so.fed).knows ≡ false → ReadsAll r left mid before notes Was None
+  stops_waiting e = stops mid None (consumes_none mid) (λ _. inr e)
+
+  pub stops_at_end : (left_now : Option (List ℕ)) → Consumes mid left_now [] → IsAtEnd left_now → ReadsAll r left left_now before notes Was None
+  stops_at_end left_now h e = stops left_now None h (λ _. inl e)
+
+  pub stops_failed : (left_now : Option (List ℕ)) → Keeps mid left_now → ReadsAll r left left_now before notes Was (Some stream_fault.ReadFailed)
+  stops_failed left_now h = stops left_now (Some stream_fault.ReadFailed) (keeps_consumes mid left_now h) (λ e. absurd cc)
+
+  -- a piece more, while an answer is still to come
+  module _ (left_now : Option (List ℕ)) (piece : List ℕ) (after : List Note) (whole : Bool) (Now : Rest → Type 0) (waits : awaits (hears_all r so.fed).knows ≡ true) (short : length piece ≤ 4096) (read : Consumes mid left_now piece) (f : FeedsPiece (after_all r so.fed) piece notes after whole Now) where
+    none_unheard : so.unheard ≡ []
+    none_unheard = ⊎_elim (λ e. e) (λ o. absurd (awaits_open (hears_all r so.fed).knows waits o)) so.whole
+
+    all_read : so.fed ++ piece ≡ (so.fed ++ f.fed) ++ f.unheard
+    all_read = ap (λ l. so.fed ++ l) f.parts ∙ sym (append_assoc so.fed f.fed f.unheard)
+
+    heard : hears_all r (so.fed ++ f.fed) ≡ record { knows = (hears_all (after_all r so.fed) f.fed).knows; notes = (hears_all r so.fed).notes ++ (hears_all (after_all r so.fed) f.fed).notes }
+    heard = hears_all-append r so.fed f.fed
+
+    input_more : Consumes left left_now ((so.fed ++ f.fed) ++ f.unheard)
+    input_more =
+        let was : so.fed ++ so.unheard ≡ so.fed = ap (λ l. so.fed ++ l) none_unheard ∙ append-nil so.fed in
+        subst (Consumes left left_now) (ap (λ l. l ++ piece) was ∙ all_read) (consumes_more left mid left_now (so.fed ++ so.unheard) piece so.input read)
+
+    told_more : after ≡ before ++ (hears_all r (so.fed ++ f.fed)).notes
+    told_more =
+        f.told ∙ ap (λ l. l ++ (hears_all (after_all r so.fed) f.fed).notes) so.told ∙ append_assoc before (hears_all r so.fed).notes (hears_all (after_all r so.fed) f.fed).notes
+        ∙ ap (λ t. before ++ t.notes) (sym heard)
+
+    needed_more : IsNeeded r ((so.fed ++ f.fed) ++ f.unheard)
+    needed_more = inr (so.fed, piece, sym all_read, short, waits)
+
+    now_more : Now (after_all r (so.fed ++ f.fed))
+    now_more = subst Now (sym (after_all-append r so.fed f.fed)) f.now
+
+    whole_more : whole ≡ true → (f.unheard ≡ []) ⊎ ((hears_all r (so.fed ++ f.fed)).knows.over ≡ true)
+    whole_more e = ⊎_elim (λ z. inl z) (λ o. inr (ap (λ t. t.knows.over) heard ∙ o)) (f.ends e)
+
+    pub reads_more : whole ≡ true → ReadsOn r left left_now before after Now
+    reads_more e = record { fed = so.fed ++ f.fed; unheard = f.unheard; input = input_more; told = told_more; now = now_more; needed = needed_more; whole = whole_more e }
+
+    pub reads_broken : ReadsAll r left left_now before after Now (Some stream_fault.Memory)
+    reads_broken = record {
+      fed = so.fed ++ f.fed;
+      unheard = f.unheard;
+      input = input_more;
+      told = told_more;
+      now = now_more;
+      needed = needed_more;
+      whole = λ n. absurd (n refl);
+      ends = λ e. absurd cc;
+    }
+
+-- what was answered, by a test of it
+pub on_err : {T E : Type 0} (x : Result T E) (P : Type 0) → is_err x ≡ true → OnErr x P → P
+on_err (Ok t) P e h = absurd (true≢false (sym e))
+on_err (Err f) P e h = h
+
+pub never_written : (x : Result (Unit {0}) StreamFault) → IfErr x (λ e. e ≡ stream_fault.WriteFailed → ⊥) → result_err x ≡ Some stream_fault.WriteFailed → ⊥
+never_written (Ok t) h e = absurd cc
+never_written (Err f) h e = let same : f ≡ stream_fault.WriteFailed = cc in h same
+
+-- the output wasn't written
+pub asks_nothing : (r : Rest) (left written written_now : Option (List ℕ)) (before : List Note) (Now : Rest → Type 0) (fault : StreamFault) → PutsOut r written written_now Now (Some fault) → Asks r left left written written_now before before Now (Some fault)
+asks_nothing r left written written_now before Now fault h = record {
+  out = h.0;
+  fed = [];
+  unheard = [];
+  writes = h.1;
+  input = consumes_none left;
+  told = sym (append-nil before);
+  now = h.2;
+  needed = inl refl;
+  whole = λ _. inl refl;
+  ends = λ e. absurd cc;
+}
+
+-- it was, and the input was read
+all_front : (a b : Option (List ℕ)) (out : List ℕ) → Appends a b out → AppendsFront a b out
+all_front a b out h = (out, [], append-nil out, h)
+
+written_all : (out : List ℕ) (n : ℕ) (fault : Option StreamFault) (a b : Option (List ℕ)) → (fault ≡ Some stream_fault.WriteFailed → ⊥) → Appends a b out × (drop n out ≡ []) → Writes out n fault a b
+written_all out n None a b never h = h
+written_all out n (Some stream_fault.ReadFailed) a b never h = h
+written_all out n (Some stream_fault.WriteFailed) a b never h = absurd (never refl)
+written_all out n (Some stream_fault.Memory) a b never h = all_front a b out h.0
+
+pub asks_all : (r : Rest) (left left_now written written_now : Option (List ℕ)) (before after : List Note) (Was Now : Rest → Type 0) (fault : Option StreamFault) → (out : PutsOut r written written_now Was None) → (fault ≡ Some stream_fault.WriteFailed → ⊥)
+    → ReadsAll (taken_out r out.0) left left_now before after Now fault → Asks r left left_now written written_now before after Now fault
+asks_all r left left_now written written_now before after Was Now fault out never h = record {
+  out = out.0;
+  fed = h.fed;
+  unheard = h.unheard;
+  writes = written_all r.unsent out.0 fault written written_now never out.1;
+  input = h.input;
+  told = h.told;
+  now = h.now;
+  needed = h.needed;
+  whole = h.whole;
+  ends = h.ends;
+}
+
+-- and what became of the client then
+pub asks_then : (r : Rest) (left left_now written written_now : Option (List ℕ)) (before after : List Note) (Was Now : Rest → Type 0) (fault : Option StreamFault) → Asks r left left_now written written_now before after Was fault → ((q : Rest) → Was q → Now q)
+    → Asks r left left_now written written_now before after Now fault
+asks_then r left left_now written written_now before after Was Now fault h f = record {
+  out = h.out;
+  fed = h.fed;
+  unheard = h.unheard;
+  writes = h.writes;
+  input = h.input;
+  told = h.told;
+  now = f _ h.now;
+  needed = h.needed;
+  whole = h.whole;
+  ends = h.ends;
+}

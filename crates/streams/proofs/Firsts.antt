@@ -1,0 +1,34 @@
+-- The first client of a server.
+use Rattle.std.proofs.Common.{◌≡◌, refl, sym, ap, subst, ◌∙◌, ℕ, List, [], ◌++◌, Option, Some, Ok}
+use Rattle.std.specs.Prelude.{IsSome}
+use Rattle.engine.specs.Views.{EntryView}
+use Rattle.server.specs.Session.{Setting}
+use Rattle.server.specs.Serving.{Live, Rest, empty, find, fresh, opened}
+use Rattle.streams.specs.declared.responding.End.{End}
+use Rattle.streams.specs.Conversing.{Talk, conversation, with_talk}
+use Rattle.streams.specs.Serving.{Converses}
+use Rattle.streams.specs.Responding.{end_of}
+use Rattle.streams.proofs.Seats.{here, talk-found}
+
+module _ {G : Type 0} (ledger : List EntryView) (gate : G) (conn : ℕ) (first : conn ≡ 0) where
+  -- the server with its first session
+  abbrev pub one : Rest G
+  one = opened (empty ledger gate)
+
+  pub one_found : find conn one.sessions ≡ Some (fresh conn)
+  one_found = subst (λ (n : ℕ). find n one.sessions ≡ Some (fresh n)) (sym first) refl
+
+  pub one_lives : IsSome (find conn one.sessions)
+  one_lives = subst IsSome (sym one_found) refl
+
+  module _ (S : Setting) (bytes : List ℕ) (Now : Rest G → Type 0) where
+    abbrev t : Talk
+    t = conversation S conn ledger bytes
+
+    pub one_out : (old new items : List ℕ) → old ≡ [] → items ≡ new → Converses one conn t Now (Some old) (Some new) (Ok tt) → items ≡ (conversation S 0 ledger bytes).out
+    one_out old new items e m h = m ∙ h.2 ∙ ap (λ z. z ++ t.out) e ∙ ap (λ n. (conversation S n ledger bytes).out) first
+
+    pub one_last : (last : End) (old new : Option (List ℕ)) → ((x : Rest G) (s : Live) → Now x → find conn x.sessions ≡ Some s → last ≡ end_of s.kept) → Converses one conn t Now old new (Ok tt) → last ≡ end_of (conversation S 0 ledger bytes).kept
+    one_last last old new f h =
+        f (with_talk one conn h.0 t.ledger t.kept) (here one conn one_lives h.0 t.ledger t.kept) h.1 (talk-found one conn one_lives h.0 t.ledger t.kept)
+        ∙ ap (λ n. end_of (conversation S n ledger bytes).kept) first

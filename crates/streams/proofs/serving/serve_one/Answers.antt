@@ -1,0 +1,19 @@
+use Rattle.std.proofs.Common.{sym, subst, refl}
+use Rattle.std.specs.Prelude.{IsSome}
+use Rattle.server.specs.Serving.{setting}
+use Rattle.server.specs.Views.{Fits}
+use Rattle.streams.specs.Conversing.{conversation}
+use Rattle.streams.proofs.Losing.{serves_whole, serves_broken}
+use Rattle.streams.proofs.serving.serve_one.Goals as goal
+
+pub returns-in-Ok-clause-serves : goal.returns-in-Ok-clause-serves
+returns-in-Ok-clause-serves g c = λ r bytes f e l.
+    let t = conversation (setting g.E.Engine.answer g.G.Gate.accepts r) c.args.conn r.ledger bytes in
+    serves_whole r c.args.conn (subst IsSome (sym e) refl) t (Fits g.E.Engine.entries c.converse-done.new.server) (Fits g.E.Engine.entries c.lost.new.self) (g.O.Sink.taken c.args.sink.now) (g.O.Sink.taken c.converse-done.new.sink) c.lost.result
+    c.lost.ensures c.unwrap_or-cause.result c.unwrap_or-cause.ensures (c.in-Ok.ensures.converses r bytes f e l)
+
+pub returns-in-Err-clause-serves : goal.returns-in-Err-clause-serves
+returns-in-Err-clause-serves g c = λ r bytes f e l.
+    let t = conversation (setting g.E.Engine.answer g.G.Gate.accepts r) c.args.conn r.ledger bytes in
+    serves_broken r c.args.conn (subst IsSome (sym e) refl) t (Fits g.E.Engine.entries c.converse-done.new.server) (Fits g.E.Engine.entries c.lost.new.self) (g.O.Sink.taken c.args.sink.now) (g.O.Sink.taken c.converse-done.new.sink) c.lost.result
+    c.lost.ensures c.in-Err.fault (c.in-Err.ensures.converses r bytes f e l)

@@ -1,0 +1,32 @@
+use Rattle.std.proofs.Common.{ℕ, List, ◌<◌, length, subst, ◌∙◌, arith}
+use Rattle.std.specs.Io.KnownBytes.{Appends}
+use Rattle.server.specs.Views.{Fits}
+use Rattle.streams.specs.Conversing.{with_talk, heard_out}
+use Rattle.streams.proofs.Putting.{out_lives, out_whole}
+use Rattle.streams.proofs.settling.put_out.Goals as goal
+
+-- as many as there may be
+abbrev most : ℕ
+most = 18446744073709551615
+
+pub returns-in_default-clause-live : goal.returns-in_default-clause-live
+returns-in_default-clause-live g c = out_lives most c.args.conn c.requires.0 c.take_out.result (Fits g.E.Engine.entries c.take_out.new.self) c.requires.2 (c.take_out.ensures c.requires.0 c.requires.1)
+
+pub returns-in_default-write_all-clause-live : goal.returns-in_default-write_all-clause-live
+returns-in_default-write_all-clause-live g c = out_lives most c.args.conn c.requires.0 c.take_out.result (Fits g.E.Engine.entries c.take_out.new.self) c.requires.2 (c.take_out.ensures c.requires.0 c.requires.1)
+
+pub returns-clause-live : goal.returns-clause-live
+returns-clause-live g c = out_lives most c.args.conn c.requires.0 c.take_out.result (Fits g.E.Engine.entries c.take_out.new.self) c.requires.2 (c.take_out.ensures c.requires.0 c.requires.1)
+
+pub returns-in_default-write_all-clause-puts : goal.returns-in_default-write_all-clause-puts
+returns-in_default-write_all-clause-puts g c = λ r u ledger k i f.
+    let few : length c.in-Ok.bytes < most = subst (λ (b : List ℕ). length b < most) c.as_slice.ensures (omega (arith, c.as_slice.type_inv.1)) in
+    let p = out_whole most c.args.conn r i u ledger k (Fits g.E.Engine.entries c.take_out.new.self) c.in-Ok.bytes few (c.in-Ok.ensures (with_talk r c.args.conn u ledger k) f) in
+    let w = c.in_default-write_all.ensures.front in
+    (heard_out k, p.1, (w.0, w.1, w.2 ∙ c.as_slice.ensures ∙ p.0, w.3))
+
+pub returns-clause-puts : goal.returns-clause-puts
+returns-clause-puts g c = λ r u ledger k i f.
+    let few : length c.in-Ok.bytes < most = subst (λ (b : List ℕ). length b < most) c.as_slice.ensures (omega (arith, c.as_slice.type_inv.1)) in
+    let p = out_whole most c.args.conn r i u ledger k (Fits g.E.Engine.entries c.take_out.new.self) c.in-Ok.bytes few (c.in-Ok.ensures (with_talk r c.args.conn u ledger k) f) in
+    (p.1, subst (Appends (g.O.Sink.taken c.args.sink.now) (g.O.Sink.taken c.write_all.new.sink)) (c.as_slice.ensures ∙ p.0) c.in-Ok-write_all.ensures.ok)

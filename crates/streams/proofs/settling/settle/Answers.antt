@@ -1,0 +1,60 @@
+use Rattle.std.proofs.Common.{subst, Option, Ok}
+use Rattle.server.specs.Serving.{setting}
+use Rattle.server.specs.Views.{Fits}
+use Rattle.streams.specs.Conversing.{settled}
+use Rattle.streams.specs.Settling.{Steps}
+use Rattle.streams.specs.declared.fault.Standing.{Standing}
+use Rattle.streams.proofs.Going.{goes_first, goes_not, goes_further, goes_whole, goes_wrong, goes_no_further}
+use Rattle.streams.proofs.settling.settle.Goals as goal
+
+pub returns-in-Err-clause-settles : goal.returns-in-Err-clause-settles
+returns-in-Err-clause-settles g c = λ r u ledger k i p f.
+    goes_not r c.args.conn u (setting g.E.Engine.answer g.G.Gate.accepts r) ledger k (Fits g.E.Engine.entries c.put_out.new.server) (g.O.Sink.taken c.args.sink.now) (g.O.Sink.taken c.put_out.new.sink) c.in-Err.fault (c.in-Err.ensures.puts r u ledger k i f)
+
+pub loop-init : goal.loop-init
+loop-init g c = record {
+  live = c.put_out.ensures.live;
+  goes = λ r u ledger k i p f. goes_first r c.args.conn u (setting g.E.Engine.answer g.G.Gate.accepts r) ledger k (Fits g.E.Engine.entries c.put_out.new.server) (g.O.Sink.taken c.args.sink.now) (g.O.Sink.taken c.put_out.new.sink) p (c.in-Ok.ensures.puts r u ledger k i f);
+}
+
+pub work_once-requires : goal.work_once-requires
+work_once-requires g c = c.loop.invariant.live
+
+pub returns-in-Ok-Some-clause-settles : goal.returns-in-Ok-Some-clause-settles
+returns-in-Ok-Some-clause-settles g c = λ r u ledger k i p f.
+    let S = setting g.E.Engine.answer g.G.Gate.accepts r in
+    let Now = Fits g.E.Engine.entries c.loop.server in
+    let Then = Fits g.E.Engine.entries c.work_once.new.server in
+    let old = g.O.Sink.taken c.loop.sink in
+    let new = g.O.Sink.taken c.work_once.new.sink in
+    let o = c.loop.invariant.goes r u ledger k i p f in
+    let h = subst (λ (x : Option Standing). Steps r c.args.conn u o.1 o.2 S o.0 Then old new (Ok x)) c.in-Ok-Some.field-0-is (c.in-Ok-Some.ensures.steps r u o.1 o.2 o.0 i o.5 o.6 o.7 o.8) in
+    goes_whole r c.args.conn u S (settled S c.args.conn ledger k) (g.O.Sink.taken c.args.sink.now) Now Then old new o c.in-Ok-Some.standing h
+
+pub returns-in-Err-work_once-clause-settles : goal.returns-in-Err-work_once-clause-settles
+returns-in-Err-work_once-clause-settles g c = λ r u ledger k i p f.
+    let S = setting g.E.Engine.answer g.G.Gate.accepts r in
+    let o = c.loop.invariant.goes r u ledger k i p f in
+    goes_wrong r c.args.conn u S (settled S c.args.conn ledger k) (g.O.Sink.taken c.args.sink.now) (Fits g.E.Engine.entries c.loop.server) (Fits g.E.Engine.entries c.work_once.new.server) (g.O.Sink.taken c.loop.sink) (g.O.Sink.taken c.work_once.new.sink) o
+    c.in-Err-work_once.fault (c.in-Err-work_once.ensures.steps r u o.1 o.2 o.0 i o.5 o.6 o.7 o.8)
+
+pub loop-preserved : goal.loop-preserved
+loop-preserved g c = record {
+  live = c.work_once.ensures.live;
+  goes = λ r u ledger k i p f.
+      let S = setting g.E.Engine.answer g.G.Gate.accepts r in
+      let Then = Fits g.E.Engine.entries c.work_once.new.server in
+      let old = g.O.Sink.taken c.loop.sink in
+      let new = g.O.Sink.taken c.work_once.new.sink in
+      let o = c.loop.invariant.goes r u ledger k i p f in
+      let h = subst (λ (x : Option Standing). Steps r c.args.conn u o.1 o.2 S o.0 Then old new (Ok x)) c.in-Ok-None.field-0-is (c.in-Ok-None.ensures.steps r u o.1 o.2 o.0 i o.5 o.6 o.7 o.8) in
+      goes_further r c.args.conn u S (settled S c.args.conn ledger k) (g.O.Sink.taken c.args.sink.now) (Fits g.E.Engine.entries c.loop.server) Then old new o h;
+}
+
+pub returns-clause-live : goal.returns-clause-live
+returns-clause-live g c = c.loop.invariant.live
+
+pub returns-clause-settles : goal.returns-clause-settles
+returns-clause-settles g c = λ r u ledger k i p f.
+    goes_no_further r c.args.conn u (setting g.E.Engine.answer g.G.Gate.accepts r) (settled (setting g.E.Engine.answer g.G.Gate.accepts r) c.args.conn ledger k) (g.O.Sink.taken c.args.sink.now)
+    (Fits g.E.Engine.entries c.loop.server) (Fits g.E.Engine.entries c.loop.server) (g.O.Sink.taken c.loop.sink) (g.O.Sink.taken c.loop.sink) (c.loop.invariant.goes r u ledger k i p f)

@@ -1,0 +1,32 @@
+use Rattle.std.proofs.Common.{subst, Option, Ok}
+use Rattle.server.specs.Serving.{setting}
+use Rattle.server.specs.Views.{Fits}
+use Rattle.streams.specs.Settling.{WorkStep}
+use Rattle.streams.specs.declared.fault.Standing.{Standing}
+use Rattle.streams.proofs.Working.{steps_refused, steps_done, steps_out, steps_broken}
+use Rattle.streams.proofs.settling.work_once.Goals as goal
+
+pub returns-in-Ok-Some-clause-steps : goal.returns-in-Ok-Some-clause-steps
+returns-in-Ok-Some-clause-steps g c = λ r u ledger k n i s p l f.
+    let S = setting g.E.Engine.answer g.G.Gate.accepts r in
+    let Now = Fits g.E.Engine.entries c.work_step.new.server in
+    let h = subst (λ (x : Option Standing). WorkStep r c.args.conn u ledger k S n Now (Ok x)) c.in-Ok-Some.field-0-is (c.in-Ok-Some.ensures.works r u ledger k n i s p l f) in
+    steps_done r c.args.conn u S n ledger k Now (g.O.Sink.taken c.args.sink.now) c.in-Ok-Some.standing h
+
+pub returns-in-Err-clause-steps : goal.returns-in-Err-clause-steps
+returns-in-Err-clause-steps g c = λ r u ledger k n i s p l f.
+    steps_refused r c.args.conn u (setting g.E.Engine.answer g.G.Gate.accepts r) n ledger k (Fits g.E.Engine.entries c.work_step.new.server) (g.O.Sink.taken c.args.sink.now) (c.in-Err.ensures.works r u ledger k n i s p l f)
+
+pub returns-in-Ok-clause-steps : goal.returns-in-Ok-clause-steps
+returns-in-Ok-clause-steps g c = λ r u ledger k n i s p l f.
+    let S = setting g.E.Engine.answer g.G.Gate.accepts r in
+    let Now = Fits g.E.Engine.entries c.work_step.new.server in
+    let h = subst (λ (x : Option Standing). WorkStep r c.args.conn u ledger k S n Now (Ok x)) c.in-Ok-None.field-0-is (c.in-Ok-None.ensures.works r u ledger k n i s p l f) in
+    steps_out r c.args.conn u S n ledger k Now (Fits g.E.Engine.entries c.put_out.new.server) (g.O.Sink.taken c.args.sink.now) (g.O.Sink.taken c.put_out.new.sink) h (c.in-Ok.ensures.puts r u h.1 h.2 i h.7)
+
+pub returns-in-Err-put_out-clause-steps : goal.returns-in-Err-put_out-clause-steps
+returns-in-Err-put_out-clause-steps g c = λ r u ledger k n i s p l f.
+    let S = setting g.E.Engine.answer g.G.Gate.accepts r in
+    let Now = Fits g.E.Engine.entries c.work_step.new.server in
+    let h = subst (λ (x : Option Standing). WorkStep r c.args.conn u ledger k S n Now (Ok x)) c.in-Ok-None.field-0-is (c.in-Ok-None.ensures.works r u ledger k n i s p l f) in
+    steps_broken r c.args.conn u S n ledger k Now (Fits g.E.Engine.entries c.put_out.new.server) (g.O.Sink.taken c.args.sink.now) (g.O.Sink.taken c.put_out.new.sink) h c.in-Err-put_out.fault (c.in-Err-put_out.ensures.puts r u h.1 h.2 i h.7)

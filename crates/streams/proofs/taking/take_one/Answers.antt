@@ -1,0 +1,33 @@
+use Rattle.server.specs.Rest.{fed, arrival}
+use Rattle.server.specs.Serving.{setting}
+use Rattle.server.specs.Views.{Fits}
+use Rattle.wire.specs.Reader.{state, takes}
+use Rattle.wire.specs.Framing.{at_server}
+use Rattle.streams.specs.Settling.{told_by}
+use Rattle.streams.proofs.Talks.{open_not_shut, next_placed, none_taken, one_taken, one_broken}
+use Rattle.streams.proofs.taking.take_one.Goals as goal
+
+pub returns-in-Err-clause-takes : goal.returns-in-Err-clause-takes
+returns-in-Err-clause-takes g c = λ r before up i e s.
+    let S = setting g.E.Engine.answer g.G.Gate.accepts r in
+    let t = told_by r c.args.conn S up in
+    none_taken r c.args.conn S up c.args.piece.now e (Fits g.E.Engine.entries c.feed_one.new.server) before (g.O.Sink.taken c.args.sink.now) c.in-Err.fault s.1
+    (c.in-Err.ensures.feeds r (state at_server at_server.start up) t.ledger t.kept i (open_not_shut r c.args.conn S up e) s.0)
+
+pub returns-in-Ok-settle-clause-takes : goal.returns-in-Ok-settle-clause-takes
+returns-in-Ok-settle-clause-takes g c = λ r before up i e s.
+    let S = setting g.E.Engine.answer g.G.Gate.accepts r in
+    let t = told_by r c.args.conn S up in
+    let u = takes at_server (state at_server at_server.start up) c.args.piece.now in
+    let f = c.in-Ok.ensures.feeds r (state at_server at_server.start up) t.ledger t.kept i (open_not_shut r c.args.conn S up e) s.0 in
+    one_taken r c.args.conn S up c.args.piece.now e (Fits g.E.Engine.entries c.settle.new.server) before (g.O.Sink.taken c.args.sink.now) (g.O.Sink.taken c.settle.new.sink) s.1 c.in-Ok.used c.in-Ok-settle.standing f.0
+    (c.in-Ok-settle.ensures.settles r u.rest t.ledger (fed t.kept (arrival t.kept u.item)) i (next_placed r c.args.conn S up c.args.piece.now e) f.1)
+
+pub returns-in-Err-settle-clause-takes : goal.returns-in-Err-settle-clause-takes
+returns-in-Err-settle-clause-takes g c = λ r before up i e s.
+    let S = setting g.E.Engine.answer g.G.Gate.accepts r in
+    let t = told_by r c.args.conn S up in
+    let u = takes at_server (state at_server at_server.start up) c.args.piece.now in
+    let f = c.in-Ok.ensures.feeds r (state at_server at_server.start up) t.ledger t.kept i (open_not_shut r c.args.conn S up e) s.0 in
+    one_broken r c.args.conn S up c.args.piece.now e (Fits g.E.Engine.entries c.settle.new.server) before (g.O.Sink.taken c.args.sink.now) (g.O.Sink.taken c.settle.new.sink) s.1 c.in-Err-settle.fault
+    (c.in-Err-settle.ensures.settles r u.rest t.ledger (fed t.kept (arrival t.kept u.item)) i (next_placed r c.args.conn S up c.args.piece.now e) f.1)

@@ -1,0 +1,44 @@
+use Rattle.std.proofs.Common.{◌++◌}
+use Rattle.server.specs.Serving.{setting}
+use Rattle.server.specs.Views.{Fits}
+use Rattle.streams.proofs.Parts.{empty_nil}
+use Rattle.streams.proofs.Pieces.{partly_begun, partly_more, partly_over, partly_broken, partly_whole}
+use Rattle.streams.proofs.taking.take_piece.Goals as goal
+
+pub loop-rest-init : goal.loop-rest-init
+loop-rest-init g c = record {
+  live = c.requires;
+  takes = λ r before up i e s. partly_begun r c.args.conn (setting g.E.Engine.answer g.G.Gate.accepts r) before up c.args.piece.now (Fits g.E.Engine.entries c.args.server.now) (g.O.Sink.taken c.args.sink.now) e s;
+}
+
+pub take_one-requires : goal.take_one-requires
+take_one-requires g c = c.loop-rest.invariant.live
+
+pub returns-in-Err-clause-takes : goal.returns-in-Err-clause-takes
+returns-in-Err-clause-takes g c = λ r before up i e s.
+    let p = c.loop-rest.invariant.takes r before up i e s in
+    partly_broken r c.args.conn (setting g.E.Engine.answer g.G.Gate.accepts r) before up c.args.piece.now (Fits g.E.Engine.entries c.loop-rest.server) (g.O.Sink.taken c.loop-rest.sink) (g.O.Sink.taken c.take_one.new.sink) c.loop-rest.rest.now p
+    (Fits g.E.Engine.entries c.take_one.new.server) c.in-Err.fault (c.in-Err.ensures.takes r before (up ++ p.0) i p.2 p.3)
+
+pub returns-in-Over-clause-takes : goal.returns-in-Over-clause-takes
+returns-in-Over-clause-takes g c = λ r before up i e s.
+    let p = c.loop-rest.invariant.takes r before up i e s in
+    partly_over r c.args.conn (setting g.E.Engine.answer g.G.Gate.accepts r) before up c.args.piece.now (Fits g.E.Engine.entries c.loop-rest.server) (g.O.Sink.taken c.loop-rest.sink) (g.O.Sink.taken c.take_one.new.sink) c.loop-rest.rest.now p
+    (Fits g.E.Engine.entries c.take_one.new.server) c.in-Ok.taken c.in-Over.is (c.in-Ok.ensures.takes r before (up ++ p.0) i p.2 p.3)
+
+pub loop-rest-preserved : goal.loop-rest-preserved
+loop-rest-preserved g c = record {
+  live = c.take_one.ensures.live;
+  takes = λ r before up i e s.
+      let p = c.loop-rest.invariant.takes r before up i e s in
+      partly_more r c.args.conn (setting g.E.Engine.answer g.G.Gate.accepts r) before up c.args.piece.now (Fits g.E.Engine.entries c.loop-rest.server) (g.O.Sink.taken c.loop-rest.sink) (g.O.Sink.taken c.take_one.new.sink) c.loop-rest.rest.now p
+      (Fits g.E.Engine.entries c.take_one.new.server) c.in-Ok.taken c.split_at.result.1.now c.split_at.ensures.back c.in-Open.is (c.in-Ok.ensures.takes r before (up ++ p.0) i p.2 p.3);
+}
+
+pub returns-clause-live : goal.returns-clause-live
+returns-clause-live g c = c.loop-rest.invariant.live
+
+pub returns-clause-takes : goal.returns-clause-takes
+returns-clause-takes g c = λ r before up i e s.
+    let none = empty_nil c.loop-rest.rest.now c.is_empty.result c.is_empty.ensures c.loop-rest-test.false in
+    partly_whole r c.args.conn (setting g.E.Engine.answer g.G.Gate.accepts r) before up c.args.piece.now (Fits g.E.Engine.entries c.loop-rest.server) (g.O.Sink.taken c.loop-rest.sink) c.loop-rest.rest.now none (c.loop-rest.invariant.takes r before up i e s)

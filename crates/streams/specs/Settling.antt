@@ -1,0 +1,114 @@
+-- What parts of a conversation do to a server and to a sink, with or without a fault.
+use Rattle.std.specs.Prelude.{◌≡◌, ◌≤◌, ℕ, suc, length, Bool, true, List, [], ◌∷◌, ◌++◌, take, Option, Some, None, IsSome, Result, Ok, Err}
+use Rattle.std.specs.Io.KnownBytes.{Appends}
+use Rattle.wire.specs.Reader.{state, takes}
+use Rattle.wire.specs.Framing.{Item, Opened, at_server, received}
+use Rattle.messages.specs.Arrivals.{Arrival, Asked, Unread, TooLong}
+use Rattle.engine.specs.Views.{EntryView}
+use Rattle.server.specs.declared.kinds.Cause.{Cause}
+use Rattle.server.specs.declared.server.Server.{Server}
+use Rattle.server.specs.declared.kinds.Worked.{Worked}
+use Rattle.server.specs.declared.kinds.Worked.TheVariants as worked
+use Rattle.server.specs.Session.{Setting}
+use Rattle.server.specs.Rest.{Kept, begun, fed, arrives, arrival, version_of}
+use Rattle.server.specs.Serving.{Rest, find}
+use Rattle.server.specs.Views.{Fits}
+use Rattle.streams.specs.declared.fault.StreamFault.{StreamFault}
+use Rattle.streams.specs.declared.fault.StreamFault.TheVariants.{ReadFailed, WriteFailed, Memory}
+use Rattle.streams.specs.declared.taking.Taken.{Taken}
+use Rattle.streams.specs.declared.fault.Standing.{Standing}
+use Rattle.streams.specs.declared.fault.Standing.TheVariants.{Open, Over}
+use Rattle.streams.specs.Fronts.{AppendsFront}
+use Rattle.streams.specs.Conversing.{Talk, silent, after_bytes, heard_out, steps, steps_due, settled, unless_ended, talk_then, with_talk}
+
+-- a stream is told to have failed only where it has
+abbrev pub IsDueTo : StreamFault → Bool → Bool → Type 0
+IsDueTo ReadFailed input output = input ≡ true
+IsDueTo WriteFailed input output = output ≡ true
+IsDueTo Memory input output = Unit {0}
+
+-- a session with this number lives
+abbrev pub IsLive : {E G : Type 0} → (E → List EntryView) → ℕ → Server E G → Type 0
+IsLive {G = G} entries conn s = (r : Rest G) × Fits entries s r × IsSome (find conn r.sessions)
+
+abbrev pub standing_of : Option Cause → Standing
+standing_of None = Open
+standing_of (Some cause) = Over
+
+-- how a session stands after a step that did nothing more
+abbrev pub outcome : Worked → Option Standing
+outcome worked.Idle = Some Open
+outcome (worked.Ended cause) = Some Over
+outcome _ = None
+
+-- one at most waits, and it isn't what opens a stream
+abbrev pub IsPlaced : List Arrival → Type 0
+IsPlaced [] = Unit {0}
+IsPlaced (Asked q ∷ []) = Unit {0}
+IsPlaced (Unread e ∷ []) = Unit {0}
+IsPlaced (TooLong ∷ []) = Unit {0}
+IsPlaced _ = ⊥
+
+-- how many steps are due at most
+abbrev pub due : Kept → ℕ
+due k = steps_due k.waiting (length k.result.rows)
+
+-- the same conversation by the whole items of the bytes
+abbrev pub item_talk : Setting → ℕ → List Item → List EntryView → Kept → Talk
+item_talk S c [] ledger k = silent ledger k
+item_talk S c (x ∷ xs) ledger k = unless_ended k.ended (silent ledger k) (talk_then (settled S c ledger (fed k (Some (arrives (version_of k) x)))) (item_talk S c xs))
+
+module _ {G : Type 0} (r : Rest G) (conn : ℕ) where
+  -- A fault came in the midst of it: the sink took a beginning, and the ledger is one.
+  abbrev pub Breaks : Talk → (Rest G → Type 0) → Option (List ℕ) → Option (List ℕ) → Type 0
+  Breaks t Now old new =
+      (u : Opened) × (k : Kept) × (ledger : List EntryView) × (more : List EntryView) × Now (with_talk r conn u ledger k) × (ledger ++ more ≡ t.ledger) × AppendsFront old new t.out
+
+  -- all of it went well, or a fault came
+  abbrev pub Settles : Opened → Talk → (Rest G → Type 0) → Option (List ℕ) → Option (List ℕ) → Result Standing StreamFault → Type 0
+  Settles u t Now old new (Ok standing) = Now (with_talk r conn u t.ledger t.kept) × Appends old new t.out × (standing ≡ standing_of t.kept.ended)
+  Settles u t Now old new (Err fault) = Breaks t Now old new
+
+  -- One step of so many at most: nothing is due; or it puts something, and the others follow; or nothing was done.
+  abbrev pub WorkStep : Opened → List EntryView → Kept → Setting → ℕ → (Rest G → Type 0) → Result (Option Standing) StreamFault → Type 0
+  WorkStep u ledger k S n Now (Ok (Some standing)) =
+      let t = steps S conn n ledger k in Now (with_talk r conn u t.ledger t.kept) × (t.out ≡ []) × (standing ≡ standing_of t.kept.ended)
+  WorkStep u ledger k S n Now (Ok None) =
+      (m : ℕ) × (after : List EntryView) × (l : Kept) × (n ≡ suc m) × (steps S conn n ledger k ≡ after_bytes l.unsent (steps S conn m after (heard_out l)))
+      × IsPlaced l.waiting × (due l ≤ m) × Now (with_talk r conn u after l)
+  WorkStep u ledger k S n Now (Err fault) = Now (with_talk r conn u ledger k)
+
+  -- The same where what it put goes out: nothing is due; or it went out, and the others follow; or a fault came.
+  abbrev pub Steps : Opened → List EntryView → Kept → Setting → ℕ → (Rest G → Type 0) → Option (List ℕ) → Option (List ℕ) → Result (Option Standing) StreamFault → Type 0
+  Steps u ledger k S n Now old new (Ok (Some standing)) = Settles u (steps S conn n ledger k) Now old new (Ok standing)
+  Steps u ledger k S n Now old new (Ok None) =
+      (m : ℕ) × (after : List EntryView) × (l : Kept) × (out : List ℕ) × (n ≡ suc m) × (steps S conn n ledger k ≡ after_bytes out (steps S conn m after l))
+      × (l.unsent ≡ []) × IsPlaced l.waiting × (due l ≤ m) × Now (with_talk r conn u after l) × Appends old new out
+  Steps u ledger k S n Now old new (Err fault) = Breaks (steps S conn n ledger k) Now old new
+
+  -- An item at most was taken of a piece, which uses these of its bytes; or the session stands somehow.
+  abbrev pub Feeds : Opened → List EntryView → Kept → List ℕ → (Rest G → Type 0) → Result ℕ StreamFault → Type 0
+  Feeds u ledger k piece Now (Ok used) = let t = takes at_server u piece in (used ≡ t.used) × Now (with_talk r conn t.rest ledger (fed k (arrival k t.item)))
+  Feeds u ledger k piece Now (Err fault) = (v : Opened) × (l : Kept) × Now (with_talk r conn v ledger l)
+
+  module _ (S : Setting) where
+    -- the conversation for these bytes of the client
+    abbrev pub told_by : List ℕ → Talk
+    told_by up = item_talk S conn (received up) r.ledger begun
+
+    -- the server and the sink are as it has them
+    abbrev pub Stands : (Rest G → Type 0) → Option (List ℕ) → Option (List ℕ) → List ℕ → Type 0
+    Stands Now before new up = Now (with_talk r conn (state at_server at_server.start up) (told_by up).ledger (told_by up).kept) × Appends before new (told_by up).out
+
+    -- So many bytes of a piece were taken, to the end of an item; or a fault came.
+    abbrev pub TakesOne : (Rest G → Type 0) → Option (List ℕ) → Option (List ℕ) → List ℕ → List ℕ → Result Taken StreamFault → Type 0
+    TakesOne Now before new up piece (Ok taken) =
+        Stands Now before new (up ++ take taken.used piece) × (taken.standing ≡ standing_of (told_by (up ++ take taken.used piece)).kept.ended)
+    TakesOne Now before new up piece (Err fault) = Breaks (told_by (up ++ piece)) Now before new
+
+    -- A piece was taken whole, or up to the end of the session; or a fault came.
+    abbrev pub TakesPiece : (Rest G → Type 0) → Option (List ℕ) → Option (List ℕ) → List ℕ → List ℕ → Result Standing StreamFault → Type 0
+    TakesPiece Now before new up piece (Ok Open) = Stands Now before new (up ++ piece) × ((told_by (up ++ piece)).kept.ended ≡ None)
+    TakesPiece Now before new up piece (Ok Over) =
+        (front : List ℕ) × (rest : List ℕ) × (front ++ rest ≡ piece) × Stands Now before new (up ++ front) × IsSome (told_by (up ++ front)).kept.ended
+    TakesPiece Now before new up piece (Err fault) = Breaks (told_by (up ++ piece)) Now before new

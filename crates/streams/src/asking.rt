@@ -1,0 +1,165 @@
+//! A client asks its server for all that it waits for.
+ghost use Rattle.std.specs.Prelude.{◌≡◌, ◌<◌, ◌++◌, true, map, Some, [], IsErrOf, IfErr, is_ok};
+ghost use Rattle.std.specs.Result.{result_err};
+ghost use Rattle.std.specs.Vec.{vec_len, vec_capacity};
+ghost use Rattle.client.specs.Rest.{Rest};
+ghost use Rattle.client.specs.Notes.{note};
+ghost use Rattle.client.specs.Fits.{Fits};
+ghost use Rattle.streams.specs.Asking.{told_by, has_ended, FeedsPiece, ReadsAll, PutsOut, Asks, GivesUp};
+
+use crate::fault::StreamFault;
+use crate::traits::{Sink, Source};
+use crate::writing::write_all;
+use client::{Client, ClientFault, Heard, Losses};
+use std::alloc::Global;
+
+/// How many bytes a read asks for.
+const PIECE: usize = 4096;
+
+/// What came of asking.
+#[derive(Drop)]
+pub struct Told {
+    /// What was heard, in order: the version, rows and summaries.
+    pub heard: Vec<Heard>,
+    /// What became of the requests without an answer; none where all were answered.
+    pub losses: Losses,
+    /// Why it was broken off, if it was. A bad answer of the server is no fault: the client has ended then.
+    pub fault: Option<StreamFault>,
+}
+
+/// Keeps what was told. There is room for it.
+fn keep(heard: &mut Vec<Heard>, told: Heard)
+    requires { vec_len heard.old < vec_capacity heard.old }
+    ensures { map note heard.new.items ≡ map note heard.old.items ++ told_by (note told) }
+{
+    match told {
+        Heard::Nothing => {}
+        told => heard.push_reserved(told),
+    }
+}
+
+/// What a client that refuses bytes means for its streams: I3, or that it has ended, which is no fault of theirs.
+fn end_of(fault: ClientFault) -> Result<(), StreamFault>
+    ensures ended { is_ok result ≡ has_ended fault }
+    ensures fault { IfErr result (λ e. e ≡ StreamFault.Memory) }
+{
+    match fault {
+        ClientFault::Closed | ClientFault::BadPeer => Ok(()),
+        ClientFault::Memory => Err(StreamFault::Memory),
+    }
+}
+
+/// Feeds a piece whole, or up to the client's end. I3 where memory runs out: then some of it was fed.
+fn feed_piece(client: &mut Client, piece: &[u8], heard: &mut Vec<Heard>) -> Result<(), StreamFault>
+    ensures feeds { (r : Rest) → Fits client.old r → FeedsPiece r piece.now (map note heard.old.items) (map note heard.new.items) (is_ok result) (Fits client.new) }
+    ensures fault { IfErr result (λ e. e ≡ StreamFault.Memory) }
+{
+    let mut rest = piece;
+    while !rest.is_empty() {
+        if heard.reserve(1).is_err() {
+            return Err(StreamFault::Memory);
+        }
+        match client.feed(rest) {
+            Ok((used, told)) => {
+                keep(heard, told);
+                let (_, after) = rest.split_at(used);
+                rest = after;
+            }
+            Err(fault) => return end_of(fault),
+        }
+    }
+    Ok(())
+}
+
+/// Reads and feeds as long as an answer is still to come, to the end of the input. I1 or I3.
+fn read_on<I: Source>(
+    client: &mut Client,
+    source: &mut I,
+    heard: &mut Vec<Heard>,
+) -> Result<(), StreamFault>
+    ensures reads { (r : Rest) → Fits client.old r → ReadsAll r (I.left source.old) (I.left source.new) (map note heard.old.items) (map note heard.new.items) (Fits client.new) (result_err result) }
+    ensures read { IsErrOf result StreamFault.ReadFailed → I.has_failed source.new ≡ true }
+    ensures fault { IfErr result (λ e. e ≡ StreamFault.WriteFailed → ⊥) }
+{
+    let mut buffer = [0; PIECE];
+    while client.awaits() {
+        let Ok(len) = source.read(&mut buffer) else {
+            return Err(StreamFault::ReadFailed);
+        };
+        if len == 0 {
+            return Ok(());
+        }
+        feed_piece(client, &buffer[..len], heard)?;
+    }
+    Ok(())
+}
+
+/// Writes all that the client puts out. I2, with a beginning of it written, or I3.
+fn write_out<O: Sink>(client: &mut Client, sink: &mut O) -> Result<(), StreamFault>
+    ensures out { (r : Rest) → Fits client.old r → PutsOut r (O.taken sink.old) (O.taken sink.new) (Fits client.new) (result_err result) }
+    ensures written { IsErrOf result StreamFault.WriteFailed → O.has_failed sink.new ≡ true }
+    ensures fault { IfErr result (λ e. e ≡ StreamFault.ReadFailed → ⊥) }
+{
+    let Ok(bytes) = client.take_out(usize::MAX) else {
+        return Err(StreamFault::Memory);
+    };
+    if write_all(sink, bytes.as_slice()).is_err() {
+        return Err(StreamFault::WriteFailed);
+    }
+    Ok(())
+}
+
+/// Unless all was answered, the client is lost. It takes no memory.
+fn give_up(client: &mut Client) -> Losses
+    ensures { (r : Rest) → Fits client.old r → GivesUp (Fits client.new) result r }
+{
+    if client.awaits() {
+        return client.lost();
+    }
+    if client.pending() > 0 {
+        return client.lost();
+    }
+    Losses::new()
+}
+
+/// Writes all that the client puts out, and then reads and feeds what it waits for.
+fn converse<I: Source, O: Sink>(
+    client: &mut Client,
+    source: &mut I,
+    sink: &mut O,
+    heard: &mut Vec<Heard>,
+) -> Result<(), StreamFault>
+    ensures asks { (r : Rest) → Fits client.old r → Asks r (I.left source.old) (I.left source.new) (O.taken sink.old) (O.taken sink.new) (map note heard.old.items) (map note heard.new.items) (Fits client.new) (result_err result) }
+    ensures read { IsErrOf result StreamFault.ReadFailed → I.has_failed source.new ≡ true }
+    ensures written { IsErrOf result StreamFault.WriteFailed → O.has_failed sink.new ≡ true }
+{
+    write_out(client, sink)?;
+    read_on(client, source, heard)
+}
+
+/// Writes what a client puts out, then reads pieces of at most 4,096 bytes and feeds each whole, as long as an answer is still to
+/// come (a version, or the summary of a request that isn't GOODBYE), the client hasn't ended, and the input goes on. Unless all
+/// was answered by then, the client is lost.
+///
+/// What is told is what the client makes of the bytes that were fed, however they were cut. I1 only where the source has failed,
+/// I2 only where the sink has: what was written is then a beginning of the output; I3 for want of memory. With each of them the
+/// client is lost too, unless all was answered.
+pub fn ask_all<I: Source, O: Sink>(
+    alloc: Global,
+    client: &mut Client,
+    source: &mut I,
+    sink: &mut O,
+) -> Told
+    ensures asks { (r : Rest) → Fits client.old r → Asks r (I.left source.old) (I.left source.new) (O.taken sink.old) (O.taken sink.new) [] (map note result.heard.items) (GivesUp (Fits client.new) result.losses) result.fault }
+    ensures read { result.fault ≡ Some StreamFault.ReadFailed → I.has_failed source.new ≡ true }
+    ensures written { result.fault ≡ Some StreamFault.WriteFailed → O.has_failed sink.new ≡ true }
+{
+    let mut heard = Vec::new(alloc);
+    let fault = converse(client, source, sink, &mut heard).err();
+    let losses = give_up(client);
+    Told {
+        heard,
+        losses,
+        fault,
+    }
+}

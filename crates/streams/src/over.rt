@@ -1,0 +1,77 @@
+//! A source or a sink over a reader or a writer of the standard library.
+ghost use Rattle.std.specs.Prelude.{◌≡◌, ◌^◌, false};
+
+use crate::traits::{Failed, Sink, Source};
+use std::io::{Read, Write};
+
+/// The most reads of an `Over`.
+const MOST_READS: u64 = 1 << 63;
+
+/// A source or a sink over a reader or writer of the standard library. An error, a write that takes nothing, and a
+/// read after 2^63 reads are its failures.
+#[derive(Drop)]
+pub struct Over<S> {
+    stream: S,
+    failed: bool,
+    reads: u64,
+}
+
+impl<S> Over<S> {
+    pub fn new(stream: S) -> Over<S>
+        ensures { (result.stream ≡ stream) × (result.failed ≡ false) × (result.reads ≡ 2 ^ 63) }
+    {
+        Over {
+            stream,
+            failed: false,
+            reads: MOST_READS,
+        }
+    }
+}
+
+impl<R: Read> Source for Over<R> {
+    ghost left = { λ s. R.remaining s.stream };
+
+    ghost has_failed = { λ s. s.failed };
+
+    ghost reads = { λ s. s.reads };
+
+    fn read(&mut self, buffer: &mut [u8]) -> Result<usize, Failed> {
+        if self.failed {
+            return Err(Failed);
+        }
+        if self.reads == 0 {
+            self.failed = true;
+            return Err(Failed);
+        }
+        let Ok(n) = self.stream.read(buffer) else {
+            self.failed = true;
+            return Err(Failed);
+        };
+        self.reads -= 1;
+        Ok(n)
+    }
+}
+
+impl<W: Write> Sink for Over<W> {
+    ghost taken = { λ s. W.contents s.stream };
+
+    ghost has_failed = { λ s. s.failed };
+
+    fn write(&mut self, bytes: &[u8]) -> Result<usize, Failed> {
+        if self.failed {
+            return Err(Failed);
+        }
+        if bytes.is_empty() {
+            return Ok(0);
+        }
+        let Ok(n) = self.stream.write(bytes) else {
+            self.failed = true;
+            return Err(Failed);
+        };
+        if n == 0 {
+            self.failed = true;
+            return Err(Failed);
+        }
+        Ok(n)
+    }
+}

@@ -1,0 +1,45 @@
+//! Where bytes come from and go to.
+ghost use Rattle.std.specs.Prelude.{◌≡◌, ◌<◌, ℕ, List, Option, Bool, length, true, ◌↔◌, IsErr, IfOk};
+ghost use Rattle.std.specs.Io.{ReadsAtMost, WritesAtMost};
+ghost use Rattle.std.specs.Io.KnownBytes.{ReadConsumes, WriteAppends};
+
+/// A stream has failed, and goes on failing.
+#[derive(Clone, Copy, Debug, PartialEq, Eq)]
+pub struct Failed;
+
+/// Where bytes come from.
+pub trait Source {
+    // The bytes that are left, where they are known.
+    ghost left: { Self → Option (List ℕ) };
+
+    ghost has_failed: { Self → Bool };
+
+    // How many more reads may give bytes.
+    ghost reads: { Self → ℕ };
+
+    /// Reads bytes into the front of the buffer, and answers how many; 0 into a buffer that isn't empty is the end.
+    /// It answers `Failed` exactly where the source has failed by then, and then no byte has moved.
+    fn read(&mut self, buffer: &mut [u8]) -> Result<usize, Failed>
+        ensures failed { IsErr result ↔ (has_failed self.new ≡ true) }
+        ensures stays { has_failed self.old ≡ true → has_failed self.new ≡ true }
+        ensures bound { ReadsAtMost result buffer.new }
+        ensures bytes { ReadConsumes (left self.old) (left self.new) result buffer.new }
+        ensures lowers { IfOk result (λ n. 0 < n → reads self.new < reads self.old) };
+}
+
+/// Where bytes go.
+pub trait Sink {
+    // The bytes that were taken, where they are known.
+    ghost taken: { Self → Option (List ℕ) };
+
+    ghost has_failed: { Self → Bool };
+
+    /// Takes bytes of the front, and answers how many; at least one where there is one.
+    /// It answers `Failed` exactly where the sink has failed by then, and then no byte has moved.
+    fn write(&mut self, bytes: &[u8]) -> Result<usize, Failed>
+        ensures failed { IsErr result ↔ (has_failed self.new ≡ true) }
+        ensures stays { has_failed self.old ≡ true → has_failed self.new ≡ true }
+        ensures bound { WritesAtMost result bytes.now }
+        ensures some { IfOk result (λ n. 0 < length bytes.now → 0 < n) }
+        ensures bytes { WriteAppends (taken self.old) (taken self.new) result bytes.now };
+}
