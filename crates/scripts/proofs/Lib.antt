@@ -1,0 +1,5 @@
+pub mod Numbers
+pub mod Texts
+pub mod Lines
+pub mod Parted
+pub mod Dictionaries

@@ -1,0 +1,86 @@
+-- The lines of a script, one after the other.
+use Rattle.std.proofs.Common.{◌≡◌, ℕ, ◌+◌, ◌<◌, ◌==◌, length, drop, map, get_or, Bor, true, false, List, [], ◌∷◌, ◌++◌, append_assoc, append-nil, Option, Some, None, refl, sym, ap, ◌∙◌, arith}
+use Rattle.std.specs.Option.{option_map}
+use Rattle.std.proofs.lemmas.List.{drop-map, drop_more, map-append}
+use Rattle.scripts.specs.declared.fault.LineFault.{LineFault}
+use Rattle.scripts.specs.declared.fault.LineFault.TheVariants.{Unreadable, Memory}
+use Rattle.scripts.specs.declared.fault.ScriptFault.{ScriptFault}
+use Rattle.scripts.specs.Answers.{Refused}
+use Rattle.scripts.specs.Views.{Text}
+use Rattle.scripts.specs.Words.{is_empty}
+use Rattle.scripts.specs.Script.{lines, filled_from, filled, said, unreadable, fault_at, IsRefused}
+
+-- what the lines of bytes say is this, and then what these lines say, of which the first has number n; none before them can't be read
+pub record HasRead {V : Type 0} (read : Text → Option V) (b : List ℕ) (out : List (ℕ × V)) (n : ℕ) (ls : List Text) : Type 0 where
+  pub told : said read (filled b) ≡ out ++ said read (filled_from n ls)
+  pub left : unreadable read (filled b) ≡ unreadable read (filled_from n ls)
+
+pub begins : {V : Type 0} (read : Text → Option V) (b : List ℕ) → HasRead read b [] 1 (lines b)
+begins read b = record { told = refl; left = refl }
+
+-- an empty line is passed over, another stands first
+passed : (n : ℕ) (l : Text) (ls : List Text) → is_empty l ≡ true → filled_from n (l ∷ ls) ≡ filled_from (n + 1) ls
+passed n l ls e = rw e refl
+
+stands : (n : ℕ) (l : Text) (ls : List Text) → is_empty l ≡ false → filled_from n (l ∷ ls) ≡ (n, l) ∷ filled_from (n + 1) ls
+stands n l ls e = rw e refl
+
+pub skips : {V : Type 0} (read : Text → Option V) (b : List ℕ) (out : List (ℕ × V)) (n : ℕ) (l : Text) (ls : List Text)
+    → HasRead read b out n (l ∷ ls) → is_empty l ≡ true → HasRead read b out (n + 1) ls
+skips read b out n l ls h e = record {
+  told = h.told ∙ ap (λ fs. out ++ said read fs) (passed n l ls e);
+  left = h.left ∙ ap (unreadable read) (passed n l ls e);
+}
+
+said_first : {V : Type 0} (read : Text → Option V) (n : ℕ) (l : Text) (v : V) (fs : List (ℕ × Text)) → read l ≡ Some v → said read ((n, l) ∷ fs) ≡ (n, v) ∷ said read fs
+said_first read n l v fs e = rw e refl
+
+readable_first : {V : Type 0} (read : Text → Option V) (n : ℕ) (l : Text) (v : V) (fs : List (ℕ × Text)) → read l ≡ Some v → unreadable read ((n, l) ∷ fs) ≡ unreadable read fs
+readable_first read n l v fs e = rw e refl
+
+unreadable_first : {V : Type 0} (read : Text → Option V) (n : ℕ) (l : Text) (fs : List (ℕ × Text)) → read l ≡ None → unreadable read ((n, l) ∷ fs) ≡ Some (n, l)
+unreadable_first read n l fs e = rw e refl
+
+pub reads : {V : Type 0} (read : Text → Option V) (b : List ℕ) (out : List (ℕ × V)) (n : ℕ) (l : Text) (ls : List Text) (v : V)
+    → HasRead read b out n (l ∷ ls) → is_empty l ≡ false → read l ≡ Some v → HasRead read b (out ++ (n, v) ∷ []) (n + 1) ls
+reads read b out n l ls v h e k = record {
+  told = h.told ∙ ap (λ fs. out ++ said read fs) (stands n l ls e) ∙ ap (λ ss. out ++ ss) (said_first read n l v (filled_from (n + 1) ls) k) ∙ sym (append_assoc out ((n, v) ∷ []) (said read (filled_from (n + 1) ls)));
+  left = h.left ∙ ap (unreadable read) (stands n l ls e) ∙ readable_first read n l v (filled_from (n + 1) ls) k;
+}
+
+pub stops : {V : Type 0} (read : Text → Option V) (b : List ℕ) (out : List (ℕ × V)) (n : ℕ) (l : Text) (ls : List Text)
+    → HasRead read b out n (l ∷ ls) → is_empty l ≡ false → read l ≡ None → option_map (λ x. x.0) (unreadable read (filled b)) ≡ Some n
+stops read b out n l ls h e k = ap (option_map (λ x. x.0)) (h.left ∙ ap (unreadable read) (stands n l ls e) ∙ unreadable_first read n l (filled_from (n + 1) ls) k)
+
+pub ends : {V : Type 0} (read : Text → Option V) (b : List ℕ) (out : List (ℕ × V)) (n : ℕ) → HasRead read b out n [] → (unreadable read (filled b) ≡ None) × (out ≡ said read (filled b))
+ends read b out n h = (h.left, sym (h.told ∙ append-nil out))
+
+-- The same of lines that are lent.
+abbrev pub texts : List (Bor (List ℕ)) → List Text
+texts ls = map (λ l. l.now) ls
+
+first_of : (ls : List (Bor (List ℕ))) (i : ℕ) (d : Bor (List ℕ)) → i < length ls → drop i (texts ls) ≡ (get_or ls i d).now ∷ drop (i + 1) (texts ls)
+first_of ls i d h = drop-map (λ l. l.now) i ls ∙ ap texts (drop_more ls i d h) ∙ ap (λ rest. (get_or ls i d).now ∷ rest) (sym (drop-map (λ l. l.now) (i + 1) ls))
+
+empty_is : (l : Text) → is_empty l ≡ (length l == 0)
+empty_is [] = refl
+empty_is (x ∷ xs) = grind arith
+
+-- the next line is empty, or it is read, or it can't be
+pub skips_line : {V : Type 0} (read : Text → Option V) (b : List ℕ) (out : List (ℕ × V)) (ls : List (Bor (List ℕ))) (i : ℕ) (d : Bor (List ℕ)) → i < length ls
+    → HasRead read b out (i + 1) (drop i (texts ls)) → (length (get_or ls i d).now == 0) ≡ true → HasRead read b out (i + 1 + 1) (drop (i + 1) (texts ls))
+skips_line read b out ls i d h k e = skips read b out (i + 1) (get_or ls i d).now (drop (i + 1) (texts ls)) (rw (first_of ls i d h) at k) (empty_is (get_or ls i d).now ∙ e)
+
+pub reads_line : {V : Type 0} (read : Text → Option V) (b : List ℕ) (out : List (ℕ × V)) (ls : List (Bor (List ℕ))) (i : ℕ) (d : Bor (List ℕ)) (v : V) → i < length ls
+    → HasRead read b out (i + 1) (drop i (texts ls)) → (length (get_or ls i d).now == 0) ≡ false → read (get_or ls i d).now ≡ Some v
+    → HasRead read b (out ++ (i + 1, v) ∷ []) (i + 1 + 1) (drop (i + 1) (texts ls))
+reads_line read b out ls i d v h k e r = reads read b out (i + 1) (get_or ls i d).now (drop (i + 1) (texts ls)) v (rw (first_of ls i d h) at k) (empty_is (get_or ls i d).now ∙ e) r
+
+pub stops_line : {V : Type 0} (read : Text → Option V) (b : List ℕ) (out : List (ℕ × V)) (ls : List (Bor (List ℕ))) (i : ℕ) (d : Bor (List ℕ)) (f : LineFault) (s : ScriptFault) → i < length ls
+    → HasRead read b out (i + 1) (drop i (texts ls)) → (length (get_or ls i d).now == 0) ≡ false → Refused f (read (get_or ls i d).now) → s ≡ fault_at (i + 1) f → IsRefused read b s
+stops_line read b out ls i d Unreadable s h k e r same = rw same (stops read b out (i + 1) (get_or ls i d).now (drop (i + 1) (texts ls)) (rw (first_of ls i d h) at k) (empty_is (get_or ls i d).now ∙ e) r)
+stops_line read b out ls i d Memory s h k e r same = rw same tt
+
+-- what was pushed stands at the end
+pub pushed : {A B : Type 0} (f : A → B) (old new : List A) (x : A) → new ≡ old ++ x ∷ [] → map f old ++ f x ∷ [] ≡ map f new
+pushed f old new x e = sym (ap (map f) e ∙ map-append f old (x ∷ []))

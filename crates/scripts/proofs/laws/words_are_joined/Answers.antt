@@ -1,0 +1,5 @@
+use Rattle.scripts.proofs.Parted.{are_words}
+use Rattle.scripts.proofs.laws.words_are_joined.Goals as goal
+
+pub returns : goal.returns
+returns c = are_words

@@ -1,0 +1,9 @@
+use Rattle.std.proofs.Common.{ap, ◌∙◌, Some}
+use Rattle.structures.specs.Shape.{shape, entries}
+use Rattle.structures.proofs.Views.{shape-Dict}
+use Rattle.scripts.specs.Params.{entries_in}
+use Rattle.scripts.proofs.Dictionaries.{pairs_back}
+use Rattle.scripts.proofs.params.entries_in.Goals as goal
+
+pub returns-in-Dict : goal.returns-in-Dict
+returns-in-Dict c = ap entries_in (ap shape c.in-Dict.is ∙ shape-Dict c.in-Dict.pairs) ∙ ap Some (pairs_back (entries c.in-Dict.pairs.items))

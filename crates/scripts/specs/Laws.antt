@@ -1,0 +1,14 @@
+-- What words and parameters are, by relations that don't tell how they are found.
+use Rattle.std.specs.Prelude.{◌≡◌, ◌<◌, ◌==◌, ◌&&◌, not, Bool, true, List, length}
+use Rattle.std.specs.List.{list_any, list_all, join_with_byte}
+use Rattle.std.specs.Str.{IsUtf8}
+use Rattle.scripts.specs.Views.{Text}
+use Rattle.scripts.specs.Words.{is_empty}
+
+-- one byte or more, and no blank
+abbrev pub is_word : Text → Bool
+is_word w = not (is_empty w) && not (list_any (λ b. b == 32) w)
+
+-- one word or more, which one blank between each two makes the line
+abbrev pub AreWords : Text → List Text → Type 0
+AreWords line ws = IsUtf8 line × (0 < length ws) × (list_all is_word ws ≡ true) × (join_with_byte 32 ws ≡ line)

@@ -1,0 +1,30 @@
+-- The request that a line's words stand for at a version.
+use Rattle.std.specs.Prelude.{ℕ, List, codes, Option, Some, None}
+use Rattle.wire.specs.declared.Version.{Version}
+use Rattle.wire.specs.declared.Version.TheVariants.{V44, V51}
+use Rattle.messages.specs.View.{Login, Ask, Hello, Logon, Logoff, Goodbye, Reset, Run, Begin, Commit, Rollback, Discard, Pull}
+use Rattle.scripts.specs.Views as script
+use Rattle.scripts.specs.Views.{RequestView}
+
+-- the user `user` by the scheme `basic`, with these credentials
+abbrev pub login : List ℕ → Login
+login credentials = record { scheme = codes "basic"; principal = codes "user"; credentials = credentials }
+
+-- at 4.4 a HELLO has the login, at 5.1 a LOGON
+abbrev pub login_at : Version → Option Login
+login_at V44 = Some (login (codes "pass"))
+login_at V51 = None
+
+abbrev pub meant : Version → RequestView → Ask
+meant v script.Hello = Hello (codes "t/1") (login_at v)
+meant v script.Logon = Logon (login (codes "pass"))
+meant v script.LogonBad = Logon (login (codes "bad"))
+meant v script.Logoff = Logoff
+meant v script.Goodbye = Goodbye
+meant v script.Reset = Reset
+meant v (script.Run text ps mode) = Run text ps mode
+meant v (script.Begin mode) = Begin mode
+meant v script.Commit = Commit
+meant v script.Rollback = Rollback
+meant v (script.Discard count) = Discard count
+meant v (script.Pull count) = Pull count

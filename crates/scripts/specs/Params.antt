@@ -1,0 +1,46 @@
+-- Parameters out of bytes.
+use Rattle.std.specs.Prelude.{ℕ, List, Option, Some, None, Result, Ok, Err}
+use Rattle.std.specs.Option.{option_and_then}
+use Rattle.std.specs.Result.{result_ok}
+use Rattle.packstream.specs.Answers.{whole_of}
+use Rattle.packstream.specs.Good.{IsGood}
+use Rattle.packstream.specs.Spelling.{Spells}
+use Rattle.packstream.specs.Tree.{Tree, dict}
+use Rattle.packstream.specs.View.{entries_of}
+use Rattle.structures.specs.Faults.{fault, scan, structures}
+use Rattle.structures.specs.Form.{Form, typed}
+use Rattle.structures.specs.declared.fault.Reason.{Reason}
+use Rattle.wire.specs.declared.Version.{Version}
+use Rattle.wire.specs.declared.Version.TheVariants.{V44, V51}
+use Rattle.messages.specs.Messages.{pairs_of}
+use Rattle.scripts.specs.Views.{Params}
+
+-- the cell of a value whose structures have been judged
+abbrev pub cell_by : Result ℕ (Reason × ℕ) → Tree → Option Tree
+cell_by (Ok n) t = Some (typed t)
+cell_by (Err e) t = None
+
+-- the cell of a value at a version, seen as its tree
+abbrev pub cell_at : Version → Tree → Option Tree
+cell_at v t = cell_by (scan (fault v) 0 (structures t)) t
+
+-- the first, or else the second
+abbrev pub or_else : Option Tree → Option Tree → Option Tree
+or_else None o = o
+or_else (Some t) o = Some t
+
+-- the cell at a version that reads the value: at all that do it is the same
+abbrev pub cell_of : Tree → Option Tree
+cell_of t = or_else (cell_at V51 t) (cell_at V44 t)
+
+abbrev pub entries_in : Tree → Option Params
+entries_in (dict es) = Some (pairs_of es)
+entries_in t = None
+
+-- the parameters that bytes spell
+abbrev pub params_of : List ℕ → Option Params
+params_of b = option_and_then entries_in (option_and_then cell_of (result_ok (whole_of b)))
+
+-- the bytes spell a good value, which at some version is a cell: a dictionary with these entries
+abbrev pub IsParams : List ℕ → Params → Type 0
+IsParams b ps = (v : Version) × (t : Tree) × IsGood t × Spells t b × Form v (dict (entries_of ps)) t

@@ -1,0 +1,25 @@
+//! The lines of scripts: what a world, a client at a shell or a pair of ends is told to do, in words.
+#![tactic(auto)]
+
+mod events;
+mod fault;
+mod laws;
+mod line;
+mod meaning;
+mod params;
+mod reading;
+mod request;
+mod requests;
+mod script;
+mod words;
+
+pub use fault::{LineFault, ScriptFault};
+pub use laws::{params_are_cells, words_are_joined};
+pub use line::{Amount, Line, Peer, Times};
+pub use reading::{read_line, read_request};
+pub use request::ScriptRequest;
+pub use script::{Numbered, read_requests, read_script};
+pub use words::number_of;
+
+#[cfg(test)]
+mod tests;

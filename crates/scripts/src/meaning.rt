@@ -1,0 +1,60 @@
+//! The messages that a script's requests stand for.
+ghost use Rattle.std.specs.Prelude.{◌≡◌, IfOk, codes};
+ghost use Rattle.messages.specs.View.{ask, auth_of, auth_in, Hello};
+ghost use Rattle.scripts.specs.Meant.{meant, login, login_at};
+ghost use Rattle.scripts.specs.Views.{request_view};
+
+use crate::request::ScriptRequest;
+use messages::{Auth, Request, Version};
+use std::alloc::{AllocError, Global};
+
+impl ScriptRequest {
+    /// The request at a version: the agent is `t/1`, the scheme `basic`, the user `user` and the credentials `pass`, or
+    /// `bad` for `logon bad`. A HELLO has the login at 4.4 alone.
+    pub fn into_request(self, alloc: Global, version: Version) -> Result<Request, AllocError>
+        ensures { IfOk result (λ r. ask r ≡ meant version (request_view self)) }
+    {
+        Ok(match self {
+            ScriptRequest::Hello => return hello(alloc, version),
+            ScriptRequest::Logon => Request::Logon(auth(alloc, "pass")?),
+            ScriptRequest::LogonBad => Request::Logon(auth(alloc, "bad")?),
+            ScriptRequest::Logoff => Request::Logoff,
+            ScriptRequest::Goodbye => Request::Goodbye,
+            ScriptRequest::Reset => Request::Reset,
+            ScriptRequest::Run { text, params, mode } => Request::Run { text, params, mode },
+            ScriptRequest::Begin(mode) => Request::Begin(mode),
+            ScriptRequest::Commit => Request::Commit,
+            ScriptRequest::Rollback => Request::Rollback,
+            ScriptRequest::Discard(count) => Request::Discard(count),
+            ScriptRequest::Pull(count) => Request::Pull(count),
+        })
+    }
+}
+
+fn hello(alloc: Global, version: Version) -> Result<Request, AllocError>
+    ensures { IfOk result (λ r. ask r ≡ Hello (codes "t/1") (login_at version)) }
+{
+    let agent = String::from_str(alloc, "t/1")?;
+    let auth = login_at(alloc, version)?;
+    Ok(Request::Hello { agent, auth })
+}
+
+/// The login of a HELLO.
+fn login_at(alloc: Global, version: Version) -> Result<Option<Auth>, AllocError>
+    ensures { IfOk result (λ a. auth_in a ≡ login_at version) }
+{
+    match version {
+        Version::V44 => Ok(Some(auth(alloc, "pass")?)),
+        Version::V51 => Ok(None),
+    }
+}
+
+fn auth(alloc: Global, credentials: &str) -> Result<Auth, AllocError>
+    ensures { IfOk result (λ a. auth_of a ≡ login credentials.now) }
+{
+    Ok(Auth {
+        scheme: String::from_str(alloc, "basic")?,
+        principal: String::from_str(alloc, "user")?,
+        credentials: String::from_str(alloc, credentials)?,
+    })
+}
