@@ -1,14 +1,5 @@
 pub mod Digits
-pub mod Openings
-pub mod Served
-pub mod Steps
-pub mod Feeding
-pub mod Hearing
-pub mod Hellos
-pub mod Greetings
-pub mod Wholes
-pub mod Once
+pub mod Answered
 pub mod Checkings
 pub mod CheckedOnce
-pub mod Parsed
 pub mod Found

@@ -1,58 +1,88 @@
 -- Which command the words are.
-use Rattle.std.specs.Prelude.{⊤, ◌≡◌, ◌≤◌, ◌==◌, ℕ, Bool, true, false, if◌then◌else◌, List, [], ◌∷◌, Option, Some, None, drop, option_map, string_bytes, codes, Result, MatchResult}
+use Rattle.std.specs.Prelude.{◌≡◌, ◌≤◌, ◌==◌, ◌||◌, nat_lt, ℕ, Bool, true, false, if◌then◌else◌, List, [], ◌∷◌, ◌++◌, Option, Some, None, drop, string_bytes, codes}
 use Rattle.std.specs.List.{list_any}
 use Rattle.std.specs.Io.KnownBytes.{Appends}
+use Rattle.std.specs.Option.{option_and_then}
 use Rattle.std.specs.Str.{bytes_eq}
-use Rattle.clap.specs.Words.{Row, first_of, kind_of, subcommand_rows_of}
-use Rattle.clap.specs.declared.error.Error.{Error}
-use Rattle.clap.specs.declared.error.kind.ErrorKind.TheVariants.{OutOfMemory}
-use Rattle.clap.specs.declared.parser.matches.ArgMatches.{ArgMatches}
+use Rattle.scripts.specs.Words.{number_of}
+use Rattle.wire.specs.declared.Version.{Version}
+use Rattle.wire.specs.declared.Version.TheVariants.{V44, V51}
+use Rattle.bolt.specs.declared.words.CommandLine.{CommandLine}
+use Rattle.bolt.specs.declared.words.CommandLine.TheVariants as words
 use Rattle.bolt.specs.declared.commands.Said.{Said}
-use Rattle.bolt.specs.Commands.{SaysAnswer, SaysCheck, version_named}
+use Rattle.streams.specs.Fronts.{AppendsFront}
+use Rattle.bolt.specs.Commands.{SaysAnswer, SaysCheck}
 
 -- the bytes of a text
 abbrev pub Text : Type 0
 Text = List ℕ
 
--- what words ask for: the answer to a text, a check of a text at the version of a word, the test vectors, or nothing
--- that is a command
+-- What words ask for: the answer to a text, a check of a text at a version, the test vectors, a shell with a host's port, or nothing
+-- that is a command. A shell is `main`'s own: it speaks to a socket.
 pub data Ask : Type 0 where
   ToAnswer : Text → Ask
-  ToCheck : Text → Text → Ask
+  ToCheck : Version → Text → Ask
   ToPass : Ask
+  ToShell : Text → ℕ → Ask
   Nothing : Ask
 
--- the words for a version
-abbrev pub version_words : List Text
-version_words = codes "4.4" ∷ codes "5.1" ∷ []
+-- the version of a word
+abbrev pub version_at : Text → Option Version
+version_at word = if bytes_eq word (codes "4.4") then Some V44 else (if bytes_eq word (codes "5.1") then Some V51 else None)
 
--- a word is one of them
-abbrev pub is_version : Text → Bool
-is_version word = list_any (λ name. bytes_eq name word) version_words
+-- a check of a text, where there is such a version
+abbrev pub check_at : Option Version → Text → Ask
+check_at (Some v) hex = ToCheck v hex
+check_at None hex = Nothing
 
--- the words after `answer`, `check` and `vectors`
+-- the port of a word: 1 to 65,535
+abbrev pub port_in : ℕ → Option ℕ
+port_in n = if n == 0 || nat_lt 65535 n then None else Some n
+
+abbrev pub port_at : Text → Option ℕ
+port_at word = option_and_then port_in (number_of word)
+
+-- a shell with a host, where there is such a port
+abbrev pub shell_at : Text → Option ℕ → Ask
+shell_at host (Some port) = ToShell host port
+shell_at host None = Nothing
+
+-- what the program found, by its content
+abbrev pub ask_of : CommandLine → Ask
+ask_of (words.Answer hex) = ToAnswer hex.now
+ask_of (words.Check version hex) = ToCheck version hex.now
+ask_of words.Vectors = ToPass
+ask_of (words.Shell host port) = ToShell host.now port
+ask_of words.Nothing = Nothing
+
+-- the words after `answer`, `check`, `vectors` and `shell`
 abbrev pub asked_answer : List Text → Ask
 asked_answer (hex ∷ []) = ToAnswer hex
 asked_answer _ = Nothing
 
 abbrev pub asked_check : List Text → Ask
-asked_check (version ∷ hex ∷ []) = if is_version version then ToCheck version hex else Nothing
+asked_check (version ∷ hex ∷ []) = check_at (version_at version) hex
 asked_check _ = Nothing
 
 abbrev pub asked_vectors : List Text → Ask
 asked_vectors [] = ToPass
 asked_vectors _ = Nothing
 
+abbrev pub asked_shell : List Text → Ask
+asked_shell (host ∷ port ∷ []) = shell_at host (port_at port)
+asked_shell _ = Nothing
+
 -- a command's name and the words after it
 abbrev pub asked_by : Text → List Text → Ask
-asked_by word rest = if bytes_eq (codes "answer") word then asked_answer rest
-    else (if bytes_eq (codes "check") word then asked_check rest
-    else (if bytes_eq (codes "vectors") word then asked_vectors rest else Nothing))
+asked_by word rest = if bytes_eq word (codes "answer") then asked_answer rest
+    else (if bytes_eq word (codes "check") then asked_check rest
+    else (if bytes_eq word (codes "vectors") then asked_vectors rest
+    else (if bytes_eq word (codes "shell") then asked_shell rest else Nothing)))
 
 -- the program's name and the words after it
-abbrev pub asked : List Text → Ask
-asked (program ∷ word ∷ rest) = asked_by word rest
-asked _ = Nothing
+abbrev pub asked_plain : List Text → Ask
+asked_plain (program ∷ word ∷ rest) = asked_by word rest
+asked_plain _ = Nothing
 
 -- a hyphen and more
 abbrev pub is_flag : Text → Bool
@@ -63,16 +93,17 @@ is_flag _ = false
 abbrev pub has_flag : List Text → Bool
 has_flag words = list_any is_flag (drop 1 words)
 
--- this is said to what was asked
+-- no command has a flag
+abbrev pub asked : List Text → Ask
+asked words = if has_flag words then Nothing else asked_plain words
+
+-- This is said to what was asked; to words that are `main`'s own, the same as to none.
 abbrev pub SaysTo : Ask → Said → Type 0
 SaysTo (ToAnswer hex) s = SaysAnswer hex s
-SaysTo (ToCheck version hex) s = SaysCheck (version_named version) hex s
+SaysTo (ToCheck version hex) s = SaysCheck version hex s
 SaysTo ToPass s = (string_bytes s.err ≡ []) × (s.status ≤ 1)
+SaysTo (ToShell host port) s = (string_bytes s.out ≡ []) × (s.status ≡ 2)
 SaysTo Nothing s = (string_bytes s.out ≡ []) × (s.status ≡ 2)
-
--- the same, where no word after the program's name is a flag
-abbrev pub SaysWords : List Text → Said → Type 0
-SaysWords words s = has_flag words ≡ false → SaysTo (asked words) s
 
 -- a stream over a call: what it had taken before and has taken after, and whether it had failed, and has
 pub record Passage : Type 0 where
@@ -82,30 +113,12 @@ pub record Passage : Type 0 where
   pub has_failed : Bool
 
 -- What is said is put on both streams, unless they fail, and its status is answered; a stream that fails on the way makes the
--- status 1.
+-- status 1. Where standard output fails on the way, it took a beginning, and standard error tells so.
 abbrev pub IsPut : Said → Passage → Passage → ℕ → Type 0
 IsPut s out err status =
     (out.has_failed ≡ false → Appends out.before out.after (string_bytes s.out))
     × (out.has_failed ≡ false → err.has_failed ≡ false → Appends err.before err.after (string_bytes s.err) × (status ≡ s.status))
     × (out.had_failed ≡ false → out.has_failed ≡ true → status ≡ 1)
     × (err.had_failed ≡ false → err.has_failed ≡ true → status ≡ 1)
-
--- the values of HEX and VERSION of the subcommand that was met
-abbrev pub values_of : Option (Text × List Row) → Option (Option Text × Option Text)
-values_of = option_map (λ p. (first_of (codes "HEX") p.1, first_of (codes "VERSION") p.1))
-
--- what the values stand for
-abbrev pub asked_in : Option (Option Text × Option Text) → Ask
-asked_in (Some (Some hex, None)) = ToAnswer hex
-asked_in (Some (Some hex, Some version)) = ToCheck version hex
-asked_in (Some (None, version)) = ToPass
-asked_in None = ToPass
-
--- a parse of words that are a command fails only for want of memory
-abbrev pub IsRefusal : Ask → Error → Type 0
-IsRefusal Nothing e = ⊤
-IsRefusal _ e = kind_of e ≡ OutOfMemory
-
--- a parse finds what was asked, and fails where that is nothing
-abbrev pub Parses : Ask → Result ArgMatches Error → Type 0
-Parses a r = MatchResult r (λ m. asked_in (values_of (subcommand_rows_of m)) ≡ a) (IsRefusal a)
+    × AppendsFront out.before out.after (string_bytes s.out)
+    × (out.had_failed ≡ false → out.has_failed ≡ true → err.has_failed ≡ false → Appends err.before err.after (codes "fault I2" ++ 10 ∷ []))

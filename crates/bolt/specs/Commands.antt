@@ -1,32 +1,48 @@
 -- What a command says.
-use Rattle.std.specs.Prelude.{◌≡◌, ◌⊎◌, ℕ, if◌then◌else◌, List, [], ◌∷◌, ◌++◌, string_bytes, codes, IsErr}
+use Rattle.std.specs.Prelude.{◌≡◌, ◌⊎◌, ℕ, List, [], ◌∷◌, ◌++◌, string_bytes, codes, IsErr}
 use Rattle.hex.specs.Hex.{decode_of}
 use Rattle.std.specs.Fmt.{decimal}
-use Rattle.std.specs.Str.{bytes_eq}
 use Rattle.packstream.specs.declared.fault.Reason.{Reason as PackReason}
 use Rattle.packstream.specs.declared.fault.Reason.TheVariants as pack
 use Rattle.wire.specs.declared.Version.{Version}
-use Rattle.wire.specs.declared.Version.TheVariants.{V44, V51}
 use Rattle.structures.specs.declared.fault.Reason.{Reason}
 use Rattle.structures.specs.declared.fault.Reason.TheVariants.{UnknownTag, FieldCount, FieldKind, Range, PathShape, NotInVersion}
 use Rattle.bolt.specs.declared.commands.Said.{Said}
 use Rattle.bolt.specs.declared.checking.Checked.{Checked}
 use Rattle.bolt.specs.declared.checking.Checked.TheVariants.{Fine, Refused, Unfit}
-use Rattle.bolt.specs.declared.«end».End.{End}
-use Rattle.bolt.specs.declared.«end».End.TheVariants.{Live, Over}
-use Rattle.bolt.specs.declared.«end».State.TheVariants.{Fresh, Unauth}
-use Rattle.bolt.specs.declared.«end».Cause.TheVariants.{BadMagic, NoVersion, TooBig, Malformed}
+use Rattle.streams.specs.declared.responding.End.{End}
+use Rattle.streams.specs.declared.responding.End.TheVariants.{Live, Over}
+use Rattle.machine.specs.declared.states.State.{State}
+use Rattle.server.specs.declared.kinds.Cause.{Cause}
 use Rattle.bolt.specs.Hexadecimal.{AnswersHex}
 use Rattle.bolt.specs.Checks.{ChecksHex}
 
--- how a session stands, as it is printed
+-- a state and a cause, as they are printed
+abbrev pub state_words : State → List ℕ
+state_words State.Fresh = codes "state Fresh"
+state_words State.Unauth = codes "state Unauth"
+state_words State.Ready = codes "state Ready"
+state_words State.Streaming = codes "state Streaming"
+state_words State.TxReady = codes "state TxReady"
+state_words State.TxStreaming = codes "state TxStreaming"
+state_words State.Failed = codes "state Failed"
+state_words State.Interrupted = codes "state Interrupted"
+state_words State.Defunct = codes "state Defunct"
+
+abbrev pub cause_words : Cause → List ℕ
+cause_words Cause.BadMagic = codes "ended E1"
+cause_words Cause.NoVersion = codes "ended E2"
+cause_words Cause.TooBig = codes "ended E3"
+cause_words Cause.Malformed = codes "ended E4"
+cause_words Cause.Invalid = codes "ended E5"
+cause_words Cause.AuthRefused = codes "ended E6"
+cause_words Cause.Goodbye = codes "ended E7"
+cause_words Cause.Lost = codes "ended E8"
+
+-- how a session stands
 abbrev pub end_words : End → List ℕ
-end_words (Live Fresh) = codes "state Fresh"
-end_words (Live Unauth) = codes "state Unauth"
-end_words (Over BadMagic) = codes "ended E1"
-end_words (Over NoVersion) = codes "ended E2"
-end_words (Over TooBig) = codes "ended E3"
-end_words (Over Malformed) = codes "ended E4"
+end_words (Live state) = state_words state
+end_words (Over cause) = cause_words cause
 
 -- on standard output and standard error, with this status
 abbrev pub Says : List ℕ → List ℕ → ℕ → Said → Type 0
@@ -40,10 +56,6 @@ abbrev pub SaysAnswer : List ℕ → Said → Type 0
 SaysAnswer text s =
     (IsErr (decode_of text) × IsBadHex s)
     ⊎ ((hex : List ℕ) × (last : End) × AnswersHex text hex last × Says (hex ++ 10 ∷ [] ++ end_words last ++ 10 ∷ []) [] 0 s)
-
--- the version of a word: 4.4, else 5.1
-abbrev pub version_named : List ℕ → Version
-version_named word = if bytes_eq word (codes "4.4") then V44 else V51
 
 -- the codes of what is wrong with a value
 abbrev pub pack_code_of : PackReason → List ℕ

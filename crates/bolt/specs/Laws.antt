@@ -2,7 +2,7 @@
 use Rattle.std.specs.Prelude.{◌≡◌, ℕ, List, string_bytes}
 use Rattle.packstream.specs.Plain.{AreBytes}
 use Rattle.wire.specs.declared.Version.{Version}
-use Rattle.bolt.specs.declared.«end».End.{End}
+use Rattle.streams.specs.declared.responding.End.{End}
 use Rattle.bolt.specs.declared.checking.Checked.{Checked}
 use Rattle.bolt.specs.declared.checking.Checked.TheVariants.{Fine, Refused, Unfit}
 use Rattle.bolt.specs.Answers.{Answers}

@@ -1,12 +1,7 @@
-pub mod Handshake
-pub mod Hello
 pub mod Answers
-pub mod Kept
-pub mod Standing
 pub mod Hexadecimal
 pub mod Laws
-pub mod Streams
 pub mod Checks
 pub mod Commands
 pub mod Asked
-pub mod Line
+pub mod Starting

@@ -1,15 +1,14 @@
 //! What a server answers to the bytes of a text.
-ghost use Rattle.std.specs.Prelude.{◌≡◌, ◌↔◌, ◌%◌, ℕ, List, length, map, string_bytes, IsTrue, IsErr, IsOk, IfOk};
-ghost use Rattle.std.specs.List.{flat_map, AllPass};
+ghost use Rattle.std.specs.Prelude.{◌≡◌, ◌↔◌, ◌%◌, length, string_bytes, IsTrue, IsErr, IsOk, IfOk};
+ghost use Rattle.std.specs.List.{AllPass};
 ghost use Rattle.hex.specs.Hex.{decode_of, is_hex_digit};
-ghost use Rattle.bolt.specs.Standing.{Stands};
 ghost use Rattle.bolt.specs.Answers.{Answers};
 ghost use Rattle.bolt.specs.Hexadecimal.{AnswersHex};
 ghost use Rattle.bolt.specs.declared.answering.AnswerFault.TheVariants as fault;
 
-use crate::end::End;
-use crate::session::Session;
+use engine::{FixedTable, OneUser};
 use std::alloc::{AllocError, Global};
+use streams::{End, Responded, respond};
 use thiserror::Error;
 
 /// What was put out, in lower case hex, and how the session stands then.
@@ -44,15 +43,15 @@ pub fn answer(alloc: Global, text: &str) -> Result<Answered, AnswerFault>
     let Ok(bytes) = hex::decode(alloc, text) else {
         return Err(AnswerFault::Memory);
     };
-    let Ok(session) = converse(alloc, &[bytes.as_slice()]) else {
+    let Ok(responded) = answer_bytes(alloc, bytes.as_slice()) else {
         return Err(AnswerFault::Memory);
     };
-    let Ok(out) = hex::encode(alloc, session.out()) else {
+    let Ok(out) = hex::encode(alloc, responded.out.as_slice()) else {
         return Err(AnswerFault::Memory);
     };
     Ok(Answered {
         out,
-        last: session.last(),
+        last: responded.last,
     })
 }
 
@@ -76,13 +75,13 @@ fn is_digit(byte: u8) -> bool
     matches!(byte, b'0'..=b'9' | b'A'..=b'F' | b'a'..=b'f')
 }
 
-/// The session that was sent these pieces, one after the other.
-fn converse(alloc: Global, pieces: &[&[u8]]) -> Result<Session, AllocError>
-    ensures { IfOk result (λ s. Answers (flat_map (λ p. p.now) pieces.now) s.out s.last) }
+/// The same of bytes: a server over an empty table, with one user.
+fn answer_bytes(alloc: Global, bytes: &[u8]) -> Result<Responded, AllocError>
+    ensures { IfOk result (λ a. Answers bytes.now a.out.items a.last) }
 {
-    let mut session = Session::new(alloc);
-    for piece in pieces {
-        session.feed_all(piece)?;
-    }
-    Ok(session)
+    let gate = OneUser::new(alloc, "user", "pass")?;
+    let Ok(responded) = respond(alloc, FixedTable::new(alloc), gate, bytes) else {
+        return Err(AllocError);
+    };
+    Ok(responded)
 }

@@ -1,21 +1,20 @@
 //! The commands of the program, over streams.
 ghost use Rattle.std.specs.Prelude.{◌≡◌, ◌≤◌, ◌⊎◌, [], ◌∷◌, ◌++◌, codes, string_bytes, true, false, map, IfOk, IsErr};
 ghost use Rattle.std.specs.Io.KnownBytes.{Appends};
-ghost use Rattle.clap.specs.Words.{app_of, kind_of, rule_of, subcommand_rows_of};
-ghost use Rattle.bolt.specs.Line.{IsLine, hex_rule};
-ghost use Rattle.bolt.specs.Asked.{Parses, Passage, SaysTo, SaysWords, IsPut, asked, asked_in, has_flag, values_of};
-ghost use Rattle.bolt.specs.Commands.{IsBadHex, SaysAnswer, SaysCheck, SaysChecked, SaysRefused, version_named, pack_code_of, cell_code_of};
+ghost use Rattle.streams.specs.Fronts.{AppendsFront};
+ghost use Rattle.bolt.specs.Asked.{Passage, SaysTo, IsPut, asked};
+ghost use Rattle.bolt.specs.Commands.{IsBadHex, SaysAnswer, SaysCheck, SaysChecked, SaysRefused};
 
 use crate::answering::{AnswerFault, answer};
 use crate::checking::{Checked, check_text};
+use crate::codes::{cell_code, pack_code};
 use crate::end::end_text;
-use crate::streams::{Sink, Source, write_all};
+use crate::parser::matches_of;
 use crate::vectors::{passes, vectors};
+use crate::words::{CommandLine, asked};
 use clap::error::{Error, ErrorKind};
-use clap::{Arg, ArgAction, ArgMatches, Command};
-use packstream::Reason as PackReason;
 use std::alloc::{AllocError, Global};
-use structures::Reason;
+use streams::{Sink, Source, write_all};
 use wire::Version;
 
 /// A refused value, a failed vector, or a stream that failed.
@@ -41,20 +40,23 @@ pub(crate) struct Said {
 pub fn command<S: Source, O: Sink, E: Sink>(
     alloc: Global,
     words: &[String],
-    _input: &mut S,
+    input: &mut S,
     out: &mut O,
     err: &mut E,
 ) -> u8
     ensures status { result ≤ 3 }
     ensures failed { O.has_failed out.old ≡ true → O.has_failed out.new ≡ true }
+    // Nothing is read.
+    ensures input { input.new ≡ input.old }
     // Want of memory puts nothing out, and says so.
     ensures memory { result ≡ 3 → (O.taken out.new ≡ O.taken out.old)
         × (E.has_failed err.new ≡ false → Appends (E.taken err.old) (E.taken err.new) (codes "fault I3" ++ 10 ∷ [])) }
     // Else what the words ask for is said, and put on the streams.
     ensures says { let output : Passage = record { before = O.taken out.old; after = O.taken out.new; had_failed = O.has_failed out.old; has_failed = O.has_failed out.new } in
         let errors : Passage = record { before = E.taken err.old; after = E.taken err.new; had_failed = E.has_failed err.old; has_failed = E.has_failed err.new } in
-        (result ≡ 3) ⊎ ((s : Said) × SaysWords (map string_bytes words.now) s × IsPut s output errors result) }
+        (result ≡ 3) ⊎ ((s : Said) × SaysTo (asked (map string_bytes words.now)) s × IsPut s output errors result) }
 {
+    let _ = input;
     match say(alloc, words) {
         Ok(said) => put_said(&said, out, err),
         Err(_) => put_fault(b"fault I3\n", NO_MEMORY, err),
@@ -69,6 +71,8 @@ fn put_said<O: Sink, E: Sink>(said: &Said, out: &mut O, err: &mut E) -> u8
     ensures stays { O.has_failed out.old ≡ true → O.has_failed out.new ≡ true }
     ensures out_fails { O.has_failed out.old ≡ false → O.has_failed out.new ≡ true → result ≡ 1 }
     ensures err_fails { E.has_failed err.old ≡ false → E.has_failed err.new ≡ true → result ≡ 1 }
+    ensures front { AppendsFront (O.taken out.old) (O.taken out.new) (string_bytes said.now.out) }
+    ensures fault { O.has_failed out.old ≡ false → O.has_failed out.new ≡ true → E.has_failed err.new ≡ false → Appends (E.taken err.old) (E.taken err.new) (codes "fault I2" ++ 10 ∷ []) }
 {
     if write_all(out, said.out.as_bytes()).is_err() {
         return put_fault(b"fault I2\n", REFUSED, err);
@@ -89,59 +93,37 @@ fn put_fault<E: Sink>(text: &[u8], status: u8, err: &mut E) -> u8
     status
 }
 
-/// What the parser finds in the words.
-fn matches_of<'a>(alloc: Global, words: &'a [String]) -> Result<ArgMatches<'a>, Error>
-    ensures { has_flag (map string_bytes words.entry.now) ≡ false → Parses (asked (map string_bytes words.entry.now)) result }
-{
-    let line = command_line(alloc)?;
-    line.try_get_matches_from(words)
-}
-
-/// The program's name with its three subcommands.
-fn command_line<'a>(alloc: Global) -> Result<Command<'a>, AllocError>
-    ensures { IfOk result (λ c. IsLine (app_of c)) }
-{
-    let answer = Command::new(alloc, "answer")
-        .about("Prints what a server answers to these bytes")
-        .arg(hex_argument(alloc))?;
-    let version = Arg::new(alloc, "VERSION")
-        .required(true)
-        .action(ArgAction::Set)
-        .value_parser(["4.4", "5.1"].as_slice());
-    let check = Command::new(alloc, "check")
-        .about("Reads these bytes as a cell, and prints its shortest spelling")
-        .arg(version)?
-        .arg(hex_argument(alloc))?;
-    let vectors = Command::new(alloc, "vectors").about("Runs the test vectors");
-    Command::new(alloc, "bolt")
-        .subcommand_required(true)
-        .subcommand(answer)?
-        .subcommand(check)?
-        .subcommand(vectors)
-}
-
-/// The bytes in hex.
-fn hex_argument<'a>(alloc: Global) -> Arg<'a>
-    ensures { (rule_of result ≡ hex_rule) × (result.global ≡ false) }
-{
-    Arg::new(alloc, "HEX").required(true).action(ArgAction::Set)
-}
-
-/// What the words ask for is said, or what the parser says to them.
+/// What the words ask for is said.
 fn say(alloc: Global, words: &[String]) -> Result<Said, AllocError>
-    ensures says { IfOk result (λ s. has_flag (map string_bytes words.now) ≡ false → SaysTo (asked (map string_bytes words.now)) s) }
+    ensures says { IfOk result (SaysTo (asked (map string_bytes words.now))) }
     ensures status { IfOk result (λ s. s.status ≤ 2) }
 {
-    match matches_of(alloc, words) {
-        Ok(matches) => say_matched(alloc, &matches),
-        Err(error) => say_error(alloc, &error),
+    match asked(words) {
+        CommandLine::Answer { hex } => say_answer(alloc, hex),
+        CommandLine::Check { version, hex } => say_check(alloc, version, hex),
+        CommandLine::Vectors => say_vectors(alloc),
+        CommandLine::Shell { .. } => say_nothing(alloc, words),
+        CommandLine::Nothing => say_nothing(alloc, words),
     }
+}
+
+/// What is said to words that are no command with just its arguments: the parser's text, where it has one.
+fn say_nothing(alloc: Global, words: &[String]) -> Result<Said, AllocError>
+    ensures says { IfOk result (λ s. (string_bytes s.out ≡ []) × (s.status ≡ 2)) }
+{
+    if let Err(error) = matches_of(alloc, words) {
+        return say_error(alloc, &error);
+    }
+    Ok(Said {
+        out: String::new(alloc),
+        err: String::from_str(alloc, "error: these words are no command\n")?,
+        status: UNREADABLE,
+    })
 }
 
 /// What the parser says to words that are no command.
 fn say_error(alloc: Global, error: &Error) -> Result<Said, AllocError>
     ensures says { IfOk result (λ s. (string_bytes s.out ≡ []) × (s.status ≡ 2)) }
-    ensures memory { kind_of error.now ≡ ErrorKind.OutOfMemory → IsErr result }
 {
     if error.kind() == ErrorKind::OutOfMemory {
         return Err(AllocError);
@@ -151,34 +133,6 @@ fn say_error(alloc: Global, error: &Error) -> Result<Said, AllocError>
         err: format!(in alloc; "{error}")?,
         status: UNREADABLE,
     })
-}
-
-/// What the values of the subcommand ask for is said.
-fn say_matched(alloc: Global, matches: &ArgMatches<'_>) -> Result<Said, AllocError>
-    ensures says { IfOk result (SaysTo (asked_in (values_of (subcommand_rows_of matches.now)))) }
-    ensures status { IfOk result (λ s. s.status ≤ 2) }
-{
-    let Some((_, inner)) = matches.subcommand() else {
-        return say_vectors(alloc);
-    };
-    let Some(text) = inner.get_str("HEX") else {
-        return say_vectors(alloc);
-    };
-    let Some(version) = inner.get_str("VERSION") else {
-        return say_answer(alloc, text);
-    };
-    say_check(alloc, version_of(version), text)
-}
-
-/// The version of a word: 4.4, else 5.1.
-fn version_of(word: &str) -> Version
-    ensures { result ≡ version_named word.now }
-{
-    if word == "4.4" {
-        Version::V44
-    } else {
-        Version::V51
-    }
 }
 
 fn say_bad_hex(alloc: Global) -> Result<Said, AllocError>
@@ -252,36 +206,6 @@ fn say_refused(alloc: Global, code: &str, place: u64) -> Result<Said, AllocError
 {
     let out = format!(in alloc; "refused {code} at {place}\n")?;
     Ok(say_out(alloc, out, REFUSED))
-}
-
-/// The code of what is wrong with a value.
-fn pack_code(reason: PackReason) -> &'static str
-    ensures { result.now ≡ pack_code_of reason }
-{
-    match reason {
-        PackReason::Short => "P1",
-        PackReason::Marker => "P2",
-        PackReason::Utf8 => "P3",
-        PackReason::KeyKind => "P4",
-        PackReason::KeyTwice => "P5",
-        PackReason::Depth => "P6",
-        PackReason::Trailing => "P7",
-        PackReason::Size => "P9",
-    }
-}
-
-/// The code of what is wrong with a structure.
-fn cell_code(reason: Reason) -> &'static str
-    ensures { result.now ≡ cell_code_of reason }
-{
-    match reason {
-        Reason::UnknownTag => "S1",
-        Reason::FieldCount => "S2",
-        Reason::FieldKind => "S3",
-        Reason::Range => "S4",
-        Reason::PathShape => "S5",
-        Reason::NotInVersion => "S6",
-    }
 }
 
 /// `pass V1` or `fail V1`, and so on.

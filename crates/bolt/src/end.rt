@@ -1,46 +1,48 @@
-//! How a session stands.
+//! How a session stands, in words.
 ghost use Rattle.std.specs.Prelude.{◌≡◌};
-ghost use Rattle.bolt.specs.Commands.{end_words};
+ghost use Rattle.bolt.specs.Commands.{end_words, state_words, cause_words};
 
-/// What a session waits for.
-#[derive(Clone, Copy, Debug, PartialEq, Eq)]
-pub enum State {
-    /// The handshake, or a HELLO.
-    Fresh,
-    /// A LOGON.
-    Unauth,
-}
+use machine::State;
+use server::Cause;
+use streams::End;
 
-/// Why a session has ended.
-#[derive(Clone, Copy, Debug, PartialEq, Eq)]
-pub enum Cause {
-    /// E1: the first four bytes are not those of the protocol.
-    BadMagic,
-    /// E2: no proposal covers a version that is spoken here.
-    NoVersion,
-    /// E3: a message past 65,536 bytes.
-    TooBig,
-    /// E4: a message that is no request, or none that is known yet.
-    Malformed,
-}
-
-/// The state of a live session, or the cause of its end.
-#[derive(Clone, Copy, Debug, PartialEq, Eq)]
-pub enum End {
-    Live(State),
-    Over(Cause),
-}
-
-/// How a session stands, as the program prints it: `state Unauth`, `ended E4`.
+/// How a session stands, as the program prints it: `state Ready`, `ended E4`.
 pub fn end_text(end: End) -> &'static str
     ensures { result.now ≡ end_words end }
 {
     match end {
-        End::Live(State::Fresh) => "state Fresh",
-        End::Live(State::Unauth) => "state Unauth",
-        End::Over(Cause::BadMagic) => "ended E1",
-        End::Over(Cause::NoVersion) => "ended E2",
-        End::Over(Cause::TooBig) => "ended E3",
-        End::Over(Cause::Malformed) => "ended E4",
+        End::Live(state) => state_text(state),
+        End::Over(cause) => cause_text(cause),
+    }
+}
+
+fn state_text(state: State) -> &'static str
+    ensures { result.now ≡ state_words state }
+{
+    match state {
+        State::Fresh => "state Fresh",
+        State::Unauth => "state Unauth",
+        State::Ready => "state Ready",
+        State::Streaming => "state Streaming",
+        State::TxReady => "state TxReady",
+        State::TxStreaming => "state TxStreaming",
+        State::Failed => "state Failed",
+        State::Interrupted => "state Interrupted",
+        State::Defunct => "state Defunct",
+    }
+}
+
+fn cause_text(cause: Cause) -> &'static str
+    ensures { result.now ≡ cause_words cause }
+{
+    match cause {
+        Cause::BadMagic => "ended E1",
+        Cause::NoVersion => "ended E2",
+        Cause::TooBig => "ended E3",
+        Cause::Malformed => "ended E4",
+        Cause::Invalid => "ended E5",
+        Cause::AuthRefused => "ended E6",
+        Cause::Goodbye => "ended E7",
+        Cause::Lost => "ended E8",
     }
 }

@@ -2,36 +2,43 @@
 #![tactic(auto)]
 
 mod answering;
+#[cfg(test)]
+mod cases;
 mod checking;
+mod codes;
 mod commands;
+mod connecting;
 mod end;
-mod greeting;
-mod handshake;
-mod hello;
 mod laws;
+mod parser;
 mod samples;
-mod session;
-mod streams;
+mod starting;
 #[cfg(test)]
 mod tests;
 mod vectors;
+mod words;
 
 use commands::command;
-use std::io;
+use connecting::shell_at;
+use starting::{refuse, words_of};
 use std::process::ExitCode;
 use streams::Over;
+use words::{CommandLine, asked};
 
-fn run(rt: &HostRuntime) -> io::Result<u8> {
-    let words: Vec<String> = std::env::args(rt)?.collect(rt.alloc())?;
+fn run(rt: &HostRuntime) -> u8 {
+    let mut err = Over::new(rt.stderr());
+    let words = match words_of(rt) {
+        Ok(words) => words,
+        Err(unread) => return refuse(unread, &mut err),
+    };
+    if let CommandLine::Shell { host, port } = asked(words.as_slice()) {
+        return shell_at(rt, host, port);
+    }
     let mut input = Over::new(rt.stdin());
     let mut out = Over::new(rt.stdout());
-    let mut err = Over::new(rt.stderr());
-    Ok(command(rt.alloc(), words.as_slice(), &mut input, &mut out, &mut err))
+    command(rt.alloc(), words.as_slice(), &mut input, &mut out, &mut err)
 }
 
 fn main(rt: HostRuntime) -> ExitCode {
-    match run(&rt) {
-        Ok(status) => ExitCode::from(status),
-        Err(_) => ExitCode::from(3),
-    }
+    ExitCode::from(run(&rt))
 }

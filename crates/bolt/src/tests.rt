@@ -1,10 +1,11 @@
 use crate::answering::{AnswerFault, answer};
+use crate::cases::CASES;
 use crate::commands::command;
 use crate::end::end_text;
-use crate::streams::{Buffer, Failed, Sink, Slice};
 use std::alloc::Global;
 use std::process::Abort;
 use std::test::Fail;
+use streams::{Buffer, Failed, Sink, Slice};
 
 /// A handshake for 5.1 and 4.4, then HELLO with a user agent.
 const HELLO: &str =
@@ -74,6 +75,14 @@ fn ends_at_another_message(rt: HostRuntime) -> Result<(), Fail> {
         "00000105",
         "ended E4",
     )
+}
+
+#[test]
+fn answers_each_case(rt: HostRuntime) -> Result<(), Fail> {
+    for case in CASES.iter() {
+        answers(&rt, rt.alloc(), case.text, case.out, case.last)?;
+    }
+    Ok(())
 }
 
 #[test]
@@ -312,7 +321,14 @@ fn tells_a_failed_stream(rt: HostRuntime) -> Result<(), Fail> {
 fn refuses_other_words(rt: HostRuntime) -> Result<(), Fail> {
     let mut told = Buffer::new(Vec::new(rt.alloc()));
     assert_eq!(rt; status_of(rt.alloc(), &["bolt"], &mut told)?, 2);
-    assert_eq!(rt; status_of(rt.alloc(), &["bolt", "answer"], &mut told)?, 2);
+    assert_eq!(rt;
+        status_of(rt.alloc(), &["bolt", "answer", "--", "6060"], &mut told)?,
+        2
+    );
+    assert!(rt;
+        told.bytes()
+            .ends_with("error: these words are no command\n".as_bytes())
+    );
     assert_eq!(rt;
         status_of(rt.alloc(), &["bolt", "check", "5.0", "01"], &mut told)?,
         2

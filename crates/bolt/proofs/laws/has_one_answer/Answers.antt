@@ -1,4 +1,4 @@
-use Rattle.bolt.proofs.Once.{one_answer}
+use Rattle.bolt.proofs.Answered.{one_answer}
 use Rattle.bolt.proofs.laws.has_one_answer.Goals as goal
 
 pub returns : goal.returns

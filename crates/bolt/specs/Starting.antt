@@ -1,0 +1,12 @@
+-- What is said where there are no words to tell a command by.
+use Rattle.std.specs.Prelude.{ℕ, List, [], ◌∷◌, ◌++◌, codes}
+use Rattle.bolt.specs.declared.starting.Unread.{Unread}
+use Rattle.bolt.specs.declared.starting.Unread.TheVariants.{Memory, NotText}
+
+abbrev pub unread_status : Unread → ℕ
+unread_status Memory = 3
+unread_status NotText = 2
+
+abbrev pub unread_text : Unread → List ℕ
+unread_text Memory = codes "fault I3" ++ 10 ∷ []
+unread_text NotText = codes "error: a word is not UTF-8" ++ 10 ∷ []

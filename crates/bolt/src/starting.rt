@@ -1,0 +1,46 @@
+//! The words of the command line, before any command.
+ghost use Rattle.std.specs.Prelude.{◌≡◌, false};
+ghost use Rattle.std.specs.Io.KnownBytes.{Appends};
+ghost use Rattle.bolt.specs.Starting.{unread_status, unread_text};
+
+use std::env::Env;
+use std::io::ErrorKind;
+use streams::{Sink, write_all};
+
+#[cfg(test)]
+mod tests;
+
+/// Why there are no words.
+#[derive(Clone, Copy, Debug, PartialEq, Eq)]
+pub(crate) enum Unread {
+    /// Want of memory.
+    Memory,
+    /// A word that isn't UTF-8.
+    NotText,
+}
+
+/// The program's name and the words after it.
+pub(crate) fn words_of<R: Env + AllocGlobal>(rt: &R) -> Result<Vec<String>, Unread> {
+    let args = match std::env::args(rt) {
+        Ok(args) => args,
+        Err(error) if error.kind() == ErrorKind::InvalidData => return Err(Unread::NotText),
+        Err(_) => return Err(Unread::Memory),
+    };
+    let Ok(words) = args.collect(rt.alloc()) else {
+        return Err(Unread::Memory);
+    };
+    Ok(words)
+}
+
+/// Says why there are no words, and answers the exit status. The texts are fixed, so that it takes no memory.
+pub(crate) fn refuse<E: Sink>(unread: Unread, err: &mut E) -> u8
+    ensures status { result ≡ unread_status unread }
+    ensures text { E.has_failed err.new ≡ false → Appends (E.taken err.old) (E.taken err.new) (unread_text unread) }
+{
+    let (text, status) = match unread {
+        Unread::Memory => (b"fault I3\n".as_slice(), 3),
+        Unread::NotText => (b"error: a word is not UTF-8\n".as_slice(), 2),
+    };
+    let _ = write_all(err, text);
+    status
+}
