@@ -1,5 +1,7 @@
-//! The codec behind three C calls, for a program that times it from outside.
+//! The codec and the fixed table behind C calls, for programs that time them from outside.
 #![tactic(auto)]
+
+mod table;
 
 ghost use Rattle.std.specs.Prelude.{◌≡◌, ◌≤◌, false};
 ghost use Rattle.bench.specs.Unspelled.{SpellNothing};

@@ -1,0 +1,68 @@
+//! Times what is to stay flat, in one run: `measure_growth [TIMES]`. Linked with the static library `bench_sessions` of the
+//! workspace:
+//!   bench_records_read(keys, turns), bench_records_written(keys, turns): a record of one dictionary, answers its bytes
+//!   bench_pieces_taken(bytes, turns): a piece of small messages and no-ops, answers the messages in all
+#[allow(dead_code)]
+mod session_twin;
+#[allow(dead_code)]
+mod session_work;
+#[allow(dead_code)]
+mod twin;
+use session_work::now;
+use std::hint::black_box;
+
+unsafe extern "C" {
+    fn bench_records_read(keys: u32, turns: u32) -> u64;
+    fn bench_records_written(keys: u32, turns: u32) -> u64;
+    fn bench_pieces_taken(bytes: u32, turns: u32) -> u64;
+}
+
+type Call = unsafe extern "C" fn(u32, u32) -> u64;
+
+/// A call at two sizes.
+struct Line { name: &'static str, call: Call, small: Size, large: Size, most: f64 }
+
+/// A size, the bytes that one turn of the call works on, and how many turns are timed.
+#[derive(Clone, Copy)]
+struct Size { size: u32, bytes: u64, turns: u32 }
+
+/// The time of a byte at a size: the least of a call that repeats, less the least of one that doesn't.
+#[derive(Clone, Copy)]
+struct Least { many: f64, none: f64 }
+
+fn time(call: Call, size: u32, turns: u32) -> f64 {
+    let begin = now();
+    black_box(unsafe { call(black_box(size), turns) });
+    now() - begin
+}
+
+/// A record of so many keys; its call answers the bytes of its text.
+fn record(call: Call, keys: u32, turns: u32) -> Size {
+    Size { size: keys, bytes: unsafe { call(keys, 0) }, turns }
+}
+
+fn piece(bytes: u32, turns: u32) -> Size { Size { size: bytes, bytes: bytes as u64, turns } }
+
+fn main() {
+    let times: u32 = std::env::args().nth(1).map_or(60, |n| n.parse().expect("a number"));
+    let records = |name, call| Line { name, call, small: record(call, 100, 2000), large: record(call, 9000, 20), most: 4.0 };
+    let lines = [
+        records("reading a record, 100 keys and 9,000", bench_records_read),
+        records("writing a record, 100 keys and 9,000", bench_records_written),
+        Line { name: "small messages in a piece, 4 KB and 64 KB", call: bench_pieces_taken, small: piece(4096, 320), large: piece(65_536, 20), most: 1.5 },
+    ];
+    println!("| what | ns a byte, small | ns a byte, large | ratio | at most |");
+    println!("|---|---|---|---|---|");
+    for line in lines {
+        let mut least = [Least { many: f64::MAX, none: f64::MAX }; 2];
+        for _ in 0..times {
+            for (at, least) in [line.small, line.large].into_iter().zip(&mut least) {
+                least.many = least.many.min(time(line.call, at.size, at.turns));
+                least.none = least.none.min(time(line.call, at.size, 0));
+            }
+        }
+        let each = |at: Size, l: Least| (l.many - l.none) / (at.turns as u64 * at.bytes) as f64;
+        let (small, large) = (each(line.small, least[0]), each(line.large, least[1]));
+        println!("| {} | {small:.2} | {large:.2} | {:.2} | {} |", line.name, large / small, line.most);
+    }
+}

@@ -1,0 +1,115 @@
+//! The kept table behind C calls. Each makes a table of its own, by puts over some keys in turn, each its own commit; a
+//! program that times a part takes off the time of a call without it. Each answers 0 at want of memory.
+use engine::{Answer, Engine, EntryId, FixedTable, Mode, Write};
+use std::alloc::{AllocError, Global};
+use structures::Cell;
+
+/// A table after so many puts, over so many keys in turn, and answers the ledger's length.
+#[unsafe(no_mangle)]
+pub extern "C" fn bench_table_puts(alloc: Global, keys: u32, puts: u32) -> u64 {
+    match table_of(alloc, keys, puts) {
+        Ok(table) => table.ledger().len() as u64,
+        Err(_) => 0,
+    }
+}
+
+/// Gets the value of a key so many times, and answers how many rows were read.
+#[unsafe(no_mangle)]
+pub extern "C" fn bench_table_gets(
+    alloc: Global,
+    keys: u32,
+    puts: u32,
+    key: u32,
+    gets: u32,
+) -> u64 {
+    rows_of_gets(alloc, keys, puts, key, gets).unwrap_or(0)
+}
+
+/// Reads all keys so many times, and answers how many rows were read.
+#[unsafe(no_mangle)]
+pub extern "C" fn bench_table_keys(alloc: Global, keys: u32, puts: u32, times: u32) -> u64 {
+    match table_of(alloc, keys, puts) {
+        Ok(table) => rows_read(&table, "KEYS", &[], times),
+        Err(_) => 0,
+    }
+}
+
+fn rows_of_gets(
+    alloc: Global,
+    keys: u32,
+    puts: u32,
+    key: u32,
+    gets: u32,
+) -> Result<u64, AllocError> {
+    let table = table_of(alloc, keys, puts)?;
+    let mut params = Vec::new(alloc);
+    params.push(parameter(alloc, "key", Cell::Text(key_of(alloc, key)?))?)?;
+    Ok(rows_read(&table, "GET", &params, gets))
+}
+
+/// How many rows so many runs of a query read.
+fn rows_read(table: &FixedTable, text: &str, params: &[(String, Cell)], times: u32) -> u64 {
+    let mut rows = 0u64;
+    for _ in 0..times {
+        if let Ok(answer) = table.run(&[], text, params, Mode::Read) {
+            rows = rows.saturating_add(answer.rows.len() as u64);
+        }
+    }
+    rows
+}
+
+/// A table after so many puts, over so many keys in turn.
+fn table_of(alloc: Global, keys: u32, puts: u32) -> Result<FixedTable, AllocError> {
+    let mut table = FixedTable::new(alloc);
+    for ordinal in 0..puts {
+        put(alloc, &mut table, ordinal % keys.max(1), ordinal)?;
+    }
+    Ok(table)
+}
+
+/// Asks for a put of the ordinal as the key's value, and commits it.
+fn put(alloc: Global, table: &mut FixedTable, key: u32, ordinal: u32) -> Result<(), AllocError> {
+    let mut params = Vec::new(alloc);
+    params.push(parameter(alloc, "key", Cell::Text(key_of(alloc, key)?))?)?;
+    params.push(parameter(alloc, "value", Cell::Int(i64::from(ordinal)))?)?;
+    let writes = writes_of(alloc, table, &params)?;
+    let id = EntryId {
+        conn: 0,
+        ordinal: u64::from(ordinal),
+    };
+    match table.commit(id, writes) {
+        Ok(_) => Ok(()),
+        Err(_) => Err(AllocError),
+    }
+}
+
+/// The write that a put asks for.
+fn writes_of(
+    alloc: Global,
+    table: &FixedTable,
+    params: &[(String, Cell)],
+) -> Result<Vec<Write>, AllocError> {
+    let Ok(answer) = table.run(&[], "PUT", params, Mode::Write) else {
+        return Err(AllocError);
+    };
+    let Answer { write, .. } = answer;
+    let mut writes = Vec::with_capacity(alloc, 1)?;
+    if let Some(write) = write {
+        writes.push(write)?;
+    }
+    Ok(writes)
+}
+
+fn parameter(alloc: Global, name: &str, value: Cell) -> Result<(String, Cell), AllocError> {
+    Ok((String::from_str(alloc, name)?, value))
+}
+
+/// Four letters, one for each half byte of the number's lower two bytes, from the highest.
+fn key_of(alloc: Global, key: u32) -> Result<String, AllocError> {
+    let mut text = String::with_capacity(alloc, 4)?;
+    for shift in [12, 8, 4, 0] {
+        let half = (key >> shift & 15) as u8;
+        text.push(char::from(b'a' + half))?;
+    }
+    Ok(text)
+}

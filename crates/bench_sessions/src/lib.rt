@@ -1,0 +1,76 @@
+//! Workloads over a client and a server in one process, behind C calls, for a program that times them from outside. Each call
+//! makes all that it needs, and answers a check number of all that was moved and heard, or 0 at want of memory.
+#![tactic(auto)]
+
+mod asking;
+mod batches;
+mod growth;
+mod link;
+mod moving;
+mod pieces;
+mod tally;
+
+use crate::batches::{autocommit, echo, rows, sessions, transactions};
+use crate::growth::{pieces_taken, records_read, records_written};
+use crate::pieces::{pieces_to_client, pieces_to_server};
+use std::alloc::Global;
+
+/// RUN of one row and PULL of all so many times, so many pairs in one pipeline.
+#[unsafe(no_mangle)]
+pub extern "C" fn bench_autocommit(alloc: Global, pairs: u32, batch: u32) -> u64 {
+    autocommit(alloc, pairs, batch).unwrap_or(0)
+}
+
+/// RUN of so many rows and PULL of all, so many times.
+#[unsafe(no_mangle)]
+pub extern "C" fn bench_rows(alloc: Global, count: u32, turns: u32) -> u64 {
+    rows(alloc, count, turns).unwrap_or(0)
+}
+
+/// RUN that sends so many bytes back, and PULL of all, so many times.
+#[unsafe(no_mangle)]
+pub extern "C" fn bench_echo(alloc: Global, bytes: u32, turns: u32) -> u64 {
+    echo(alloc, bytes, turns).unwrap_or(0)
+}
+
+/// So many transactions of one put each, in a pipeline each; then so many gets, each its own commit.
+#[unsafe(no_mangle)]
+pub extern "C" fn bench_transactions(alloc: Global, puts: u32, gets: u32) -> u64 {
+    transactions(alloc, puts, gets).unwrap_or(0)
+}
+
+/// A request of so many bytes, fed to the server in pieces of a length, so many times.
+#[unsafe(no_mangle)]
+pub extern "C" fn bench_pieces_to_server(alloc: Global, bytes: u32, piece: u32, turns: u32) -> u64 {
+    pieces_to_server(alloc, bytes, piece, turns).unwrap_or(0)
+}
+
+/// A row of so many bytes, fed to the client in pieces of a length, so many times.
+#[unsafe(no_mangle)]
+pub extern "C" fn bench_pieces_to_client(alloc: Global, bytes: u32, piece: u32, turns: u32) -> u64 {
+    pieces_to_client(alloc, bytes, piece, turns).unwrap_or(0)
+}
+
+/// So many sessions, each with so many requests, interleaved by single pieces and single steps.
+#[unsafe(no_mangle)]
+pub extern "C" fn bench_sessions(alloc: Global, count: u32, requests: u32) -> u64 {
+    sessions(alloc, count, requests).unwrap_or(0)
+}
+
+/// Reads a record of one dictionary with so many keys so many times, and answers the bytes of its text.
+#[unsafe(no_mangle)]
+pub extern "C" fn bench_records_read(alloc: Global, keys: u32, turns: u32) -> u64 {
+    records_read(alloc, keys, turns).unwrap_or(0)
+}
+
+/// Writes a record of one dictionary with so many keys so many times, and answers the bytes of its text.
+#[unsafe(no_mangle)]
+pub extern "C" fn bench_records_written(alloc: Global, keys: u32, turns: u32) -> u64 {
+    records_written(alloc, keys, turns).unwrap_or(0)
+}
+
+/// Takes a piece of about so many bytes, of small messages and no-ops, apart so many times, and answers the messages in all.
+#[unsafe(no_mangle)]
+pub extern "C" fn bench_pieces_taken(alloc: Global, bytes: u32, turns: u32) -> u64 {
+    pieces_taken(alloc, bytes, turns).unwrap_or(0)
+}
