@@ -16,7 +16,7 @@ same_states [] [] = true
 same_states (s ∷ ss) (t ∷ ts) = same_state s t && same_states ss ts
 same_states _ _ = false
 
-same_state-true : (s t : State) → same_state s t ≡ true → s ≡ t
+pub same_state-true : (s t : State) → same_state s t ≡ true → s ≡ t
 same_state-true State.Fresh State.Fresh h = refl
 same_state-true State.Unauth State.Unauth h = refl
 same_state-true State.Ready State.Ready h = refl

@@ -73,3 +73,9 @@ same_kind Kind.Rollback Kind.Rollback = true
 same_kind Kind.Discard Kind.Discard = true
 same_kind Kind.Pull Kind.Pull = true
 same_kind _ _ = false
+
+abbrev pub is_reset : Kind → Bool
+is_reset k = same_kind k Kind.Reset
+
+abbrev pub is_goodbye : Kind → Bool
+is_goodbye k = same_kind k Kind.Goodbye

@@ -1,6 +1,6 @@
 ghost use Rattle.std.specs.Prelude.{◌≡◌};
 ghost use Rattle.messages.specs.View.{ask};
-ghost use Rattle.machine.specs.Asks.{kind_of, in_part};
+ghost use Rattle.machine.specs.Asks.{kind_of, in_part, is_reset, is_goodbye};
 
 use crate::kinds::Kind;
 use messages::{Count, Request};
@@ -24,12 +24,26 @@ pub fn kind(request: &Request) -> Kind
     }
 }
 
-/// Whether a request asks for so many rows, and not for all.
-pub(crate) fn is_partial(request: &Request) -> bool
+/// Whether a request asks for so many rows, and not for all. Takes no memory.
+pub fn is_partial(request: &Request) -> bool
     ensures { result ≡ in_part (ask request.now) }
 {
     matches!(
         request,
         Request::Discard(Count::Of(_)) | Request::Pull(Count::Of(_))
     )
+}
+
+/// Whether a request is a RESET. Takes no memory.
+pub fn is_reset(request: &Request) -> bool
+    ensures { result ≡ is_reset (kind_of (ask request.now)) }
+{
+    matches!(request, Request::Reset)
+}
+
+/// Whether a request is a GOODBYE. Takes no memory.
+pub fn is_goodbye(request: &Request) -> bool
+    ensures { result ≡ is_goodbye (kind_of (ask request.now)) }
+{
+    matches!(request, Request::Goodbye)
 }

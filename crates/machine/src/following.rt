@@ -1,12 +1,12 @@
 ghost use Rattle.std.specs.Prelude.{◌≡◌, List, [], ◌∷◌, Option, Some, None};
 ghost use Rattle.messages.specs.View.{ask};
 ghost use Rattle.machine.specs.Asks.{kind_of, in_part};
-ghost use Rattle.machine.specs.Following.{after_greeting, after_halted, after_row, after_serving, allowed_in, allows, as_set, joined, phases_of, possible, state_of, table};
+ghost use Rattle.machine.specs.Following.{after_greeting, after_halted, after_row, after_serving, allowed_in, allows, as_set, joined, phases_of, possible, table};
 
 use crate::asking::{is_partial, kind};
 use crate::kinds::Kind;
 use crate::phase_set::PhaseSet;
-use crate::phases::phase;
+use crate::phases::{phase, state_of};
 use crate::rows::{Verdict, is_in, row};
 use crate::states::{Phase, State};
 use messages::Request;
@@ -75,13 +75,13 @@ fn after_one(version: Version, phase: Phase, request: &Request) -> PhaseSet
         Phase::Defunct => PhaseSet::of(Phase::Defunct),
         Phase::Halted => while_halted(kind(request)),
         Phase::Fresh | Phase::Unauth => {
-            let (state, kind) = (state(phase), kind(request));
+            let (state, kind) = (state_of(phase), kind(request));
             by_greeting(
                 row(version, state, kind, Verdict::Success),
                 row(version, state, kind, Verdict::Failure),
             )
         }
-        _ => while_serving(version, state(phase), request),
+        _ => while_serving(version, state_of(phase), request),
     }
 }
 
@@ -147,22 +147,6 @@ fn told(next: Option<State>) -> PhaseSet
     }
 }
 
-/// The state of a phase, Failed where that may be Interrupted.
-fn state(phase: Phase) -> State
-    ensures { result ≡ state_of phase }
-{
-    match phase {
-        Phase::Fresh => State::Fresh,
-        Phase::Unauth => State::Unauth,
-        Phase::Ready => State::Ready,
-        Phase::Streaming => State::Streaming,
-        Phase::TxReady => State::TxReady,
-        Phase::TxStreaming => State::TxStreaming,
-        Phase::Halted => State::Failed,
-        Phase::Defunct => State::Defunct,
-    }
-}
-
 /// Whether a phase allows a kind.
 fn is_allowed(version: Version, phase: Phase, kind: Kind) -> bool
     ensures { result ≡ allows version phase kind }
@@ -170,6 +154,7 @@ fn is_allowed(version: Version, phase: Phase, kind: Kind) -> bool
     match phase {
         Phase::Defunct => false,
         Phase::Halted => is_in(version, kind),
-        _ => kind == Kind::Goodbye || row(version, state(phase), kind, Verdict::Success).is_some(),
+        _ => kind == Kind::Goodbye
+            || row(version, state_of(phase), kind, Verdict::Success).is_some(),
     }
 }

@@ -11,13 +11,10 @@ mod phases;
 mod rows;
 mod states;
 
-pub use asking::kind;
+pub use asking::{is_goodbye, is_partial, is_reset, kind};
 pub use following::{after, allowed};
 pub use kinds::Kind;
 pub use phase_set::PhaseSet;
-pub use phases::phase;
+pub use phases::{phase, state_of};
 pub use rows::{Verdict, row};
 pub use states::{Phase, State};
-
-#[cfg(test)]
-mod tests;

@@ -1,4 +1,5 @@
 ghost use Rattle.std.specs.Prelude.{◌≡◌};
+ghost use Rattle.machine.specs.Following.{state_of};
 ghost use Rattle.machine.specs.States.{phase_of};
 
 use crate::states::{Phase, State};
@@ -16,5 +17,21 @@ pub fn phase(state: State) -> Phase
         State::TxStreaming => Phase::TxStreaming,
         State::Failed | State::Interrupted => Phase::Halted,
         State::Defunct => Phase::Defunct,
+    }
+}
+
+/// The state of a phase, Failed where that may be Interrupted. Takes no memory.
+pub fn state_of(phase: Phase) -> State
+    ensures { result ≡ state_of phase }
+{
+    match phase {
+        Phase::Fresh => State::Fresh,
+        Phase::Unauth => State::Unauth,
+        Phase::Ready => State::Ready,
+        Phase::Streaming => State::Streaming,
+        Phase::TxReady => State::TxReady,
+        Phase::TxStreaming => State::TxStreaming,
+        Phase::Halted => State::Failed,
+        Phase::Defunct => State::Defunct,
     }
 }

@@ -11,14 +11,12 @@ ghost use Rattle.messages.specs.Parts.{with_dict, count_number};
 ghost use Rattle.messages.specs.Cells.{cell_put};
 ghost use Rattle.wire.specs.declared.Version.TheVariants.{V44, V51};
 
-use crate::cells::cell_value;
-use crate::clone::{copy_cells, copy_row};
 use crate::fault::MsgFault;
 use crate::request::{Auth, Count, Mode, Request};
 use crate::response::Response;
 use packstream::Value;
 use std::alloc::{AllocError, Global};
-use structures::{Cell, Version};
+use structures::{Cell, Version, write_entries, write_members};
 
 /// Adds an entry.
 fn push(pairs: &mut Vec<(String, Value)>, name: &str, value: Value) -> Result<(), AllocError>
@@ -195,18 +193,16 @@ fn cells_value(
 ) -> Result<Value, MsgFault>
     ensures { Answers tree result (cell_put version (dict (entries_of (entries cells.now.items)))) }
 {
-    let copies = copy_cells(cells)?;
-    let copy = Cell::Dict(copies);
-    cell_value(alloc, version, &copy)
+    let packed = write_entries(alloc, version, cells)?;
+    Ok(packed.into_value())
 }
 
 /// The value of a list of cells.
 fn row_value(alloc: Global, version: Version, row: &Vec<Cell>) -> Result<Value, MsgFault>
     ensures { Answers tree result (cell_put version (list (trees_of (shapes row.now.items)))) }
 {
-    let copies = copy_row(row)?;
-    let copy = Cell::List(copies);
-    cell_value(alloc, version, &copy)
+    let packed = write_members(alloc, version, row)?;
+    Ok(packed.into_value())
 }
 
 fn run_value(

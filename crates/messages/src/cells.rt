@@ -5,12 +5,11 @@ ghost use Rattle.packstream.specs.View.{tree, trees_of, entries_of};
 ghost use Rattle.structures.specs.Shape.{shape, shapes, entries};
 ghost use Rattle.messages.specs.Reading.{Answers, cell_told};
 ghost use Rattle.messages.specs.Parts.{cells_told, list_of_cells_told, as_dict, as_list};
-ghost use Rattle.messages.specs.Cells.{cell_put};
 
 use crate::fault::MsgFault;
 use packstream::Value;
 use std::alloc::Global;
-use structures::{Cell, Version, read_value, write};
+use structures::{Cell, Version, read_value};
 
 /// The cell in a field.
 fn cell_in(alloc: Global, version: Version, field: &Value) -> Result<Cell, MsgFault>
@@ -55,12 +54,4 @@ pub(crate) fn row_in(alloc: Global, version: Version, field: &Value) -> Result<V
     ensures { Answers (λ v. list (trees_of (shapes v.items))) result (list_of_cells_told version (tree field.now)) }
 {
     members_of_cell(cell_in(alloc, version, field)?)
-}
-
-/// The value of a cell.
-pub(crate) fn cell_value(alloc: Global, version: Version, cell: &Cell) -> Result<Value, MsgFault>
-    ensures { Answers tree result (cell_put version (shape cell.now)) }
-{
-    let packed = write(alloc, version, cell)?;
-    Ok(packed.into_value())
 }

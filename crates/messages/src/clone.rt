@@ -1,6 +1,6 @@
 //! `clone` of requests, written out since a derived one says nothing of types that hold cells.
 ghost use Rattle.std.specs.Prelude.{◌≡◌, IfOk};
-ghost use Rattle.structures.specs.Shape.{entries, shapes};
+ghost use Rattle.structures.specs.Shape.{entries};
 ghost use Rattle.messages.specs.View.{ask, auth_of, auth_in};
 
 use crate::request::{Auth, Request};
@@ -28,23 +28,13 @@ fn copy_auth(auth: &Option<Auth>) -> Result<Option<Auth>, AllocError>
     }
 }
 
-pub(crate) fn copy_cells(cells: &Vec<(String, Cell)>) -> Result<Vec<(String, Cell)>, AllocError>
+fn copy_cells(cells: &Vec<(String, Cell)>) -> Result<Vec<(String, Cell)>, AllocError>
     ensures { IfOk result (λ v. entries v.items ≡ entries cells.now.items) }
 {
     let mut copies = Vec::with_capacity(*cells.allocator(), cells.len())?;
     for (name, cell) in cells {
         let key = name.clone()?;
         copies.push((key, cell.clone()?))?;
-    }
-    Ok(copies)
-}
-
-pub(crate) fn copy_row(row: &Vec<Cell>) -> Result<Vec<Cell>, AllocError>
-    ensures { IfOk result (λ v. shapes v.items ≡ shapes row.now.items) }
-{
-    let mut copies = Vec::with_capacity(*row.allocator(), row.len())?;
-    for cell in row {
-        copies.push(cell.clone()?)?;
     }
     Ok(copies)
 }

@@ -27,6 +27,3 @@ pub use response::Response;
 pub use saying::messages_are_rows;
 pub use structures::Version;
 pub use summaries::short_fits;
-
-#[cfg(test)]
-mod tests;

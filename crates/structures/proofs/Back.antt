@@ -9,7 +9,7 @@ use Rattle.structures.specs.Table.{row_in, table}
 use Rattle.structures.specs.Faults.{dated, is_int, are_kinds, to_utc, fault, structures, structures_in, structures_under}
 use Rattle.structures.specs.Form.{typed, typed_all, typed_under, form, form_all, form_under, moment, to_local}
 use Rattle.structures.specs.Steps.{all_fine}
-use Rattle.structures.specs.Steps.{is_typed, are_typed, have_typed, is_row}
+use Rattle.structures.specs.Cells.{is_typed, are_typed, have_typed, is_row}
 use Rattle.structures.proofs.Got.{and_left, and_right, passed}
 use Rattle.structures.proofs.Fine.{fine_itself, fine_within, fine_left, fine_right}
 

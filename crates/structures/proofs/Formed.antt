@@ -18,7 +18,8 @@ use Rattle.structures.specs.Faults.{first_failed, to_utc, dated, is_int, is_floa
 use Rattle.structures.specs.Form.{Form, form, form_all, form_under, moment}
 use Rattle.structures.specs.Steps.{all_fine}
 use Rattle.structures.specs.Writing.{moment_tag, unwritten, unwritten_by}
-use Rattle.structures.specs.Steps.{is_row, is_typed, are_typed, have_typed}
+use Rattle.structures.specs.Cells.{has_count, is_row, is_typed, are_typed, have_typed}
+use Rattle.structures.specs.Steps.{has_kinds}
 use Rattle.structures.proofs.Got.{and_left, and_right, le_true}
 use Rattle.structures.proofs.Back.{back, an_int, Three, three, three_ints, there_and_back}
 use Rattle.structures.proofs.Fine.{scan_fine, fine_append, fine_itself, fine_within, fine_left, fine_right}
@@ -183,7 +184,7 @@ row_kinds V51 old fs more ks ts e h = absurd cc
 row_kinds V44 new fs more ks ts e h = absurd cc
 row_kinds V51 new fs more ks ts e h = ok_same (fs ++ more) ks ts e h
 
-table_kinds : (v : Version) (o : Option Row) (ks : List Field) (ts : Trees) → fields_of v o ≡ Ok ks → is_row o ts ≡ true → are_kinds ks ts ≡ true
+table_kinds : (v : Version) (o : Option Row) (ks : List Field) (ts : Trees) → fields_of v o ≡ Ok ks → has_kinds o ts ≡ true → are_kinds ks ts ≡ true
 table_kinds v None ks ts e h = absurd cc
 table_kinds v (Some r) ks ts e h = row_kinds v r.stands r.fields r.added ks ts e h
 
@@ -203,9 +204,9 @@ passes ks tag ts h =
     let d = first_none (cond (tag == 0x50) (is_path ts) true) _ _ b.1 in
     record { counted = a.0; ranged = b.0; shaped = d.0 }
 
-shape_kept : (v : Version) (tag : ℕ) (ts : Trees) (b : Bool) → (tag == 0x50) ≡ b → is_row (row_in tag table) ts ≡ true → count ts ≡ 3 ⊎ (b ≡ false) → cond b (is_path ts) true ≡ true → cond b (is_path (form_all v ts)) true ≡ true
+shape_kept : (v : Version) (tag : ℕ) (ts : Trees) (b : Bool) → (tag == 0x50) ≡ b → has_kinds (row_in tag table) ts ≡ true → count ts ≡ 3 ⊎ (b ≡ false) → cond b (is_path ts) true ≡ true → cond b (is_path (form_all v ts)) true ≡ true
 shape_kept v tag ts false e r n h = refl
-shape_kept v tag ts true e r (inl n) h = path_kept v ts n (subst (λ k. is_row (row_in k table) ts ≡ true) (eqb-true _ _ e) r) ∙ h
+shape_kept v tag ts true e r (inl n) h = path_kept v ts n (subst (λ k. has_kinds (row_in k table) ts ≡ true) (eqb-true _ _ e) r) ∙ h
 shape_kept v tag ts true e r (inr n) h = absurd cc
 
 path_count : (v : Version) (tag : ℕ) (ks : List Field) (ts : Trees) (b : Bool) → (tag == 0x50) ≡ b → kinds v tag ≡ Ok ks → (count ts == length ks) ≡ true → count ts ≡ 3 ⊎ (b ≡ false)
@@ -233,7 +234,7 @@ moment_from v ts x h = subst (λ us. all_fine (fault v) (structures (moment v (f
 moment_fine : (v : Version) (ts : Trees) → are_kinds dated ts ≡ true → unwritten v 0x49 ts ≡ None → all_fine (fault v) (structures (moment v (form_all v ts))) ≡ true
 moment_fine v ts k u = let p = passes dated 0x49 ts (moment_unwritten v ts u) in moment_from v ts (three_ints ts (eqb-true _ _ p.counted) k) p.ranged
 
-plain_fine : (v : Version) (tag : ℕ) (ts : Trees) (r : Result (List Field) Reason) → kinds v tag ≡ r → unwritten_by r tag ts ≡ None → (tag == 0x46) ≡ false → is_row (row_in tag table) ts ≡ true → is_none (fault v tag (form_all v ts)) ≡ true
+plain_fine : (v : Version) (tag : ℕ) (ts : Trees) (r : Result (List Field) Reason) → kinds v tag ≡ r → unwritten_by r tag ts ≡ None → (tag == 0x46) ≡ false → has_kinds (row_in tag table) ts ≡ true → is_none (fault v tag (form_all v ts)) ≡ true
 plain_fine v tag ts (Err x) e u n r = absurd cc
 plain_fine v tag ts (Ok ks) e u n r =
     let us = form_all v ts in
@@ -245,12 +246,16 @@ plain_fine v tag ts (Ok ks) e u n r =
     let s = shape_kept v tag ts (tag == 0x50) refl r (path_count v tag ks ts (tag == 0x50) refl e p.counted) p.shaped in
     ap is_none (fault_is v tag us ks e ∙ wrong_is ks tag us true true true true a b d s)
 
-structure_fine : (v : Version) (tag : ℕ) (ts : Trees) (b : Bool) → (tag == 0x49) ≡ b → not (tag == 0x46) ≡ true → is_row (row_in tag table) ts ≡ true → unwritten v tag ts ≡ None → all_fine (fault v) (structures_in (form_all v ts)) ≡ true
+structure_fine : (v : Version) (tag : ℕ) (ts : Trees) (b : Bool) → (tag == 0x49) ≡ b → not (tag == 0x46) ≡ true → has_kinds (row_in tag table) ts ≡ true → unwritten v tag ts ≡ None → all_fine (fault v) (structures_in (form_all v ts)) ≡ true
     → all_fine (fault v) (structures (cond b (moment v (form_all v ts)) (structure tag (form_all v ts)))) ≡ true
 structure_fine v tag ts true e n r u i =
-    moment_fine v ts (subst (λ m. is_row (row_in m table) ts ≡ true) (eqb-true _ _ e) r) (subst (λ m. unwritten v m ts ≡ None) (eqb-true _ _ e) u)
+    moment_fine v ts (subst (λ m. has_kinds (row_in m table) ts ≡ true) (eqb-true _ _ e) r) (subst (λ m. unwritten v m ts ≡ None) (eqb-true _ _ e) u)
 structure_fine v tag ts false e n r u i =
     both_true _ _ (plain_fine v tag ts (kinds v tag) refl (subst (λ c. unwritten_by (kinds v (cond c (moment_tag v) tag)) tag ts ≡ None) e u) (is_not _ n) r) i
+
+kinds_of : (o : Option Row) (ts : Trees) → is_row o ts ≡ true → has_kinds o ts ≡ true
+kinds_of None ts h = absurd cc
+kinds_of (Some r) ts h = and_right (has_count r ts) _ h
 
 mutual
   pub formed : (v : Version) (t : Tree) → is_typed t ≡ true → all_fine (unwritten v) (structures t) ≡ true → all_fine (fault v) (structures (form v t)) ≡ true
@@ -264,7 +269,7 @@ mutual
   formed v (dict es) k h = formed_under v es k h
   formed v (structure tag ts) k h =
       let m = and_right (not (tag == 0x46)) _ k in
-      structure_fine v tag ts (tag == 0x49) refl (and_left (not (tag == 0x46)) _ k) (and_left (is_row (row_in tag table) ts) _ m) (fine_itself (unwritten v) tag ts h) (formed_all v ts (and_right (is_row (row_in tag table) ts) _ m) (fine_within (unwritten v) tag ts h))
+      structure_fine v tag ts (tag == 0x49) refl (and_left (not (tag == 0x46)) _ k) (kinds_of (row_in tag table) ts (and_left (is_row (row_in tag table) ts) _ m)) (fine_itself (unwritten v) tag ts h) (formed_all v ts (and_right (is_row (row_in tag table) ts) _ m) (fine_within (unwritten v) tag ts h))
 
   pub formed_all : (v : Version) (ts : Trees) → are_typed ts ≡ true → all_fine (unwritten v) (structures_in ts) ≡ true → all_fine (fault v) (structures_in (form_all v ts)) ≡ true
   formed_all v no_trees k h = refl
@@ -276,9 +281,12 @@ mutual
   formed_under v (entry_then x t es) k h =
       fine_append (fault v) (structures (form v t)) (structures_under (form_under v es)) ∙ both_true _ _ (formed v t (and_left (is_typed t) _ k) (fine_left (unwritten v) (structures t) (structures_under es) h)) (formed_under v es (and_right (is_typed t) _ k) (fine_right (unwritten v) (structures t) (structures_under es) h))
 
--- the form of a cell that can be written
+-- the form of what can be written
+pub form_typed : (v : Version) (s : Tree) → is_typed s ≡ true → all_fine (unwritten v) (structures s) ≡ true → Form v s (form v s)
+form_typed v s k h = (scan_fine (fault v) 0 (structures (form v s)) (formed v s k h), sym (back v s k))
+
 pub form_is : (v : Version) (c : Cell) → all_fine (unwritten v) (structures (shape c)) ≡ true → Form v (shape c) (form v (shape c))
-form_is v c h = (scan_fine (fault v) 0 (structures (form v (shape c))) (formed v (shape c) (typed_shape c) h), sym (back v (shape c) (typed_shape c)))
+form_is v c h = form_typed v (shape c) (typed_shape c) h
 
 pub record Sum (u o : ℤ) : Type 0 where
   pub above : neg_ℤ (pos 100000000000064800) ≤ℤ (u +ℤ o)

@@ -1,6 +1,7 @@
 -- The trees of cells are typed.
-use Rattle.std.proofs.Common.{◌≡◌, ℕ, ℤ, List, [], ◌∷◌, map, Bool, true, false, ◌&&◌, Option, Some, None, String, Global, string_bytes, refl, ap, ◌∙◌, subst}
-use Rattle.packstream.specs.Tree.{Tree, int}
+use Rattle.std.proofs.Common.{◌≡◌, ℕ, ℤ, List, [], ◌∷◌, map, Bool, true, false, ◌&&◌, ◌||◌, ◌==◌, Option, Some, None, String, Global, string_bytes, refl, ap, ◌∙◌, subst}
+use Rattle.packstream.specs.Good.{count}
+use Rattle.packstream.specs.Tree.{Tree, tree_then, int, dict}
 use Rattle.packstream.specs.View.{trees_of, entries_of}
 use Rattle.structures.specs.declared.cell.Cell.{Cell}
 use Rattle.structures.specs.declared.cell.Node.{Node}
@@ -11,8 +12,8 @@ use Rattle.structures.specs.declared.cell.Cell.TheOpen.{Cell-F, Node-F, Relation
 use Rattle.structures.specs.declared.cell.Cell.TheFolds.{ind-Cell, map-Cell, map-Node, map-Relationship, map-UnboundRelationship, fold-roll-Cell, fold-roll-Node, fold-roll-Relationship, fold-roll-UnboundRelationship}
 use Rattle.structures.specs.declared.table.Field.TheVariants.{Text as TextField}
 use Rattle.structures.specs.Faults.{is_text, is_int, has_tag, each, are_kinds}
-use Rattle.structures.specs.Shape.{shape, node_shape, unbound_shape, relationship_shape, cell_step, node_step, relationship_step, unbound_step, text_of, element_of, elements_of}
-use Rattle.structures.specs.Steps.{is_typed, are_typed, have_typed}
+use Rattle.structures.specs.Shape.{shape, shapes, entries, node_shape, unbound_shape, relationship_shape, cell_step, node_step, relationship_step, unbound_step, text_of, texts_of, element_of, elements_of}
+use Rattle.structures.specs.Cells.{is_typed, are_typed, have_typed}
 use Rattle.structures.proofs.Views.{node-out, unbound-out}
 
 abbrev TypedCell : Type 0
@@ -51,6 +52,9 @@ shape_of e = (e.0, shape e.1)
 
 abbrev named : String Global × Tree → List ℕ × Tree
 named e = (string_bytes e.0, e.1)
+
+abbrev properties_of : List (String Global × TypedCell) → Tree
+properties_of xs = dict (entries_of (map named (map shape_of (map first_of xs))))
 
 entries_typed : (xs : List (String Global × TypedCell)) → have_typed (entries_of (map named (map shape_of (map first_of xs)))) ≡ true
 entries_typed [] = refl
@@ -96,6 +100,15 @@ elements_typed : (e : Option ElementIds) → are_typed (elements_of e) ≡ true
 elements_typed None = refl
 elements_typed (Some s) = refl
 
+-- the number of fields, with and without what version 5.1 adds
+node_count : (a b d : Tree) (e : Option (String Global)) → ((count (tree_then a (tree_then b (tree_then d (element_of e)))) == 3) || (count (tree_then a (tree_then b (tree_then d (element_of e)))) == 4)) ≡ true
+node_count a b d None = refl
+node_count a b d (Some s) = refl
+
+relationship_count : (a b d f g : Tree) (e : Option ElementIds) → ((count (tree_then a (tree_then b (tree_then d (tree_then f (tree_then g (elements_of e)))))) == 5) || (count (tree_then a (tree_then b (tree_then d (tree_then f (tree_then g (elements_of e)))))) == 8)) ≡ true
+relationship_count a b d f g None = refl
+relationship_count a b d f g (Some s) = refl
+
 abbrev cell_of : Cell-F TypedCell TypedNode TypedRelationship TypedUnbound → Cell-F Cell Node Relationship UnboundRelationship
 cell_of y = map-Cell TypedCell TypedNode TypedRelationship TypedUnbound Cell Node Relationship UnboundRelationship (λ x. x.0) (λ x. x.0) (λ x. x.0) (λ x. x.0) y
 
@@ -128,15 +141,15 @@ cell_typed (Cell-F.Point3D i x y z) = refl
 
 node_typed : (y : Node-F TypedCell TypedNode TypedRelationship TypedUnbound)
     → is_typed (node_step (map-Node Cell Node Relationship UnboundRelationship Tree Tree Tree Tree shape node_shape relationship_shape unbound_shape (map-Node TypedCell TypedNode TypedRelationship TypedUnbound Cell Node Relationship UnboundRelationship (λ x. x.0) (λ x. x.0) (λ x. x.0) (λ x. x.0) y))) ≡ true
-node_typed y = rw (texts_kind y.labels.items, texts_typed y.labels.items, entries_typed y.properties.items, element_kind y.element_id, element_typed y.element_id) refl
+node_typed y = rw (node_count (int y.id) (texts_of y.labels.items) (properties_of y.properties.items) y.element_id, texts_kind y.labels.items, texts_typed y.labels.items, entries_typed y.properties.items, element_kind y.element_id, element_typed y.element_id) refl
 
 unbound_typed : (y : UnboundRelationship-F TypedCell TypedNode TypedRelationship TypedUnbound)
     → is_typed (unbound_step (map-UnboundRelationship Cell Node Relationship UnboundRelationship Tree Tree Tree Tree shape node_shape relationship_shape unbound_shape (map-UnboundRelationship TypedCell TypedNode TypedRelationship TypedUnbound Cell Node Relationship UnboundRelationship (λ x. x.0) (λ x. x.0) (λ x. x.0) (λ x. x.0) y))) ≡ true
-unbound_typed y = rw (entries_typed y.properties.items, element_kind y.element_id, element_typed y.element_id) refl
+unbound_typed y = rw (node_count (int y.id) (text_of y.kind) (properties_of y.properties.items) y.element_id, entries_typed y.properties.items, element_kind y.element_id, element_typed y.element_id) refl
 
 relationship_typed : (y : Relationship-F TypedCell TypedNode TypedRelationship TypedUnbound)
     → is_typed (relationship_step (map-Relationship Cell Node Relationship UnboundRelationship Tree Tree Tree Tree shape node_shape relationship_shape unbound_shape (map-Relationship TypedCell TypedNode TypedRelationship TypedUnbound Cell Node Relationship UnboundRelationship (λ x. x.0) (λ x. x.0) (λ x. x.0) (λ x. x.0) y))) ≡ true
-relationship_typed y = rw (entries_typed y.properties.items, elements_kind y.element_ids, elements_typed y.element_ids) refl
+relationship_typed y = rw (relationship_count (int y.id) (int y.start) (int y.end) (text_of y.kind) (properties_of y.properties.items) y.element_ids, entries_typed y.properties.items, elements_kind y.element_ids, elements_typed y.element_ids) refl
 
 pub typed_shape : (c : Cell) → is_typed (shape c) ≡ true
 typed_shape = ind-Cell (λ c. is_typed (shape c) ≡ true) (λ n. is_typed (node_shape n) ≡ true) (λ r. is_typed (relationship_shape r) ≡ true) (λ r. is_typed (unbound_shape r) ≡ true)
@@ -144,3 +157,12 @@ typed_shape = ind-Cell (λ c. is_typed (shape c) ≡ true) (λ n. is_typed (node
     (λ x y e. ap is_typed (fold-roll-Node Tree Tree Tree Tree cell_step node_step relationship_step unbound_step x) ∙ subst (λ z. is_typed (node_step (map-Node Cell Node Relationship UnboundRelationship Tree Tree Tree Tree shape node_shape relationship_shape unbound_shape z)) ≡ true) e (node_typed y))
     (λ x y e. ap is_typed (fold-roll-Relationship Tree Tree Tree Tree cell_step node_step relationship_step unbound_step x) ∙ subst (λ z. is_typed (relationship_step (map-Relationship Cell Node Relationship UnboundRelationship Tree Tree Tree Tree shape node_shape relationship_shape unbound_shape z)) ≡ true) e (relationship_typed y))
     (λ x y e. ap is_typed (fold-roll-UnboundRelationship Tree Tree Tree Tree cell_step node_step relationship_step unbound_step x) ∙ subst (λ z. is_typed (unbound_step (map-UnboundRelationship Cell Node Relationship UnboundRelationship Tree Tree Tree Tree shape node_shape relationship_shape unbound_shape z)) ≡ true) e (unbound_typed y))
+
+-- so are cells on their own, and entries
+pub shapes_typed : (cs : List Cell) → are_typed (trees_of (shapes cs)) ≡ true
+shapes_typed [] = refl
+shapes_typed (c ∷ cs) = both _ _ (typed_shape c) (shapes_typed cs)
+
+pub pairs_typed : (es : List (String Global × Cell)) → have_typed (entries_of (entries es)) ≡ true
+pairs_typed [] = refl
+pairs_typed (e ∷ es) = both _ _ (typed_shape e.1) (pairs_typed es)

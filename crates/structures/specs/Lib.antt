@@ -6,4 +6,5 @@ pub mod Answers
 pub mod Writing
 pub mod Fitting
 pub mod Laying
+pub mod Cells
 pub mod Steps

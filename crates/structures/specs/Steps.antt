@@ -51,28 +51,7 @@ abbrev pub walk_fault : ℕ → ℕ → List ℤ → Option Reason
 walk_fault nodes relationships indices =
     first_failed ((nat_lt 0 nodes && is_walk nodes relationships true (trees_of (map int indices)), PathShape) ∷ [])
 
--- Each structure is one of the table, with its fields or those that version 5.1 adds too, of their kinds; local
--- seconds don't occur. So are the trees of cells.
-abbrev pub is_row : Option Row → Trees → Bool
-is_row None ts = false
-is_row (Some r) ts = are_kinds (r.fields ++ r.added) ts
-
-abbrev mutual
-  pub is_typed : Tree → Bool
-  is_typed null = true
-  is_typed (boolean b) = true
-  is_typed (int z) = true
-  is_typed (float n) = true
-  is_typed (byte_string s) = true
-  is_typed (text s) = true
-  is_typed (list ts) = are_typed ts
-  is_typed (dict es) = have_typed es
-  is_typed (structure tag ts) = not (tag == 0x46) && (is_row (row_in tag table) ts && are_typed ts)
-
-  pub are_typed : Trees → Bool
-  are_typed no_trees = true
-  are_typed (tree_then t ts) = is_typed t && are_typed ts
-
-  pub have_typed : Entries → Bool
-  have_typed no_entries = true
-  have_typed (entry_then k t es) = is_typed t && have_typed es
+-- The fields of a structure are of the kinds of its row, as far as both go.
+abbrev pub has_kinds : Option Row → Trees → Bool
+has_kinds None ts = false
+has_kinds (Some r) ts = are_kinds (r.fields ++ r.added) ts

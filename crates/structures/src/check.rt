@@ -10,7 +10,7 @@ use wire::Version;
 
 /// Looks at the structures of a value in preorder, the first with this number; answers the number after them.
 #[cycle(check)]
-pub(crate) fn check(version: Version, value: &Value, seen: u64) -> Result<u64, (Reason, u64)>
+pub(crate) fn check(version: Version, value: &Value, seen: usize) -> Result<usize, (Reason, usize)>
     ensures { result ≡ scan (fault version) seen (structures (tree value.now)) }
 {
     match value {
@@ -25,7 +25,11 @@ pub(crate) fn check(version: Version, value: &Value, seen: u64) -> Result<u64, (
 }
 
 #[cycle(check)]
-fn check_members(version: Version, members: &Vec<Value>, seen: u64) -> Result<u64, (Reason, u64)>
+fn check_members(
+    version: Version,
+    members: &Vec<Value>,
+    seen: usize,
+) -> Result<usize, (Reason, usize)>
     ensures { result ≡ scan (fault version) seen (structures_in (trees_of (trees members.now.items))) }
 {
     let mut number = seen;
@@ -39,8 +43,8 @@ fn check_members(version: Version, members: &Vec<Value>, seen: u64) -> Result<u6
 fn check_pairs(
     version: Version,
     pairs: &Vec<(String, Value)>,
-    seen: u64,
-) -> Result<u64, (Reason, u64)>
+    seen: usize,
+) -> Result<usize, (Reason, usize)>
     ensures { result ≡ scan (fault version) seen (structures_under (entries_of (entries pairs.now.items))) }
 {
     let mut number = seen;

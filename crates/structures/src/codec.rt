@@ -1,16 +1,17 @@
 //! Cells of values, and values of cells.
 ghost use Rattle.std.specs.Prelude.{◌≡◌};
-ghost use Rattle.packstream.specs.View.{tree};
+ghost use Rattle.packstream.specs.Tree.{dict, list};
+ghost use Rattle.packstream.specs.View.{tree, trees_of, entries_of};
 ghost use Rattle.structures.specs.Answers.{Reads, Writes, Packs};
-ghost use Rattle.structures.specs.Shape.{shape};
+ghost use Rattle.structures.specs.Shape.{shape, shapes, entries};
 ghost use Rattle.structures.specs.Writing.{IsWritable};
 
 use crate::cell::Cell;
 use crate::check::check;
 use crate::fault::CellFault;
-use crate::judging::check_cell;
+use crate::judging::{check_cell, check_cells, check_entries};
 use crate::reading::cell_of;
-use crate::writing::value_of;
+use crate::writing::{pair_values, value_of, values_of};
 use packstream::{PackFault, Packed, Value};
 use std::alloc::Global;
 use wire::Version;
@@ -68,5 +69,53 @@ pub fn write(alloc: Global, version: Version, cell: &Cell) -> Result<Packed, Cel
     match check_cell(version, cell, 0) {
         Err((reason, number)) => Err(CellFault::Refused(reason, number)),
         Ok(_) => write_fine(alloc, version, cell),
+    }
+}
+
+fn members_fine(alloc: Global, version: Version, members: &Vec<Cell>) -> Result<Packed, CellFault>
+    requires { IsWritable version (list (trees_of (shapes members.now.items))) }
+    ensures { Writes version (list (trees_of (shapes members.now.items))) result }
+{
+    let values = values_of(alloc, version, members)?;
+    pack(alloc, Value::List(values))
+}
+
+/// The value of a list of these cells, as `write` writes it.
+pub fn write_members(
+    alloc: Global,
+    version: Version,
+    members: &Vec<Cell>,
+) -> Result<Packed, CellFault>
+    ensures { Writes version (list (trees_of (shapes members.now.items))) result }
+{
+    match check_cells(version, members, 0) {
+        Err((reason, number)) => Err(CellFault::Refused(reason, number)),
+        Ok(_) => members_fine(alloc, version, members),
+    }
+}
+
+fn entries_fine(
+    alloc: Global,
+    version: Version,
+    pairs: &Vec<(String, Cell)>,
+) -> Result<Packed, CellFault>
+    requires { IsWritable version (dict (entries_of (entries pairs.now.items))) }
+    ensures { Writes version (dict (entries_of (entries pairs.now.items))) result }
+{
+    let values = pair_values(alloc, version, pairs)?;
+    pack(alloc, Value::Dict(values))
+}
+
+/// The value of a dictionary of these entries, as `write` writes it.
+pub fn write_entries(
+    alloc: Global,
+    version: Version,
+    pairs: &Vec<(String, Cell)>,
+) -> Result<Packed, CellFault>
+    ensures { Writes version (dict (entries_of (entries pairs.now.items))) result }
+{
+    match check_entries(version, pairs, 0) {
+        Err((reason, number)) => Err(CellFault::Refused(reason, number)),
+        Ok(_) => entries_fine(alloc, version, pairs),
     }
 }

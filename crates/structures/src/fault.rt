@@ -29,9 +29,9 @@ pub enum Reason {
 /// Why a value is no cell of a version, or a cell can't be written at it.
 #[derive(Debug, Drop, Error)]
 pub enum CellFault {
-    /// S1 to S6: the first structure with a fault, by its number in preorder from 0, which stops at `u64::MAX`.
+    /// S1 to S6: the first structure with a fault, by its number in preorder from 0, which stops at `usize::MAX`.
     #[error("{0} at {1}")]
-    Refused(Reason, u64),
+    Refused(Reason, usize),
     /// S7: memory ran out.
     #[error("out of memory")]
     Memory,

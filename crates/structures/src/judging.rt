@@ -60,8 +60,8 @@ fn judge(
     tag: u8,
     count: usize,
     numbers: &[i64],
-    seen: u64,
-) -> Result<u64, (Reason, u64)>
+    seen: usize,
+) -> Result<usize, (Reason, usize)>
     requires { length numbers.now ≤ count }
     ensures { result ≡ scanned (judged version tag count numbers.now) seen (Ok (next seen)) }
 {
@@ -93,7 +93,11 @@ fn elements_count(ids: &Option<ElementIds>) -> usize
 
 /// Looks at the typed cells in preorder, the first with this number; answers the number after them.
 #[cycle(judge)]
-pub(crate) fn check_cell(version: Version, cell: &Cell, seen: u64) -> Result<u64, (Reason, u64)>
+pub(crate) fn check_cell(
+    version: Version,
+    cell: &Cell,
+    seen: usize,
+) -> Result<usize, (Reason, usize)>
     ensures { result ≡ scan (unwritten version) seen (structures (shape cell.now)) }
 {
     match cell {
@@ -157,8 +161,8 @@ fn check_walk(
     nodes: usize,
     relationships: usize,
     indices: &[i64],
-    seen: u64,
-) -> Result<u64, (Reason, u64)>
+    seen: usize,
+) -> Result<usize, (Reason, usize)>
     ensures { result ≡ scanned (walk_fault nodes relationships indices.now) seen (Ok (next seen)) }
 {
     if 0 < nodes && indices_walk(nodes, relationships, indices) {
@@ -168,7 +172,11 @@ fn check_walk(
 }
 
 #[cycle(judge)]
-fn check_cells(version: Version, members: &Vec<Cell>, seen: u64) -> Result<u64, (Reason, u64)>
+pub(crate) fn check_cells(
+    version: Version,
+    members: &Vec<Cell>,
+    seen: usize,
+) -> Result<usize, (Reason, usize)>
     ensures { result ≡ scan (unwritten version) seen (structures_in (trees_of (shapes members.now.items))) }
 {
     let mut number = seen;
@@ -179,11 +187,11 @@ fn check_cells(version: Version, members: &Vec<Cell>, seen: u64) -> Result<u64, 
 }
 
 #[cycle(judge)]
-fn check_entries(
+pub(crate) fn check_entries(
     version: Version,
     pairs: &Vec<(String, Cell)>,
-    seen: u64,
-) -> Result<u64, (Reason, u64)>
+    seen: usize,
+) -> Result<usize, (Reason, usize)>
     ensures { result ≡ scan (unwritten version) seen (structures_under (entries_of (entries pairs.now.items))) }
 {
     let mut number = seen;
@@ -194,7 +202,7 @@ fn check_entries(
 }
 
 #[cycle(judge)]
-fn check_node(version: Version, node: &Node, seen: u64) -> Result<u64, (Reason, u64)>
+fn check_node(version: Version, node: &Node, seen: usize) -> Result<usize, (Reason, usize)>
     ensures { result ≡ scan (unwritten version) seen (structures (node_shape node.now)) }
 {
     let count = 3 + element_count(&node.element_id);
@@ -206,8 +214,8 @@ fn check_node(version: Version, node: &Node, seen: u64) -> Result<u64, (Reason, 
 fn check_unbound(
     version: Version,
     unbound: &UnboundRelationship,
-    seen: u64,
-) -> Result<u64, (Reason, u64)>
+    seen: usize,
+) -> Result<usize, (Reason, usize)>
     ensures { result ≡ scan (unwritten version) seen (structures (unbound_shape unbound.now)) }
 {
     let count = 3 + element_count(&unbound.element_id);
@@ -219,8 +227,8 @@ fn check_unbound(
 fn check_relationship(
     version: Version,
     relationship: &Relationship,
-    seen: u64,
-) -> Result<u64, (Reason, u64)>
+    seen: usize,
+) -> Result<usize, (Reason, usize)>
     ensures { result ≡ scan (unwritten version) seen (structures (relationship_shape relationship.now)) }
 {
     let count = 5 + elements_count(&relationship.element_ids);
@@ -230,7 +238,7 @@ fn check_relationship(
 }
 
 #[cycle(judge)]
-fn check_nodes(version: Version, nodes: &Vec<Node>, seen: u64) -> Result<u64, (Reason, u64)>
+fn check_nodes(version: Version, nodes: &Vec<Node>, seen: usize) -> Result<usize, (Reason, usize)>
     ensures { result ≡ scan (unwritten version) seen (structures_in (trees_of (map node_shape nodes.now.items))) }
 {
     let mut number = seen;
@@ -244,8 +252,8 @@ fn check_nodes(version: Version, nodes: &Vec<Node>, seen: u64) -> Result<u64, (R
 fn check_unbounds(
     version: Version,
     unbounds: &Vec<UnboundRelationship>,
-    seen: u64,
-) -> Result<u64, (Reason, u64)>
+    seen: usize,
+) -> Result<usize, (Reason, usize)>
     ensures { result ≡ scan (unwritten version) seen (structures_in (trees_of (map unbound_shape unbounds.now.items))) }
 {
     let mut number = seen;

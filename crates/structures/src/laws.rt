@@ -1,7 +1,8 @@
 //! What holds of values and cells, whatever reads them.
-ghost use Rattle.std.specs.Prelude.{◌≡◌, ℕ};
+ghost use Rattle.std.specs.Prelude.{◌≡◌, ℕ, IsTrue};
 ghost use Rattle.packstream.specs.Tree.{Tree};
 ghost use Rattle.packstream.specs.declared.fault.Reason.{Reason as PackReason};
+ghost use Rattle.structures.specs.Cells.{is_typed};
 ghost use Rattle.structures.specs.Answers.{HasOneReading, HasOneWriting, IsOfPacking, IsUnpacked};
 ghost use Rattle.structures.specs.Form.{Form, form, typed};
 ghost use Rattle.structures.specs.Shape.{shape};
@@ -12,6 +13,12 @@ ghost use Rattle.wire.specs.declared.Version.{Version as AnyVersion};
 /// A value stands for one cell, or has one first fault, and never both.
 pub fn one_reading()
     ensures { (v : AnyVersion) (t : Tree) → HasOneReading v t }
+{}
+
+/// What a cell is seen as is typed: each of its structures is one of the table, with its fields, of their kinds, and no local
+/// seconds.
+pub fn cells_are_typed()
+    ensures { (c : AnyCell) → IsTrue (is_typed (shape c)) }
 {}
 
 /// A cell has one form, or one first fault, and never both.

@@ -21,14 +21,12 @@ mod writing;
 mod wrong;
 
 pub use cell::{Cell, ElementIds, Node, Relationship, UnboundRelationship};
-pub use codec::{read, read_value, write};
+pub use codec::{read, read_value, write, write_entries, write_members};
 pub use fault::{CellFault, Reason};
 pub use fitting::fit;
 pub use laws::{
-    one_form, one_reading, one_writing, packing_faults, read_can_be_written, written_is_read_back,
+    cells_are_typed, one_form, one_reading, one_writing, packing_faults, read_can_be_written,
+    written_is_read_back,
 };
 pub use laying::cells_are_rows;
 pub use wire::Version;
-
-#[cfg(test)]
-mod tests;

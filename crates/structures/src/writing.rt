@@ -167,7 +167,11 @@ pub(crate) fn value_of(alloc: Global, version: Version, cell: &Cell) -> Result<V
 }
 
 #[cycle(write)]
-fn values_of(alloc: Global, version: Version, members: &Vec<Cell>) -> Result<Vec<Value>, AllocError>
+pub(crate) fn values_of(
+    alloc: Global,
+    version: Version,
+    members: &Vec<Cell>,
+) -> Result<Vec<Value>, AllocError>
     requires { all_fine (unwritten version) (structures_in (trees_of (shapes members.now.items))) ≡ true }
     ensures { IfOk result (λ v. trees v.items ≡ map (form version) (shapes members.now.items)) }
 {
@@ -179,7 +183,7 @@ fn values_of(alloc: Global, version: Version, members: &Vec<Cell>) -> Result<Vec
 }
 
 #[cycle(write)]
-fn pair_values(
+pub(crate) fn pair_values(
     alloc: Global,
     version: Version,
     pairs: &Vec<(String, Cell)>,

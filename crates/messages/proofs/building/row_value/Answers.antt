@@ -1,0 +1,13 @@
+use Rattle.std.proofs.Common.{◌∙◌, Ok, ap, sym}
+use Rattle.packstream.specs.Tree.{list}
+use Rattle.packstream.specs.View.{trees_of}
+use Rattle.structures.specs.Shape.{shapes}
+use Rattle.messages.proofs.Meanings.{err_is}
+use Rattle.messages.proofs.Forms.{put_value, put_fault, told_fault}
+use Rattle.messages.proofs.building.row_value.Goals as goal
+
+pub returns-in_err-packed : goal.returns-in_err-packed
+returns-in_err-packed c = told_fault _ _ _ _ (err_is _ _ c.from_residual.ensures.1) (put_fault c.args.version (list (trees_of (shapes c.args.row.now.items))) c.in_err-packed.field-0.0 c.in_err-packed.ensures)
+
+pub returns : goal.returns
+returns c = put_value c.args.version (list (trees_of (shapes c.args.row.now.items))) c.in_ok-packed.packed c.in_ok-packed.ensures ∙ ap Ok (sym c.into_value.ensures)

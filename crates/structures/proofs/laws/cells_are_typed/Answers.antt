@@ -1,0 +1,5 @@
+use Rattle.structures.proofs.Typed.{typed_shape}
+use Rattle.structures.proofs.laws.cells_are_typed.Goals as goal
+
+pub returns : goal.returns
+returns c = typed_shape
