@@ -22,8 +22,3 @@ pub use faults::{ClientFault, SubmitFault};
 pub use heard::{Heard, Outcome};
 pub use laws::{keeps_few, loses_each, refuses_texts, tells_by_bytes};
 pub use losses::Losses;
-
-#[cfg(test)]
-mod driving_tests;
-#[cfg(test)]
-mod tests;

@@ -11,7 +11,7 @@ use Rattle.messages.specs.Messages.{request_of}
 use Rattle.messages.specs.Arrivals.{Arrival, Shook, NoMagic, Idle, Asked, Unread, TooLong, shaken, then_asked, asked_in, after_shake, arrivals_of, arrivals}
 use Rattle.server.specs.Rest.{arrives, arrived_by, unread_among}
 use Rattle.server.specs.Past.{placed}
-use Rattle.server.proofs.Streams.{AreChunks, IsChunk, MayBeChunk, MayOpen, Came, part, whole, came, opening_taken, chunk_taken}
+use Rattle.wire.proofs.Opening.{AreChunks, IsChunk, MayBeChunk, MayOpen, Came, part, whole, came, opening_taken, chunk_taken}
 
 -- what stands for no request takes a place
 pub unread_placed : (xs : List Arrival) → unread_among (placed xs) ≡ unread_among xs
@@ -37,7 +37,7 @@ message_adds : (r : Result Ask MsgFault) → then_asked r [] ≡ arrived_by r �
 message_adds (Ok q) = refl
 message_adds (Err e) = refl
 
-asked_adds : (v : Version) (ys : List Item) (y : Item) → AreChunks ys → IsChunk y → unread_among (asked_in v ys) ≡ false → asked_in v (ys ++ y ∷ []) ≡ asked_in v ys ++ arrives v y ∷ []
+pub asked_adds : (v : Version) (ys : List Item) (y : Item) → AreChunks ys → IsChunk y → unread_among (asked_in v ys) ≡ false → asked_in v (ys ++ y ∷ []) ≡ asked_in v ys ++ arrives v y ∷ []
 asked_adds v [] (Opening b) c i h = absurd i
 asked_adds v [] Noop c i h = refl
 asked_adds v [] (Message b) c i h = message_adds (request_of v b)
@@ -52,7 +52,7 @@ asked_adds v (Message b ∷ ys) y c i h = go (request_of v b) h (asked_adds v ys
     go (Ok q) h f = ap (λ z. Asked q ∷ z) (f h)
     go (Err e) h f = cc
 
-shake_alone : (a : Arrival) → a ∷ after_shake a [] ≡ a ∷ []
+pub shake_alone : (a : Arrival) → a ∷ after_shake a [] ≡ a ∷ []
 shake_alone (Shook (Some v)) = refl
 shake_alone (Shook None) = refl
 shake_alone NoMagic = refl

@@ -8,13 +8,13 @@ use Rattle.messages.specs.View.{Ask}
 use Rattle.messages.specs.Arrivals.{Arrival, Shook, NoMagic, Idle, Asked, Unread, TooLong, Quiet, arrivals}
 use Rattle.machine.specs.declared.states.State.{State}
 use Rattle.machine.specs.declared.rows.Verdict.{Verdict}
-use Rattle.machine.specs.Asks.{kind_of}
+use Rattle.machine.specs.Asks.{kind_of, is_reset}
 use Rattle.machine.specs.Following.{interruptible}
 use Rattle.engine.specs.Views.{EntryView}
 use Rattle.server.specs.declared.kinds.Cause.{Cause}
 use Rattle.server.specs.declared.kinds.Took.{Took}
 use Rattle.server.specs.declared.kinds.What.{What}
-use Rattle.server.specs.Session.{Setting, Reply, OneRow, Summary, Bye, is_reset}
+use Rattle.server.specs.Session.{Setting, Reply, OneRow, Summary, Bye}
 use Rattle.server.specs.Rest.{Kept, Step, Ended, Full, puts, arrival, cause_of, ends, fed, full, noop_kept, puts_noop, replies, rests, reset_among, shut, struck, takes_item, takes_none, turns, unread_among, version_of, work_kept}
 use Rattle.server.specs.Serving.{Live, after_feeding, fresh, fed_live, with_kept}
 use Rattle.server.specs.Past.{Agrees, Follows, IsLater, answered_by, placed}

@@ -9,7 +9,6 @@ pub mod Turns
 pub mod Bounds
 pub mod Runs
 pub mod Ledgers
-pub mod Streams
 pub mod Arriving
 pub mod Following
 pub mod Pasts

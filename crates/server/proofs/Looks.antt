@@ -1,5 +1,5 @@
 -- How a look ahead goes on, and what it finds.
-use Rattle.std.proofs.Common.{◌≡◌, sym, ◌∙◌, ap, ℕ, ◌+◌, ◌-◌, ◌<◌, false, ◌⊎◌, inl, inr, List, length, drop, take, arith, length-drop}
+use Rattle.std.proofs.Common.{◌≡◌, refl, sym, ◌∙◌, ap, ℕ, ◌+◌, ◌-◌, ◌<◌, false, ◌⊎◌, inl, inr, List, [], ◌∷◌, length, drop, take, arith, length-drop}
 use Rattle.std.proofs.lemmas.List.{drop-drop, take_all}
 use Rattle.wire.specs.declared.parts.Cut.{Cut}
 use Rattle.wire.specs.declared.parts.Part.{Part}
@@ -7,10 +7,15 @@ use Rattle.wire.specs.declared.parts.Part.TheVariants as part
 use Rattle.wire.specs.Place.{Place}
 use Rattle.wire.specs.Parts.{cut_at}
 use Rattle.wire.specs.Unfinished.{Unfinished, unfinished}
-use Rattle.wire.specs.Items.{answer_from, further}
+use Rattle.wire.specs.Items.{answer_from, further, item_of}
 use Rattle.wire.specs.Scanning.{Holds, Taken, After, with_data}
 use Rattle.wire.proofs.Cuts.{cuts_agree, further-further, further-zero}
-use Rattle.server.specs.Looking.{Looked}
+use Rattle.server.specs.Looking.{Looked, is_nothing_in}
+
+-- an item that ends is something
+pub never_nothing : (body : List ℕ) → is_nothing_in (item_of body) ≡ false
+never_nothing [] = refl
+never_nothing (x ∷ xs) = refl
 
 -- before the first byte
 pub looked_none : (s : Unfinished) (place : Place) (bytes : List ℕ) → s ≡ unfinished place s.body → Holds s.body place → s.too_big ≡ false → Looked s bytes 0 place

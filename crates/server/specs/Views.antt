@@ -17,8 +17,8 @@ use Rattle.server.specs.declared.result.OpenResult.{OpenResult}
 use Rattle.server.specs.declared.result.Transaction.{Transaction}
 use Rattle.server.specs.declared.server.Server.{Server}
 use Rattle.server.specs.declared.session.Session.{Session}
-use Rattle.machine.specs.Asks.{kind_of}
-use Rattle.server.specs.Session.{Open, Tx, is_reset}
+use Rattle.machine.specs.Asks.{kind_of, is_reset}
+use Rattle.server.specs.Session.{Open, Tx}
 use Rattle.server.specs.Rest.{Kept}
 use Rattle.server.specs.Serving.{Live, Rest}
 

@@ -7,9 +7,9 @@ use crate::incoming::Item;
 use crate::kinds::{Cause, What};
 use crate::queue::has_unread;
 use crate::result::{OpenResult, Transaction};
-use crate::words::{answer_of, is_interruptible, is_reset};
+use crate::words::{answer_of, is_interruptible};
 use bytes::{Bytes, BytesMut};
-use machine::State;
+use machine::{State, is_reset};
 use messages::{MsgFault, Request, read_request};
 use std::alloc::{AllocError, Global};
 use std::collections::VecDeque;
@@ -58,7 +58,7 @@ impl Waiting {
     ghost use Rattle.server.specs.Acts.{turn_of_one};
 
     /// What it is for a step, where it is the first.
-    pub fn turn(&self) -> Turn
+    pub(crate) fn turn(&self) -> Turn
         ensures { result ≡ turn_of_one self.now }
     {
         match self {
@@ -68,7 +68,7 @@ impl Waiting {
         }
     }
 
-    pub fn is_reset(&self) -> bool
+    pub(crate) fn is_reset(&self) -> bool
         ensures { result ≡ is_reset_in self.now }
     {
         match self {
@@ -77,7 +77,7 @@ impl Waiting {
         }
     }
 
-    pub fn is_unread(&self) -> bool
+    pub(crate) fn is_unread(&self) -> bool
         ensures { result ≡ is_unread self.now }
     {
         match self {
@@ -96,7 +96,7 @@ impl Exchange {
     ghost use Rattle.server.specs.Views.{kept_of, item_of, is_read};
 
     /// Before the first byte.
-    pub fn new(alloc: Global) -> Result<Exchange, AllocError>
+    pub(crate) fn new(alloc: Global) -> Result<Exchange, AllocError>
         ensures { IfOk result (λ x. kept_of x ≡ begun) }
     {
         Ok(Exchange {
@@ -113,21 +113,21 @@ impl Exchange {
     }
 
     /// Whether nothing more is read: it has ended, or ends at what stands for no request.
-    pub fn is_shut(&self) -> bool
+    pub(crate) fn is_shut(&self) -> bool
         ensures { result ≡ shut (kept_of self.now) }
     {
         self.cause.is_some() || has_unread(&self.queue)
     }
 
     /// Whether no place is left, or no ordinal.
-    pub fn is_full(&self) -> bool
+    pub(crate) fn is_full(&self) -> bool
         ensures { result ≡ full (kept_of self.now) }
     {
         self.queue.len() >= MAX_WAITING || self.first + self.queue.len() as u64 >= MAX_ORDINALS
     }
 
     /// The smaller of `max` and what waits to go.
-    pub fn take_out(&mut self, max: usize) -> Result<Bytes, AllocError>
+    pub(crate) fn take_out(&mut self, max: usize) -> Result<Bytes, AllocError>
         ensures ok { IfOk result (λ b. (b ≡ taken_out max (kept_of self.old)) × (kept_of self.new ≡ take_kept max (kept_of self.old))) }
         ensures err { OnErr result (kept_of self.new ≡ kept_of self.old) }
     {
@@ -136,7 +136,7 @@ impl Exchange {
     }
 
     /// Puts a no-op where it may, and answers whether it did.
-    pub fn noop(&mut self) -> Result<bool, AllocError>
+    pub(crate) fn noop(&mut self) -> Result<bool, AllocError>
         ensures ok { IfOk result (λ b. (b ≡ puts_noop (kept_of self.old)) × (kept_of self.new ≡ noop_kept (kept_of self.old))) }
         ensures err { OnErr result (kept_of self.new ≡ kept_of self.old) }
         ensures memory { OnErr result (puts_noop (kept_of self.old) ≡ true) }
@@ -149,7 +149,7 @@ impl Exchange {
     }
 
     /// What a piece does by the item that it ends, if one.
-    pub fn receive(&mut self, item: Option<Item>) -> Result<What, AllocError>
+    pub(crate) fn receive(&mut self, item: Option<Item>) -> Result<What, AllocError>
         requires place { length self.old.queue.items < 32 }
         requires ordinal { self.old.first + length self.old.queue.items < 2 ^ 63 }
         ensures ok { IfOk result (λ what. (what ≡ what_of (arrival (kept_of self.old) (option_map item_of item))) × (kept_of self.new ≡ fed (kept_of self.old) (arrival (kept_of self.old) (option_map item_of item)))) }
@@ -223,14 +223,14 @@ impl Exchange {
     }
 
     /// The version, 5.1 before one is chosen.
-    pub fn version(&self) -> Version
+    pub(crate) fn version(&self) -> Version
         ensures { result ≡ version_of (kept_of self.now) }
     {
         self.version.unwrap_or(Version::V51)
     }
 
     /// It ends, and what is open is dropped.
-    pub fn end(&mut self, cause: Cause)
+    pub(crate) fn end(&mut self, cause: Cause)
         ensures { kept_of self.new ≡ ends cause (kept_of self.old) }
     {
         self.state = State::Defunct;
@@ -239,7 +239,7 @@ impl Exchange {
     }
 
     /// A RESET strikes: what is open is dropped.
-    pub fn strike(&mut self)
+    pub(crate) fn strike(&mut self)
         ensures { kept_of self.new ≡ struck (kept_of self.old) }
     {
         self.state = State::Interrupted;
@@ -247,7 +247,7 @@ impl Exchange {
     }
 
     /// The open result and the open transaction are dropped.
-    pub fn close(&mut self)
+    pub(crate) fn close(&mut self)
         ensures { kept_of self.new ≡ record (kept_of self.old) { result = closed; tx = no_tx } }
     {
         self.result = OpenResult::closed(self.alloc);

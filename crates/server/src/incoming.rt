@@ -4,7 +4,7 @@ ghost use Rattle.wire.specs.Unfinished.{unfinished};
 ghost use Rattle.wire.specs.Scanning.{Holds};
 ghost use Rattle.server.specs.Sound.{is_sound};
 
-use crate::taking::{Bite, take_item};
+use crate::taking::{Bite, take_item, take_part};
 use bytes::Bytes;
 use std::alloc::{AllocError, Global};
 use wire::{Chunks, Dechunk, Part};
@@ -32,11 +32,12 @@ pub(crate) struct Stream {
     ghost holds: { Holds chunks.body place },
 }
 
-/// Where a piece leads in a stream, and whether a message ends in it.
+/// Where a piece leads in a stream, and whether a message ends in it, or nothing does.
 #[derive(Clone, Copy)]
 pub(crate) struct Ahead {
     pub place: Chunks,
     pub ends_message: bool,
+    pub ends_nothing: bool,
 }
 
 /// What has come of an item that isn't whole.
@@ -69,9 +70,10 @@ impl Incoming {
     ghost use Rattle.wire.specs.Framing.{at_server};
     ghost use Rattle.wire.specs.Reader.{takes};
     ghost use Rattle.server.specs.Views.{opened_of, took_of, item_of, is_read};
+    ghost use Rattle.server.specs.Looking.{TakesPart};
 
     /// Before the first byte.
-    pub fn new() -> Incoming
+    pub(crate) fn new() -> Incoming
         ensures { opened_of result ≡ at_server.start }
     {
         Incoming::Offer(Offer {
@@ -80,8 +82,20 @@ impl Incoming {
         })
     }
 
+    /// Takes a piece of a stream that ends nothing, and answers how many bytes were used, without the large answer of `take`. Where it
+    /// ends something nothing is done, and an `Err` changes nothing.
+    pub fn take_part(&mut self, piece: &[u8]) -> Result<Option<usize>, AllocError>
+        ensures ok { IfOk result (λ o. TakesPart o (opened_of self.old) piece.now (opened_of self.new)) }
+        ensures err { OnErr result (opened_of self.new ≡ opened_of self.old) }
+    {
+        match self {
+            Incoming::Offer(_) => Ok(None),
+            Incoming::Chunks(stream) => stream.take_part(piece),
+        }
+    }
+
     /// Takes a piece to the end of the item begun, else whole. An `Err` changes nothing.
-    pub fn take(&mut self, alloc: Global, piece: &[u8]) -> Result<Taken, AllocError>
+    pub(crate) fn take(&mut self, alloc: Global, piece: &[u8]) -> Result<Taken, AllocError>
         ensures takes { IfOk result (λ t. takes at_server (opened_of self.old) piece.now ≡ took_of t (opened_of self.new)) }
         ensures before { IfOk result (λ t. IfSome t.before (λ i. opened_of i ≡ opened_of self.old)) }
         ensures read { IfOk result (λ t. is_some t.before ≡ is_read (option_map item_of t.item)) }
@@ -150,7 +164,7 @@ impl Stream {
     ghost use Rattle.wire.specs.Framing.{at_server, reading};
     ghost use Rattle.wire.specs.Reader.{takes};
     ghost use Rattle.server.specs.Views.{opened_of, took_of, item_of, is_read};
-    ghost use Rattle.server.specs.Looking.{LooksAhead};
+    ghost use Rattle.server.specs.Looking.{LooksAhead, TakesPart};
 
     fn new(alloc: Global) -> Stream
         ensures { result.chunks ≡ fresh }
@@ -199,6 +213,23 @@ impl Stream {
         Ok(Taken { used, item, before })
     }
 
+    /// Takes a piece that ends nothing, and answers how many bytes were used.
+    fn take_part(&mut self, piece: &[u8]) -> Result<Option<usize>, AllocError>
+        ensures ok { IfOk result (λ o. TakesPart o (reading self.old.chunks) piece.now (reading self.new.chunks)) }
+        ensures err { OnErr result (self.new.chunks ≡ self.old.chunks) }
+    {
+        if self.is_over {
+            return Ok(None);
+        }
+        let ahead = self.ahead(piece);
+        if !ahead.ends_nothing {
+            return Ok(None);
+        }
+        let used = take_part(&mut self.chunks, piece)?;
+        self.place = ahead.place;
+        Ok(Some(used))
+    }
+
     /// A copy, where a message ends ahead.
     fn way_back(&self, ahead: Ahead) -> Result<Option<Incoming>, AllocError>
         ensures same { IfOk result (λ o. IfSome o (λ i. opened_of i ≡ reading self.now.chunks)) }
@@ -211,6 +242,7 @@ impl Stream {
     }
 
     /// Where a piece leads, told without its data. Takes no memory.
+    #[tactic(auto, using(crate::proofs::Looks::never_nothing))]
     fn ahead(&self, piece: &[u8]) -> Ahead
         requires { self.now.chunks.too_big ≡ false }
         ensures { LooksAhead self.now.chunks piece.now result }
@@ -222,16 +254,25 @@ impl Stream {
             used += cut.used;
             match cut.what {
                 Part::Head | Part::Data => {}
-                Part::Noop | Part::TooBig => {
+                Part::Noop => {
                     return Ahead {
                         place,
                         ends_message: false,
+                        ends_nothing: false,
+                    };
+                }
+                Part::TooBig => {
+                    return Ahead {
+                        place,
+                        ends_message: false,
+                        ends_nothing: false,
                     };
                 }
                 Part::End => {
                     return Ahead {
                         place,
                         ends_message: true,
+                        ends_nothing: false,
                     };
                 }
             }
@@ -239,6 +280,7 @@ impl Stream {
         Ahead {
             place,
             ends_message: false,
+            ends_nothing: true,
         }
     }
 }

@@ -9,8 +9,6 @@ mod incoming;
 mod kinds;
 mod laws;
 mod leaving;
-#[cfg(test)]
-mod limit_tests;
 mod opening;
 mod performing;
 mod places;
@@ -20,10 +18,6 @@ mod server;
 mod session;
 mod summary;
 mod taking;
-#[cfg(test)]
-mod talking;
-#[cfg(test)]
-mod tests;
 mod texts;
 mod words;
 

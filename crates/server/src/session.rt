@@ -22,7 +22,7 @@ impl Session {
     ghost use Rattle.server.specs.Rest.{work_kept};
     ghost use Rattle.server.specs.Views.{live_of};
 
-    pub fn new(alloc: Global, conn: u64) -> Result<Session, AllocError>
+    pub(crate) fn new(alloc: Global, conn: u64) -> Result<Session, AllocError>
         ensures { IfOk result (λ s. live_of s ≡ fresh conn) }
     {
         Ok(Session {
@@ -33,7 +33,7 @@ impl Session {
     }
 
     /// Takes at most one item of the piece, else all of it.
-    pub fn feed(&mut self, piece: &[u8]) -> Result<Took, AllocError>
+    pub(crate) fn feed(&mut self, piece: &[u8]) -> Result<Took, AllocError>
         ensures ok { IfOk result (λ took. fed_live (live_of self.old) piece.now ≡ (took, live_of self.new)) }
         ensures err { OnErr result (live_of self.new ≡ live_of self.old) }
         ensures memory { OnErr result (MayFeed (live_of self.old)) }
@@ -60,6 +60,22 @@ impl Session {
         ensures ok { IfOk result (λ took. taken_live (live_of self.old) piece.now ≡ (took, live_of self.new)) }
         ensures err { OnErr result (live_of self.new ≡ live_of self.old) }
     {
+        if let Some(used) = self.incoming.take_part(piece)? {
+            return Ok(Took {
+                used,
+                what: What::Part,
+            });
+        }
+        self.take_item(piece)
+    }
+
+    /// The piece may end an item.
+    fn take_item(&mut self, piece: &[u8]) -> Result<Took, AllocError>
+        requires place { length self.old.exchange.queue.items < 32 }
+        requires ordinal { self.old.exchange.first + length self.old.exchange.queue.items < 2 ^ 63 }
+        ensures ok { IfOk result (λ took. taken_live (live_of self.old) piece.now ≡ (took, live_of self.new)) }
+        ensures err { OnErr result (live_of self.new ≡ live_of self.old) }
+    {
         let alloc = self.exchange.alloc;
         let Taken { used, item, before } = self.incoming.take(alloc, piece)?;
         let Ok(what) = self.exchange.receive(item) else {
@@ -73,7 +89,7 @@ impl Session {
     }
 
     /// The smaller of `max` and what waits to go.
-    pub fn take_out(&mut self, max: usize) -> Result<Bytes, AllocError>
+    pub(crate) fn take_out(&mut self, max: usize) -> Result<Bytes, AllocError>
         ensures ok { IfOk result (λ b. taken_from max (live_of self.old) ≡ (b, live_of self.new)) }
         ensures err { OnErr result (live_of self.new ≡ live_of self.old) }
     {
@@ -81,7 +97,7 @@ impl Session {
     }
 
     /// Puts a no-op where it may, and answers whether it did.
-    pub fn noop(&mut self) -> Result<bool, AllocError>
+    pub(crate) fn noop(&mut self) -> Result<bool, AllocError>
         ensures ok { IfOk result (λ b. noop_put (live_of self.old) ≡ (b, live_of self.new)) }
         ensures err { OnErr result (live_of self.new ≡ live_of self.old) }
         ensures memory { OnErr result (MayPutNoop (live_of self.old)) }
@@ -89,21 +105,21 @@ impl Session {
         self.exchange.noop()
     }
 
-    pub fn state(&self) -> State
+    pub(crate) fn state(&self) -> State
         ensures { result ≡ (live_of self.now).kept.state }
     {
         self.exchange.state
     }
 
     /// Why it has ended.
-    pub fn cause(&self) -> Option<Cause>
+    pub(crate) fn cause(&self) -> Option<Cause>
         ensures { result ≡ (live_of self.now).kept.ended }
     {
         self.exchange.cause
     }
 
     /// One step: nothing, a row, a summary or an end. An `Err` changes nothing, nor the ledger.
-    pub fn work<E: Engine, G: Gate>(
+    pub(crate) fn work<E: Engine, G: Gate>(
         &mut self,
         engine: &mut E,
         gate: &G,

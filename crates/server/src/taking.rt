@@ -1,10 +1,10 @@
 //! The next item of a stream of chunks.
-ghost use Rattle.std.specs.Prelude.{◌≡◌, IfOk, OnOk, OnErr, true, false, option_map};
+ghost use Rattle.std.specs.Prelude.{◌≡◌, IfOk, OnOk, OnErr, true, false, None, option_map};
 ghost use Rattle.wire.specs.Framing.{at_server, reading, item_in};
 ghost use Rattle.wire.specs.Items.{answer_to};
 ghost use Rattle.wire.specs.Reader.{takes};
 ghost use Rattle.server.specs.Sound.{is_sound};
-ghost use Rattle.server.specs.Looking.{is_message, is_message_in};
+ghost use Rattle.server.specs.Looking.{is_message, is_message_in, is_nothing};
 ghost use Rattle.server.specs.Views.{took, item_of, is_read, is_too_big};
 
 use crate::incoming::Item;
@@ -37,6 +37,23 @@ pub(crate) fn take_item(chunks: &mut Dechunk, piece: &[u8]) -> Result<Bite, Allo
             used,
             item: Some(Item::TooBig),
         }),
+        Err(WireFault::Memory) => Err(AllocError),
+    }
+}
+
+/// Feeds a stream a piece that ends nothing: how many bytes were used. An `Err` changes nothing.
+pub(crate) fn take_part(chunks: &mut Dechunk, piece: &[u8]) -> Result<usize, AllocError>
+    requires going { chunks.old.too_big ≡ false }
+    requires nothing { is_nothing (answer_to chunks.old piece.now).answer ≡ true }
+    ensures takes { IfOk result (λ n. takes at_server (reading chunks.old) piece.now ≡ took n None (reading chunks.new)) }
+    ensures rest { OnOk result (chunks.new ≡ (answer_to chunks.old piece.now).rest) }
+    ensures over { OnOk result (chunks.new.too_big ≡ false) }
+    ensures sound { OnOk result (is_sound chunks.new ≡ true) }
+    ensures err { OnErr result (chunks.new ≡ chunks.old) }
+{
+    match chunks.feed(piece) {
+        Ok(fed) => Ok(fed.used),
+        Err(WireFault::TooBig { .. }) => unreachable!(),
         Err(WireFault::Memory) => Err(AllocError),
     }
 }
