@@ -26,7 +26,8 @@ use Rattle.world.proofs.Headline.{reached_keeps, headline}
 use Rattle.world.proofs.Sound.{Sound, reached_sound}
 use Rattle.world.proofs.Giving.{refused_same}
 use Rattle.world.proofs.Fitting.{some_is}
-use Rattle.world.proofs.Becoming.{TellsWritten, becomes, knows_wished, accepts_written}
+use Rattle.world.proofs.Becoming.{becomes, knows_wished, accepts_written}
+use Rattle.world.proofs.Written.{TellsWritten, accepting}
 use Rattle.world.proofs.Stepping.{submit_fits, opens_not}
 
 -- what a lemma of an event gives is the whole answer
@@ -42,22 +43,6 @@ one_conn a b e = ap (λ o. or_that o) e
     or_that : Option Connection → Connection
     or_that (Some k) = k
     or_that None = a
-
--- what a client that accepts is known to be
-closed_not : (a b d : Bool) (o : Option SubmitFault) → (if (a || b) || d then Some submit_fault.Closed else o) ≡ None → (a ≡ false) × (d ≡ false) × (o ≡ None)
-closed_not true b d o h = cc
-closed_not false true d o h = cc
-closed_not false false true o h = cc
-closed_not false false false o h = (refl, refl, h)
-
-version_known : (r : Reading) (sent : List Ask) (q : Ask) (v : Option Version) (o : Option SubmitFault) → (if not (may r sent q v) then Some submit_fault.NotAllowed else o) ≡ None → (v ≡ None → ⊥)
-version_known r sent q None o h e = cc
-version_known r sent q (Some v) o h e = cc
-
-pub accepting : (r : Reading) (lost : Bool) (sent : List Ask) (q : Ask) → refused r lost sent q ≡ None → (lost ≡ false) × (r.bad ≡ false) × (r.version ≡ None → ⊥)
-accepting r lost sent q h =
-    let a = closed_not lost r.ended r.bad _ h in
-    (a.0, a.1, version_known r sent q r.version _ a.2)
 
 module _ (G : Type 0) (answer : List EntryView → List WriteView → List ℕ → List ParameterView → QueryMode → Result AnswerView QueryFault) (accepts : G → List ℕ → List ℕ → Bool)
     (r : Rest G) (w : World) (fits : Fits r w) (brought : List EntryView) (reached : Reached (serving.setting answer accepts r.server) brought w) (c : ℕ) (k : Connection) (here : slice_get w.conns c ≡ Some k) where

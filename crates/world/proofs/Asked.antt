@@ -21,7 +21,7 @@ use Rattle.world.specs.declared.kinds.Seen.{Seen as SeenTold}
 use Rattle.world.specs.Views.{link_of, event_of}
 use Rattle.world.specs.Turns.{Definition, Turns, Now, Before, Holds, Submits, LosesClient, after_loss}
 use Rattle.world.proofs.Sound.{Sound}
-use Rattle.world.proofs.Headline.{ok_parts}
+use Rattle.world.proofs.Written.{ok_parts}
 use Rattle.world.proofs.Seeing.{refuses_exactly}
 use Rattle.world.proofs.Answering.{submit_answers}
 use Rattle.world.proofs.Turning.{same_set, ok_of, found, all_sound, done}

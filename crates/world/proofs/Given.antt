@@ -31,7 +31,7 @@ use Rattle.world.proofs.Fitting.{some_is}
 use Rattle.world.proofs.Giving.{if_not, seen_as}
 use Rattle.world.proofs.Answering.{still_there}
 use Rattle.world.proofs.Reporting.{hears_well}
-use Rattle.world.proofs.Headline.{ok_parts}
+use Rattle.world.proofs.Written.{ok_parts}
 use Rattle.world.proofs.Turning.{ok_of, gate_kept, found, all_sound, still, done}
 use Rattle.world.proofs.Stepping.{steps_foreign, client_step, client_fits, client_gone, deaf_fits, left_fits, drain_fits, drain_gone, drain_cut, given_up}
 

@@ -26,7 +26,8 @@ use Rattle.client.proofs.Steps.{item_tells}
 use Rattle.client.proofs.Later.{reading_later, reading_count}
 use Rattle.world.specs.World.{Connection, Seen, Gave, output, delivered, client, wish_of, input, give, taken_for, told_now, tells_newest, given, tells_of, newest}
 use Rattle.world.specs.Rests.{client_rest}
-use Rattle.world.proofs.Asking.{and_told, hear_same, submit_same}
+use Rattle.world.proofs.Asking.{hear_same, submit_same}
+use Rattle.client.proofs.Steps.{and_told}
 use Rattle.world.proofs.Hearing.{used_same, more_heard, rest_same}
 use Rattle.world.proofs.Reaching.{reach_within}
 
@@ -161,7 +162,7 @@ module _ (k : Connection) (out n : ℕ) (lives : k.client_lost ≡ false) (on : 
   abbrev t : Took Opened Item
   t = takes at_client (state at_client at_client.start (delivered k)) piece
 
-  given_more : delivered k2 ≡ delivered k ++ take m piece
+  pub given_more : delivered k2 ≡ delivered k ++ take m piece
   given_more =
       take-add k.down m (output k)
       ∙ ap (λ z. take k.down (output k) ++ z) (sym (take_front m n (drop k.down (output k)) (reach_within hears (delivered k) piece)))

@@ -11,10 +11,10 @@ pub mod Sending
 pub mod Feeding
 pub mod Working
 pub mod Suffices
+pub mod Written
 pub mod Headline
 pub mod Rests
 pub mod Reaching
-pub mod Streams
 pub mod Fed
 pub mod Sound
 pub mod Asking
@@ -40,3 +40,6 @@ pub mod Lost
 pub mod Holding
 pub mod Followed
 pub mod Told
+pub mod Limits
+pub mod Clients
+pub mod Commits

@@ -7,10 +7,10 @@ use Rattle.wire.specs.Reader.{reach, state}
 use Rattle.wire.specs.Framing.{at_client, said_text}
 use Rattle.messages.specs.Arrivals.{Arrival, Shook, NoMagic, Asked, Unread, TooLong, arrivals, heard_bytes}
 use Rattle.machine.specs.declared.State.{State}
-use Rattle.machine.specs.Asks.{kind_of}
+use Rattle.machine.specs.Asks.{kind_of, is_reset}
 use Rattle.machine.specs.Following.{interruptible}
 use Rattle.server.specs.declared.Cause.{Cause}
-use Rattle.server.specs.Session.{Open, Tx, closed, no_tx, is_reset}
+use Rattle.server.specs.Session.{Open, Tx, closed, no_tx}
 use Rattle.server.specs.Rest.{unread_among}
 use Rattle.messages.specs.View.{Ask}
 use Rattle.client.specs.declared.Outcome.{Outcome}

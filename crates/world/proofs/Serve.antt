@@ -13,7 +13,7 @@ use Rattle.messages.specs.declared.Count.{Count}
 use Rattle.messages.specs.declared.Mode.{Mode}
 use Rattle.messages.specs.declared.MsgFault.{MsgFault}
 use Rattle.machine.proofs.Tables.{at_rows, implies, implies_at}
-use Rattle.machine.specs.Asks.{in_part, is_part, kind_of}
+use Rattle.machine.specs.Asks.{in_part, is_part, kind_of, is_goodbye, is_reset}
 use Rattle.machine.specs.Following.{allows, commits}
 use Rattle.machine.specs.Rows.{row_at}
 use Rattle.machine.specs.States.{phase_of, same_state}
@@ -26,10 +26,11 @@ use Rattle.client.specs.Client.{outcome_of, verdict_of}
 use Rattle.client.specs.declared.Outcome.{Outcome}
 use Rattle.server.specs.Faults.{failure, of_query}
 use Rattle.server.specs.Said.{fits}
-use Rattle.server.specs.Session.{Bye, OneRow, Open, Reply, Setting, Summary, Tx, close, closed, fails, fields_said, halted, if_fits, is_goodbye, is_reset, left_after, no_tx, perform, pull, query_mode, ran, serve, succeeds, unwritable, used_up}
+use Rattle.server.specs.Session.{Bye, OneRow, Open, Reply, Setting, Summary, Tx, close, closed, fails, fields_said, halted, if_fits, left_after, no_tx, perform, pull, query_mode, ran, serve, succeeds, unwritable, used_up}
 use Rattle.server.specs.declared.fault.Fault.{Fault}
 use Rattle.world.proofs.Trace.{outcome_by}
 use Rattle.world.proofs.Writing.{failure_fits, short_fits}
+use Rattle.machine.proofs.Leading.{same_state-true}
 
 -- what is open agrees with the transaction t and the write w that the summaries tell
 abbrev pub Held : State → Open → Tx → Tx → List WriteView → Type 0
@@ -84,18 +85,6 @@ query_valid too_many_rows = refl
 abbrev option_is : Option State → State → Bool
 option_is None s = false
 option_is (Some x) s = same_state x s
-
-same_state-true : (s t : State) → same_state s t ≡ true → s ≡ t
-same_state-true State.Fresh State.Fresh h = refl
-same_state-true State.Unauth State.Unauth h = refl
-same_state-true State.Ready State.Ready h = refl
-same_state-true State.Streaming State.Streaming h = refl
-same_state-true State.TxReady State.TxReady h = refl
-same_state-true State.TxStreaming State.TxStreaming h = refl
-same_state-true State.Failed State.Failed h = refl
-same_state-true State.Interrupted State.Interrupted h = refl
-same_state-true State.Defunct State.Defunct h = refl
-same_state-true _ _ h = cc
 
 is_state : (o : Option State) (s : State) → option_is o s ≡ true → o ≡ Some s
 is_state None s h = cc

@@ -7,14 +7,14 @@ use Rattle.messages.specs.View.{Ask}
 use Rattle.messages.specs.Arrivals.{Arrival, Shook, NoMagic, Asked, Unread, TooLong, arrivals}
 use Rattle.wire.specs.Reader.{state, reach}
 use Rattle.wire.specs.Framing.{Opened, at_server}
-use Rattle.machine.specs.Asks.{kind_of}
+use Rattle.machine.specs.Asks.{kind_of, is_reset}
 use Rattle.machine.specs.declared.State.{State}
 use Rattle.machine.specs.Following.{interruptible}
 use Rattle.engine.specs.declared.Mode.{Mode as QueryMode}
 use Rattle.engine.specs.Views.{EntryView, WriteView, ParameterView, AnswerView, QueryFault}
 use Rattle.server.specs.declared.Cause.{Cause}
 use Rattle.server.specs.declared.Worked.{Worked}
-use Rattle.server.specs.Session.{Setting, closed, no_tx, Reply, OneRow, Summary, Bye, serve, is_reset}
+use Rattle.server.specs.Session.{Setting, closed, no_tx, Reply, OneRow, Summary, Bye, serve}
 use Rattle.server.specs.declared.Took.{Took}
 use Rattle.server.specs.Rest as serving_rest
 use Rattle.server.specs.Rest.{reset_among, unread_among, told, Step, work_kept, feeding}

@@ -1,5 +1,5 @@
 -- A report tells what the model has.
-use Rattle.std.proofs.Common.{◌≡◌, refl, sym, ◌∙◌, ap, ap₂, subst, ℕ, ◌+◌, ◌<◌, ◌≤◌, Bool, Option, Some, None, List, [], ◌∷◌, length, slice_get, slice_index_or, arith}
+use Rattle.std.proofs.Common.{◌≡◌, refl, sym, ◌∙◌, ap, ap₂, subst, ℕ, suc, ◌+◌, ◌<◌, ◌≤◌, Bool, Option, Some, None, List, [], ◌∷◌, length, slice_get, slice_index_or, arith}
 use Rattle.engine.specs.Views.{EntryView}
 use Rattle.server.specs.declared.Cause.{Cause}
 use Rattle.client.specs.declared.Outcome.{Outcome}
@@ -13,15 +13,31 @@ use Rattle.machine.specs.States.{phase_of}
 use Rattle.world.specs.Good.{heard, delivered_whole, server_outcome, Good}
 use Rattle.world.specs.Reports.{by_peer, read_after, read, waits, ordinals, standing, standing_of}
 use Rattle.world.specs.Rests.{client_rest}
-use Rattle.world.specs.Fits.{Link, FitsClient, FitsLink}
+use Rattle.world.specs.Fits.{Link, FitsClient, FitsLink, FitLinks}
 use Rattle.world.specs.Views.{link_of, waiting_at}
-use Rattle.world.specs.Turns.{Definition, setting_of, Holds, IsWorld}
+use Rattle.world.specs.Turns.{Definition, setting_of, Holds, HoldLinks, IsWorld}
 use Rattle.world.specs.Reported.{standing_seen, StandsBy}
 use Rattle.world.proofs.Sound.{Sound, reached_sound}
 use Rattle.world.proofs.Headline.{headline}
 use Rattle.world.proofs.Answering.{link_at, link_none}
 use Rattle.world.proofs.Reporting.{standing_lives, standing_gone, waits_are}
 use Rattle.world.proofs.Placed.{held_at, held_past}
+
+-- as many links as connections
+hold_long : (ls : List LinkHeld) (ms : List Link) → HoldLinks ls ms → length ls ≡ length ms
+hold_long [] [] h = refl
+hold_long [] (m ∷ ms) h = absurd h
+hold_long (l ∷ ls) [] h = absurd h
+hold_long (l ∷ ls) (m ∷ ms) h = ap suc (hold_long ls ms h.1)
+
+fit_long : (ms : List Link) (ks : List Connection) → FitLinks ms ks → length ms ≡ length ks
+fit_long [] [] h = refl
+fit_long [] (k ∷ ks) h = absurd h
+fit_long (m ∷ ms) [] h = absurd h
+fit_long (m ∷ ms) (k ∷ ks) h = ap suc (fit_long ms ks h.1)
+
+pub as_many : {E G : Type 0} (entries : E → List EntryView) (s : WorldHeld E G) (gate : G) (w : World) → IsWorld entries s gate w → length s.links.items ≡ length w.conns
+as_many entries s gate w f = hold_long s.links.items f.rest.links f.links ∙ fit_long f.rest.links w.conns f.fits.links
 
 read_long : (xs : List Said) (later : List (ℕ × Phase × Outcome)) → length (read_after (heard xs) later) ≡ answered xs + length later
 read_long [] later = omega arith

@@ -25,7 +25,7 @@ use Rattle.world.specs.Views.{FitsEnd, link_of, end_peer, seen_of}
 use Rattle.world.specs.Turns.{Definition, Now, Before}
 use Rattle.world.proofs.Headline.{reached_keeps}
 use Rattle.world.proofs.Sound.{AllSound, reached_sound}
-use Rattle.world.proofs.Becoming.{TellsWritten}
+use Rattle.world.proofs.Written.{TellsWritten}
 use Rattle.world.proofs.Seeing.{refuses_exactly}
 use Rattle.world.proofs.Answering.{answers, link_at, still_there}
 use Rattle.world.proofs.Stepping.{work_step, work_fits, work_gone}

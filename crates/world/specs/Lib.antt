@@ -10,3 +10,4 @@ pub mod Views
 pub mod Turns
 pub mod Drawing
 pub mod Reported
+pub mod Limits

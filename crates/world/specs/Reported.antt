@@ -1,14 +1,17 @@
--- What a report lends of a connection.
-use Rattle.std.specs.Prelude.{◌≡◌, ℕ, Option, Some, None, length, map, slice_get}
+-- What a report lends of a world.
+use Rattle.std.specs.Prelude.{◌≡◌, ℕ, Option, Some, None, List, length, map, slice_get}
 use Rattle.machine.specs.declared.State.{State}
+use Rattle.engine.specs.Views.{EntryView}
 use Rattle.server.specs.declared.Cause.{Cause}
 use Rattle.server.specs.Serving as serving
 use Rattle.world.specs.declared.report.Connection.{Connection as ConnectionTold}
+use Rattle.world.specs.declared.report.Report.{Report as ReportLent}
 use Rattle.world.specs.declared.report.Standing.{Standing as StandingTold}
 use Rattle.world.specs.declared.report.Standing.TheVariants as standing_told
 use Rattle.world.specs.World.{Connection, World}
 use Rattle.world.specs.Reports.{Standing, stands, has_ended, standing_of, wrote, read, lost, waits, ordinals, standing}
 use Rattle.world.specs.Views.{peer_of, wrote_of, read_of}
+use Rattle.world.specs.Turns.{FitsWorld}
 
 abbrev pub standing_seen : StandingTold → Standing
 standing_seen (standing_told.Stands state) = stands state
@@ -31,3 +34,7 @@ pub record IsReport (k : Connection) (c : ConnectionTold) : Type 0 where
 abbrev pub Reports : World → ℕ → Option ConnectionTold → Type 0
 Reports w conn None = slice_get w.conns conn ≡ None
 Reports w conn (Some c) = (k : Connection) × (slice_get w.conns conn ≡ Some k) × IsReport k c
+
+-- what is lent is a world's that fits this one
+abbrev pub Lends : {E G : Type 0} → (E → List EntryView) → ReportLent E G → G → World → Type 0
+Lends entries report gate w = FitsWorld entries report.world.now gate w

@@ -11,14 +11,15 @@ mod moving;
 mod replaying;
 mod report;
 mod submitting;
-#[cfg(test)]
-mod tests;
 mod turns;
 mod world;
 
 pub use kinds::{Event, Peer, Refused, Seen};
-pub use laws::{clients_may_rely, gives_said, grows_by_work, leaves_others, refuses_exactly};
+pub use laws::{
+    clients_may_rely, gives_said, grows_by_commits, grows_by_work, keeps_limits, leaves_others,
+    refuses_exactly,
+};
 pub use link::{Read, Wrote};
 pub use replaying::replay;
-pub use report::{Connection, Standing};
+pub use report::{Connection, Report, Standing};
 pub use world::World;

@@ -8,8 +8,9 @@ ghost use Rattle.world.specs.Views.{losses_of, end_lost, end_peer, peer_of, Fits
 
 use crate::kinds::Peer;
 use crate::link::{End, Link, Read, Wrote};
+use crate::world::World;
 use client::Outcome;
-use engine::{Engine, Gate};
+use engine::{Engine, Entry, Gate};
 use machine::State;
 use server::{Cause, Server};
 
@@ -34,6 +35,41 @@ pub struct Connection<'a> {
     /// How many requests still wait for a summary; their ordinals follow those of the summaries that were read.
     pub waits: usize,
     pub standing: Standing,
+}
+
+/// What is reported of a world: each connection, by the number that its opening answered, and the ledger. All that it tells is lent.
+#[derive(Drop)]
+pub struct Report<'a, E, G> {
+    pub(crate) world: &'a World<E, G>,
+}
+
+impl<'a, E: Engine, G: Gate> Report<'a, E, G> {
+    ghost use Rattle.std.specs.Prelude.{◌≡◌, List, length};
+    ghost use Rattle.engine.specs.Views.{EntryView, entries_view};
+    ghost use Rattle.world.specs.World.{World as WorldSeen, Reached, ledger};
+    ghost use Rattle.world.specs.Reported.{Lends, Reports};
+    ghost use Rattle.world.specs.Turns.{setting_of};
+
+    /// How many connections were opened; their numbers begin at 0. Takes no memory.
+    pub fn connections(&self) -> u64
+        ensures { (gate : G) (w : WorldSeen) → Lends E.entries self.now gate w → result ≡ length w.conns }
+    {
+        self.world.connections()
+    }
+
+    /// What is reported of a connection; None where no such was opened. Takes no memory.
+    pub fn connection(&self, conn: u64) -> Option<Connection<'a>>
+        ensures { (gate : G) (brought : List EntryView) (w : WorldSeen) → Reached (setting_of E.answer G.accepts gate) brought w → Lends E.entries self.now gate w → Reports w conn result }
+    {
+        self.world.connection(conn)
+    }
+
+    /// The ledger: the entries that the engine brought, and those since. Takes no memory.
+    pub fn ledger(&self) -> &'a [Entry]
+        ensures { (gate : G) (w : WorldSeen) → Lends E.entries self.now gate w → entries_view result.now ≡ ledger w }
+    {
+        self.world.ledger()
+    }
 }
 
 /// The outcomes at the loss of a link's client.

@@ -1,12 +1,14 @@
 //! What a client of a connection is asked, and its loss.
 ghost use Rattle.std.specs.Prelude.{◌≡◌};
+ghost use Rattle.client.specs.Fits.{Fits as FitsClient};
+ghost use Rattle.client.specs.Rest.{Rest as Asking, dropped, losses};
 ghost use Rattle.messages.specs.View.{ask};
 ghost use Rattle.world.specs.Fits.{Link as LinkSeen};
 ghost use Rattle.world.specs.Turns.{Holds, Submits, LosesClient, seen_in, refusal_seen};
 
 use crate::kinds::{Refused, Seen};
 use crate::link::{End, Link};
-use client::SubmitFault;
+use client::{Client, Losses, SubmitFault};
 use messages::Request;
 
 /// The client is asked to send a request.
@@ -42,6 +44,13 @@ pub(crate) fn lose_client(link: &mut Link) -> Result<Seen, Refused>
     if lost.is_some() {
         return Ok(Seen::Nothing);
     }
-    *lost = Some(client.lost());
+    *lost = Some(leave(client));
     Ok(Seen::Nothing)
+}
+
+/// A client hears nothing more; the outcomes that it gives then.
+fn leave(client: &mut Client) -> Losses
+    ensures { (y : Asking) → FitsClient client.old y → (result ≡ losses y.knows) × FitsClient client.new (dropped y) }
+{
+    client.lost()
 }

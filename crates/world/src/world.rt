@@ -2,7 +2,7 @@
 
 use crate::kinds::{Event, Peer, Refused, Seen};
 use crate::link::Link;
-use crate::report::{Connection, losses, peer, standing_at, waiting};
+use crate::report::{Connection, Report, losses, peer, standing_at, waiting};
 use crate::turns::turn;
 use engine::{Engine, Entry, Gate};
 use server::Server;
@@ -17,10 +17,10 @@ pub struct World<E, G> {
 }
 
 impl<E: Engine, G: Gate> World<E, G> {
-    ghost use Rattle.std.specs.Prelude.{◌≡◌, List};
+    ghost use Rattle.std.specs.Prelude.{◌≡◌, List, length};
     ghost use Rattle.engine.specs.Views.{EntryView, entries_view};
     ghost use Rattle.world.specs.World.{World as WorldSeen, Reached, empty, ledger, Opens};
-    ghost use Rattle.world.specs.Reported.{Reports};
+    ghost use Rattle.world.specs.Reported.{Lends, Reports};
     ghost use Rattle.world.specs.Good.{AllGood};
     ghost use Rattle.world.specs.Contract.{Steps};
     ghost use Rattle.world.specs.Views.{event_of, peer_of};
@@ -49,8 +49,29 @@ impl<E: Engine, G: Gate> World<E, G> {
         }
     }
 
-    /// What is reported of a connection; None where no such was opened. Takes no memory.
-    pub fn report(&self, conn: u64) -> Option<Connection<'_>>
+    /// What is reported: it lends all that it tells. Takes no memory.
+    pub fn report(&self) -> Report<'_, E, G>
+        ensures { (gate : G) (w : WorldSeen) → FitsWorld E.entries self.now gate w → Lends E.entries result gate w }
+    {
+        Report { world: self }
+    }
+
+    /// The ledger: the entries that the engine brought, and those since. Takes no memory.
+    pub fn ledger(&self) -> &[Entry]
+        ensures { (gate : G) (w : WorldSeen) → FitsWorld E.entries self.now gate w → entries_view result.now ≡ ledger w }
+    {
+        self.server.engine().ledger()
+    }
+
+    /// How many connections were opened.
+    pub(crate) fn connections(&self) -> u64
+        ensures { (gate : G) (w : WorldSeen) → FitsWorld E.entries self.now gate w → result ≡ length w.conns }
+    {
+        self.links.len() as u64
+    }
+
+    /// What is reported of a connection; None where no such was opened.
+    pub(crate) fn connection(&self, conn: u64) -> Option<Connection<'_>>
         ensures { (gate : G) (brought : List EntryView) (w : WorldSeen) → Reached (setting_of E.answer G.accepts gate) brought w → FitsWorld E.entries self.now gate w → Reports w conn result }
     {
         if conn >= self.links.len() as u64 {
@@ -65,13 +86,6 @@ impl<E: Engine, G: Gate> World<E, G> {
             waits: waiting(link),
             standing: standing_at(&self.server, conn, link.gone),
         })
-    }
-
-    /// The ledger: the entries that the engine brought, and those since. Takes no memory.
-    pub fn ledger(&self) -> &[Entry]
-        ensures { (gate : G) (w : WorldSeen) → FitsWorld E.entries self.now gate w → entries_view result.now ≡ ledger w }
-    {
-        self.server.engine().ledger()
     }
 
     /// Opens a connection.

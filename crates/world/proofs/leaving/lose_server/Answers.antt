@@ -22,6 +22,6 @@ returns-in_default-take_out g c = λ r w b.
 pub returns : goal.returns
 returns g c = λ r w b.
     let l = c.args.link.now in
-    lost_done g.E.Engine.entries g.E.Engine.answer g.G.Gate.accepts c.args.conn l c.args.server.now r w b c.put.new.self c.lost-link.result c.take_out.new.self c.lost-link.new.self c.in-Ok.said 18446744073709551615
-    c.in_default.is (omega (arith, c.put.ensures.few)) (c.in-Ok.ensures r.server b.server) (λ x f. c.lost-link.ensures x f)
+    lost_done g.E.Engine.entries g.E.Engine.answer g.G.Gate.accepts c.args.conn l c.args.server.now r w b c.put.new.self c.give_up-link.result c.take_out.new.self c.give_up-link.new.server c.in-Ok.said 18446744073709551615
+    c.in_default.is (omega (arith, c.put.ensures.few)) (c.in-Ok.ensures r.server b.server) (λ x f. c.give_up-link.ensures x f)
     (c.put.ensures.held ∙ ap (λ z. z ++ c.in-Ok.said) c.join.ensures.same)

@@ -10,4 +10,4 @@ returns-then-is_some c = λ m h.
 pub returns : goal.returns
 returns c = λ m h.
     let o = c.in-Ours in
-    loses_now o.wish o.client o.lost c.args.link.now o.is m h (sym c.is_some.ensures ∙ c.if-is_some.false) c.lost.new.self c.lost.result (λ y f. c.lost.ensures y f)
+    loses_now o.wish o.client o.lost c.args.link.now o.is m h (sym c.is_some.ensures ∙ c.if-is_some.false) c.leave.new.client c.leave.result (λ y f. c.leave.ensures y f)

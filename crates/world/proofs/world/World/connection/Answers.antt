@@ -4,7 +4,7 @@ use Rattle.world.specs.Reports.{ordinals}
 use Rattle.world.specs.Views.{wrote_of, read_of}
 use Rattle.world.specs.Turns.{FitsWorld}
 use Rattle.world.proofs.Told.{not_opened, held, there, stands_as, waits_as}
-use Rattle.world.proofs.world.World.report.Goals as goal
+use Rattle.world.proofs.world.World.connection.Goals as goal
 
 pub returns-then-conn-len : goal.returns-then-conn-len
 unfolding FitsWorld
