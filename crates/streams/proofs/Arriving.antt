@@ -11,17 +11,17 @@ use Rattle.messages.specs.View.{Ask}
 use Rattle.messages.specs.Messages.{request_of}
 use Rattle.messages.specs.Arrivals.{Arrival, Shook, NoMagic, Asked, Unread, TooLong, shaken, then_asked, asked_in, after_shake, arrivals_of, arrivals}
 use Rattle.messages.specs.Arrivals as arrival
-use Rattle.machine.specs.Asks.{kind_of}
+use Rattle.machine.specs.Asks.{kind_of, is_reset}
 use Rattle.machine.specs.Following.{interruptible}
 use Rattle.engine.specs.Views.{EntryView}
 use Rattle.server.specs.declared.kinds.Cause.{Cause}
-use Rattle.server.specs.Session.{Setting, is_reset}
+use Rattle.server.specs.Session.{Setting}
 use Rattle.server.specs.Rest.{Kept, begun, struck, fed, arrives, arrived_by, version_of}
 use Rattle.streams.specs.Conversing.{silent, after_bytes, settled, unless_ended, talk_then, conversed, conversation}
 use Rattle.streams.specs.Settling.{item_talk}
 use Rattle.streams.proofs.Stepping.{Rested}
 use Rattle.streams.proofs.Telling.{settled_rests, fed_placed, item_talk_over}
-use Rattle.streams.proofs.Coming.{AreChunks, Came, part, whole, came}
+use Rattle.wire.proofs.Opening.{AreChunks, Came, part, whole, came}
 
 -- what stands for no request ends the session
 unread_over : (S : Setting) (c : ℕ) (ledger : List EntryView) (k : Kept) (e : MsgFault) → k.ended ≡ None → k.waiting ≡ [] → IsSome (settled S c ledger (fed k (Some (Unread e)))).kept.ended

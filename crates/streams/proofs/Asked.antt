@@ -9,17 +9,13 @@ use Rattle.client.specs.Rest.{Knows, Note, Rest, losses, dropped, taken_out, awa
 use Rattle.streams.specs.declared.fault.StreamFault.{StreamFault}
 use Rattle.streams.specs.declared.fault.StreamFault.TheVariants as stream_fault
 use Rattle.streams.specs.Fronts.{AppendsFront}
-use Rattle.streams.specs.Asking.{hears_all, after_all, FeedsPiece, IsNeeded, ReadsOn, ReadsAll, Writes, Asks, PutsOut, all_answered, GivesUp}
+use Rattle.streams.specs.Asking.{hears_all, after_all, FeedsPiece, HearsPiece, IsNeeded, ReadsOn, ReadsAll, Writes, Asks, PutsOut, all_answered, GivesUp}
+use Rattle.streams.proofs.Parts.{take_short}
 use Rattle.streams.proofs.Tales.{hears_all-append, after_all-append}
 
--- fewer than were asked for are all that there is
-taken_short : (n : ℕ) (xs : List ℕ) → length (take n xs) < n → (take n xs ≡ xs) × (drop n xs ≡ [])
-taken_short zero xs h = absurd (omega arith)
-taken_short (suc n) [] h = (refl, refl)
-taken_short (suc n) (x ∷ xs) h = let t = taken_short n xs (omega arith) in (ap (λ z. x ∷ z) t.0, t.1)
-
+-- bytes that are fewer than were asked for are all that there is
 pub all_taken : (n : ℕ) (xs bytes : List ℕ) → bytes ≡ take n xs → length bytes < n → (bytes ≡ xs) × (drop n xs ≡ [])
-all_taken n xs bytes e l = let t = taken_short n xs (subst (λ (z : List ℕ). length z < n) e l) in (e ∙ t.0, t.1)
+all_taken n xs bytes e l = let t = take_short n xs (subst (λ (z : List ℕ). length z < n) e l) in (e ∙ t.0, t.1)
 
 -- the client is lost
 and_false : (b : Bool) → (b && false) ≡ false
@@ -126,6 +122,22 @@ module _ (r : Rest) (left mid : Option (List ℕ)) (before notes : List Note) (W
       whole = λ n. absurd (n refl);
       ends = λ e. absurd cc;
     }
+
+-- what a reading of one piece makes of the reading so far
+module _ (r : Rest) (left mid : Option (List ℕ)) (before notes : List Note) (Was : Rest → Type 0) (so : ReadsOn r left mid before notes Was) (left_now : Option (List ℕ)) (after : List Note) (Now : Rest → Type 0) where
+  same_so : after ≡ notes → Now (after_all r so.fed) → ReadsOn r left mid before after Now
+  same_so e h = record { fed = so.fed; unheard = so.unheard; input = so.input; told = e ∙ so.told; now = h; needed = so.needed; whole = so.whole }
+
+  pub hears_more : awaits (hears_all r so.fed).knows ≡ true → HearsPiece (after_all r so.fed) mid left_now notes after Now (Ok true) → ReadsOn r left left_now before after Now
+  hears_more waits h = reads_more r left mid before notes Was so left_now h.0 after true Now waits h.2 h.1 h.3 refl
+
+  pub hears_end : HearsPiece (after_all r so.fed) mid left_now notes after Now (Ok false) → ReadsAll r left left_now before after Now None
+  hears_end h = stops_at_end r left mid before after Now (same_so h.2 h.3) left_now h.0 h.1
+
+  pub hears_fault : (fault : StreamFault) → awaits (hears_all r so.fed).knows ≡ true → HearsPiece (after_all r so.fed) mid left_now notes after Now (Err fault) → ReadsAll r left left_now before after Now (Some fault)
+  hears_fault stream_fault.ReadFailed waits h = stops_failed r left mid before after Now (same_so h.1 h.2) left_now h.0
+  hears_fault stream_fault.WriteFailed waits h = absurd h
+  hears_fault stream_fault.Memory waits h = reads_broken r left mid before notes Was so left_now h.0 after false Now waits h.2 h.1 h.3
 
 -- what was answered, by a test of it
 pub on_err : {T E : Type 0} (x : Result T E) (P : Type 0) → is_err x ≡ true → OnErr x P → P

@@ -11,8 +11,8 @@ pub mod Telling
 pub mod Feeding
 pub mod Talks
 pub mod Pieces
-pub mod Coming
 pub mod Arriving
 pub mod Conversings
 pub mod Losing
 pub mod Firsts
+pub mod Growing

@@ -15,7 +15,7 @@ module _ {G : Type 0} (r : Rest G) (conn : ℕ) (i : IsSome (find conn r.session
   lost_cause : (lost_at conn (with_talk r conn u ledger k)).0 ≡ Some (cause_or k.ended)
   lost_cause = ap (option_map (λ (s : Live). cause_or s.kept.ended)) (talk-found r conn i u ledger k)
 
-  lost_rest : (lost_at conn (with_talk r conn u ledger k)).1 ≡ without_talk r conn ledger
+  pub lost_rest : (lost_at conn (with_talk r conn u ledger k)).1 ≡ without_talk r conn ledger
   lost_rest = ap (λ (ss : List Live). record { sessions = ss; next = r.next; ledger = ledger; gate = r.gate }) (talk-without r conn i u ledger k)
 
 -- what giving a session up does to a server, and what it answers

@@ -11,14 +11,14 @@ use Rattle.messages.specs.Arrivals as arrival
 use Rattle.messages.specs.Writing.{response_text}
 use Rattle.machine.specs.declared.states.State.{State}
 use Rattle.machine.specs.declared.rows.Verdict.{Verdict}
-use Rattle.machine.specs.Asks.{kind_of}
+use Rattle.machine.specs.Asks.{kind_of, is_goodbye, is_reset}
 use Rattle.machine.specs.Rows.{row_at}
 use Rattle.machine.specs.Following.{interruptible}
 use Rattle.engine.specs.Views.{EntryView, AnswerView, QueryFault}
 use Rattle.server.specs.declared.kinds.Cause.{Cause}
 use Rattle.server.specs.declared.fault.Fault.{Fault}
 use Rattle.server.specs.Said.{fits}
-use Rattle.server.specs.Session.{Setting, Open, closed, Tx, Reply, OneRow, Summary, Bye, fails, succeeds, close, close_last, if_fits, unwritable, pull, used_up, greets, admitted, ran, opened, with_write, no_tx, in_transaction, fields_said, perform, serve, passed_over, is_goodbye, is_reset, halted}
+use Rattle.server.specs.Session.{Setting, Open, closed, Tx, Reply, OneRow, Summary, Bye, fails, succeeds, close, close_last, if_fits, unwritable, pull, used_up, greets, admitted, ran, opened, with_write, no_tx, in_transaction, fields_said, perform, serve, passed_over, halted}
 use Rattle.server.specs.Rest.{Kept, rests, turns, serves, Done, Idle, Full, WroteRow, Wrote, Ended, Step, work_kept, replies, struck, version_of}
 use Rattle.server.specs.Serving.{committed}
 use Rattle.streams.specs.Conversing.{Talk, silent, after_bytes, heard_out, step_then, steps, steps_due}

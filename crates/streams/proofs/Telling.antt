@@ -4,11 +4,11 @@ use Rattle.std.specs.Prelude.{◌&&◌, if◌then◌else◌, IsSome}
 use Rattle.wire.specs.Framing.{Item}
 use Rattle.messages.specs.Arrivals.{Arrival, Asked, Unread, TooLong, Shook, NoMagic}
 use Rattle.messages.specs.Arrivals as arrival
-use Rattle.machine.specs.Asks.{kind_of}
+use Rattle.machine.specs.Asks.{kind_of, is_reset}
 use Rattle.machine.specs.Following.{interruptible}
 use Rattle.engine.specs.Views.{EntryView}
 use Rattle.server.specs.declared.kinds.Cause.{Cause}
-use Rattle.server.specs.Session.{Setting, is_reset}
+use Rattle.server.specs.Session.{Setting}
 use Rattle.server.specs.Rest.{Kept, fed, struck, arrives, arrival as arrival_of, version_of}
 use Rattle.streams.specs.Conversing.{Talk, silent, after_bytes, heard_out, steps, settled, unless_ended, talk_then}
 use Rattle.streams.specs.Settling.{IsPlaced, due, item_talk}

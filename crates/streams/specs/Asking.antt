@@ -1,6 +1,6 @@
 -- What a client makes of its server's bytes, in whatever pieces they come, and what asking for all of them tells.
-use Rattle.std.specs.Prelude.{◌≡◌, ℕ, ◌≤◌, Bool, true, false, not, ◌&&◌, if◌then◌else◌, Option, Some, None, ◌==◌, List, [], ◌∷◌, ◌++◌, length, drop, ◌⊎◌}
-use Rattle.std.specs.Io.KnownBytes.{Appends, Consumes, IsAtEnd}
+use Rattle.std.specs.Prelude.{◌≡◌, ℕ, ◌≤◌, Bool, true, false, not, ◌&&◌, if◌then◌else◌, Option, Some, None, ◌==◌, List, [], ◌∷◌, ◌++◌, length, drop, ◌⊎◌, Result, Ok, Err}
+use Rattle.std.specs.Io.KnownBytes.{Appends, Consumes, Keeps, IsAtEnd}
 use Rattle.wire.specs.declared.Wish.{Wish}
 use Rattle.wire.specs.Framing.{Item, at_client}
 use Rattle.wire.specs.Reader.{outputs, state}
@@ -51,6 +51,14 @@ pub record FeedsPiece (r : Rest) (piece : List ℕ) (before after : List Note) (
   pub told : after ≡ before ++ (hears_all r fed).notes
   pub now : Now (after_all r fed)
   pub ends : whole ≡ true → (unheard ≡ []) ⊎ ((hears_all r fed).knows.over ≡ true)
+
+-- A piece was read, and fed whole or up to the client's end; or the input has ended; or a fault came.
+abbrev pub HearsPiece : Rest → Option (List ℕ) → Option (List ℕ) → List Note → List Note → (Rest → Type 0) → Result Bool StreamFault → Type 0
+HearsPiece r left left_now before after Now (Ok true) = (piece : List ℕ) × Consumes left left_now piece × (length piece ≤ 4096) × FeedsPiece r piece before after true Now
+HearsPiece r left left_now before after Now (Ok false) = Consumes left left_now [] × IsAtEnd left_now × (after ≡ before) × Now r
+HearsPiece r left left_now before after Now (Err stream_fault.ReadFailed) = Keeps left left_now × (after ≡ before) × Now r
+HearsPiece r left left_now before after Now (Err stream_fault.WriteFailed) = ⊥
+HearsPiece r left left_now before after Now (Err stream_fault.Memory) = (piece : List ℕ) × Consumes left left_now piece × (length piece ≤ 4096) × FeedsPiece r piece before after false Now
 
 -- a client that refuses bytes has ended, unless it wanted memory
 abbrev pub has_ended : ClientFault → Bool

@@ -22,3 +22,7 @@ module _ {G : Type 0} (r : Rest G) (conn : ℕ) (t : Talk) (Now : Rest G → Typ
   abbrev pub Serves : Result Cause StreamFault → Type 0
   Serves (Ok cause) = (cause ≡ cause_or t.kept.ended) × Now (without_talk r conn t.ledger) × Appends old new t.out
   Serves (Err fault) = (ledger : List EntryView) × (more : List EntryView) × Now (without_talk r conn ledger) × (ledger ++ more ≡ t.ledger) × AppendsFront old new t.out
+
+-- The session is given up: the others are as before, so is the next number, and the ledger has grown by some entries, or by none.
+abbrev pub LeavesOthers : {G : Type 0} → Rest G → ℕ → (Rest G → Type 0) → Type 0
+LeavesOthers r conn Now = (more : List EntryView) × Now (without_talk r conn (r.ledger ++ more))

@@ -64,6 +64,10 @@ module _ {G : Type 0} (r : Rest G) (conn : ℕ) where
   Breaks t Now old new =
       (u : Opened) × (k : Kept) × (ledger : List EntryView) × (more : List EntryView) × Now (with_talk r conn u ledger k) × (ledger ++ more ≡ t.ledger) × AppendsFront old new t.out
 
+  -- The session stands somehow, the others as before, and the ledger has grown by some entries, or by none.
+  abbrev pub Grows : (Rest G → Type 0) → Type 0
+  Grows Now = (u : Opened) × (k : Kept) × (more : List EntryView) × Now (with_talk r conn u (r.ledger ++ more) k)
+
   -- all of it went well, or a fault came
   abbrev pub Settles : Opened → Talk → (Rest G → Type 0) → Option (List ℕ) → Option (List ℕ) → Result Standing StreamFault → Type 0
   Settles u t Now old new (Ok standing) = Now (with_talk r conn u t.ledger t.kept) × Appends old new t.out × (standing ≡ standing_of t.kept.ended)
@@ -112,3 +116,7 @@ module _ {G : Type 0} (r : Rest G) (conn : ℕ) where
     TakesPiece Now before new up piece (Ok Over) =
         (front : List ℕ) × (rest : List ℕ) × (front ++ rest ≡ piece) × Stands Now before new (up ++ front) × IsSome (told_by (up ++ front)).kept.ended
     TakesPiece Now before new up piece (Err fault) = Breaks (told_by (up ++ piece)) Now before new
+
+-- From any rest in which it lived, the session lives on: the others are as before, and the ledger has at most grown.
+abbrev pub LivesOn : {G : Type 0} → ℕ → (Rest G → Type 0) → (Rest G → Type 0) → Type 0
+LivesOn {G = G} conn Old Now = (r : Rest G) → Old r → IsSome (find conn r.sessions) → Grows r conn Now

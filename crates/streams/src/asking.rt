@@ -1,11 +1,11 @@
 //! A client asks its server for all that it waits for.
-ghost use Rattle.std.specs.Prelude.{◌≡◌, ◌<◌, ◌++◌, true, map, Some, [], IsErrOf, IfErr, is_ok};
+ghost use Rattle.std.specs.Prelude.{◌≡◌, ◌<◌, ◌++◌, true, map, Some, [], IsErrOf, IfOk, IfErr, is_ok};
 ghost use Rattle.std.specs.Result.{result_err};
 ghost use Rattle.std.specs.Vec.{vec_len, vec_capacity};
 ghost use Rattle.client.specs.Rest.{Rest};
 ghost use Rattle.client.specs.Notes.{note};
 ghost use Rattle.client.specs.Fits.{Fits};
-ghost use Rattle.streams.specs.Asking.{told_by, has_ended, FeedsPiece, ReadsAll, PutsOut, Asks, GivesUp};
+ghost use Rattle.streams.specs.Asking.{told_by, has_ended, FeedsPiece, HearsPiece, ReadsAll, PutsOut, Asks, GivesUp};
 
 use crate::fault::StreamFault;
 use crate::traits::{Sink, Source};
@@ -49,8 +49,12 @@ fn end_of(fault: ClientFault) -> Result<(), StreamFault>
     }
 }
 
-/// Feeds a piece whole, or up to the client's end. I3 where memory runs out: then some of it was fed.
-fn feed_piece(client: &mut Client, piece: &[u8], heard: &mut Vec<Heard>) -> Result<(), StreamFault>
+/// Feeds a piece whole, or up to the client's end, and adds what was told. I3 where memory runs out: then some of it was fed.
+pub fn feed_piece(
+    client: &mut Client,
+    piece: &[u8],
+    heard: &mut Vec<Heard>,
+) -> Result<(), StreamFault>
     ensures feeds { (r : Rest) → Fits client.old r → FeedsPiece r piece.now (map note heard.old.items) (map note heard.new.items) (is_ok result) (Fits client.new) }
     ensures fault { IfErr result (λ e. e ≡ StreamFault.Memory) }
 {
@@ -71,6 +75,31 @@ fn feed_piece(client: &mut Client, piece: &[u8], heard: &mut Vec<Heard>) -> Resu
     Ok(())
 }
 
+/// Reads a piece of at most 4,096 bytes and feeds it whole, or up to the client's end, and adds what was told. It answers whether there
+/// was a piece: none is the end of the input. I1 only where the source has failed; I3 where memory runs out: then some of it was fed.
+pub fn hear_piece<I: Source>(
+    client: &mut Client,
+    source: &mut I,
+    heard: &mut Vec<Heard>,
+) -> Result<bool, StreamFault>
+    ensures hears { (r : Rest) → Fits client.old r → HearsPiece r (I.left source.old) (I.left source.new) (map note heard.old.items) (map note heard.new.items) (Fits client.new) result }
+    ensures read { IsErrOf result StreamFault.ReadFailed → I.has_failed source.new ≡ true }
+    ensures fault { IfErr result (λ e. e ≡ StreamFault.WriteFailed → ⊥) }
+    ensures lowers { IfOk result (λ some. some ≡ true → I.reads source.new < I.reads source.old) }
+{
+    let mut buffer = [0; PIECE];
+    let Ok(len) = source.read(&mut buffer) else {
+        return Err(StreamFault::ReadFailed);
+    };
+    if len == 0 {
+        return Ok(false);
+    }
+    match feed_piece(client, &buffer[..len], heard) {
+        Ok(()) => Ok(true),
+        Err(fault) => Err(fault),
+    }
+}
+
 /// Reads and feeds as long as an answer is still to come, to the end of the input. I1 or I3.
 fn read_on<I: Source>(
     client: &mut Client,
@@ -81,21 +110,18 @@ fn read_on<I: Source>(
     ensures read { IsErrOf result StreamFault.ReadFailed → I.has_failed source.new ≡ true }
     ensures fault { IfErr result (λ e. e ≡ StreamFault.WriteFailed → ⊥) }
 {
-    let mut buffer = [0; PIECE];
     while client.awaits() {
-        let Ok(len) = source.read(&mut buffer) else {
-            return Err(StreamFault::ReadFailed);
-        };
-        if len == 0 {
-            return Ok(());
+        match hear_piece(client, source, heard) {
+            Ok(true) => {}
+            Ok(false) => return Ok(()),
+            Err(fault) => return Err(fault),
         }
-        feed_piece(client, &buffer[..len], heard)?;
     }
     Ok(())
 }
 
 /// Writes all that the client puts out. I2, with a beginning of it written, or I3.
-fn write_out<O: Sink>(client: &mut Client, sink: &mut O) -> Result<(), StreamFault>
+pub fn write_out<O: Sink>(client: &mut Client, sink: &mut O) -> Result<(), StreamFault>
     ensures out { (r : Rest) → Fits client.old r → PutsOut r (O.taken sink.old) (O.taken sink.new) (Fits client.new) (result_err result) }
     ensures written { IsErrOf result StreamFault.WriteFailed → O.has_failed sink.new ≡ true }
     ensures fault { IfErr result (λ e. e ≡ StreamFault.ReadFailed → ⊥) }
@@ -110,7 +136,7 @@ fn write_out<O: Sink>(client: &mut Client, sink: &mut O) -> Result<(), StreamFau
 }
 
 /// Unless all was answered, the client is lost. It takes no memory.
-fn give_up(client: &mut Client) -> Losses
+pub fn give_up(client: &mut Client) -> Losses
     ensures { (r : Rest) → Fits client.old r → GivesUp (Fits client.new) result r }
 {
     if client.awaits() {

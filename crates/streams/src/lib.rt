@@ -12,16 +12,12 @@ mod taking;
 mod traits;
 mod writing;
 
-pub use asking::{Told, ask_all};
+pub use asking::{Told, ask_all, feed_piece, give_up, hear_piece, write_out};
 pub use fault::{Standing, StreamFault};
 pub use memory::{Buffer, Slice};
 pub use over::Over;
 pub use responding::{End, Responded, respond};
 pub use serving::{converse, serve_one};
+pub use taking::take_piece;
 pub use traits::{Failed, Sink, Source};
 pub use writing::write_all;
-
-#[cfg(test)]
-mod asking_tests;
-#[cfg(test)]
-mod serving_tests;

@@ -1,12 +1,12 @@
 //! A whole conversation of a session with its client, over streams.
-ghost use Rattle.std.specs.Prelude.{◌≡◌, ◌<◌, ℕ, List, Some, length, IfOk, OnErr, IfErr};
+ghost use Rattle.std.specs.Prelude.{◌≡◌, ◌<◌, ℕ, List, Some, IsSome, length, IfOk, OnErr, IfErr};
 ghost use Rattle.std.specs.Io.KnownBytes.{Appends};
 ghost use Rattle.server.specs.Rest.{cause_or};
 ghost use Rattle.server.specs.Serving.{Rest, find, fresh, setting};
 ghost use Rattle.server.specs.Views.{Fits};
 ghost use Rattle.streams.specs.Conversing.{conversation};
-ghost use Rattle.streams.specs.Settling.{IsDueTo, IsLive};
-ghost use Rattle.streams.specs.Serving.{Converses, Serves};
+ghost use Rattle.streams.specs.Settling.{IsDueTo, IsLive, LivesOn};
+ghost use Rattle.streams.specs.Serving.{Converses, LeavesOthers, Serves};
 
 use crate::fault::{Standing, StreamFault};
 use crate::taking::take_piece;
@@ -33,6 +33,8 @@ pub fn serve_one<E: Engine, G: Gate, I: Source, O: Sink>(
     // cause is that of its end; at a fault the sink took a beginning, and the ledger is one. The session lives no more.
     ensures serves { (r : Rest G) (bytes : List ℕ) → Fits E.entries server.old r → find conn r.sessions ≡ Some (fresh conn) → I.left source.old ≡ Some bytes
         → Serves r conn (conversation (setting E.answer G.accepts r) conn r.ledger bytes) (Fits E.entries server.new) (O.taken sink.old) (O.taken sink.new) result }
+    // Of any session that lived, known bytes or not: it lives no more, the others are as before, and the ledger has at most grown.
+    ensures leaves { (r : Rest G) → Fits E.entries server.old r → IsSome (find conn r.sessions) → LeavesOthers r conn (Fits E.entries server.new) }
     // A stream is told to have failed only where it has.
     ensures failed { IfErr result (λ e. IsDueTo e (I.has_failed source.new) (O.has_failed sink.new)) }
 {
@@ -54,6 +56,7 @@ pub fn converse<E: Engine, G: Gate, I: Source, O: Sink>(
 ) -> Result<(), StreamFault>
     requires { IsLive E.entries conn server.old }
     ensures live { IsLive E.entries conn server.new }
+    ensures grows { LivesOn conn (Fits E.entries server.old) (Fits E.entries server.new) }
     ensures converses { (r : Rest G) (bytes : List ℕ) → Fits E.entries server.old r → find conn r.sessions ≡ Some (fresh conn) → I.left source.old ≡ Some bytes
         → Converses r conn (conversation (setting E.answer G.accepts r) conn r.ledger bytes) (Fits E.entries server.new) (O.taken sink.old) (O.taken sink.new) result }
     ensures failed { IfErr result (λ e. IsDueTo e (I.has_failed source.new) (O.has_failed sink.new)) }
@@ -75,6 +78,7 @@ fn converse_by<E: Engine, G: Gate, I: Source, O: Sink>(
     requires live { IsLive E.entries conn server.old }
     requires room { 0 < length buffer.old }
     ensures live { IsLive E.entries conn server.new }
+    ensures grows { LivesOn conn (Fits E.entries server.old) (Fits E.entries server.new) }
     ensures converses { (r : Rest G) (bytes : List ℕ) → Fits E.entries server.old r → find conn r.sessions ≡ Some (fresh conn) → I.left source.old ≡ Some bytes
         → Converses r conn (conversation (setting E.answer G.accepts r) conn r.ledger bytes) (Fits E.entries server.new) (O.taken sink.old) (O.taken sink.new) result }
     ensures failed { IfErr result (λ e. IsDueTo e (I.has_failed source.new) (O.has_failed sink.new)) }

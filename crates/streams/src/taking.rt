@@ -6,7 +6,7 @@ ghost use Rattle.server.specs.Rest.{Kept, shut};
 ghost use Rattle.server.specs.Serving.{Rest, find, setting};
 ghost use Rattle.server.specs.Views.{Fits};
 ghost use Rattle.streams.specs.Conversing.{with_talk};
-ghost use Rattle.streams.specs.Settling.{IsDueTo, IsLive, Feeds, Stands, TakesOne, TakesPiece, told_by};
+ghost use Rattle.streams.specs.Settling.{IsDueTo, IsLive, LivesOn, Feeds, Stands, TakesOne, TakesPiece, told_by};
 
 use crate::fault::{Standing, StreamFault};
 use crate::settling::settle;
@@ -22,7 +22,7 @@ struct Taken {
 }
 
 /// Takes a piece, item by item, up to the end of the session, and puts out what each item makes due.
-pub(crate) fn take_piece<E: Engine, G: Gate, O: Sink>(
+pub fn take_piece<E: Engine, G: Gate, O: Sink>(
     server: &mut Server<E, G>,
     conn: u64,
     piece: &[u8],
@@ -30,6 +30,7 @@ pub(crate) fn take_piece<E: Engine, G: Gate, O: Sink>(
 ) -> Result<Standing, StreamFault>
     requires { IsLive E.entries conn server.old }
     ensures live { IsLive E.entries conn server.new }
+    ensures grows { LivesOn conn (Fits E.entries server.old) (Fits E.entries server.new) }
     ensures takes { (r : Rest G) (before : Option (List ℕ)) (up : List ℕ) → IsSome (find conn r.sessions) → (told_by r conn (setting E.answer G.accepts r) up).kept.ended ≡ None
         → Stands r conn (setting E.answer G.accepts r) (Fits E.entries server.old) before (O.taken sink.old) up → TakesPiece r conn (setting E.answer G.accepts r) (Fits E.entries server.new) before (O.taken sink.new) up piece.now result }
     ensures failed { IfErr result (λ e. IsDueTo e false (O.has_failed sink.new)) }
@@ -59,6 +60,7 @@ fn take_one<E: Engine, G: Gate, O: Sink>(
 ) -> Result<Taken, StreamFault>
     requires { IsLive E.entries conn server.old }
     ensures live { IsLive E.entries conn server.new }
+    ensures grows { LivesOn conn (Fits E.entries server.old) (Fits E.entries server.new) }
     ensures bound { IfOk result (λ taken. (0 < taken.used) × (taken.used ≤ length piece.now)) }
     ensures takes { (r : Rest G) (before : Option (List ℕ)) (up : List ℕ) → IsSome (find conn r.sessions) → (told_by r conn (setting E.answer G.accepts r) up).kept.ended ≡ None
         → Stands r conn (setting E.answer G.accepts r) (Fits E.entries server.old) before (O.taken sink.old) up → TakesOne r conn (setting E.answer G.accepts r) (Fits E.entries server.new) before (O.taken sink.new) up piece.now result }
@@ -82,6 +84,7 @@ fn feed_one<E: Engine, G: Gate>(
 ) -> Result<usize, StreamFault>
     requires { IsLive E.entries conn server.old }
     ensures live { IsLive E.entries conn server.new }
+    ensures grows { LivesOn conn (Fits E.entries server.old) (Fits E.entries server.new) }
     ensures bound { IfOk result (λ used. (0 < used) × (used ≤ length piece.now)) }
     ensures feeds { (r : Rest G) (u : Opened) (ledger : List EntryView) (k : Kept) → IsSome (find conn r.sessions) → shut k ≡ false → Fits E.entries server.old (with_talk r conn u ledger k)
         → Feeds r conn u ledger k piece.now (Fits E.entries server.new) result }

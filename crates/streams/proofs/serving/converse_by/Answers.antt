@@ -6,11 +6,13 @@ use Rattle.server.specs.Views.{Fits}
 use Rattle.streams.specs.Settling.{TakesPiece}
 use Rattle.streams.specs.declared.fault.Standing.{Standing}
 use Rattle.streams.proofs.Conversings.{reads_begun, reads_whole, reads_none, reads_more, reads_over, reads_broken}
+use Rattle.streams.proofs.Growing.{lives_same, lives_then}
 use Rattle.streams.proofs.serving.converse_by.Goals as goal
 
 pub loop-count-init : goal.loop-count-init
 loop-count-init g c = record {
   live = c.requires.live;
+  grows = lives_same c.args.conn (Fits g.E.Engine.entries c.args.server.now);
   reads = λ r bytes f e l. reads_begun r c.args.conn (setting g.E.Engine.answer g.G.Gate.accepts r) (g.O.Sink.taken c.args.sink.now) bytes (Fits g.E.Engine.entries c.args.server.now) (g.I.Source.left c.args.source.now) f e l;
 }
 
@@ -28,6 +30,7 @@ returns-then-count-eq0-clause-converses g c = λ r bytes f e l.
 pub loop-count-preserved : goal.loop-count-preserved
 loop-count-preserved g c = record {
   live = c.take_piece.ensures.live;
+  grows = lives_then c.args.conn (Fits g.E.Engine.entries c.args.server.now) (Fits g.E.Engine.entries c.loop-count.server) (Fits g.E.Engine.entries c.take_piece.new.server) c.loop-count.invariant.grows c.take_piece.ensures.grows;
   reads = λ r bytes f e l.
       let S = setting g.E.Engine.answer g.G.Gate.accepts r in
       let before = g.O.Sink.taken c.args.sink.now in
@@ -58,3 +61,15 @@ returns-in-Err-clause-converses g c = λ r bytes f e l.
     let h = c.in-Err.ensures.takes r before p.0 (subst IsSome (sym e) refl) p.4 p.5 in
     reads_broken r c.args.conn S before bytes (Fits g.E.Engine.entries c.loop-count.server) (g.O.Sink.taken c.loop-count.sink) (g.I.Source.left c.loop-count.source) p (g.I.Source.left c.read.new.self) (take c.in-Ok.count c.read.new.buffer) c.in-Ok.ensures.bytes.0
     (Fits g.E.Engine.entries c.take_piece.new.server) (g.O.Sink.taken c.take_piece.new.sink) c.in-Err.fault h
+
+pub returns-in_default-clause-grows : goal.returns-in_default-clause-grows
+returns-in_default-clause-grows g c = c.loop-count.invariant.grows
+
+pub returns-then-count-eq0-clause-grows : goal.returns-then-count-eq0-clause-grows
+returns-then-count-eq0-clause-grows g c = c.loop-count.invariant.grows
+
+pub returns-in-Ok-Over-clause-grows : goal.returns-in-Ok-Over-clause-grows
+returns-in-Ok-Over-clause-grows g c = lives_then c.args.conn (Fits g.E.Engine.entries c.args.server.now) (Fits g.E.Engine.entries c.loop-count.server) (Fits g.E.Engine.entries c.take_piece.new.server) c.loop-count.invariant.grows c.take_piece.ensures.grows
+
+pub returns-in-Err-clause-grows : goal.returns-in-Err-clause-grows
+returns-in-Err-clause-grows g c = lives_then c.args.conn (Fits g.E.Engine.entries c.args.server.now) (Fits g.E.Engine.entries c.loop-count.server) (Fits g.E.Engine.entries c.take_piece.new.server) c.loop-count.invariant.grows c.take_piece.ensures.grows

@@ -3,6 +3,7 @@ use Rattle.std.specs.Io.KnownBytes.{Appends}
 use Rattle.server.specs.Views.{Fits}
 use Rattle.streams.specs.Conversing.{with_talk, heard_out}
 use Rattle.streams.proofs.Putting.{out_lives, out_whole}
+use Rattle.streams.proofs.Growing.{lives_out}
 use Rattle.streams.proofs.settling.put_out.Goals as goal
 
 -- as many as there may be
@@ -30,3 +31,12 @@ returns-clause-puts g c = λ r u ledger k i f.
     let few : length c.in-Ok.bytes < most = subst (λ (b : List ℕ). length b < most) c.as_slice.ensures (omega (arith, c.as_slice.type_inv.1)) in
     let p = out_whole most c.args.conn r i u ledger k (Fits g.E.Engine.entries c.take_out.new.self) c.in-Ok.bytes few (c.in-Ok.ensures (with_talk r c.args.conn u ledger k) f) in
     (p.1, subst (Appends (g.O.Sink.taken c.args.sink.now) (g.O.Sink.taken c.write_all.new.sink)) (c.as_slice.ensures ∙ p.0) c.in-Ok-write_all.ensures.ok)
+
+pub returns-in_default-clause-grows : goal.returns-in_default-clause-grows
+returns-in_default-clause-grows g c = lives_out c.args.conn most (Fits g.E.Engine.entries c.args.server.now) (Fits g.E.Engine.entries c.take_out.new.self) c.take_out.result c.take_out.ensures
+
+pub returns-in_default-write_all-clause-grows : goal.returns-in_default-write_all-clause-grows
+returns-in_default-write_all-clause-grows g c = lives_out c.args.conn most (Fits g.E.Engine.entries c.args.server.now) (Fits g.E.Engine.entries c.take_out.new.self) c.take_out.result c.take_out.ensures
+
+pub returns-clause-grows : goal.returns-clause-grows
+returns-clause-grows g c = lives_out c.args.conn most (Fits g.E.Engine.entries c.args.server.now) (Fits g.E.Engine.entries c.take_out.new.self) c.take_out.result c.take_out.ensures

@@ -5,6 +5,7 @@ use Rattle.streams.specs.Conversing.{settled}
 use Rattle.streams.specs.Settling.{Steps}
 use Rattle.streams.specs.declared.fault.Standing.{Standing}
 use Rattle.streams.proofs.Going.{goes_first, goes_not, goes_further, goes_whole, goes_wrong, goes_no_further}
+use Rattle.streams.proofs.Growing.{lives_then}
 use Rattle.streams.proofs.settling.settle.Goals as goal
 
 pub returns-in-Err-clause-settles : goal.returns-in-Err-clause-settles
@@ -14,6 +15,7 @@ returns-in-Err-clause-settles g c = λ r u ledger k i p f.
 pub loop-init : goal.loop-init
 loop-init g c = record {
   live = c.put_out.ensures.live;
+  grows = c.put_out.ensures.grows;
   goes = λ r u ledger k i p f. goes_first r c.args.conn u (setting g.E.Engine.answer g.G.Gate.accepts r) ledger k (Fits g.E.Engine.entries c.put_out.new.server) (g.O.Sink.taken c.args.sink.now) (g.O.Sink.taken c.put_out.new.sink) p (c.in-Ok.ensures.puts r u ledger k i f);
 }
 
@@ -41,6 +43,7 @@ returns-in-Err-work_once-clause-settles g c = λ r u ledger k i p f.
 pub loop-preserved : goal.loop-preserved
 loop-preserved g c = record {
   live = c.work_once.ensures.live;
+  grows = lives_then c.args.conn (Fits g.E.Engine.entries c.args.server.now) (Fits g.E.Engine.entries c.loop.server) (Fits g.E.Engine.entries c.work_once.new.server) c.loop.invariant.grows c.work_once.ensures.grows;
   goes = λ r u ledger k i p f.
       let S = setting g.E.Engine.answer g.G.Gate.accepts r in
       let Then = Fits g.E.Engine.entries c.work_once.new.server in
@@ -58,3 +61,12 @@ pub returns-clause-settles : goal.returns-clause-settles
 returns-clause-settles g c = λ r u ledger k i p f.
     goes_no_further r c.args.conn u (setting g.E.Engine.answer g.G.Gate.accepts r) (settled (setting g.E.Engine.answer g.G.Gate.accepts r) c.args.conn ledger k) (g.O.Sink.taken c.args.sink.now)
     (Fits g.E.Engine.entries c.loop.server) (Fits g.E.Engine.entries c.loop.server) (g.O.Sink.taken c.loop.sink) (g.O.Sink.taken c.loop.sink) (c.loop.invariant.goes r u ledger k i p f)
+
+pub returns-in-Ok-Some-clause-grows : goal.returns-in-Ok-Some-clause-grows
+returns-in-Ok-Some-clause-grows g c = lives_then c.args.conn (Fits g.E.Engine.entries c.args.server.now) (Fits g.E.Engine.entries c.loop.server) (Fits g.E.Engine.entries c.work_once.new.server) c.loop.invariant.grows c.work_once.ensures.grows
+
+pub returns-in-Err-work_once-clause-grows : goal.returns-in-Err-work_once-clause-grows
+returns-in-Err-work_once-clause-grows g c = lives_then c.args.conn (Fits g.E.Engine.entries c.args.server.now) (Fits g.E.Engine.entries c.loop.server) (Fits g.E.Engine.entries c.work_once.new.server) c.loop.invariant.grows c.work_once.ensures.grows
+
+pub returns-clause-grows : goal.returns-clause-grows
+returns-clause-grows g c = c.loop.invariant.grows

@@ -4,6 +4,7 @@ use Rattle.server.specs.Views.{Fits}
 use Rattle.streams.specs.Settling.{WorkStep}
 use Rattle.streams.specs.declared.fault.Standing.{Standing}
 use Rattle.streams.proofs.Working.{steps_refused, steps_done, steps_out, steps_broken}
+use Rattle.streams.proofs.Growing.{lives_then}
 use Rattle.streams.proofs.settling.work_once.Goals as goal
 
 pub returns-in-Ok-Some-clause-steps : goal.returns-in-Ok-Some-clause-steps
@@ -30,3 +31,9 @@ returns-in-Err-put_out-clause-steps g c = λ r u ledger k n i s p l f.
     let Now = Fits g.E.Engine.entries c.work_step.new.server in
     let h = subst (λ (x : Option Standing). WorkStep r c.args.conn u ledger k S n Now (Ok x)) c.in-Ok-None.field-0-is (c.in-Ok-None.ensures.works r u ledger k n i s p l f) in
     steps_broken r c.args.conn u S n ledger k Now (Fits g.E.Engine.entries c.put_out.new.server) (g.O.Sink.taken c.args.sink.now) (g.O.Sink.taken c.put_out.new.sink) h c.in-Err-put_out.fault (c.in-Err-put_out.ensures.puts r u h.1 h.2 i h.7)
+
+pub returns-in-Ok-clause-grows : goal.returns-in-Ok-clause-grows
+returns-in-Ok-clause-grows g c = lives_then c.args.conn (Fits g.E.Engine.entries c.args.server.now) (Fits g.E.Engine.entries c.work_step.new.server) (Fits g.E.Engine.entries c.put_out.new.server) c.work_step.ensures.grows c.put_out.ensures.grows
+
+pub returns-in-Err-put_out-clause-grows : goal.returns-in-Err-put_out-clause-grows
+returns-in-Err-put_out-clause-grows g c = lives_then c.args.conn (Fits g.E.Engine.entries c.args.server.now) (Fits g.E.Engine.entries c.work_step.new.server) (Fits g.E.Engine.entries c.put_out.new.server) c.work_step.ensures.grows c.put_out.ensures.grows

@@ -6,6 +6,7 @@ use Rattle.streams.specs.Settling.{WorkStep}
 use Rattle.streams.specs.declared.fault.Standing.{Standing}
 use Rattle.streams.proofs.Called.{work_lives, stepped_talk}
 use Rattle.streams.proofs.Working.{worked_step}
+use Rattle.streams.proofs.Growing.{lives_worked}
 use Rattle.streams.proofs.settling.work_step.Goals as goal
 
 pub returns-in_default-clause-live : goal.returns-in_default-clause-live
@@ -23,3 +24,9 @@ returns-clause-works g c = λ r u ledger k n i s p l f.
     let h = stepped_talk r c.args.conn i u ledger k g.E.Engine.answer g.G.Gate.accepts (Ok c.in-Ok.worked) (Fits g.E.Engine.entries c.work.new.self) (c.in-Ok.ensures.answers (with_talk r c.args.conn u ledger k) f) in
     subst (λ (x : Option Standing). WorkStep r c.args.conn u ledger k (setting g.E.Engine.answer g.G.Gate.accepts r) n (Fits g.E.Engine.entries c.work.new.self) (Ok x)) (sym c.standing_after.ensures)
     (worked_step r c.args.conn u (setting g.E.Engine.answer g.G.Gate.accepts r) (Fits g.E.Engine.entries c.work.new.self) n ledger k c.in-Ok.worked s p l h.0 h.1)
+
+pub returns-in_default-clause-grows : goal.returns-in_default-clause-grows
+returns-in_default-clause-grows g c = lives_worked c.args.conn g.E.Engine.answer g.G.Gate.accepts (Fits g.E.Engine.entries c.args.server.now) (Fits g.E.Engine.entries c.work.new.self) c.work.result c.work.ensures.answers
+
+pub returns-clause-grows : goal.returns-clause-grows
+returns-clause-grows g c = lives_worked c.args.conn g.E.Engine.answer g.G.Gate.accepts (Fits g.E.Engine.entries c.args.server.now) (Fits g.E.Engine.entries c.work.new.self) c.work.result c.work.ensures.answers

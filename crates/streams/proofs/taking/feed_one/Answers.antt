@@ -2,6 +2,7 @@ use Rattle.std.proofs.Common.{◌<◌, arith}
 use Rattle.server.specs.Views.{Fits}
 use Rattle.streams.specs.Conversing.{with_talk}
 use Rattle.streams.proofs.Feeding.{feed_lives, feed_within, feed_somehow, feed_takes, feed_refused}
+use Rattle.streams.proofs.Growing.{lives_fed}
 use Rattle.streams.proofs.taking.feed_one.Goals as goal
 
 pub returns-in_default-clause-live : goal.returns-in_default-clause-live
@@ -31,3 +32,12 @@ returns-clause-feeds g c = λ r u ledger k i s f.
     let some = c.if-took-eq0.false in
     let l : 0 < c.in-Ok.took.used = omega arith in
     feed_takes r c.args.conn i u ledger k c.args.piece.now c.in-Ok.took (Fits g.E.Engine.entries c.feed.new.self) s l (c.in-Ok.ensures.answers (with_talk r c.args.conn u ledger k) f)
+
+pub returns-in_default-clause-grows : goal.returns-in_default-clause-grows
+returns-in_default-clause-grows g c = lives_fed c.args.conn c.args.piece.now (Fits g.E.Engine.entries c.args.server.now) (Fits g.E.Engine.entries c.feed.new.self) c.feed.result c.feed.ensures.answers
+
+pub returns-then-took-eq0-clause-grows : goal.returns-then-took-eq0-clause-grows
+returns-then-took-eq0-clause-grows g c = lives_fed c.args.conn c.args.piece.now (Fits g.E.Engine.entries c.args.server.now) (Fits g.E.Engine.entries c.feed.new.self) c.feed.result c.feed.ensures.answers
+
+pub returns-clause-grows : goal.returns-clause-grows
+returns-clause-grows g c = lives_fed c.args.conn c.args.piece.now (Fits g.E.Engine.entries c.args.server.now) (Fits g.E.Engine.entries c.feed.new.self) c.feed.result c.feed.ensures.answers

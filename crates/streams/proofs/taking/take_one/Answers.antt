@@ -5,6 +5,7 @@ use Rattle.wire.specs.Reader.{state, takes}
 use Rattle.wire.specs.Framing.{at_server}
 use Rattle.streams.specs.Settling.{told_by}
 use Rattle.streams.proofs.Talks.{open_not_shut, next_placed, none_taken, one_taken, one_broken}
+use Rattle.streams.proofs.Growing.{lives_then}
 use Rattle.streams.proofs.taking.take_one.Goals as goal
 
 pub returns-in-Err-clause-takes : goal.returns-in-Err-clause-takes
@@ -31,3 +32,9 @@ returns-in-Err-settle-clause-takes g c = λ r before up i e s.
     let f = c.in-Ok.ensures.feeds r (state at_server at_server.start up) t.ledger t.kept i (open_not_shut r c.args.conn S up e) s.0 in
     one_broken r c.args.conn S up c.args.piece.now e (Fits g.E.Engine.entries c.settle.new.server) before (g.O.Sink.taken c.args.sink.now) (g.O.Sink.taken c.settle.new.sink) s.1 c.in-Err-settle.fault
     (c.in-Err-settle.ensures.settles r u.rest t.ledger (fed t.kept (arrival t.kept u.item)) i (next_placed r c.args.conn S up c.args.piece.now e) f.1)
+
+pub returns-in-Ok-settle-clause-grows : goal.returns-in-Ok-settle-clause-grows
+returns-in-Ok-settle-clause-grows g c = lives_then c.args.conn (Fits g.E.Engine.entries c.args.server.now) (Fits g.E.Engine.entries c.feed_one.new.server) (Fits g.E.Engine.entries c.settle.new.server) c.feed_one.ensures.grows c.settle.ensures.grows
+
+pub returns-in-Err-settle-clause-grows : goal.returns-in-Err-settle-clause-grows
+returns-in-Err-settle-clause-grows g c = lives_then c.args.conn (Fits g.E.Engine.entries c.args.server.now) (Fits g.E.Engine.entries c.feed_one.new.server) (Fits g.E.Engine.entries c.settle.new.server) c.feed_one.ensures.grows c.settle.ensures.grows

@@ -3,11 +3,13 @@ use Rattle.server.specs.Serving.{setting}
 use Rattle.server.specs.Views.{Fits}
 use Rattle.streams.proofs.Parts.{empty_nil}
 use Rattle.streams.proofs.Pieces.{partly_begun, partly_more, partly_over, partly_broken, partly_whole}
+use Rattle.streams.proofs.Growing.{lives_same, lives_then}
 use Rattle.streams.proofs.taking.take_piece.Goals as goal
 
 pub loop-rest-init : goal.loop-rest-init
 loop-rest-init g c = record {
   live = c.requires;
+  grows = lives_same c.args.conn (Fits g.E.Engine.entries c.args.server.now);
   takes = λ r before up i e s. partly_begun r c.args.conn (setting g.E.Engine.answer g.G.Gate.accepts r) before up c.args.piece.now (Fits g.E.Engine.entries c.args.server.now) (g.O.Sink.taken c.args.sink.now) e s;
 }
 
@@ -29,6 +31,7 @@ returns-in-Over-clause-takes g c = λ r before up i e s.
 pub loop-rest-preserved : goal.loop-rest-preserved
 loop-rest-preserved g c = record {
   live = c.take_one.ensures.live;
+  grows = lives_then c.args.conn (Fits g.E.Engine.entries c.args.server.now) (Fits g.E.Engine.entries c.loop-rest.server) (Fits g.E.Engine.entries c.take_one.new.server) c.loop-rest.invariant.grows c.take_one.ensures.grows;
   takes = λ r before up i e s.
       let p = c.loop-rest.invariant.takes r before up i e s in
       partly_more r c.args.conn (setting g.E.Engine.answer g.G.Gate.accepts r) before up c.args.piece.now (Fits g.E.Engine.entries c.loop-rest.server) (g.O.Sink.taken c.loop-rest.sink) (g.O.Sink.taken c.take_one.new.sink) c.loop-rest.rest.now p
@@ -42,3 +45,12 @@ pub returns-clause-takes : goal.returns-clause-takes
 returns-clause-takes g c = λ r before up i e s.
     let none = empty_nil c.loop-rest.rest.now c.is_empty.result c.is_empty.ensures c.loop-rest-test.false in
     partly_whole r c.args.conn (setting g.E.Engine.answer g.G.Gate.accepts r) before up c.args.piece.now (Fits g.E.Engine.entries c.loop-rest.server) (g.O.Sink.taken c.loop-rest.sink) c.loop-rest.rest.now none (c.loop-rest.invariant.takes r before up i e s)
+
+pub returns-in-Err-clause-grows : goal.returns-in-Err-clause-grows
+returns-in-Err-clause-grows g c = lives_then c.args.conn (Fits g.E.Engine.entries c.args.server.now) (Fits g.E.Engine.entries c.loop-rest.server) (Fits g.E.Engine.entries c.take_one.new.server) c.loop-rest.invariant.grows c.take_one.ensures.grows
+
+pub returns-in-Over-clause-grows : goal.returns-in-Over-clause-grows
+returns-in-Over-clause-grows g c = lives_then c.args.conn (Fits g.E.Engine.entries c.args.server.now) (Fits g.E.Engine.entries c.loop-rest.server) (Fits g.E.Engine.entries c.take_one.new.server) c.loop-rest.invariant.grows c.take_one.ensures.grows
+
+pub returns-clause-grows : goal.returns-clause-grows
+returns-clause-grows g c = c.loop-rest.invariant.grows
