@@ -21,7 +21,7 @@ pub enum Checked {
     /// No value, for this reason at this offset; or a cell that takes more than 65,536 bytes, at 0.
     Refused(Reason, usize),
     /// No cell of the version, for this reason at the structure of this number in preorder, from 0.
-    Unfit(CellReason, u64),
+    Unfit(CellReason, usize),
 }
 
 /// Reads the bytes that the text spells in hex as one value and as a cell of the version, and spells the cell again.

@@ -195,13 +195,13 @@ fn say_checked(alloc: Global, checked: &Checked) -> Result<Said, AllocError>
             out.push_str("\n")?;
             Ok(say_out(alloc, out, 0))
         }
-        Checked::Refused(reason, place) => { say_refused(alloc, pack_code(*reason), *place as u64) }
+        Checked::Refused(reason, place) => say_refused(alloc, pack_code(*reason), *place),
         Checked::Unfit(reason, number) => say_refused(alloc, cell_code(*reason), *number),
     }
 }
 
 /// A refusal by its code, and its place.
-fn say_refused(alloc: Global, code: &str, place: u64) -> Result<Said, AllocError>
+fn say_refused(alloc: Global, code: &str, place: usize) -> Result<Said, AllocError>
     ensures { IfOk result (λ s. SaysRefused code.now place s) }
 {
     let out = format!(in alloc; "refused {code} at {place}\n")?;

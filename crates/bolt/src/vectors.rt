@@ -12,7 +12,7 @@ enum Expected {
     /// No value, for this reason at this offset.
     NoValue(Reason, usize),
     /// No cell of the version, for this reason at the structure of this number.
-    NoCell(Version, CellReason, u64),
+    NoCell(Version, CellReason, usize),
     /// A zoned time of local seconds at 4.4; no cell at 5.1.
     LocalZone,
     /// A request of the version, and what is written of it.
@@ -163,7 +163,7 @@ fn is_no_cell(
     version: Version,
     bytes: &[u8],
     reason: CellReason,
-    number: u64,
+    number: usize,
 ) -> Result<bool, AllocError> {
     let Some(packed) = value_in(alloc, bytes)? else {
         return Ok(false);

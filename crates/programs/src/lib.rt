@@ -7,6 +7,3 @@ mod stop;
 mod telling;
 
 pub use shells::shell;
-
-#[cfg(test)]
-mod tests;

@@ -20,6 +20,3 @@ pub use reading::{read_line, read_request};
 pub use request::ScriptRequest;
 pub use script::{Numbered, read_requests, read_script};
 pub use words::number_of;
-
-#[cfg(test)]
-mod tests;
