@@ -1,0 +1,114 @@
+use programs::*;
+use std::process::Abort;
+use std::test::*;
+use streams::{Buffer, Failed, Slice, Source};
+
+/// What a server at 5.1 answers to the handshake, a HELLO, a LOGON, a RUN, two PULLs and a RUN of an unknown text.
+const ANSWERS: &[&[u8]] = &[
+    &[0, 0, 1, 5],
+    &[0, 3, 0xB1, 0x70, 0xA0, 0, 0],
+    &[0, 3, 0xB1, 0x70, 0xA0, 0, 0],
+    &[0, 3, 0xB1, 0x70, 0xA0, 0, 0],
+    // Two rows, and a SUCCESS that says that there are more.
+    &[
+        0, 4, 0xB1, 0x71, 0x91, 1, 0, 0, 0, 4, 0xB1, 0x71, 0x91, 2, 0, 0, 0, 13, 0xB1, 0x70, 0xA1,
+        0x88, 0x68, 0x61, 0x73, 0x5F, 0x6D, 0x6F, 0x72, 0x65, 0xC3, 0, 0,
+    ],
+    &[
+        0, 4, 0xB1, 0x71, 0x91, 3, 0, 0, 0, 3, 0xB1, 0x70, 0xA0, 0, 0,
+    ],
+    &[
+        0, 68, 0xB1, 0x7F, 0xA2, 0x84, 0x63, 0x6F, 0x64, 0x65, 0xD0, 0x25, 0x4E, 0x65, 0x6F, 0x2E,
+        0x43, 0x6C, 0x69, 0x65, 0x6E, 0x74, 0x45, 0x72, 0x72, 0x6F, 0x72, 0x2E, 0x53, 0x74, 0x61,
+        0x74, 0x65, 0x6D, 0x65, 0x6E, 0x74, 0x2E, 0x55, 0x6E, 0x6B, 0x6E, 0x6F, 0x77, 0x6E, 0x54,
+        0x65, 0x78, 0x74, 0x87, 0x6D, 0x65, 0x73, 0x73, 0x61, 0x67, 0x65, 0x8C, 0x75, 0x6E, 0x6B,
+        0x6E, 0x6F, 0x77, 0x6E, 0x20, 0x74, 0x65, 0x78, 0x74, 0, 0,
+    ],
+];
+
+const LINES: &[u8] =
+    b"hello\nlogon\n\nrun ROWS A1816E03\npull 2\npull 2\npull 1\nrun NOPE A0\nnothing\nreset";
+
+const PRINTED: &str =
+    "heard 0 Done Unauth\nheard 1 Done Ready\nheard 2 Done Streaming\nrow 9101\nrow 9102\nheard 3 Done Streaming\nrow 9103\nheard 4 Committed Ready\nline 7 C1\nheard 5 Refused Halted\nfault Neo.ClientError.Statement.UnknownText unknown text\n";
+
+/// A source that gives one answer a read, and fails after so many.
+#[derive(Drop)]
+struct Answers {
+    at: usize,
+    most: usize,
+    failed: bool,
+}
+
+impl Source for Answers {
+    ghost use Rattle.std.specs.Prelude.{None, ◌-◌};
+
+    ghost left = { λ _. None };
+
+    ghost has_failed = { λ s. s.failed };
+
+    ghost reads = { λ s. 100 - s.at };
+
+    fn read(&mut self, buffer: &mut [u8]) -> Result<usize, Failed> {
+        if self.failed || self.at >= self.most {
+            self.failed = true;
+            return Err(Failed);
+        }
+        if self.at >= ANSWERS.len() {
+            return Ok(0);
+        }
+        let answer = ANSWERS[self.at];
+        if answer.is_empty() || buffer.len() < answer.len() || self.at >= 100 {
+            return Ok(0);
+        }
+        buffer[..answer.len()].copy_from_slice(answer);
+        self.at += 1;
+        Ok(answer.len())
+    }
+}
+
+/// A shell over these lines and so many answers prints this, and its status is this.
+fn prints(
+    rt: &(impl Abort + AllocGlobal),
+    lines: &[u8],
+    most: usize,
+    out_wanted: &str,
+    err_wanted: &str,
+    status: u8,
+) {
+    let mut input = Slice::new(lines);
+    let mut source = Answers {
+        at: 0,
+        most,
+        failed: false,
+    };
+    let mut sink = Buffer::new(Vec::new(rt.alloc()));
+    let mut out = Buffer::new(Vec::new(rt.alloc()));
+    let mut err = Buffer::new(Vec::new(rt.alloc()));
+    let got = shell(
+        rt.alloc(),
+        &mut input,
+        &mut source,
+        &mut sink,
+        &mut out,
+        &mut err,
+    );
+    assert_eq!(rt; got, status);
+    assert_eq!(rt; out.bytes(), out_wanted.as_bytes());
+    assert_eq!(rt; err.bytes(), err_wanted.as_bytes());
+}
+
+#[test]
+fn shell_prints_what_is_heard(rt: HostRuntime) {
+    prints(&rt, LINES, 100, PRINTED, "line 9 unreadable\n", 2);
+    prints(&rt, b"", 100, "", "", 0);
+    prints(&rt, b"\n\nhello", 100, "heard 0 Done Unauth\n", "", 0);
+    // The line after a goodbye: the client has ended.
+    prints(&rt, b"goodbye\nreset", 100, "line 2 C4\n", "", 0);
+}
+
+#[test]
+fn shell_tells_a_failed_stream(rt: HostRuntime) {
+    prints(&rt, LINES, 0, "", "fault I1\n", 1);
+    prints(&rt, LINES, 2, "heard 0 Done Unauth\n", "fault I1\n", 1);
+}
