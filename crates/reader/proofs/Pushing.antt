@@ -1,0 +1,156 @@
+-- A value behind what is open becomes a member of it.
+use Rattle.std.proofs.Common.{◌≡◌, ◌≤◌, ◌<◌, ◌+◌, ◌-◌, ℕ, suc, nat_lt, true, false, List, [], ◌∷◌, ◌++◌, length, None, refl, sym, ap, subst, ◌∙◌, append_assoc, arith, inl, inr}
+use Rattle.std.proofs.lemmas.Bool.{lt-ltb, le-ltb, cases_lt}
+use Rattle.std.proofs.lemmas.List.{append-nil}
+use Rattle.packstream.specs.declared.marker.Size.{Size}
+use Rattle.packstream.specs.declared.marker.Marker.{Marker}
+use Rattle.packstream.specs.declared.marker.Marker.TheVariants as announces
+use Rattle.packstream.specs.Tree.{Tree, list, dict, structure, Trees, no_trees, tree_then, Entries, no_entries, entry_then}
+use Rattle.packstream.specs.Good.{depth, count, entry_count, trees_depth, entries_depth, IsSound, AreSound, HaveSoundValues, AreNewKeys, is_among}
+use Rattle.packstream.specs.Spelling.{Begins, IsSize, SpellsText, SpellsTree, SpellsAll, SpellsEntries}
+use Rattle.packstream.specs.Faults.{Opened, in_list, in_struct, at_key, at_value, keys_of, key_there}
+use Rattle.reader.specs.Frames.{Frame, IsFrame, place, AreFrames, push_tree, push_entry, put, closed, ends, Stands}
+use Rattle.packstream.proofs.Table.{few_fields}
+
+-- ---- one member more
+
+count_push : (ts : Trees) (t : Tree) → count (push_tree ts t) ≡ suc (count ts)
+count_push no_trees t = refl
+count_push (tree_then x ts) t = ap (λ (n : ℕ). suc n) (count_push ts t)
+
+spells_push : (ts : Trees) (t : Tree) (b c : List ℕ) → SpellsAll ts b → SpellsTree t c → SpellsAll (push_tree ts t) (b ++ c)
+spells_push no_trees t b c h one = (c, [], one, refl, ap (λ (x : List ℕ). x ++ c) h ∙ sym (append-nil c))
+spells_push (tree_then x ts) t b c h one = (h.0, h.1 ++ c, h.2, spells_push ts t h.1 c h.3 one, ap (λ (y : List ℕ). y ++ c) h.4 ∙ append_assoc h.0 h.1 c)
+
+sound_push : (ts : Trees) (t : Tree) → AreSound ts → IsSound t → AreSound (push_tree ts t)
+sound_push no_trees t h one = (one, tt)
+sound_push (tree_then x ts) t h one = (h.0, sound_push ts t h.1 one)
+
+depth_push : (ts : Trees) (t : Tree) (k : ℕ) → trees_depth ts ≤ k → depth t ≤ k → trees_depth (push_tree ts t) ≤ k
+depth_push no_trees t k h one = omega arith
+depth_push (tree_then x ts) t k h one = let ih = depth_push ts t k (omega arith) one in omega arith
+
+-- ---- one pair more
+
+pairs_push : (es : Entries) (k : List ℕ) (t : Tree) → entry_count (push_entry es k t) ≡ suc (entry_count es)
+pairs_push no_entries k t = refl
+pairs_push (entry_then j x es) k t = ap (λ (n : ℕ). suc n) (pairs_push es k t)
+
+spells_pair : (es : Entries) (k : List ℕ) (t : Tree) (b key c : List ℕ) → SpellsEntries es b → SpellsText k key → SpellsTree t c → SpellsEntries (push_entry es k t) (b ++ (key ++ c))
+spells_pair no_entries k t b key c h name one = (key, c, [], name, one, refl, ap (λ (x : List ℕ). x ++ (key ++ c)) h ∙ ap (λ (x : List ℕ). key ++ x) (sym (append-nil c)))
+spells_pair (entry_then j x es) k t b key c h name one = (
+  h.0,
+  h.1,
+  h.2 ++ (key ++ c),
+  h.3,
+  h.4,
+  spells_pair es k t h.2 key c h.5 name one,
+  ap (λ (y : List ℕ). y ++ (key ++ c)) h.6 ∙ append_assoc h.0 (h.1 ++ h.2) (key ++ c) ∙ ap (λ (y : List ℕ). h.0 ++ y) (append_assoc h.1 h.2 (key ++ c)),
+)
+
+new_pair : (before : List (List ℕ)) (es : Entries) (k : List ℕ) (t : Tree) → AreNewKeys before es → is_among k (before ++ keys_of es) ≡ false → AreNewKeys before (push_entry es k t)
+new_pair before no_entries k t h fresh = (ap (is_among k) (sym (append-nil before)) ∙ fresh, tt)
+new_pair before (entry_then j x es) k t h fresh = (h.0, new_pair (before ++ j ∷ []) es k t h.1 (ap (is_among k) (append_assoc before (j ∷ []) (keys_of es)) ∙ fresh))
+
+values_push : (es : Entries) (k : List ℕ) (t : Tree) → HaveSoundValues es → IsSound t → HaveSoundValues (push_entry es k t)
+values_push no_entries k t h one = (one, tt)
+values_push (entry_then j x es) k t h one = (h.0, values_push es k t h.1 one)
+
+depth_pair : (es : Entries) (k : List ℕ) (t : Tree) (n : ℕ) → entries_depth es ≤ n → depth t ≤ n → entries_depth (push_entry es k t) ≤ n
+depth_pair no_entries k t n h one = omega arith
+depth_pair (entry_then j x es) k t n h one = let ih = depth_pair es k t n (omega arith) one in omega arith
+
+-- ---- what is open, with one member more
+
+begins_more : (what : Marker) (rest more b c : List ℕ) → Begins what rest b → rest ++ c ≡ more → Begins what more (b ++ c)
+begins_more what rest more b c h e = (h.0, h.1, ap (λ (x : List ℕ). x ++ c) h.2 ∙ ap (λ (x : List ℕ). h.0 ∷ x) e)
+
+sized : (size : Size) (n m : ℕ) (field : List ℕ) → n ≡ m → IsSize size n field → IsSize size m field
+sized size n m field e is = subst (λ (k : ℕ). IsSize size k field) e is
+
+frame_put : (heads : ℕ) (f : Opened) (lacks : ℕ) (t : Tree) (b c : List ℕ) → IsFrame heads f lacks b → key_there f ≡ None → 0 < lacks → SpellsTree t c → IsSound t → depth t + heads ≤ 32
+    → IsFrame heads (put f t) (lacks - 1) (b ++ c)
+frame_put heads (in_list ts) lacks t b c h none lt one sound deep = (
+  h.0,
+  h.1,
+  h.2 ++ c,
+  sized h.0 (count ts + lacks) (count (push_tree ts t) + (lacks - 1)) h.1 (omega (arith, count_push ts t)) h.3,
+  spells_push ts t h.2 c h.4 one,
+  sound_push ts t h.5 sound,
+  omega (arith, depth_push ts t (32 - heads) (omega (arith, h.6)) (omega arith), h.6),
+  begins_more _ _ _ b c h.7 (append_assoc h.1 h.2 c),
+)
+frame_put heads (in_struct tag ts) lacks t b c h none lt one sound deep = (
+  h.0 ++ c,
+  spells_push ts t h.0 c h.1 one,
+  sound_push ts t h.2 sound,
+  omega (arith, depth_push ts t (32 - heads) (omega (arith, h.3)) (omega arith), h.3),
+  (let n : count ts + lacks ≡ count (push_tree ts t) + (lacks - 1) = omega (arith, count_push ts t) in
+      subst (λ (k : ℕ). Begins (announces.Struct k) (tag ∷ (h.0 ++ c)) (b ++ c)) n (begins_more _ _ _ b c h.4 refl)),
+)
+frame_put heads (at_key es) lacks t b c h none lt one sound deep = absurd cc
+frame_put heads (at_value es k) lacks t b c h none lt one sound deep = (
+  h.0,
+  h.1,
+  h.2 ++ (h.3 ++ c),
+  sized h.0 (entry_count es + lacks) (entry_count (push_entry es k t) + (lacks - 1)) h.1 (omega (arith, pairs_push es k t)) h.4,
+  spells_pair es k t h.2 h.3 c h.5 h.9 one,
+  new_pair [] es k t h.6 h.10,
+  values_push es k t h.7 sound,
+  omega (arith, depth_pair es k t (32 - heads) (omega (arith, h.8)) (omega arith), h.8),
+  begins_more _ _ _ b c h.11 (append_assoc h.1 (h.2 ++ h.3) c ∙ ap (λ (x : List ℕ). h.1 ++ x) (append_assoc h.2 h.3 c)),
+)
+
+-- it is a value, where it lacks no more
+abbrev IsValue : ℕ → Tree → List ℕ → Type 0
+IsValue heads t b = SpellsTree t b × IsSound t × (depth t + heads ≤ 33)
+
+list_closes : (heads : ℕ) (ts : Trees) (b : List ℕ) → IsFrame heads (in_list ts) 0 b → IsValue heads (list ts) b
+list_closes heads ts b h = ((h.0, h.1, h.2, sized h.0 (count ts + 0) (count ts) h.1 (omega arith) h.3, h.4, h.7), h.5, omega (arith, h.6))
+
+struct_closes : (heads tag : ℕ) (ts : Trees) (b : List ℕ) → IsFrame heads (in_struct tag ts) 0 b → IsValue heads (structure tag ts) b
+struct_closes heads tag ts b h =
+    let n : count ts + 0 ≡ count ts = omega arith in
+    let begins : Begins (announces.Struct (count ts)) (tag ∷ h.0) b = subst (λ (k : ℕ). Begins (announces.Struct k) (tag ∷ h.0) b) n h.4 in
+    ((h.0, h.1, begins), (few_fields begins.0 (count ts) begins.1, h.2), omega (arith, h.3))
+
+dict_closes : (heads : ℕ) (es : Entries) (b : List ℕ) → IsFrame heads (at_key es) 0 b → IsValue heads (dict es) b
+dict_closes heads es b h = ((h.0, h.1, h.2, sized h.0 (entry_count es + 0) (entry_count es) h.1 (omega arith) h.3, h.4, h.8), (h.5, h.6), omega (arith, h.7))
+
+put_closes : (heads : ℕ) (f : Opened) (t : Tree) (b : List ℕ) → IsFrame heads (put f t) 0 b → IsValue heads (closed (put f t)) b
+put_closes heads (in_list ts) t b h = list_closes heads (push_tree ts t) b h
+put_closes heads (in_struct tag ts) t b h = struct_closes heads tag (push_tree ts t) b h
+put_closes heads (at_key es) t b h = dict_closes heads es b h
+put_closes heads (at_value es k) t b h = dict_closes heads (push_entry es k t) b h
+
+stays_open : (f : Frame) (fs : List Frame) (front : List ℕ) (t : Tree) (c : List ℕ) → AreFrames (f ∷ fs) front → (place (f ∷ fs)).key ≡ None → SpellsTree t c → IsSound t → depth t + length (f ∷ fs) ≤ 32 → 1 < f.lacks
+    → AreFrames (record { opened = put f.opened t; lacks = f.lacks - 1; first = f.first } ∷ fs) (front ++ c)
+stays_open f fs front t c h none one sound deep lt = (
+  h.0,
+  h.1 ++ c,
+  h.2,
+  h.3,
+  h.4,
+  omega arith,
+  frame_put (length fs + 1) f.opened f.lacks t h.1 c h.6 none h.5 one sound (omega arith),
+  ap (λ (x : List ℕ). x ++ c) h.7 ∙ append_assoc h.0 h.1 c,
+)
+
+last_closes : (f : Frame) (fs : List Frame) (front : List ℕ) (t : Tree) (c : List ℕ) → (h : AreFrames (f ∷ fs) front) → (place (f ∷ fs)).key ≡ None → SpellsTree t c → IsSound t → depth t + length (f ∷ fs) ≤ 32 → f.lacks ≤ 1
+    → IsValue (length fs + 1) (closed (put f.opened t)) (h.1 ++ c)
+last_closes f fs front t c h none one sound deep le =
+    let zero : f.lacks - 1 ≡ 0 = omega arith in
+    put_closes (length fs + 1) f.opened t (h.1 ++ c)
+    (subst (λ (n : ℕ). IsFrame (length fs + 1) (put f.opened t) n (h.1 ++ c)) zero (frame_put (length fs + 1) f.opened f.lacks t h.1 c h.6 none h.5 one sound (omega arith)))
+
+-- A value behind what is open leaves what the definition says.
+pub ends_stand : (fs : List Frame) (front : List ℕ) (t : Tree) (c : List ℕ) → AreFrames fs front → (place fs).key ≡ None → SpellsTree t c → IsSound t → depth t + length fs ≤ 32 → Stands (ends fs t) (front ++ c)
+ends_stand [] front t c h none one sound deep = (subst (λ (x : List ℕ). SpellsTree t (x ++ c)) (sym h) one, sound, omega arith)
+ends_stand (f ∷ fs) front t c h none one sound deep =
+    elim (cases_lt 1 f.lacks) as (λ _. Stands (ends (f ∷ fs) t) (front ++ c)) [
+      | inl lt ↦ (let e : nat_lt 1 f.lacks ≡ true = lt-ltb _ _ lt in rw e (stays_open f fs front t c h none one sound deep lt))
+      | inr le ↦ (let e : nat_lt 1 f.lacks ≡ false = le-ltb _ _ le in
+          let v = last_closes f fs front t c h none one sound deep le in
+          let whole : front ++ c ≡ h.0 ++ (h.1 ++ c) = ap (λ (x : List ℕ). x ++ c) h.7 ∙ append_assoc h.0 h.1 c in
+          rw (e, whole) (ends_stand fs h.0 (closed (put f.opened t)) (h.1 ++ c) h.2 h.3 v.0 v.1 (omega (arith, v.2))))
+    ]

@@ -1,0 +1,333 @@
+-- Where an item ends, something is open behind it, or the value is whole.
+use Rattle.std.proofs.Common.{◌≡◌, ◌⊎◌, ◌≤◌, ◌<◌, ◌+◌, ◌-◌, ◌^◌, nat_lt, ℕ, suc, Bool, true, false, ◌||◌, List, [], ◌∷◌, ◌++◌, length, Option, Some, None, refl, sym, ap, subst, ◌∙◌, arith, inl, inr}
+use Rattle.std.proofs.lemmas.Bool.{lt-ltb, le-ltb, cases_lt}
+use Rattle.std.proofs.lemmas.List.{append-nil, length-append}
+use Rattle.std.proofs.lemmas.Option.{slice_get_within}
+use Rattle.std.specs.Str.{bytes_eq}
+use Rattle.std.specs.List.{list_any}
+use Rattle.std.proofs.lemmas.List.Folds.{list_any-append}
+use Rattle.std.proofs.lemmas.Slice.Eq.{bytes_eq-Decides}
+use Rattle.byteorder.specs.Numbers.{length-bytes_high_first}
+use Rattle.packstream.specs.declared.marker.Marker.{Marker}
+use Rattle.packstream.specs.Tree.{Tree, Entries, no_entries, entry_then}
+use Rattle.packstream.specs.Good.{depth, IsSound, is_among}
+use Rattle.packstream.specs.Markers.{marker}
+use Rattle.packstream.specs.Spelling.{SpellsTree}
+use Rattle.packstream.specs.Faults.{Opened, in_list, in_struct, at_key, at_value, keys_of}
+use Rattle.reader.specs.declared.open.Open.{Open}
+use Rattle.reader.specs.declared.open.Level.{Level}
+use Rattle.reader.specs.declared.item.Item.{Item}
+use Rattle.reader.specs.declared.reading.Part.{Part}
+use Rattle.reader.specs.declared.reading.Part.TheVariants as part
+use Rattle.reader.specs.Items.{field, body, bodies, head_bytes, part_head, spelled, AreItems}
+use Rattle.reader.specs.Naming.{Name, IsNamed, ArePlaced, IsRoot, text_of}
+use Rattle.reader.specs.Frames.{Frame, place, AreFrames, AreLevels, AreNames, HasNames, IsApart, BeginBefore, BeginsBefore, HaveNames, put, closed, push_entry, Left, whole, still, ends, Stands, IsLeft}
+use Rattle.reader.specs.Holding.{Holds, bytes_with, pushed, Goes, IsStanding, IsValue, HasTaken}
+use Rattle.reader.proofs.Spelled.{spelled_part, spelled_push}
+use Rattle.reader.proofs.Pushing.{ends_stand}
+use Rattle.reader.proofs.Treeing.{get_front, get_last, get_pushed, text_more}
+
+-- ---- counts
+
+pub levels_depth : (fs : List Frame) (n : ℕ) (around : List Level) → AreLevels fs n around → n ≡ length fs
+levels_depth [] n around h = h
+levels_depth (f ∷ fs) n around h = h.1 ∙ ap (λ (x : ℕ). suc x) (levels_depth fs h.0 around h.3)
+
+pub few_frames : (fs : List Frame) (b : List ℕ) → AreFrames fs b → length fs ≤ 32
+few_frames [] b h = omega arith
+few_frames (f ∷ fs) b h = omega (arith, h.4)
+
+bodies_push : (is : List Item) (i : Item) → bodies (is ++ i ∷ []) ≡ bodies is + body (marker i.marker) i.number
+bodies_push [] i = omega arith
+bodies_push (j ∷ is) i = let e = bodies_push is i in omega arith
+
+fit_push : (is : List Item) (i : Item) → AreItems is → i.number < 256 ^ field (marker i.marker) → AreItems (is ++ i ∷ [])
+fit_push [] i h lt = (lt, tt)
+fit_push (j ∷ is) i h lt = (h.0, fit_push is i h.1 lt)
+
+pub bytes_behind : (h : Holds) (p : Part) → (g : Goes h p) → bytes_with h p ≡ spelled h.items [] g.full ++ (part_head p ++ g.tail)
+bytes_behind h p g = ap (λ (s : List ℕ). spelled h.items (part_head p) s) g.store ∙ spelled_part h.items (part_head p) g.full g.tail g.sized
+
+-- ---- names
+
+keys_push : (es : Entries) (k : List ℕ) (t : Tree) → keys_of (push_entry es k t) ≡ keys_of es ++ k ∷ []
+keys_push no_entries k t = refl
+keys_push (entry_then j x es) k t = ap (λ (ks : List (List ℕ)). j ∷ ks) (keys_push es k t)
+
+some_key : (ks : List (List ℕ)) (k : List ℕ) → ks ++ k ∷ [] ≡ [] → ⊥
+some_key [] k e = cc
+some_key (j ∷ ks) k e = cc
+
+names_put : (f : Opened) (t : Tree) (first : ℕ) (names : List Name) (store : List ℕ) → HasNames f first names store → ((es : Entries) → f ≡ at_key es → ⊥) → HasNames (put f t) first names store
+names_put (in_list ts) t first names store h other = tt
+names_put (in_struct tag ts) t first names store h other = tt
+names_put (at_key es) t first names store h other = absurd (other es refl)
+names_put (at_value es k) t first names store h other = (
+  subst (λ (ks : List (List ℕ)). AreNames names store first ks) (sym (keys_push es k t)) h,
+  λ (e : keys_of (push_entry es k t) ≡ []). absurd (some_key (keys_of es) k (sym (keys_push es k t) ∙ e)),
+)
+
+apart_put : (f : Opened) (t : Tree) (first : ℕ) (fs : List Frame) → IsApart f first fs → IsApart (put f t) first fs
+apart_put (in_list ts) t first fs h = tt
+apart_put (in_struct tag ts) t first fs h = tt
+apart_put (at_key es) t first fs h = h
+apart_put (at_value es k) t first fs h = h
+
+no_key : (f : Frame) (fs : List Frame) → (place (f ∷ fs)).key ≡ None → (es : Entries) → f.opened ≡ at_key es → ⊥
+no_key f fs none es e = let k : ◌≡◌ {A = Option (List (List ℕ))} (Some (keys_of es)) None = sym (ap (λ (o : Opened). (place (record { opened = o; lacks = f.lacks; first = f.first } ∷ fs)).key) e) ∙ none in cc
+
+-- what a value leaves has its names
+pub names_end : (fs : List Frame) (t : Tree) (b : List ℕ) (names : List Name) (store : List ℕ) (gs : List Frame) → AreFrames fs b → (place fs).key ≡ None → HaveNames fs names store → ends fs t ≡ still gs → HaveNames gs names store
+names_end [] t b names store gs are none h e = absurd cc
+names_end (f ∷ fs) t b names store gs are none h e =
+    elim (cases_lt 1 f.lacks) as (λ _. HaveNames gs names store) [
+      | inl lt ↦ (let l : nat_lt 1 f.lacks ≡ true = lt-ltb _ _ lt in
+          let same : still (record { opened = put f.opened t; lacks = f.lacks - 1; first = f.first } ∷ fs) ≡ still gs = rw l at e in
+          let g : record { opened = put f.opened t; lacks = f.lacks - 1; first = f.first } ∷ fs ≡ gs = cc in
+          subst (λ (x : List Frame). HaveNames x names store) g (names_put f.opened t f.first names store h.0 (no_key f fs none), apart_put f.opened t f.first fs h.1, h.2))
+      | inr le ↦ (let l : nat_lt 1 f.lacks ≡ false = le-ltb _ _ le in
+          let same : ends fs (closed (put f.opened t)) ≡ still gs = rw l at e in
+          names_end fs (closed (put f.opened t)) are.0 names store gs are.2 are.3 h.2 same)
+    ]
+
+-- more bytes change no name
+named_more : (names : List Name) (store s : List ℕ) (first : ℕ) (x : List ℕ) → ArePlaced names (length store) → (IsNamed names store first x → IsNamed names (store ++ s) first x) × (IsNamed names (store ++ s) first x → IsNamed names store first x)
+named_more names store s first x placed = (
+  (λ (n : IsNamed names store first x). (n.0, n.1, n.2, n.3, text_more store s (n.1).start (n.1).len (placed n.0 n.1 n.2).1 ∙ n.4)),
+  (λ (n : IsNamed names (store ++ s) first x). (n.0, n.1, n.2, n.3, sym (text_more store s (n.1).start (n.1).len (placed n.0 n.1 n.2).1) ∙ n.4)),
+)
+
+are_more : (names : List Name) (store s : List ℕ) (first : ℕ) (keys : List (List ℕ)) → ArePlaced names (length store) → AreNames names store first keys → AreNames names (store ++ s) first keys
+are_more names store s first keys placed h = λ x. (let m = named_more names store s first x placed in (
+  (λ (e : is_among x keys ≡ true). m.0 ((h x).0 e)),
+  (λ (n : IsNamed names (store ++ s) first x). (h x).1 (m.1 n)),
+))
+
+has_more : (f : Opened) (names : List Name) (store s : List ℕ) (first : ℕ) → ArePlaced names (length store) → HasNames f first names store → HasNames f first names (store ++ s)
+has_more (in_list ts) names store s first placed h = tt
+has_more (in_struct tag ts) names store s first placed h = tt
+has_more (at_key es) names store s first placed h = (are_more names store s first (keys_of es) placed h.0, h.1)
+has_more (at_value es k) names store s first placed h = are_more names store s first (keys_of es ++ k ∷ []) placed h
+
+pub names_more : (fs : List Frame) (names : List Name) (store s : List ℕ) → ArePlaced names (length store) → HaveNames fs names store → HaveNames fs names (store ++ s)
+names_more [] names store s placed h = tt
+names_more (f ∷ fs) names store s placed h = (has_more f.opened names store s f.first placed h.0, h.1, names_more fs names store s placed h.2)
+
+pub placed_more : (names : List Name) (store s : List ℕ) → ArePlaced names (length store) → ArePlaced names (length (store ++ s))
+placed_more names store s placed = λ i n e. (let p = placed i n e in (p.0, omega (arith, p.1, length-append store s)))
+
+-- a name of another dictionary
+named_push : (names : List Name) (n : Name) (store : List ℕ) (first : ℕ) (x : List ℕ) → first < n.first → (IsNamed names store first x → IsNamed (names ++ n ∷ []) store first x) × (IsNamed (names ++ n ∷ []) store first x → IsNamed names store first x)
+named_push names n store first x lt = (
+  (λ (h : IsNamed names store first x). (h.0, h.1, get_front names (n ∷ []) h.0 h.1 h.2, h.3, h.4)),
+  (λ (h : IsNamed (names ++ n ∷ []) store first x).
+      elim (get_pushed names n h.0 h.1 h.2) as (λ _. IsNamed names store first x) [
+        | inl e ↦ (h.0, h.1, e, h.3, h.4)
+        | inr e ↦ absurd (omega (arith, h.3, ap (λ (m : Name). m.first) e.1))
+      ]),
+)
+
+are_push : (names : List Name) (n : Name) (store : List ℕ) (first : ℕ) (keys : List (List ℕ)) → first < n.first → AreNames names store first keys → AreNames (names ++ n ∷ []) store first keys
+are_push names n store first keys lt h = λ x. (let m = named_push names n store first x lt in (
+  (λ (e : is_among x keys ≡ true). m.0 ((h x).0 e)),
+  (λ (w : IsNamed (names ++ n ∷ []) store first x). (h x).1 (m.1 w)),
+))
+
+has_push : (f : Opened) (names : List Name) (n : Name) (store : List ℕ) (first : ℕ) → ((es : Entries) → f ≡ at_key es → ⊥) → BeginsBefore f first n.first → HasNames f first names store → HasNames f first (names ++ n ∷ []) store
+has_push (in_list ts) names n store first other lt h = tt
+has_push (in_struct tag ts) names n store first other lt h = tt
+has_push (at_key es) names n store first other lt h = absurd (other es refl)
+has_push (at_value es k) names n store first other lt h = are_push names n store first (keys_of es ++ k ∷ []) lt h
+
+-- those around keep theirs where an inner dictionary has one more
+pub names_push : (fs : List Frame) (b : List ℕ) (names : List Name) (n : Name) (store : List ℕ) → AreFrames fs b → (place fs).key ≡ None → BeginBefore fs n.first → HaveNames fs names store → HaveNames fs (names ++ n ∷ []) store
+names_push [] b names n store are none lt h = tt
+names_push (f ∷ fs) b names n store are none lt h =
+    (has_push f.opened names n store f.first (no_key f fs none) lt.0 h.0, h.1, names_push fs are.0 names n store are.2 are.3 lt.1 h.2)
+
+-- ---- keys among keys
+
+or_parts : (a b : Bool) → (a || b) ≡ true → (a ≡ true) ⊎ (b ≡ true)
+or_parts true b e = inl refl
+or_parts false b e = inr e
+
+or_left : (a b : Bool) → a ≡ true → (a || b) ≡ true
+or_left true b e = refl
+or_left false b e = absurd cc
+
+or_right : (a b : Bool) → b ≡ true → (a || b) ≡ true
+or_right true b e = refl
+or_right false b e = e
+
+or_false : (a : Bool) → (a || false) ≡ true → a ≡ true
+or_false true e = refl
+or_false false e = e
+
+same_text : (k : List ℕ) → bytes_eq k k ≡ true
+same_text k = (bytes_eq-Decides k k).1 refl
+
+among_push : (x : List ℕ) (keys : List (List ℕ)) (k : List ℕ) → is_among x (keys ++ k ∷ []) ≡ true → (is_among x keys ≡ true) ⊎ (x ≡ k)
+among_push x keys k e =
+    elim (or_parts (list_any (bytes_eq x) keys) (list_any (bytes_eq x) (k ∷ [])) (sym (list_any-append (bytes_eq x) keys (k ∷ [])) ∙ e)) as (λ _. (is_among x keys ≡ true) ⊎ (x ≡ k)) [
+      | inl a ↦ inl a
+      | inr b ↦ inr ((bytes_eq-Decides x k).0 (or_false (bytes_eq x k) b))
+    ]
+
+among_front : (x : List ℕ) (keys : List (List ℕ)) (k : List ℕ) → is_among x keys ≡ true → is_among x (keys ++ k ∷ []) ≡ true
+among_front x keys k e = list_any-append (bytes_eq x) keys (k ∷ []) ∙ or_left (list_any (bytes_eq x) keys) (list_any (bytes_eq x) (k ∷ [])) e
+
+among_head : (k : List ℕ) (keys : List (List ℕ)) → is_among k (k ∷ keys) ≡ true
+among_head k keys = or_left (bytes_eq k k) (list_any (bytes_eq k) keys) (same_text k)
+
+among_itself : (keys : List (List ℕ)) (k : List ℕ) → is_among k (keys ++ k ∷ []) ≡ true
+among_itself keys k = list_any-append (bytes_eq k) keys (k ∷ []) ∙ or_right (list_any (bytes_eq k) keys) (list_any (bytes_eq k) (k ∷ [])) (among_head k [])
+
+-- the dictionary has one name and one key more
+pub key_named : (names : List Name) (n : Name) (store : List ℕ) (keys : List (List ℕ)) (k : List ℕ) → AreNames names store n.first keys → text_of store n ≡ k → AreNames (names ++ n ∷ []) store n.first (keys ++ k ∷ [])
+key_named names n store keys k h t = λ x. (
+  (λ (e : is_among x (keys ++ k ∷ []) ≡ true).
+      elim (among_push x keys k e) as (λ _. IsNamed (names ++ n ∷ []) store n.first x) [
+        | inl a ↦ (let w = (h x).0 a in (w.0, w.1, get_front names (n ∷ []) w.0 w.1 w.2, w.3, w.4))
+        | inr e ↦ (length names, n, get_last names n, refl, t ∙ sym e)
+      ]),
+  (λ (w : IsNamed (names ++ n ∷ []) store n.first x).
+      elim (get_pushed names n w.0 w.1 w.2) as (λ _. is_among x (keys ++ k ∷ []) ≡ true) [
+        | inl e ↦ among_front x keys k ((h x).1 (w.0, w.1, e, w.3, w.4))
+        | inr e ↦ (let same : k ≡ x = sym t ∙ ap (λ (m : Name). text_of store m) e.1 ∙ w.4 in subst (λ (y : List ℕ). is_among y (keys ++ k ∷ []) ≡ true) same (among_itself keys k))
+      ]),
+)
+
+-- a dictionary that opens has no names
+pub no_names : (names : List Name) (store : List ℕ) → ArePlaced names (length store) → AreNames names store (length names) []
+no_names names store placed = λ x. (
+  (λ (e : is_among x [] ≡ true). absurd cc),
+  (λ (w : IsNamed names store (length names) x). absurd (omega (arith, (placed w.0 w.1 w.2).0, slice_get_within names w.0 w.1 w.2, w.3))),
+)
+
+named_before : (names : List Name) (store : List ℕ) (first : ℕ) (x : List ℕ) → ArePlaced names (length store) → IsNamed names store first x → first < length names
+named_before names store first x placed w = omega (arith, (placed w.0 w.1 w.2).0, slice_get_within names w.0 w.1 w.2, w.3)
+
+opened_before : (f : Opened) (names : List Name) (store : List ℕ) (first : ℕ) → ArePlaced names (length store) → ((es : Entries) → f ≡ at_key es → ⊥) → HasNames f first names store → BeginsBefore f first (length names)
+opened_before (in_list ts) names store first placed other h = tt
+opened_before (in_struct tag ts) names store first placed other h = tt
+opened_before (at_key es) names store first placed other h = absurd (other es refl)
+opened_before (at_value es k) names store first placed other h = named_before names store first k placed ((h k).0 (among_itself (keys_of es) k))
+
+pub all_before : (fs : List Frame) (b : List ℕ) (names : List Name) (store : List ℕ) → AreFrames fs b → (place fs).key ≡ None → ArePlaced names (length store) → HaveNames fs names store → BeginBefore fs (length names)
+all_before [] b names store are none placed h = tt
+all_before (f ∷ fs) b names store are none placed h =
+    (opened_before f.opened names store f.first placed (no_key f fs none) h.0, all_before fs are.0 names store are.2 are.3 placed h.2)
+
+-- the next key of a dictionary is its first, or another stands where its keys begin
+pub root_of : (names : List Name) (store : List ℕ) (first : ℕ) (keys : List (List ℕ)) → AreNames names store first keys → (keys ≡ [] → first ≡ length names) → IsRoot names first
+root_of names store first [] h none = inl (none refl)
+root_of names store first (k ∷ keys) h none = let w = (h k).0 (among_head k keys) in inr (w.0, w.1, w.2, w.3)
+
+-- ---- what stands behind an item
+
+-- all of an item that isn't among the items yet
+pub record IsReady (h : Holds) (m number : ℕ) : Type 0 where
+  pub full : List ℕ
+  pub tail : List ℕ
+  pub store : h.store ≡ full ++ tail
+  pub sized : length full ≡ bodies h.items
+  pub fit : AreItems h.items
+  pub small : number < 256 ^ field (marker m)
+  pub long : length tail ≡ body (marker m) number
+  pub read : h.standing.read ≡ length (spelled h.items [] full)
+  pub placed : ArePlaced h.names (length h.store)
+
+-- the item that is pushed
+abbrev item : ℕ → ℕ → Item
+item m number = record { marker = m; number = number }
+
+abbrev pub after : Open → Holds → Holds
+after o h = record h { standing = record h.standing { «open» = o } }
+
+abbrev pub ready : (h : Holds) (m number : ℕ) → Goes h (part.Body m number 0) → IsReady h m number
+ready h m number g = record {
+  full = g.full;
+  tail = g.tail;
+  store = g.store;
+  sized = g.sized;
+  fit = g.fit;
+  small = g.isa.1;
+  long = omega (arith, g.isa.2);
+  read = g.read;
+  placed = g.placed;
+}
+
+pushed_bytes : (h : Holds) (m number : ℕ) → (r : IsReady h m number) → spelled (h.items ++ item m number ∷ []) [] h.store ≡ spelled h.items [] r.full ++ (head_bytes m number ++ r.tail)
+pushed_bytes h m number r = ap (λ (s : List ℕ). spelled (h.items ++ item m number ∷ []) [] s) r.store ∙ spelled_push h.items (item m number) r.full r.tail r.sized r.long
+
+pushed_read : (h : Holds) (m number : ℕ) (what : Marker) → marker m ≡ Some what → (r : IsReady h m number)
+    → h.standing.read + (1 + field (Some what)) + body (Some what) number ≡ length (spelled (h.items ++ item m number ∷ []) [] h.store)
+pushed_read h m number what is r =
+    let f : field (marker m) ≡ field (Some what) = ap field is in
+    let b : body (marker m) number ≡ body (Some what) number = ap (λ (o : Option Marker). body o number) is in
+    let len = ap length (pushed_bytes h m number r) ∙ length-append (spelled h.items [] r.full) (head_bytes m number ++ r.tail) in
+    omega (arith, len, length-append (head_bytes m number) r.tail, length-bytes_high_first (field (marker m)) number, f, b, r.long, r.read)
+
+all_sized : (h : Holds) (m number : ℕ) → (r : IsReady h m number) → length h.store ≡ bodies (h.items ++ item m number ∷ [])
+all_sized h m number r = omega (arith, ap length r.store, length-append r.full r.tail, r.sized, r.long, bodies_push h.items (item m number))
+
+pub goes_on : (h : Holds) (m number : ℕ) (what : Marker) (o : Open) (gs : List Frame) → marker m ≡ Some what → (r : IsReady h m number) → o.is_whole ≡ false
+    → AreFrames gs (spelled h.items [] r.full ++ (head_bytes m number ++ r.tail)) → AreLevels gs o.depth o.around → HaveNames gs h.names h.store → IsStanding (after o (pushed what m number h))
+goes_on h m number what o gs is r unread are levels names = inr (
+  record {
+    frames = gs;
+    full = h.store;
+    tail = [];
+    unread = unread;
+    store = sym (append-nil h.store);
+    sized = all_sized h m number r;
+    fit = fit_push h.items (item m number) r.fit r.small;
+    are = subst (λ (b : List ℕ). AreFrames gs b) (sym (pushed_bytes h m number r)) are;
+    read = pushed_read h m number what is r;
+    levels = levels;
+    named = names;
+    placed = r.placed;
+    isa = refl;
+  },
+  tt,
+)
+
+pub is_done : (h : Holds) (m number : ℕ) (what : Marker) (o : Open) (t : Tree) → marker m ≡ Some what → (r : IsReady h m number) → o.is_whole ≡ true
+    → SpellsTree t (spelled h.items [] r.full ++ (head_bytes m number ++ r.tail)) → IsSound t → depth t ≤ 32 → IsStanding (after o (pushed what m number h))
+is_done h m number what o t is r ended spells sound deep = inl (record {
+  tree = t;
+  whole = ended;
+  none = refl;
+  sized = all_sized h m number r;
+  fit = fit_push h.items (item m number) r.fit r.small;
+  spells = subst (λ (b : List ℕ). SpellsTree t b) (sym (pushed_bytes h m number r)) spells;
+  sound = sound;
+  deep = deep;
+  read = pushed_read h m number what is r;
+  placed = r.placed;
+})
+
+left_stands : (h : Holds) (m number : ℕ) (what : Marker) (o : Open) (l : Left) → marker m ≡ Some what → (r : IsReady h m number) → Stands l (spelled h.items [] r.full ++ (head_bytes m number ++ r.tail)) → IsLeft l o
+    → ((gs : List Frame) → l ≡ still gs → HaveNames gs h.names h.store) → IsStanding (after o (pushed what m number h))
+left_stands h m number what o (whole t) is r s i names = is_done h m number what o t is r i s.0 s.1 s.2
+left_stands h m number what o (still gs) is r s i names = goes_on h m number what o gs is r i.0 s i.1 (names gs refl)
+
+-- a value without members
+pub value_stands : (h : Holds) (m number : ℕ) (what : Marker) (o : Open) → marker m ≡ Some what → (g : Goes h (part.Body m number 0)) → IsValue h m number
+    → ((fs : List Frame) (t : Tree) → AreLevels fs h.standing.«open».depth h.standing.«open».around → h.standing.«open».is_whole ≡ false → IsLeft (ends fs t) o) → IsStanding (after o (pushed what m number h))
+value_stands h m number what o is g value left =
+    let v = value g in
+    left_stands h m number what o (ends g.frames v.0) is (ready h m number g)
+    (ends_stand g.frames (spelled h.items [] g.full) v.0 (head_bytes m number ++ g.tail) g.are v.4 v.3 v.1 v.2)
+    (left g.frames v.0 g.levels g.unread)
+    (λ gs e. names_end g.frames v.0 (spelled h.items [] g.full) h.names h.store gs g.are v.4 g.named e)
+
+-- what was taken with an item that ends
+pub has_taken : (h : Holds) (m number : ℕ) (what : Marker) (o : Open) (rest : List ℕ) → (r : IsReady h m number) → h.standing.bad ≡ None → IsStanding (after o (pushed what m number h))
+    → HasTaken (bytes_with h (part.Body m number 0) ++ rest) (after o (pushed what m number h)) rest
+has_taken h m number what o rest r good stands = record {
+  stands = stands;
+  bytes = ap (λ (b : List ℕ). b ++ rest) (pushed_bytes h m number r ∙ sym (ap (λ (s : List ℕ). spelled h.items (head_bytes m number) s) r.store ∙ spelled_part h.items (head_bytes m number) r.full r.tail r.sized));
+  ends = inl refl;
+  bad = good;
+}

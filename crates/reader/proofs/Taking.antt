@@ -1,0 +1,329 @@
+-- What a piece does to a part.
+use Rattle.std.proofs.Common.{◌≡◌, ◌≤◌, ◌<◌, ◌+◌, ◌-◌, ◌^◌, ℕ, true, false, List, [], ◌∷◌, ◌++◌, length, drop, Option, Some, None, is_some, nat_le, refl, sym, ap, subst, ◌∙◌, append_assoc, arith, inl, inr}
+use Rattle.std.proofs.lemmas.List.{append-nil, length-append, drop_at}
+use Rattle.byteorder.specs.Endian.{big_bytes}
+use Rattle.packstream.specs.declared.fault.Reason.{Reason}
+use Rattle.packstream.specs.declared.fault.Reason.TheVariants as reason
+use Rattle.packstream.specs.declared.marker.Size.{Size}
+use Rattle.packstream.specs.declared.marker.Marker.{Marker}
+use Rattle.packstream.specs.declared.marker.Marker.TheVariants as announces
+use Rattle.packstream.specs.Plain.{AreBytes}
+use Rattle.packstream.specs.Markers.{marker, size_len}
+use Rattle.std.specs.Str.{IsUtf8, is_utf8}
+use Rattle.std.proofs.lemmas.Str.{is_utf8-from_IsUtf8}
+use Rattle.std.proofs.lemmas.Bool.{le-leb, lt-leb}
+use Rattle.packstream.specs.Good.{is_among}
+use Rattle.packstream.specs.Faults.{fault_at, is_text, nests, keys_of, Bad}
+use Rattle.packstream.proofs.Bounds.{good_spelled}
+use Rattle.packstream.proofs.Ranges.{front_bytes}
+use Rattle.reader.specs.declared.item.Item.{Item}
+use Rattle.reader.specs.declared.reading.Part.{Part}
+use Rattle.reader.specs.declared.reading.Part.TheVariants as part
+use Rattle.reader.specs.Items.{field, body, size_with, joined, head_bytes, part_head, spelled}
+use Rattle.reader.specs.declared.open.Level.{Level}
+use Rattle.reader.specs.Naming.{Name, IsNamed}
+use Rattle.reader.specs.Frames.{Frame, place, AreLevels, HaveNames, head_fault}
+use Rattle.reader.specs.Holding.{Holds, bytes_with, bytes_of, IsAdmitted, IsLacking, Goes, IsDone, IsStanding, HasGrown, HasTaken}
+use Rattle.reader.proofs.Heads.{joined_bytes, joined_fits}
+use Rattle.reader.proofs.Opening.{bad_behind, heads_are}
+use Rattle.reader.proofs.Faulting.{not_text, twice}
+use Rattle.reader.proofs.Values.{IsKeyFrame}
+use Rattle.reader.proofs.Spelled.{spelled_part}
+use Rattle.reader.proofs.Standing.{levels_depth, bytes_behind, names_more, placed_more}
+
+-- with other parts, or more bytes in the store
+abbrev pub parted : Part → Holds → Holds
+parted p h = record h { standing = record h.standing { part = p } }
+
+abbrev pub stored : List ℕ → Holds → Holds
+stored s h = record h { store = h.store ++ s }
+
+-- ---- growth
+
+pub grown_same : (h : Holds) → HasGrown h h
+grown_same h = record { items = ([], sym (append-nil h.items)); store = ([], sym (append-nil h.store)); names = ([], sym (append-nil h.names)) }
+
+pub grown_on : (a b c : Holds) → HasGrown a b → HasGrown b c → HasGrown a c
+grown_on a b c g h = record {
+  items = (g.items.0 ++ h.items.0, h.items.1 ∙ ap (λ (x : List Item). x ++ h.items.0) g.items.1 ∙ append_assoc a.items g.items.0 h.items.0);
+  store = (g.store.0 ++ h.store.0, h.store.1 ∙ ap (λ (x : List ℕ). x ++ h.store.0) g.store.1 ∙ append_assoc a.store g.store.0 h.store.0);
+  names = (g.names.0 ++ h.names.0, h.names.1 ∙ ap (λ (x : List Name). x ++ h.names.0) g.names.1 ∙ append_assoc a.names g.names.0 h.names.0);
+}
+
+-- ---- faults
+
+pub fault_behind : (h : Holds) (p : Part) (rest : List ℕ) (r : Reason) → (g : Goes h p) → fault_at (place g.frames) ((part_head p ++ g.tail) ++ rest) ≡ Some r → (r ≡ reason.Short → ⊥) → Bad (bytes_with h p ++ rest) h.standing.read r × (r ≡ reason.Short → ⊥)
+fault_behind h p rest r g fault other =
+    let all : bytes_with h p ++ rest ≡ spelled h.items [] g.full ++ ((part_head p ++ g.tail) ++ rest) = ap (λ (b : List ℕ). b ++ rest) (bytes_behind h p g) ∙ append_assoc (spelled h.items [] g.full) (part_head p ++ g.tail) rest in (
+      subst (λ (n : ℕ). Bad (bytes_with h p ++ rest) n r) (sym g.read)
+          (subst (λ (b : List ℕ). Bad b (length (spelled h.items [] g.full)) r) (sym all) (bad_behind g.frames (spelled h.items [] g.full) ((part_head p ++ g.tail) ++ rest) r g.are fault)),
+      other,
+    )
+
+-- ---- a head
+
+pub admitted_by : (h : Holds) (m number has : ℕ) → (g : Goes h (part.Head m number has)) → IsAdmitted (place g.frames) m
+admitted_by h m number has g = g.isa.1
+
+-- more bytes of the number
+pub head_longer : (h : Holds) (m number has : ℕ) (bytes : List ℕ) → AreBytes bytes → (g : Goes h (part.Head m number has)) → has + length bytes ≤ field (marker m) → Goes h (part.Head m (joined number bytes) (has + length bytes))
+head_longer h m number has bytes are g le = record {
+  frames = g.frames;
+  full = g.full;
+  tail = g.tail;
+  unread = g.unread;
+  store = g.store;
+  sized = g.sized;
+  fit = g.fit;
+  are = g.are;
+  read = g.read;
+  levels = g.levels;
+  named = g.named;
+  placed = g.placed;
+  isa = (g.isa.0, g.isa.1, le, joined_fits has number bytes are g.isa.3);
+}
+
+spelled_head : (h : Holds) (p : Part) (last : List ℕ) → (g : Goes h p) → g.tail ≡ [] → spelled h.items last h.store ≡ spelled h.items [] g.full ++ last
+spelled_head h p last g none =
+    ap (λ (s : List ℕ). spelled h.items last s) g.store
+    ∙ spelled_part h.items last g.full g.tail g.sized
+    ∙ ap (λ (t : List ℕ). spelled h.items [] g.full ++ (last ++ t)) none
+    ∙ ap (λ (b : List ℕ). spelled h.items [] g.full ++ b) (append-nil last)
+
+pub bytes_longer : (h : Holds) (m number has : ℕ) (bytes : List ℕ) → AreBytes bytes → (g : Goes h (part.Head m number has)) → bytes_with h (part.Head m (joined number bytes) (has + length bytes)) ≡ bytes_with h (part.Head m number has) ++ bytes
+bytes_longer h m number has bytes are g =
+    let front : List ℕ = spelled h.items [] g.full in
+    spelled_head h (part.Head m number has) (m ∷ big_bytes (has + length bytes) (joined number bytes)) g g.isa.0
+    ∙ ap (λ (x : List ℕ). front ++ (m ∷ x)) (joined_bytes has number bytes are)
+    ∙ sym (append_assoc front (m ∷ big_bytes has number) bytes)
+    ∙ ap (λ (b : List ℕ). b ++ bytes) (sym (spelled_head h (part.Head m number has) (m ∷ big_bytes has number) g g.isa.0))
+
+-- all bytes of the number
+pub head_whole : (h : Holds) (m number has : ℕ) (bytes : List ℕ) → AreBytes bytes → (g : Goes h (part.Head m number has)) → has + length bytes ≡ field (marker m)
+    → Goes h (part.Body m (joined number bytes) (body (marker m) (joined number bytes)))
+head_whole h m number has bytes are g e = record {
+  frames = g.frames;
+  full = g.full;
+  tail = g.tail;
+  unread = g.unread;
+  store = g.store;
+  sized = g.sized;
+  fit = g.fit;
+  are = g.are;
+  read = g.read;
+  levels = g.levels;
+  named = g.named;
+  placed = g.placed;
+  isa = (g.isa.1, subst (λ (k : ℕ). joined number bytes < 256 ^ k) e (joined_fits has number bytes are g.isa.3), omega (arith, ap length g.isa.0));
+}
+
+pub bytes_whole : (h : Holds) (m number has lacks : ℕ) (bytes : List ℕ) → AreBytes bytes → (g : Goes h (part.Head m number has)) → has + length bytes ≡ field (marker m)
+    → bytes_with h (part.Body m (joined number bytes) lacks) ≡ bytes_with h (part.Head m number has) ++ bytes
+bytes_whole h m number has lacks bytes are g e =
+    ap (λ (k : ℕ). spelled h.items (m ∷ big_bytes k (joined number bytes)) h.store) (sym e) ∙ bytes_longer h m number has bytes are g
+
+-- a marker that may stand there
+pub head_starts : (h : Holds) (m : ℕ) → (g : Goes h part.Nothing) → IsAdmitted (place g.frames) m → Goes h (part.Head m 0 0)
+head_starts h m g a = record {
+  frames = g.frames;
+  full = g.full;
+  tail = g.tail;
+  unread = g.unread;
+  store = g.store;
+  sized = g.sized;
+  fit = g.fit;
+  are = g.are;
+  read = g.read;
+  levels = g.levels;
+  named = g.named;
+  placed = g.placed;
+  isa = (g.isa, a, omega arith, omega arith);
+}
+
+pub bytes_start : (h : Holds) (m : ℕ) → (g : Goes h part.Nothing) → bytes_with h (part.Head m 0 0) ≡ bytes_with h part.Nothing ++ m ∷ []
+bytes_start h m g =
+    spelled_head h part.Nothing (m ∷ []) g g.isa ∙ ap (λ (b : List ℕ). b ++ m ∷ []) (sym (append-nil (spelled h.items [] g.full)) ∙ sym (spelled_head h part.Nothing [] g g.isa))
+
+-- ---- a text or a byte string
+
+pub body_longer : (h : Holds) (m number lacks left : ℕ) (s : List ℕ) → (g : Goes h (part.Body m number lacks)) → left + length s ≡ lacks → Goes (stored s h) (part.Body m number left)
+body_longer h m number lacks left s g e = record {
+  frames = g.frames;
+  full = g.full;
+  tail = g.tail ++ s;
+  unread = g.unread;
+  store = ap (λ (x : List ℕ). x ++ s) g.store ∙ append_assoc g.full g.tail s;
+  sized = g.sized;
+  fit = g.fit;
+  are = g.are;
+  read = g.read;
+  levels = g.levels;
+  named = names_more g.frames h.names h.store s g.placed g.named;
+  placed = placed_more h.names h.store s g.placed;
+  isa = (g.isa.0, g.isa.1, omega (arith, g.isa.2, length-append g.tail s));
+}
+
+pub bytes_stored : (h : Holds) (m number lacks left : ℕ) (s : List ℕ) → (g : Goes h (part.Body m number lacks)) → bytes_with (stored s h) (part.Body m number left) ≡ bytes_with h (part.Body m number lacks) ++ s
+bytes_stored h m number lacks left s g =
+    let front : List ℕ = spelled h.items [] g.full in
+    let head : List ℕ = head_bytes m number in
+    ap (λ (x : List ℕ). spelled h.items head (x ++ s)) g.store
+    ∙ ap (λ (x : List ℕ). spelled h.items head x) (append_assoc g.full g.tail s)
+    ∙ spelled_part h.items head g.full (g.tail ++ s) g.sized
+    ∙ ap (λ (x : List ℕ). front ++ x) (sym (append_assoc head g.tail s))
+    ∙ sym (append_assoc front (head ++ g.tail) s)
+    ∙ ap (λ (b : List ℕ). b ++ s) (sym (bytes_behind h (part.Body m number lacks) g))
+
+pub grown_stored : (h : Holds) (s : List ℕ) → HasGrown h (stored s h)
+grown_stored h s = record { items = ([], sym (append-nil h.items)); store = (s, refl); names = ([], sym (append-nil h.names)) }
+
+-- where the text begins
+pub tail_at : (h : Holds) (m number start : ℕ) (size : Size) → marker m ≡ Some (announces.Text size) → (g : Goes h (part.Body m number 0)) → start + size_with size number ≡ length h.store → drop start h.store ≡ g.tail
+tail_at h m number start size is g e =
+    let n : body (marker m) number ≡ size_with size number = ap (λ (o : Option Marker). body o number) is in
+    let at : length g.full ≡ start = omega (arith, e, n, g.isa.2, ap length g.store, length-append g.full g.tail) in
+    ap (λ (s : List ℕ). drop start s) g.store ∙ drop_at g.full g.tail start at
+
+-- ---- a piece that ends in a part
+
+goes_parted : (h : Holds) (p q : Part) → Goes h p → Goes (parted q h) p
+goes_parted h p q g = record {
+  frames = g.frames;
+  full = g.full;
+  tail = g.tail;
+  unread = g.unread;
+  store = g.store;
+  sized = g.sized;
+  fit = g.fit;
+  are = g.are;
+  read = g.read;
+  levels = g.levels;
+  named = g.named;
+  placed = g.placed;
+  isa = g.isa;
+}
+
+pub part_taken : (h : Holds) (p : Part) (b : List ℕ) → Goes h p → IsLacking p → bytes_with h p ≡ b → h.standing.bad ≡ None → HasTaken b (parted p h) []
+part_taken h p b g lacks e good = record {
+  stands = inr (goes_parted h p p g, lacks);
+  bytes = append-nil (bytes_with h p) ∙ e;
+  ends = inr refl;
+  bad = good;
+}
+
+-- ---- what follows the value
+
+pub trails : (h : Holds) (x : ℕ) (rest : List ℕ) → (d : IsDone h) → AreBytes (bytes_of h) → Bad (bytes_of h ++ x ∷ rest) h.standing.read reason.Trailing × (reason.Trailing ≡ reason.Short → ⊥)
+trails h x rest d bytes =
+    let all : bytes_of h ≡ spelled h.items [] h.store = ap (λ (p : Part). spelled h.items (part_head p) h.store) d.none in
+    let good = good_spelled d.tree (spelled h.items [] h.store) (subst AreBytes all bytes) d.deep d.sound d.spells in (
+      inr (refl, (d.tree, spelled h.items [] h.store, x ∷ rest, good.0, good.1, ap (λ (b : List ℕ). b ++ x ∷ rest) all, omega arith, d.read)),
+      λ (e : reason.Trailing ≡ reason.Short). cc,
+    )
+
+-- ---- a text that isn't one, and a key that stands twice
+
+pub text_bad : (h : Holds) (m number : ℕ) (size : Size) (rest : List ℕ) → marker m ≡ Some (announces.Text size) → (g : Goes h (part.Body m number 0)) → is_utf8 g.tail ≡ false
+    → Bad (bytes_with h (part.Body m number 0) ++ rest) h.standing.read reason.Utf8 × (reason.Utf8 ≡ reason.Short → ⊥)
+text_bad h m number size rest is g bad =
+    let n : length g.tail ≡ size_with size number = omega (arith, g.isa.2) ∙ ap (λ (o : Option Marker). body o number) is in
+    let small : number < 256 ^ size_len size = subst (λ (o : Option Marker). number < 256 ^ field o) is g.isa.1 in
+    fault_behind h (part.Body m number 0) rest reason.Utf8 g
+    (ap (fault_at (place g.frames)) (append_assoc (head_bytes m number) g.tail rest) ∙ not_text (place g.frames) m number size g.tail rest is small n bad)
+    (λ (e : reason.Utf8 ≡ reason.Short). cc)
+
+pub key_twice : (h : Holds) (m number start : ℕ) (size : Size) (rest : List ℕ) → marker m ≡ Some (announces.Text size) → (g : Goes h (part.Body m number 0)) → (k : IsKeyFrame g.frames) → drop start h.store ≡ g.tail
+    → IsUtf8 g.tail → IsNamed h.names h.store k.first (drop start h.store)
+    → Bad (bytes_with h (part.Body m number 0) ++ rest) h.standing.read reason.KeyTwice × (reason.KeyTwice ≡ reason.Short → ⊥)
+key_twice h m number start size rest is g k there utf8 named =
+    let n : length g.tail ≡ size_with size number = omega (arith, g.isa.2) ∙ ap (λ (o : Option Marker). body o number) is in
+    let small : number < 256 ^ size_len size = subst (λ (o : Option Marker). number < 256 ^ field o) is g.isa.1 in
+    let names = subst (λ (fs : List Frame). HaveNames fs h.names h.store) k.is g.named in
+    let among : is_among g.tail (keys_of k.es) ≡ true = (names.0.0 g.tail).1 (subst (λ (s : List ℕ). IsNamed h.names h.store k.first s) there named) in
+    let key : (place g.frames).key ≡ Some (keys_of k.es) = ap (λ (fs : List Frame). (place fs).key) k.is in
+    fault_behind h (part.Body m number 0) rest reason.KeyTwice g
+    (ap (fault_at (place g.frames)) (append_assoc (head_bytes m number) g.tail rest) ∙ twice (place g.frames) m number size g.tail rest (keys_of k.es) is small n (is_utf8-from_IsUtf8 g.tail utf8) key among)
+    (λ (e : reason.KeyTwice ≡ reason.Short). cc)
+
+-- as the code has it
+pub stored_is : (h : Holds) (b s : List ℕ) (ns : List Name) → b ≡ h.store ++ s → ns ≡ h.names → record h { store = b; names = ns } ≡ stored s h
+stored_is h b s ns e f = rw (e, f) refl
+
+-- what an admitted head isn't
+pub refuses_deep : (fs : List Frame) (m : Marker) (n : ℕ) (around : List Level) → AreLevels fs n around → is_text m ≡ false → is_some (place fs).key ≡ false → nests m ≡ true → n ≡ 32 → head_fault (place fs) m ≡ Some reason.Depth
+refuses_deep fs m n around levels t k e d =
+    let heads : nat_le 32 (place fs).heads ≡ true = le-leb 32 (place fs).heads (omega (arith, heads_are fs, levels_depth fs n around levels)) in
+    rw (t, k, e, heads) refl
+
+pub refuses_flat : (fs : List Frame) (m : Marker) → is_text m ≡ false → is_some (place fs).key ≡ false → nests m ≡ false → head_fault (place fs) m ≡ None
+refuses_flat fs m t k e = rw (t, k, e) refl
+
+pub refuses_none : (fs : List Frame) (m : Marker) (n : ℕ) (around : List Level) → AreLevels fs n around → is_text m ≡ false → is_some (place fs).key ≡ false → nests m ≡ true → n ≤ 32 → (n ≡ 32 → ⊥) → head_fault (place fs) m ≡ None
+refuses_none fs m n around levels t k e le d =
+    let heads : nat_le 32 (place fs).heads ≡ false = lt-leb 32 (place fs).heads (omega (arith, heads_are fs, levels_depth fs n around levels, d)) in
+    rw (t, k, e, heads) refl
+
+pub no_text : (m : Marker) → ((size : Size) → m ≡ announces.Text size → ⊥) → is_text m ≡ false
+no_text announces.Null h = refl
+no_text (announces.Bool b) h = refl
+no_text (announces.Tiny z) h = refl
+no_text (announces.Int w) h = refl
+no_text announces.Float h = refl
+no_text (announces.Bytes size) h = refl
+no_text (announces.Text size) h = absurd (h size refl)
+no_text (announces.List size) h = refl
+no_text (announces.Dict size) h = refl
+no_text (announces.Struct n) h = refl
+
+-- ---- where it stands
+
+pub goes_of : (h : Holds) → IsStanding h → h.standing.part ≡ part.Nothing → h.standing.«open».is_whole ≡ false → Goes h part.Nothing
+goes_of h (inl d) none unread = absurd (let k : true ≡ false = sym d.whole ∙ unread in cc)
+goes_of h (inr u) none unread = subst (λ (p : Part). Goes h p) none u.0
+
+pub done_of : (h : Holds) → IsStanding h → h.standing.«open».is_whole ≡ true → IsDone h
+done_of h (inl d) ended = d
+done_of h (inr u) ended = absurd (let k : true ≡ false = sym ended ∙ (u.0).unread in cc)
+
+pub part_of : (h : Holds) (p : Part) → IsStanding h → h.standing.part ≡ p → (p ≡ part.Nothing → ⊥) → Goes h p
+part_of h p (inl d) e other = absurd (other (sym e ∙ d.none))
+part_of h p (inr u) e other = subst (λ (q : Part). Goes h q) e u.0
+
+pub head_bad : (h : Holds) (m : ℕ) (rest : List ℕ) (r : Reason) → h.standing.part ≡ part.Nothing → (g : Goes h part.Nothing) → (fault_at (place g.frames) (m ∷ rest) ≡ Some r) × (r ≡ reason.Short → ⊥)
+    → Bad (bytes_of h ++ m ∷ rest) h.standing.read r × (r ≡ reason.Short → ⊥)
+head_bad h m rest r none g f =
+    let fault : fault_at (place g.frames) (g.tail ++ m ∷ rest) ≡ Some r = ap (λ (t : List ℕ). fault_at (place g.frames) (t ++ m ∷ rest)) g.isa ∙ f.0 in
+    subst (λ (p : Part). Bad (bytes_with h p ++ m ∷ rest) h.standing.read r × (r ≡ reason.Short → ⊥)) (sym none) (fault_behind h part.Nothing (m ∷ rest) r g fault f.1)
+
+pub bytes_begin : (h : Holds) (m : ℕ) (rest : List ℕ) → h.standing.part ≡ part.Nothing → (g : Goes h part.Nothing) → bytes_with h (part.Head m 0 0) ++ rest ≡ bytes_of h ++ m ∷ rest
+bytes_begin h m rest none g =
+    ap (λ (b : List ℕ). b ++ rest) (bytes_start h m g) ∙ append_assoc (bytes_with h part.Nothing) (m ∷ []) rest ∙ ap (λ (p : Part). bytes_with h p ++ m ∷ rest) (sym none)
+
+-- ---- a whole piece
+
+pub taken_more : (b c : List ℕ) (new : Holds) (rest : List ℕ) → b ≡ c → HasTaken b new rest → HasTaken c new rest
+taken_more b c new rest e t = subst (λ (x : List ℕ). HasTaken x new rest) e t
+
+pub taken_itself : (h : Holds) (b rest : List ℕ) → HasTaken b h rest → HasTaken (bytes_of h ++ rest) h rest
+taken_itself h b rest t = record { stands = t.stands; bytes = refl; ends = t.ends; bad = t.bad }
+
+-- what is fed where no part is open
+pub taken_none : (h : Holds) (piece : List ℕ) → IsStanding h → h.standing.bad ≡ None → h.standing.part ≡ part.Nothing → HasTaken (bytes_of h ++ piece) h piece
+taken_none h piece stands good none = record { stands = stands; bytes = refl; ends = inl none; bad = good }
+
+-- where bytes rest, no part is open
+pub none_open : (b : List ℕ) (new : Holds) (rest : List ℕ) → HasTaken b new rest → 0 < length rest → new.standing.part ≡ part.Nothing
+none_open b new rest t lt = elim (t.ends) as (λ _. new.standing.part ≡ part.Nothing) [
+  | inl none ↦ none
+  | inr e ↦ absurd (omega (arith, ap length e))
+]
+
+pub has_bytes : (b : List ℕ) (new : Holds) (rest : List ℕ) → HasTaken b new rest → AreBytes b → AreBytes (bytes_of new)
+has_bytes b new rest t are = front_bytes (bytes_of new) rest (subst AreBytes (sym t.bytes) are)
+
+-- the text of an item that is all there begins so far before the end
+pub text_starts : (h : Holds) (m number start all len : ℕ) (size : Size) → marker m ≡ Some (announces.Text size) → (g : Goes h (part.Body m number 0)) → all ≡ length h.store → len ≡ size_with size number → start ≡ all - len
+    → start + size_with size number ≡ length h.store
+text_starts h m number start all len size is g a l e =
+    let n : body (marker m) number ≡ size_with size number = ap (λ (o : Option Marker). body o number) is in
+    omega (arith, n, g.isa.2, ap length g.store, length-append g.full g.tail)

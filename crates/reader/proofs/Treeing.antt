@@ -1,0 +1,257 @@
+-- The tree of a dictionary's keys: it stays where bytes come, where it is cut, and where a key is hung on it.
+use Rattle.std.proofs.Common.{◌≡◌, ◌≤◌, ◌<◌, ◌+◌, ◌-◌, ℕ, zero, suc, Bool, true, false, cond, List, [], ◌∷◌, ◌++◌, length, take, drop, Option, Some, None, refl, sym, ap, subst, ◌∙◌, arith, inl, inr}
+use Rattle.std.specs.Prelude.{slice_get, ◌⊎◌, ◌↔◌, IsTrue, ◌==◌, ◌/◌, ◌%◌, ◌^◌, nat_lt, bit_and}
+use Rattle.std.proofs.lemmas.Bool.{le-ltb}
+use Rattle.std.proofs.lemmas.Nat.Bits.{shr_and_one}
+use Rattle.std.proofs.lemmas.List.{take-append-le, drop-append-le, length-drop, length-append, take-append-drop}
+use Rattle.std.proofs.lemmas.Option.{slice_get_within}
+use Rattle.reader.specs.declared.texts.Key.{Key}
+use Rattle.reader.specs.Naming.{Name, name, names_of, text_of, IsNamed, ArePlaced, IsRoot, digest_of, side_of, HangsOn, Leads, IsTree, HangsNone, IsFree}
+
+-- ---- elements of lists
+
+pub get_front : {A : Type 0} (xs ys : List A) (i : ℕ) (x : A) → slice_get xs i ≡ Some x → slice_get (xs ++ ys) i ≡ Some x
+get_front [] ys i x e = absurd cc
+get_front (z ∷ xs) ys zero x e = e
+get_front (z ∷ xs) ys (suc i) x e = get_front xs ys i x e
+
+pub get_last : {A : Type 0} (xs : List A) (y : A) → slice_get (xs ++ y ∷ []) (length xs) ≡ Some y
+get_last [] y = refl
+get_last (x ∷ xs) y = get_last xs y
+
+pub get_pushed : {A : Type 0} (xs : List A) (y : A) (i : ℕ) (z : A) → slice_get (xs ++ y ∷ []) i ≡ Some z → (slice_get xs i ≡ Some z) ⊎ ((i ≡ length xs) × (y ≡ z))
+get_pushed [] y zero z e = inr (refl, cc)
+get_pushed [] y (suc i) z e = absurd cc
+get_pushed (x ∷ xs) y zero z e = inl e
+get_pushed (x ∷ xs) y (suc i) z e = elim (get_pushed xs y i z e) as (λ _. (slice_get (x ∷ xs) (suc i) ≡ Some z) ⊎ ((suc i ≡ length (x ∷ xs)) × (y ≡ z))) [
+  | inl h ↦ inl h
+  | inr h ↦ inr (ap (λ (n : ℕ). suc n) h.0, h.1)
+]
+
+pub get_take : {A : Type 0} (xs : List A) (m i : ℕ) (x : A) → i < m → slice_get xs i ≡ Some x → slice_get (take m xs) i ≡ Some x
+get_take [] m i x lt e = absurd cc
+get_take (z ∷ xs) zero i x lt e = absurd (omega arith)
+get_take (z ∷ xs) (suc m) zero x lt e = e
+get_take (z ∷ xs) (suc m) (suc i) x lt e = get_take xs m i x (omega arith) e
+
+pub get_taken : {A : Type 0} (xs : List A) (m i : ℕ) (x : A) → slice_get (take m xs) i ≡ Some x → (i < m) × (slice_get xs i ≡ Some x)
+get_taken [] zero i x e = absurd cc
+get_taken [] (suc m) i x e = absurd cc
+get_taken (z ∷ xs) zero i x e = absurd cc
+get_taken (z ∷ xs) (suc m) zero x e = (omega arith, e)
+get_taken (z ∷ xs) (suc m) (suc i) x e = let h = get_taken xs m i x e in (omega (arith, h.0), h.1)
+
+pub one_element : {A : Type 0} (xs : List A) (i : ℕ) (x y : A) → slice_get xs i ≡ Some x → slice_get xs i ≡ Some y → x ≡ y
+one_element {A} xs i x y e f = let g : ◌≡◌ {A = Option A} (Some x) (Some y) = sym e ∙ f in cc
+
+-- ---- names
+
+pub named_key : (keys : List Key) (i : ℕ) (n : Name) → slice_get (names_of keys) i ≡ Some n → (k : Key) × (slice_get keys i ≡ Some k) × (name k ≡ n)
+named_key [] i n e = absurd cc
+named_key (k ∷ keys) zero n e = (k, refl, cc)
+named_key (k ∷ keys) (suc i) n e = named_key keys i n e
+
+pub name_at : (keys : List Key) (i : ℕ) (k : Key) → slice_get keys i ≡ Some k → slice_get (names_of keys) i ≡ Some (name k)
+name_at [] i k e = absurd cc
+name_at (x ∷ keys) zero k e = let same : x ≡ k = cc in ap (λ (y : Key). Some (name y)) same
+name_at (x ∷ keys) (suc i) k e = name_at keys i k e
+
+pub count_names : (keys : List Key) → length (names_of keys) ≡ length keys
+count_names [] = refl
+count_names (k ∷ keys) = ap (λ (n : ℕ). suc n) (count_names keys)
+
+pub text_more : (a b : List ℕ) (start len : ℕ) → start + len ≤ length a → take len (drop start (a ++ b)) ≡ take len (drop start a)
+text_more a b start len le =
+    let d : drop start (a ++ b) ≡ drop start a ++ b = drop-append-le start a b (omega arith) in
+    rw d (take-append-le len (drop start a) b (omega (arith, length-drop start a)))
+
+-- ---- more bytes
+
+pub tree_extends : (keys : List Key) (bytes s : List ℕ) → IsTree keys bytes → IsTree keys (bytes ++ s)
+tree_extends keys bytes s tree = λ i k e.
+    (let p = tree i k e in
+    let same : text_of (bytes ++ s) (name k) ≡ text_of bytes (name k) = text_more bytes s k.start k.len p.within in
+    record {
+      root = p.root;
+      root_is = p.root_is;
+      root_first = p.root_first;
+      behind = p.behind;
+      within = omega (arith, p.within, length-append bytes s);
+      digest = rw same p.digest;
+      steps = p.steps;
+      leads = rw same p.leads;
+    })
+
+-- ---- a cut
+
+hangs_cut : (keys : List Key) (m first at : ℕ) (side : Bool) (next : ℕ) → HangsOn keys first at side next → next < m → HangsOn (take m keys) first at side next
+hangs_cut keys m first at side next h lt = record {
+  upper = h.upper;
+  lower = h.lower;
+  upper_is = get_take keys m at h.upper (omega (arith, h.later)) h.upper_is;
+  upper_first = h.upper_first;
+  linked = h.linked;
+  later = h.later;
+  lower_is = get_take keys m next h.lower lt h.lower_is;
+  lower_first = h.lower_first;
+  above = h.above;
+}
+
+pub leads_up : (keys : List Key) (first : ℕ) (s : List ℕ) (above at steps to : ℕ) → Leads keys first s above at steps to → at ≤ to
+leads_up keys first s above at zero to h = omega (arith, h)
+leads_up keys first s above at (suc steps) to h = let up = leads_up keys first s (suc above) h.0 steps to h.2 in omega (arith, h.1.later)
+
+leads_cut : (keys : List Key) (m first : ℕ) (s : List ℕ) (above at steps to : ℕ) → Leads keys first s above at steps to → to < m → Leads (take m keys) first s above at steps to
+leads_cut keys m first s above at zero to h lt = h
+leads_cut keys m first s above at (suc steps) to h lt =
+    let up = leads_up keys first s (suc above) h.0 steps to h.2 in
+    (h.0, hangs_cut keys m first at (side_of (digest_of s) s above) h.0 h.1 (omega arith), leads_cut keys m first s (suc above) h.0 steps to h.2 lt)
+
+pub tree_cut : (keys : List Key) (bytes : List ℕ) (m n : ℕ) → IsTree keys bytes → ArePlaced (take m (names_of keys)) (length (take n bytes)) → IsTree (take m keys) (take n bytes)
+tree_cut keys bytes m n tree placed = λ i k e.
+    (let g = get_taken keys m i k e in
+    let p = tree i k g.1 in
+    let in_cut = placed i (name k) (get_take (names_of keys) m i (name k) g.0 (name_at keys i k g.1)) in
+    let same : text_of (take n bytes) (name k) ≡ text_of bytes (name k) =
+    sym (text_more (take n bytes) (drop n bytes) k.start k.len in_cut.1) ∙ ap (λ (b : List ℕ). text_of b (name k)) (take-append-drop n bytes) in
+    record {
+      root = p.root;
+      root_is = get_take keys m k.first p.root (omega (arith, p.behind, g.0)) p.root_is;
+      root_first = p.root_first;
+      behind = p.behind;
+      within = in_cut.1;
+      digest = rw same p.digest;
+      steps = p.steps;
+      leads = rw same (leads_cut keys m k.first (text_of bytes (name k)) 0 k.first p.steps i p.leads g.0);
+    })
+
+-- ---- a search
+
+pub leads_on : (keys : List Key) (first : ℕ) (s : List ℕ) (above at steps mid j next : ℕ) → Leads keys first s above at steps mid → j ≡ above + steps
+    → HangsOn keys first mid (side_of (digest_of s) s j) next → Leads keys first s above at (suc steps) next
+leads_on keys first s above at zero mid j next h e hang =
+    let here : j ≡ above = omega arith in
+    (next, subst (λ (n : ℕ). HangsOn keys first n (side_of (digest_of s) s above) next) (sym h) (subst (λ (n : ℕ). HangsOn keys first mid (side_of (digest_of s) s n) next) here hang), refl)
+leads_on keys first s above at (suc steps) mid j next h e hang = (h.0, h.1, leads_on keys first s (suc above) h.0 steps mid j next h.2 (omega arith) hang)
+
+one_below : (keys : List Key) (first at : ℕ) (side : Bool) (a b : ℕ) → HangsOn keys first at side a → HangsOn keys first at side b → a ≡ b
+one_below keys first at side a b g h =
+    let same : g.upper ≡ h.upper = one_element keys at g.upper h.upper g.upper_is h.upper_is in
+    sym g.linked ∙ ap (λ (k : Key). cond side k.right k.left) same ∙ h.linked
+
+-- so far a search for s came down to `at`, and each key s of the dictionary stands there or below it
+pub record Searched (keys : List Key) (bytes : List ℕ) (first : ℕ) (s : List ℕ) (above at : ℕ) : Type 0 where
+  pub upper : Key
+  pub upper_is : slice_get keys at ≡ Some upper
+  pub upper_first : upper.first ≡ first
+  pub root : Key
+  pub root_is : slice_get keys first ≡ Some root
+  pub root_first : root.first ≡ first
+  pub low : above ≤ at
+  pub led : Leads keys first s 0 first above at
+  pub below : (i : ℕ) (k : Key) → slice_get keys i ≡ Some k → k.first ≡ first → text_of bytes (name k) ≡ s → (steps : ℕ) × Leads keys first s above at steps i
+
+pub search_starts : (keys : List Key) (bytes : List ℕ) (first : ℕ) (s : List ℕ) → IsTree keys bytes → IsRoot (names_of keys) first → first < length keys → Searched keys bytes first s 0 first
+search_starts keys bytes first s tree (inl e) lt = absurd (omega (arith, count_names keys))
+search_starts keys bytes first s tree (inr h) lt =
+    let k = named_key keys h.0 h.1 h.2 in
+    let first_is : (k.0).first ≡ first = ap (λ (n : Name). n.first) k.2 ∙ h.3 in
+    let p = tree h.0 k.0 k.1 in
+    record {
+      upper = p.root;
+      upper_is = subst (λ (n : ℕ). slice_get keys n ≡ Some p.root) first_is p.root_is;
+      upper_first = p.root_first ∙ first_is;
+      root = p.root;
+      root_is = subst (λ (n : ℕ). slice_get keys n ≡ Some p.root) first_is p.root_is;
+      root_first = p.root_first ∙ first_is;
+      low = omega arith;
+      led = refl;
+      below = λ i j e f t. (let q = tree i j e in (q.steps, subst (λ (x : List ℕ). Leads keys first x 0 first q.steps i) t (subst (λ (n : ℕ). Leads keys n (text_of bytes (name j)) 0 n q.steps i) f q.leads)));
+    }
+
+goes_below : (keys : List Key) (bytes : List ℕ) (first : ℕ) (s : List ℕ) (above at next : ℕ) → ((k : Key) → slice_get keys at ≡ Some k → text_of bytes (name k) ≡ s → ⊥) → HangsOn keys first at (side_of (digest_of s) s above) next
+    → (i : ℕ) (k : Key) → slice_get keys i ≡ Some k → text_of bytes (name k) ≡ s → (steps : ℕ) × Leads keys first s above at steps i → (steps : ℕ) × Leads keys first s (suc above) next steps i
+goes_below keys bytes first s above at next other hang i k e t (zero, h) = absurd (other k (subst (λ (n : ℕ). slice_get keys n ≡ Some k) (sym h) e) t)
+goes_below keys bytes first s above at next other hang i k e t (suc steps, h) =
+    let same : h.0 ≡ next = one_below keys first at (side_of (digest_of s) s above) h.0 next h.1 hang in
+    (steps, subst (λ (n : ℕ). Leads keys first s (suc above) n steps i) same h.2)
+
+-- it isn't this key: so the search goes on below it
+pub search_goes_on : (keys : List Key) (bytes : List ℕ) (first : ℕ) (s : List ℕ) (above at next : ℕ) → Searched keys bytes first s above at
+    → ((k : Key) → slice_get keys at ≡ Some k → text_of bytes (name k) ≡ s → ⊥) → HangsOn keys first at (side_of (digest_of s) s above) next → Searched keys bytes first s (above + 1) next
+search_goes_on keys bytes first s above at next h other hang =
+    let more : suc above ≡ above + 1 = omega arith in
+    subst (λ (n : ℕ). Searched keys bytes first s n next) more (record {
+      upper = hang.lower;
+      upper_is = hang.lower_is;
+      upper_first = hang.lower_first;
+      root = h.root;
+      root_is = h.root_is;
+      root_first = h.root_first;
+      low = omega (arith, h.low, hang.later);
+      led = leads_on keys first s 0 first above at above next h.led (omega arith) hang;
+      below = λ i k e f t. goes_below keys bytes first s above at next other hang i k e t (h.below i k e f t);
+    })
+
+-- it is this key
+pub search_finds : (keys : List Key) (bytes : List ℕ) (first : ℕ) (s : List ℕ) (above at : ℕ) (k : Key) → Searched keys bytes first s above at → slice_get keys at ≡ Some k → text_of bytes (name k) ≡ s
+    → IsNamed (names_of keys) bytes first s
+search_finds keys bytes first s above at k h e t =
+    let same : h.upper ≡ k = one_element keys at h.upper k h.upper_is e in
+    (at, name k, name_at keys at k e, ap (λ (x : Key). x.first) (sym same) ∙ h.upper_first, t)
+
+not_below : (keys : List Key) (bytes : List ℕ) (first : ℕ) (s : List ℕ) (above at : ℕ) → ((k : Key) → slice_get keys at ≡ Some k → text_of bytes (name k) ≡ s → ⊥) → HangsNone keys first at (side_of (digest_of s) s above)
+    → (i : ℕ) (k : Key) → slice_get keys i ≡ Some k → text_of bytes (name k) ≡ s → (steps : ℕ) × Leads keys first s above at steps i → ⊥
+not_below keys bytes first s above at other none i k e t (zero, h) = other k (subst (λ (n : ℕ). slice_get keys n ≡ Some k) (sym h) e) t
+not_below keys bytes first s above at other none i k e t (suc steps, h) = none h.0 h.1
+
+-- nothing is below it: so no key is this text, which may hang there
+pub search_ends : (keys : List Key) (bytes : List ℕ) (first : ℕ) (s : List ℕ) (above at : ℕ) (side : Bool) → Searched keys bytes first s above at
+    → ((k : Key) → slice_get keys at ≡ Some k → text_of bytes (name k) ≡ s → ⊥) → side ≡ side_of (digest_of s) s above → HangsNone keys first at side
+    → (IsNamed (names_of keys) bytes first s → ⊥) × IsFree keys first s (Some (record { key = at; is_right = side }))
+search_ends keys bytes first s above at side h other is none = (
+  (λ (n : IsNamed (names_of keys) bytes first s).
+      let k = named_key keys n.0 n.1 n.2 in
+      let of_first : (k.0).first ≡ first = ap (λ (x : Name). x.first) k.2 ∙ n.3 in
+      let text : text_of bytes (name k.0) ≡ s = ap (λ (x : Name). text_of bytes x) k.2 ∙ n.4 in
+      not_below keys bytes first s above at other (subst (λ (b : Bool). HangsNone keys first at b) is none) n.0 k.0 k.1 text (h.below n.0 k.0 k.1 of_first text)),
+  (above, h.led, is, none, (h.upper, h.upper_is, h.upper_first), (h.root, h.root_is, h.root_first)),
+)
+
+is_first : (keys : List Key) (bytes : List ℕ) (first : ℕ) → IsTree keys bytes → IsRoot (names_of keys) first → length keys ≤ first → first ≡ length keys
+is_first keys bytes first tree (inl e) le = e ∙ count_names keys
+is_first keys bytes first tree (inr h) le =
+    let k = named_key keys h.0 h.1 h.2 in
+    let of_first : (k.0).first ≡ first = ap (λ (x : Name). x.first) k.2 ∙ h.3 in
+    let within : h.0 < length keys = slice_get_within keys h.0 k.0 k.1 in
+    absurd (omega (arith, (tree h.0 k.0 k.1).behind, of_first, within))
+
+-- the dictionary has no key
+pub search_is_over : (keys : List Key) (bytes : List ℕ) (first : ℕ) (s : List ℕ) → IsTree keys bytes → IsRoot (names_of keys) first → length keys ≤ first
+    → (IsNamed (names_of keys) bytes first s → ⊥) × IsFree keys first s None
+search_is_over keys bytes first s tree root le = (
+  (λ (n : IsNamed (names_of keys) bytes first s).
+      let k = named_key keys n.0 n.1 n.2 in
+      let of_first : (k.0).first ≡ first = ap (λ (x : Name). x.first) k.2 ∙ n.3 in
+      let within : n.0 < length keys = slice_get_within keys n.0 k.0 k.1 in
+      absurd (omega (arith, (tree n.0 k.0 k.1).behind, of_first, within))),
+  is_first keys bytes first tree root le,
+)
+
+-- ---- tests
+
+pub iff_true : (b : Bool) (P : Type 0) → (IsTrue b ↔ P) → b ≡ true → P
+iff_true true P h e = h.0 refl
+iff_true false P h e = absurd cc
+
+pub iff_false : (b : Bool) (P : Type 0) → (IsTrue b ↔ P) → b ≡ false → P → ⊥
+iff_false true P h e p = cc
+iff_false false P h e p = let q : false ≡ true = h.1 p in cc
+
+pub side_deep : (d : ℕ) (s : List ℕ) (above b : ℕ) → 64 ≤ above → slice_get s ((above - 64) / 8) ≡ Some b → (bit_and (b / 2 ^ ((above - 64) % 8)) 1 == 1) ≡ side_of d s above
+unfolding side_of
+side_deep d s above b le e = let late : nat_lt above 64 ≡ false = le-ltb _ _ le in rw (late, e) (ap (λ (n : ℕ). n == 1) (shr_and_one b ((above - 64) % 8)))
+
+pub side_past : (d : ℕ) (s : List ℕ) (above : ℕ) → 64 ≤ above → slice_get s ((above - 64) / 8) ≡ None → false ≡ side_of d s above
+unfolding side_of
+side_past d s above le e = let late : nat_lt above 64 ≡ false = le-ltb _ _ le in rw (late, e) refl

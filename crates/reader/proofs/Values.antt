@@ -1,0 +1,321 @@
+-- An item as a value, as the head of what opens, and as a key.
+use Rattle.std.proofs.Common.{◌≡◌, ◌≤◌, ◌<◌, ◌+◌, ◌-◌, ◌%◌, ◌^◌, ◌&&◌, cond, nat_le, ℕ, Bool, true, false, List, [], ◌∷◌, ◌++◌, length, take, drop, Option, Some, None, is_some, refl, sym, ap, subst, ◌∙◌, arith, inl, inr}
+use Rattle.std.proofs.lemmas.Bool.{leb-false}
+use Rattle.std.proofs.lemmas.List.{append-nil}
+use Rattle.std.proofs.Math.Seq.{take-length}
+use Rattle.std.proofs.lemmas.Option.{slice_get_within}
+use Rattle.std.specs.Str.{IsUtf8}
+use Rattle.byteorder.specs.Endian.{big_bytes, twos_complement}
+use Rattle.packstream.specs.declared.fault.Reason.TheVariants as reason
+use Rattle.packstream.specs.declared.marker.Size.{Size}
+use Rattle.packstream.specs.declared.marker.Marker.{Marker}
+use Rattle.packstream.specs.declared.marker.Marker.TheVariants as announces
+use Rattle.packstream.specs.Tree.{Tree, null, boolean, int, float, byte_string, text, list, dict, structure, no_trees, Entries, no_entries}
+use Rattle.packstream.specs.Good.{depth, IsSound, is_among}
+use Rattle.packstream.specs.Markers.{width, marker, size_len}
+use Rattle.packstream.specs.Spelling.{SpellsText, SpellsTree}
+use Rattle.packstream.specs.Faults.{Place, Opened, in_list, in_struct, at_key, at_value, keys_of, key_there, is_text, nests}
+use Rattle.packstream.proofs.Shortest.{number_of}
+use Rattle.reader.specs.declared.open.Open.{Open}
+use Rattle.reader.specs.declared.open.Inside.TheVariants as inside
+use Rattle.reader.specs.declared.reading.Part.TheVariants as part
+use Rattle.reader.specs.Items.{field, body, size_with, head_bytes, spelled}
+use Rattle.reader.specs.Naming.{Name, IsNamed, ArePlaced, IsRoot, text_of}
+use Rattle.reader.specs.Frames.{Frame, waits, next_of, place, AreFrames, AreLevels, AreNames, HaveNames, head_fault}
+use Rattle.reader.specs.Holding.{Holds, pushed, IsAdmitted, Goes, IsStanding, IsValue, IsListOf}
+use Rattle.reader.proofs.Heads.{sized_by}
+use Rattle.reader.proofs.Opening.{heads_are}
+use Rattle.reader.proofs.Heading.{list_opens, dict_opens, struct_opens, list_is_empty, dict_is_empty, struct_is_empty, key_waits}
+use Rattle.reader.proofs.Treeing.{get_pushed}
+use Rattle.reader.proofs.Standing.{levels_depth, few_frames, after, IsReady, ready, goes_on, names_push, key_named, no_names, all_before, root_of}
+
+-- ---- what a head may be
+
+no_key_there : (o : Option (List (List ℕ))) → is_some o ≡ false → o ≡ None
+no_key_there None e = refl
+no_key_there (Some k) e = absurd cc
+
+keyless : (key full : Bool) → cond key (Some reason.KeyKind) (cond full (Some reason.Depth) None) ≡ None → (key ≡ false) × (full ≡ false)
+keyless true full e = absurd cc
+keyless false true e = absurd cc
+keyless false false e = (refl, refl)
+
+not_text : (text key full : Bool) → text ≡ false → cond text None (cond key (Some reason.KeyKind) (cond full (Some reason.Depth) None)) ≡ None → (key ≡ false) × (full ≡ false)
+not_text true key full e f = absurd cc
+not_text false key full e f = keyless key full f
+
+-- a head that isn't a text's stands where no key does
+no_key_at : (p : Place) (m : Marker) → is_text m ≡ false → head_fault p m ≡ None → p.key ≡ None
+no_key_at p m e f = no_key_there p.key (not_text (is_text m) (is_some p.key) (nests m && nat_le 32 p.heads) e f).0
+
+-- and what nests stands not too deep
+not_deep : (p : Place) (m : Marker) → is_text m ≡ false → nests m ≡ true → head_fault p m ≡ None → p.heads < 32
+not_deep p m e n f =
+    let g = (not_text (is_text m) (is_some p.key) (nests m && nat_le 32 p.heads) e f).1 in
+    leb-false 32 p.heads (ap (λ (b : Bool). b && nat_le 32 p.heads) (sym n) ∙ g)
+
+same_marker : (a b : Marker) (m : ℕ) → marker m ≡ Some a → marker m ≡ Some b → a ≡ b
+same_marker a b m e f = let g : ◌≡◌ {A = Option Marker} (Some a) (Some b) = sym e ∙ f in cc
+
+head_ok : (p : Place) (m : ℕ) (what : Marker) → marker m ≡ Some what → IsAdmitted p m → head_fault p what ≡ None
+head_ok p m what is a = subst (λ (x : Marker). head_fault p x ≡ None) (same_marker a.0 what m a.1 is) a.2
+
+head_is : (m number : ℕ) (what : Marker) → marker m ≡ Some what → head_bytes m number ≡ m ∷ big_bytes (field (Some what)) number
+head_is m number what is = ap (λ (o : Option Marker). m ∷ big_bytes (field o) number) is
+
+no_tail : (tail : List ℕ) (n : ℕ) → length tail + 0 ≡ n → n ≡ 0 → tail ≡ []
+no_tail [] n e f = refl
+no_tail (x ∷ tail) n e f = absurd (omega (arith, e, f))
+
+few_around : (h : Holds) (m number : ℕ) → (g : Goes h (part.Body m number 0)) → 0 + length g.frames ≤ 32
+few_around h m number g = omega (arith, few_frames g.frames (spelled h.items [] g.full) g.are)
+
+-- ---- values without members
+
+-- the head is all of it
+headed : (h : Holds) (m number : ℕ) (what : Marker) (t : Tree) → marker m ≡ Some what → is_text what ≡ false → IsSound t → depth t ≡ 0 → body (Some what) number ≡ 0
+    → SpellsTree t (m ∷ big_bytes (field (Some what)) number) → IsValue h m number
+headed h m number what t is not sound flat none spells = λ g.
+    (let tail : g.tail ≡ [] = no_tail g.tail (body (marker m) number) g.isa.2 (ap (λ (o : Option Marker). body o number) is ∙ none) in
+    let all : m ∷ big_bytes (field (Some what)) number ≡ head_bytes m number ++ g.tail = sym (head_is m number what is) ∙ sym (append-nil (head_bytes m number)) ∙ ap (λ (x : List ℕ). head_bytes m number ++ x) (sym tail) in (
+      t,
+      sound,
+      omega (arith, flat, few_around h m number g),
+      subst (λ (b : List ℕ). SpellsTree t b) all spells,
+      no_key_at (place g.frames) what not (head_ok (place g.frames) m what is g.isa.0),
+    ))
+
+small_by : (m number : ℕ) (what : Marker) → marker m ≡ Some what → number < 256 ^ field (marker m) → number < 256 ^ field (Some what)
+small_by m number what is lt = subst (λ (o : Option Marker). number < 256 ^ field o) is lt
+
+byte_value : (h : Holds) (m number : ℕ) (size : Size) → marker m ≡ Some (announces.Bytes size) → IsValue h m number
+byte_value h m number size is = λ g.
+    (let what : Marker = announces.Bytes size in
+    let small : number < 256 ^ size_len size = small_by m number what is g.isa.1 in
+    let long : size_with size number ≡ length g.tail = ap (λ (o : Option Marker). body o number) (sym is) ∙ omega (arith, g.isa.2) in
+    let all : m ∷ (big_bytes (size_len size) number ++ g.tail) ≡ head_bytes m number ++ g.tail = ap (λ (b : List ℕ). b ++ g.tail) (sym (head_is m number what is)) in (
+      byte_string g.tail,
+      tt,
+      few_around h m number g,
+      subst (λ (b : List ℕ). SpellsTree (byte_string g.tail) b) all (size, big_bytes (size_len size) number, sized_by size number (length g.tail) small long, (m, is, refl)),
+      no_key_at (place g.frames) what refl (head_ok (place g.frames) m what is g.isa.0),
+    ))
+
+text_spelled : (m number : ℕ) (size : Size) (s : List ℕ) → marker m ≡ Some (announces.Text size) → number < 256 ^ field (marker m) → length s + 0 ≡ body (marker m) number → IsUtf8 s → SpellsText s (head_bytes m number ++ s)
+text_spelled m number size s is lt len utf8 =
+    let what : Marker = announces.Text size in
+    let small : number < 256 ^ size_len size = small_by m number what is lt in
+    let long : size_with size number ≡ length s = ap (λ (o : Option Marker). body o number) (sym is) ∙ omega (arith, len) in
+    let all : m ∷ (big_bytes (size_len size) number ++ s) ≡ head_bytes m number ++ s = ap (λ (b : List ℕ). b ++ s) (sym (head_is m number what is)) in
+    subst (λ (b : List ℕ). SpellsText s b) all (size, big_bytes (size_len size) number, sized_by size number (length s) small long, utf8, (m, is, refl))
+
+pub text_value : (h : Holds) (m number : ℕ) (size : Size) → marker m ≡ Some (announces.Text size) → ((g : Goes h (part.Body m number 0)) → IsUtf8 g.tail) → ((g : Goes h (part.Body m number 0)) → is_some (place g.frames).key ≡ false) → IsValue h m number
+text_value h m number size is utf8 free = λ g.
+    (text g.tail, tt, few_around h m number g, text_spelled m number size g.tail is g.isa.1 g.isa.2 (utf8 g), no_key_there (place g.frames).key (free g))
+
+pub plain_value : (h : Holds) (m number : ℕ) (what : Marker) → marker m ≡ Some what → ((size : Size) → what ≡ announces.Text size → ⊥) → ((size : Size) → what ≡ announces.List size → ⊥)
+    → ((size : Size) → what ≡ announces.Dict size → ⊥) → ((n : ℕ) → what ≡ announces.Struct n → ⊥) → number < 256 ^ field (marker m) → IsValue h m number
+plain_value h m number announces.Null is nt nl nd ns lt = headed h m number announces.Null null is refl tt refl refl (m, is, refl)
+plain_value h m number (announces.Bool b) is nt nl nd ns lt = headed h m number (announces.Bool b) (boolean b) is refl tt refl refl (m, is, refl)
+plain_value h m number (announces.Tiny z) is nt nl nd ns lt = headed h m number (announces.Tiny z) (int z) is refl tt refl refl (inl (m, is, refl))
+plain_value h m number (announces.Int w) is nt nl nd ns lt =
+    headed h m number (announces.Int w) (int (twos_complement (width w) number)) is refl tt refl refl
+    (inr (w, number, big_bytes (width w) number, number_of (width w) number (small_by m number (announces.Int w) is lt), refl, (m, is, refl)))
+plain_value h m number announces.Float is nt nl nd ns lt =
+    headed h m number announces.Float (float number) is refl tt refl refl (big_bytes 8 number, number_of 8 number (small_by m number announces.Float is lt), (m, is, refl))
+plain_value h m number (announces.Bytes size) is nt nl nd ns lt = byte_value h m number size is
+plain_value h m number (announces.Text size) is nt nl nd ns lt = absurd (nt size refl)
+plain_value h m number (announces.List size) is nt nl nd ns lt = absurd (nl size refl)
+plain_value h m number (announces.Dict size) is nt nl nd ns lt = absurd (nd size refl)
+plain_value h m number (announces.Struct n) is nt nl nd ns lt = absurd (ns n refl)
+
+-- ---- what nests
+
+room : (h : Holds) (m number : ℕ) (what : Marker) → marker m ≡ Some what → is_text what ≡ false → nests what ≡ true → (g : Goes h (part.Body m number 0)) → length g.frames < 32
+room h m number what is not nest g = omega (arith, not_deep (place g.frames) what not nest (head_ok (place g.frames) m what is g.isa.0), heads_are g.frames)
+
+pub list_has_room : (h : Holds) (m number count : ℕ) (what : Marker) → marker m ≡ Some what → IsListOf what number count → (g : Goes h (part.Body m number 0)) → h.standing.«open».depth < 32
+list_has_room h m number count announces.Null is l g = absurd l
+list_has_room h m number count (announces.Bool b) is l g = absurd l
+list_has_room h m number count (announces.Tiny z) is l g = absurd l
+list_has_room h m number count (announces.Int w) is l g = absurd l
+list_has_room h m number count announces.Float is l g = absurd l
+list_has_room h m number count (announces.Bytes size) is l g = absurd l
+list_has_room h m number count (announces.Text size) is l g = absurd l
+list_has_room h m number count (announces.List size) is l g = omega (arith, room h m number (announces.List size) is refl refl g, levels_depth g.frames h.standing.«open».depth h.standing.«open».around g.levels)
+list_has_room h m number count (announces.Dict size) is l g = absurd l
+list_has_room h m number count (announces.Struct n) is l g = omega (arith, room h m number (announces.Struct n) is refl refl g, levels_depth g.frames h.standing.«open».depth h.standing.«open».around g.levels)
+
+pub dict_has_room : (h : Holds) (m number : ℕ) (size : Size) → marker m ≡ Some (announces.Dict size) → (g : Goes h (part.Body m number 0)) → h.standing.«open».depth < 32
+dict_has_room h m number size is g = omega (arith, room h m number (announces.Dict size) is refl refl g, levels_depth g.frames h.standing.«open».depth h.standing.«open».around g.levels)
+
+nested : (h : Holds) (m number : ℕ) (what : Marker) (t : Tree) → marker m ≡ Some what → is_text what ≡ false → nests what ≡ true → IsSound t → depth t ≡ 1 → body (Some what) number ≡ 0
+    → SpellsTree t (m ∷ big_bytes (field (Some what)) number) → IsValue h m number
+nested h m number what t is not nest sound flat none spells = λ g.
+    (let tail : g.tail ≡ [] = no_tail g.tail (body (marker m) number) g.isa.2 (ap (λ (o : Option Marker). body o number) is ∙ none) in
+    let all : m ∷ big_bytes (field (Some what)) number ≡ head_bytes m number ++ g.tail = sym (head_is m number what is) ∙ sym (append-nil (head_bytes m number)) ∙ ap (λ (x : List ℕ). head_bytes m number ++ x) (sym tail) in (
+      t,
+      sound,
+      omega (arith, flat, room h m number what is not nest g),
+      subst (λ (b : List ℕ). SpellsTree t b) all spells,
+      no_key_at (place g.frames) what not (head_ok (place g.frames) m what is g.isa.0),
+    ))
+
+pub list_value : (h : Holds) (m number count : ℕ) (what : Marker) → marker m ≡ Some what → IsListOf what number count → count ≡ 0 → number < 256 ^ field (marker m) → IsValue h m number
+list_value h m number count announces.Null is l e lt = absurd l
+list_value h m number count (announces.Bool b) is l e lt = absurd l
+list_value h m number count (announces.Tiny z) is l e lt = absurd l
+list_value h m number count (announces.Int w) is l e lt = absurd l
+list_value h m number count announces.Float is l e lt = absurd l
+list_value h m number count (announces.Bytes size) is l e lt = absurd l
+list_value h m number count (announces.Text size) is l e lt = absurd l
+list_value h m number count (announces.List size) is l e lt =
+    let field_is = sized_by size number 0 (small_by m number (announces.List size) is lt) (l ∙ e) in
+    nested h m number (announces.List size) (list no_trees) is refl refl tt refl refl (list_is_empty size (big_bytes (size_len size) number) (m ∷ big_bytes (size_len size) number) field_is (m, is, refl))
+list_value h m number count (announces.Dict size) is l e lt = absurd l
+list_value h m number count (announces.Struct n) is l e lt =
+    let none : marker m ≡ Some (announces.Struct 0) = is ∙ ap (λ (k : ℕ). Some (announces.Struct k)) (l ∙ e) in
+    nested h m number (announces.Struct 0) (structure (number % 256) no_trees) none refl refl (omega arith, tt) refl refl (struct_is_empty (number % 256) (m ∷ big_bytes 1 number) (m, none, refl))
+
+pub dict_value : (h : Holds) (m number : ℕ) (size : Size) → marker m ≡ Some (announces.Dict size) → size_with size number ≡ 0 → number < 256 ^ field (marker m) → IsValue h m number
+dict_value h m number size is e lt =
+    let field_is = sized_by size number 0 (small_by m number (announces.Dict size) is lt) e in
+    nested h m number (announces.Dict size) (dict no_entries) is refl refl (tt, tt) refl refl (dict_is_empty size (big_bytes (size_len size) number) (m ∷ big_bytes (size_len size) number) field_is (m, is, refl))
+
+-- the frames behind a head
+opened : (h : Holds) (m number : ℕ) (what : Marker) (gs : List Frame) → marker m ≡ Some what → body (Some what) number ≡ 0 → (g : Goes h (part.Body m number 0))
+    → AreFrames gs (spelled h.items [] g.full ++ (m ∷ big_bytes (field (Some what)) number)) → AreFrames gs (spelled h.items [] g.full ++ (head_bytes m number ++ g.tail))
+opened h m number what gs is none g are =
+    let tail : g.tail ≡ [] = no_tail g.tail (body (marker m) number) g.isa.2 (ap (λ (o : Option Marker). body o number) is ∙ none) in
+    let all : m ∷ big_bytes (field (Some what)) number ≡ head_bytes m number ++ g.tail = sym (head_is m number what is) ∙ sym (append-nil (head_bytes m number)) ∙ ap (λ (x : List ℕ). head_bytes m number ++ x) (sym tail) in
+    subst (λ (b : List ℕ). AreFrames gs (spelled h.items [] g.full ++ b)) all are
+
+pub list_stands : (h : Holds) (m number count : ℕ) (what : Marker) (o : Open) → marker m ≡ Some what → IsListOf what number count → (count ≡ 0 → ⊥) → (g : Goes h (part.Body m number 0))
+    → ((fs : List Frame) (f : Opened) → AreLevels fs h.standing.«open».depth h.standing.«open».around → next_of f ≡ inside.Member → AreLevels (waits f count 0 ∷ fs) o.depth o.around) → o.is_whole ≡ h.standing.«open».is_whole
+    → IsStanding (after o (pushed what m number h))
+list_stands h m number count announces.Null o is l some g levels whole = absurd l
+list_stands h m number count (announces.Bool b) o is l some g levels whole = absurd l
+list_stands h m number count (announces.Tiny z) o is l some g levels whole = absurd l
+list_stands h m number count (announces.Int w) o is l some g levels whole = absurd l
+list_stands h m number count announces.Float o is l some g levels whole = absurd l
+list_stands h m number count (announces.Bytes size) o is l some g levels whole = absurd l
+list_stands h m number count (announces.Text size) o is l some g levels whole = absurd l
+list_stands h m number count (announces.List size) o is l some g levels whole =
+    let what : Marker = announces.List size in
+    let none = no_key_at (place g.frames) what refl (head_ok (place g.frames) m what is g.isa.0) in
+    let field_is = sized_by size number count (small_by m number what is g.isa.1) l in
+    let are = list_opens size count 0 (big_bytes (size_len size) number) g.frames (spelled h.items [] g.full) (m ∷ big_bytes (size_len size) number) g.are none (room h m number what is refl refl g) (omega arith) field_is (m, is, refl) in
+    goes_on h m number what o (waits (in_list no_trees) count 0 ∷ g.frames) is (ready h m number g) (whole ∙ g.unread)
+    (opened h m number what (waits (in_list no_trees) count 0 ∷ g.frames) is refl g are) (levels g.frames (in_list no_trees) g.levels refl) (tt, tt, g.named)
+list_stands h m number count (announces.Dict size) o is l some g levels whole = absurd l
+list_stands h m number count (announces.Struct n) o is l some g levels whole =
+    let what : Marker = announces.Struct n in
+    let none = no_key_at (place g.frames) what refl (head_ok (place g.frames) m what is g.isa.0) in
+    let counted : marker m ≡ Some (announces.Struct count) = is ∙ ap (λ (k : ℕ). Some (announces.Struct k)) l in
+    let are = struct_opens (number % 256) count 0 g.frames (spelled h.items [] g.full) (m ∷ big_bytes 1 number) g.are none (room h m number what is refl refl g) (omega arith) (m, counted, refl) in
+    goes_on h m number what o (waits (in_struct (number % 256) no_trees) count 0 ∷ g.frames) is (ready h m number g) (whole ∙ g.unread)
+    (opened h m number what (waits (in_struct (number % 256) no_trees) count 0 ∷ g.frames) is refl g are) (levels g.frames (in_struct (number % 256) no_trees) g.levels refl) (tt, tt, g.named)
+
+pub dict_stands : (h : Holds) (m number count : ℕ) (size : Size) (o : Open) → marker m ≡ Some (announces.Dict size) → size_with size number ≡ count → (count ≡ 0 → ⊥) → (g : Goes h (part.Body m number 0))
+    → ((fs : List Frame) (f : Opened) → AreLevels fs h.standing.«open».depth h.standing.«open».around → next_of f ≡ inside.Key → AreLevels (waits f count (length h.names) ∷ fs) o.depth o.around) → o.is_whole ≡ h.standing.«open».is_whole
+    → IsStanding (after o (pushed (announces.Dict size) m number h))
+dict_stands h m number count size o is l some g levels whole =
+    let what : Marker = announces.Dict size in
+    let none = no_key_at (place g.frames) what refl (head_ok (place g.frames) m what is g.isa.0) in
+    let field_is = sized_by size number count (small_by m number what is g.isa.1) l in
+    let first : ℕ = length h.names in
+    let are = dict_opens size count first (big_bytes (size_len size) number) g.frames (spelled h.items [] g.full) (m ∷ big_bytes (size_len size) number) g.are none (room h m number what is refl refl g) (omega arith) field_is (m, is, refl) in
+    let before = all_before g.frames (spelled h.items [] g.full) h.names h.store g.are none g.placed g.named in
+    goes_on h m number what o (waits (at_key no_entries) count first ∷ g.frames) is (ready h m number g) (whole ∙ g.unread)
+    (opened h m number what (waits (at_key no_entries) count first ∷ g.frames) is refl g are) (levels g.frames (at_key no_entries) g.levels refl)
+    ((no_names h.names h.store g.placed, λ e. refl), before, g.named)
+
+-- ---- keys
+
+-- what is open where a key stands
+pub record IsKeyFrame (fs : List Frame) : Type 0 where
+  pub es : Entries
+  pub lacks : ℕ
+  pub first : ℕ
+  pub around : List Frame
+  pub is : fs ≡ waits (at_key es) lacks first ∷ around
+
+frame_by : (f : Frame) (fs : List Frame) (o : Opened) → f.opened ≡ o → is_some (key_there f.opened) ≡ true → IsKeyFrame (f ∷ fs)
+frame_by f fs (in_list ts) is e = absurd (let k : false ≡ true = sym (ap (λ (x : Opened). is_some (key_there x)) is) ∙ e in cc)
+frame_by f fs (in_struct tag ts) is e = absurd (let k : false ≡ true = sym (ap (λ (x : Opened). is_some (key_there x)) is) ∙ e in cc)
+frame_by f fs (at_key es) is e = record { es = es; lacks = f.lacks; first = f.first; around = fs; is = ap (λ (o : Opened). record { opened = o; lacks = f.lacks; first = f.first } ∷ fs) is }
+frame_by f fs (at_value es k) is e = absurd (let j : false ≡ true = sym (ap (λ (x : Opened). is_some (key_there x)) is) ∙ e in cc)
+
+pub key_frame : (fs : List Frame) → is_some (place fs).key ≡ true → IsKeyFrame fs
+key_frame [] e = absurd cc
+key_frame (f ∷ fs) e = frame_by f fs f.opened refl e
+
+not_true : (b : Bool) → (b ≡ true → ⊥) → b ≡ false
+not_true true h = absurd (h refl)
+not_true false h = refl
+
+-- a text that is no name of a dictionary is none of its keys
+pub fresh_key : (names : List Name) (store : List ℕ) (first : ℕ) (keys : List (List ℕ)) (k : List ℕ) → AreNames names store first keys → (IsNamed names store first k → ⊥) → is_among k keys ≡ false
+fresh_key names store first keys k h unnamed = not_true (is_among k keys) (λ e. unnamed ((h k).0 e))
+
+-- a name that is placed
+pub placed_push : (names : List Name) (n : Name) (len : ℕ) → ArePlaced names len → n.first ≤ length names → n.start + n.len ≤ len → ArePlaced (names ++ n ∷ []) len
+placed_push names n len placed le within = λ i x e.
+    elim (get_pushed names n i x e) as (λ _. (x.first ≤ i) × (x.start + x.len ≤ len)) [
+      | inl h ↦ placed i x h
+      | inr h ↦ (omega (arith, h.0, ap (λ (y : Name). y.first) h.1), omega (arith, ap (λ (y : Name). y.start) h.1, ap (λ (y : Name). y.len) h.1))
+    ]
+
+pub root_low : (names : List Name) (first len : ℕ) → ArePlaced names len → IsRoot names first → first ≤ length names
+root_low names first len placed (inl e) = omega arith
+root_low names first len placed (inr h) = omega (arith, (placed h.0 h.1 h.2).0, slice_get_within names h.0 h.1 h.2, h.3)
+
+-- with one name more
+abbrev pub named_with : Name → Holds → Holds
+named_with n h = record h { names = h.names ++ n ∷ [] }
+
+-- where its keys begin, the next key of the innermost dictionary may be looked for
+pub key_root : (h : Holds) (m number : ℕ) → (g : Goes h (part.Body m number 0)) → (k : IsKeyFrame g.frames) → IsRoot h.names k.first
+key_root h m number g k =
+    let named = subst (λ (fs : List Frame). HaveNames fs h.names h.store) k.is g.named in
+    root_of h.names h.store k.first (keys_of k.es) named.0.0 named.0.1
+
+-- as the code has it
+pub named_is : (h : Holds) (b : List ℕ) (ns : List Name) (start len first found : ℕ) → b ≡ h.store → ns ≡ h.names ++ (record { start = start; len = len; first = found }) ∷ [] → found ≡ first
+    → record h { store = b; names = ns } ≡ named_with (record { start = start; len = len; first = first }) h
+named_is h b ns start len first found e f g = rw (e, f, g) refl
+
+abbrev pub key_ready : (h : Holds) (m number start : ℕ) → (g : Goes h (part.Body m number 0)) → (k : IsKeyFrame g.frames) → start ≤ length h.store → IsReady (named_with (record { start = start; len = length h.store - start; first = k.first }) h) m number
+key_ready h m number start g k le =
+    let n : Name = record { start = start; len = length h.store - start; first = k.first } in
+    let low = root_low h.names k.first (length h.store) g.placed (key_root h m number g k) in
+    let r = ready h m number g in
+    record {
+      full = r.full;
+      tail = r.tail;
+      store = r.store;
+      sized = r.sized;
+      fit = r.fit;
+      small = r.small;
+      long = r.long;
+      read = r.read;
+      placed = placed_push h.names n (length h.store) g.placed low (omega arith);
+    }
+
+pub key_stands : (h : Holds) (m number start : ℕ) (size : Size) (o : Open) → marker m ≡ Some (announces.Text size) → (g : Goes h (part.Body m number 0)) → (k : IsKeyFrame g.frames)
+    → start + length g.tail ≡ length h.store → drop start h.store ≡ g.tail → IsUtf8 g.tail → (IsNamed h.names h.store k.first (drop start h.store) → ⊥)
+    → ((fs : List Frame) (es : Entries) (s : List ℕ) (n first : ℕ) → AreLevels (waits (at_key es) n first ∷ fs) h.standing.«open».depth h.standing.«open».around → AreLevels (waits (at_value es s) n first ∷ fs) o.depth o.around) → o.is_whole ≡ h.standing.«open».is_whole
+    → IsStanding (after o (pushed (announces.Text size) m number (named_with (record { start = start; len = length h.store - start; first = k.first }) h)))
+key_stands h m number start size o is g k from there utf8 other levels same =
+    let n : Name = record { start = start; len = length h.store - start; first = k.first } in
+    let here = subst (λ (fs : List Frame). AreFrames fs (spelled h.items [] g.full)) k.is g.are in
+    let around = subst (λ (fs : List Frame). AreLevels fs h.standing.«open».depth h.standing.«open».around) k.is g.levels in
+    let named = subst (λ (fs : List Frame). HaveNames fs h.names h.store) k.is g.named in
+    let fresh : is_among g.tail (keys_of k.es) ≡ false = fresh_key h.names h.store k.first (keys_of k.es) g.tail named.0.0 (subst (λ (s : List ℕ). IsNamed h.names h.store k.first s → ⊥) there other) in
+    let are = key_waits k.es g.tail k.lacks k.first k.around (spelled h.items [] g.full) (head_bytes m number ++ g.tail) here (text_spelled m number size g.tail is g.isa.1 g.isa.2 utf8) fresh in
+    let len : n.len ≡ length g.tail = omega arith in
+    let has : text_of h.store n ≡ g.tail = ap (λ (x : ℕ). take x (drop start h.store)) len ∙ ap (λ (x : List ℕ). take (length g.tail) x) there ∙ take-length g.tail in
+    goes_on (named_with n h) m number (announces.Text size) o (waits (at_value k.es g.tail) k.lacks k.first ∷ k.around) is
+    (key_ready h m number start g k (omega arith))
+    (same ∙ g.unread) are (levels k.around k.es g.tail k.lacks k.first around)
+    (key_named h.names n h.store (keys_of k.es) g.tail named.0.0 has, named.1, names_push k.around here.0 h.names n h.store here.2 here.3 named.1 named.2)

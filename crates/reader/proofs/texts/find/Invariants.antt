@@ -1,0 +1,9 @@
+use Rattle.std.proofs.Common.{◌-◌, length}
+use Rattle.reader.proofs.Treeing.{Searched}
+use Rattle.reader.proofs.texts.find.Given as goal
+
+abbrev pub invariant-loop-at : goal.invariant-loop-at
+invariant-loop-at l = Searched l.keys l.bytes l.first l.text l.above l.at
+
+abbrev pub decreases-loop-at : goal.decreases-loop-at
+decreases-loop-at l = length l.keys - l.at

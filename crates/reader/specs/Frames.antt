@@ -1,0 +1,156 @@
+-- What is open where a reader stands, and which of its keys are whose.
+use Rattle.std.specs.Prelude.{◌≡◌, ◌≤◌, ◌<◌, ◌+◌, ◌-◌, ◌↔◌, ◌&&◌, cond, if◌then◌else◌, nat_lt, nat_le, ℕ, suc, true, false, List, [], ◌∷◌, ◌++◌, length, slice_get, Option, Some, None, is_some}
+use Rattle.packstream.specs.declared.marker.Size.{Size}
+use Rattle.packstream.specs.declared.fault.Reason.{Reason}
+use Rattle.packstream.specs.declared.fault.Reason.TheVariants as reason
+use Rattle.packstream.specs.declared.marker.Marker.{Marker}
+use Rattle.packstream.specs.declared.marker.Marker.TheVariants as announces
+use Rattle.reader.specs.declared.open.Inside.{Inside}
+use Rattle.reader.specs.declared.open.Inside.TheVariants as inside
+use Rattle.reader.specs.declared.open.Level.{Level}
+use Rattle.reader.specs.declared.open.Open.{Open}
+use Rattle.packstream.specs.Tree.{Tree, list, dict, structure, Trees, no_trees, tree_then, Entries, no_entries, entry_then}
+use Rattle.packstream.specs.Good.{depth, count, entry_count, trees_depth, entries_depth, IsSound, AreSound, HaveSoundValues, AreNewKeys, is_among}
+use Rattle.packstream.specs.Spelling.{Begins, IsSize, SpellsText, SpellsTree, SpellsAll, SpellsEntries}
+use Rattle.packstream.specs.Faults.{Place, Opened, in_list, in_struct, at_key, at_value, keys_of, key_there, outside, is_text, nests}
+use Rattle.reader.specs.Naming.{Name, IsNamed}
+
+-- what is open, how many members or pairs it lacks, and where its keys begin among all
+pub record Frame : Type 0 where
+  pub opened : Opened
+  pub lacks : ℕ
+  pub first : ℕ
+
+abbrev pub waits : Opened → ℕ → ℕ → Frame
+waits f n first = record { opened = f; lacks = n; first = first }
+
+-- b is the head, and the members so far: good ones, where so many heads are open; it announces as many as there are and
+-- as are lacking.
+abbrev pub IsFrame : ℕ → Opened → ℕ → List ℕ → Type 0
+IsFrame heads (in_list ts) lacks b =
+    (size : Size) × (field : List ℕ) × (body : List ℕ) × IsSize size (count ts + lacks) field
+    × SpellsAll ts body × AreSound ts × (trees_depth ts + heads ≤ 32) × Begins (announces.List size) (field ++ body) b
+IsFrame heads (in_struct tag ts) lacks b =
+    (body : List ℕ) × SpellsAll ts body × AreSound ts × (trees_depth ts + heads ≤ 32) × Begins (announces.Struct (count ts + lacks)) (tag ∷ body) b
+IsFrame heads (at_key es) lacks b =
+    (size : Size) × (field : List ℕ) × (body : List ℕ) × IsSize size (entry_count es + lacks) field
+    × SpellsEntries es body × AreNewKeys [] es × HaveSoundValues es × (entries_depth es + heads ≤ 32) × Begins (announces.Dict size) (field ++ body) b
+IsFrame heads (at_value es k) lacks b =
+    (size : Size) × (field : List ℕ) × (body : List ℕ) × (key : List ℕ) × IsSize size (entry_count es + lacks) field
+    × SpellsEntries es body × AreNewKeys [] es × HaveSoundValues es × (entries_depth es + heads ≤ 32)
+    × SpellsText k key × (is_among k (keys_of es) ≡ false) × Begins (announces.Dict size) (field ++ (body ++ key)) b
+
+-- where the next byte stands
+abbrev pub place : List Frame → Place
+place [] = outside
+place (f ∷ fs) = record { heads = length fs + 1; key = key_there f.opened }
+
+-- b is what is open, the innermost first
+abbrev pub AreFrames : List Frame → List ℕ → Type 0
+AreFrames [] b = b ≡ []
+AreFrames (f ∷ fs) b =
+    (front : List ℕ) × (rest : List ℕ) × AreFrames fs front × ((place fs).key ≡ None) × (length fs < 32) × (0 < f.lacks)
+    × IsFrame (length fs + 1) f.opened f.lacks rest × (b ≡ front ++ rest)
+
+abbrev pub next_of : Opened → Inside
+next_of (in_list ts) = inside.Member
+next_of (in_struct tag ts) = inside.Member
+next_of (at_key es) = inside.Key
+next_of (at_value es k) = inside.ValueOfKey
+
+abbrev pub level : Frame → Level
+level f = record { next = next_of f.opened; lacks = f.lacks; keys = f.first }
+
+-- what is read next behind a value
+abbrev pub after_value : Inside → Inside
+after_value inside.Member = inside.Member
+after_value inside.Key = inside.Key
+after_value inside.ValueOfKey = inside.Key
+
+-- so many levels of the array are these frames, the innermost of them last
+abbrev pub AreLevels : List Frame → ℕ → List Level → Type 0
+AreLevels [] depth around = depth ≡ 0
+AreLevels (f ∷ fs) depth around = (below : ℕ) × (depth ≡ suc below) × (slice_get around below ≡ Some (level f)) × AreLevels fs below around
+
+-- the names that begin there are these keys and no others
+abbrev pub AreNames : List Name → List ℕ → ℕ → List (List ℕ) → Type 0
+AreNames names store first keys = (s : List ℕ) → (is_among s keys ≡ true) ↔ IsNamed names store first s
+
+-- an open dictionary's keys are its names, that of a waiting value too; where it has none, they begin behind all
+abbrev pub HasNames : Opened → ℕ → List Name → List ℕ → Type 0
+HasNames (in_list ts) first names store = Unit {0}
+HasNames (in_struct tag ts) first names store = Unit {0}
+HasNames (at_key es) first names store = AreNames names store first (keys_of es) × (keys_of es ≡ [] → first ≡ length names)
+HasNames (at_value es k) first names store = AreNames names store first (keys_of es ++ k ∷ [])
+
+-- the keys of an open dictionary begin before those of one inside it
+abbrev pub BeginsBefore : Opened → ℕ → ℕ → Type 0
+BeginsBefore (in_list ts) first inner = Unit {0}
+BeginsBefore (in_struct tag ts) first inner = Unit {0}
+BeginsBefore (at_key es) first inner = first < inner
+BeginsBefore (at_value es k) first inner = first < inner
+
+abbrev pub BeginBefore : List Frame → ℕ → Type 0
+BeginBefore [] inner = Unit {0}
+BeginBefore (f ∷ fs) inner = BeginsBefore f.opened f.first inner × BeginBefore fs inner
+
+abbrev pub IsApart : Opened → ℕ → List Frame → Type 0
+IsApart (in_list ts) first fs = Unit {0}
+IsApart (in_struct tag ts) first fs = Unit {0}
+IsApart (at_key es) first fs = BeginBefore fs first
+IsApart (at_value es k) first fs = BeginBefore fs first
+
+abbrev pub HaveNames : List Frame → List Name → List ℕ → Type 0
+HaveNames [] names store = Unit {0}
+HaveNames (f ∷ fs) names store = HasNames f.opened f.first names store × IsApart f.opened f.first fs × HaveNames fs names store
+
+-- ---- a value behind what is open
+
+abbrev pub push_tree : Trees → Tree → Trees
+push_tree no_trees t = tree_then t no_trees
+push_tree (tree_then x ts) t = tree_then x (push_tree ts t)
+
+abbrev pub push_entry : Entries → List ℕ → Tree → Entries
+push_entry no_entries k t = entry_then k t no_entries
+push_entry (entry_then j x es) k t = entry_then j x (push_entry es k t)
+
+-- the value becomes a member
+abbrev pub put : Opened → Tree → Opened
+put (in_list ts) t = in_list (push_tree ts t)
+put (in_struct tag ts) t = in_struct tag (push_tree ts t)
+put (at_key es) t = at_key es
+put (at_value es k) t = at_key (push_entry es k t)
+
+-- what it is with its members so far alone
+abbrev pub closed : Opened → Tree
+closed (in_list ts) = list ts
+closed (in_struct tag ts) = structure tag ts
+closed (at_key es) = dict es
+closed (at_value es k) = dict es
+
+-- what there is behind a value: it is the whole, or something is still open
+pub data Left : Type 0 where
+  whole : Tree → Left
+  still : List Frame → Left
+
+-- a value becomes a member of what is open around it, and each that lacks no more becomes one in turn
+abbrev pub ends : List Frame → Tree → Left
+ends [] t = whole t
+ends (f ∷ fs) t =
+    cond (nat_lt 1 f.lacks) (still (record { opened = put f.opened t; lacks = f.lacks - 1; first = f.first } ∷ fs)) (ends fs (closed (put f.opened t)))
+
+abbrev pub Stands : Left → List ℕ → Type 0
+Stands (whole t) b = SpellsTree t b × IsSound t × (depth t ≤ 32)
+Stands (still fs) b = AreFrames fs b
+
+abbrev pub IsLeft : Left → Open → Type 0
+IsLeft (whole t) o = o.is_whole ≡ true
+IsLeft (still fs) o = (o.is_whole ≡ false) × AreLevels fs o.depth o.around
+
+-- what a head that announces this breaks at a place
+abbrev pub head_fault : Place → Marker → Option Reason
+head_fault p m =
+    if is_text m then None
+    else if is_some p.key then Some reason.KeyKind
+    else if nests m && nat_le 32 p.heads then Some reason.Depth
+    else None

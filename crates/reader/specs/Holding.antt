@@ -1,0 +1,160 @@
+-- What a reader holds, and what it stands for. Proofs alone need it.
+use Rattle.std.specs.Prelude.{◌≡◌, ◌⊎◌, ◌≤◌, ◌<◌, ◌+◌, ◌^◌, ℕ, List, [], ◌∷◌, ◌++◌, length, take, Some, None, Result, Ok, Err, true, false}
+use Rattle.packstream.specs.declared.fault.Reason.{Reason}
+use Rattle.packstream.specs.declared.fault.Reason.TheVariants as reason
+use Rattle.packstream.specs.declared.marker.Marker.{Marker}
+use Rattle.packstream.specs.declared.marker.Marker.TheVariants as announces
+use Rattle.packstream.specs.Tree.{Tree}
+use Rattle.packstream.specs.Good.{depth, IsSound}
+use Rattle.packstream.specs.Plain.{AreBytes}
+use Rattle.packstream.specs.Markers.{marker}
+use Rattle.packstream.specs.Spelling.{SpellsTree}
+use Rattle.packstream.specs.Faults.{Place, Bad}
+use Rattle.reader.specs.declared.stop.Stop.{Stop}
+use Rattle.reader.specs.declared.stop.Stop.TheVariants as stop
+use Rattle.reader.specs.declared.item.Item.{Item}
+use Rattle.reader.specs.declared.reading.Part.{Part}
+use Rattle.reader.specs.declared.reading.Part.TheVariants as part
+use Rattle.reader.specs.declared.reading.Standing.{Standing}
+use Rattle.reader.specs.declared.reading.Mark.{Mark}
+use Rattle.reader.specs.declared.reading.Reading.{Reading}
+use Rattle.reader.specs.Items.{field, body, size_with, head_bytes, spelled, part_head, bodies, AreItems}
+use Rattle.reader.specs.Naming.{Name, ArePlaced}
+use Rattle.reader.specs.Frames.{Frame, place, AreFrames, AreLevels, HaveNames, head_fault}
+use Rattle.reader.specs.Piecewise.{Point, Points, IsBeginning}
+
+-- its lists, and what stands beside them
+pub record Holds : Type 0 where
+  pub items : List Item
+  pub store : List ℕ
+  pub names : List Name
+  pub standing : Standing
+
+abbrev pub holds : Reading → Holds
+holds r = record { items = r.items.items; store = r.texts.bytes; names = r.texts.names; standing = r.standing }
+
+-- its bytes, if this were the part of an item that isn't whole
+abbrev pub bytes_with : Holds → Part → List ℕ
+bytes_with h p = spelled h.items (part_head p) h.store
+
+abbrev pub bytes_of : Holds → List ℕ
+bytes_of h = bytes_with h h.standing.part
+
+abbrev pub point : Holds → Point
+point h = record { bytes = bytes_of h; bad = h.standing.bad }
+
+abbrev pub mark_of : Holds → Mark
+mark_of h = record { items = length h.items; store = length h.store; keys = length h.names; standing = h.standing }
+
+abbrev pub cut : Mark → Holds → Holds
+cut m h = record { items = take m.items h.items; store = take m.store h.store; names = take m.keys h.names; standing = m.standing }
+
+abbrev pub turned : Reason → ℕ → Holds → Holds
+turned r o h = record h { standing = record h.standing { bad = Some (r, o) } }
+
+-- with an item more, of which the store has the text or byte string
+abbrev pub pushed : Marker → ℕ → ℕ → Holds → Holds
+pushed announced m number h = record {
+  items = h.items ++ (record { marker = m; number = number }) ∷ [];
+  store = h.store;
+  names = h.names;
+  standing = record h.standing { part = part.Nothing; read = h.standing.read + (1 + field (Some announced)) + body (Some announced) number };
+}
+
+-- the byte announces something that may stand there
+abbrev pub IsAdmitted : Place → ℕ → Type 0
+IsAdmitted p m = (what : Marker) × (marker m ≡ Some what) × (head_fault p what ≡ None)
+
+-- a part of an item, or all of it, of which tail is what came of its text or byte string
+abbrev pub IsPart : Place → Part → List ℕ → Type 0
+IsPart p part.Nothing tail = tail ≡ []
+IsPart p (part.Head m number has) tail = (tail ≡ []) × IsAdmitted p m × (has ≤ field (marker m)) × (number < 256 ^ has)
+IsPart p (part.Body m number lacks) tail = IsAdmitted p m × (number < 256 ^ field (marker m)) × (length tail + lacks ≡ body (marker m) number)
+
+-- bytes are missing to the part
+abbrev pub IsLacking : Part → Type 0
+IsLacking part.Nothing = Unit {0}
+IsLacking (part.Head m number has) = has < field (marker m)
+IsLacking (part.Body m number lacks) = 0 < lacks
+
+-- Something is open, and p is the part behind it.
+pub record Goes (h : Holds) (p : Part) : Type 0 where
+  pub frames : List Frame
+  pub full : List ℕ
+  pub tail : List ℕ
+  pub unread : h.standing.«open».is_whole ≡ false
+  pub store : h.store ≡ full ++ tail
+  pub sized : length full ≡ bodies h.items
+  pub fit : AreItems h.items
+  pub are : AreFrames frames (spelled h.items [] full)
+  pub read : h.standing.read ≡ length (spelled h.items [] full)
+  pub levels : AreLevels frames h.standing.«open».depth h.standing.«open».around
+  pub named : HaveNames frames h.names h.store
+  pub placed : ArePlaced h.names (length h.store)
+  pub isa : IsPart (place frames) p tail
+
+-- it announces a list or a structure with so many members
+abbrev pub IsListOf : Marker → ℕ → ℕ → Type 0
+IsListOf (announces.List size) number count = size_with size number ≡ count
+IsListOf (announces.Struct n) number count = n ≡ count
+IsListOf m number count = ⊥
+
+-- Where all of the item is there, it spells a value that may stand where h stands.
+abbrev pub IsValue : Holds → ℕ → ℕ → Type 0
+IsValue h m number =
+    (g : Goes h (part.Body m number 0)) → (t : Tree) × IsSound t × (depth t + length g.frames ≤ 32) × SpellsTree t (head_bytes m number ++ g.tail) × ((place g.frames).key ≡ None)
+
+-- The value is whole.
+pub record IsDone (h : Holds) : Type 0 where
+  pub tree : Tree
+  pub whole : h.standing.«open».is_whole ≡ true
+  pub none : h.standing.part ≡ part.Nothing
+  pub sized : length h.store ≡ bodies h.items
+  pub fit : AreItems h.items
+  pub spells : SpellsTree tree (spelled h.items [] h.store)
+  pub sound : IsSound tree
+  pub deep : depth tree ≤ 32
+  pub read : h.standing.read ≡ length (spelled h.items [] h.store)
+  pub placed : ArePlaced h.names (length h.store)
+
+abbrev pub IsStanding : Holds → Type 0
+IsStanding h = IsDone h ⊎ (Goes h h.standing.part × IsLacking h.standing.part)
+
+-- what a reader keeps
+pub record IsKeeping (h : Holds) : Type 0 where
+  pub bytes : AreBytes (bytes_of h)
+  pub stands : IsStanding h
+
+-- its lists have only grown
+pub record HasGrown (old new : Holds) : Type 0 where
+  pub items : (is : List Item) × (new.items ≡ old.items ++ is)
+  pub store : (s : List ℕ) × (new.store ≡ old.store ++ s)
+  pub names : (ns : List Name) × (new.names ≡ old.names ++ ns)
+
+-- It took these bytes, but those that rest are for another item.
+pub record HasTaken (b : List ℕ) (new : Holds) (rest : List ℕ) : Type 0 where
+  pub stands : IsStanding new
+  pub bytes : bytes_of new ++ rest ≡ b
+  pub ends : (new.standing.part ≡ part.Nothing) ⊎ (rest ≡ [])
+  pub bad : new.standing.bad ≡ None
+
+-- These bytes have a fault that isn't for missing bytes.
+abbrev pub IsFaultOf : Stop → List ℕ → Type 0
+IsFaultOf stop.Memory b = Unit {0}
+IsFaultOf (stop.Fault r o) b = Bad b o r × (r ≡ reason.Short → ⊥)
+
+abbrev pub Answers : {X : Type 0} → (X → List ℕ) → Result X Stop → List ℕ → Holds → Type 0
+Answers view (Ok x) b new = HasTaken b new (view x)
+Answers view (Err e) b new = IsFaultOf e b
+
+abbrev pub points : Holds → Mark → Points
+points h m = record { here = point h; held = point (cut m h) }
+
+-- the held point is one where the reader stood
+pub record IsKept (h : Holds) (m : Mark) : Type 0 where
+  pub items : m.items ≤ length h.items
+  pub store : m.store ≤ length h.store
+  pub names : m.keys ≤ length h.names
+  pub here : IsKeeping h
+  pub behind : IsKeeping (cut m h)
+  pub held : IsBeginning (bytes_of (cut m h)) (bytes_of h)

@@ -1,0 +1,64 @@
+-- The bytes of what a reader holds.
+use Rattle.std.specs.Prelude.{ℕ, ◌+◌, ◌*◌, ◌^◌, ◌<◌, List, [], ◌∷◌, ◌++◌, take, drop, Option, Some}
+use Rattle.byteorder.specs.Endian.{big_bytes}
+use Rattle.packstream.specs.declared.marker.Size.{Size}
+use Rattle.packstream.specs.declared.marker.Size.TheVariants.{Here, After}
+use Rattle.packstream.specs.declared.marker.Marker.{Marker}
+use Rattle.packstream.specs.declared.marker.Marker.TheVariants as announces
+use Rattle.packstream.specs.Markers.{width, marker, size_len}
+use Rattle.reader.specs.declared.item.Item.{Item}
+use Rattle.reader.specs.declared.reading.Part.{Part}
+use Rattle.reader.specs.declared.reading.Part.TheVariants as part
+
+-- how many bytes the number after a marker takes
+abbrev pub field : Option Marker → ℕ
+field (Some (announces.Int w)) = width w
+field (Some announces.Float) = 8
+field (Some (announces.Bytes size)) = size_len size
+field (Some (announces.Text size)) = size_len size
+field (Some (announces.List size)) = size_len size
+field (Some (announces.Dict size)) = size_len size
+field (Some (announces.Struct n)) = 1
+field m = 0
+
+-- the length or count, where this number stands after the marker
+abbrev pub size_with : Size → ℕ → ℕ
+size_with (Here n) number = n
+size_with (After w) number = number
+
+-- how many bytes of a text or a byte string follow the number
+abbrev pub body : Option Marker → ℕ → ℕ
+body (Some (announces.Bytes size)) number = size_with size number
+body (Some (announces.Text size)) number = size_with size number
+body m number = 0
+
+-- the number of which these bytes are the next ones, the highest first
+abbrev pub joined : ℕ → List ℕ → ℕ
+joined number [] = number
+joined number (b ∷ bs) = joined (number * 256 + b) bs
+
+abbrev pub head_bytes : ℕ → ℕ → List ℕ
+head_bytes m number = m ∷ big_bytes (field (marker m)) number
+
+-- the bytes of a part, but those of its text or byte string
+abbrev pub part_head : Part → List ℕ
+part_head part.Nothing = []
+part_head (part.Head m number has) = m ∷ big_bytes has number
+part_head (part.Body m number lacks) = head_bytes m number
+
+-- how many bytes of the store items take
+abbrev pub bodies : List Item → ℕ
+bodies [] = 0
+bodies (i ∷ is) = body (marker i.marker) i.number + bodies is
+
+-- each number fits the bytes after its marker
+abbrev pub AreItems : List Item → Type 0
+AreItems [] = Unit {0}
+AreItems (i ∷ is) = (i.number < 256 ^ field (marker i.marker)) × AreItems is
+
+-- The bytes of items, the store having those of their texts and byte strings in turn; then those of a part, of which
+-- the rest of the store has the text or byte string as far as it came.
+abbrev pub spelled : List Item → List ℕ → List ℕ → List ℕ
+spelled [] last store = last ++ store
+spelled (i ∷ is) last store =
+    head_bytes i.marker i.number ++ (take (body (marker i.marker) i.number) store ++ spelled is last (drop (body (marker i.marker) i.number) store))

@@ -1,0 +1,6 @@
+pub mod Piecewise
+pub mod Items
+pub mod Naming
+pub mod Frames
+pub mod Holding
+pub mod Building

@@ -1,0 +1,118 @@
+-- Which texts are keys of which dictionary, and the tree of a dictionary's keys.
+use Rattle.std.specs.Prelude.{◌≡◌, ◌⊎◌, ◌≤◌, ◌<◌, ◌+◌, ◌*◌, ◌-◌, ◌/◌, ◌%◌, ◌^◌, ◌==◌, ℕ, zero, suc, Bool, false, cond, nat_lt, List, [], ◌∷◌, length, take, drop, map, slice_get, Option, Some, None}
+use Rattle.std.specs.Int.{bit_at}
+use Rattle.reader.specs.declared.texts.Key.{Key}
+use Rattle.reader.specs.declared.texts.Link.{Link}
+
+-- where the bytes of a key are, and where the keys of its dictionary begin
+pub record Name : Type 0 where
+  pub start : ℕ
+  pub len : ℕ
+  pub first : ℕ
+
+-- bytes of texts, and which of them are names
+pub record Kept : Type 0 where
+  pub bytes : List ℕ
+  pub names : List Name
+
+abbrev pub name : Key → Name
+name k = record { start = k.start; len = k.len; first = k.first }
+
+abbrev pub names_of : List Key → List Name
+names_of keys = map name keys
+
+abbrev pub text_of : List ℕ → Name → List ℕ
+text_of bytes n = take n.len (drop n.start bytes)
+
+-- The key s is one of the dictionary whose keys begin there.
+abbrev pub IsNamed : List Name → List ℕ → ℕ → List ℕ → Type 0
+IsNamed names bytes first s = (i : ℕ) × (n : Name) × (slice_get names i ≡ Some n) × (n.first ≡ first) × (text_of bytes n ≡ s)
+
+-- A name lies in so many bytes, and its dictionary's keys don't begin behind it.
+abbrev pub ArePlaced : List Name → ℕ → Type 0
+ArePlaced names len = (i : ℕ) (n : Name) → slice_get names i ≡ Some n → (n.first ≤ i) × (n.start + n.len ≤ len)
+
+-- The next key is the first of its dictionary, or another key begins there.
+abbrev pub IsRoot : List Name → ℕ → Type 0
+IsRoot names first = (first ≡ length names) ⊎ ((i : ℕ) × (n : Name) × (slice_get names i ≡ Some n) × (n.first ≡ first))
+
+-- ---- the tree, which proofs alone need
+
+unfoldable pub digest_from : ℕ → List ℕ → ℕ
+digest_from digest [] = digest
+digest_from digest (b ∷ bs) = digest_from (((digest + (b + 1)) % 2 ^ 64 * 0x9E3779B97F4A7C15) % 2 ^ 64) bs
+
+unfoldable pub digest_of : List ℕ → ℕ
+digest_of s = digest_from 0 s
+
+abbrev pub bit_in : ℕ → ℕ → Bool
+bit_in n i = bit_at n i == 1
+
+abbrev pub bit_of : Option ℕ → ℕ → Bool
+bit_of None i = false
+bit_of (Some b) i = bit_in b i
+
+unfoldable pub side_of : ℕ → List ℕ → ℕ → Bool
+side_of digest s above = cond (nat_lt above 64) (bit_in digest (63 - above)) (bit_of (slice_get s ((above - 64) / 8)) ((above - 64) % 8))
+
+-- the key at `next` hangs on this side of the key at `at`, both of one dictionary
+pub record HangsOn (keys : List Key) (first at : ℕ) (side : Bool) (next : ℕ) : Type 0 where
+  pub upper : Key
+  pub lower : Key
+  pub upper_is : slice_get keys at ≡ Some upper
+  pub upper_first : upper.first ≡ first
+  pub linked : cond side upper.right upper.left ≡ next
+  pub later : at < next
+  pub lower_is : slice_get keys next ≡ Some lower
+  pub lower_first : lower.first ≡ first
+  pub above : lower.above ≡ Some (record { key = at; is_right = side })
+
+-- From a key with so many above it, the sides that s chooses lead in so many steps to a key of the dictionary.
+abbrev pub Leads : List Key → ℕ → List ℕ → ℕ → ℕ → ℕ → ℕ → Type 0
+Leads keys first s above at zero to = at ≡ to
+Leads keys first s above at (suc steps) to =
+    (next : ℕ) × HangsOn keys first at (side_of (digest_of s) s above) next × Leads keys first s (suc above) next steps to
+
+-- the key at i is in its place: the first of its dictionary, or where its own sides lead
+pub record IsInPlace (keys : List Key) (bytes : List ℕ) (i : ℕ) (k : Key) : Type 0 where
+  pub root : Key
+  pub root_is : slice_get keys k.first ≡ Some root
+  pub root_first : root.first ≡ k.first
+  pub behind : k.first ≤ i
+  pub within : k.start + k.len ≤ length bytes
+  pub digest : k.digest ≡ digest_of (text_of bytes (name k))
+  pub steps : ℕ
+  pub leads : Leads keys k.first (text_of bytes (name k)) 0 k.first steps i
+
+abbrev pub IsTree : List Key → List ℕ → Type 0
+IsTree keys bytes = (i : ℕ) (k : Key) → slice_get keys i ≡ Some k → IsInPlace keys bytes i k
+
+-- nothing hangs on that side yet
+abbrev pub HangsNone : List Key → ℕ → ℕ → Bool → Type 0
+HangsNone keys first at side = (next : ℕ) → HangsOn keys first at side next → ⊥
+
+-- where a key with this text is to hang: below the key to which its sides lead, or as the first
+abbrev pub IsFree : List Key → ℕ → List ℕ → Option Link → Type 0
+IsFree keys first s None = first ≡ length keys
+IsFree keys first s (Some link) =
+    (steps : ℕ) × Leads keys first s 0 first steps link.key × (link.is_right ≡ side_of (digest_of s) s steps) × HangsNone keys first link.key link.is_right
+    × ((upper : Key) × (slice_get keys link.key ≡ Some upper) × (upper.first ≡ first))
+    × ((root : Key) × (slice_get keys first ≡ Some root) × (root.first ≡ first))
+
+-- there is the key that the link is of
+abbrev pub HasLink : List Key → Option Link → Type 0
+HasLink keys None = Unit {0}
+HasLink keys (Some link) = link.key < length keys
+
+-- the key with this number hung on a side of a key
+abbrev pub with_below : Bool → ℕ → Key → Key
+with_below side number k = record k { left = cond side k.left number; right = cond side number k.right }
+
+abbrev pub hung_at : ℕ → Bool → ℕ → List Key → List Key
+hung_at at side number [] = []
+hung_at zero side number (k ∷ keys) = with_below side number k ∷ keys
+hung_at (suc at) side number (k ∷ keys) = k ∷ hung_at at side number keys
+
+abbrev pub hung : Option Link → ℕ → List Key → List Key
+hung None number keys = keys
+hung (Some link) number keys = hung_at link.key link.is_right number keys

@@ -1,0 +1,109 @@
+//! Values out of bytes that come in pieces.
+ghost use Rattle.std.specs.Prelude.{◌≡◌, ◌↔◌, ℕ, None, Some, Err, Ok, OnOk, OnErr};
+ghost use Rattle.packstream.specs.Tree.{Tree};
+ghost use Rattle.packstream.specs.Good.{IsGood};
+ghost use Rattle.packstream.specs.Spelling.{Spells};
+ghost use Rattle.packstream.specs.Faults.{Bad};
+ghost use Rattle.packstream.specs.Answers.{UnlessMemory};
+ghost use Rattle.packstream.specs.declared.fault.Reason.{Reason};
+ghost use Rattle.packstream.specs.declared.fault.PackFault.TheVariants as fault;
+ghost use Rattle.reader.specs.Piecewise.{fresh, Takes, IsBeginning};
+
+use crate::reading::{Mark, Reading};
+use crate::stop::Stop;
+use packstream::{PackFault, Packed};
+use std::alloc::{AllocError, Global};
+use std::marker::Model;
+
+/// Reads one value from bytes that come in pieces. It has the bytes that it was fed; or, once each continuation of them
+/// has one fault at one place, that fault. And it holds a point to which it can return.
+#[derive(Drop)]
+pub struct Reader {
+    reading: Reading,
+    held: Mark,
+}
+
+impl Model for Reader {
+    ghost use Rattle.reader.specs.Piecewise.{Points};
+    ghost use Rattle.reader.specs.Holding.{holds, points, IsKept};
+
+    ghost Value = { Points };
+
+    ghost view = { λ a. points (holds a.reading) a.held };
+
+    ghost invariant = { λ a. IsKept (holds a.reading) a.held };
+}
+
+impl Reader {
+    /// No bytes; that is the held point too. It takes no memory.
+    #[tactic(auto, using(crate::proofs::Held::kept_here, crate::proofs::Held::points_here))]
+    pub fn new(alloc: Global) -> Reader
+        ensures { result ≡ fresh }
+    {
+        let reading = Reading::new(alloc);
+        let held = reading.mark();
+        Reader { reading, held }
+    }
+
+    /// Joins the piece to the bytes, where they then have no fault but missing bytes. Else each continuation of them has
+    /// one fault at one place: the reader is bad from then on, keeps the bytes that it had, and takes no more. The held
+    /// point stays. For want of memory nothing changes.
+    pub fn feed(&mut self, piece: &[u8]) -> Result<(), AllocError>
+        ensures here { OnOk result (Takes self.old.here piece.now self.new.here) }
+        ensures held { self.new.held ≡ self.old.held }
+        ensures err { OnErr result (self.new ≡ self.old) }
+    {
+        if self.reading.bad().is_some() {
+            return Ok(());
+        }
+        let before = self.reading.mark();
+        match self.reading.take(piece) {
+            Ok(()) => Ok(()),
+            Err(Stop::Memory) => {
+                self.reading.cut(before);
+                Err(AllocError)
+            }
+            Err(Stop::Fault(reason, place)) => {
+                self.reading.cut(before);
+                self.reading.turn_bad(reason, place);
+                Ok(())
+            }
+        }
+    }
+
+    /// What `decode` tells of the bytes; or the fault, where the reader is bad.
+    pub fn finish(&self) -> Result<Packed, PackFault>
+        // Apart from memory, it is the good value that the bytes spell, where they spell one ..
+        ensures value { self.now.here.bad ≡ None → (t : Tree) → UnlessMemory result ((result ≡ Ok t) ↔ (IsGood t × Spells t self.now.here.bytes)) }
+
+        // .. and the fault at its place, where they have one.
+        ensures fault { self.now.here.bad ≡ None → (r : Reason) (o : ℕ) → UnlessMemory result ((result ≡ Err (fault.Refused r o)) ↔ Bad self.now.here.bytes o r) }
+        ensures bad { (r : Reason) (o : ℕ) → self.now.here.bad ≡ Some (r, o) → result ≡ Err (fault.Refused r o) }
+
+        // The bytes of the held point are a beginning of the reader's.
+        ensures held { IsBeginning self.now.held.bytes self.now.here.bytes }
+    {
+        match self.reading.bad() {
+            Some((reason, place)) => Err(PackFault::Refused(reason, place)),
+            None => self.reading.finish(),
+        }
+    }
+
+    /// Makes this point the held one. It takes no memory.
+    #[tactic(auto, using(crate::proofs::Held::kept_here, crate::proofs::Held::points_here))]
+    pub fn hold(&mut self)
+        ensures here { self.new.here ≡ self.old.here }
+        ensures held { self.new.held ≡ self.old.here }
+    {
+        self.held = self.reading.mark();
+    }
+
+    /// Returns to the held point. It takes no memory.
+    pub fn back(&mut self)
+        ensures here { self.new.here ≡ self.old.held }
+        ensures held { self.new.held ≡ self.old.held }
+    {
+        let held = self.held;
+        self.reading.cut(held);
+    }
+}
