@@ -3,13 +3,14 @@ use Rattle.std.proofs.Common.{◌≡◌, refl, ap, subst, ◌∙◌, Bool, true,
 use Rattle.std.specs.List.{list_all}
 use Rattle.std.proofs.lemmas.Bool.{and_parts}
 use Rattle.wire.specs.declared.Version.{Version}
+use Rattle.wire.specs.Versions.{versions}
 use Rattle.machine.specs.declared.states.State.{State}
 use Rattle.machine.specs.declared.kinds.Kind.{Kind}
 use Rattle.machine.specs.declared.rows.Verdict.{Verdict}
 use Rattle.machine.specs.States.{phase_of, same_state}
 use Rattle.machine.specs.Rows.{row_of, row_at, nexts_of}
 use Rattle.machine.specs.Following.{next, has, interruptible, every_state}
-use Rattle.machine.proofs.Tables.{at_rows, at_verdict, at_bool, implies, implies_at, every_bool, every_verdict, every_kind, every_version}
+use Rattle.machine.proofs.Tables.{at_rows, at_verdict, at_bool, implies, implies_at, every_bool, every_verdict, every_kind}
 
 abbrev pub same_states : List State → List State → Bool
 same_states [] [] = true
@@ -64,7 +65,7 @@ not_more Verdict.Invalid part h = refl
 not_more Verdict.Gone part h = refl
 
 at_answers : (t : Version → State → Kind → Verdict → Bool → Bool)
-    → list_all (λ v. list_all (λ s. list_all (λ k. list_all (λ d. list_all (λ b. t v s k d b) every_bool) every_verdict) every_kind) every_state) every_version ≡ true
+    → list_all (λ v. list_all (λ s. list_all (λ k. list_all (λ d. list_all (λ b. t v s k d b) every_bool) every_verdict) every_kind) every_state) versions ≡ true
     → (v : Version) (s : State) (k : Kind) (d : Verdict) (b : Bool) → t v s k d b ≡ true
 at_answers t h v s k d b =
     at_bool (λ b. t v s k d b) (at_verdict (λ d. list_all (λ b. t v s k d b) every_bool) (at_rows (λ v s k. list_all (λ d. list_all (λ b. t v s k d b) every_bool) every_verdict) h v s k) d) b

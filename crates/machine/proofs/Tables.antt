@@ -3,6 +3,7 @@ use Rattle.std.proofs.Common.{◌≡◌, refl, ℕ, zero, suc, Bool, true, false
 use Rattle.std.specs.List.{list_all}
 use Rattle.std.proofs.lemmas.Bool.{and_parts}
 use Rattle.wire.specs.declared.Version.{Version}
+use Rattle.wire.specs.Versions.{versions}
 use Rattle.machine.specs.declared.states.State.{State}
 use Rattle.machine.specs.declared.states.Phase.{Phase}
 use Rattle.machine.specs.declared.kinds.Kind.{Kind}
@@ -15,9 +16,6 @@ list_at t [] i x h e = cc
 list_at t (y ∷ ys) zero x h e = let same : y ≡ x = cc in subst (λ z. t z ≡ true) same (and_parts (t y) (list_all t ys) h).0
 list_at t (y ∷ ys) (suc i) x h e = list_at t ys i x (and_parts (t y) (list_all t ys) h).1 e
 
-abbrev pub every_version : List Version
-every_version = Version.V44 ∷ Version.V51 ∷ []
-
 abbrev pub every_bool : List Bool
 every_bool = true ∷ false ∷ []
 
@@ -27,9 +25,9 @@ every_kind = Kind.Hello ∷ Kind.Logon ∷ Kind.Logoff ∷ Kind.Goodbye ∷ Kind
 abbrev pub every_verdict : List Verdict
 every_verdict = Verdict.Success ∷ Verdict.More ∷ Verdict.Failure ∷ Verdict.Ignored ∷ Verdict.Invalid ∷ Verdict.Gone ∷ []
 
-pub at_version : (t : Version → Bool) → list_all t every_version ≡ true → (v : Version) → t v ≡ true
-at_version t h Version.V44 = list_at t every_version 0 _ h refl
-at_version t h Version.V51 = list_at t every_version 1 _ h refl
+pub at_version : (t : Version → Bool) → list_all t versions ≡ true → (v : Version) → t v ≡ true
+at_version t h Version.V51 = list_at t versions 0 _ h refl
+at_version t h Version.V44 = list_at t versions 1 _ h refl
 
 pub at_bool : (t : Bool → Bool) → list_all t every_bool ≡ true → (b : Bool) → t b ≡ true
 at_bool t h true = list_at t every_bool 0 _ h refl
@@ -79,14 +77,14 @@ at_verdict t h Verdict.Gone = list_at t every_verdict 5 _ h refl
 
 -- at each version, state and kind
 pub at_rows : (t : Version → State → Kind → Bool)
-    → list_all (λ v. list_all (λ s. list_all (λ k. t v s k) every_kind) every_state) every_version ≡ true
+    → list_all (λ v. list_all (λ s. list_all (λ k. t v s k) every_kind) every_state) versions ≡ true
     → (v : Version) (s : State) (k : Kind) → t v s k ≡ true
 at_rows t h v s k =
     at_kind (λ k. t v s k) (at_state (λ s. list_all (λ k. t v s k) every_kind) (at_version (λ v. list_all (λ s. list_all (λ k. t v s k) every_kind) every_state) h v) s) k
 
 -- at each version, phase, kind, count and phase
 pub at_places : (t : Version → Phase → Kind → Bool → Phase → Bool)
-    → list_all (λ v. list_all (λ p. list_all (λ k. list_all (λ b. list_all (λ x. t v p k b x) every_phase) every_bool) every_kind) every_phase) every_version ≡ true
+    → list_all (λ v. list_all (λ p. list_all (λ k. list_all (λ b. list_all (λ x. t v p k b x) every_phase) every_bool) every_kind) every_phase) versions ≡ true
     → (v : Version) (p : Phase) (k : Kind) (b : Bool) (x : Phase) → t v p k b x ≡ true
 at_places t h v p k b x =
     at_phase (λ x. t v p k b x)

@@ -1,6 +1,7 @@
 -- What the machine sees of a request: its kind, and whether it asks for a part of the rows.
-use Rattle.std.specs.Prelude.{Bool, true, false}
+use Rattle.std.specs.Prelude.{Bool, true, false, not, ◌&&◌, ◌||◌, ◌==◌}
 use Rattle.wire.specs.declared.Version.{Version}
+use Rattle.wire.specs.Versions.{major_of, minor_of, has_logon}
 use Rattle.messages.specs.declared.request.Count.{Count}
 use Rattle.messages.specs.View.{Ask}
 use Rattle.machine.specs.declared.kinds.Kind.{Kind}
@@ -38,26 +39,19 @@ in_part Ask.Rollback = false
 in_part (Ask.Discard count) = is_part count
 in_part (Ask.Pull count) = is_part count
 
--- LOGON and LOGOFF are requests of 5.1 alone
-abbrev pub is_of : Version → Kind → Bool
-is_of Version.V44 Kind.Hello = true
-is_of Version.V44 Kind.Logon = false
-is_of Version.V44 Kind.Logoff = false
-is_of Version.V44 Kind.Goodbye = true
-is_of Version.V44 Kind.Reset = true
-is_of Version.V44 Kind.Run = true
-is_of Version.V44 Kind.Begin = true
-is_of Version.V44 Kind.Commit = true
-is_of Version.V44 Kind.Rollback = true
-is_of Version.V44 Kind.Discard = true
-is_of Version.V44 Kind.Pull = true
-is_of Version.V51 k = true
+-- the kinds that a version has with LOGON alone
+abbrev pub is_with_logon : Kind → Bool
+is_with_logon Kind.Logon = true
+is_with_logon Kind.Logoff = true
+is_with_logon _ = false
 
--- two names of one version
+-- whether a version has requests of this kind
+abbrev pub is_of : Version → Kind → Bool
+is_of v k = has_logon v || not (is_with_logon k)
+
+-- two names of one version, by its numbers
 abbrev pub same_version : Version → Version → Bool
-same_version Version.V44 Version.V44 = true
-same_version Version.V51 Version.V51 = true
-same_version _ _ = false
+same_version v w = (major_of v == major_of w) && (minor_of v == minor_of w)
 
 -- two names of one kind
 abbrev pub same_kind : Kind → Kind → Bool
@@ -74,6 +68,7 @@ same_kind Kind.Discard Kind.Discard = true
 same_kind Kind.Pull Kind.Pull = true
 same_kind _ _ = false
 
+-- a RESET, and a GOODBYE
 abbrev pub is_reset : Kind → Bool
 is_reset k = same_kind k Kind.Reset
 

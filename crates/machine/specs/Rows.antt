@@ -2,7 +2,7 @@
 use Rattle.std.specs.Prelude.{Bool, true, false, not, ◌&&◌, is_some, if◌then◌else◌, Option, Some, None, option_map, option_and_then, option_to_list, flat_map, ◌++◌, List, [], ◌∷◌, find}
 use Rattle.std.specs.List.{list_any}
 use Rattle.wire.specs.declared.Version.{Version}
-use Rattle.wire.specs.declared.Version.TheVariants.{V44, V51}
+use Rattle.wire.specs.Versions.{every_version, hello_has_login, has_logon}
 use Rattle.machine.specs.declared.states.State.{State}
 use Rattle.machine.specs.declared.states.State.TheVariants.{Fresh, Unauth, Ready, Streaming, TxReady, TxStreaming, Failed, Interrupted, Defunct}
 use Rattle.machine.specs.declared.kinds.Kind.{Kind}
@@ -10,48 +10,48 @@ use Rattle.machine.specs.declared.kinds.Kind.TheVariants.{Hello, Logon, Logoff, 
 use Rattle.machine.specs.declared.rows.Verdict.{Verdict}
 use Rattle.machine.specs.declared.rows.Verdict.TheVariants.{Success, More, Failure, Ignored, Invalid, Gone}
 use Rattle.machine.specs.States.{same_state}
-use Rattle.machine.specs.Asks.{is_of, same_version, same_kind}
+use Rattle.machine.specs.Asks.{is_of, same_kind}
 
--- a place of the table: no row; the state that the row leads to; one that a commit leads to; one at 4.4 and one at 5.1
+-- a place of the table: no row; the state that the row leads to; one that a commit leads to; one where HELLO carries who the
+-- client is, and one where it doesn't
 pub data Next : Type 0 where
   Nowhere : Next
   To : State → Next
   Commits : State → Next
   Split : State → State → Next
 
--- a line of the table: at these versions, in each of these states, for each of these requests
+-- a line of the table: at the versions that pass its test, in each of these states, for each of these requests
 pub record Line : Type 0 where
-  pub versions : List Version
+  pub versions : Version → Bool
   pub states : List State
   pub kinds : List Kind
   pub success : Next
   pub more : Next
   pub failure : Next
 
-abbrev pub line : List Version → List State → List Kind → Next → Next → Next → Line
+-- a line by its parts
+abbrev pub line : (Version → Bool) → List State → List Kind → Next → Next → Next → Line
 line vs ss ks success more failure = record { versions = vs; states = ss; kinds = ks; success = success; more = more; failure = failure }
-
-abbrev pub both : List Version
-both = V44 ∷ V51 ∷ []
 
 -- the rows by versions, states, requests, and the states after Success, More and Failure
 abbrev pub lines : List Line
 lines =
-    line both (Fresh ∷ []) (Hello ∷ []) (Split Ready Unauth) Nowhere (To Defunct)
-    ∷ line (V51 ∷ []) (Unauth ∷ []) (Logon ∷ []) (To Ready) Nowhere (To Defunct)
-    ∷ line both (Ready ∷ []) (Run ∷ []) (To Streaming) Nowhere (To Failed)
-    ∷ line both (Ready ∷ []) (Begin ∷ []) (To TxReady) Nowhere (To Failed)
-    ∷ line (V51 ∷ []) (Ready ∷ []) (Logoff ∷ []) (To Unauth) Nowhere (To Failed)
-    ∷ line both (Streaming ∷ []) (Pull ∷ Discard ∷ []) (Commits Ready) (To Streaming) (To Failed)
-    ∷ line both (TxReady ∷ []) (Run ∷ []) (To TxStreaming) Nowhere (To Failed)
-    ∷ line both (TxReady ∷ []) (Commit ∷ []) (Commits Ready) Nowhere (To Failed)
-    ∷ line both (TxReady ∷ []) (Rollback ∷ []) (To Ready) Nowhere (To Failed)
-    ∷ line both (TxStreaming ∷ []) (Pull ∷ Discard ∷ []) (To TxReady) (To TxStreaming) (To Failed)
-    ∷ line both (Ready ∷ Streaming ∷ TxReady ∷ TxStreaming ∷ Failed ∷ Interrupted ∷ []) (Reset ∷ []) (To Ready) Nowhere Nowhere
+    line every_version (Fresh ∷ []) (Hello ∷ []) (Split Ready Unauth) Nowhere (To Defunct)
+    ∷ line has_logon (Unauth ∷ []) (Logon ∷ []) (To Ready) Nowhere (To Defunct)
+    ∷ line every_version (Ready ∷ []) (Run ∷ []) (To Streaming) Nowhere (To Failed)
+    ∷ line every_version (Ready ∷ []) (Begin ∷ []) (To TxReady) Nowhere (To Failed)
+    ∷ line has_logon (Ready ∷ []) (Logoff ∷ []) (To Unauth) Nowhere (To Failed)
+    ∷ line every_version (Streaming ∷ []) (Pull ∷ Discard ∷ []) (Commits Ready) (To Streaming) (To Failed)
+    ∷ line every_version (TxReady ∷ []) (Run ∷ []) (To TxStreaming) Nowhere (To Failed)
+    ∷ line every_version (TxReady ∷ []) (Commit ∷ []) (Commits Ready) Nowhere (To Failed)
+    ∷ line every_version (TxReady ∷ []) (Rollback ∷ []) (To Ready) Nowhere (To Failed)
+    ∷ line every_version (TxStreaming ∷ []) (Pull ∷ Discard ∷ []) (To TxReady) (To TxStreaming) (To Failed)
+    ∷ line every_version (Ready ∷ Streaming ∷ TxReady ∷ TxStreaming ∷ Failed ∷ Interrupted ∷ []) (Reset ∷ []) (To Ready) Nowhere Nowhere
     ∷ []
 
+-- whether a line is for a request in a state
 abbrev pub covers : Line → Version → State → Kind → Bool
-covers x v s k = list_any (same_version v) x.versions && (list_any (same_state s) x.states && list_any (same_kind k) x.kinds)
+covers x v s k = x.versions v && (list_any (same_state s) x.states && list_any (same_kind k) x.kinds)
 
 -- the line of a request in a state, where there is one
 abbrev pub line_of : Version → State → Kind → Option Line
@@ -62,12 +62,14 @@ pub data Requests : Type 0 where
   Only AllBut : List Kind → Requests
   WithNoRowAbove : Requests
 
+-- one of the other rows: in each of these states, for these requests, a verdict and the state that follows
 pub record Other : Type 0 where
   pub states : List State
   pub requests : Requests
   pub verdict : Verdict
   pub next : State
 
+-- one of the other rows by its parts
 abbrev pub other : List State → Requests → Verdict → State → Other
 other ss requests verdict next = record { states = ss; requests = requests; verdict = verdict; next = next }
 
@@ -80,11 +82,13 @@ others =
     ∷ other (Fresh ∷ Unauth ∷ Ready ∷ Streaming ∷ TxReady ∷ TxStreaming ∷ []) WithNoRowAbove Invalid Defunct
     ∷ []
 
+-- whether these are requests that one of the other rows is for
 abbrev pub is_for : Requests → Version → State → Kind → Bool
 is_for (Only ks) v s k = list_any (same_kind k) ks
 is_for (AllBut ks) v s k = not (list_any (same_kind k) ks)
 is_for WithNoRowAbove v s k = not (is_some (line_of v s k)) && not (same_kind k Goodbye)
 
+-- two names of one verdict
 abbrev pub same_verdict : Verdict → Verdict → Bool
 same_verdict Success Success = true
 same_verdict More More = true
@@ -94,9 +98,11 @@ same_verdict Invalid Invalid = true
 same_verdict Gone Gone = true
 same_verdict _ _ = false
 
+-- whether one of the other rows is for a request in a state at a verdict
 abbrev pub stands : Other → Version → State → Kind → Verdict → Bool
 stands x v s k d = same_verdict d x.verdict && (list_any (same_state s) x.states && is_for x.requests v s k)
 
+-- the other row of a request in a state at a verdict, where there is one
 abbrev pub other_of : Version → State → Kind → Verdict → Option Other
 other_of v s k d = find (λ x. stands x v s k d) others
 
@@ -105,15 +111,16 @@ abbrev pub goal : Version → Next → Option State
 goal v Nowhere = None
 goal v (To s) = Some s
 goal v (Commits s) = Some s
-goal V44 (Split s t) = Some s
-goal V51 (Split s t) = Some t
+goal v (Split s t) = if hello_has_login v then Some s else Some t
 
+-- the place of a line for a verdict
 abbrev pub column : Verdict → Line → Next
 column Success x = x.success
 column More x = x.more
 column Failure x = x.failure
 column _ x = Nowhere
 
+-- the first that is there
 abbrev pub or_else : Option State → Option State → Option State
 or_else None o = o
 or_else (Some s) o = Some s

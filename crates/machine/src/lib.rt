@@ -1,5 +1,7 @@
 //! The states of a session of the Bolt protocol: what each request may make of them, and which may follow where answers are
 //! still waited for.
+//!
+//! What holds of all rows stands in [`laws`]. A client relies on `allowed_is_valid`, `rows_follow` and `struck_rows_follow`.
 #![tactic(auto)]
 
 mod asking;

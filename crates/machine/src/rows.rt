@@ -1,6 +1,6 @@
-ghost use Rattle.std.specs.Prelude.{◌≡◌, option_map, option_and_then};
+ghost use Rattle.std.specs.Prelude.{◌≡◌, Some, option_map, option_and_then};
 ghost use Rattle.machine.specs.Asks.{is_of};
-ghost use Rattle.machine.specs.Rows.{row_at, row_of};
+ghost use Rattle.machine.specs.Rows.{row_at, row_of, goal, Split};
 
 use crate::kinds::Kind;
 use crate::states::State;
@@ -55,18 +55,17 @@ fn rule_for(version: Version, state: State, kind: Kind) -> Option<Rule>
     ensures failure { option_and_then (λ r. r.failure) result ≡ row_of version state kind Verdict.Failure }
 {
     use State::*;
-    let (success, more, failure) = match (version, state, kind) {
-        (Version::V44, Fresh, Kind::Hello) => (Ready, None, Some(Defunct)),
-        (Version::V51, Fresh, Kind::Hello) => (Unauth, None, Some(Defunct)),
-        (Version::V51, Unauth, Kind::Logon) => (Ready, None, Some(Defunct)),
-        (_, Ready, Kind::Run) => (Streaming, None, Some(Failed)),
-        (_, Ready, Kind::Begin) => (TxReady, None, Some(Failed)),
-        (Version::V51, Ready, Kind::Logoff) => (Unauth, None, Some(Failed)),
-        (_, Streaming, Kind::Pull | Kind::Discard) => (Ready, Some(Streaming), Some(Failed)),
-        (_, TxReady, Kind::Run) => (TxStreaming, None, Some(Failed)),
-        (_, TxReady, Kind::Commit | Kind::Rollback) => (Ready, None, Some(Failed)),
-        (_, TxStreaming, Kind::Pull | Kind::Discard) => (TxReady, Some(TxStreaming), Some(Failed)),
-        (_, Ready | Streaming | TxReady | TxStreaming | Failed | Interrupted, Kind::Reset) => (
+    let (success, more, failure) = match (state, kind, version.has_logon()) {
+        (Fresh, Kind::Hello, _) => (greeted(version), None, Some(Defunct)),
+        (Unauth, Kind::Logon, true) => (Ready, None, Some(Defunct)),
+        (Ready, Kind::Run, _) => (Streaming, None, Some(Failed)),
+        (Ready, Kind::Begin, _) => (TxReady, None, Some(Failed)),
+        (Ready, Kind::Logoff, true) => (Unauth, None, Some(Failed)),
+        (Streaming, Kind::Pull | Kind::Discard, _) => (Ready, Some(Streaming), Some(Failed)),
+        (TxReady, Kind::Run, _) => (TxStreaming, None, Some(Failed)),
+        (TxReady, Kind::Commit | Kind::Rollback, _) => (Ready, None, Some(Failed)),
+        (TxStreaming, Kind::Pull | Kind::Discard, _) => (TxReady, Some(TxStreaming), Some(Failed)),
+        (Ready | Streaming | TxReady | TxStreaming | Failed | Interrupted, Kind::Reset, _) => (
             Ready, None, None,
         ),
         _ => return None,
@@ -78,11 +77,22 @@ fn rule_for(version: Version, state: State, kind: Kind) -> Option<Rule>
     })
 }
 
-/// LOGON and LOGOFF are requests of 5.1 alone.
+/// Where a HELLO leads: to Ready where it carries who the client is, and else to Unauth.
+fn greeted(version: Version) -> State
+    ensures { Some result ≡ goal version (Split State.Ready State.Unauth) }
+{
+    if version.hello_has_login() {
+        State::Ready
+    } else {
+        State::Unauth
+    }
+}
+
+/// Whether a version has requests of a kind.
 pub(crate) fn is_in(version: Version, kind: Kind) -> bool
     ensures { result ≡ is_of version kind }
 {
-    !matches!((version, kind), (Version::V44, Kind::Logon | Kind::Logoff))
+    version.has_logon() || !matches!(kind, Kind::Logon | Kind::Logoff)
 }
 
 /// Where an ignored request leads.

@@ -41,5 +41,5 @@ put_fault v s (cell_fault.Pack r o) h n =
     ∙ ap (λ x. value_by x h.1.0) h.1.2
 put_fault v s cell_fault.Memory h n = absurd (n refl)
 
-pub told_fault : {X : Type 0} (view : X → Tree) (r : Result X MsgFault) (s : Result Tree MsgFault) (e : MsgFault) → r ≡ Err e → ((e ≡ fault.Memory → ⊥) → s ≡ Err e) → Answers view r s
+pub told_fault : {X Y : Type 0} (view : X → Y) (r : Result X MsgFault) (s : Result Y MsgFault) (e : MsgFault) → r ≡ Err e → ((e ≡ fault.Memory → ⊥) → s ≡ Err e) → Answers view r s
 told_fault view r s e h k = rw h k

@@ -16,7 +16,7 @@ use Rattle.structures.specs.Faults.{scan, fault as structure_fault, structures}
 use Rattle.structures.specs.Form.{Form, typed}
 use Rattle.messages.specs.declared.fault.MsgFault.{MsgFault}
 use Rattle.messages.specs.declared.fault.MsgFault.TheVariants as fault
-use Rattle.messages.specs.Table.{Holds, a_text, a_mode, a_count, last_query, Named, Others, ignored, refused, Field, text_field, cells, cell_list, extra, Row, requests, responses, layout, has, row_in}
+use Rattle.messages.specs.Table.{Holds, a_text, a_mode, a_count, last_query, Named, Others, ignored, refused, Field, text_field, cells, cell_list, extra, Row, requests, responses, layout, row_in}
 use Rattle.messages.specs.Reading.{◌>>=◌, Said, said, are_kinds, lookup, told, all_told, is_named, all_named, extra_told, entries_told, cell_by, cell_told, fields_told, row_told, row_at, told_by, message_told}
 use Rattle.messages.specs.Saying.{IsEntry, absent, here, further, SaysEntry, the_text, reads, writes, writes_unsaid, all_rows, some_rows, of_last, of_last_unsaid, SaysNamed, no_more, passed_over, then_named, HasOnly, SaysField, of_text, of_cells, of_list, of_extra, SaysFields, no_fields, then_field, SaysRow, of_row, SaysMessage, IsSpelled}
 use Rattle.messages.specs.Messages.{Means}
@@ -106,16 +106,16 @@ entry_told _ _ _ of_last = refl
 entry_told _ _ _ of_last_unsaid = refl
 
 -- What the named entries say.
-one_says : (v : Version) (es : Entries) (n : Named) (ns : List Named) (x xs : List Tree) (b : Bool) → has v n.stands ≡ b → cond b (told n.holds (lookup n.name es)) (Ok []) ≡ Ok x → SaysNamed v es ns xs → SaysNamed v es (n ∷ ns) (x ++ xs)
+one_says : (v : Version) (es : Entries) (n : Named) (ns : List Named) (x xs : List Tree) (b : Bool) → n.stands v ≡ b → cond b (told n.holds (lookup n.name es)) (Ok []) ≡ Ok x → SaysNamed v es ns xs → SaysNamed v es (n ∷ ns) (x ++ xs)
 one_says v es n ns x xs true e h s = then_named n ns (lookup n.name es) x xs e (looked_up n.name es) (entry_says n.holds (lookup n.name es) x h) s
 one_says v es n ns x xs false e h s = subst (λ (ys : List Tree). SaysNamed v es (n ∷ ns) (ys ++ xs)) (ok_is [] x h) (passed_over n ns xs e s)
 
 named_says : (v : Version) (es : Entries) (ns : List Named) (xs : List Tree) → all_told v ns es ≡ Ok xs → SaysNamed v es ns xs
 named_says v es [] xs e = subst (λ (ys : List Tree). SaysNamed v es [] ys) (ok_is [] xs e) no_more
 named_says v es (n ∷ ns) xs e =
-    let p = bind_ok (cond (has v n.stands) (told n.holds (lookup n.name es)) (Ok [])) (λ x. all_told v ns es >>= λ ys. Ok (x ++ ys)) xs e in
+    let p = bind_ok (cond (n.stands v) (told n.holds (lookup n.name es)) (Ok [])) (λ x. all_told v ns es >>= λ ys. Ok (x ++ ys)) xs e in
     let q = bind_ok (all_told v ns es) (λ ys. Ok (p.0 ++ ys)) xs p.2 in
-    subst (λ (ys : List Tree). SaysNamed v es (n ∷ ns) ys) (ok_is (p.0 ++ q.0) xs q.2) (one_says v es n ns p.0 q.0 (has v n.stands) refl p.1 (named_says v es ns q.0 q.1))
+    subst (λ (ys : List Tree). SaysNamed v es (n ∷ ns) ys) (ok_is (p.0 ++ q.0) xs q.2) (one_says v es n ns p.0 q.0 (n.stands v) refl p.1 (named_says v es ns q.0 q.1))
 
 named_told : (v : Version) (es : Entries) (ns : List Named) (xs : List Tree) → SaysNamed v es ns xs → all_told v ns es ≡ Ok xs
 named_told v es _ _ no_more = refl
@@ -229,7 +229,7 @@ told_fields v _ _ _ _ l (then_field _ [] _ ts _ fs _ xs (of_extra o ns es ys h s
 told_fields v _ _ _ _ l (then_field _ (k ∷ ks) _ ts _ fs _ xs (of_extra o ns es ys h s) r) = absurd l
 
 -- A row.
-row_says : (v : Version) (r : Row) (ts : Trees) (s : Said) → IsExtraLast r.fields → has v r.stands ≡ true → row_told v r.name r.fields ts ≡ Ok s → SaysRow v r (structure r.tag ts) s
+row_says : (v : Version) (r : Row) (ts : Trees) (s : Said) → IsExtraLast r.fields → r.stands v ≡ true → row_told v r.name r.fields ts ≡ Ok s → SaysRow v r (structure r.tag ts) s
 row_says v r ts s l h e =
     let p = cond_ok (are_kinds r.fields ts) (entries_told v r.fields ts >>= λ xs. fields_told v r.fields ts >>= λ fs. Ok (said r.name fs xs)) fault.Fields s e in
     let q = bind_ok (entries_told v r.fields ts) (λ xs. fields_told v r.fields ts >>= λ fs. Ok (said r.name fs xs)) s p.1 in
@@ -268,7 +268,7 @@ in_table : (tag : ℕ) (table : List Row) (r : Row) → row_in tag table ≡ Som
 in_table tag [] r e = absurd cc
 in_table tag (q ∷ rs) r e = by_tag tag q r rs (tag == q.tag) refl (in_table tag rs r) e
 
-standing : (v : Version) (r : Row) (ts : Trees) (s : Said) (b : Bool) → has v r.stands ≡ b → IsExtraLast r.fields → told_by v (cond b (Some r) None) ts ≡ Ok s → SaysRow v r (structure r.tag ts) s
+standing : (v : Version) (r : Row) (ts : Trees) (s : Said) (b : Bool) → r.stands v ≡ b → IsExtraLast r.fields → told_by v (cond b (Some r) None) ts ≡ Ok s → SaysRow v r (structure r.tag ts) s
 standing v r ts s true h l e = row_says v r ts s l h e
 standing v r ts s false h l e = absurd cc
 
@@ -277,7 +277,7 @@ tag_says v table tag ts s None l w e = absurd cc
 tag_says v table tag ts s (Some r) l w e =
     let there = in_table tag table r w in
     let laid = is_laid table table r l there.0 in
-    let says : SaysRow v r (structure tag ts) s = subst (λ (n : ℕ). SaysRow v r (structure n ts) s) there.1 (standing v r ts s (has v r.stands) refl laid.1 e) in
+    let says : SaysRow v r (structure tag ts) s = subst (λ (n : ℕ). SaysRow v r (structure n ts) s) there.1 (standing v r ts s (r.stands v) refl laid.1 e) in
     (r.name, subst (λ (x : Row). Contains table x) (sym laid.0) there.0, subst (λ (x : Row). SaysRow v x (structure tag ts) s) (sym laid.0) says)
 
 message_says : (v : Version) (table : List Row) (t : Tree) (s : Said) → AreLaid table table → message_told v table t ≡ Ok s → SaysMessage v table t s

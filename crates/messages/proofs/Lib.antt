@@ -18,3 +18,4 @@ pub mod HeardOn
 pub mod Again
 pub mod Apart
 pub mod Made
+pub mod Valued

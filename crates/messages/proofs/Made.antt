@@ -10,7 +10,7 @@ use Rattle.structures.specs.Faults.{scan, fault as structure_fault, structures}
 use Rattle.messages.specs.declared.request.Count.TheVariants.{All, Of}
 use Rattle.messages.specs.declared.fault.MsgFault.{MsgFault}
 use Rattle.messages.specs.declared.fault.MsgFault.TheVariants as fault
-use Rattle.messages.specs.Table.{Holds, a_text, a_mode, a_count, last_query, Named, Field, text_field, cells, cell_list, extra, Name, Row, layout, requests, responses, has, row_in, HELLO, LOGON, LOGOFF, GOODBYE, RESET, RUN, BEGIN, COMMIT, ROLLBACK, DISCARD, PULL, SUCCESS, RECORD, IGNORED, FAILURE}
+use Rattle.messages.specs.Table.{Holds, a_text, a_mode, a_count, last_query, Named, Field, text_field, cells, cell_list, extra, Name, Row, layout, requests, responses, row_in, HELLO, LOGON, LOGOFF, GOODBYE, RESET, RUN, BEGIN, COMMIT, ROLLBACK, DISCARD, PULL, SUCCESS, RECORD, IGNORED, FAILURE}
 use Rattle.messages.specs.View.{Ask, Hello, Logon, Logoff, Goodbye, Reset, Run, Begin, Commit, Rollback, Discard, Pull, Say, Success, Record, Ignored, Failure}
 use Rattle.messages.specs.Reading.{◌>>=◌, Said, said, is_mode, lookup, told, text_told, mode_told, count_told, query_told, all_told, entries_told, cell_by, cell_told, fields_told, are_kinds, row_told, row_at, told_by, message_told, asks, says}
 use Rattle.messages.specs.Sound.{IsCell, IsRequest, IsResponse, RequestsAreMade, ResponsesAreMade}
@@ -122,7 +122,7 @@ standing_plain false k o h = tt
 all_plain : (v : Version) (ns : List Named) (es : Entries) → HavePlain es → IfOk (all_told v ns es) AllPlain
 all_plain v [] es h = tt
 all_plain v (n ∷ ns) es h =
-    if_bind (cond (has v n.stands) (told n.holds (lookup n.name es)) (Ok [])) (λ x. all_told v ns es >>= λ xs. Ok (x ++ xs)) AllPlain AllPlain (standing_plain (has v n.stands) n.holds (lookup n.name es) (lookup_plain n.name es h))
+    if_bind (cond (n.stands v) (told n.holds (lookup n.name es)) (Ok [])) (λ x. all_told v ns es >>= λ xs. Ok (x ++ xs)) AllPlain AllPlain (standing_plain (n.stands v) n.holds (lookup n.name es) (lookup_plain n.name es h))
     (λ x p. if_bind (all_told v ns es) (λ xs. Ok (x ++ xs)) AllPlain AllPlain (all_plain v ns es h) (λ xs q. plain_append x xs p q))
 
 entries_plain : (v : Version) (ks : List Field) (ts : Trees) → ArePlain ts → IfOk (entries_told v ks ts) AllPlain
@@ -161,7 +161,7 @@ at_version v ts r true h = h
 at_version v ts r false h = tt
 
 at_row : (v : Version) (ts : Trees) (r : Row) (o : Option Row) (b : Bool) → IfOk (row_told v r.name r.fields ts) (IsMade v) → IfOk (told_by v (row_at v o) ts) (IsMade v) → IfOk (told_by v (row_at v (cond b (Some r) o)) ts) (IsMade v)
-at_row v ts r o true h k = at_version v ts r (has v r.stands) h
+at_row v ts r o true h k = at_version v ts r (r.stands v) h
 at_row v ts r o false h k = k
 
 rows_made : (v : Version) (tag : ℕ) (ts : Trees) (rs : List Row) → AreMade v ts rs → IfOk (told_by v (row_at v (row_in tag rs)) ts) (IsMade v)

@@ -1,12 +1,13 @@
 -- What a structure says by its row, a field at a time.
-use Rattle.std.proofs.Common.{◌≡◌, ℕ, List, [], ◌∷◌, refl, ap, codes, ◌++◌, append-nil, Result, Ok, Err}
+use Rattle.std.proofs.Common.{◌≡◌, ℕ, List, [], ◌∷◌, true, refl, ap, ◌∙◌, codes, ◌++◌, append-nil, Result, Ok, Err}
 use Rattle.packstream.specs.Tree.{Tree, text, list, dict, Trees, no_trees, tree_then, Entries}
 use Rattle.wire.specs.declared.Version.{Version}
+use Rattle.wire.specs.Versions.{hello_has_login}
 use Rattle.messages.specs.declared.fault.MsgFault.{MsgFault}
-use Rattle.messages.specs.Table.{Name, Others, Named, ignored, extra, text_field, cells, cell_list, RUN, mode_alone}
+use Rattle.messages.specs.Table.{Name, Others, Named, ignored, extra, text_field, cells, cell_list, credentials, hello, HELLO, RUN, mode_alone}
 use Rattle.structures.specs.Form.{typed_under}
-use Rattle.messages.specs.Reading.{◌>>=◌, said, row_told, extra_told, cell_told, mode_told, lookup, cell_by}
-use Rattle.messages.specs.Parts.{no_field, one_field, dict_told, list_told, only_dict, run_parts, run_told, as_dict, as_list}
+use Rattle.messages.specs.Reading.{◌>>=◌, Said, said, all_told, text_told, row_told, extra_told, cell_told, mode_told, lookup, cell_by}
+use Rattle.messages.specs.Parts.{no_field, one_field, dict_told, list_told, only_dict, login_told, run_parts, run_told, as_dict, as_list}
 use Rattle.structures.specs.declared.fault.Reason.{Reason as CellReason}
 use Rattle.structures.specs.Faults.{scan, fault as structure_fault, structures}
 
@@ -20,6 +21,31 @@ extra_row v n o ns (tree_then (dict es) (tree_then t ts)) = refl
 extra_row v n o ns (tree_then t no_trees) = refl
 extra_row v n o ns (tree_then t (tree_then u ts)) = refl
 extra_row v n o ns no_trees = refl
+
+-- the same from what its dictionary says
+pub dict_row : (v : Version) (n : Name) (o : Others) (ns : List Named) (ts : Trees) (es : Entries) (r : Result (List Tree) MsgFault)
+    → only_dict ts ≡ Ok es → extra_told v o ns es ≡ r → row_told v n (extra o ns ∷ []) ts ≡ (r >>= λ xs. Ok (said n [] xs))
+dict_row v n o ns ts es r d e =
+    extra_row v n o ns ts
+    ∙ ap (λ x. x >>= λ es. extra_told v o ns es >>= λ xs. Ok (said n [] xs)) d
+    ∙ ap (λ x. x >>= λ xs. Ok (said n [] xs)) e
+
+-- who the client is, where HELLO carries it
+pub login_here : (v : Version) (es : Entries) → hello_has_login v ≡ true → all_told v (credentials hello_has_login) es ≡ login_told v es
+login_here v es h = rw h refl
+
+-- a HELLO, from what its agent and what else it carries say
+abbrev pub greeted : Result (List Tree) MsgFault → Result (List Tree) MsgFault → Result Said MsgFault
+greeted a l = (a >>= λ x. l >>= λ xs. Ok (x ++ xs)) >>= λ xs. Ok (said HELLO [] xs)
+
+pub hello_row : (v : Version) (ts : Trees) (es : Entries) (a : List Tree) (l : Result (List Tree) MsgFault)
+    → only_dict ts ≡ Ok es → text_told (lookup (codes "user_agent") es) ≡ Ok a → all_told v (credentials hello_has_login) es ≡ l
+    → row_told v HELLO (extra ignored hello ∷ []) ts ≡ greeted (Ok a) l
+hello_row v ts es a l d t e =
+    extra_row v HELLO ignored hello ts
+    ∙ ap (λ r. r >>= λ es. extra_told v ignored hello es >>= λ xs. Ok (said HELLO [] xs)) d
+    ∙ ap (λ r. greeted r (all_told v (credentials hello_has_login) es)) t
+    ∙ ap (λ r. greeted (Ok a) r) e
 
 one_dict : (n : Name) (es : Entries) (r : Result ℕ (CellReason × ℕ)) → ((cell_by r (dict es) >>= λ x. Ok (x ∷ [])) >>= λ fs. Ok (said n fs [])) ≡ ((cell_by r (dict es) >>= as_dict) >>= λ c. Ok (said n (c ∷ []) []))
 one_dict n es (Ok k) = refl

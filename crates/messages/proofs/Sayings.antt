@@ -9,7 +9,8 @@ use Rattle.messages.specs.declared.request.Mode.TheVariants.{Read, Write}
 use Rattle.messages.specs.declared.request.Count.{Count}
 use Rattle.messages.specs.declared.request.Count.TheVariants.{All, Of}
 use Rattle.messages.specs.declared.fault.MsgFault.{MsgFault}
-use Rattle.messages.specs.Table.{each_version, old_alone, ignored, refused, credentials, mode_alone, how_many, of_error, hello, Row, requests, responses, HELLO, LOGON, LOGOFF, GOODBYE, RESET, RUN, BEGIN, COMMIT, ROLLBACK, DISCARD, PULL, SUCCESS, RECORD, IGNORED, FAILURE, layout}
+use Rattle.wire.specs.Versions.{every_version, hello_has_login}
+use Rattle.messages.specs.Table.{ignored, refused, credentials, mode_alone, how_many, of_error, hello, Row, requests, responses, HELLO, LOGON, LOGOFF, GOODBYE, RESET, RUN, BEGIN, COMMIT, ROLLBACK, DISCARD, PULL, SUCCESS, RECORD, IGNORED, FAILURE, layout}
 use Rattle.messages.specs.Reading.{◌>>=◌, Said, said, lookup, mode_told, all_told, cell_told, message_told, mode_tree, count_tree, asks, says}
 use Rattle.messages.specs.Parts.{one_field, dict_told, list_told, run_parts, run_told, as_dict, as_list, cells_told}
 use Rattle.packstream.specs.Plain.{AreBytes}
@@ -27,8 +28,8 @@ entries_again no_entries = refl
 entries_again (entry_then k t es) = ap (λ l. entry_then k t l) (entries_again es)
 
 hello_tells : (v : Version) (es : Entries) → IfOk (all_told v hello es) (λ xs. IsAsk (said HELLO [] xs))
-hello_tells V44 es = each_text V44 (codes "user_agent") each_version (credentials old_alone) es IsLogin (λ xs. IsAsk (said HELLO [] xs)) refl (login_said V44 old_alone es refl) (λ s xs q. rw q.1 refl)
-hello_tells V51 es = each_text V51 (codes "user_agent") each_version (credentials old_alone) es IsNothing (λ xs. IsAsk (said HELLO [] xs)) refl refl (λ s xs q. rw q refl)
+hello_tells V44 es = each_text V44 (codes "user_agent") every_version (credentials hello_has_login) es IsLogin (λ xs. IsAsk (said HELLO [] xs)) refl (login_said V44 hello_has_login es refl) (λ s xs q. rw q.1 refl)
+hello_tells V51 es = each_text V51 (codes "user_agent") every_version (credentials hello_has_login) es IsNothing (λ xs. IsAsk (said HELLO [] xs)) refl refl (λ s xs q. rw q refl)
 
 mode_asks : (xs : List Tree) → IsMode xs → IsAsk (said BEGIN [] xs)
 mode_asks xs p = rw p.1 (go p.0)
@@ -71,7 +72,7 @@ requests_tell : (v : Version) → AllTell IsAsk v requests
 requests_tell v = (
   λ ts. extra_tells IsAsk v HELLO ignored hello ts (λ xs. IsAsk (said HELLO [] xs)) (hello_tells v) (λ xs p. p),
   (
-    λ ts. extra_tells IsAsk v LOGON ignored (credentials each_version) ts IsLogin (λ es. login_said v each_version es refl) (λ xs p. rw p.1 refl),
+    λ ts. extra_tells IsAsk v LOGON ignored (credentials every_version) ts IsLogin (λ es. login_said v every_version es refl) (λ xs p. rw p.1 refl),
     (
       λ ts. none_tells IsAsk v LOGOFF ts refl,
       (
@@ -137,7 +138,7 @@ responses_tell v = (
     (
       λ ts. none_tells IsSay v IGNORED ts refl,
       (
-        λ ts. extra_tells IsSay v FAILURE ignored of_error ts IsTwo (λ es. two_said v (codes "code") (codes "message") each_version es refl) (λ xs p. rw p.2 refl),
+        λ ts. extra_tells IsSay v FAILURE ignored of_error ts IsTwo (λ es. two_said v (codes "code") (codes "message") every_version es refl) (λ xs p. rw p.2 refl),
         tt,
       ),
     ),

@@ -11,7 +11,7 @@ use Rattle.messages.specs.declared.request.Count.{Count}
 use Rattle.messages.specs.declared.request.Count.TheVariants.{All, Of}
 use Rattle.messages.specs.declared.fault.MsgFault.{MsgFault}
 use Rattle.messages.specs.declared.fault.MsgFault.TheVariants as fault
-use Rattle.messages.specs.Table.{Stands, a_text, Named, Others, ignored, refused, extra, Name, Row, named, credentials, mode_alone, how_many, has, row_in}
+use Rattle.messages.specs.Table.{a_text, Named, Others, ignored, refused, extra, Name, Row, named, credentials, mode_alone, how_many, row_in}
 use Rattle.messages.specs.View.{Login}
 use Rattle.messages.specs.Reading.{◌>>=◌, Said, said, lookup, text_told, mode_told, count_told, query_told, all_told, all_named, extra_told, row_told, row_at, told_by, message_told, mode_tree, count_tree, login_trees}
 use Rattle.messages.specs.Parts.{no_field, only_dict, as_dict, as_list}
@@ -79,19 +79,19 @@ abbrev pub IsLogin : List Tree → Type 0
 IsLogin xs = (l : Login) × (xs ≡ login_trees l)
 
 -- an entry that is a text, before others
-pub each_text : (v : Version) (name : List ℕ) (stands : Stands) (ns : List Named) (es : Entries) (Q P : List Tree → Type 0)
-    → has v stands ≡ true → IfOk (all_told v ns es) Q → ((s : List ℕ) (xs : List Tree) → Q xs → P (text s ∷ xs)) → IfOk (all_told v (named name stands a_text ∷ ns) es) P
+pub each_text : (v : Version) (name : List ℕ) (stands : Version → Bool) (ns : List Named) (es : Entries) (Q P : List Tree → Type 0)
+    → stands v ≡ true → IfOk (all_told v ns es) Q → ((s : List ℕ) (xs : List Tree) → Q xs → P (text s ∷ xs)) → IfOk (all_told v (named name stands a_text ∷ ns) es) P
 each_text v name stands ns es Q P e h k =
     subst (λ b. IfOk (cond b (text_told (lookup name es)) (Ok []) >>= λ x. all_told v ns es >>= λ xs. Ok (x ++ xs)) P) (sym e)
     (if_bind (text_told (lookup name es)) (λ x. all_told v ns es >>= λ xs. Ok (x ++ xs)) IsText P (text_said (lookup name es))
     (λ x p. if_bind (all_told v ns es) (λ xs. Ok (x ++ xs)) Q P h (λ xs q. subst (λ y. P (y ++ xs)) (sym p.1) (k p.0 xs q))))
 
-pub two_said : (v : Version) (a b : List ℕ) (stands : Stands) (es : Entries) → has v stands ≡ true → IfOk (all_told v (named a stands a_text ∷ named b stands a_text ∷ []) es) IsTwo
+pub two_said : (v : Version) (a b : List ℕ) (stands : Version → Bool) (es : Entries) → stands v ≡ true → IfOk (all_told v (named a stands a_text ∷ named b stands a_text ∷ []) es) IsTwo
 two_said v a b stands es e =
     each_text v a stands (named b stands a_text ∷ []) es IsText IsTwo e (each_text v b stands [] es IsNothing IsText e refl (λ s xs q. (s, ap (λ l. text s ∷ l) q)))
     (λ s xs q. (s, q.0, ap (λ l. text s ∷ l) q.1))
 
-pub login_said : (v : Version) (stands : Stands) (es : Entries) → has v stands ≡ true → IfOk (all_told v (credentials stands) es) IsLogin
+pub login_said : (v : Version) (stands : Version → Bool) (es : Entries) → stands v ≡ true → IfOk (all_told v (credentials stands) es) IsLogin
 login_said v stands es e =
     each_text v (codes "scheme") stands (named (codes "principal") stands a_text ∷ named (codes "credentials") stands a_text ∷ []) es IsTwo IsLogin e
     (two_said v (codes "principal") (codes "credentials") stands es e)
@@ -158,7 +158,7 @@ rows_tell B v (r ∷ rs) h tag ts = go (tag == r.tag) (rows_tell B v rs h.1 tag 
     at false = tt
 
     go : (b : Bool) → IfOk (told_by v (row_at v (row_in tag rs)) ts) B → IfOk (told_by v (row_at v (cond b (Some r) (row_in tag rs))) ts) B
-    go true k = at (has v r.stands)
+    go true k = at (r.stands v)
     go false k = k
 
 pub message_tells : (B : Said → Type 0) (v : Version) (table : List Row) → AllTell B v table → (t : Tree) → IfOk (message_told v table t) B

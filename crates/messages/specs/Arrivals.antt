@@ -3,8 +3,8 @@
 use Rattle.std.specs.Prelude.{◌≡◌, ◌⊎◌, Bool, ℕ, ◌-◌, nat_le, if◌then◌else◌, Option, Some, None, Result, Ok, Err, List, [], ◌∷◌, ◌++◌, length, take, drop, map, reverse}
 use Rattle.std.specs.Str.{bytes_eq}
 use Rattle.wire.specs.declared.Version.{Version}
-use Rattle.wire.specs.declared.Version.TheVariants.{V44, V51}
 use Rattle.wire.specs.declared.Wish.{Wish}
+use Rattle.wire.specs.Versions.{versions}
 use Rattle.wire.specs.Offers.{magic, chosen as version_taken, offered, wished, version_answer}
 use Rattle.wire.specs.Texts.{text_of, noop}
 use Rattle.wire.specs.Framing.{Item, Opening, Noop, Message, TooBig, received, heard as items_heard, texts, within, said_text, said_within}
@@ -129,12 +129,13 @@ pub data Heard : Type 0 where
   Unheard : MsgFault → Heard
   Over : Heard
 
--- by the bytes of an answer
+-- by the bytes of an answer: that of one of these versions, that of none, or none of them
+abbrev pub heard_among : List Version → List ℕ → Heard
+heard_among [] bytes = if bytes_eq bytes (version_answer None) then Chosen None else Strange
+heard_among (v ∷ vs) bytes = if bytes_eq bytes (version_answer (Some v)) then Chosen (Some v) else heard_among vs bytes
+
 abbrev pub heard_version : List ℕ → Heard
-heard_version bytes =
-    if bytes_eq bytes (version_answer (Some V51)) then Chosen (Some V51)
-    else (if bytes_eq bytes (version_answer (Some V44)) then Chosen (Some V44)
-    else (if bytes_eq bytes (version_answer None) then Chosen None else Strange))
+heard_version bytes = heard_among versions bytes
 
 -- after bytes that stand for no response nothing is read
 abbrev pub then_told : Result Say MsgFault → List Heard → List Heard

@@ -5,10 +5,10 @@ use Rattle.packstream.specs.declared.value.Value.{Value}
 use Rattle.packstream.specs.Tree.{Tree, null, int, text, list, dict, structure, Trees, no_trees, tree_then, Entries}
 use Rattle.packstream.specs.View.{tree}
 use Rattle.wire.specs.declared.Version.{Version}
-use Rattle.wire.specs.declared.Version.TheVariants.{V44}
 use Rattle.messages.specs.declared.fault.MsgFault.{MsgFault}
 use Rattle.messages.specs.declared.fault.MsgFault.TheVariants as fault
-use Rattle.messages.specs.Table.{credentials, each_version, RUN}
+use Rattle.wire.specs.Versions.{every_version}
+use Rattle.messages.specs.Table.{credentials, RUN}
 use Rattle.messages.specs.Reading.{◌>>=◌, Said, said, lookup, mode_told, all_told, cell_told}
 
 -- a value that may be there, seen as its tree
@@ -45,8 +45,8 @@ run_parts (tree_then (text s) (tree_then (dict ps) (tree_then (dict es) no_trees
 run_parts ts = Err fault.Fields
 
 -- who a client is
-abbrev pub login_told : Entries → Result (List Tree) MsgFault
-login_told es = all_told V44 (credentials each_version) es
+abbrev pub login_told : Version → Entries → Result (List Tree) MsgFault
+login_told v es = all_told v (credentials every_version) es
 
 abbrev pub field_text : Tree → Result (List ℕ) MsgFault
 field_text (text s) = Ok s

@@ -17,7 +17,7 @@ use Rattle.messages.specs.declared.request.Mode.TheVariants.{Read, Write}
 use Rattle.messages.specs.declared.request.Count.{Count}
 use Rattle.messages.specs.declared.request.Count.TheVariants.{All, Of}
 use Rattle.messages.specs.View.{Login, Ask, Hello, Logon, Logoff, Goodbye, Reset, Run, Begin, Commit, Rollback, Discard, Pull, Say, Success, Record, Ignored, Failure}
-use Rattle.messages.specs.Table.{HELLO, LOGON, LOGOFF, GOODBYE, RESET, RUN, BEGIN, COMMIT, ROLLBACK, DISCARD, PULL, SUCCESS, RECORD, IGNORED, FAILURE, Holds, a_text, a_mode, a_count, last_query, Named, Others, ignored, refused, Field, text_field, cells, cell_list, extra, Name, Row, has, row_in}
+use Rattle.messages.specs.Table.{HELLO, LOGON, LOGOFF, GOODBYE, RESET, RUN, BEGIN, COMMIT, ROLLBACK, DISCARD, PULL, SUCCESS, RECORD, IGNORED, FAILURE, Holds, a_text, a_mode, a_count, last_query, Named, Others, ignored, refused, Field, text_field, cells, cell_list, extra, Name, Row, row_in}
 
 infixl 10 ◌>>=◌
 abbrev pub ◌>>=◌ : {A B : Type 0} → Result A MsgFault → (A → Result B MsgFault) → Result B MsgFault
@@ -85,7 +85,7 @@ told last_query o = query_told o
 -- What the named entries say that the version has.
 abbrev pub all_told : Version → List Named → Entries → Result (List Tree) MsgFault
 all_told v [] es = Ok []
-all_told v (n ∷ ns) es = cond (has v n.stands) (told n.holds (lookup n.name es)) (Ok []) >>= λ x. all_told v ns es >>= λ xs. Ok (x ++ xs)
+all_told v (n ∷ ns) es = cond (n.stands v) (told n.holds (lookup n.name es)) (Ok []) >>= λ x. all_told v ns es >>= λ xs. Ok (x ++ xs)
 
 abbrev pub is_named : List ℕ → List Named → Bool
 is_named k [] = false
@@ -127,7 +127,7 @@ row_told v n ks ts = cond (are_kinds ks ts) (entries_told v ks ts >>= λ es. fie
 
 abbrev pub row_at : Version → Option Row → Option Row
 row_at v None = None
-row_at v (Some r) = cond (has v r.stands) (Some r) None
+row_at v (Some r) = cond (r.stands v) (Some r) None
 
 abbrev pub told_by : Version → Option Row → Trees → Result Said MsgFault
 told_by v None ts = Err fault.UnknownTag

@@ -6,7 +6,7 @@ use Rattle.packstream.specs.Good.{IsGood}
 use Rattle.packstream.specs.Spelling.{Spells}
 use Rattle.wire.specs.declared.Version.{Version}
 use Rattle.structures.specs.Form.{Form}
-use Rattle.messages.specs.Table.{Holds, a_text, a_mode, a_count, last_query, Named, Others, ignored, refused, Field, text_field, cells, cell_list, extra, Name, Row, layout, has}
+use Rattle.messages.specs.Table.{Holds, a_text, a_mode, a_count, last_query, Named, Others, ignored, refused, Field, text_field, cells, cell_list, extra, Name, Row, layout}
 use Rattle.messages.specs.Reading.{Said, said}
 
 -- the entry with a name, or that there is none; the keys of a good dictionary differ, so no other has that name
@@ -29,8 +29,8 @@ pub data SaysEntry : Holds → Option Tree → List Tree → Type 0 where
 -- what those of the named entries say, in order, that the version has
 pub data SaysNamed (v : Version) (es : Entries) : List Named → List Tree → Type 0 where
   no_more : SaysNamed v es [] []
-  passed_over : (n : Named) (ns : List Named) (xs : List Tree) → has v n.stands ≡ false → SaysNamed v es ns xs → SaysNamed v es (n ∷ ns) xs
-  then_named : (n : Named) (ns : List Named) (o : Option Tree) (x xs : List Tree) → has v n.stands ≡ true → IsEntry n.name es o → SaysEntry n.holds o x → SaysNamed v es ns xs → SaysNamed v es (n ∷ ns) (x ++ xs)
+  passed_over : (n : Named) (ns : List Named) (xs : List Tree) → n.stands v ≡ false → SaysNamed v es ns xs → SaysNamed v es (n ∷ ns) xs
+  then_named : (n : Named) (ns : List Named) (o : Option Tree) (x xs : List Tree) → n.stands v ≡ true → IsEntry n.name es o → SaysEntry n.holds o x → SaysNamed v es ns xs → SaysNamed v es (n ∷ ns) (x ++ xs)
 
 -- other entries may stand there, or each key is the name of one of these
 abbrev pub HasOnly : Others → List Named → Entries → Type 0
@@ -51,7 +51,7 @@ pub data SaysFields (v : Version) : List Field → Trees → List Tree → List 
 
 -- what a structure with the tag of a row says, where the version has the row
 pub data SaysRow (v : Version) (r : Row) : Tree → Said → Type 0 where
-  of_row : (ts : Trees) (fs xs : List Tree) → has v r.stands ≡ true → SaysFields v r.fields ts fs xs → SaysRow v r (structure r.tag ts) (said r.name fs xs)
+  of_row : (ts : Trees) (fs xs : List Tree) → r.stands v ≡ true → SaysFields v r.fields ts fs xs → SaysRow v r (structure r.tag ts) (said r.name fs xs)
 
 -- one of the rows of the table says it of the value
 abbrev pub SaysMessage : Version → List Row → Tree → Said → Type 0

@@ -1,14 +1,54 @@
--- The messages of Bolt 4.4 and 5.1: a row each, with its tag, the versions that have it, and its fields (Bolt message
+-- The messages: a row each, with its tag, a test of the versions that have it, and its fields (Bolt message
 -- specification). The entries of a dictionary stand in the order in which they are written.
-use Rattle.std.specs.Prelude.{ℕ, List, [], ◌∷◌, Bool, true, false, cond, ◌==◌, Option, None, Some, codes}
+use Rattle.std.specs.Prelude.{ℕ, List, [], ◌∷◌, Bool, if◌then◌else◌, ◌==◌, Option, None, Some, codes}
 use Rattle.wire.specs.declared.Version.{Version}
-use Rattle.wire.specs.declared.Version.TheVariants.{V44, V51}
+use Rattle.wire.specs.Versions.{every_version, hello_has_login, has_logon}
 
--- which versions have it: each, 4.4 alone, 5.1 alone
-pub data Stands : Type 0 where
-  each_version : Stands
-  old_alone : Stands
-  new_alone : Stands
+-- The tags.
+abbrev pub hello_tag : ℕ
+hello_tag = 0x01
+
+abbrev pub logon_tag : ℕ
+logon_tag = 0x6A
+
+abbrev pub logoff_tag : ℕ
+logoff_tag = 0x6B
+
+abbrev pub goodbye_tag : ℕ
+goodbye_tag = 0x02
+
+abbrev pub reset_tag : ℕ
+reset_tag = 0x0F
+
+abbrev pub run_tag : ℕ
+run_tag = 0x10
+
+abbrev pub begin_tag : ℕ
+begin_tag = 0x11
+
+abbrev pub commit_tag : ℕ
+commit_tag = 0x12
+
+abbrev pub rollback_tag : ℕ
+rollback_tag = 0x13
+
+abbrev pub discard_tag : ℕ
+discard_tag = 0x2F
+
+abbrev pub pull_tag : ℕ
+pull_tag = 0x3F
+
+abbrev pub success_tag : ℕ
+success_tag = 0x70
+
+abbrev pub record_tag : ℕ
+record_tag = 0x71
+
+abbrev pub ignored_tag : ℕ
+ignored_tag = 0x7E
+
+abbrev pub failure_tag : ℕ
+failure_tag = 0x7F
 
 -- what a named entry holds: a text, which has to be there; `r` or `w`, where absent means `w`, which isn't written; -1 for
 -- all or a number from 1, which has to be there; -1 or nothing, which isn't written
@@ -18,9 +58,10 @@ pub data Holds : Type 0 where
   a_count : Holds
   last_query : Holds
 
+-- a named entry stands at the versions that pass its test
 pub record Named : Type 0 where
   pub name : List ℕ
-  pub stands : Stands
+  pub stands : Version → Bool
   pub holds : Holds
 
 -- what becomes of the other entries
@@ -35,6 +76,7 @@ pub data Field : Type 0 where
   cell_list : Field
   extra : Others → List Named → Field
 
+-- the names
 pub data Name : Type 0 where
   HELLO : Name
   LOGON : Name
@@ -52,66 +94,78 @@ pub data Name : Type 0 where
   IGNORED : Name
   FAILURE : Name
 
+-- so does a row
 pub record Row : Type 0 where
   pub name : Name
   pub tag : ℕ
-  pub stands : Stands
+  pub stands : Version → Bool
   pub fields : List Field
 
-abbrev pub row : Name → ℕ → Stands → List Field → Row
+-- a row by its parts, and a named entry
+abbrev pub row : Name → ℕ → (Version → Bool) → List Field → Row
 row n t s fs = record { name = n; tag = t; stands = s; fields = fs }
 
-abbrev pub named : List ℕ → Stands → Holds → Named
+abbrev pub named : List ℕ → (Version → Bool) → Holds → Named
 named n s h = record { name = n; stands = s; holds = h }
 
-abbrev pub credentials : Stands → List Named
-credentials s = named (codes "scheme") s a_text ∷ named (codes "principal") s a_text ∷ named (codes "credentials") s a_text ∷ []
+-- who a client is, its mode, a count of rows, an error, and a HELLO
+abbrev pub credentials : (Version → Bool) → List Named
+credentials s =
+    named (codes "scheme") s a_text
+    ∷ named (codes "principal") s a_text
+    ∷ named (codes "credentials") s a_text
+    ∷ []
 
 abbrev pub mode_alone : List Named
-mode_alone = named (codes "mode") each_version a_mode ∷ []
+mode_alone = named (codes "mode") every_version a_mode ∷ []
 
 abbrev pub how_many : List Named
-how_many = named (codes "n") each_version a_count ∷ named (codes "qid") each_version last_query ∷ []
+how_many = named (codes "n") every_version a_count ∷ named (codes "qid") every_version last_query ∷ []
 
 abbrev pub of_error : List Named
-of_error = named (codes "code") each_version a_text ∷ named (codes "message") each_version a_text ∷ []
+of_error = named (codes "code") every_version a_text ∷ named (codes "message") every_version a_text ∷ []
 
 abbrev pub hello : List Named
-hello = named (codes "user_agent") each_version a_text ∷ credentials old_alone
+hello = named (codes "user_agent") every_version a_text ∷ credentials hello_has_login
 
+-- the row of a name
 abbrev pub layout : Name → Row
-layout HELLO = row HELLO 0x01 each_version (extra ignored hello ∷ [])
-layout LOGON = row LOGON 0x6A new_alone (extra ignored (credentials each_version) ∷ [])
-layout LOGOFF = row LOGOFF 0x6B new_alone []
-layout GOODBYE = row GOODBYE 0x02 each_version []
-layout RESET = row RESET 0x0F each_version []
-layout RUN = row RUN 0x10 each_version (text_field ∷ cells ∷ extra ignored mode_alone ∷ [])
-layout BEGIN = row BEGIN 0x11 each_version (extra ignored mode_alone ∷ [])
-layout COMMIT = row COMMIT 0x12 each_version []
-layout ROLLBACK = row ROLLBACK 0x13 each_version []
-layout DISCARD = row DISCARD 0x2F each_version (extra refused how_many ∷ [])
-layout PULL = row PULL 0x3F each_version (extra refused how_many ∷ [])
-layout SUCCESS = row SUCCESS 0x70 each_version (cells ∷ [])
-layout RECORD = row RECORD 0x71 each_version (cell_list ∷ [])
-layout IGNORED = row IGNORED 0x7E each_version []
-layout FAILURE = row FAILURE 0x7F each_version (extra ignored of_error ∷ [])
+layout HELLO = row HELLO hello_tag every_version (extra ignored hello ∷ [])
+layout LOGON = row LOGON logon_tag has_logon (extra ignored (credentials every_version) ∷ [])
+layout LOGOFF = row LOGOFF logoff_tag has_logon []
+layout GOODBYE = row GOODBYE goodbye_tag every_version []
+layout RESET = row RESET reset_tag every_version []
+layout RUN = row RUN run_tag every_version (text_field ∷ cells ∷ extra ignored mode_alone ∷ [])
+layout BEGIN = row BEGIN begin_tag every_version (extra ignored mode_alone ∷ [])
+layout COMMIT = row COMMIT commit_tag every_version []
+layout ROLLBACK = row ROLLBACK rollback_tag every_version []
+layout DISCARD = row DISCARD discard_tag every_version (extra refused how_many ∷ [])
+layout PULL = row PULL pull_tag every_version (extra refused how_many ∷ [])
+layout SUCCESS = row SUCCESS success_tag every_version (cells ∷ [])
+layout RECORD = row RECORD record_tag every_version (cell_list ∷ [])
+layout IGNORED = row IGNORED ignored_tag every_version []
+layout FAILURE = row FAILURE failure_tag every_version (extra ignored of_error ∷ [])
 
+-- the rows of requests, and of responses
 abbrev pub requests : List Row
 requests =
-    layout HELLO ∷ layout LOGON ∷ layout LOGOFF ∷ layout GOODBYE ∷ layout RESET ∷ layout RUN ∷ layout BEGIN ∷ layout COMMIT ∷ layout ROLLBACK ∷ layout DISCARD ∷ layout PULL ∷ []
+    layout HELLO
+    ∷ layout LOGON
+    ∷ layout LOGOFF
+    ∷ layout GOODBYE
+    ∷ layout RESET
+    ∷ layout RUN
+    ∷ layout BEGIN
+    ∷ layout COMMIT
+    ∷ layout ROLLBACK
+    ∷ layout DISCARD
+    ∷ layout PULL
+    ∷ []
 
 abbrev pub responses : List Row
 responses = layout SUCCESS ∷ layout RECORD ∷ layout IGNORED ∷ layout FAILURE ∷ []
 
--- whether a version has what stands so
-abbrev pub has : Version → Stands → Bool
-has v each_version = true
-has V44 old_alone = true
-has V51 old_alone = false
-has V44 new_alone = false
-has V51 new_alone = true
-
 -- the row of a tag
 abbrev pub row_in : ℕ → List Row → Option Row
 row_in t [] = None
-row_in t (r ∷ rs) = cond (t == r.tag) (Some r) (row_in t rs)
+row_in t (r ∷ rs) = if t == r.tag then Some r else row_in t rs

@@ -10,7 +10,7 @@ use Rattle.packstream.specs.Making.{first_fault, faults_in}
 use Rattle.wire.specs.declared.Version.{Version}
 use Rattle.messages.specs.declared.fault.MsgFault.{MsgFault}
 use Rattle.messages.specs.declared.fault.MsgFault.TheVariants as fault
-use Rattle.messages.specs.Table.{Holds, a_text, a_mode, a_count, last_query, Named, Field, text_field, cells, cell_list, extra, Row, layout, has}
+use Rattle.messages.specs.Table.{Holds, a_text, a_mode, a_count, last_query, Named, Field, text_field, cells, cell_list, extra, Row, layout}
 use Rattle.messages.specs.View.{Ask, Say}
 use Rattle.messages.specs.Reading.{◌>>=◌, Said, said, asks, says}
 use Rattle.messages.specs.Cells.{cell_put}
@@ -51,7 +51,7 @@ none_put (x ∷ xs) = Err fault.Extra
 -- the entries that the version has
 abbrev pub named_put : Version → List Named → List Tree → Result Entries MsgFault
 named_put v [] xs = none_put xs
-named_put v (n ∷ ns) xs = cond (has v n.stands) (entry_put n.holds n.name xs (λ ys. named_put v ns ys)) (named_put v ns xs)
+named_put v (n ∷ ns) xs = cond (n.stands v) (entry_put n.holds n.name xs (λ ys. named_put v ns ys)) (named_put v ns xs)
 
 -- the entries of the last field
 abbrev pub entries_put : Version → List Field → List Tree → Result Entries MsgFault
@@ -72,7 +72,7 @@ fields_put v (cell_list ∷ ks) (x ∷ xs) es = then_put (cell_put v x) (fields_
 fields_put v (k ∷ ks) [] es = Err fault.Fields
 
 abbrev pub row_put : Version → Row → List Tree → List Tree → Result Tree MsgFault
-row_put v r fs xs = cond (has v r.stands) (entries_put v r.fields xs >>= λ es. fields_put v r.fields fs es >>= λ ts. Ok (structure r.tag ts)) (Err fault.UnknownTag)
+row_put v r fs xs = cond (r.stands v) (entries_put v r.fields xs >>= λ es. fields_put v r.fields fs es >>= λ ts. Ok (structure r.tag ts)) (Err fault.UnknownTag)
 
 -- the structure of a message, by its row
 abbrev pub form_put : Version → Said → Result Tree MsgFault

@@ -1,22 +1,25 @@
 //! Values of requests and responses.
-ghost use Rattle.std.specs.Prelude.{◌≡◌, ◌∷◌, [], ◌++◌, Ok, IfOk, OnOk, codes, Some, None, string_bytes};
+ghost use Rattle.std.specs.Prelude.{◌≡◌, true, false, ◌∷◌, [], ◌++◌, Ok, IfOk, OnOk, codes, Some, None, string_bytes};
 ghost use Rattle.packstream.specs.Tree.{int, text, dict, list, structure, no_trees, tree_then};
 ghost use Rattle.packstream.specs.View.{tree, trees, trees_of, entries as value_entries, entries_of};
 ghost use Rattle.structures.specs.Shape.{entries, shapes, text_of};
 ghost use Rattle.messages.specs.View.{ask, say, auth_in, auth_of, Hello, Logon, Logoff, Run, Success, Record, Failure};
-ghost use Rattle.messages.specs.Table.{RUN, LOGON, each_version, credentials, how_many, mode_alone};
+ghost use Rattle.messages.specs.Table.{how_many, mode_alone, run_tag, begin_tag};
 ghost use Rattle.messages.specs.Reading.{Answers, asks, says, said, mode_tree, count_tree, login_trees};
 ghost use Rattle.messages.specs.Writing.{form_put, named_put};
 ghost use Rattle.messages.specs.Parts.{with_dict, count_number};
 ghost use Rattle.messages.specs.Cells.{cell_put};
-ghost use Rattle.wire.specs.declared.Version.TheVariants.{V44, V51};
+ghost use Rattle.wire.specs.declared.Version.{Version as AnyVersion};
+ghost use Rattle.wire.specs.Versions.{hello_has_login};
 
 use crate::fault::MsgFault;
 use crate::request::{Auth, Count, Mode, Request};
 use crate::response::Response;
+use crate::tags;
 use packstream::Value;
 use std::alloc::{AllocError, Global};
-use structures::{Cell, Version, write_entries, write_members};
+use structures::{Cell, write_entries, write_members};
+use wire::Version;
 
 /// Adds an entry.
 fn push(pairs: &mut Vec<(String, Value)>, name: &str, value: Value) -> Result<(), AllocError>
@@ -60,23 +63,23 @@ fn of_dict(alloc: Global, tag: u8, pairs: Vec<(String, Value)>) -> Result<Value,
 }
 
 fn hello_with_auth(alloc: Global, agent: &String, auth: &Auth) -> Result<Value, MsgFault>
-    ensures { Answers tree result (form_put V44 (asks (Hello (string_bytes agent.now) (Some (auth_of auth.now))))) }
+    ensures { (v : AnyVersion) → hello_has_login v ≡ true → Answers tree result (form_put v (asks (Hello (string_bytes agent.now) (Some (auth_of auth.now))))) }
 {
     let mut pairs = Vec::new(alloc);
     push_text(&mut pairs, "user_agent", agent)?;
     push_auth(&mut pairs, auth)?;
-    Ok(of_dict(alloc, 0x01, pairs)?)
+    Ok(of_dict(alloc, tags::HELLO, pairs)?)
 }
 
 fn hello_alone(alloc: Global, agent: &String) -> Result<Value, MsgFault>
-    ensures { Answers tree result (form_put V51 (asks (Hello (string_bytes agent.now) None))) }
+    ensures { (v : AnyVersion) → hello_has_login v ≡ false → Answers tree result (form_put v (asks (Hello (string_bytes agent.now) None))) }
 {
     let mut pairs = Vec::new(alloc);
     push_text(&mut pairs, "user_agent", agent)?;
-    Ok(of_dict(alloc, 0x01, pairs)?)
+    Ok(of_dict(alloc, tags::HELLO, pairs)?)
 }
 
-/// HELLO, with who the client is at 4.4 alone.
+/// HELLO, with who the client is where the version tells it there.
 fn hello_value(
     alloc: Global,
     version: Version,
@@ -85,44 +88,38 @@ fn hello_value(
 ) -> Result<Value, MsgFault>
     ensures { Answers tree result (form_put version (asks (Hello (string_bytes agent.now) (auth_in auth.now)))) }
 {
-    match version {
-        Version::V44 => match auth {
-            Some(auth) => hello_with_auth(alloc, agent, auth),
-            None => Err(MsgFault::Extra),
-        },
-        Version::V51 => match auth {
-            Some(_) => Err(MsgFault::Extra),
-            None => hello_alone(alloc, agent),
-        },
+    match (version.hello_has_login(), auth) {
+        (true, Some(auth)) => hello_with_auth(alloc, agent, auth),
+        (false, None) => hello_alone(alloc, agent),
+        _ => Err(MsgFault::Extra),
     }
 }
 
-/// LOGON, at 5.1 alone.
+/// LOGON, where the version has it.
 fn logon_value(alloc: Global, version: Version, auth: &Auth) -> Result<Value, MsgFault>
     ensures { Answers tree result (form_put version (asks (Logon (auth_of auth.now)))) }
 {
-    match version {
-        Version::V44 => Err(MsgFault::UnknownTag),
-        Version::V51 => {
-            let mut pairs = Vec::new(alloc);
-            push_auth(&mut pairs, auth)?;
-            Ok(of_dict(alloc, 0x6A, pairs)?)
-        }
+    if !version.has_logon() {
+        return Err(MsgFault::UnknownTag);
     }
+    let mut pairs = Vec::new(alloc);
+    push_auth(&mut pairs, auth)?;
+    Ok(of_dict(alloc, tags::LOGON, pairs)?)
 }
 
 fn logoff_value(alloc: Global, version: Version) -> Result<Value, MsgFault>
     ensures { Answers tree result (form_put version (asks Logoff)) }
 {
-    match version {
-        Version::V44 => Err(MsgFault::UnknownTag),
-        Version::V51 => plain(alloc, 0x6B),
+    if version.has_logon() {
+        plain(alloc, tags::LOGOFF)
+    } else {
+        Err(MsgFault::UnknownTag)
     }
 }
 
 /// The entries of a mode; that of writing isn't written.
 fn mode_entries(alloc: Global, mode: Mode) -> Result<Vec<(String, Value)>, AllocError>
-    ensures { IfOk result (λ v. named_put V44 mode_alone (mode_tree mode ∷ []) ≡ Ok (entries_of (value_entries v.items))) }
+    ensures { IfOk result (λ pairs. (v : AnyVersion) → named_put v mode_alone (mode_tree mode ∷ []) ≡ Ok (entries_of (value_entries pairs.items))) }
 {
     let mut pairs = Vec::new(alloc);
     if mode == Mode::Read {
@@ -133,10 +130,10 @@ fn mode_entries(alloc: Global, mode: Mode) -> Result<Vec<(String, Value)>, Alloc
 }
 
 fn begin_value(alloc: Global, mode: Mode) -> Result<Value, MsgFault>
-    ensures { Answers tree result (with_dict 0x11 (named_put V44 mode_alone (mode_tree mode ∷ []))) }
+    ensures { (v : AnyVersion) → Answers tree result (with_dict begin_tag (named_put v mode_alone (mode_tree mode ∷ []))) }
 {
     let pairs = mode_entries(alloc, mode)?;
-    Ok(of_dict(alloc, 0x11, pairs)?)
+    Ok(of_dict(alloc, tags::BEGIN, pairs)?)
 }
 
 /// The number that stands for a count.
@@ -151,7 +148,7 @@ fn number_of(count: Count) -> Result<i64, MsgFault>
 
 /// A structure of a count.
 fn count_value(alloc: Global, tag: u8, count: Count) -> Result<Value, MsgFault>
-    ensures { Answers tree result (with_dict tag (named_put V44 how_many (count_tree count ∷ []))) }
+    ensures { (v : AnyVersion) → Answers tree result (with_dict tag (named_put v how_many (count_tree count ∷ []))) }
 {
     let number = number_of(count)?;
     let mut pairs = Vec::new(alloc);
@@ -179,10 +176,16 @@ fn of_run(
     params: Value,
     pairs: Vec<(String, Value)>,
 ) -> Result<Value, AllocError>
-    ensures { IfOk result (λ w. tree w ≡ structure 0x10 (tree_then (text_of text.now) (tree_then (tree params) (tree_then (dict (entries_of (value_entries pairs.items))) no_trees)))) }
+    ensures { IfOk result (λ w. tree w ≡ structure run_tag (tree_then (text_of text.now) (tree_then (tree params) (tree_then (dict (entries_of (value_entries pairs.items))) no_trees)))) }
 {
     let text = text.clone()?;
-    of_three(alloc, 0x10, Value::Text(text), params, Value::Dict(pairs))
+    of_three(
+        alloc,
+        tags::RUN,
+        Value::Text(text),
+        params,
+        Value::Dict(pairs),
+    )
 }
 
 /// The value of a dictionary of cells.
@@ -227,23 +230,23 @@ fn success_value(
     ensures { Answers tree result (form_put version (says (Success (entries metadata.now.items)))) }
 {
     let field = cells_value(alloc, version, metadata)?;
-    Ok(of_one(alloc, 0x70, field)?)
+    Ok(of_one(alloc, tags::SUCCESS, field)?)
 }
 
 fn record_value(alloc: Global, version: Version, row: &Vec<Cell>) -> Result<Value, MsgFault>
     ensures { Answers tree result (form_put version (says (Record (shapes row.now.items)))) }
 {
     let field = row_value(alloc, version, row)?;
-    Ok(of_one(alloc, 0x71, field)?)
+    Ok(of_one(alloc, tags::RECORD, field)?)
 }
 
 fn failure_value(alloc: Global, code: &String, message: &String) -> Result<Value, MsgFault>
-    ensures { Answers tree result (form_put V44 (says (Failure (string_bytes code.now) (string_bytes message.now)))) }
+    ensures { (v : AnyVersion) → Answers tree result (form_put v (says (Failure (string_bytes code.now) (string_bytes message.now)))) }
 {
     let mut pairs = Vec::new(alloc);
     push_text(&mut pairs, "code", code)?;
     push_text(&mut pairs, "message", message)?;
-    Ok(of_dict(alloc, 0x7F, pairs)?)
+    Ok(of_dict(alloc, tags::FAILURE, pairs)?)
 }
 
 /// A structure without fields.
@@ -265,14 +268,14 @@ pub(crate) fn request_value(
         Request::Hello { agent, auth } => hello_value(alloc, version, agent, auth),
         Request::Logon(auth) => logon_value(alloc, version, auth),
         Request::Logoff => logoff_value(alloc, version),
-        Request::Goodbye => plain(alloc, 0x02),
-        Request::Reset => plain(alloc, 0x0F),
+        Request::Goodbye => plain(alloc, tags::GOODBYE),
+        Request::Reset => plain(alloc, tags::RESET),
         Request::Run { text, params, mode } => run_value(alloc, version, text, params, *mode),
         Request::Begin(mode) => begin_value(alloc, *mode),
-        Request::Commit => plain(alloc, 0x12),
-        Request::Rollback => plain(alloc, 0x13),
-        Request::Discard(count) => count_value(alloc, 0x2F, *count),
-        Request::Pull(count) => count_value(alloc, 0x3F, *count),
+        Request::Commit => plain(alloc, tags::COMMIT),
+        Request::Rollback => plain(alloc, tags::ROLLBACK),
+        Request::Discard(count) => count_value(alloc, tags::DISCARD, *count),
+        Request::Pull(count) => count_value(alloc, tags::PULL, *count),
     }
 }
 
@@ -287,7 +290,7 @@ pub(crate) fn response_value(
     match response {
         Response::Success(metadata) => success_value(alloc, version, metadata),
         Response::Record(row) => record_value(alloc, version, row),
-        Response::Ignored => plain(alloc, 0x7E),
+        Response::Ignored => plain(alloc, tags::IGNORED),
         Response::Failure { code, message } => failure_value(alloc, code, message),
     }
 }

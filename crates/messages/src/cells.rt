@@ -9,7 +9,8 @@ ghost use Rattle.messages.specs.Parts.{cells_told, list_of_cells_told, as_dict, 
 use crate::fault::MsgFault;
 use packstream::Value;
 use std::alloc::Global;
-use structures::{Cell, Version, read_value};
+use structures::{Cell, read_value};
+use wire::Version;
 
 /// The cell in a field.
 fn cell_in(alloc: Global, version: Version, field: &Value) -> Result<Cell, MsgFault>

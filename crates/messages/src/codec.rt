@@ -7,52 +7,32 @@ ghost use Rattle.packstream.specs.View.{tree};
 ghost use Rattle.messages.specs.declared.fault.MsgFault.{MsgFault as AnyFault};
 ghost use Rattle.messages.specs.Table.{requests, responses};
 ghost use Rattle.messages.specs.View.{ask, say, Ask, Say};
-ghost use Rattle.messages.specs.Reading.{Answers, asks, says, message_told};
+ghost use Rattle.messages.specs.Reading.{Answers, asks, says};
 ghost use Rattle.messages.specs.Messages.{Req, Resp, NoRequest, NoResponse, Gave, UnlessMemory, said_in, request_of, response_of};
 ghost use Rattle.messages.specs.Writing.{Appends, sized, text_put_of, request_text, response_text};
 
 use crate::building::{request_value, response_value};
 use crate::fault::MsgFault;
-use crate::reading::{request_tagged, response_tagged};
+use crate::of_packed;
 use crate::request::Request;
 use crate::response::Response;
 use bytes::BytesMut;
 use packstream::{PackFault, Packed, Value, decode, encode};
 use std::alloc::Global;
-use structures::Version;
-
-/// The request of a value.
-fn request_of_value(alloc: Global, version: Version, value: &Value) -> Result<Request, MsgFault>
-    ensures { Answers (λ r. asks (ask r)) result (message_told version requests (tree value.now)) }
-{
-    match value {
-        Value::Struct(tag, fields) => request_tagged(alloc, version, *tag, fields),
-        _ => Err(MsgFault::NotAMessage),
-    }
-}
-
-/// The response of a value.
-fn response_of_value(alloc: Global, version: Version, value: &Value) -> Result<Response, MsgFault>
-    ensures { Answers (λ r. says (say r)) result (message_told version responses (tree value.now)) }
-{
-    match value {
-        Value::Struct(tag, fields) => response_tagged(alloc, version, *tag, fields),
-        _ => Err(MsgFault::NotAMessage),
-    }
-}
+use wire::Version;
 
 fn request_in(alloc: Global, version: Version, bytes: &[u8]) -> Result<Request, MsgFault>
     ensures { Answers (λ r. asks (ask r)) result (said_in version requests bytes.now) }
 {
     let packed = decode(alloc, bytes)?;
-    request_of_value(alloc, version, packed.value())
+    of_packed::request_of(alloc, version, &packed)
 }
 
 fn response_in(alloc: Global, version: Version, bytes: &[u8]) -> Result<Response, MsgFault>
     ensures { Answers (λ r. says (say r)) result (said_in version responses bytes.now) }
 {
     let packed = decode(alloc, bytes)?;
-    response_of_value(alloc, version, packed.value())
+    of_packed::response_of(alloc, version, &packed)
 }
 
 /// The request of the bytes of one message, without chunks (Bolt message specification).

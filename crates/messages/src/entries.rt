@@ -132,7 +132,7 @@ pub(crate) fn count_in(pairs: &[(String, Value)]) -> Result<Count, MsgFault>
 
 /// Who a client is.
 pub(crate) fn auth_of(pairs: &[(String, Value)]) -> Result<Auth, MsgFault>
-    ensures { Answers (λ a. login_trees (login a)) result (login_told (entries_of (entries pairs.now))) }
+    ensures { (v : AnyVersion) → Answers (λ a. login_trees (login a)) result (login_told v (entries_of (entries pairs.now))) }
 {
     let scheme = text_in(pairs, "scheme")?;
     let principal = text_in(pairs, "principal")?;

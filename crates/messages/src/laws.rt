@@ -7,6 +7,10 @@ ghost use Rattle.messages.specs.View.{Ask, Say};
 ghost use Rattle.messages.specs.Sound.{RequestsAreMade, RequestsReadBack, ResponsesAreMade, ResponsesReadBack};
 ghost use Rattle.messages.specs.Messages.{Req, Resp, NoRequest, NoResponse, request_of, response_of};
 
+pub mod framing;
+pub mod saying;
+pub mod summaries;
+
 /// Bytes stand for one request at most, and then have no fault; `request_of` is it, or their fault.
 pub fn one_request()
     ensures one { (v : AnyVersion) (b : List ℕ) (m n : Ask) → Req v m b → Req v n b → m ≡ n }

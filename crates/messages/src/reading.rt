@@ -4,7 +4,8 @@ ghost use Rattle.packstream.specs.Tree.{Tree, text, list, dict, Trees, Entries};
 ghost use Rattle.packstream.specs.View.{tree, trees, trees_of, entries as value_entries, entries_of};
 ghost use Rattle.structures.specs.Shape.{shape, shapes, entries};
 ghost use Rattle.wire.specs.declared.Version.{Version as AnyVersion};
-ghost use Rattle.messages.specs.Table.{each_version, old_alone, ignored, refused, extra, text_field, cells, cell_list, hello, credentials, mode_alone, how_many, of_error, Name, HELLO, LOGON, LOGOFF, GOODBYE, RESET, RUN, BEGIN, COMMIT, ROLLBACK, DISCARD, PULL, SUCCESS, RECORD, IGNORED, FAILURE, requests, responses};
+ghost use Rattle.wire.specs.Versions.{every_version};
+ghost use Rattle.messages.specs.Table.{ignored, refused, extra, text_field, cells, cell_list, hello, credentials, mode_alone, how_many, of_error, Name, HELLO, LOGON, LOGOFF, GOODBYE, RESET, RUN, BEGIN, COMMIT, ROLLBACK, DISCARD, PULL, SUCCESS, RECORD, IGNORED, FAILURE, requests, responses};
 ghost use Rattle.messages.specs.View.{ask, say};
 ghost use Rattle.messages.specs.Reading.{said, Answers, row_told, cell_told, tagged, asks, says, count_tree};
 ghost use Rattle.messages.specs.Parts.{plain_told, run_told, dict_told, list_told, only_dict, only_list, run_parts, field_text, no_field, one_field};
@@ -14,9 +15,10 @@ use crate::entries::{auth_of, count_in, mode_in, text_in};
 use crate::fault::MsgFault;
 use crate::request::Request;
 use crate::response::Response;
+use crate::tags;
 use packstream::Value;
 use std::alloc::Global;
-use structures::Version;
+use wire::Version;
 
 /// No field.
 fn none(fields: &[Value]) -> Result<(), MsgFault>
@@ -81,21 +83,19 @@ fn hello_of(version: Version, fields: &[Value]) -> Result<Request, MsgFault>
 {
     let pairs = extra_in(fields)?;
     let agent = text_in(pairs, "user_agent")?;
-    match version {
-        Version::V44 => {
-            let auth = auth_of(pairs)?;
-            Ok(Request::Hello {
-                agent,
-                auth: Some(auth),
-            })
-        }
-        Version::V51 => Ok(Request::Hello { agent, auth: None }),
+    if !version.hello_has_login() {
+        return Ok(Request::Hello { agent, auth: None });
     }
+    let auth = auth_of(pairs)?;
+    Ok(Request::Hello {
+        agent,
+        auth: Some(auth),
+    })
 }
 
 #[tactic(auto, using(crate::proofs::Rows::extra_row))]
 fn logon_of(fields: &[Value]) -> Result<Request, MsgFault>
-    ensures { (v : AnyVersion) → Answers (λ r. asks (ask r)) result (row_told v LOGON (extra ignored (credentials each_version) ∷ []) (trees_of (trees fields.now))) }
+    ensures { (v : AnyVersion) → Answers (λ r. asks (ask r)) result (row_told v LOGON (extra ignored (credentials every_version) ∷ []) (trees_of (trees fields.now))) }
 {
     let pairs = extra_in(fields)?;
     let auth = auth_of(pairs)?;
@@ -216,18 +216,18 @@ pub(crate) fn request_tagged(
 ) -> Result<Request, MsgFault>
     ensures { Answers (λ r. asks (ask r)) result (tagged version requests tag (trees_of (trees fields.now))) }
 {
-    match (tag, version) {
-        (0x01, _) => hello_of(version, fields),
-        (0x6A, Version::V51) => logon_of(fields),
-        (0x6B, Version::V51) => plain(Request::Logoff, fields),
-        (0x02, _) => plain(Request::Goodbye, fields),
-        (0x0F, _) => plain(Request::Reset, fields),
-        (0x10, _) => run_of(alloc, version, fields),
-        (0x11, _) => begin_of(fields),
-        (0x12, _) => plain(Request::Commit, fields),
-        (0x13, _) => plain(Request::Rollback, fields),
-        (0x2F, _) => discard_of(fields),
-        (0x3F, _) => pull_of(fields),
+    match (tag, version.has_logon()) {
+        (tags::HELLO, _) => hello_of(version, fields),
+        (tags::LOGON, true) => logon_of(fields),
+        (tags::LOGOFF, true) => plain(Request::Logoff, fields),
+        (tags::GOODBYE, _) => plain(Request::Goodbye, fields),
+        (tags::RESET, _) => plain(Request::Reset, fields),
+        (tags::RUN, _) => run_of(alloc, version, fields),
+        (tags::BEGIN, _) => begin_of(fields),
+        (tags::COMMIT, _) => plain(Request::Commit, fields),
+        (tags::ROLLBACK, _) => plain(Request::Rollback, fields),
+        (tags::DISCARD, _) => discard_of(fields),
+        (tags::PULL, _) => pull_of(fields),
         _ => Err(MsgFault::UnknownTag),
     }
 }
@@ -243,10 +243,10 @@ pub(crate) fn response_tagged(
     ensures { Answers (λ r. says (say r)) result (tagged version responses tag (trees_of (trees fields.now))) }
 {
     match tag {
-        0x70 => success_of(alloc, version, fields),
-        0x71 => record_of(alloc, version, fields),
-        0x7E => ignored_of(fields),
-        0x7F => failure_of(fields),
+        tags::SUCCESS => success_of(alloc, version, fields),
+        tags::RECORD => record_of(alloc, version, fields),
+        tags::IGNORED => ignored_of(fields),
+        tags::FAILURE => failure_of(fields),
         _ => Err(MsgFault::UnknownTag),
     }
 }

@@ -13,7 +13,9 @@ use Rattle.structures.specs.declared.cell.Cell.{Cell}
 use Rattle.structures.specs.Shape.{shape}
 use Rattle.structures.proofs.Typed.{typed_shape}
 use Rattle.structures.proofs.Faulty.{fault_is, wrong_is}
-use Rattle.structures.specs.Table.{Stands, both, old, new, Row, fields_at, fields_of, kinds, row_in, table}
+use Rattle.wire.specs.Versions.{has_element_ids}
+use Rattle.structures.specs.Table.{Row, fields_at, fields_of, kinds, row_in, table}
+use Rattle.structures.proofs.Standing.{stood}
 use Rattle.structures.specs.Faults.{first_failed, to_utc, dated, is_int, is_float, is_text, is_dict, has_tag, each, is_list_of, is_kind, are_kinds, in_range, are_in_range, is_path, fault, structures, structures_in, structures_under}
 use Rattle.structures.specs.Form.{Form, form, form_all, form_under, moment}
 use Rattle.structures.specs.Steps.{all_fine}
@@ -173,16 +175,12 @@ prefix [] more ts h = refl
 prefix (f ∷ fs) more no_trees h = refl
 prefix (f ∷ fs) more (tree_then t ts) h = both_true _ _ (and_left _ _ h) (prefix fs more ts (and_right (is_kind f t) _ h))
 
-ok_same : (ks js : List Field) (ts : Trees) → ◌≡◌ {A = Result (List Field) Reason} (Ok ks) (Ok js) → are_kinds ks ts ≡ true → are_kinds js ts ≡ true
-ok_same ks js ts e h = let same : ks ≡ js = cc in subst (λ x. are_kinds x ts ≡ true) same h
+fields_kinds : (b : Bool) (fs more : List Field) (ts : Trees) → are_kinds (fs ++ more) ts ≡ true → are_kinds (cond b (fs ++ more) fs) ts ≡ true
+fields_kinds true fs more ts h = h
+fields_kinds false fs more ts h = prefix fs more ts h
 
-row_kinds : (v : Version) (s : Stands) (fs more ks : List Field) (ts : Trees) → fields_at v s fs more ≡ Ok ks → are_kinds (fs ++ more) ts ≡ true → are_kinds ks ts ≡ true
-row_kinds V44 both fs more ks ts e h = ok_same fs ks ts e (prefix fs more ts h)
-row_kinds V51 both fs more ks ts e h = ok_same (fs ++ more) ks ts e h
-row_kinds V44 old fs more ks ts e h = ok_same fs ks ts e (prefix fs more ts h)
-row_kinds V51 old fs more ks ts e h = absurd cc
-row_kinds V44 new fs more ks ts e h = absurd cc
-row_kinds V51 new fs more ks ts e h = ok_same (fs ++ more) ks ts e h
+row_kinds : (v : Version) (s : Version → Bool) (fs more ks : List Field) (ts : Trees) → fields_at v s fs more ≡ Ok ks → are_kinds (fs ++ more) ts ≡ true → are_kinds ks ts ≡ true
+row_kinds v s fs more ks ts e h = subst (λ x. are_kinds x ts ≡ true) (sym (stood v s fs more ks e).1) (fields_kinds (has_element_ids v) fs more ts h)
 
 table_kinds : (v : Version) (o : Option Row) (ks : List Field) (ts : Trees) → fields_of v o ≡ Ok ks → has_kinds o ts ≡ true → are_kinds ks ts ≡ true
 table_kinds v None ks ts e h = absurd cc
@@ -293,9 +291,9 @@ pub record Sum (u o : ℤ) : Type 0 where
   pub below : (u +ℤ o) ≤ℤ pos 100000000000064800
 
 -- the sum of a DateTime that can be written
-pub local_sum : (u n o : ℤ) → unwritten V44 0x49 (three u n o) ≡ None → Sum u o
-local_sum u n o h =
-    let r = (passes dated 0x49 (three u n o) h).ranged in
+pub local_sum : (v : Version) (u n o : ℤ) → unwritten v 0x49 (three u n o) ≡ None → Sum u o
+local_sum v u n o h =
+    let r = (passes dated 0x49 (three u n o) (moment_unwritten v (three u n o) h)).ranged in
     let a : (int_le (neg_ℤ (pos 100000000000000000)) u && int_le u (pos 100000000000000000)) ≡ true = and_left (in_range UtcSecond (int u)) _ r in
     let b : (int_le (neg_ℤ (pos 64800)) o && int_le o (pos 64800)) ≡ true = and_left (in_range Offset (int o)) _ (and_right (in_range Nanosecond (int n)) _ (and_right (in_range UtcSecond (int u)) _ r)) in
     let a0 = le_true (neg_ℤ (pos 100000000000000000)) u (and_left (int_le (neg_ℤ (pos 100000000000000000)) u) _ a) in

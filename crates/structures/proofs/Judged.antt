@@ -62,6 +62,11 @@ judged_is : (r : Result (List Field) Reason) (tag : ℕ) (zs : List ℤ) (rest :
 judged_is (Ok ks) tag zs rest h e = rw (h, within_is zs ks rest e) refl
 judged_is (Err r) tag zs rest h e = refl
 
+-- a Duration has numbers alone
+pub duration_judged : (v : Version) (k : ℕ) (a b d e : ℤ) → scanned (judged v 0x45 4 (a ∷ b ∷ d ∷ e ∷ [])) k (Ok (next k))
+    ≡ scan (unwritten v) k (structures (structure 0x45 (tree_then (int a) (tree_then (int b) (tree_then (int d) (tree_then (int e) no_trees))))))
+duration_judged v k a b d e = ap (λ (f : Option Reason). scanned f k (Ok (next k))) (judged_is (kinds v 0x45) 0x45 (a ∷ b ∷ d ∷ e ∷ []) no_trees refl refl)
+
 -- a typed cell without a fault, then what is inside it
 typed_ok : (j : FaultOf) (k m : ℕ) (f : Option Reason) (tag : ℕ) (ts : Trees) (ss : List (ℕ × Trees)) → Ok m ≡ scanned f k (Ok (next k)) → f ≡ j tag ts → structures_in ts ≡ ss → scan j m ss ≡ scan j k (structures (structure tag ts))
 typed_ok j k m None tag ts ss h e i = rw (sym e, i) (let same : m ≡ next k = cc in ap (λ (n : ℕ). scan j n ss) same)
@@ -114,27 +119,27 @@ relationship_judged v n id s d kind ps (Some xx) h = ap (λ m. judged v 0x52 m (
 
 pub node_ok : (v : Version) (k m n : ℕ) (id : ℤ) (labels : List (String Global)) (ps : List Pair) (e : Option (String Global)) → n ≡ 3 + count (element_of e) → Ok m ≡ scanned (judged v 0x4E n (id ∷ [])) k (Ok (next k))
     → scan (unwritten v) m (structures_under (entries_of (entries ps))) ≡ scan (unwritten v) k (structures (node_parts id labels ps e))
-node_ok v k m n id labels ps e h o = typed_ok (unwritten v) k m _ 0x4E _ _ o (node_judged v n id labels ps e h) (node_inner id labels ps e)
+node_ok v k m n id labels ps e h o = typed_ok (unwritten v) k m _ 0x4E (tree_then (int id) (tree_then (texts_of labels) (tree_then (dict (entries_of (entries ps))) (element_of e)))) _ o (node_judged v n id labels ps e h) (node_inner id labels ps e)
 
 pub node_err : (v : Version) (k n : ℕ) (b : Reason × ℕ) (id : ℤ) (labels : List (String Global)) (ps : List Pair) (e : Option (String Global)) → n ≡ 3 + count (element_of e) → Err b ≡ scanned (judged v 0x4E n (id ∷ [])) k (Ok (next k))
     → Err b ≡ scan (unwritten v) k (structures (node_parts id labels ps e))
-node_err v k n b id labels ps e h o = typed_err (unwritten v) k b _ 0x4E _ o (node_judged v n id labels ps e h)
+node_err v k n b id labels ps e h o = typed_err (unwritten v) k b _ 0x4E (tree_then (int id) (tree_then (texts_of labels) (tree_then (dict (entries_of (entries ps))) (element_of e)))) o (node_judged v n id labels ps e h)
 
 pub unbound_ok : (v : Version) (k m n : ℕ) (id : ℤ) (kind : String Global) (ps : List Pair) (e : Option (String Global)) → n ≡ 3 + count (element_of e) → Ok m ≡ scanned (judged v 0x72 n (id ∷ [])) k (Ok (next k))
     → scan (unwritten v) m (structures_under (entries_of (entries ps))) ≡ scan (unwritten v) k (structures (unbound_parts id kind ps e))
-unbound_ok v k m n id kind ps e h o = typed_ok (unwritten v) k m _ 0x72 _ _ o (unbound_judged v n id kind ps e h) (unbound_inner id kind ps e)
+unbound_ok v k m n id kind ps e h o = typed_ok (unwritten v) k m _ 0x72 (tree_then (int id) (tree_then (text_of kind) (tree_then (dict (entries_of (entries ps))) (element_of e)))) _ o (unbound_judged v n id kind ps e h) (unbound_inner id kind ps e)
 
 pub unbound_err : (v : Version) (k n : ℕ) (b : Reason × ℕ) (id : ℤ) (kind : String Global) (ps : List Pair) (e : Option (String Global)) → n ≡ 3 + count (element_of e) → Err b ≡ scanned (judged v 0x72 n (id ∷ [])) k (Ok (next k))
     → Err b ≡ scan (unwritten v) k (structures (unbound_parts id kind ps e))
-unbound_err v k n b id kind ps e h o = typed_err (unwritten v) k b _ 0x72 _ o (unbound_judged v n id kind ps e h)
+unbound_err v k n b id kind ps e h o = typed_err (unwritten v) k b _ 0x72 (tree_then (int id) (tree_then (text_of kind) (tree_then (dict (entries_of (entries ps))) (element_of e)))) o (unbound_judged v n id kind ps e h)
 
 pub relationship_ok : (v : Version) (k m n : ℕ) (id s d : ℤ) (kind : String Global) (ps : List Pair) (e : Option ElementIds) → n ≡ 5 + count (elements_of e) → Ok m ≡ scanned (judged v 0x52 n (id ∷ s ∷ d ∷ [])) k (Ok (next k))
     → scan (unwritten v) m (structures_under (entries_of (entries ps))) ≡ scan (unwritten v) k (structures (relationship_parts id s d kind ps e))
-relationship_ok v k m n id s d kind ps e h o = typed_ok (unwritten v) k m _ 0x52 _ _ o (relationship_judged v n id s d kind ps e h) (relationship_inner id s d kind ps e)
+relationship_ok v k m n id s d kind ps e h o = typed_ok (unwritten v) k m _ 0x52 (tree_then (int id) (tree_then (int s) (tree_then (int d) (tree_then (text_of kind) (tree_then (dict (entries_of (entries ps))) (elements_of e)))))) _ o (relationship_judged v n id s d kind ps e h) (relationship_inner id s d kind ps e)
 
 pub relationship_err : (v : Version) (k n : ℕ) (b : Reason × ℕ) (id s d : ℤ) (kind : String Global) (ps : List Pair) (e : Option ElementIds) → n ≡ 5 + count (elements_of e) → Err b ≡ scanned (judged v 0x52 n (id ∷ s ∷ d ∷ [])) k (Ok (next k))
     → Err b ≡ scan (unwritten v) k (structures (relationship_parts id s d kind ps e))
-relationship_err v k n b id s d kind ps e h o = typed_err (unwritten v) k b _ 0x52 _ o (relationship_judged v n id s d kind ps e h)
+relationship_err v k n b id s d kind ps e h o = typed_err (unwritten v) k b _ 0x52 (tree_then (int id) (tree_then (int s) (tree_then (int d) (tree_then (text_of kind) (tree_then (dict (entries_of (entries ps))) (elements_of e)))))) o (relationship_judged v n id s d kind ps e h)
 
 path_inner : (ns rs : List Tree) (is : List ℤ) → structures_in (tree_then (list (trees_of ns)) (tree_then (list (trees_of rs)) (tree_then (numbers_of is) no_trees))) ≡ structures_in (trees_of ns) ++ structures_in (trees_of rs)
 path_inner ns rs is = ap (λ (x : List (ℕ × Trees)). structures_in (trees_of ns) ++ (structures_in (trees_of rs) ++ (x ++ []))) (numbers_plain is) ∙ ap (λ (x : List (ℕ × Trees)). structures_in (trees_of ns) ++ x) (no_more (structures_in (trees_of rs)))
@@ -153,11 +158,11 @@ path_judged V51 ns rs is = rw (counted ns, counted rs) refl
 
 pub path_ok : (v : Version) (k m n l : ℕ) (ns rs : List Tree) (is : List ℤ) → n ≡ length ns → l ≡ length rs → Ok m ≡ scanned (walk_fault n l is) k (Ok (next k))
     → scan (unwritten v) m (structures_in (trees_of ns) ++ structures_in (trees_of rs)) ≡ scan (unwritten v) k (structures (path_of ns rs is))
-path_ok v k m n l ns rs is en el o = typed_ok (unwritten v) k m _ 0x50 _ _ (rw (en, el) at o) (path_judged v ns rs is) (path_inner ns rs is)
+path_ok v k m n l ns rs is en el o = typed_ok (unwritten v) k m _ 0x50 (tree_then (list (trees_of ns)) (tree_then (list (trees_of rs)) (tree_then (numbers_of is) no_trees))) _ (rw (en, el) at o) (path_judged v ns rs is) (path_inner ns rs is)
 
 pub path_err : (v : Version) (k n l : ℕ) (b : Reason × ℕ) (ns rs : List Tree) (is : List ℤ) → n ≡ length ns → l ≡ length rs → Err b ≡ scanned (walk_fault n l is) k (Ok (next k))
     → Err b ≡ scan (unwritten v) k (structures (path_of ns rs is))
-path_err v k n l b ns rs is en el o = typed_err (unwritten v) k b _ 0x50 _ (rw (en, el) at o) (path_judged v ns rs is)
+path_err v k n l b ns rs is en el o = typed_err (unwritten v) k b _ 0x50 (tree_then (list (trees_of ns)) (tree_then (list (trees_of rs)) (tree_then (numbers_of is) no_trees))) (rw (en, el) at o) (path_judged v ns rs is)
 
 -- what is inside a typed cell without a fault has none
 pub node_fine : (j : FaultOf) (id : ℤ) (labels : List (String Global)) (ps : List Pair) (e : Option (String Global)) → all_fine j (structures (node_parts id labels ps e)) ≡ true → all_fine j (structures_under (entries_of (entries ps))) ≡ true

@@ -6,13 +6,14 @@ use Rattle.std.proofs.lemmas.Bool.{leb-true, le-leb, ltb-true, lt-ltb}
 use Rattle.packstream.specs.Tree.{Tree, int, float, text, list, dict, structure, Trees, no_trees, tree_then}
 use Rattle.packstream.specs.Good.{count}
 use Rattle.wire.specs.declared.Version.{Version}
-use Rattle.wire.specs.declared.Version.TheVariants.{V44, V51}
 use Rattle.structures.specs.declared.table.Field.{Field}
 use Rattle.structures.specs.declared.table.Field.TheVariants.{Whole, Nanosecond, DayNanosecond, Offset, UtcSecond, Number, Text, Labels, Properties, Nodes, Relationships, Indices}
 use Rattle.structures.specs.declared.fault.Reason.{Reason}
-use Rattle.structures.specs.Table.{Stands, both, old, new, Row, table, row_in, fields_at, fields_of, kinds}
+use Rattle.wire.specs.Versions.{has_element_ids}
+use Rattle.structures.specs.Table.{Row, table, row_in, fields_at, fields_of, kinds}
+use Rattle.structures.proofs.Standing.{stood, stands_is}
 use Rattle.structures.specs.Faults.{is_int, is_text, has_tag, each, is_list_of, is_kind, are_kinds, in_range, are_in_range, is_relationship, is_place, is_walk, is_path}
-use Rattle.structures.specs.Laying.{AreMade, none_made, then_made, OfKind, any_whole, within_second, within_day, within_offset, within_utc, any_number, any_text, any_labels, any_properties, any_nodes, any_relationships, any_indices, OfKinds, no_kinds, then_kind, Walks, no_steps, then_step, IsShaped, no_path, a_path, StandsAt, at_each, at_4_4, at_5_1, HasRow, row_4_4, row_5_1}
+use Rattle.structures.specs.Laying.{AreMade, none_made, then_made, OfKind, any_whole, within_second, within_day, within_offset, within_utc, any_number, any_text, any_labels, any_properties, any_nodes, any_relationships, any_indices, OfKinds, no_kinds, then_kind, Walks, no_steps, then_step, IsShaped, no_path, a_path, HasRow, row_alone, row_with_ids}
 use Rattle.structures.proofs.Got.{and_left, and_right, le_true}
 use Rattle.structures.proofs.Back.{an_int}
 use Rattle.structures.proofs.Formed.{both_true, a_list}
@@ -142,15 +143,8 @@ shaped_is _ _ (no_path tag ts n) = ap (λ b. cond b (is_path ts) true) (ne_eqb t
 shaped_is _ _ (a_path nodes relationships steps h w) = both_true _ _ (lt-ltb 0 (count nodes) h) (walk_is (count nodes) (count relationships) steps w)
 
 -- The rows of the table.
-abbrev fields_in : Version → List Field → List Field → List Field
-fields_in V44 fs more = fs
-fields_in V51 fs more = fs ++ more
-
-stands_is : (s : Stands) (v : Version) (fs more : List Field) → StandsAt s v → fields_at v s fs more ≡ Ok (fields_in v fs more)
-stands_is _ _ fs more (at_each V44) = refl
-stands_is _ _ fs more (at_each V51) = refl
-stands_is _ _ fs more at_4_4 = refl
-stands_is _ _ fs more at_5_1 = refl
+abbrev fields_by : Bool → List Field → List Field → Result (List Field) Reason
+fields_by b fs more = Ok (cond b (fs ++ more) fs)
 
 -- each of these rows is found by its tag
 abbrev AreFound : List Row → Type 0
@@ -166,8 +160,10 @@ is_found (q ∷ rs) r f (zero, lt, is) = subst (λ (x : Row). row_in x.tag table
 is_found (q ∷ rs) r f (suc k, lt, is) = is_found rs r f.1 (k, omega (arith, lt), is)
 
 pub row_is : (v : Version) (tag : ℕ) (ks : List Field) → HasRow v tag ks → kinds v tag ≡ Ok ks
-row_is _ _ _ (row_4_4 r c s) = ap (fields_of V44) (is_found table r found c) ∙ stands_is r.stands V44 r.fields r.added s
-row_is _ _ _ (row_5_1 r c s) = ap (fields_of V51) (is_found table r found c) ∙ stands_is r.stands V51 r.fields r.added s
+row_is v _ _ (row_alone r c s n) =
+    ap (fields_of v) (is_found table r found c) ∙ stands_is v r.stands r.fields r.added s ∙ ap (λ b. fields_by b r.fields r.added) n
+row_is v _ _ (row_with_ids r c s n) =
+    ap (fields_of v) (is_found table r found c) ∙ stands_is v r.stands r.fields r.added s ∙ ap (λ b. fields_by b r.fields r.added) n
 
 by_tag : (tag : ℕ) (q r : Row) (rs : List Row) (b : Bool) → (tag == q.tag) ≡ b → (row_in tag rs ≡ Some r → Contains rs r × (r.tag ≡ tag)) → cond b (Some q) (row_in tag rs) ≡ Some r → Contains (q ∷ rs) r × (r.tag ≡ tag)
 by_tag tag q r rs true w k e =
@@ -179,20 +175,18 @@ in_rows : (tag : ℕ) (rs : List Row) (r : Row) → row_in tag rs ≡ Some r →
 in_rows tag [] r e = absurd cc
 in_rows tag (q ∷ rs) r e = by_tag tag q r rs (tag == q.tag) refl (in_rows tag rs r) e
 
-fields_same : (v : Version) (tag : ℕ) (ks js : List Field) → ◌≡◌ {A = Result (List Field) Reason} (Ok ks) (Ok js) → HasRow v tag ks → HasRow v tag js
-fields_same v tag ks js e h = let same : ks ≡ js = cc in subst (HasRow v tag) same h
+standing_by : (v : Version) (r : Row) (b : Bool) → has_element_ids v ≡ b → Contains table r → r.stands v ≡ true → HasRow v r.tag (cond b (r.fields ++ r.added) r.fields)
+standing_by v r true e c s = row_with_ids r c s e
+standing_by v r false e c s = row_alone r c s e
 
-standing : (v : Version) (r : Row) (s : Stands) (ks : List Field) → r.stands ≡ s → Contains table r → fields_at v s r.fields r.added ≡ Ok ks → HasRow v r.tag ks
-standing V44 r both ks e c h = fields_same V44 r.tag r.fields ks h (row_4_4 r c (subst (λ s. StandsAt s V44) (sym e) (at_each V44)))
-standing V51 r both ks e c h = fields_same V51 r.tag (r.fields ++ r.added) ks h (row_5_1 r c (subst (λ s. StandsAt s V51) (sym e) (at_each V51)))
-standing V44 r old ks e c h = fields_same V44 r.tag r.fields ks h (row_4_4 r c (subst (λ s. StandsAt s V44) (sym e) at_4_4))
-standing V51 r old ks e c h = absurd cc
-standing V44 r new ks e c h = absurd cc
-standing V51 r new ks e c h = fields_same V51 r.tag (r.fields ++ r.added) ks h (row_5_1 r c (subst (λ s. StandsAt s V51) (sym e) at_5_1))
+standing : (v : Version) (r : Row) (ks : List Field) → Contains table r → fields_at v r.stands r.fields r.added ≡ Ok ks → HasRow v r.tag ks
+standing v r ks c e =
+    let p = stood v r.stands r.fields r.added ks e in
+    subst (HasRow v r.tag) (sym p.1) (standing_by v r (has_element_ids v) refl c p.0)
 
 row_by : (v : Version) (tag : ℕ) (ks : List Field) (o : Option Row) → row_in tag table ≡ o → fields_of v o ≡ Ok ks → HasRow v tag ks
 row_by v tag ks None e h = absurd cc
-row_by v tag ks (Some r) e h = let p = in_rows tag table r e in subst (λ n. HasRow v n ks) p.1 (standing v r r.stands ks refl p.0 h)
+row_by v tag ks (Some r) e h = let p = in_rows tag table r e in subst (λ n. HasRow v n ks) p.1 (standing v r ks p.0 h)
 
 pub row_laid : (v : Version) (tag : ℕ) (ks : List Field) → kinds v tag ≡ Ok ks → HasRow v tag ks
 row_laid v tag ks h = row_by v tag ks (row_in tag table) refl h

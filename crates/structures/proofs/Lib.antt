@@ -11,6 +11,7 @@ pub mod Formed
 pub mod Packing
 pub mod Fitted
 pub mod Writable
+pub mod Standing
 pub mod Laid
 pub mod Related
 pub mod OneWriting

@@ -8,10 +8,11 @@ use Rattle.packstream.specs.Tree.{Tree, null, boolean, int, float, byte_string, 
 use Rattle.packstream.specs.Good.{count, is_among}
 use Rattle.packstream.specs.Making.{own_fault, faults_in, faults_in_all, faults_in_entries, first_fault}
 use Rattle.wire.specs.declared.Version.{Version}
-use Rattle.wire.specs.declared.Version.TheVariants.{V44, V51}
 use Rattle.structures.specs.declared.table.Field.{Field}
 use Rattle.structures.specs.declared.fault.Reason.{Reason}
-use Rattle.structures.specs.Table.{Stands, both, old, new, Row, table, row_in, fields_at, fields_of, kinds}
+use Rattle.wire.specs.Versions.{has_element_ids}
+use Rattle.structures.specs.Table.{Row, table, row_in, fields_at, fields_of, kinds}
+use Rattle.structures.proofs.Standing.{stood}
 use Rattle.structures.specs.Faults.{fault, fault_by, structures, structures_in, structures_under}
 use Rattle.structures.specs.Form.{Form}
 use Rattle.structures.specs.Steps.{all_fine}
@@ -42,19 +43,12 @@ short_row tag (r ∷ rs) h = short_by (tag == r.tag) r (row_in tag rs) h.0 (shor
 short_table : AreShort table
 short_table = (refl, (refl, (refl, (refl, (refl, (refl, (refl, (refl, (refl, (refl, (refl, (refl, (refl, (refl, (refl, tt)))))))))))))))
 
-few_same : (ks fs more : List Field) → ◌≡◌ {A = Result (List Field) Reason} (Ok fs) (Ok ks) → nat_le (length fs + length more) 15 ≡ true → length ks ≤ 15
-few_same ks fs more e h = let same : fs ≡ ks = cc in subst (λ (x : List Field). length x ≤ 15) same (omega (arith, leb-true _ _ h))
+few_fields_by : (b : Bool) (fs more : List Field) → nat_le (length fs + length more) 15 ≡ true → length (cond b (fs ++ more) fs) ≤ 15
+few_fields_by true fs more h = omega (arith, leb-true _ _ h, length-append fs more)
+few_fields_by false fs more h = omega (arith, leb-true _ _ h)
 
-few_more : (ks fs more : List Field) → ◌≡◌ {A = Result (List Field) Reason} (Ok (fs ++ more)) (Ok ks) → nat_le (length fs + length more) 15 ≡ true → length ks ≤ 15
-few_more ks fs more e h = let same : fs ++ more ≡ ks = cc in subst (λ (x : List Field). length x ≤ 15) same (omega (arith, leb-true _ _ h, length-append fs more))
-
-few_at : (v : Version) (s : Stands) (fs more ks : List Field) → fields_at v s fs more ≡ Ok ks → nat_le (length fs + length more) 15 ≡ true → length ks ≤ 15
-few_at V44 both fs more ks e h = few_same ks fs more e h
-few_at V51 both fs more ks e h = few_more ks fs more e h
-few_at V44 old fs more ks e h = few_same ks fs more e h
-few_at V51 old fs more ks e h = absurd cc
-few_at V44 new fs more ks e h = absurd cc
-few_at V51 new fs more ks e h = few_more ks fs more e h
+few_at : (v : Version) (s : Version → Bool) (fs more ks : List Field) → fields_at v s fs more ≡ Ok ks → nat_le (length fs + length more) 15 ≡ true → length ks ≤ 15
+few_at v s fs more ks e h = subst (λ (x : List Field). length x ≤ 15) (sym (stood v s fs more ks e).1) (few_fields_by (has_element_ids v) fs more h)
 
 few_of : (v : Version) (o : Option Row) (ks : List Field) → fields_of v o ≡ Ok ks → ShortIn o → length ks ≤ 15
 few_of v None ks e h = absurd cc

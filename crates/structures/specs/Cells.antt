@@ -3,10 +3,10 @@ use Rattle.std.specs.Prelude.{ℕ, length, ◌++◌, Bool, true, false, IsTrue, 
 use Rattle.packstream.specs.Good.{count}
 use Rattle.packstream.specs.Plain.{IsPlain}
 use Rattle.packstream.specs.Tree.{Tree, null, boolean, int, float, byte_string, text, list, dict, structure, Trees, no_trees, tree_then, Entries, no_entries, entry_then}
-use Rattle.structures.specs.Table.{Row, row_in, table}
+use Rattle.structures.specs.Table.{Row, row_in, table, legacy_date_time_tag}
 use Rattle.structures.specs.Faults.{are_kinds}
 
--- as many fields as the row has, or as it has with those that version 5.1 adds
+-- as many fields as the row has, or as it has with those that come with element ids
 abbrev pub has_count : Row → Trees → Bool
 has_count r ts = (count ts == length r.fields) || (count ts == length (r.fields ++ r.added))
 
@@ -25,7 +25,7 @@ abbrev mutual
   is_typed (text s) = true
   is_typed (list ts) = are_typed ts
   is_typed (dict es) = have_typed es
-  is_typed (structure tag ts) = not (tag == 0x46) && (is_row (row_in tag table) ts && are_typed ts)
+  is_typed (structure tag ts) = not (tag == legacy_date_time_tag) && (is_row (row_in tag table) ts && are_typed ts)
 
   pub are_typed : Trees → Bool
   are_typed no_trees = true

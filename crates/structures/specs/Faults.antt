@@ -1,5 +1,5 @@
 -- What is wrong with a structure, and which structure of a tree is the first with a fault.
-use Rattle.std.specs.Prelude.{◌≡◌, ℕ, ◌+◌, min, ℤ, pos, neg_ℤ, ◌-ℤ◌, int_le, nat_abs, nat_lt, nat_le, List, [], ◌∷◌, ◌++◌, length, Bool, true, false, cond, not, ◌&&◌, ◌==◌, Option, None, Some, Result, Ok, Err}
+use Rattle.std.specs.Prelude.{◌≡◌, ℕ, ◌+◌, min, ℤ, pos, neg_ℤ, ◌-ℤ◌, int_le, nat_abs, nat_lt, nat_le, List, [], ◌∷◌, ◌++◌, length, Bool, true, false, if◌then◌else◌, not, ◌&&◌, ◌==◌, Option, None, Some, Result, Ok, Err}
 use Rattle.packstream.specs.Tree.{Tree, null, boolean, int, float, byte_string, text, list, dict, structure, Trees, no_trees, tree_then, Entries, no_entries, entry_then}
 use Rattle.packstream.specs.Good.{count}
 use Rattle.wire.specs.declared.Version.{Version}
@@ -7,7 +7,7 @@ use Rattle.structures.specs.declared.table.Field.{Field}
 use Rattle.structures.specs.declared.table.Field.TheVariants.{Whole, Nanosecond, DayNanosecond, Offset, UtcSecond, Number, Text, Labels, Properties, Nodes, Relationships, Indices}
 use Rattle.structures.specs.declared.fault.Reason.{Reason}
 use Rattle.structures.specs.declared.fault.Reason.TheVariants.{FieldCount, FieldKind, Range, PathShape}
-use Rattle.structures.specs.Table.{kinds}
+use Rattle.structures.specs.Table.{kinds, node_tag, unbound_tag, path_tag, legacy_date_time_tag}
 
 -- The kinds of fields.
 abbrev pub is_int : Tree → Bool
@@ -48,8 +48,8 @@ is_kind Number t = is_float t
 is_kind Text t = is_text t
 is_kind Labels t = is_list_of is_text t
 is_kind Properties t = is_dict t
-is_kind Nodes t = is_list_of (has_tag 0x4E) t
-is_kind Relationships t = is_list_of (has_tag 0x72) t
+is_kind Nodes t = is_list_of (has_tag node_tag) t
+is_kind Relationships t = is_list_of (has_tag unbound_tag) t
 is_kind Indices t = is_list_of is_int t
 
 abbrev pub are_kinds : List Field → Trees → Bool
@@ -81,7 +81,7 @@ to_utc (tree_then (int local) (tree_then t (tree_then (int offset) no_trees))) =
 to_utc ts = ts
 
 abbrev pub utc_fields : ℕ → Trees → Trees
-utc_fields tag ts = cond (tag == 0x46) (to_utc ts) ts
+utc_fields tag ts = if tag == legacy_date_time_tag then to_utc ts else ts
 
 -- The shape of a path: steps by a relationship, then to a node.
 abbrev pub is_relationship : ℕ → Tree → Bool
@@ -95,7 +95,8 @@ is_place n t = false
 -- at even positions a relationship, at odd ones a node, and an even number of them
 abbrev pub is_walk : ℕ → ℕ → Bool → Trees → Bool
 is_walk nodes relationships even no_trees = even
-is_walk nodes relationships even (tree_then t ts) = cond even (is_relationship relationships t) (is_place nodes t) && is_walk nodes relationships (not even) ts
+is_walk nodes relationships even (tree_then t ts) =
+    (if even then is_relationship relationships t else is_place nodes t) && is_walk nodes relationships (not even) ts
 
 abbrev pub is_path : Trees → Bool
 is_path (tree_then (list nodes) (tree_then (list relationships) (tree_then (list steps) no_trees))) = nat_lt 0 (count nodes) && is_walk (count nodes) (count relationships) true steps
@@ -104,7 +105,7 @@ is_path ts = true
 -- What is wrong: the first test that fails.
 abbrev pub first_failed : List (Bool × Reason) → Option Reason
 first_failed [] = None
-first_failed (e ∷ es) = cond e.0 (first_failed es) (Some e.1)
+first_failed (e ∷ es) = if e.0 then first_failed es else Some e.1
 
 abbrev pub wrong : List Field → ℕ → Trees → Option Reason
 wrong ks tag ts =
@@ -112,7 +113,7 @@ wrong ks tag ts =
     ((count ts == length ks, FieldCount)
     ∷ (are_kinds ks ts, FieldKind)
     ∷ (are_in_range ks (utc_fields tag ts), Range)
-    ∷ (cond (tag == 0x50) (is_path ts) true, PathShape)
+    ∷ (if tag == path_tag then is_path ts else true, PathShape)
     ∷ [])
 
 abbrev pub fault_by : Result (List Field) Reason → ℕ → Trees → Option Reason

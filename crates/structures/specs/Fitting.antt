@@ -1,11 +1,11 @@
--- A cell, seen as its tree, in the form of a version: without element ids at 4.4, and at 5.1 with the decimal texts of
--- the ids where they were absent.
-use Rattle.std.specs.Prelude.{◌≡◌, Result, Ok, Err, ℤ, ℕ, zero, suc, List, [], ◌∷◌, length, cond, ◌==◌, Option, None, Some}
+-- A cell, seen as its tree, in the form of a version: without element ids where it has none, and else with the decimal texts
+-- of the ids where they were absent.
+use Rattle.std.specs.Prelude.{◌≡◌, Result, Ok, Err, ℤ, ℕ, zero, suc, List, [], ◌∷◌, length, if◌then◌else◌, ◌==◌, Option, None, Some}
 use Rattle.std.specs.Fmt.{signed_decimal}
 use Rattle.packstream.specs.Tree.{Tree, null, boolean, int, float, byte_string, text, list, dict, structure, Trees, no_trees, tree_then, Entries, no_entries, entry_then}
 use Rattle.packstream.specs.Good.{count}
 use Rattle.wire.specs.declared.Version.{Version}
-use Rattle.wire.specs.declared.Version.TheVariants.{V44, V51}
+use Rattle.wire.specs.Versions.{has_element_ids}
 use Rattle.structures.specs.declared.table.Field.{Field}
 use Rattle.structures.specs.declared.cell.Cell.{Cell}
 use Rattle.structures.specs.declared.fault.CellFault.{CellFault}
@@ -24,24 +24,31 @@ front zero ts = no_trees
 front (suc n) no_trees = no_trees
 front (suc n) (tree_then t ts) = tree_then t (front n ts)
 
+-- of each
 abbrev pub decimal_texts : Trees → Trees
 decimal_texts no_trees = no_trees
 decimal_texts (tree_then t ts) = tree_then (decimal_text t) (decimal_texts ts)
 
+-- these and then those
 abbrev pub joined : Trees → Trees → Trees
 joined no_trees us = us
 joined (tree_then t ts) us = tree_then t (joined ts us)
 
--- the fields at a version, where 5.1 adds these: as many texts of ids, the ids being the first fields
+-- the fields with as many texts of ids, the ids being the first fields, where none are there yet
+abbrev pub with_texts : List Field → List Field → Trees → Trees
+with_texts fs more ts = if count ts == length fs then joined ts (decimal_texts (front (length more) ts)) else ts
+
+-- the fields at a version, where it has these more with element ids
 abbrev pub with_added : Version → List Field → List Field → Trees → Trees
 with_added v fs [] ts = ts
-with_added V44 fs (f ∷ more) ts = front (length fs) ts
-with_added V51 fs (f ∷ more) ts = cond (count ts == length fs) (joined ts (decimal_texts (front (suc (length more)) ts))) ts
+with_added v fs (f ∷ more) ts = if has_element_ids v then with_texts fs (f ∷ more) ts else front (length fs) ts
 
+-- the fields of a tag's row at a version
 abbrev pub fitted_by : Version → Option Row → Trees → Trees
 fitted_by v None ts = ts
 fitted_by v (Some r) ts = with_added v r.fields r.added ts
 
+-- the whole of a cell
 abbrev mutual
   pub fitted : Version → Tree → Tree
   fitted v null = null
@@ -62,19 +69,26 @@ abbrev mutual
   fitted_under v no_entries = no_entries
   fitted_under v (entry_then k t es) = entry_then k (fitted v t) (fitted_under v es)
 
+-- an entry's value
 abbrev pub fitted_entry : Version → List ℕ × Tree → List ℕ × Tree
 fitted_entry v e = (e.0, fitted v e.1)
 
--- the element id of one id, and the element ids of three
+-- the element id of one id, as its decimal text where there was none
+abbrev pub element_or : ℤ → Trees → Trees
+element_or id no_trees = tree_then (text (signed_decimal id)) no_trees
+element_or id (tree_then t ts) = tree_then t ts
+
 abbrev pub element_at : Version → ℤ → Trees → Trees
-element_at V44 id es = no_trees
-element_at V51 id no_trees = tree_then (text (signed_decimal id)) no_trees
-element_at V51 id (tree_then t ts) = tree_then t ts
+element_at v id es = if has_element_ids v then element_or id es else no_trees
+
+-- the element ids of three
+abbrev pub elements_or : ℤ → ℤ → ℤ → Trees → Trees
+elements_or id start end no_trees =
+    tree_then (text (signed_decimal id)) (tree_then (text (signed_decimal start)) (tree_then (text (signed_decimal end)) no_trees))
+elements_or id start end (tree_then t ts) = tree_then t ts
 
 abbrev pub elements_at : Version → ℤ → ℤ → ℤ → Trees → Trees
-elements_at V44 id start end es = no_trees
-elements_at V51 id start end no_trees = tree_then (text (signed_decimal id)) (tree_then (text (signed_decimal start)) (tree_then (text (signed_decimal end)) no_trees))
-elements_at V51 id start end (tree_then t ts) = tree_then t ts
+elements_at v id start end es = if has_element_ids v then elements_or id start end es else no_trees
 
 -- what `fit` answers: the cell in the form of the version, unless memory ran out
 abbrev pub Fits : Version → Tree → Result Cell CellFault → Type 0

@@ -1,14 +1,16 @@
 -- What a tree is read as, and how a cell is written.
-use Rattle.std.specs.Prelude.{◌≡◌, ℕ, ◌+ℤ◌, cond, ◌==◌}
+use Rattle.std.specs.Prelude.{◌≡◌, ℕ, ◌+ℤ◌, if◌then◌else◌, ◌==◌}
 use Rattle.packstream.specs.Tree.{Tree, null, boolean, int, float, byte_string, text, list, dict, structure, Trees, no_trees, tree_then, Entries, no_entries, entry_then}
 use Rattle.wire.specs.declared.Version.{Version}
-use Rattle.wire.specs.declared.Version.TheVariants.{V44, V51}
+use Rattle.wire.specs.Versions.{has_utc_times}
+use Rattle.structures.specs.Table.{date_time_tag, legacy_date_time_tag}
 use Rattle.structures.specs.Faults.{utc_fields, IsFine}
 
 -- Read: the same tree, but local seconds are brought to UTC.
 abbrev pub typed_tag : ℕ → ℕ
-typed_tag tag = cond (tag == 0x46) 0x49 tag
+typed_tag tag = if tag == legacy_date_time_tag then date_time_tag else tag
 
+-- what a value is read as
 abbrev mutual
   pub typed : Tree → Tree
   typed null = null
@@ -33,18 +35,20 @@ abbrev mutual
 abbrev pub Form : Version → Tree → Tree → Type 0
 Form v cell t = IsFine v t × (cell ≡ typed t)
 
--- Written: at version 4.4 a DateTime has local seconds.
+-- Written: a DateTime has local seconds where the version has no UTC times.
 abbrev pub to_local : Trees → Trees
 to_local (tree_then (int utc) (tree_then t (tree_then (int offset) no_trees))) = tree_then (int (utc +ℤ offset)) (tree_then t (tree_then (int offset) no_trees))
 to_local ts = ts
 
+-- a DateTime at a version
 abbrev pub moment : Version → Trees → Tree
-moment V44 ts = structure 0x46 (to_local ts)
-moment V51 ts = structure 0x49 ts
+moment v ts = if has_utc_times v then structure date_time_tag ts else structure legacy_date_time_tag (to_local ts)
 
+-- a structure at a version
 abbrev pub written : Version → ℕ → Trees → Tree
-written v tag ts = cond (tag == 0x49) (moment v ts) (structure tag ts)
+written v tag ts = if tag == date_time_tag then moment v ts else structure tag ts
 
+-- a cell at a version
 abbrev mutual
   pub form : Version → Tree → Tree
   form v null = null

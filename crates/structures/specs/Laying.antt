@@ -1,12 +1,12 @@
 -- Which cell a value stands for, as the rows of the table lay it out, and not how it is read.
-use Rattle.std.specs.Prelude.{◌≢◌, ◌≤◌, ◌<◌, ℕ, ℤ, pos, neg_ℤ, nat_abs, ◌+ℤ◌, ◌≤ℤ◌, List, [], ◌∷◌, ◌++◌, Bool, Contains}
+use Rattle.std.specs.Prelude.{◌≡◌, ◌≢◌, ◌≤◌, ◌<◌, ℕ, ℤ, pos, neg_ℤ, nat_abs, ◌+ℤ◌, ◌≤ℤ◌, List, [], ◌∷◌, ◌++◌, Bool, true, false, Contains}
 use Rattle.packstream.specs.Tree.{Tree, null, boolean, int, float, byte_string, text, list, dict, structure, Trees, no_trees, tree_then, Entries, no_entries, entry_then}
 use Rattle.packstream.specs.Good.{count}
 use Rattle.wire.specs.declared.Version.{Version}
-use Rattle.wire.specs.declared.Version.TheVariants.{V44, V51}
+use Rattle.wire.specs.Versions.{has_element_ids}
 use Rattle.structures.specs.declared.table.Field.{Field}
 use Rattle.structures.specs.declared.table.Field.TheVariants.{Whole, Nanosecond, DayNanosecond, Offset, UtcSecond, Number, Text, Labels, Properties, Nodes, Relationships, Indices}
-use Rattle.structures.specs.Table.{Stands, both, old, new, Row, table}
+use Rattle.structures.specs.Table.{Row, table, node_tag, unbound_tag, path_tag, date_time_tag, legacy_date_time_tag}
 
 -- these values are all made in one way: all texts, all integers, or all structures of one tag
 pub data AreMade (A : Type 0) (make : A → Tree) : Trees → Type 0 where
@@ -24,8 +24,8 @@ pub data OfKind : Field → Tree → Type 0 where
   any_text : (s : List ℕ) → OfKind Text (text s)
   any_labels : (ts : Trees) → AreMade (List ℕ) text ts → OfKind Labels (list ts)
   any_properties : (es : Entries) → OfKind Properties (dict es)
-  any_nodes : (ts : Trees) → AreMade Trees (structure 0x4E) ts → OfKind Nodes (list ts)
-  any_relationships : (ts : Trees) → AreMade Trees (structure 0x72) ts → OfKind Relationships (list ts)
+  any_nodes : (ts : Trees) → AreMade Trees (structure node_tag) ts → OfKind Nodes (list ts)
+  any_relationships : (ts : Trees) → AreMade Trees (structure unbound_tag) ts → OfKind Relationships (list ts)
   any_indices : (ts : Trees) → AreMade ℤ int ts → OfKind Indices (list ts)
 
 -- fields of these kinds, in order, and as many
@@ -40,26 +40,21 @@ pub data Walks (nodes relationships : ℕ) : Trees → Type 0 where
 
 -- where the structure is a path, it has a node and its steps walk
 pub data IsShaped : ℕ → Trees → Type 0 where
-  no_path : (tag : ℕ) (ts : Trees) → tag ≢ 0x50 → IsShaped tag ts
-  a_path : (nodes relationships steps : Trees) → 1 ≤ count nodes → Walks (count nodes) (count relationships) steps → IsShaped 0x50 (tree_then (list nodes) (tree_then (list relationships) (tree_then (list steps) no_trees)))
+  no_path : (tag : ℕ) (ts : Trees) → tag ≢ path_tag → IsShaped tag ts
+  a_path : (nodes relationships steps : Trees) → 1 ≤ count nodes → Walks (count nodes) (count relationships) steps → IsShaped path_tag (tree_then (list nodes) (tree_then (list relationships) (tree_then (list steps) no_trees)))
 
--- the versions where a row stands
-pub data StandsAt : Stands → Version → Type 0 where
-  at_each : (v : Version) → StandsAt both v
-  at_4_4 : StandsAt old V44
-  at_5_1 : StandsAt new V51
-
--- a row of the table with this tag stands at the version, and these are its fields there: at 5.1 those that are added too
-pub data HasRow : Version → ℕ → List Field → Type 0 where
-  row_4_4 : (r : Row) → Contains table r → StandsAt r.stands V44 → HasRow V44 r.tag r.fields
-  row_5_1 : (r : Row) → Contains table r → StandsAt r.stands V51 → HasRow V51 r.tag (r.fields ++ r.added)
+-- a row of the table with this tag stands at the version, and these are its fields there: those that come with element ids too
+-- where the version has them
+pub data HasRow (v : Version) : ℕ → List Field → Type 0 where
+  row_alone : (r : Row) → Contains table r → r.stands v ≡ true → has_element_ids v ≡ false → HasRow v r.tag r.fields
+  row_with_ids : (r : Row) → Contains table r → r.stands v ≡ true → has_element_ids v ≡ true → HasRow v r.tag (r.fields ++ r.added)
 
 -- a DateTime's three fields
 abbrev pub moment_fields : ℤ → ℤ → ℤ → Trees
 moment_fields seconds nanoseconds offset = tree_then (int seconds) (tree_then (int nanoseconds) (tree_then (int offset) no_trees))
 
 -- A cell, seen as its tree, and the value that stands for it: the same, member by member, but for the seconds of a
--- DateTime at 4.4, which the value has as local ones.
+-- legacy DateTime, which the value has as local ones.
 mutual
   pub data IsForm (v : Version) : Tree → Tree → Type 0 where
     of_null : IsForm v null null
@@ -70,9 +65,10 @@ mutual
     of_text : (s : List ℕ) → IsForm v (text s) (text s)
     of_list : (cs ts : Trees) → AreForms v cs ts → IsForm v (list cs) (list ts)
     of_dict : (ds es : Entries) → HaveForms v ds es → IsForm v (dict ds) (dict es)
-    of_structure : (tag : ℕ) (ks : List Field) (cs ts : Trees) → tag ≢ 0x46 → HasRow v tag ks → OfKinds ks ts → IsShaped tag ts → AreForms v cs ts → IsForm v (structure tag cs) (structure tag ts)
-    of_local_seconds : (ks : List Field) (utc nanoseconds offset : ℤ) → HasRow v 0x46 ks → OfKinds ks (moment_fields utc nanoseconds offset)
-        → IsForm v (structure 0x49 (moment_fields utc nanoseconds offset)) (structure 0x46 (moment_fields (utc +ℤ offset) nanoseconds offset))
+    of_structure : (tag : ℕ) (ks : List Field) (cs ts : Trees) → tag ≢ legacy_date_time_tag → HasRow v tag ks → OfKinds ks ts → IsShaped tag ts
+        → AreForms v cs ts → IsForm v (structure tag cs) (structure tag ts)
+    of_local_seconds : (ks : List Field) (utc nanoseconds offset : ℤ) → HasRow v legacy_date_time_tag ks → OfKinds ks (moment_fields utc nanoseconds offset)
+        → IsForm v (structure date_time_tag (moment_fields utc nanoseconds offset)) (structure legacy_date_time_tag (moment_fields (utc +ℤ offset) nanoseconds offset))
 
   pub data AreForms (v : Version) : Trees → Trees → Type 0 where
     no_forms : AreForms v no_trees no_trees

@@ -10,7 +10,9 @@ use Rattle.structures.specs.declared.cell.Node.{Node}
 use Rattle.structures.specs.declared.cell.UnboundRelationship.{UnboundRelationship}
 use Rattle.structures.specs.declared.cell.Relationship.{Relationship}
 use Rattle.structures.specs.declared.cell.ElementIds.{ElementIds}
+use Rattle.structures.specs.Table.{node_tag, relationship_tag, unbound_tag, path_tag, date_tag, time_tag, local_time_tag, local_date_time_tag, date_time_tag, legacy_zoned_tag, zoned_tag, duration_tag, point_2d_tag, point_3d_tag}
 
+-- a text, texts, numbers, and entries
 abbrev pub text_of : String Global → Tree
 text_of s = text (string_bytes s)
 
@@ -28,22 +30,27 @@ abbrev pub element_of : Option (String Global) → Trees
 element_of None = no_trees
 element_of (Some s) = tree_then (text_of s) no_trees
 
+-- the three of a relationship
 abbrev pub elements_of : Option ElementIds → Trees
 elements_of None = no_trees
 elements_of (Some e) = tree_then (text_of e.own) (tree_then (text_of e.start) (tree_then (text_of e.end) no_trees))
 
+-- a node, a relationship in a path, a relationship, and a path
 abbrev pub node_step : Node-F Tree Tree Tree Tree → Tree
-node_step n = structure 0x4E (tree_then (int n.id) (tree_then (texts_of n.labels.items) (tree_then (dict_of n.properties.items) (element_of n.element_id))))
+node_step n =
+    structure node_tag (tree_then (int n.id) (tree_then (texts_of n.labels.items) (tree_then (dict_of n.properties.items) (element_of n.element_id))))
 
 abbrev pub unbound_step : UnboundRelationship-F Tree Tree Tree Tree → Tree
-unbound_step r = structure 0x72 (tree_then (int r.id) (tree_then (text_of r.kind) (tree_then (dict_of r.properties.items) (element_of r.element_id))))
+unbound_step r =
+    structure unbound_tag (tree_then (int r.id) (tree_then (text_of r.kind) (tree_then (dict_of r.properties.items) (element_of r.element_id))))
 
 abbrev pub relationship_step : Relationship-F Tree Tree Tree Tree → Tree
 relationship_step r =
-    structure 0x52 (tree_then (int r.id) (tree_then (int r.start) (tree_then (int r.end) (tree_then (text_of r.kind) (tree_then (dict_of r.properties.items) (elements_of r.element_ids))))))
+    structure relationship_tag (tree_then (int r.id) (tree_then (int r.start) (tree_then (int r.end) (tree_then (text_of r.kind) (tree_then (dict_of r.properties.items) (elements_of r.element_ids))))))
 
 abbrev pub path_of : List Tree → List Tree → List ℤ → Tree
-path_of nodes relationships indices = structure 0x50 (tree_then (list (trees_of nodes)) (tree_then (list (trees_of relationships)) (tree_then (numbers_of indices) no_trees)))
+path_of nodes relationships indices =
+    structure path_tag (tree_then (list (trees_of nodes)) (tree_then (list (trees_of relationships)) (tree_then (numbers_of indices) no_trees)))
 
 -- one level, with each cell inside already seen as its tree
 abbrev pub cell_step : Cell-F Tree Tree Tree Tree → Tree
@@ -59,17 +66,18 @@ cell_step (Cell-F.Node n) = n
 cell_step (Cell-F.Relationship r) = r
 cell_step (Cell-F.UnboundRelationship r) = r
 cell_step (Cell-F.Path ns rs is) = path_of ns.items rs.items is.items
-cell_step (Cell-F.Date d) = structure 0x44 (tree_then (int d) no_trees)
-cell_step (Cell-F.Time n o) = structure 0x54 (tree_then (int n) (tree_then (int o) no_trees))
-cell_step (Cell-F.LocalTime n) = structure 0x74 (tree_then (int n) no_trees)
-cell_step (Cell-F.LocalDateTime s n) = structure 0x64 (tree_then (int s) (tree_then (int n) no_trees))
-cell_step (Cell-F.DateTime s n o) = structure 0x49 (tree_then (int s) (tree_then (int n) (tree_then (int o) no_trees)))
-cell_step (Cell-F.ZonedLocal s n z) = structure 0x66 (tree_then (int s) (tree_then (int n) (tree_then (text_of z) no_trees)))
-cell_step (Cell-F.ZonedUtc s n z) = structure 0x69 (tree_then (int s) (tree_then (int n) (tree_then (text_of z) no_trees)))
-cell_step (Cell-F.Duration m d s n) = structure 0x45 (tree_then (int m) (tree_then (int d) (tree_then (int s) (tree_then (int n) no_trees))))
-cell_step (Cell-F.Point2D i x y) = structure 0x58 (tree_then (int i) (tree_then (float x) (tree_then (float y) no_trees)))
-cell_step (Cell-F.Point3D i x y z) = structure 0x59 (tree_then (int i) (tree_then (float x) (tree_then (float y) (tree_then (float z) no_trees))))
+cell_step (Cell-F.Date d) = structure date_tag (tree_then (int d) no_trees)
+cell_step (Cell-F.Time n o) = structure time_tag (tree_then (int n) (tree_then (int o) no_trees))
+cell_step (Cell-F.LocalTime n) = structure local_time_tag (tree_then (int n) no_trees)
+cell_step (Cell-F.LocalDateTime s n) = structure local_date_time_tag (tree_then (int s) (tree_then (int n) no_trees))
+cell_step (Cell-F.DateTime s n o) = structure date_time_tag (tree_then (int s) (tree_then (int n) (tree_then (int o) no_trees)))
+cell_step (Cell-F.ZonedLocal s n z) = structure legacy_zoned_tag (tree_then (int s) (tree_then (int n) (tree_then (text_of z) no_trees)))
+cell_step (Cell-F.ZonedUtc s n z) = structure zoned_tag (tree_then (int s) (tree_then (int n) (tree_then (text_of z) no_trees)))
+cell_step (Cell-F.Duration m d s n) = structure duration_tag (tree_then (int m) (tree_then (int d) (tree_then (int s) (tree_then (int n) no_trees))))
+cell_step (Cell-F.Point2D i x y) = structure point_2d_tag (tree_then (int i) (tree_then (float x) (tree_then (float y) no_trees)))
+cell_step (Cell-F.Point3D i x y z) = structure point_3d_tag (tree_then (int i) (tree_then (float x) (tree_then (float y) (tree_then (float z) no_trees))))
 
+-- a cell, and what stands in it, as trees
 abbrev pub shape : Cell → Tree
 shape = fold-Cell Tree Tree Tree Tree cell_step node_step relationship_step unbound_step
 

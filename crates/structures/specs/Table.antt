@@ -1,58 +1,103 @@
--- The table of the structures: tag, where it stands, its fields, and those that version 5.1 adds at the end.
-use Rattle.std.specs.Prelude.{ℕ, List, [], ◌∷◌, ◌++◌, cond, ◌==◌, Option, None, Some, Result, Ok, Err}
+-- The table of the structures: tag, the versions where it stands, its fields, and those that come at the end where a version has
+-- element ids ("Structure semantics").
+use Rattle.std.specs.Prelude.{ℕ, List, [], ◌∷◌, ◌++◌, Bool, if◌then◌else◌, ◌==◌, Option, None, Some, Result, Ok, Err}
 use Rattle.wire.specs.declared.Version.{Version}
-use Rattle.wire.specs.declared.Version.TheVariants.{V44, V51}
+use Rattle.wire.specs.Versions.{has_element_ids, has_utc_times, every_version, lacks}
 use Rattle.structures.specs.declared.table.Field.{Field}
 use Rattle.structures.specs.declared.table.Field.TheVariants.{Whole, Nanosecond, DayNanosecond, Offset, UtcSecond, Number, Text, Labels, Properties, Nodes, Relationships, Indices}
 use Rattle.structures.specs.declared.fault.Reason.{Reason}
 use Rattle.structures.specs.declared.fault.Reason.TheVariants.{UnknownTag, NotInVersion}
 
-pub data Stands : Type 0 where
-  both : Stands
-  old : Stands
-  new : Stands
+-- The tags. A date with a time and an offset, or a zone, has one for seconds in UTC, and a legacy one for local seconds.
+abbrev pub node_tag : ℕ
+node_tag = 0x4E
 
+abbrev pub relationship_tag : ℕ
+relationship_tag = 0x52
+
+abbrev pub unbound_tag : ℕ
+unbound_tag = 0x72
+
+abbrev pub path_tag : ℕ
+path_tag = 0x50
+
+abbrev pub date_tag : ℕ
+date_tag = 0x44
+
+abbrev pub time_tag : ℕ
+time_tag = 0x54
+
+abbrev pub local_time_tag : ℕ
+local_time_tag = 0x74
+
+abbrev pub local_date_time_tag : ℕ
+local_date_time_tag = 0x64
+
+abbrev pub legacy_date_time_tag : ℕ
+legacy_date_time_tag = 0x46
+
+abbrev pub date_time_tag : ℕ
+date_time_tag = 0x49
+
+abbrev pub legacy_zoned_tag : ℕ
+legacy_zoned_tag = 0x66
+
+abbrev pub zoned_tag : ℕ
+zoned_tag = 0x69
+
+abbrev pub duration_tag : ℕ
+duration_tag = 0x45
+
+abbrev pub point_2d_tag : ℕ
+point_2d_tag = 0x58
+
+abbrev pub point_3d_tag : ℕ
+point_3d_tag = 0x59
+
+-- a row stands at the versions that pass its test
 pub record Row : Type 0 where
   pub tag : ℕ
-  pub stands : Stands
+  pub stands : Version → Bool
   pub fields : List Field
   pub added : List Field
 
-abbrev pub row : ℕ → Stands → List Field → List Field → Row
+abbrev pub row : ℕ → (Version → Bool) → List Field → List Field → Row
 row t s fs more = record { tag = t; stands = s; fields = fs; added = more }
 
+-- the rows, by tag, versions, fields, and those that come with element ids
 abbrev pub table : List Row
 table =
-    row 0x4E both (Whole ∷ Labels ∷ Properties ∷ []) (Text ∷ [])
-    ∷ row 0x52 both (Whole ∷ Whole ∷ Whole ∷ Text ∷ Properties ∷ []) (Text ∷ Text ∷ Text ∷ [])
-    ∷ row 0x72 both (Whole ∷ Text ∷ Properties ∷ []) (Text ∷ [])
-    ∷ row 0x50 both (Nodes ∷ Relationships ∷ Indices ∷ []) []
-    ∷ row 0x44 both (Whole ∷ []) []
-    ∷ row 0x54 both (DayNanosecond ∷ Offset ∷ []) []
-    ∷ row 0x74 both (DayNanosecond ∷ []) []
-    ∷ row 0x64 both (Whole ∷ Nanosecond ∷ []) []
-    ∷ row 0x46 old (UtcSecond ∷ Nanosecond ∷ Offset ∷ []) []
-    ∷ row 0x49 new (UtcSecond ∷ Nanosecond ∷ Offset ∷ []) []
-    ∷ row 0x66 old (Whole ∷ Nanosecond ∷ Text ∷ []) []
-    ∷ row 0x69 new (Whole ∷ Nanosecond ∷ Text ∷ []) []
-    ∷ row 0x45 both (Whole ∷ Whole ∷ Whole ∷ Nanosecond ∷ []) []
-    ∷ row 0x58 both (Whole ∷ Number ∷ Number ∷ []) []
-    ∷ row 0x59 both (Whole ∷ Number ∷ Number ∷ Number ∷ []) []
+    row node_tag every_version (Whole ∷ Labels ∷ Properties ∷ []) (Text ∷ [])
+    ∷ row relationship_tag every_version (Whole ∷ Whole ∷ Whole ∷ Text ∷ Properties ∷ []) (Text ∷ Text ∷ Text ∷ [])
+    ∷ row unbound_tag every_version (Whole ∷ Text ∷ Properties ∷ []) (Text ∷ [])
+    ∷ row path_tag every_version (Nodes ∷ Relationships ∷ Indices ∷ []) []
+    ∷ row date_tag every_version (Whole ∷ []) []
+    ∷ row time_tag every_version (DayNanosecond ∷ Offset ∷ []) []
+    ∷ row local_time_tag every_version (DayNanosecond ∷ []) []
+    ∷ row local_date_time_tag every_version (Whole ∷ Nanosecond ∷ []) []
+    ∷ row legacy_date_time_tag (lacks has_utc_times) (UtcSecond ∷ Nanosecond ∷ Offset ∷ []) []
+    ∷ row date_time_tag has_utc_times (UtcSecond ∷ Nanosecond ∷ Offset ∷ []) []
+    ∷ row legacy_zoned_tag (lacks has_utc_times) (Whole ∷ Nanosecond ∷ Text ∷ []) []
+    ∷ row zoned_tag has_utc_times (Whole ∷ Nanosecond ∷ Text ∷ []) []
+    ∷ row duration_tag every_version (Whole ∷ Whole ∷ Whole ∷ Nanosecond ∷ []) []
+    ∷ row point_2d_tag every_version (Whole ∷ Number ∷ Number ∷ []) []
+    ∷ row point_3d_tag every_version (Whole ∷ Number ∷ Number ∷ Number ∷ []) []
     ∷ []
 
+-- the row of a tag
 abbrev pub row_in : ℕ → List Row → Option Row
 row_in t [] = None
-row_in t (r ∷ rs) = cond (t == r.tag) (Some r) (row_in t rs)
+row_in t (r ∷ rs) = if t == r.tag then Some r else row_in t rs
 
--- the fields of a row at a version
-abbrev pub fields_at : Version → Stands → List Field → List Field → Result (List Field) Reason
-fields_at V44 both fs more = Ok fs
-fields_at V51 both fs more = Ok (fs ++ more)
-fields_at V44 old fs more = Ok fs
-fields_at V51 old fs more = Err NotInVersion
-fields_at V44 new fs more = Err NotInVersion
-fields_at V51 new fs more = Ok (fs ++ more)
+-- the fields of a row that stands at a version
+abbrev pub fields_in : Version → List Field → List Field → List Field
+fields_in v fs more = if has_element_ids v then fs ++ more else fs
 
+-- the fields of a row at a version, where it stands there
+abbrev pub fields_at : Version → (Version → Bool) → List Field → List Field → Result (List Field) Reason
+fields_at v stands fs more = if stands v then Ok (fields_in v fs more) else Err NotInVersion
+
+-- the fields of a tag's row
 abbrev pub fields_of : Version → Option Row → Result (List Field) Reason
 fields_of v None = Err UnknownTag
 fields_of v (Some r) = fields_at v r.stands r.fields r.added

@@ -1,22 +1,22 @@
 -- Why a cell, seen as its tree, can't be written at a version, and which of its structures is the first with a fault.
-use Rattle.std.specs.Prelude.{◌≡◌, ℕ, length, List, [], ◌∷◌, true, cond, ◌==◌, Option, Some, Result, Ok, Err}
+use Rattle.std.specs.Prelude.{◌≡◌, ℕ, length, List, [], ◌∷◌, true, if◌then◌else◌, ◌==◌, Option, Some, Result, Ok, Err}
 use Rattle.packstream.specs.Tree.{Tree, Trees}
 use Rattle.packstream.specs.Good.{count}
 use Rattle.wire.specs.declared.Version.{Version}
-use Rattle.wire.specs.declared.Version.TheVariants.{V44, V51}
+use Rattle.wire.specs.Versions.{has_utc_times}
 use Rattle.structures.specs.declared.table.Field.{Field}
 use Rattle.structures.specs.declared.fault.Reason.{Reason}
 use Rattle.structures.specs.declared.fault.Reason.TheVariants.{NotInVersion, Range, PathShape}
-use Rattle.structures.specs.Table.{kinds}
+use Rattle.structures.specs.Table.{kinds, path_tag, date_time_tag, legacy_date_time_tag}
 use Rattle.structures.specs.Faults.{FaultOf, scan, structures, first_failed, are_in_range, is_path}
 
--- the tag under which a version writes a structure: that of a DateTime differs
+-- the tag under which a version writes a DateTime
 abbrev pub moment_tag : Version → ℕ
-moment_tag V44 = 0x46
-moment_tag V51 = 0x49
+moment_tag v = if has_utc_times v then date_time_tag else legacy_date_time_tag
 
+-- the tag under which a version writes a structure
 abbrev pub tag_at : Version → ℕ → ℕ
-tag_at v tag = cond (tag == 0x49) (moment_tag v) tag
+tag_at v tag = if tag == date_time_tag then moment_tag v else tag
 
 -- the fault of one typed cell: its structure and the number of its element ids are of the version, its numbers are
 -- in their ranges, its indices walk
@@ -25,10 +25,11 @@ unwritten_by (Ok ks) tag ts =
     first_failed
     ((count ts == length ks, NotInVersion)
     ∷ (are_in_range ks ts, Range)
-    ∷ (cond (tag == 0x50) (is_path ts) true, PathShape)
+    ∷ (if tag == path_tag then is_path ts else true, PathShape)
     ∷ [])
 unwritten_by (Err r) tag ts = Some r
 
+-- the same of a structure by its row
 abbrev pub unwritten : Version → FaultOf
 unwritten v tag ts = unwritten_by (kinds v (tag_at v tag)) tag ts
 

@@ -8,8 +8,8 @@ use crate::fault::CellFault;
 use std::alloc::{AllocError, Global};
 use wire::Version;
 
-/// The same cell in the form of a version: without element ids at 4.4, and at 5.1 with the decimal texts of the ids
-/// where element ids were absent, in the whole of the cell. It refuses for want of memory alone, and takes memory for
+/// The same cell in the form of a version: without element ids where it has none, and else with the decimal texts of the
+/// ids where element ids were absent, in the whole of the cell. It refuses for want of memory alone, and takes memory for
 /// the texts of ids alone.
 pub fn fit(alloc: Global, cell: Cell, version: Version) -> Result<Cell, CellFault>
     ensures { Fits version (shape cell) result }
@@ -30,15 +30,10 @@ fn fit_element(
 ) -> Result<(), AllocError>
     ensures { IfOk result (λ _. element_of element_id.new ≡ element_at version id (element_of element_id.old)) }
 {
-    match version {
-        Version::V44 => {
-            *element_id = None;
-        }
-        Version::V51 => {
-            if element_id.is_none() {
-                *element_id = Some(id.to_string(alloc)?);
-            }
-        }
+    if !version.has_element_ids() {
+        *element_id = None;
+    } else if element_id.is_none() {
+        *element_id = Some(id.to_string(alloc)?);
     }
     Ok(())
 }
@@ -54,18 +49,13 @@ fn fit_elements(
 ) -> Result<(), AllocError>
     ensures { IfOk result (λ _. elements_of element_ids.new ≡ elements_at version id start end (elements_of element_ids.old)) }
 {
-    match version {
-        Version::V44 => {
-            *element_ids = None;
-        }
-        Version::V51 => {
-            if element_ids.is_none() {
-                let own = id.to_string(alloc)?;
-                let start = start.to_string(alloc)?;
-                let end = end.to_string(alloc)?;
-                *element_ids = Some(ElementIds { own, start, end });
-            }
-        }
+    if !version.has_element_ids() {
+        *element_ids = None;
+    } else if element_ids.is_none() {
+        let own = id.to_string(alloc)?;
+        let start = start.to_string(alloc)?;
+        let end = end.to_string(alloc)?;
+        *element_ids = Some(ElementIds { own, start, end });
     }
     Ok(())
 }

@@ -13,15 +13,18 @@ use crate::fault::Reason;
 use crate::kinds::is_within;
 use crate::path::indices_walk;
 use crate::table::{Field, kinds_of};
+use crate::tags;
 use packstream::Value;
 use wire::Version;
 
+/// The tag under which a version writes a structure.
 fn tag_of(version: Version, tag: u8) -> u8
     ensures { result ≡ tag_at version tag }
 {
-    match version {
-        Version::V44 => { if tag == 0x49 { 0x46 } else { tag } }
-        Version::V51 => tag,
+    if tag == tags::DATE_TIME && !version.has_utc_times() {
+        tags::LEGACY_DATE_TIME
+    } else {
+        tag
     }
 }
 
@@ -121,39 +124,51 @@ pub(crate) fn check_cell(
             let number = check_nodes(version, nodes, number)?;
             check_unbounds(version, relationships, number)
         }
-        Cell::Date { days } => judge(version, 0x44, 1, &[*days], seen),
-        Cell::Time { nanos, offset } => judge(version, 0x54, 2, &[*nanos, *offset], seen),
-        Cell::LocalTime { nanos } => judge(version, 0x74, 1, &[*nanos], seen),
+        Cell::Date { days } => judge(version, tags::DATE, 1, &[*days], seen),
+        Cell::Time { nanos, offset } => judge(version, tags::TIME, 2, &[*nanos, *offset], seen),
+        Cell::LocalTime { nanos } => judge(version, tags::LOCAL_TIME, 1, &[*nanos], seen),
         Cell::LocalDateTime { seconds, nanos } => judge(
             version,
-            0x64,
+            tags::LOCAL_DATE_TIME,
             2,
             &[*seconds, *nanos],
             seen,
         ),
         Cell::DateTime { utc, nanos, offset } => judge(
             version,
-            0x49,
+            tags::DATE_TIME,
             3,
             &[*utc, *nanos, *offset],
             seen,
         ),
         Cell::ZonedLocal { seconds, nanos, .. } => judge(
             version,
-            0x66,
+            tags::LEGACY_ZONED,
             3,
             &[*seconds, *nanos],
             seen,
         ),
-        Cell::ZonedUtc { seconds, nanos, .. } => judge(version, 0x69, 3, &[*seconds, *nanos], seen),
+        Cell::ZonedUtc { seconds, nanos, .. } => judge(
+            version,
+            tags::ZONED,
+            3,
+            &[*seconds, *nanos],
+            seen,
+        ),
         Cell::Duration {
             months,
             days,
             seconds,
             nanos,
-        } => judge(version, 0x45, 4, &[*months, *days, *seconds, *nanos], seen),
-        Cell::Point2D { srid, .. } => judge(version, 0x58, 3, &[*srid], seen),
-        Cell::Point3D { srid, .. } => judge(version, 0x59, 4, &[*srid], seen),
+        } => judge(
+            version,
+            tags::DURATION,
+            4,
+            &[*months, *days, *seconds, *nanos],
+            seen,
+        ),
+        Cell::Point2D { srid, .. } => judge(version, tags::POINT_2D, 3, &[*srid], seen),
+        Cell::Point3D { srid, .. } => judge(version, tags::POINT_3D, 4, &[*srid], seen),
     }
 }
 
@@ -206,7 +221,7 @@ fn check_node(version: Version, node: &Node, seen: usize) -> Result<usize, (Reas
     ensures { result ≡ scan (unwritten version) seen (structures (node_shape node.now)) }
 {
     let count = 3 + element_count(&node.element_id);
-    let number = judge(version, 0x4E, count, &[node.id], seen)?;
+    let number = judge(version, tags::NODE, count, &[node.id], seen)?;
     check_entries(version, &node.properties, number)
 }
 
@@ -219,7 +234,13 @@ fn check_unbound(
     ensures { result ≡ scan (unwritten version) seen (structures (unbound_shape unbound.now)) }
 {
     let count = 3 + element_count(&unbound.element_id);
-    let number = judge(version, 0x72, count, &[unbound.id], seen)?;
+    let number = judge(
+        version,
+        tags::UNBOUND_RELATIONSHIP,
+        count,
+        &[unbound.id],
+        seen,
+    )?;
     check_entries(version, &unbound.properties, number)
 }
 
@@ -233,7 +254,7 @@ fn check_relationship(
 {
     let count = 5 + elements_count(&relationship.element_ids);
     let numbers = [relationship.id, relationship.start, relationship.end];
-    let number = judge(version, 0x52, count, &numbers, seen)?;
+    let number = judge(version, tags::RELATIONSHIP, count, &numbers, seen)?;
     check_entries(version, &relationship.properties, number)
 }
 

@@ -4,6 +4,7 @@ ghost use Rattle.packstream.specs.View.{tree, trees, trees_of};
 ghost use Rattle.structures.specs.Faults.{is_kind, is_int, is_text, has_tag, each, are_kinds, in_range, are_in_range, is_list_of};
 
 use crate::table::Field;
+use crate::tags;
 use packstream::Value;
 
 fn holds_text(value: &Value) -> bool
@@ -68,8 +69,11 @@ pub(crate) fn holds(field: Field, value: &Value) -> bool
         (Field::Text, Value::Text(_)) => true,
         (Field::Properties, Value::Dict(_)) => true,
         (Field::Labels, Value::List(members)) => all_texts(members),
-        (Field::Nodes, Value::List(members)) => all_tagged(0x4E, members),
-        (Field::Relationships, Value::List(members)) => all_tagged(0x72, members),
+        (Field::Nodes, Value::List(members)) => all_tagged(tags::NODE, members),
+        (Field::Relationships, Value::List(members)) => all_tagged(
+            tags::UNBOUND_RELATIONSHIP,
+            members,
+        ),
         (Field::Indices, Value::List(members)) => all_ints(members),
         (
             Field::Whole

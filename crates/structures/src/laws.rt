@@ -10,6 +10,8 @@ ghost use Rattle.structures.specs.Writing.{IsWritable};
 ghost use Rattle.structures.specs.declared.cell.Cell.{Cell as AnyCell};
 ghost use Rattle.wire.specs.declared.Version.{Version as AnyVersion};
 
+pub mod laying;
+
 /// A value stands for one cell, or has one first fault, and never both.
 pub fn one_reading()
     ensures { (v : AnyVersion) (t : Tree) → HasOneReading v t }

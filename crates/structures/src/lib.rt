@@ -1,4 +1,6 @@
-//! Typed cells: nodes, relationships, paths, times and points in the forms of Bolt 4.4 and 5.1.
+//! Typed cells: nodes, relationships, paths, times and points in the forms of each version.
+//!
+//! What holds of all values and cells stands in [`laws`]. Who reads and writes relies on `one_form`, `written_is_read_back` and `read_can_be_written`.
 #![tactic(auto)]
 
 mod cell;
@@ -10,13 +12,13 @@ mod fields;
 mod fitting;
 mod judging;
 mod kinds;
-mod laws;
-mod laying;
+pub mod laws;
 mod parts;
 mod path;
 mod plain;
 mod reading;
 mod table;
+mod tags;
 mod writing;
 mod wrong;
 
@@ -24,9 +26,3 @@ pub use cell::{Cell, ElementIds, Node, Relationship, UnboundRelationship};
 pub use codec::{read, read_value, write, write_entries, write_members};
 pub use fault::{CellFault, Reason};
 pub use fitting::fit;
-pub use laws::{
-    cells_are_typed, one_form, one_reading, one_writing, packing_faults, read_can_be_written,
-    written_is_read_back,
-};
-pub use laying::cells_are_rows;
-pub use wire::Version;

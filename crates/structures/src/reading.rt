@@ -6,6 +6,7 @@ ghost use Rattle.structures.specs.Faults.{fault, structures, structures_in, stru
 ghost use Rattle.structures.specs.Form.{typed};
 ghost use Rattle.structures.specs.Steps.{typed_entry, all_fine, tree_at};
 ghost use Rattle.structures.specs.Shape.{shape, shapes, node_shape, unbound_shape, relationship_shape, entries};
+ghost use Rattle.structures.specs.Table.{node_tag, relationship_tag, unbound_tag, path_tag};
 
 use crate::cell::{Cell, Node, Relationship, UnboundRelationship};
 use crate::fields::{element_at, elements_at, int_at, ints_of, text_at, texts_at};
@@ -14,6 +15,7 @@ use crate::plain::{
     zoned_local, zoned_utc,
 };
 use crate::table::Field;
+use crate::tags;
 use packstream::Value;
 use std::alloc::{AllocError, Global};
 use wire::Version;
@@ -77,30 +79,32 @@ fn structure_of(
     ensures { IfOk result (λ c. shape c ≡ typed (structure tag (trees_of (trees fields.now.items)))) }
 {
     match tag {
-        0x4E => Ok(Cell::Node(node_of(alloc, version, fields)?)),
-        0x72 => Ok(Cell::UnboundRelationship(unbound_of(alloc, version, fields)?)),
-        0x52 => Ok(Cell::Relationship(relationship_of(alloc, version, fields)?)),
-        0x50 => path_of(alloc, version, fields),
-        0x44 => Ok(date(version, fields)),
-        0x54 => Ok(time(version, fields)),
-        0x74 => Ok(local_time(version, fields)),
-        0x64 => Ok(local_date_time(version, fields)),
-        0x46 => Ok(local_moment(version, fields)),
-        0x49 => Ok(date_time(version, fields)),
-        0x66 => zoned_local(alloc, version, fields),
-        0x69 => zoned_utc(alloc, version, fields),
-        0x45 => Ok(duration(version, fields)),
-        0x58 => Ok(point_2d(version, fields)),
-        0x59 => Ok(point_3d(version, fields)),
+        tags::NODE => Ok(Cell::Node(node_of(alloc, version, fields)?)),
+        tags::UNBOUND_RELATIONSHIP => Ok(Cell::UnboundRelationship(unbound_of(
+            alloc, version, fields,
+        )?)),
+        tags::RELATIONSHIP => Ok(Cell::Relationship(relationship_of(alloc, version, fields)?)),
+        tags::PATH => path_of(alloc, version, fields),
+        tags::DATE => Ok(date(version, fields)),
+        tags::TIME => Ok(time(version, fields)),
+        tags::LOCAL_TIME => Ok(local_time(version, fields)),
+        tags::LOCAL_DATE_TIME => Ok(local_date_time(version, fields)),
+        tags::LEGACY_DATE_TIME => Ok(local_moment(version, fields)),
+        tags::DATE_TIME => Ok(date_time(version, fields)),
+        tags::LEGACY_ZONED => zoned_local(alloc, version, fields),
+        tags::ZONED => zoned_utc(alloc, version, fields),
+        tags::DURATION => Ok(duration(version, fields)),
+        tags::POINT_2D => Ok(point_2d(version, fields)),
+        tags::POINT_3D => Ok(point_3d(version, fields)),
         _ => unreachable!(),
     }
 }
 
 #[cycle(read)]
 fn node_of(alloc: Global, version: Version, fields: &Vec<Value>) -> Result<Node, AllocError>
-    requires fine { fault version 0x4E (trees_of (trees fields.now.items)) ≡ None }
+    requires fine { fault version node_tag (trees_of (trees fields.now.items)) ≡ None }
     requires inner { all_fine (fault version) (structures_in (trees_of (trees fields.now.items))) ≡ true }
-    ensures { IfOk result (λ n. node_shape n ≡ typed (structure 0x4E (trees_of (trees fields.now.items)))) }
+    ensures { IfOk result (λ n. node_shape n ≡ typed (structure node_tag (trees_of (trees fields.now.items)))) }
 {
     let id = int_at(fields, 0);
     let labels = texts_at(alloc, fields, 1)?;
@@ -120,9 +124,9 @@ fn unbound_of(
     version: Version,
     fields: &Vec<Value>,
 ) -> Result<UnboundRelationship, AllocError>
-    requires fine { fault version 0x72 (trees_of (trees fields.now.items)) ≡ None }
+    requires fine { fault version unbound_tag (trees_of (trees fields.now.items)) ≡ None }
     requires inner { all_fine (fault version) (structures_in (trees_of (trees fields.now.items))) ≡ true }
-    ensures { IfOk result (λ n. unbound_shape n ≡ typed (structure 0x72 (trees_of (trees fields.now.items)))) }
+    ensures { IfOk result (λ n. unbound_shape n ≡ typed (structure unbound_tag (trees_of (trees fields.now.items)))) }
 {
     let id = int_at(fields, 0);
     let kind = text_at(alloc, fields, 1)?;
@@ -142,9 +146,9 @@ fn relationship_of(
     version: Version,
     fields: &Vec<Value>,
 ) -> Result<Relationship, AllocError>
-    requires fine { fault version 0x52 (trees_of (trees fields.now.items)) ≡ None }
+    requires fine { fault version relationship_tag (trees_of (trees fields.now.items)) ≡ None }
     requires inner { all_fine (fault version) (structures_in (trees_of (trees fields.now.items))) ≡ true }
-    ensures { IfOk result (λ n. relationship_shape n ≡ typed (structure 0x52 (trees_of (trees fields.now.items)))) }
+    ensures { IfOk result (λ n. relationship_shape n ≡ typed (structure relationship_tag (trees_of (trees fields.now.items)))) }
 {
     let id = int_at(fields, 0);
     let start = int_at(fields, 1);
@@ -164,9 +168,9 @@ fn relationship_of(
 
 #[cycle(read)]
 fn path_of(alloc: Global, version: Version, fields: &Vec<Value>) -> Result<Cell, AllocError>
-    requires fine { fault version 0x50 (trees_of (trees fields.now.items)) ≡ None }
+    requires fine { fault version path_tag (trees_of (trees fields.now.items)) ≡ None }
     requires inner { all_fine (fault version) (structures_in (trees_of (trees fields.now.items))) ≡ true }
-    ensures { IfOk result (λ c. shape c ≡ typed (structure 0x50 (trees_of (trees fields.now.items)))) }
+    ensures { IfOk result (λ c. shape c ≡ typed (structure path_tag (trees_of (trees fields.now.items)))) }
 {
     let nodes = nodes_of(alloc, version, &fields[0])?;
     let relationships = unbounds_of(alloc, version, &fields[1])?;
@@ -193,7 +197,7 @@ fn nodes_of(alloc: Global, version: Version, value: &Value) -> Result<Vec<Node>,
 #[cycle(read)]
 fn nodes_in(alloc: Global, version: Version, members: &Vec<Value>) -> Result<Vec<Node>, AllocError>
     requires fine { all_fine (fault version) (structures_in (trees_of (trees members.now.items))) ≡ true }
-    requires tagged { each (has_tag 0x4E) (trees_of (trees members.now.items)) ≡ true }
+    requires tagged { each (has_tag node_tag) (trees_of (trees members.now.items)) ≡ true }
     ensures { IfOk result (λ v. map node_shape v.items ≡ map typed (trees members.now.items)) }
 {
     let mut nodes = Vec::with_capacity(alloc, members.len())?;
@@ -206,7 +210,7 @@ fn nodes_in(alloc: Global, version: Version, members: &Vec<Value>) -> Result<Vec
 #[cycle(read)]
 fn node_from(alloc: Global, version: Version, value: &Value) -> Result<Node, AllocError>
     requires fine { all_fine (fault version) (structures (tree value.now)) ≡ true }
-    requires tagged { has_tag 0x4E (tree value.now) ≡ true }
+    requires tagged { has_tag node_tag (tree value.now) ≡ true }
     ensures { IfOk result (λ n. node_shape n ≡ typed (tree value.now)) }
 {
     match value {
@@ -238,7 +242,7 @@ fn unbounds_in(
     members: &Vec<Value>,
 ) -> Result<Vec<UnboundRelationship>, AllocError>
     requires fine { all_fine (fault version) (structures_in (trees_of (trees members.now.items))) ≡ true }
-    requires tagged { each (has_tag 0x72) (trees_of (trees members.now.items)) ≡ true }
+    requires tagged { each (has_tag unbound_tag) (trees_of (trees members.now.items)) ≡ true }
     ensures { IfOk result (λ v. map unbound_shape v.items ≡ map typed (trees members.now.items)) }
 {
     let mut relationships = Vec::with_capacity(alloc, members.len())?;
@@ -255,7 +259,7 @@ fn unbound_from(
     value: &Value,
 ) -> Result<UnboundRelationship, AllocError>
     requires fine { all_fine (fault version) (structures (tree value.now)) ≡ true }
-    requires tagged { has_tag 0x72 (tree value.now) ≡ true }
+    requires tagged { has_tag unbound_tag (tree value.now) ≡ true }
     ensures { IfOk result (λ n. unbound_shape n ≡ typed (tree value.now)) }
 {
     match value {

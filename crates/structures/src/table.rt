@@ -3,6 +3,7 @@ ghost use Rattle.std.specs.Prelude.{◌≡◌, MatchResult};
 ghost use Rattle.structures.specs.Table.{kinds};
 
 use crate::fault::Reason;
+use crate::tags;
 use wire::Version;
 
 /// What a field holds, and in which range.
@@ -27,24 +28,29 @@ pub(crate) fn kinds_of(version: Version, tag: u8) -> Result<&'static [Field], Re
     ensures { MatchResult result (λ fs. kinds version tag ≡ Ok fs.now) (λ r. kinds version tag ≡ Err r) }
 {
     use Field::*;
-    match (tag, version) {
-        (0x4E, Version::V44) => Ok(&[Whole, Labels, Properties]),
-        (0x4E, Version::V51) => Ok(&[Whole, Labels, Properties, Text]),
-        (0x52, Version::V44) => Ok(&[Whole, Whole, Whole, Text, Properties]),
-        (0x52, Version::V51) => Ok(&[Whole, Whole, Whole, Text, Properties, Text, Text, Text]),
-        (0x72, Version::V44) => Ok(&[Whole, Text, Properties]),
-        (0x72, Version::V51) => Ok(&[Whole, Text, Properties, Text]),
-        (0x50, _) => Ok(&[Nodes, Relationships, Indices]),
-        (0x44, _) => Ok(&[Whole]),
-        (0x54, _) => Ok(&[DayNanosecond, Offset]),
-        (0x74, _) => Ok(&[DayNanosecond]),
-        (0x64, _) => Ok(&[Whole, Nanosecond]),
-        (0x46, Version::V44) | (0x49, Version::V51) => Ok(&[UtcSecond, Nanosecond, Offset]),
-        (0x66, Version::V44) | (0x69, Version::V51) => Ok(&[Whole, Nanosecond, Text]),
-        (0x46 | 0x66, Version::V51) | (0x49 | 0x69, Version::V44) => Err(Reason::NotInVersion),
-        (0x45, _) => Ok(&[Whole, Whole, Whole, Nanosecond]),
-        (0x58, _) => Ok(&[Whole, Number, Number]),
-        (0x59, _) => Ok(&[Whole, Number, Number, Number]),
+    match (tag, version.has_element_ids(), version.has_utc_times()) {
+        (tags::NODE, false, _) => Ok(&[Whole, Labels, Properties]),
+        (tags::NODE, true, _) => Ok(&[Whole, Labels, Properties, Text]),
+        (tags::RELATIONSHIP, false, _) => Ok(&[Whole, Whole, Whole, Text, Properties]),
+        (tags::RELATIONSHIP, true, _) => Ok(&[
+            Whole, Whole, Whole, Text, Properties, Text, Text, Text,
+        ]),
+        (tags::UNBOUND_RELATIONSHIP, false, _) => Ok(&[Whole, Text, Properties]),
+        (tags::UNBOUND_RELATIONSHIP, true, _) => Ok(&[Whole, Text, Properties, Text]),
+        (tags::PATH, _, _) => Ok(&[Nodes, Relationships, Indices]),
+        (tags::DATE, _, _) => Ok(&[Whole]),
+        (tags::TIME, _, _) => Ok(&[DayNanosecond, Offset]),
+        (tags::LOCAL_TIME, _, _) => Ok(&[DayNanosecond]),
+        (tags::LOCAL_DATE_TIME, _, _) => Ok(&[Whole, Nanosecond]),
+        (tags::LEGACY_DATE_TIME, _, false) | (tags::DATE_TIME, _, true) => Ok(&[
+            UtcSecond, Nanosecond, Offset,
+        ]),
+        (tags::LEGACY_ZONED, _, false) | (tags::ZONED, _, true) => Ok(&[Whole, Nanosecond, Text]),
+        (tags::LEGACY_DATE_TIME | tags::LEGACY_ZONED, _, true) => Err(Reason::NotInVersion),
+        (tags::DATE_TIME | tags::ZONED, _, false) => Err(Reason::NotInVersion),
+        (tags::DURATION, _, _) => Ok(&[Whole, Whole, Whole, Nanosecond]),
+        (tags::POINT_2D, _, _) => Ok(&[Whole, Number, Number]),
+        (tags::POINT_3D, _, _) => Ok(&[Whole, Number, Number, Number]),
         _ => Err(Reason::UnknownTag),
     }
 }

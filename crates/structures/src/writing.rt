@@ -7,8 +7,10 @@ ghost use Rattle.structures.specs.Form.{form};
 ghost use Rattle.structures.specs.Steps.{form_entry, all_fine};
 ghost use Rattle.structures.specs.Writing.{unwritten};
 ghost use Rattle.structures.specs.Shape.{shape, shapes, entries, node_shape, unbound_shape, relationship_shape, text_of, texts_of, numbers_of, element_of, elements_of};
+ghost use Rattle.structures.specs.Table.{relationship_tag, path_tag, date_time_tag};
 
 use crate::cell::{Cell, ElementIds, Node, Relationship, UnboundRelationship};
+use crate::tags;
 use packstream::Value;
 use std::alloc::{AllocError, Global};
 use wire::Version;
@@ -94,7 +96,7 @@ fn of_named(
     }
 }
 
-/// The fields of a DateTime: at 4.4 local seconds.
+/// The fields of a DateTime, with local seconds where the version has no UTC times.
 fn of_moment(
     alloc: Global,
     version: Version,
@@ -102,12 +104,17 @@ fn of_moment(
     nanos: i64,
     offset: i64,
 ) -> Result<Value, AllocError>
-    requires { unwritten version 0x49 (tree_then (int utc) (tree_then (int nanos) (tree_then (int offset) no_trees))) ≡ None }
-    ensures { IfOk result (λ w. tree w ≡ form version (structure 0x49 (tree_then (int utc) (tree_then (int nanos) (tree_then (int offset) no_trees))))) }
+    requires { unwritten version date_time_tag (tree_then (int utc) (tree_then (int nanos) (tree_then (int offset) no_trees))) ≡ None }
+    ensures { IfOk result (λ w. tree w ≡ form version (structure date_time_tag (tree_then (int utc) (tree_then (int nanos) (tree_then (int offset) no_trees))))) }
 {
-    match version {
-        Version::V51 => of_ints(alloc, 0x49, &[utc, nanos, offset]),
-        Version::V44 => of_ints(alloc, 0x46, &[utc + offset, nanos, offset]),
+    if version.has_utc_times() {
+        of_ints(alloc, tags::DATE_TIME, &[utc, nanos, offset])
+    } else {
+        of_ints(
+            alloc,
+            tags::LEGACY_DATE_TIME,
+            &[utc + offset, nanos, offset],
+        )
     }
 }
 
@@ -138,10 +145,14 @@ pub(crate) fn value_of(alloc: Global, version: Version, cell: &Cell) -> Result<V
             let steps = list_of_ints(alloc, indices)?;
             Ok(of_path(alloc, places, ways, steps)?)
         }
-        Cell::Date { days } => Ok(of_ints(alloc, 0x44, &[*days])?),
-        Cell::Time { nanos, offset } => Ok(of_ints(alloc, 0x54, &[*nanos, *offset])?),
-        Cell::LocalTime { nanos } => Ok(of_ints(alloc, 0x74, &[*nanos])?),
-        Cell::LocalDateTime { seconds, nanos } => Ok(of_ints(alloc, 0x64, &[*seconds, *nanos])?),
+        Cell::Date { days } => Ok(of_ints(alloc, tags::DATE, &[*days])?),
+        Cell::Time { nanos, offset } => Ok(of_ints(alloc, tags::TIME, &[*nanos, *offset])?),
+        Cell::LocalTime { nanos } => Ok(of_ints(alloc, tags::LOCAL_TIME, &[*nanos])?),
+        Cell::LocalDateTime { seconds, nanos } => Ok(of_ints(
+            alloc,
+            tags::LOCAL_DATE_TIME,
+            &[*seconds, *nanos],
+        )?),
         Cell::DateTime { utc, nanos, offset } => Ok(of_moment(
             alloc, version, *utc, *nanos, *offset,
         )?),
@@ -149,20 +160,25 @@ pub(crate) fn value_of(alloc: Global, version: Version, cell: &Cell) -> Result<V
             seconds,
             nanos,
             zone,
-        } => Ok(of_zoned(alloc, 0x66, *seconds, *nanos, zone)?),
+        } => Ok(of_zoned(alloc, tags::LEGACY_ZONED, *seconds, *nanos, zone)?),
         Cell::ZonedUtc {
             seconds,
             nanos,
             zone,
-        } => Ok(of_zoned(alloc, 0x69, *seconds, *nanos, zone)?),
+        } => Ok(of_zoned(alloc, tags::ZONED, *seconds, *nanos, zone)?),
         Cell::Duration {
             months,
             days,
             seconds,
             nanos,
-        } => Ok(of_ints(alloc, 0x45, &[*months, *days, *seconds, *nanos])?),
-        Cell::Point2D { srid, x, y } => Ok(of_point(alloc, 0x58, *srid, &[*x, *y])?),
-        Cell::Point3D { srid, x, y, z } => Ok(of_point(alloc, 0x59, *srid, &[*x, *y, *z])?),
+        } => Ok(of_ints(alloc, tags::DURATION, &[*months, *days, *seconds, *nanos])?),
+        Cell::Point2D { srid, x, y } => Ok(of_point(alloc, tags::POINT_2D, *srid, &[*x, *y])?),
+        Cell::Point3D { srid, x, y, z } => Ok(of_point(
+            alloc,
+            tags::POINT_3D,
+            *srid,
+            &[*x, *y, *z],
+        )?),
     }
 }
 
@@ -208,7 +224,7 @@ fn node_value(alloc: Global, version: Version, node: &Node) -> Result<Value, All
     let properties = pair_values(alloc, version, &node.properties)?;
     Ok(of_named(
         alloc,
-        0x4E,
+        tags::NODE,
         Value::Int(node.id),
         labels,
         Value::Dict(properties),
@@ -229,7 +245,7 @@ fn unbound_value(
     let properties = pair_values(alloc, version, &unbound.properties)?;
     Ok(of_named(
         alloc,
-        0x72,
+        tags::UNBOUND_RELATIONSHIP,
         Value::Int(unbound.id),
         kind,
         Value::Dict(properties),
@@ -247,11 +263,11 @@ fn of_bound(
     properties: Value,
     ids: &Option<ElementIds>,
 ) -> Result<Value, AllocError>
-    ensures { IfOk result (λ w. tree w ≡ structure 0x52 (tree_then (int id) (tree_then (int start) (tree_then (int end) (tree_then (tree kind) (tree_then (tree properties) (elements_of ids.now))))))) }
+    ensures { IfOk result (λ w. tree w ≡ structure relationship_tag (tree_then (int id) (tree_then (int start) (tree_then (int end) (tree_then (tree kind) (tree_then (tree properties) (elements_of ids.now))))))) }
 {
     match ids {
         None => Ok(Value::Struct(
-            0x52,
+            tags::RELATIONSHIP,
             vec![in alloc;
                 Value::Int(id),
                 Value::Int(start),
@@ -265,7 +281,7 @@ fn of_bound(
             let first = Value::Text(ids.start.clone()?);
             let last = Value::Text(ids.end.clone()?);
             Ok(Value::Struct(
-                0x52,
+                tags::RELATIONSHIP,
                 vec![in alloc;
                     Value::Int(id),
                     Value::Int(start),
@@ -309,9 +325,9 @@ fn of_path(
     relationships: Value,
     steps: Value,
 ) -> Result<Value, AllocError>
-    ensures { IfOk result (λ w. tree w ≡ structure 0x50 (tree_then (tree nodes) (tree_then (tree relationships) (tree_then (tree steps) no_trees)))) }
+    ensures { IfOk result (λ w. tree w ≡ structure path_tag (tree_then (tree nodes) (tree_then (tree relationships) (tree_then (tree steps) no_trees)))) }
 {
-    Ok(Value::Struct(0x50, vec![in alloc; nodes, relationships, steps]?))
+    Ok(Value::Struct(tags::PATH, vec![in alloc; nodes, relationships, steps]?))
 }
 
 #[cycle(write)]

@@ -3,11 +3,13 @@ ghost use Rattle.std.specs.Prelude.{◌≡◌, ◌∷◌, [], length, IsTrue, co
 ghost use Rattle.packstream.specs.Tree.{int};
 ghost use Rattle.packstream.specs.View.{tree, trees, trees_of};
 ghost use Rattle.structures.specs.Faults.{fault, dated, are_kinds, are_in_range, to_utc, utc_fields, is_path};
+ghost use Rattle.structures.specs.Table.{path_tag, legacy_date_time_tag};
 
 use crate::fault::Reason;
 use crate::kinds::{all_hold, all_within, is_within};
 use crate::path::is_shaped;
 use crate::table::{Field, kinds_of};
+use crate::tags;
 use packstream::Value;
 use wire::Version;
 
@@ -42,10 +44,10 @@ fn is_dated(local: &Value, nanos: &Value, offset: &Value) -> bool
 fn in_ranges(kinds: &[Field], tag: u8, fields: &[Value]) -> bool
     requires same_length { length fields.now ≡ length kinds.now }
     requires kinds { IsTrue (are_kinds kinds.now (trees_of (trees fields.now))) }
-    requires dated { tag ≡ 0x46 → kinds.now ≡ dated }
+    requires dated { tag ≡ legacy_date_time_tag → kinds.now ≡ dated }
     ensures { result ≡ are_in_range kinds.now (utc_fields tag (trees_of (trees fields.now))) }
 {
-    if tag == 0x46 {
+    if tag == tags::LEGACY_DATE_TIME {
         is_dated(&fields[0], &fields[1], &fields[2])
     } else {
         all_within(kinds, fields)
@@ -53,9 +55,9 @@ fn in_ranges(kinds: &[Field], tag: u8, fields: &[Value]) -> bool
 }
 
 fn is_shaped_at(tag: u8, fields: &[Value]) -> bool
-    ensures { result ≡ cond (tag == 0x50) (is_path (trees_of (trees fields.now))) true }
+    ensures { result ≡ cond (tag == path_tag) (is_path (trees_of (trees fields.now))) true }
 {
-    tag != 0x50 || is_shaped(fields)
+    tag != tags::PATH || is_shaped(fields)
 }
 
 pub(crate) fn fault_of(version: Version, tag: u8, fields: &[Value]) -> Option<Reason>

@@ -1,9 +1,10 @@
 -- The version that is chosen, by the rule of the handshake.
 use Rattle.std.proofs.Common.{◌≡◌, ◌≤◌, ◌-◌, ◌↔◌, ◌==◌, ℕ, List, [], ◌∷◌, Bool, true, false, cond, not, ◌&&◌, nat_le, Option, Some, None, inl, inr, refl, sym, ap, ◌∙◌, arith, eqb-true, eq-eqb, leb-true}
 use Rattle.std.proofs.lemmas.Bool.Decides.{nat_tests}
-use Rattle.wire.specs.declared.offers.Version.{Version}
-use Rattle.wire.specs.declared.offers.Version.TheVariants.{V44, V51}
-use Rattle.wire.specs.Offers.{covered_by, or_else, chosen, Covers, versions, IsFirstCovered, CoversNone, Chooses, ProposalsChoose}
+use Rattle.wire.specs.declared.versions.Version.{Version}
+use Rattle.wire.specs.declared.versions.Version.TheVariants.{V44, V51}
+use Rattle.wire.specs.Versions.{versions}
+use Rattle.wire.specs.Offers.{covered_by, or_else, chosen, Covers, IsFirstCovered, CoversNone, Chooses, ProposalsChoose}
 
 and_both : (a b : Bool) → (a && b) ≡ true → (a ≡ true) × (b ≡ true)
 and_both true b e = (refl, e)

@@ -4,7 +4,7 @@ use Rattle.std.specs.Prelude.{if◌then◌else◌, map, reverse, nat_le}
 use Rattle.std.proofs.lemmas.List.{take-append-le, take_all, reverse-append, reverse-reverse}
 use Rattle.std.proofs.Math.Seq.{take-append-add}
 use Rattle.std.proofs.lemmas.Bool.Decides.{nat_tests}
-use Rattle.wire.specs.declared.offers.Version.TheVariants.{V44, V51}
+use Rattle.wire.specs.declared.versions.Version.TheVariants.{V44, V51}
 use Rattle.wire.specs.declared.offers.Wish.{Wish}
 use Rattle.wire.specs.declared.offers.Wish.TheVariants.{Newest, Only}
 use Rattle.wire.specs.Unfinished.{Unfinished, fresh}

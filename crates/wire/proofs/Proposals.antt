@@ -1,8 +1,8 @@
 -- The proposals one by one.
 use Rattle.std.proofs.Common.{◌≡◌, ℕ, zero, suc, ◌+◌, ◌≤◌, List, [], ◌∷◌, length, get_or, drop, Option, Some, None, false, refl, sym, ap, ◌∙◌, arith}
 use Rattle.std.specs.Prelude.{is_some}
-use Rattle.wire.specs.declared.offers.Version.{Version}
-use Rattle.wire.specs.declared.offers.Version.TheVariants.{V44, V51}
+use Rattle.wire.specs.declared.versions.Version.{Version}
+use Rattle.wire.specs.declared.versions.Version.TheVariants.{V44, V51}
 use Rattle.wire.specs.declared.offers.Wish.{Wish}
 use Rattle.wire.specs.declared.offers.Wish.TheVariants.{Newest, Only}
 use Rattle.wire.specs.Offers.{chosen, covered_by, or_else, version_answer, Taken, OffersTaken}

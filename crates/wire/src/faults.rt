@@ -4,9 +4,9 @@ use thiserror::Error;
 #[derive(Debug, Drop, Error)]
 pub enum WireFault {
     /// A message past 65,536 bytes; `used` counts the bytes to the end of the header that takes it past.
-    #[error("X1 a message past 65536 bytes, after {used} bytes")]
+    #[error("X1 at {used}")]
     TooBig { used: usize },
     /// Want of memory. Nothing was used, nothing has changed.
-    #[error("X2 out of memory")]
+    #[error("out of memory")]
     Memory,
 }

@@ -8,6 +8,8 @@ ghost use Rattle.wire.specs.Scanning.{CutsAgree};
 ghost use Rattle.wire.specs.Whole.{ReadsMessages, ReadsWhole, OneWhole, RefusesPast, TextsOne, WritesRun, NoShorter, BeginsNone, KeepsFew};
 ghost use Rattle.wire.specs.Stream.{HandsOutItems, ReadsBack, KeepsWithin, ItemsOfParts, SplitsIntoRuns, TellsTooBig, TextIsShort, ReadsTexts, AnswerFacts};
 
+pub mod framing;
+
 /// In whatever pieces a stream comes, the items of the bytes used are what was handed out.
 pub fn hands_out_items()
     ensures { HandsOutItems }

@@ -1,16 +1,10 @@
-//! The versions of the protocol, what a client offers and what a server takes ("Bolt handshake").
+//! What a client offers and what a server takes ("Bolt handshake").
 
 ghost use Rattle.std.specs.Prelude.{◌≡◌, ◌≢◌, ℕ, ◌+◌, List, take, drop, Option, Some, None, IfOk, IsErr, OnOk, ◌↔◌};
 ghost use Rattle.wire.specs.Offers.{magic, chosen, covered_by, offered};
 
+use crate::versions::Version;
 use thiserror::Error;
-
-/// A version of the protocol that this product speaks.
-#[derive(Clone, Copy, Debug, PartialEq, Eq)]
-pub enum Version {
-    V44,
-    V51,
-}
 
 /// Which versions a client offers.
 #[derive(Clone, Copy, Debug, PartialEq, Eq)]

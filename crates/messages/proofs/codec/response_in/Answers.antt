@@ -12,4 +12,4 @@ pub returns-in_err-packed : goal.returns-in_err-packed
 returns-in_err-packed c = bad_answers (λ r. says (say r)) c.args.version responses c.args.bytes.now (bytes_from_each c.args.bytes.now c.type_inv.bytes) c.in_err-packed.field-0.0 _ c.in_err-packed.ensures.fault (err_is _ _ c.from_residual.ensures.1)
 
 pub returns : goal.returns
-returns c = rw (ap (said_by c.args.version responses) ((whole_value c.args.bytes.now (bytes_from_each c.args.bytes.now c.type_inv.bytes) c.in_ok-packed.packed).1 ((c.in_ok-packed.ensures.value c.in_ok-packed.packed).0 refl))) (rw c.value.ensures.same at c.response_of_value.ensures)
+returns c = rw (ap (said_by c.args.version responses) ((whole_value c.args.bytes.now (bytes_from_each c.args.bytes.now c.type_inv.bytes) c.in_ok-packed.packed).1 ((c.in_ok-packed.ensures.value c.in_ok-packed.packed).0 refl))) c.response_of.ensures.told

@@ -1,17 +1,30 @@
-use Rattle.std.proofs.Common.{◌≡◌, ap, sym, ◌∙◌, rules, map, Err, to_z, of_z, w64}
+use Rattle.std.proofs.Common.{◌≡◌, ℤ, ◌+◌, refl, ap, sym, ◌∙◌, rules, map, Err, to_z, of_z, w64}
 use Rattle.std.proofs.lemmas.Result.{err_from_is_err_and}
-use Rattle.packstream.specs.Tree.{Tree}
+use Rattle.packstream.specs.Tree.{Tree, int, structure, no_trees, tree_then}
 use Rattle.packstream.specs.View.{trees_of}
 use Rattle.structures.specs.Faults.{scan, structures, structures_in}
 use Rattle.structures.specs.Shape.{shape, entry, node_shape, unbound_shape}
 use Rattle.structures.specs.Writing.{unwritten}
-use Rattle.structures.proofs.Views.{shape-Dict, shape-Path, node-out, unbound-out, relationship-out}
+use Rattle.structures.proofs.Views.{node_parts, unbound_parts, relationship_parts, shape-Dict, shape-Path, shape-Duration, node-out, unbound-out, relationship-out}
 use Rattle.structures.proofs.Scanning.{members_step, members_end, pairs_step, pairs_end, scan_append, onward, Found}
-use Rattle.structures.proofs.Judged.{node_ok, unbound_ok, relationship_ok, path_ok, path_err, mapped}
+use Rattle.structures.proofs.Judged.{duration_judged, node_ok, unbound_ok, relationship_ok, path_ok, path_err, mapped}
 use Rattle.structures.proofs.judging.+judge.Goals as goal
 
 pub check_cell-returns-in-Dict : goal.check_cell-returns-in-Dict
 check_cell-returns-in-Dict t c = c.check_entries.ensures ∙ ap (λ (u : Tree). scan (unwritten c.args.version) c.args.seen (structures u)) (sym (ap shape c.in-Dict.is ∙ shape-Dict c.in-Dict.pairs))
+
+pub check_cell-returns-in-Duration : goal.check_cell-returns-in-Duration
+check_cell-returns-in-Duration t c =
+    let w = c.in-Duration in
+    let z0 : to_z w64 (of_z w64 w.months) ≡ w.months = search rules in
+    let z1 : to_z w64 (of_z w64 w.days) ≡ w.days = search rules in
+    let z2 : to_z w64 (of_z w64 w.seconds) ≡ w.seconds = search rules in
+    let z3 : to_z w64 (of_z w64 w.nanos) ≡ w.nanos = search rules in
+    let same : structure 0x45 (tree_then (int (to_z w64 (of_z w64 w.months))) (tree_then (int (to_z w64 (of_z w64 w.days))) (tree_then (int (to_z w64 (of_z w64 w.seconds))) (tree_then (int (to_z w64 (of_z w64 w.nanos))) no_trees))))
+    ≡ structure 0x45 (tree_then (int w.months) (tree_then (int w.days) (tree_then (int w.seconds) (tree_then (int w.nanos) no_trees)))) = rw (z0, z1, z2, z3) refl in
+    c.judge-in-Duration.ensures ∙ duration_judged c.args.version c.args.seen (to_z w64 (of_z w64 w.months)) (to_z w64 (of_z w64 w.days)) (to_z w64 (of_z w64 w.seconds)) (to_z w64 (of_z w64 w.nanos))
+    ∙ ap (λ (u : Tree). scan (unwritten c.args.version) c.args.seen (structures u)) same
+    ∙ ap (λ (u : Tree). scan (unwritten c.args.version) c.args.seen (structures u)) (sym (ap shape w.is ∙ shape-Duration w.months w.days w.seconds w.nanos))
 
 pub check_cells-returns-in_err-number : goal.check_cells-returns-in_err-number
 check_cells-returns-in_err-number t c =
@@ -57,13 +70,15 @@ pub check_node-returns : goal.check_node-returns
 check_node-returns t c =
     let n = c.args.node.now in
     let z : to_z w64 (of_z w64 n.id) ≡ n.id = search rules in
-    c.check_entries.ensures ∙ node_ok c.args.version c.args.seen c.in_ok-number.number _ n.id n.labels.items n.properties.items n.element_id (search rules) (rw z at c.in_ok-number.ensures) ∙ ap (λ (u : Tree). scan (unwritten c.args.version) c.args.seen (structures u)) (sym (node-out n))
+    c.check_entries.ensures ∙ node_ok c.args.version c.args.seen c.in_ok-number.number (3 + c.element_count-count.result) (to_z w64 (of_z w64 n.id)) n.labels.items n.properties.items n.element_id (search rules) c.in_ok-number.ensures
+    ∙ ap (λ (x : ℤ). scan (unwritten c.args.version) c.args.seen (structures (node_parts x n.labels.items n.properties.items n.element_id))) z ∙ ap (λ (u : Tree). scan (unwritten c.args.version) c.args.seen (structures u)) (sym (node-out n))
 
 pub check_unbound-returns : goal.check_unbound-returns
 check_unbound-returns t c =
     let n = c.args.unbound.now in
     let z : to_z w64 (of_z w64 n.id) ≡ n.id = search rules in
-    c.check_entries.ensures ∙ unbound_ok c.args.version c.args.seen c.in_ok-number.number _ n.id n.kind n.properties.items n.element_id (search rules) (rw z at c.in_ok-number.ensures) ∙ ap (λ (u : Tree). scan (unwritten c.args.version) c.args.seen (structures u)) (sym (unbound-out n))
+    c.check_entries.ensures ∙ unbound_ok c.args.version c.args.seen c.in_ok-number.number (3 + c.element_count-count.result) (to_z w64 (of_z w64 n.id)) n.kind n.properties.items n.element_id (search rules) c.in_ok-number.ensures
+    ∙ ap (λ (x : ℤ). scan (unwritten c.args.version) c.args.seen (structures (unbound_parts x n.kind n.properties.items n.element_id))) z ∙ ap (λ (u : Tree). scan (unwritten c.args.version) c.args.seen (structures u)) (sym (unbound-out n))
 
 pub check_relationship-returns : goal.check_relationship-returns
 check_relationship-returns t c =
@@ -71,7 +86,10 @@ check_relationship-returns t c =
     let z0 : to_z w64 (of_z w64 n.id) ≡ n.id = search rules in
     let z1 : to_z w64 (of_z w64 n.start) ≡ n.start = search rules in
     let z2 : to_z w64 (of_z w64 n.end) ≡ n.end = search rules in
-    c.check_entries.ensures ∙ relationship_ok c.args.version c.args.seen c.in_ok-number.number _ n.id n.start n.end n.kind n.properties.items n.element_ids (search rules) (rw (z0, z1, z2) at c.in_ok-number.ensures) ∙ ap (λ (u : Tree). scan (unwritten c.args.version) c.args.seen (structures u)) (sym (relationship-out n))
+    c.check_entries.ensures ∙ relationship_ok c.args.version c.args.seen c.in_ok-number.number (5 + c.elements_count-count.result) (to_z w64 (of_z w64 n.id)) (to_z w64 (of_z w64 n.start)) (to_z w64 (of_z w64 n.end)) n.kind n.properties.items n.element_ids (search rules) c.in_ok-number.ensures
+    ∙ ap (λ (x : ℤ). scan (unwritten c.args.version) c.args.seen (structures (relationship_parts x (to_z w64 (of_z w64 n.start)) (to_z w64 (of_z w64 n.end)) n.kind n.properties.items n.element_ids))) z0
+    ∙ ap (λ (x : ℤ). scan (unwritten c.args.version) c.args.seen (structures (relationship_parts n.id x (to_z w64 (of_z w64 n.end)) n.kind n.properties.items n.element_ids))) z1
+    ∙ ap (λ (x : ℤ). scan (unwritten c.args.version) c.args.seen (structures (relationship_parts n.id n.start x n.kind n.properties.items n.element_ids))) z2 ∙ ap (λ (u : Tree). scan (unwritten c.args.version) c.args.seen (structures u)) (sym (relationship-out n))
 
 pub check_cell-returns-in_err-number-in-Path : goal.check_cell-returns-in_err-number-in-Path
 check_cell-returns-in_err-number-in-Path t c =

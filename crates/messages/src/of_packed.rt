@@ -1,0 +1,73 @@
+//! Messages of values.
+ghost use Rattle.std.specs.Prelude.{◌≡◌, ◌↔◌, ℕ, List, Err};
+ghost use Rattle.packstream.specs.Spelling.{Spells};
+ghost use Rattle.packstream.specs.View.{tree};
+ghost use Rattle.messages.specs.declared.fault.MsgFault.{MsgFault as AnyFault};
+ghost use Rattle.messages.specs.Table.{requests, responses};
+ghost use Rattle.messages.specs.View.{ask, say, Ask, Say};
+ghost use Rattle.messages.specs.Reading.{Answers, asks, says, message_told};
+ghost use Rattle.messages.specs.Messages.{Req, Resp, NoRequest, NoResponse, Gave, UnlessMemory, request_of as request_by, response_of as response_by};
+
+use crate::fault::MsgFault;
+use crate::reading::{request_tagged, response_tagged};
+use crate::request::Request;
+use crate::response::Response;
+use packstream::{Packed, Value};
+use std::alloc::Global;
+use wire::Version;
+
+/// The request of a value, by the table of requests.
+fn request_of_value(alloc: Global, version: Version, value: &Value) -> Result<Request, MsgFault>
+    ensures { Answers (λ r. asks (ask r)) result (message_told version requests (tree value.now)) }
+{
+    match value {
+        Value::Struct(tag, fields) => request_tagged(alloc, version, *tag, fields),
+        _ => Err(MsgFault::NotAMessage),
+    }
+}
+
+/// The response of a value, by the table of responses.
+fn response_of_value(alloc: Global, version: Version, value: &Value) -> Result<Response, MsgFault>
+    ensures { Answers (λ r. says (say r)) result (message_told version responses (tree value.now)) }
+{
+    match value {
+        Value::Struct(tag, fields) => response_tagged(alloc, version, *tag, fields),
+        _ => Err(MsgFault::NotAMessage),
+    }
+}
+
+/// The request of a value that was read: what `read_request` answers for every spelling of the value. Its faults are
+/// `NotAMessage`, `UnknownTag`, `Fields`, `Extra`, `Cell` and `Memory`.
+pub fn request_of(alloc: Global, version: Version, packed: &Packed) -> Result<Request, MsgFault>
+    // Apart from memory, it is what the value says by the table of requests: a request, or the first fault.
+    ensures told { Answers (λ r. asks (ask r)) result (message_told version requests packed.now) }
+
+    // Of bytes that spell the value it is the request that they stand for, where they stand for one ..
+    ensures request { (b : List ℕ) (m : Ask) → Spells packed.now b → UnlessMemory result (Gave ask result m ↔ Req version m b) }
+
+    // .. and the first fault that they have, where they have one.
+    ensures fault { (b : List ℕ) (e : AnyFault) → Spells packed.now b → UnlessMemory result ((result ≡ Err e) ↔ NoRequest version e b) }
+
+    // The same as a function of the bytes.
+    ensures same { (b : List ℕ) → Spells packed.now b → Answers ask result (request_by version b) }
+{
+    request_of_value(alloc, version, packed.value())
+}
+
+/// The response of a value that was read: what `read_response` answers for every spelling of the value. Its faults are
+/// `NotAMessage`, `UnknownTag`, `Fields`, `Extra`, `Cell` and `Memory`.
+pub fn response_of(alloc: Global, version: Version, packed: &Packed) -> Result<Response, MsgFault>
+    // Apart from memory, it is what the value says by the table of responses: a response, or the first fault.
+    ensures told { Answers (λ r. says (say r)) result (message_told version responses packed.now) }
+
+    // Of bytes that spell the value it is the response that they stand for, where they stand for one ..
+    ensures response { (b : List ℕ) (m : Say) → Spells packed.now b → UnlessMemory result (Gave say result m ↔ Resp version m b) }
+
+    // .. and the first fault that they have, where they have one.
+    ensures fault { (b : List ℕ) (e : AnyFault) → Spells packed.now b → UnlessMemory result ((result ≡ Err e) ↔ NoResponse version e b) }
+
+    // The same as a function of the bytes.
+    ensures same { (b : List ℕ) → Spells packed.now b → Answers say result (response_by version b) }
+{
+    response_of_value(alloc, version, packed.value())
+}

@@ -1,5 +1,0 @@
-use Rattle.wire.proofs.Framed.{reads_items}
-use Rattle.wire.proofs.framing.reads_items.Goals as goal
-
-pub returns : goal.returns
-returns c = reads_items
