@@ -2,10 +2,10 @@
 use crate::asking::key_of;
 use crate::link::Stopped;
 use bytes::BytesMut;
-use messages::{Response, Version, read_response, write_response};
+use messages::{Response, read_response, write_response};
 use std::alloc::{AllocError, Global};
 use structures::Cell;
-use wire::{Dechunk, Piece, put_message, put_noop};
+use wire::{Dechunk, Piece, Version, put_message, put_noop};
 
 /// A record of one dictionary with so many keys.
 fn record(alloc: Global, keys: u32) -> Result<Response, AllocError> {

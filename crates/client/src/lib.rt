@@ -1,5 +1,7 @@
 //! A pipelining client of the Bolt protocol: requests of a caller and bytes of a server go in; bytes, rows, summaries and outcomes
 //! come out.
+//!
+//! What holds over every list of calls stands in [`laws`]. A caller relies on `tells_by_bytes`, `keeps_few`, `refuses_texts` and `loses_each`.
 #![tactic(auto)]
 
 mod calls;
@@ -8,7 +10,7 @@ mod faults;
 mod feeding;
 mod heard;
 mod hearing;
-mod laws;
+pub mod laws;
 mod losing;
 mod losses;
 mod opening;
@@ -20,5 +22,4 @@ mod verdicts;
 pub use client::Client;
 pub use faults::{ClientFault, SubmitFault};
 pub use heard::{Heard, Outcome};
-pub use laws::{keeps_few, loses_each, refuses_texts, tells_by_bytes};
 pub use losses::Losses;

@@ -11,9 +11,8 @@ use crate::fault::LineFault;
 use crate::line::{Amount, Line, Peer, Times};
 use crate::requests::request_of;
 use crate::words::{bytes_of, number_of};
-use messages::Version;
 use std::alloc::Global;
-use wire::Wish;
+use wire::{Version, Wish};
 
 /// An event.
 pub(crate) fn event_of(alloc: Global, words: &[&str]) -> Result<Line, LineFault>

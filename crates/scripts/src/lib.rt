@@ -1,9 +1,11 @@
 //! The lines of scripts: what a world, a client at a shell or a pair of ends is told to do, in words.
+//!
+//! What holds of all lines stands in [`laws`].
 #![tactic(auto)]
 
 mod events;
 mod fault;
-mod laws;
+pub mod laws;
 mod line;
 mod meaning;
 mod params;
@@ -14,7 +16,6 @@ mod script;
 mod words;
 
 pub use fault::{LineFault, ScriptFault};
-pub use laws::{params_are_cells, words_are_joined};
 pub use line::{Amount, Line, Peer, Times};
 pub use reading::{read_line, read_request};
 pub use request::ScriptRequest;

@@ -5,8 +5,9 @@ ghost use Rattle.scripts.specs.Meant.{meant, login, login_at};
 ghost use Rattle.scripts.specs.Views.{request_view};
 
 use crate::request::ScriptRequest;
-use messages::{Auth, Request, Version};
+use messages::{Auth, Request};
 use std::alloc::{AllocError, Global};
+use wire::Version;
 
 impl ScriptRequest {
     /// The request at a version: the agent is `t/1`, the scheme `basic`, the user `user` and the credentials `pass`, or

@@ -7,10 +7,10 @@ ghost use Rattle.scripts.specs.Answers.{Gives};
 ghost use Rattle.scripts.specs.Params.{cell_at, cell_of, entries_in, params_of};
 
 use crate::fault::LineFault;
-use messages::Version;
 use packstream::{PackFault, Packed, decode};
 use std::alloc::Global;
 use structures::{Cell, CellFault, read};
+use wire::Version;
 
 /// The parameters that bytes spell: a dictionary that is a cell at some version.
 pub(crate) fn params_of(alloc: Global, bytes: &[u8]) -> Result<Vec<(String, Cell)>, LineFault>

@@ -1,4 +1,7 @@
 //! Sessions of a server over one engine and one gate.
+//!
+//! What holds over every list of calls stands in [`laws`]. Who runs a server relies on `keeps_limits`, `leaves_others` and `grows_by_commits`, who reads what
+//! was answered on `places_follow_bytes`.
 #![tactic(auto)]
 
 mod acts;
@@ -7,7 +10,7 @@ mod exchange;
 mod fault;
 mod incoming;
 mod kinds;
-mod laws;
+pub mod laws;
 mod leaving;
 mod opening;
 mod performing;
@@ -22,5 +25,4 @@ mod texts;
 mod words;
 
 pub use kinds::{Cause, Refused, Took, What, Worked};
-pub use laws::{grows_by_commits, keeps_limits, leaves_others, places_follow_bytes};
 pub use server::Server;

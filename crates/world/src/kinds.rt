@@ -64,15 +64,16 @@ pub enum Seen {
 #[derive(Clone, Copy, Debug, PartialEq, Eq, Error)]
 pub enum Refused {
     /// No connection of this number was opened.
-    #[error("V1 no such connection")]
+    #[error("V1")]
     NoSuchConnection,
     /// The peer of this connection takes no such event.
-    #[error("V2 wrong peer")]
+    #[error("V2")]
     WrongPeer,
     /// 16 sessions live, or no number is left.
-    #[error("V3 too many sessions")]
+    #[error("V3")]
     SessionsFull,
-    #[error("V4 out of memory")]
+    /// Want of memory. Nothing has changed, save that a `ToClient` may have taken bytes out of its session.
+    #[error("out of memory")]
     Memory,
 }
 

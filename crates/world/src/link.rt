@@ -2,7 +2,7 @@
 
 use crate::flow::Flow;
 use crate::kinds::Peer;
-use client::{Client, ClientFault, Losses, Outcome};
+use client::{Client, Losses, Outcome};
 use machine::Phase;
 use server::Cause;
 use std::alloc::{AllocError, Global};
@@ -55,15 +55,18 @@ impl End {
     ghost use Rattle.world.specs.Views.{Begins};
 
     /// Of a connection that is opened.
-    pub fn new(alloc: Global, peer: Peer) -> Result<End, ClientFault>
+    pub fn new(alloc: Global, peer: Peer) -> Result<End, AllocError>
         ensures { IfOk result (Begins peer) }
     {
         match peer {
-            Peer::Ours(wish) => Ok(End::Ours {
-                wish,
-                client: Client::new(alloc, wish)?,
-                lost: None,
-            }),
+            Peer::Ours(wish) => match Client::new(alloc, wish) {
+                Ok(client) => Ok(End::Ours {
+                    wish,
+                    client,
+                    lost: None,
+                }),
+                Err(_) => Err(AllocError),
+            },
             Peer::Foreign => Ok(End::Foreign),
         }
     }
@@ -77,9 +80,7 @@ impl Link {
     pub fn new(alloc: Global, peer: Peer) -> Result<Link, AllocError>
         ensures { IfOk result (IsOpened peer) }
     {
-        let Ok(end) = End::new(alloc, peer) else {
-            return Err(AllocError);
-        };
+        let end = End::new(alloc, peer)?;
         Ok(Link {
             end,
             up: Flow::new(alloc),
