@@ -1,2 +1,5 @@
 pub mod Names
 pub mod Telling
+pub mod Stopping
+pub mod Serving
+pub mod Looping

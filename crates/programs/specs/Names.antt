@@ -1,4 +1,4 @@
--- How outcomes, phases and refusals are printed.
+-- How outcomes, phases, refusals, states and causes are printed.
 use Rattle.std.specs.Prelude.{ℕ, List, codes, Option, Some, None}
 use Rattle.client.specs.declared.Outcome.{Outcome}
 use Rattle.client.specs.declared.Outcome.TheVariants as outcome
@@ -6,6 +6,8 @@ use Rattle.client.specs.declared.SubmitFault.{SubmitFault}
 use Rattle.client.specs.declared.SubmitFault.TheVariants as refusal
 use Rattle.machine.specs.declared.Phase.{Phase}
 use Rattle.machine.specs.declared.Phase.TheVariants as phase
+use Rattle.machine.specs.declared.State.{State}
+use Rattle.server.specs.declared.kinds.Cause.{Cause}
 
 abbrev pub outcome_name : Outcome → List ℕ
 outcome_name outcome.Done = codes "Done"
@@ -33,3 +35,25 @@ refusal_code refusal.Size = Some (codes "C3")
 refusal_code refusal.Closed = Some (codes "C4")
 refusal_code refusal.Memory = None
 refusal_code (refusal.Unwritable e) = Some (codes "C7")
+
+abbrev pub state_name : State → List ℕ
+state_name State.Fresh = codes "Fresh"
+state_name State.Unauth = codes "Unauth"
+state_name State.Ready = codes "Ready"
+state_name State.Streaming = codes "Streaming"
+state_name State.TxReady = codes "TxReady"
+state_name State.TxStreaming = codes "TxStreaming"
+state_name State.Failed = codes "Failed"
+state_name State.Interrupted = codes "Interrupted"
+state_name State.Defunct = codes "Defunct"
+
+-- the code of a session's end
+abbrev pub cause_code : Cause → List ℕ
+cause_code Cause.BadMagic = codes "E1"
+cause_code Cause.NoVersion = codes "E2"
+cause_code Cause.TooBig = codes "E3"
+cause_code Cause.Malformed = codes "E4"
+cause_code Cause.Invalid = codes "E5"
+cause_code Cause.AuthRefused = codes "E6"
+cause_code Cause.Goodbye = codes "E7"
+cause_code Cause.Lost = codes "E8"

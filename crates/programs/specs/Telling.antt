@@ -1,5 +1,5 @@
 -- What is printed of what a client heard.
-use Rattle.std.specs.Prelude.{◌≡◌, ℕ, List, [], ◌∷◌, ◌++◌, codes}
+use Rattle.std.specs.Prelude.{◌≡◌, ℕ, Some, List, [], ◌∷◌, ◌++◌, codes}
 use Rattle.std.specs.Fmt.{decimal}
 use Rattle.hex.specs.Hex.{encode_lower}
 use Rattle.packstream.specs.Canon.{canon}
@@ -8,8 +8,6 @@ use Rattle.packstream.specs.View.{trees_of}
 use Rattle.structures.specs.Form.{Form}
 use Rattle.wire.specs.declared.Version.{Version}
 use Rattle.messages.specs.View.{Say, Success, Record, Ignored, Failure}
-use Rattle.client.specs.declared.Outcome.{Outcome}
-use Rattle.machine.specs.declared.Phase.{Phase}
 use Rattle.client.specs.Rest.{Note, Nothing, Chose, Row, Summary}
 use Rattle.programs.specs.Names.{outcome_name, phase_name}
 
@@ -51,3 +49,12 @@ failure_told Nothing = []
 failure_told (Chose o) = []
 failure_told (Row cells) = []
 failure_told (Summary ordinal phase outcome said) = failure_line said
+
+-- a request that the client refuses: the number of its line, and the code
+abbrev pub refused_line : ℕ → List ℕ → List ℕ
+refused_line number code = codes "line " ++ decimal number ++ codes " " ++ code ++ 10 ∷ []
+
+-- the version that rows are printed at: the one that was heard, once one was
+abbrev pub version_after : Version → Note → Version
+version_after v (Chose (Some w)) = w
+version_after v _ = v

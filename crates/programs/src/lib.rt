@@ -1,9 +1,18 @@
-//! The programs that drive a client by the lines of a script, over streams.
+//! The programs over streams: a client at a shell, a server of one connection after another, and both in one process.
 #![tactic(auto)]
 
+mod calling;
+mod looping;
 mod names;
+mod printing;
+mod serves;
 mod shells;
 mod stop;
 mod telling;
 
+pub use looping::{Channel, run_loop};
+pub use names::{cause_code, outcome_name, phase_name, refusal_code, state_name};
+pub use serves::serve_next;
 pub use shells::shell;
+pub use stop::put_fault;
+pub use telling::summary;

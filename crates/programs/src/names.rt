@@ -1,12 +1,14 @@
-//! How outcomes, phases and refusals are printed.
+//! How outcomes, phases, refusals, states and causes are printed.
 ghost use Rattle.std.specs.Prelude.{◌≡◌};
 ghost use Rattle.std.specs.Option.{option_map};
-ghost use Rattle.programs.specs.Names.{outcome_name, phase_name, refusal_code};
+ghost use Rattle.programs.specs.Names.{cause_code, outcome_name, phase_name, refusal_code, state_name};
 
 use client::{Outcome, SubmitFault};
-use machine::Phase;
+use machine::{Phase, State};
+use server::Cause;
 
-pub(crate) fn outcome_name(outcome: Outcome) -> &'static str
+/// What became of a request, by its name: `Done`, `Committed`.
+pub fn outcome_name(outcome: Outcome) -> &'static str
     ensures { result.now ≡ outcome_name outcome }
 {
     match outcome {
@@ -19,7 +21,8 @@ pub(crate) fn outcome_name(outcome: Outcome) -> &'static str
     }
 }
 
-pub(crate) fn phase_name(phase: Phase) -> &'static str
+/// A phase by its name: `Ready`, `Halted`.
+pub fn phase_name(phase: Phase) -> &'static str
     ensures { result.now ≡ phase_name phase }
 {
     match phase {
@@ -34,8 +37,8 @@ pub(crate) fn phase_name(phase: Phase) -> &'static str
     }
 }
 
-/// The code of a refusal; want of memory is none.
-pub(crate) fn refusal_code(fault: &SubmitFault) -> Option<&'static str>
+/// The code of a refusal, `C1` to `C7`; None of want of memory.
+pub fn refusal_code(fault: &SubmitFault) -> Option<&'static str>
     ensures { option_map (λ s. s.now) result ≡ refusal_code fault.now }
 {
     match fault {
@@ -45,5 +48,38 @@ pub(crate) fn refusal_code(fault: &SubmitFault) -> Option<&'static str>
         SubmitFault::Closed => Some("C4"),
         SubmitFault::Memory => None,
         SubmitFault::Unwritable(_) => Some("C7"),
+    }
+}
+
+/// A session's state by its name: `Ready`, `Failed`.
+pub fn state_name(state: State) -> &'static str
+    ensures { result.now ≡ state_name state }
+{
+    match state {
+        State::Fresh => "Fresh",
+        State::Unauth => "Unauth",
+        State::Ready => "Ready",
+        State::Streaming => "Streaming",
+        State::TxReady => "TxReady",
+        State::TxStreaming => "TxStreaming",
+        State::Failed => "Failed",
+        State::Interrupted => "Interrupted",
+        State::Defunct => "Defunct",
+    }
+}
+
+/// The code of a session's end, `E1` to `E8`.
+pub fn cause_code(cause: Cause) -> &'static str
+    ensures { result.now ≡ cause_code cause }
+{
+    match cause {
+        Cause::BadMagic => "E1",
+        Cause::NoVersion => "E2",
+        Cause::TooBig => "E3",
+        Cause::Malformed => "E4",
+        Cause::Invalid => "E5",
+        Cause::AuthRefused => "E6",
+        Cause::Goodbye => "E7",
+        Cause::Lost => "E8",
     }
 }

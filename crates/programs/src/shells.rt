@@ -1,14 +1,13 @@
 //! A client at a shell: request lines go in, and what a server answers comes out.
-ghost use Rattle.std.specs.Prelude.{◌≤◌};
+ghost use Rattle.std.specs.Prelude.{◌≡◌, ◌<◌, ◌⊎◌, true, IfOk, IfErr, IsErrOf};
+ghost use Rattle.programs.specs.Stopping.{Ends};
 
-use crate::names::refusal_code;
+use crate::calling::Caller;
 use crate::stop::{Stop, put_stop};
-use crate::telling::{failure_of, told};
-use client::{Client, Heard};
+use client::Heard;
 use scripts::{LineFault, ScriptRequest, read_request};
 use std::alloc::Global;
-use streams::{Sink, Source, StreamFault, Told, ask_all, write_all};
-use wire::{Version, Wish};
+use streams::{Sink, Source, StreamFault, give_up, hear_piece, write_out};
 
 /// How many bytes a read asks for.
 const PIECE: usize = 4096;
@@ -16,9 +15,7 @@ const PIECE: usize = 4096;
 /// A client, and the line that is begun.
 #[derive(Drop)]
 struct Conversation {
-    client: Client,
-    /// The version that was taken; the newest where none was, when the client has ended.
-    version: Version,
+    caller: Caller,
     begun: Vec<u8>,
     /// The number of the line that is begun, from 1.
     number: usize,
@@ -26,48 +23,91 @@ struct Conversation {
 }
 
 impl Conversation {
-    fn new(alloc: Global) -> Result<Conversation, Stop> {
-        let Ok(client) = Client::new(alloc, Wish::Newest) else {
-            return Err(Stop::Broken(StreamFault::Memory));
-        };
-        Ok(Conversation {
-            client,
-            version: Version::V51,
-            begun: Vec::new(alloc),
-            number: 1,
-            alloc,
-        })
+    fn new(alloc: Global) -> Result<Conversation, StreamFault>
+        ensures { IfErr result (λ e. e ≡ StreamFault.Memory) }
+    {
+        match Caller::new(alloc) {
+            Ok(caller) => Ok(Conversation {
+                caller,
+                begun: Vec::new(alloc),
+                number: 1,
+                alloc,
+            }),
+            Err(fault) => Err(fault),
+        }
     }
 
-    /// Writes what the client puts out, and prints what it hears up to the last answer that it waits for.
+    /// Writes what the client puts out, and hears and prints up to the last answer that it waits for.
     fn ask<S: Source, T: Sink, O: Sink>(
         &mut self,
         source: &mut S,
         sink: &mut T,
         out: &mut O,
-    ) -> Result<(), Stop> {
-        let told = ask_all(self.alloc, &mut self.client, source, sink);
-        self.put_told(told, out)
+    ) -> Result<(), StreamFault>
+        ensures read { IsErrOf result StreamFault.ReadFailed → S.has_failed source.new ≡ true }
+        ensures written { IsErrOf result StreamFault.WriteFailed → (T.has_failed sink.new ≡ true) ⊎ (O.has_failed out.new ≡ true) }
+    {
+        match write_out(&mut self.caller.client, sink) {
+            Ok(()) => {}
+            Err(fault) => return Err(fault),
+        }
+        match self.hear_all(source, out) {
+            Ok(()) => {}
+            Err(fault) => return Err(fault),
+        }
+        let _losses = give_up(&mut self.caller.client);
+        Ok(())
     }
 
-    fn put_told<O: Sink>(&mut self, told: Told, out: &mut O) -> Result<(), Stop> {
-        for heard in told.heard {
-            self.put_heard(heard, out)?;
+    /// Hears and prints, a piece at a time, as long as an answer is still to come, to the end of the input.
+    fn hear_all<S: Source, O: Sink>(
+        &mut self,
+        source: &mut S,
+        out: &mut O,
+    ) -> Result<(), StreamFault>
+        ensures read { IsErrOf result StreamFault.ReadFailed → S.has_failed source.new ≡ true }
+        ensures written { IsErrOf result StreamFault.WriteFailed → O.has_failed out.new ≡ true }
+    {
+        while self.caller.client.awaits() {
+            match self.hear_some(source, out) {
+                Ok(true) => {}
+                Ok(false) => return Ok(()),
+                Err(fault) => return Err(fault),
+            }
         }
-        match told.fault {
-            None => Ok(()),
-            Some(fault) => Err(Stop::Broken(fault)),
+        Ok(())
+    }
+
+    /// Hears a piece and prints what it tells; whether there was one.
+    fn hear_some<S: Source, O: Sink>(
+        &mut self,
+        source: &mut S,
+        out: &mut O,
+    ) -> Result<bool, StreamFault>
+        ensures read { IsErrOf result StreamFault.ReadFailed → S.has_failed source.new ≡ true }
+        ensures written { IsErrOf result StreamFault.WriteFailed → O.has_failed out.new ≡ true }
+        ensures lowers { IfOk result (λ some. some ≡ true → S.reads source.new < S.reads source.old) }
+    {
+        let mut heard = Vec::new(self.alloc);
+        let done = hear_piece(&mut self.caller.client, source, &mut heard);
+        // What was heard before a fault is printed too.
+        match self.put_all(heard, out) {
+            Ok(()) => done,
+            Err(fault) => Err(fault),
         }
     }
 
-    fn put_heard<O: Sink>(&mut self, heard: Heard, out: &mut O) -> Result<(), Stop> {
-        if let Heard::Version(Some(version)) = &heard {
-            self.version = *version;
+    fn put_all<O: Sink>(&mut self, heard: Vec<Heard>, out: &mut O) -> Result<(), StreamFault>
+        ensures read { IsErrOf result StreamFault.ReadFailed → ⊥ }
+        ensures written { IsErrOf result StreamFault.WriteFailed → O.has_failed out.new ≡ true }
+    {
+        for one in heard {
+            match self.caller.put_explained(one, out) {
+                Ok(()) => {}
+                Err(fault) => return Err(fault),
+            }
         }
-        let failure = failure_of(self.alloc, &heard)?;
-        let text = told(self.alloc, self.version, heard)?;
-        put(text.as_bytes(), out)?;
-        put(failure.as_bytes(), out)
+        Ok(())
     }
 
     /// Takes a piece of the input: each line that ends in it is sent.
@@ -77,10 +117,16 @@ impl Conversation {
         source: &mut S,
         sink: &mut T,
         out: &mut O,
-    ) -> Result<(), Stop> {
+    ) -> Result<(), Stop>
+        ensures read { IsErrOf result (Stop.Broken StreamFault.ReadFailed) → S.has_failed source.new ≡ true }
+        ensures written { IsErrOf result (Stop.Broken StreamFault.WriteFailed) → (T.has_failed sink.new ≡ true) ⊎ (O.has_failed out.new ≡ true) }
+    {
         for byte in piece {
             if *byte == b'\n' {
-                self.send(source, sink, out)?;
+                match self.send(source, sink, out) {
+                    Ok(()) => {}
+                    Err(stop) => return Err(stop),
+                }
                 self.begun.clear();
                 self.number = self.number.saturating_add(1);
             } else if self.begun.push(*byte).is_err() {
@@ -96,42 +142,40 @@ impl Conversation {
         source: &mut S,
         sink: &mut T,
         out: &mut O,
-    ) -> Result<(), Stop> {
+    ) -> Result<(), Stop>
+        ensures read { IsErrOf result (Stop.Broken StreamFault.ReadFailed) → S.has_failed source.new ≡ true }
+        ensures written { IsErrOf result (Stop.Broken StreamFault.WriteFailed) → (T.has_failed sink.new ≡ true) ⊎ (O.has_failed out.new ≡ true) }
+    {
         if self.begun.is_empty() {
             return Ok(());
         }
-        match read_request(self.alloc, self.begun.as_slice()) {
-            Ok(request) => self.submit(request, source, sink, out),
-            Err(LineFault::Unreadable) => Err(Stop::Unreadable(self.number)),
-            Err(LineFault::Memory) => Err(Stop::Broken(StreamFault::Memory)),
+        let request = match read_request(self.alloc, self.begun.as_slice()) {
+            Ok(request) => request,
+            Err(LineFault::Unreadable) => return Err(Stop::Unreadable(self.number)),
+            Err(LineFault::Memory) => return Err(Stop::Broken(StreamFault::Memory)),
+        };
+        match self.submit(request, source, sink, out) {
+            Ok(()) => Ok(()),
+            Err(fault) => Err(Stop::Broken(fault)),
         }
     }
 
-    /// Submits a request, and asks for its answer, or prints why it is refused.
+    /// Submits a request and asks for its answer, or prints why it is refused.
     fn submit<S: Source, T: Sink, O: Sink>(
         &mut self,
         request: ScriptRequest,
         source: &mut S,
         sink: &mut T,
         out: &mut O,
-    ) -> Result<(), Stop> {
-        let request = request.into_request(self.alloc, self.version)?;
-        let Err(fault) = self.client.submit(request) else {
-            return self.ask(source, sink, out);
-        };
-        let Some(code) = refusal_code(&fault) else {
-            return Err(Stop::Broken(StreamFault::Memory));
-        };
-        let number = self.number;
-        let text = format!(in self.alloc; "line {number} {code}\n")?;
-        put(text.as_bytes(), out)
-    }
-}
-
-fn put<O: Sink>(text: &[u8], out: &mut O) -> Result<(), Stop> {
-    match write_all(out, text) {
-        Ok(()) => Ok(()),
-        Err(_) => Err(Stop::Broken(StreamFault::WriteFailed)),
+    ) -> Result<(), StreamFault>
+        ensures read { IsErrOf result StreamFault.ReadFailed → S.has_failed source.new ≡ true }
+        ensures written { IsErrOf result StreamFault.WriteFailed → (T.has_failed sink.new ≡ true) ⊎ (O.has_failed out.new ≡ true) }
+    {
+        match self.caller.submit(self.number, request, out) {
+            Ok(true) => self.ask(source, sink, out),
+            Ok(false) => Ok(()),
+            Err(fault) => Err(fault),
+        }
     }
 }
 
@@ -142,9 +186,18 @@ fn run<I: Source, S: Source, T: Sink, O: Sink>(
     source: &mut S,
     sink: &mut T,
     out: &mut O,
-) -> Result<(), Stop> {
-    let mut conversation = Conversation::new(alloc)?;
-    conversation.ask(source, sink, out)?;
+) -> Result<(), Stop>
+    ensures read { IsErrOf result (Stop.Broken StreamFault.ReadFailed) → (I.has_failed input.new ≡ true) ⊎ (S.has_failed source.new ≡ true) }
+    ensures written { IsErrOf result (Stop.Broken StreamFault.WriteFailed) → (T.has_failed sink.new ≡ true) ⊎ (O.has_failed out.new ≡ true) }
+{
+    let mut conversation = match Conversation::new(alloc) {
+        Ok(conversation) => conversation,
+        Err(fault) => return Err(Stop::Broken(fault)),
+    };
+    match conversation.ask(source, sink, out) {
+        Ok(()) => {}
+        Err(fault) => return Err(Stop::Broken(fault)),
+    }
     let mut buffer = [0; PIECE];
     loop {
         let Ok(len) = input.read(&mut buffer) else {
@@ -153,12 +206,15 @@ fn run<I: Source, S: Source, T: Sink, O: Sink>(
         if len == 0 {
             return conversation.send(source, sink, out);
         }
-        conversation.take(&buffer[..len], source, sink, out)?;
+        match conversation.take(&buffer[..len], source, sink, out) {
+            Ok(()) => {}
+            Err(stop) => return Err(stop),
+        }
     }
 }
 
 /// Opens a conversation with the server behind `source` and `sink`, as a client that takes the newest version, and submits the
-/// requests of the input, a line each. After each it waits for all answers, and prints on `out` each `row HEX`, each
+/// requests of the input, a line each. After each it waits for all answers, and prints on `out`, as they come, each `row HEX`, each
 /// `heard ORDINAL OUTCOME PHASE`, and after that of a FAILURE `fault CODE MESSAGE`. A request that the client refuses is printed as
 /// `line I C1`, with its number and the code. A line that can't be read ends it, with `line I unreadable` on `err`.
 ///
@@ -172,7 +228,8 @@ pub fn shell<I: Source, S: Source, T: Sink, O: Sink, E: Sink>(
     out: &mut O,
     err: &mut E,
 ) -> u8
-    ensures { result ≤ 3 }
+    // The status and the text on standard error are those of why it stops; I1 only where a source has failed, I2 only where a sink has.
+    ensures { Ends result ((I.has_failed input.new ≡ true) ⊎ (S.has_failed source.new ≡ true)) ((T.has_failed sink.new ≡ true) ⊎ (O.has_failed out.new ≡ true)) (E.has_failed err.new) (E.taken err.old) (E.taken err.new) }
 {
     match run(alloc, input, source, sink, out) {
         Ok(()) => 0,

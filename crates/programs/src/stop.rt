@@ -1,5 +1,7 @@
 //! Why a program stops before its lines end.
-ghost use Rattle.std.specs.Prelude.{◌≡◌, ◌≤◌};
+ghost use Rattle.std.specs.Prelude.{◌≡◌, ◌⊎◌, false, string_bytes, IfOk};
+ghost use Rattle.std.specs.Io.KnownBytes.{Appends};
+ghost use Rattle.programs.specs.Stopping.{stop_status, stop_text};
 
 use std::alloc::{AllocError, Global};
 use streams::{Sink, StreamFault, write_all};
@@ -13,43 +15,51 @@ pub(crate) enum Stop {
     Broken(StreamFault),
 }
 
-impl From<StreamFault> for Stop {
-    fn from(fault: StreamFault) -> Stop {
-        Stop::Broken(fault)
-    }
-}
-
-impl From<AllocError> for Stop {
-    fn from(_fault: AllocError) -> Stop {
-        Stop::Broken(StreamFault::Memory)
-    }
-}
-
 /// Writes why a program stops, and answers its exit status: 2 for a line that can't be read, 1 for a stream that has failed, 3
-/// for want of memory.
+/// for want of memory. Where there is no memory for the text, that is why.
 pub(crate) fn put_stop<E: Sink>(alloc: Global, stop: Stop, err: &mut E) -> u8
-    ensures { result ≤ 3 }
+    ensures { (told : Stop) × ((told ≡ stop) ⊎ (told ≡ Stop.Broken StreamFault.Memory)) × (result ≡ stop_status told)
+        × (E.has_failed err.new ≡ false → Appends (E.taken err.old) (E.taken err.new) (stop_text told)) }
 {
     match stop {
         Stop::Unreadable(number) => put_unreadable(alloc, number, err),
-        Stop::Broken(StreamFault::ReadFailed) => put(b"fault I1\n", 1, err),
-        Stop::Broken(StreamFault::WriteFailed) => put(b"fault I2\n", 1, err),
-        Stop::Broken(StreamFault::Memory) => put(b"fault I3\n", 3, err),
+        Stop::Broken(fault) => put_fault(fault, err),
     }
 }
 
 fn put_unreadable<E: Sink>(alloc: Global, number: usize, err: &mut E) -> u8
-    ensures { result ≤ 3 }
+    ensures { (told : Stop) × ((told ≡ Stop.Unreadable number) ⊎ (told ≡ Stop.Broken StreamFault.Memory)) × (result ≡ stop_status told)
+        × (E.has_failed err.new ≡ false → Appends (E.taken err.old) (E.taken err.new) (stop_text told)) }
 {
-    match format!(in alloc; "line {number} unreadable\n") {
+    match unreadable_text(alloc, number) {
         Ok(text) => put(text.as_bytes(), 2, err),
-        Err(_) => put(b"fault I3\n", 3, err),
+        Err(_) => put_fault(StreamFault::Memory, err),
+    }
+}
+
+fn unreadable_text(alloc: Global, number: usize) -> Result<String, AllocError>
+    ensures { IfOk result (λ t. string_bytes t ≡ stop_text (Stop.Unreadable number)) }
+{
+    let text = format!(in alloc; "line {number} unreadable\n")?;
+    Ok(text)
+}
+
+/// Writes a fault on a line, `fault I1` and the like, and answers the exit status: 3 for want of memory, else 1. It takes no memory.
+pub fn put_fault<E: Sink>(fault: StreamFault, err: &mut E) -> u8
+    ensures status { result ≡ stop_status (Stop.Broken fault) }
+    ensures text { E.has_failed err.new ≡ false → Appends (E.taken err.old) (E.taken err.new) (stop_text (Stop.Broken fault)) }
+{
+    match fault {
+        StreamFault::ReadFailed => put(b"fault I1\n", 1, err),
+        StreamFault::WriteFailed => put(b"fault I2\n", 1, err),
+        StreamFault::Memory => put(b"fault I3\n", 3, err),
     }
 }
 
 /// Writes a text, and answers the status.
 fn put<E: Sink>(text: &[u8], status: u8, err: &mut E) -> u8
-    ensures { result ≡ status }
+    ensures status { result ≡ status }
+    ensures text { E.has_failed err.new ≡ false → Appends (E.taken err.old) (E.taken err.new) text.now }
 {
     let _ = write_all(err, text);
     status

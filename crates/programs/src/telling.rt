@@ -63,7 +63,8 @@ fn row_text(alloc: Global, hex: &str) -> Result<String, AllocError>
     Ok(text)
 }
 
-fn summary(
+/// `heard ORDINAL OUTCOME PHASE` on a line.
+pub fn summary(
     alloc: Global,
     ordinal: u64,
     outcome: Outcome,

@@ -1,0 +1,40 @@
+-- Why a program stops before its lines end, and how it ends.
+use Rattle.std.specs.Prelude.{◌≡◌, ℕ, Bool, false, List, [], ◌∷◌, ◌++◌, codes, Option, Some, None, IfSome}
+use Rattle.std.specs.Fmt.{decimal}
+use Rattle.std.specs.Io.KnownBytes.{Appends}
+use Rattle.streams.specs.declared.fault.StreamFault.TheVariants.{ReadFailed, WriteFailed, Memory}
+use Rattle.programs.specs.declared.stop.Stop.{Stop}
+use Rattle.programs.specs.declared.stop.Stop.TheVariants.{Unreadable, Broken}
+
+-- 2 for a line that can't be read, 1 for a stream that has failed, 3 for want of memory
+abbrev pub stop_status : Stop → ℕ
+stop_status (Unreadable n) = 2
+stop_status (Broken ReadFailed) = 1
+stop_status (Broken WriteFailed) = 1
+stop_status (Broken Memory) = 3
+
+abbrev pub stop_text : Stop → List ℕ
+stop_text (Unreadable n) = codes "line " ++ decimal n ++ codes " unreadable" ++ 10 ∷ []
+stop_text (Broken ReadFailed) = codes "fault I1" ++ 10 ∷ []
+stop_text (Broken WriteFailed) = codes "fault I2" ++ 10 ∷ []
+stop_text (Broken Memory) = codes "fault I3" ++ 10 ∷ []
+
+-- A stream is told to have failed only where one of them has: the sources, and the sinks.
+abbrev pub IsStopOf : Stop → Type 0 → Type 0 → Type 0
+IsStopOf (Unreadable n) read written = Unit {0}
+IsStopOf (Broken ReadFailed) read written = read
+IsStopOf (Broken WriteFailed) read written = written
+IsStopOf (Broken Memory) read written = Unit {0}
+
+-- How a program ends: with 0, and nothing said on standard error; or with the status and the text of why it stops.
+abbrev pub ends_with : Option Stop → ℕ
+ends_with None = 0
+ends_with (Some stop) = stop_status stop
+
+abbrev pub said_of : Option Stop → List ℕ
+said_of None = []
+said_of (Some stop) = stop_text stop
+
+abbrev pub Ends : ℕ → Type 0 → Type 0 → Bool → Option (List ℕ) → Option (List ℕ) → Type 0
+Ends status read written err_failed before after =
+    (stop : Option Stop) × (status ≡ ends_with stop) × IfSome stop (λ s. IsStopOf s read written) × (err_failed ≡ false → Appends before after (said_of stop))

@@ -1,0 +1,9 @@
+use Rattle.world.specs.Turns.{setting_of}
+use Rattle.world.specs.Views.{event_of}
+use Rattle.replays.proofs.Stepping.{step_leads}
+use Rattle.replays.proofs.steps.take_step.Goals as goal
+
+pub returns : goal.returns
+returns g c = λ gate brought w reached fits.
+    step_leads g.E.Engine.entries (setting_of g.E.Engine.answer g.G.Gate.accepts gate) gate brought w (event_of c.args.event) reached c.step.result c.step.new.self c.settled.result c.settled.ensures
+    (c.step.ensures gate brought w reached fits)

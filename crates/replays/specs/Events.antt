@@ -1,0 +1,150 @@
+-- The events of a script's lines, and what is noted of them.
+use Rattle.std.specs.Prelude.{◌≡◌, ℕ, nat_lt, Bool, true, false, List, codes, Option, Some, None, Result, Ok, Err, slice_get}
+use Rattle.wire.specs.declared.Version.{Version}
+use Rattle.wire.specs.declared.Version.TheVariants.{V51}
+use Rattle.wire.specs.Offers.{wished}
+use Rattle.server.specs.declared.What.{What}
+use Rattle.server.specs.declared.What.TheVariants as what
+use Rattle.server.specs.declared.Worked.{Worked}
+use Rattle.server.specs.declared.Worked.TheVariants as worked
+use Rattle.client.specs.declared.SubmitFault.{SubmitFault}
+use Rattle.scripts.specs.declared.line.Peer.{Peer as PeerSaid}
+use Rattle.scripts.specs.declared.line.Peer.TheVariants as peer
+use Rattle.scripts.specs.declared.line.Amount.{Amount}
+use Rattle.scripts.specs.declared.line.Amount.TheVariants.{Bytes, All}
+use Rattle.scripts.specs.declared.line.Times.{Times}
+use Rattle.scripts.specs.declared.line.Times.TheVariants as times
+use Rattle.scripts.specs.Views as line
+use Rattle.scripts.specs.Views.{LineView}
+use Rattle.scripts.specs.Meant.{meant}
+use Rattle.programs.specs.Names.{refusal_code}
+use Rattle.world.specs.World.{World, Connection, Peer, Ours, Foreign, Event, Opens, Submit, ToServer, ToClient, Work, PutsNoop, Cut, ClientLost, ServerLost, Feeds, Seen, Opened, Submitted, Fed, Gave, SawWork, SawNoop, SawNothing, Refusal, V1, V2, V3, wish_of}
+
+-- the version of the requests of a connection: the one that its client wishes, and the newest where it has none
+abbrev pub version_of : Option Connection → Version
+version_of None = V51
+version_of (Some k) = wished (wish_of k.peer)
+
+abbrev pub version_at : World → ℕ → Version
+version_at w c = version_of (slice_get w.conns c)
+
+abbrev pub peer_said : PeerSaid → Peer
+peer_said (peer.Ours wish) = Ours wish
+peer_said peer.Foreign = Foreign
+
+-- how many bytes a step of a line moves at most
+abbrev pub bytes_in : Amount → ℕ
+bytes_in (Bytes n) = n
+bytes_in All = 65536
+
+-- the number of the connection of a line, 0 for an opening
+abbrev pub conn_of : LineView → ℕ
+conn_of (line.Open p) = 0
+conn_of (line.Submit c q) = c
+conn_of (line.ToServer c a) = c
+conn_of (line.ToClient c a) = c
+conn_of (line.Work c t) = c
+conn_of (line.Noop c) = c
+conn_of (line.Cut c) = c
+conn_of (line.ClientLost c) = c
+conn_of (line.ServerLost c) = c
+conn_of (line.Foreign c bytes) = c
+
+-- the event of a line, whose request is of this version
+abbrev pub event_by : Version → LineView → Event
+event_by v (line.Open p) = Opens (peer_said p)
+event_by v (line.Submit c q) = Submit c (meant v q)
+event_by v (line.ToServer c a) = ToServer c (bytes_in a)
+event_by v (line.ToClient c a) = ToClient c (bytes_in a)
+event_by v (line.Work c t) = Work c
+event_by v (line.Noop c) = PutsNoop c
+event_by v (line.Cut c) = Cut c
+event_by v (line.ClientLost c) = ClientLost c
+event_by v (line.ServerLost c) = ServerLost c
+event_by v (line.Foreign c bytes) = Feeds c bytes
+
+abbrev pub event_at : World → LineView → Event
+event_at w l = event_by (version_at w (conn_of l)) l
+
+-- whether a line has the word `all`
+abbrev pub is_all : Amount → Bool
+is_all (Bytes n) = false
+is_all All = true
+
+abbrev pub is_always : Times → Bool
+is_always times.Once = false
+is_always times.All = true
+
+abbrev pub repeats : LineView → Bool
+repeats (line.ToServer c a) = is_all a
+repeats (line.ToClient c a) = is_all a
+repeats (line.Work c t) = is_always t
+repeats (line.Open p) = false
+repeats (line.Submit c q) = false
+repeats (line.Noop c) = false
+repeats (line.Cut c) = false
+repeats (line.ClientLost c) = false
+repeats (line.ServerLost c) = false
+repeats (line.Foreign c bytes) = false
+
+-- what an event comes to: what is seen of it, or why it can't be
+abbrev pub Came : Type 0
+Came = Result Seen Refusal
+
+-- whether something moved
+abbrev pub works : Worked → Bool
+works worked.Idle = false
+works worked.Full = false
+works worked.Row = true
+works (worked.Wrote ordinal kind state entry) = true
+works (worked.Ended cause) = false
+
+abbrev pub moves_seen : Seen → Bool
+moves_seen (Opened c) = false
+moves_seen (Submitted answer) = false
+moves_seen (Fed used w) = nat_lt 0 used
+moves_seen (Gave used told) = nat_lt 0 used
+moves_seen (SawWork w) = works w
+moves_seen (SawNoop put) = false
+moves_seen SawNothing = false
+
+abbrev pub moves : Came → Bool
+moves (Ok seen) = moves_seen seen
+moves (Err refusal) = false
+
+-- the codes: of a refused request, of an event that can't be, and of a session that is full
+abbrev pub submit_code : Result ℕ SubmitFault → Option (List ℕ)
+submit_code (Ok ordinal) = None
+submit_code (Err fault) = refusal_code fault
+
+abbrev pub fed_code : What → Option (List ℕ)
+fed_code what.Part = None
+fed_code (what.Handshake v) = None
+fed_code what.BadMagic = None
+fed_code what.Noop = None
+fed_code what.Message = None
+fed_code what.Malformed = None
+fed_code what.Full = Some (codes "Full")
+fed_code what.Closed = None
+
+abbrev pub worked_code : Worked → Option (List ℕ)
+worked_code worked.Idle = None
+worked_code worked.Full = Some (codes "Full")
+worked_code worked.Row = None
+worked_code (worked.Wrote ordinal kind state entry) = None
+worked_code (worked.Ended cause) = None
+
+abbrev pub seen_code : Seen → Option (List ℕ)
+seen_code (Opened c) = None
+seen_code (Submitted answer) = submit_code answer
+seen_code (Fed used w) = fed_code w
+seen_code (Gave used told) = None
+seen_code (SawWork w) = worked_code w
+seen_code (SawNoop put) = None
+seen_code SawNothing = None
+
+abbrev pub code_of : Came → Option (List ℕ)
+code_of (Ok seen) = seen_code seen
+code_of (Err V1) = Some (codes "V1")
+code_of (Err V2) = Some (codes "V2")
+code_of (Err V3) = Some (codes "V3")

@@ -1,0 +1,4 @@
+pub mod Events
+pub mod Running
+pub mod Texts
+pub mod Scripts

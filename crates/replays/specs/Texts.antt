@@ -1,0 +1,45 @@
+-- What is printed of a world.
+use Rattle.std.specs.Prelude.{ℕ, suc, List, [], ◌∷◌, ◌++◌, codes, length}
+use Rattle.std.specs.List.{flat_map}
+use Rattle.std.specs.Fmt.{decimal}
+use Rattle.machine.specs.declared.Phase.{Phase}
+use Rattle.client.specs.declared.Outcome.{Outcome}
+use Rattle.engine.specs.Views.{EntryView}
+use Rattle.programs.specs.Names.{outcome_name, phase_name, state_name, cause_code}
+use Rattle.programs.specs.Telling.{heard_line}
+use Rattle.world.specs.World.{World, Connection, ledger}
+use Rattle.world.specs.Reports.{read, lost, waits, Standing, stands, has_ended, standing}
+
+abbrev pub read_line : ℕ × Phase × Outcome → List ℕ
+read_line x = heard_line x.0 (outcome_name x.2) (phase_name x.1)
+
+abbrev pub lost_line : ℕ × Outcome → List ℕ
+lost_line x = codes "lost " ++ decimal x.0 ++ codes " " ++ outcome_name x.1 ++ 10 ∷ []
+
+abbrev pub waits_line : ℕ → List ℕ
+waits_line ordinal = codes "waits " ++ decimal ordinal ++ 10 ∷ []
+
+abbrev pub standing_line : Standing → List ℕ
+standing_line (stands state) = codes "server " ++ state_name state ++ 10 ∷ []
+standing_line (has_ended cause) = codes "server ended " ++ cause_code cause ++ 10 ∷ []
+
+abbrev pub conn_line : ℕ → List ℕ
+conn_line c = codes "conn " ++ decimal c ++ 10 ∷ []
+
+-- A connection: the summaries that its client read, the outcomes at its loss, the requests that wait, and where its session stands. Of
+-- a foreign peer there are none of the first three.
+abbrev pub connection_text : ℕ → Connection → List ℕ
+connection_text c k = conn_line c ++ flat_map read_line (read k) ++ flat_map lost_line (lost k) ++ flat_map waits_line (waits k) ++ standing_line (standing k)
+
+-- connections, of which the first has this number
+unfoldable pub connections_text : ℕ → List Connection → List ℕ
+connections_text c [] = []
+connections_text c (k ∷ ks) = connection_text c k ++ connections_text (suc c) ks
+
+-- an entry of the ledger: connection, ordinal and how many writes
+abbrev pub entry_line : EntryView → List ℕ
+entry_line e = codes "entry " ++ decimal e.conn ++ codes " " ++ decimal e.ordinal ++ codes " " ++ decimal (length e.writes) ++ 10 ∷ []
+
+-- each connection in the order of opening, and then the ledger
+abbrev pub report_text : World → List ℕ
+report_text w = connections_text 0 w.conns ++ flat_map entry_line (ledger w)
