@@ -3,3 +3,5 @@ pub mod Answered
 pub mod Checkings
 pub mod CheckedOnce
 pub mod Found
+pub mod Inputs
+pub mod Served

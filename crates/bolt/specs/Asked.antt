@@ -12,17 +12,23 @@ use Rattle.bolt.specs.declared.words.CommandLine.TheVariants as words
 use Rattle.bolt.specs.declared.commands.Said.{Said}
 use Rattle.streams.specs.Fronts.{AppendsFront}
 use Rattle.bolt.specs.Commands.{SaysAnswer, SaysCheck}
+use Rattle.replays.specs.declared.replaying.Replayed.{Replayed}
+use Rattle.replays.specs.Scripts.{SaysSource}
 
 -- the bytes of a text
 abbrev pub Text : Type 0
 Text = List ℕ
 
--- What words ask for: the answer to a text, a check of a text at a version, the test vectors, a shell with a host's port, or nothing
--- that is a command. A shell is `main`'s own: it speaks to a socket.
+-- What words ask for: the answer to a text, a check of a text at a version, the replay of a file, the test vectors, a loop over a file's
+-- lines, a server of so many connections at a port, a shell with a host's port, or nothing that is a command. A loop, a server and a shell
+-- are `main`'s own: they speak to a socket.
 pub data Ask : Type 0 where
   ToAnswer : Text → Ask
   ToCheck : Version → Text → Ask
+  ToReplay : Text → Ask
   ToPass : Ask
+  ToLoop : Text → Ask
+  ToServe : ℕ → ℕ → Ask
   ToShell : Text → ℕ → Ask
   Nothing : Ask
 
@@ -42,6 +48,19 @@ port_in n = if n == 0 || nat_lt 65535 n then None else Some n
 abbrev pub port_at : Text → Option ℕ
 port_at word = option_and_then port_in (number_of word)
 
+-- the count of a word: 0 to 1,000,000
+abbrev pub count_in : ℕ → Option ℕ
+count_in n = if nat_lt 1000000 n then None else Some n
+
+abbrev pub count_at : Text → Option ℕ
+count_at word = option_and_then count_in (number_of word)
+
+-- a server, where there are such a port and such a count
+abbrev pub serve_at : Option ℕ → Option ℕ → Ask
+serve_at (Some port) (Some count) = ToServe port count
+serve_at (Some port) None = Nothing
+serve_at None count = Nothing
+
 -- a shell with a host, where there is such a port
 abbrev pub shell_at : Text → Option ℕ → Ask
 shell_at host (Some port) = ToShell host port
@@ -51,11 +70,14 @@ shell_at host None = Nothing
 abbrev pub ask_of : CommandLine → Ask
 ask_of (words.Answer hex) = ToAnswer hex.now
 ask_of (words.Check version hex) = ToCheck version hex.now
+ask_of (words.Replay file) = ToReplay file.now
+ask_of (words.Loop file) = ToLoop file.now
+ask_of (words.Serve port count) = ToServe port count
 ask_of words.Vectors = ToPass
 ask_of (words.Shell host port) = ToShell host.now port
 ask_of words.Nothing = Nothing
 
--- the words after `answer`, `check`, `vectors` and `shell`
+-- the words after `answer`, `check`, `replay`, `loop`, `serve`, `vectors` and `shell`
 abbrev pub asked_answer : List Text → Ask
 asked_answer (hex ∷ []) = ToAnswer hex
 asked_answer _ = Nothing
@@ -63,6 +85,22 @@ asked_answer _ = Nothing
 abbrev pub asked_check : List Text → Ask
 asked_check (version ∷ hex ∷ []) = check_at (version_at version) hex
 asked_check _ = Nothing
+
+abbrev pub asked_replay : List Text → Ask
+asked_replay (file ∷ []) = ToReplay file
+asked_replay _ = Nothing
+
+abbrev pub asked_loop : List Text → Ask
+asked_loop (file ∷ []) = ToLoop file
+asked_loop _ = Nothing
+
+-- a server by two words
+unfoldable pub serve_by : Text → Text → Ask
+serve_by port count = serve_at (port_at port) (count_at count)
+
+abbrev pub asked_serve : List Text → Ask
+asked_serve (port ∷ count ∷ []) = serve_by port count
+asked_serve _ = Nothing
 
 abbrev pub asked_vectors : List Text → Ask
 asked_vectors [] = ToPass
@@ -76,8 +114,11 @@ asked_shell _ = Nothing
 abbrev pub asked_by : Text → List Text → Ask
 asked_by word rest = if bytes_eq word (codes "answer") then asked_answer rest
     else (if bytes_eq word (codes "check") then asked_check rest
+    else (if bytes_eq word (codes "replay") then asked_replay rest
+    else (if bytes_eq word (codes "loop") then asked_loop rest
+    else (if bytes_eq word (codes "serve") then asked_serve rest
     else (if bytes_eq word (codes "vectors") then asked_vectors rest
-    else (if bytes_eq word (codes "shell") then asked_shell rest else Nothing)))
+    else (if bytes_eq word (codes "shell") then asked_shell rest else Nothing))))))
 
 -- the program's name and the words after it
 abbrev pub asked_plain : List Text → Ask
@@ -97,20 +138,38 @@ has_flag words = list_any is_flag (drop 1 words)
 abbrev pub asked : List Text → Ask
 asked words = if has_flag words then Nothing else asked_plain words
 
--- This is said to what was asked; to words that are `main`'s own, the same as to none.
-abbrev pub SaysTo : Ask → Said → Type 0
-SaysTo (ToAnswer hex) s = SaysAnswer hex s
-SaysTo (ToCheck version hex) s = SaysCheck version hex s
-SaysTo ToPass s = (string_bytes s.err ≡ []) × (s.status ≤ 1)
-SaysTo (ToShell host port) s = (string_bytes s.out ≡ []) × (s.status ≡ 2)
-SaysTo Nothing s = (string_bytes s.out ≡ []) × (s.status ≡ 2)
-
 -- a stream over a call: what it had taken before and has taken after, and whether it had failed, and has
 pub record Passage : Type 0 where
   pub before : Option (List ℕ)
   pub after : Option (List ℕ)
   pub had_failed : Bool
   pub has_failed : Bool
+
+-- This is said to a replay of a source, which stands for the file.
+abbrev pub SaysReplay : Passage → Said → Type 0
+SaysReplay source s = (r : Replayed) × SaysSource source.has_failed source.before source.after r × (string_bytes s.out ≡ string_bytes r.out) × (string_bytes s.err ≡ string_bytes r.err) × (s.status ≡ r.status)
+
+-- This is said to what was asked, with this source; to words that are `main`'s own, the same as to none.
+abbrev pub SaysTo : Ask → Passage → Said → Type 0
+SaysTo (ToAnswer hex) source s = SaysAnswer hex s
+SaysTo (ToCheck version hex) source s = SaysCheck version hex s
+SaysTo (ToReplay file) source s = SaysReplay source s
+SaysTo ToPass source s = (string_bytes s.err ≡ []) × (s.status ≤ 1)
+SaysTo (ToLoop file) source s = (string_bytes s.out ≡ []) × (s.status ≡ 2)
+SaysTo (ToServe port count) source s = (string_bytes s.out ≡ []) × (s.status ≡ 2)
+SaysTo (ToShell host port) source s = (string_bytes s.out ≡ []) × (s.status ≡ 2)
+SaysTo Nothing source s = (string_bytes s.out ≡ []) × (s.status ≡ 2)
+
+-- a replay alone reads its source
+abbrev pub is_replay : Ask → Bool
+is_replay (ToReplay file) = true
+is_replay (ToAnswer hex) = false
+is_replay (ToCheck version hex) = false
+is_replay ToPass = false
+is_replay (ToLoop file) = false
+is_replay (ToServe port count) = false
+is_replay (ToShell host port) = false
+is_replay Nothing = false
 
 -- What is said is put on both streams, unless they fail, and its status is answered; a stream that fails on the way makes the
 -- status 1. Where standard output fails on the way, it took a beginning, and standard error tells so.

@@ -5,3 +5,4 @@ pub mod Checks
 pub mod Commands
 pub mod Asked
 pub mod Starting
+pub mod Served

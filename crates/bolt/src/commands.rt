@@ -1,8 +1,8 @@
 //! The commands of the program, over streams.
-ghost use Rattle.std.specs.Prelude.{◌≡◌, ◌≤◌, ◌⊎◌, [], ◌∷◌, ◌++◌, codes, string_bytes, true, false, map, IfOk, IsErr};
-ghost use Rattle.std.specs.Io.KnownBytes.{Appends};
+ghost use Rattle.std.specs.Prelude.{◌≡◌, ◌≤◌, ◌⊎◌, ℕ, List, [], ◌∷◌, ◌++◌, codes, string_bytes, true, false, map, IfOk, IsErr};
+ghost use Rattle.std.specs.Io.KnownBytes.{Appends, Consumes};
 ghost use Rattle.streams.specs.Fronts.{AppendsFront};
-ghost use Rattle.bolt.specs.Asked.{Passage, SaysTo, IsPut, asked};
+ghost use Rattle.bolt.specs.Asked.{Passage, SaysReplay, SaysTo, IsPut, asked, is_replay};
 ghost use Rattle.bolt.specs.Commands.{IsBadHex, SaysAnswer, SaysCheck, SaysChecked, SaysRefused};
 
 use crate::answering::{AnswerFault, answer};
@@ -13,6 +13,7 @@ use crate::parser::matches_of;
 use crate::vectors::{passes, vectors};
 use crate::words::{CommandLine, asked};
 use clap::error::{Error, ErrorKind};
+use replays::replay;
 use std::alloc::{AllocError, Global};
 use streams::{Sink, Source, write_all};
 use wire::Version;
@@ -34,9 +35,11 @@ pub(crate) struct Said {
     pub status: u8,
 }
 
-/// Does the command that the words, after the program's name, are: `answer HEX`, `check VERSION HEX` or `vectors`.
-/// The exit status is 0; 1 for a refused value, a failed vector and a stream that failed (`fault I2`); 2 for words
-/// that are no command with just its arguments, and for bad hex (`fault I4`); 3 for want of memory (`fault I3`).
+/// Does the command that the words, after the program's name, are: `answer HEX`, `check VERSION HEX`, `replay FILE`, of which the input
+/// stands for the file, or `vectors`. To the commands that `main` does it answers as to words that are none.
+/// The exit status is 0; 1 for a refused value, a failed vector and a stream that failed (`fault I1` for the input, `fault I2` for
+/// the output); 2 for words that are no command with just its arguments, for bad hex (`fault I4`), and for a script with a line that can't be
+/// read; 3 for want of memory (`fault I3`).
 pub fn command<S: Source, O: Sink, E: Sink>(
     alloc: Global,
     words: &[String],
@@ -46,18 +49,19 @@ pub fn command<S: Source, O: Sink, E: Sink>(
 ) -> u8
     ensures status { result ≤ 3 }
     ensures failed { O.has_failed out.old ≡ true → O.has_failed out.new ≡ true }
-    // Nothing is read.
-    ensures input { input.new ≡ input.old }
+    // Nothing is read but by a replay, which reads a beginning of what the input held.
+    ensures input { is_replay (asked (map string_bytes words.now)) ≡ false → input.new ≡ input.old }
+    ensures read { (front : List ℕ) × Consumes (S.left input.old) (S.left input.new) front }
     // Want of memory puts nothing out, and says so.
     ensures memory { result ≡ 3 → (O.taken out.new ≡ O.taken out.old)
         × (E.has_failed err.new ≡ false → Appends (E.taken err.old) (E.taken err.new) (codes "fault I3" ++ 10 ∷ [])) }
     // Else what the words ask for is said, and put on the streams.
     ensures says { let output : Passage = record { before = O.taken out.old; after = O.taken out.new; had_failed = O.has_failed out.old; has_failed = O.has_failed out.new } in
         let errors : Passage = record { before = E.taken err.old; after = E.taken err.new; had_failed = E.has_failed err.old; has_failed = E.has_failed err.new } in
-        (result ≡ 3) ⊎ ((s : Said) × SaysTo (asked (map string_bytes words.now)) s × IsPut s output errors result) }
+        let source : Passage = record { before = S.left input.old; after = S.left input.new; had_failed = S.has_failed input.old; has_failed = S.has_failed input.new } in
+        (result ≡ 3) ⊎ ((s : Said) × SaysTo (asked (map string_bytes words.now)) source s × IsPut s output errors result) }
 {
-    let _ = input;
-    match say(alloc, words) {
+    match say(alloc, words, input) {
         Ok(said) => put_said(&said, out, err),
         Err(_) => put_fault(b"fault I3\n", NO_MEMORY, err),
     }
@@ -94,14 +98,20 @@ fn put_fault<E: Sink>(text: &[u8], status: u8, err: &mut E) -> u8
 }
 
 /// What the words ask for is said.
-fn say(alloc: Global, words: &[String]) -> Result<Said, AllocError>
-    ensures says { IfOk result (SaysTo (asked (map string_bytes words.now))) }
+fn say<S: Source>(alloc: Global, words: &[String], input: &mut S) -> Result<Said, AllocError>
+    ensures says { let source : Passage = record { before = S.left input.old; after = S.left input.new; had_failed = S.has_failed input.old; has_failed = S.has_failed input.new } in
+        IfOk result (SaysTo (asked (map string_bytes words.now)) source) }
     ensures status { IfOk result (λ s. s.status ≤ 2) }
+    ensures input { is_replay (asked (map string_bytes words.now)) ≡ false → input.new ≡ input.old }
+    ensures read { (front : List ℕ) × Consumes (S.left input.old) (S.left input.new) front }
 {
     match asked(words) {
         CommandLine::Answer { hex } => say_answer(alloc, hex),
         CommandLine::Check { version, hex } => say_check(alloc, version, hex),
+        CommandLine::Replay { .. } => say_replay(alloc, input),
         CommandLine::Vectors => say_vectors(alloc),
+        CommandLine::Loop { .. } => say_nothing(alloc, words),
+        CommandLine::Serve { .. } => say_nothing(alloc, words),
         CommandLine::Shell { .. } => say_nothing(alloc, words),
         CommandLine::Nothing => say_nothing(alloc, words),
     }
@@ -206,6 +216,21 @@ fn say_refused(alloc: Global, code: &str, place: usize) -> Result<Said, AllocErr
 {
     let out = format!(in alloc; "refused {code} at {place}\n")?;
     Ok(say_out(alloc, out, REFUSED))
+}
+
+/// What is said of the script that the input holds.
+fn say_replay<S: Source>(alloc: Global, input: &mut S) -> Result<Said, AllocError>
+    ensures says { let source : Passage = record { before = S.left input.old; after = S.left input.new; had_failed = S.has_failed input.old; has_failed = S.has_failed input.new } in
+        IfOk result (SaysReplay source) }
+    ensures status { IfOk result (λ s. s.status ≤ 2) }
+    ensures read { (front : List ℕ) × Consumes (S.left input.old) (S.left input.new) front }
+{
+    let said = replay(alloc, input)?;
+    Ok(Said {
+        out: said.out,
+        err: said.err,
+        status: said.status,
+    })
 }
 
 /// `pass V1` or `fail V1`, and so on.

@@ -1,19 +1,34 @@
 //! What the program does over sockets.
+ghost use Rattle.std.specs.Prelude.{◌≡◌, ◌⊎◌, ◌↔◌, true, None, string_bytes, IfOk, IfErr, OnOk, IsErrOf};
+ghost use Rattle.std.specs.Io.KnownBytes.{Appends};
+ghost use Rattle.std.specs.IoError.{error_kind};
+ghost use Rattle.scripts.specs.Rows.{request_line_of};
+ghost use Rattle.scripts.specs.Script.{filled, unreadable};
+ghost use Rattle.bolt.specs.Served.{IsServing, HasServedAll, listening_line};
 
-use programs::shell;
-use std::net::TcpStream;
-use streams::{Over, Sink, write_all};
+use engine::{FixedTable, OneUser};
+use programs::{Channel, put_fault, run_loop, serve_next, shell};
+use server::Server;
+use std::alloc::{AllocError, Global};
+use std::io::ErrorKind;
+use std::net::{TcpListener, TcpStream};
+use std::{fs, io};
+use streams::{Over, Sink, StreamFault, write_all};
 
-/// A stream that has failed.
-const FAILED: u8 = 1;
+#[cfg(test)]
+mod tests;
+
+/// The address of this machine for itself.
+const HERE: &str = "127.0.0.1";
 
 /// A client at a shell, with the server at this port of the host: `fault I1` where it can't be reached.
 pub(crate) fn shell_at(rt: &HostRuntime, host: &str, port: u16) -> u8 {
     let mut input = Over::new(rt.stdin());
     let mut out = Over::new(rt.stdout());
     let mut err = Over::new(rt.stderr());
-    let Ok(stream) = TcpStream::connect(rt, (host, port)) else {
-        return put_unreached(&mut err);
+    let stream = match TcpStream::connect(rt, (host, port)) {
+        Ok(stream) => stream,
+        Err(error) => return put_fault(unread(&error), &mut err),
     };
     let mut source = Over::new(&stream);
     let mut sink = Over::new(&stream);
@@ -27,7 +42,144 @@ pub(crate) fn shell_at(rt: &HostRuntime, host: &str, port: u16) -> u8 {
     )
 }
 
-fn put_unreached<E: Sink>(err: &mut E) -> u8 {
-    let _ = write_all(err, b"fault I1\n");
-    FAILED
+/// Serves so many connections at this port, one after the other: prints `listening PORT`, and then `conn K En` as each ends. A port that
+/// can't be had is `fault I1`.
+pub(crate) fn serve_on(rt: &HostRuntime, port: u16, count: u32) -> u8 {
+    let mut out = Over::new(rt.stdout());
+    let mut err = Over::new(rt.stderr());
+    let listener = match TcpListener::bind(rt, (HERE, port)) {
+        Ok(listener) => listener,
+        Err(error) => return put_fault(unread(&error), &mut err),
+    };
+    match serve_count(rt.alloc(), &listener, port, count, &mut out) {
+        Ok(()) => 0,
+        Err(fault) => put_fault(fault, &mut err),
+    }
+}
+
+/// The same of a listener: I1 where it gives no connection, I2 where standard output fails.
+pub(crate) fn serve_count<O: Sink>(
+    alloc: Global,
+    listener: &TcpListener,
+    port: u16,
+    count: u32,
+    out: &mut O,
+) -> Result<(), StreamFault>
+    // The port, and then the end of each connection, in the order of their numbers from 0 on.
+    ensures told { OnOk result (HasServedAll (O.taken out.old) (O.taken out.new) port count) }
+    ensures written { IsErrOf result StreamFault.WriteFailed → O.has_failed out.new ≡ true }
+{
+    let mut server = server_of(alloc)?;
+    put_listening(alloc, port, out)?;
+    for _ in 0..count {
+        let Ok((stream, _)) = listener.accept() else {
+            return Err(StreamFault::ReadFailed);
+        };
+        let mut source = Over::new(&stream);
+        let mut sink = Over::new(&stream);
+        serve_next(alloc, &mut server, &mut source, &mut sink, out)?;
+    }
+    Ok(())
+}
+
+/// A server with the one user of the program, over an empty table.
+fn server_of(alloc: Global) -> Result<Server<FixedTable, OneUser>, StreamFault>
+    ensures new { IfOk result (λ s. IsServing s 0) }
+    ensures memory { IfErr result (λ e. e ≡ StreamFault.Memory) }
+{
+    let Ok(gate) = OneUser::new(alloc, "user", "pass") else {
+        return Err(StreamFault::Memory);
+    };
+    let server = Server::new(alloc, FixedTable::new(alloc), gate);
+    Ok(server)
+}
+
+fn put_listening<O: Sink>(alloc: Global, port: u16, out: &mut O) -> Result<(), StreamFault>
+    ensures told { OnOk result (Appends (O.taken out.old) (O.taken out.new) (listening_line port)) }
+    ensures written { IsErrOf result StreamFault.WriteFailed → O.has_failed out.new ≡ true }
+{
+    let Ok(text) = listening_text(alloc, port) else {
+        return Err(StreamFault::Memory);
+    };
+    put(text.as_bytes(), out)
+}
+
+/// Writes a text.
+fn put<O: Sink>(text: &[u8], out: &mut O) -> Result<(), StreamFault>
+    ensures text { OnOk result (Appends (O.taken out.old) (O.taken out.new) text.now) }
+    ensures written { IsErrOf result StreamFault.WriteFailed → O.has_failed out.new ≡ true }
+{
+    match write_all(out, text) {
+        Ok(()) => Ok(()),
+        Err(_) => Err(StreamFault::WriteFailed),
+    }
+}
+
+fn listening_text(alloc: Global, port: u16) -> Result<String, AllocError>
+    ensures { IfOk result (λ t. string_bytes t ≡ listening_line port) }
+{
+    let text = format!(in alloc; "listening {port}\n")?;
+    Ok(text)
+}
+
+/// Runs the request lines of a file with both ends in this process, over a connection to this machine itself. A file that can't be read,
+/// and a connection that can't be had, is `fault I1`.
+pub(crate) fn loop_through(rt: &HostRuntime, file: &str) -> u8 {
+    let mut out = Over::new(rt.stdout());
+    let mut err = Over::new(rt.stderr());
+    let script = match fs::read(rt, file) {
+        Ok(script) => script,
+        Err(error) => return put_fault(unread(&error), &mut err),
+    };
+    loop_lines(rt, script.as_slice(), &mut out, &mut err)
+}
+
+/// The same of the lines themselves.
+pub(crate) fn loop_lines<O: Sink, E: Sink>(
+    rt: &HostRuntime,
+    script: &[u8],
+    out: &mut O,
+    err: &mut E,
+) -> u8
+    // 0 is only for lines that can all be read.
+    ensures readable { result ≡ 0 → unreadable request_line_of (filled script.now) ≡ None }
+{
+    let alloc = rt.alloc();
+    let (near, far) = match connected(rt) {
+        Ok(ends) => ends,
+        Err(error) => return put_fault(unread(&error), err),
+    };
+    let mut server = match server_of(alloc) {
+        Ok(server) => server,
+        Err(fault) => return put_fault(fault, err),
+    };
+    let mut near = Channel {
+        source: Over::new(&near),
+        sink: Over::new(&near),
+    };
+    let mut far = Channel {
+        source: Over::new(&far),
+        sink: Over::new(&far),
+    };
+    run_loop(alloc, &mut server, script, &mut near, &mut far, out, err)
+}
+
+/// The fault of a file that isn't read, and of a connection that isn't had: want of memory, or I1.
+pub(crate) fn unread(error: &io::Error) -> StreamFault
+    ensures memory { (result ≡ StreamFault.Memory) ↔ (error_kind error.now ≡ ErrorKind.OutOfMemory) }
+    ensures read { (result ≡ StreamFault.Memory) ⊎ (result ≡ StreamFault.ReadFailed) }
+{
+    if error.kind() == ErrorKind::OutOfMemory {
+        return StreamFault::Memory;
+    }
+    StreamFault::ReadFailed
+}
+
+/// The two ends of a connection of this machine with itself.
+fn connected(rt: &HostRuntime) -> io::Result<(TcpStream, TcpStream)> {
+    let listener = TcpListener::bind(rt, (HERE, 0))?;
+    let address = listener.local_addr()?;
+    let near = TcpStream::connect(rt, address)?;
+    let (far, _) = listener.accept()?;
+    Ok((near, far))
 }

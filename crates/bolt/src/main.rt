@@ -10,6 +10,7 @@ mod commands;
 mod connecting;
 mod end;
 mod laws;
+mod opening;
 mod parser;
 mod samples;
 mod starting;
@@ -19,7 +20,8 @@ mod vectors;
 mod words;
 
 use commands::command;
-use connecting::shell_at;
+use connecting::{loop_through, serve_on, shell_at};
+use opening::replay_file;
 use starting::{refuse, words_of};
 use std::process::ExitCode;
 use streams::Over;
@@ -31,8 +33,12 @@ fn run(rt: &HostRuntime) -> u8 {
         Ok(words) => words,
         Err(unread) => return refuse(unread, &mut err),
     };
-    if let CommandLine::Shell { host, port } = asked(words.as_slice()) {
-        return shell_at(rt, host, port);
+    match asked(words.as_slice()) {
+        CommandLine::Loop { file } => return loop_through(rt, file),
+        CommandLine::Serve { port, count } => return serve_on(rt, port, count),
+        CommandLine::Shell { host, port } => return shell_at(rt, host, port),
+        CommandLine::Replay { file } => return replay_file(rt, words.as_slice(), file),
+        _ => {}
     }
     let mut input = Over::new(rt.stdin());
     let mut out = Over::new(rt.stdout());

@@ -91,11 +91,24 @@ fn refuses_what_is_no_hex(rt: HostRuntime) {
     assert_eq!(rt; answer(rt.alloc(), "6g").err(), Some(AnswerFault::BadHex));
 }
 
-/// Runs the command on memory streams.
+/// Runs the command on memory streams, of which the input is empty.
 fn says(
     rt: &impl Abort,
     alloc: Global,
     words: &[&str],
+    out: &str,
+    err: &str,
+    status: u8,
+) -> Result<(), Fail> {
+    says_of(rt, alloc, words, &[], out, err, status)
+}
+
+/// Runs the command on memory streams.
+fn says_of(
+    rt: &impl Abort,
+    alloc: Global,
+    words: &[&str],
+    input: &[u8],
     out: &str,
     err: &str,
     status: u8,
@@ -105,7 +118,7 @@ fn says(
     for word in words {
         list.push(String::from_str(alloc, word)?)?;
     }
-    let mut input = Slice::new(&[]);
+    let mut input = Slice::new(input);
     let mut printed = Buffer::new(Vec::new(alloc));
     let mut told = Buffer::new(Vec::new(alloc));
     let answered = command(alloc, list.as_slice(), &mut input, &mut printed, &mut told);
@@ -337,5 +350,47 @@ fn refuses_other_words(rt: HostRuntime) -> Result<(), Fail> {
         status_of(rt.alloc(), &["bolt", "vectors", "01"], &mut told)?,
         2
     );
+    Ok(())
+}
+
+#[test]
+fn replays_its_input(rt: HostRuntime) -> Result<(), Fail> {
+    let alloc = rt.alloc();
+    let script = b"open 5.1\nsubmit 0 commit\nopen foreign\n";
+    let out = "line 2 C1\nconn 0\nserver Fresh\nconn 1\nserver Fresh\n";
+    says_of(&rt, alloc, &["replay", "script"], script, out, "", 0)?;
+    let told = "line 2 unreadable\n";
+    says_of(
+        &rt,
+        alloc,
+        &["replay", "script"],
+        b"open 5.1\nopen",
+        "",
+        told,
+        2,
+    )?;
+    says_of(
+        &rt,
+        alloc,
+        &["replay", "script"],
+        &[0xFF],
+        "",
+        "line 1 unreadable\n",
+        2,
+    )
+}
+
+/// What `main` does, and words that are near to it.
+#[test]
+fn leaves_sockets_to_main(rt: HostRuntime) -> Result<(), Fail> {
+    let mut told = Buffer::new(Vec::new(rt.alloc()));
+    for words in [
+        ["bolt", "serve", "7687", "1"],
+        ["bolt", "serve", "7687", "1000001"],
+        ["bolt", "shell", "localhost", "7687"],
+        ["bolt", "loop", "lines", "lines"],
+    ] {
+        assert_eq!(rt; status_of(rt.alloc(), &words, &mut told)?, 2);
+    }
     Ok(())
 }

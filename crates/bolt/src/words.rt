@@ -1,7 +1,7 @@
 //! What the words of a command line ask for.
 ghost use Rattle.std.specs.Prelude.{◌≡◌, map, string_bytes};
 ghost use Rattle.std.specs.List.{list_any};
-ghost use Rattle.bolt.specs.Asked.{ask_of, asked, asked_answer, asked_by, asked_check, asked_plain, asked_shell, asked_vectors, check_at, has_flag, is_flag, port_at, shell_at, version_at};
+ghost use Rattle.bolt.specs.Asked.{ask_of, asked, asked_answer, asked_by, asked_check, asked_loop, asked_plain, asked_replay, asked_serve, asked_shell, asked_vectors, check_at, count_at, has_flag, is_flag, port_at, serve_at, serve_by, shell_at, version_at};
 
 use scripts::number_of;
 use wire::Version;
@@ -13,6 +13,12 @@ pub(crate) enum CommandLine<'a> {
     Answer { hex: &'a str },
     /// Whether these bytes in hex are a cell of the version.
     Check { version: Version, hex: &'a str },
+    /// What a script's lines do to a world, and its report. The script is this file.
+    Replay { file: &'a str },
+    /// The request lines of this file, by both ends over a socket. `main` does it.
+    Loop { file: &'a str },
+    /// A server of so many connections at this port. `main` does it.
+    Serve { port: u16, count: u32 },
     /// The test vectors.
     Vectors,
     /// A client at a shell, with the server at this port of the host. `main` does it.
@@ -54,6 +60,15 @@ fn by_name<'a>(name: &str, arguments: &'a [String]) -> CommandLine<'a>
     if name == "check" {
         return check(arguments);
     }
+    if name == "replay" {
+        return replay(arguments);
+    }
+    if name == "loop" {
+        return looped(arguments);
+    }
+    if name == "serve" {
+        return serve(arguments);
+    }
     if name == "vectors" {
         return vectors(arguments);
     }
@@ -90,6 +105,71 @@ fn check_of<'a>(version: Option<Version>, hex: &'a str) -> CommandLine<'a>
         Some(version) => CommandLine::Check { version, hex },
         None => CommandLine::Nothing,
     }
+}
+
+/// `replay FILE`.
+fn replay<'a>(arguments: &'a [String]) -> CommandLine<'a>
+    ensures { ask_of result ≡ asked_replay (map string_bytes arguments.entry.now) }
+{
+    match arguments {
+        [file] => CommandLine::Replay {
+            file: file.as_str(),
+        },
+        _ => CommandLine::Nothing,
+    }
+}
+
+/// `loop FILE`.
+fn looped<'a>(arguments: &'a [String]) -> CommandLine<'a>
+    ensures { ask_of result ≡ asked_loop (map string_bytes arguments.entry.now) }
+{
+    match arguments {
+        [file] => CommandLine::Loop {
+            file: file.as_str(),
+        },
+        _ => CommandLine::Nothing,
+    }
+}
+
+/// `serve PORT COUNT`.
+fn serve<'a>(arguments: &'a [String]) -> CommandLine<'a>
+    ensures { ask_of result ≡ asked_serve (map string_bytes arguments.entry.now) }
+{
+    match arguments {
+        [port, count] => serve_by(port.as_str(), count.as_str()),
+        _ => CommandLine::Nothing,
+    }
+}
+
+/// A server by two words.
+#[tactic(auto, unfolding(crate::specs::Asked::serve_by))]
+fn serve_by<'a>(port: &str, count: &str) -> CommandLine<'a>
+    ensures { ask_of result ≡ serve_by port.now count.now }
+{
+    serve_of(port_of(port), count_of(count))
+}
+
+fn serve_of<'a>(port: Option<u16>, count: Option<u32>) -> CommandLine<'a>
+    ensures { ask_of result ≡ serve_at port count }
+{
+    let Some(port) = port else {
+        return CommandLine::Nothing;
+    };
+    match count {
+        Some(count) => CommandLine::Serve { port, count },
+        None => CommandLine::Nothing,
+    }
+}
+
+/// The count of a word: 0 to 1,000,000.
+fn count_of(word: &str) -> Option<u32>
+    ensures { result ≡ count_at word.now }
+{
+    let number = number_of(word)?;
+    if number > 1_000_000 {
+        return None;
+    }
+    Some(number as u32)
 }
 
 /// `vectors`.
