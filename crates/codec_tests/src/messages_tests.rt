@@ -4,7 +4,8 @@ use packstream::{PackFault, decode};
 use std::alloc::Global;
 use std::process::Abort;
 use std::test::*;
-use structures::{Cell, CellFault, Version, read};
+use structures::{Cell, CellFault, read};
+use wire::Version;
 
 /// HELLO at 4.4 of the agent `t/1`, basic, `user`, `pass`.
 const HELLO_OF_USER: &[u8] = &[

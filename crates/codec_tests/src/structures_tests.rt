@@ -4,6 +4,7 @@ use std::alloc::Global;
 use std::process::Abort;
 use std::test::*;
 use structures::*;
+use wire::Version;
 
 fn packed(rt: &(impl Abort + AllocGlobal), input: &[u8]) -> Result<Packed, Fail> {
     match decode(rt.alloc(), input) {

@@ -9,6 +9,8 @@ mod loss_tests;
 #[cfg(test)]
 mod programs_tests;
 #[cfg(test)]
+mod replays_tests;
+#[cfg(test)]
 mod scripts_tests;
 #[cfg(test)]
 mod serving_tests;

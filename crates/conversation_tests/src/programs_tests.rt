@@ -1,7 +1,16 @@
+ghost use Rattle.std.specs.Prelude.{IfOk};
+ghost use Rattle.engine.specs.Kept.{ledger_of};
+ghost use Rattle.programs.specs.Serving.{IsVacant};
+
+use engine::{FixedTable, OneUser};
 use programs::*;
+use server::{Cause, Server};
+use std::alloc::Global;
+use std::io::{Read, Write};
+use std::net::{Shutdown, TcpListener, TcpStream};
 use std::process::Abort;
 use std::test::*;
-use streams::{Buffer, Failed, Slice, Source};
+use streams::{Buffer, Failed, Over, Slice, Source, StreamFault, serve_one};
 
 /// What a server at 5.1 answers to the handshake, a HELLO, a LOGON, a RUN, two PULLs and a RUN of an unknown text.
 const ANSWERS: &[&[u8]] = &[
@@ -111,4 +120,152 @@ fn shell_prints_what_is_heard(rt: HostRuntime) {
 fn shell_tells_a_failed_stream(rt: HostRuntime) {
     prints(&rt, LINES, 0, "", "fault I1\n", 1);
     prints(&rt, LINES, 2, "heard 0 Done Unauth\n", "fault I1\n", 1);
+}
+
+/// A server with the user of the scripts, over an empty table.
+fn served(alloc: Global) -> Result<Server<FixedTable, OneUser>, Fail>
+    ensures { IfOk result (λ s. IsVacant ledger_of s) }
+{
+    let gate = OneUser::new(alloc, "user", "pass")?;
+    let server = Server::new(alloc, FixedTable::new(alloc), gate);
+    Ok(server)
+}
+
+/// The two ends of a connection of this machine with itself.
+fn connected(rt: &HostRuntime) -> Result<(TcpStream, TcpStream), Fail> {
+    let listener = TcpListener::bind(rt, ("127.0.0.1", 0))?;
+    let near = TcpStream::connect(rt, listener.local_addr()?)?;
+    let (far, _) = listener.accept()?;
+    Ok((near, far))
+}
+
+/// What a loop did: its exit status, and what it printed.
+#[derive(Drop)]
+struct Looped {
+    status: u8,
+    out: Buffer,
+    err: Buffer,
+}
+
+/// Runs a loop over these lines, through sockets.
+fn loop_over_sockets(rt: &HostRuntime, lines: &[u8]) -> Result<Looped, Fail> {
+    let (near, far) = connected(rt)?;
+    let mut near = Channel {
+        source: Over::new(&near),
+        sink: Over::new(&near),
+    };
+    let mut far = Channel {
+        source: Over::new(&far),
+        sink: Over::new(&far),
+    };
+    let mut server = served(rt.alloc())?;
+    let mut out = Buffer::new(Vec::new(rt.alloc()));
+    let mut err = Buffer::new(Vec::new(rt.alloc()));
+    let status = run_loop(
+        rt.alloc(),
+        &mut server,
+        lines,
+        &mut near,
+        &mut far,
+        &mut out,
+        &mut err,
+    );
+    Ok(Looped { status, out, err })
+}
+
+/// A loop printed this, and its status is this.
+fn assert_looped(rt: &impl Abort, looped: &Looped, out_wanted: &str, err_wanted: &str, status: u8) {
+    assert_eq!(rt; looped.status, status);
+    assert_eq!(rt; looped.out.bytes(), out_wanted.as_bytes());
+    assert_eq!(rt; looped.err.bytes(), err_wanted.as_bytes());
+}
+
+#[test]
+fn loop_prints_what_both_ends_do(rt: HostRuntime) -> Result<(), Fail> {
+    let done = loop_over_sockets(&rt, b"hello\nlogon\nrun ROWS A1816E03\npull 2\npull 2\n")?;
+    let printed =
+        "heard 0 Done Unauth\nheard 1 Done Ready\nheard 2 Done Streaming\nrow 9101\nrow 9102\nheard 3 Done Streaming\nrow 9103\nheard 4 Committed Ready\nentry 0 4 0\n";
+    assert_looped(&rt, &done, printed, "", 0);
+    // Further lines after a goodbye.
+    let parted = loop_over_sockets(&rt, b"hello\ngoodbye\nreset\n\npull 1")?;
+    let printed = "heard 0 Done Unauth\nline 3 C1\nline 5 C1\n";
+    assert_looped(&rt, &parted, printed, "", 0);
+    // Nothing is run.
+    let unread = loop_over_sockets(&rt, b"hello\n\nnothing\n")?;
+    assert_looped(&rt, &unread, "", "line 3 unreadable\n", 2);
+    Ok(())
+}
+
+/// What a client at 4.4 sends: a handshake, and a GOODBYE.
+const FAREWELL: &[u8] = &[
+    0x60, 0x60, 0xB0, 0x17, 0, 0, 4, 4, 0, 0, 0, 0, 0, 0, 0, 0, 0, 0, 0, 0, 0, 2, 0xB0, 0x02, 0, 0,
+];
+
+/// A source that gives nothing and fails.
+#[derive(Drop)]
+struct Broken {
+    failed: bool,
+}
+
+impl Source for Broken {
+    ghost use Rattle.std.specs.Prelude.{None};
+
+    ghost left = { λ _. None };
+
+    ghost has_failed = { λ s. s.failed };
+
+    ghost reads = { λ _. 0 };
+
+    fn read(&mut self, _buffer: &mut [u8]) -> Result<usize, Failed> {
+        self.failed = true;
+        Err(Failed)
+    }
+}
+
+#[test]
+fn serves_one_after_another(rt: HostRuntime) -> Result<(), Fail> {
+    let mut server = served(rt.alloc())?;
+    let mut sink = Buffer::new(Vec::new(rt.alloc()));
+    let mut out = Buffer::new(Vec::new(rt.alloc()));
+    let mut broken = Broken { failed: false };
+    let lost = serve_next(rt.alloc(), &mut server, &mut broken, &mut sink, &mut out);
+    assert_eq!(rt; lost, Ok(Cause::Lost));
+    assert_eq!(rt; sink.bytes().len(), 0);
+    let mut source = Slice::new(FAREWELL);
+    let ended = serve_next(rt.alloc(), &mut server, &mut source, &mut sink, &mut out);
+    assert_eq!(rt; ended, Ok(Cause::Goodbye));
+    assert_eq!(rt; sink.bytes(), [0, 0, 4, 4].as_slice());
+    assert_eq!(rt; out.bytes(), b"conn 0 E8\nconn 1 E7\n".as_slice());
+    Ok(())
+}
+
+#[test]
+fn serves_a_socket(rt: HostRuntime) -> Result<(), Fail> {
+    let (near, far) = connected(&rt)?;
+    (&near).write_all(FAREWELL)?;
+    near.shutdown(Shutdown::Write)?;
+    let mut server = served(rt.alloc())?;
+    let conn = server.open()?;
+    let mut source = Over::new(&far);
+    let mut sink = Over::new(&far);
+    let ended = serve_one(rt.alloc(), &mut server, conn, &mut source, &mut sink);
+    assert_eq!(rt; ended, Ok(Cause::Goodbye));
+    far.shutdown(Shutdown::Write)?;
+    let mut answer = Vec::new(rt.alloc());
+    (&near).read_to_end(&mut answer)?;
+    assert_eq!(rt; answer.as_slice(), [0, 0, 4, 4].as_slice());
+    Ok(())
+}
+
+#[test]
+fn tells_a_fault(rt: HostRuntime) {
+    for (fault, text, status) in [
+        (StreamFault::ReadFailed, "fault I1\n", 1),
+        (StreamFault::WriteFailed, "fault I2\n", 1),
+        (StreamFault::Memory, "fault I3\n", 3),
+    ] {
+        let mut err = Buffer::new(Vec::new(rt.alloc()));
+        assert_eq!(rt; put_fault(fault, &mut err), status);
+        assert_eq!(rt; err.bytes(), text.as_bytes());
+    }
 }

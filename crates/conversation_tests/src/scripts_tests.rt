@@ -1,7 +1,8 @@
-use messages::{Request, Version};
+use messages::Request;
 use scripts::*;
 use std::alloc::{AllocError, Global};
 use std::test::*;
+use wire::Version;
 
 /// Lines of a world, and what they say.
 const LINES: &[(&[u8], &str)] = &[

@@ -1,12 +1,12 @@
 use bytes::BytesMut;
 use client::*;
 use machine::Phase;
-use messages::{Auth, Count, Mode, MsgFault, Request, Version};
+use messages::{Auth, Count, Mode, MsgFault, Request};
 use std::alloc::{AllocError, Global};
 use std::process::Abort;
 use std::test::*;
 use structures::Cell;
-use wire::{Wish, put_message};
+use wire::{Version, Wish, put_message};
 
 const SUCCESS: &[u8] = &[0xB1, 0x70, 0xA0];
 

@@ -1,8 +1,8 @@
 use client::*;
-use messages::{Auth, Mode, Request, Version};
+use messages::{Auth, Mode, Request};
 use std::alloc::{AllocError, Global};
 use std::test::*;
-use wire::Wish;
+use wire::{Version, Wish};
 
 /// What a caller does about a request.
 #[derive(Clone, Copy, Debug, PartialEq, Eq)]

@@ -1,3 +1,4 @@
+use engine::laws::{commit_and_get, commit_and_run};
 use engine::*;
 use indexmap::IndexMap;
 use std::alloc::{AllocError, Global};

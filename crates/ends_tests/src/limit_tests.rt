@@ -201,8 +201,8 @@ fn waits_for_room(rt: HostRuntime) -> Result<(), Fail> {
 
 #[test]
 fn laws_hold_at_the_fixed_table() {
-    server::keeps_limits::<FixedTable, OneUser>();
-    server::leaves_others::<FixedTable, OneUser>();
-    server::grows_by_commits::<FixedTable, OneUser>();
-    server::places_follow_bytes::<FixedTable, OneUser>();
+    server::laws::keeps_limits::<FixedTable, OneUser>();
+    server::laws::leaves_others::<FixedTable, OneUser>();
+    server::laws::grows_by_commits::<FixedTable, OneUser>();
+    server::laws::places_follow_bytes::<FixedTable, OneUser>();
 }

@@ -1,0 +1,168 @@
+//! Calls and paths that take no memory, given where there is none. Those that have no answer for want of it need no look.
+
+use crate::hunger::Hunger;
+use crate::spelling::{SPELLED, decoded};
+use client::SubmitFault;
+use engine::Engine;
+use hostile::{Play, Table, Unplayed, asking, server};
+use machine::State;
+use messages::{Mode, Request};
+use packstream::{Packed, size};
+use server::{Cause, Took, What, Worked};
+use std::alloc::Global;
+use wire::{Dechunk, Version, WireFault, Wish};
+use world::{Event, Peer, Refused, Seen};
+
+/// A handshake for 5.1.
+const OFFER: &[u8] = &[
+    0x60, 0x60, 0xB0, 0x17, 0, 0, 1, 5, 0, 0, 4, 4, 0, 0, 0, 0, 0, 0, 0, 0,
+];
+
+const RESET: &[u8] = &[0, 2, 0xB0, 0x0F, 0, 0];
+
+/// A server with a session of 32 requests that wait, one that has ended, and one at which nothing waits.
+fn three(alloc: Global) -> Result<Table, Unplayed> {
+    let mut server = server(alloc)?;
+    let (full, ended, idle) = (server.open()?, server.open()?, server.open()?);
+    server.feed(full, OFFER)?;
+    for _place in 0..32 {
+        server.feed(full, RESET)?;
+    }
+    server.feed(ended, &[0; 20])?;
+    server.feed(idle, OFFER)?;
+    Ok(server)
+}
+
+fn is_took(took: Result<Took, server::Refused>, what: What) -> bool {
+    matches!(took, Ok(took) if took.used == 0 && took.what == what)
+}
+
+/// What sessions answer without memory.
+fn sessions_answer(server: &mut Table) -> bool {
+    let is_fed = is_took(server.feed(0, RESET), What::Full)
+        && is_took(server.feed(1, RESET), What::Closed);
+    let is_worked = server.work(1) == Ok(Worked::Ended(Cause::BadMagic))
+        && server.work(2) == Ok(Worked::Idle);
+    let is_put = server.noop(1) == Ok(false);
+    let stands = server.state(0) == Some(State::Fresh) && server.cause(1) == Some(Cause::BadMagic);
+    let is_empty = server.engine().ledger().is_empty();
+    let lost = (server.lost(0), server.lost(1), server.lost(7));
+    is_fed
+        && is_worked
+        && is_put
+        && stands
+        && is_empty
+        && lost == (Some(Cause::Lost), Some(Cause::BadMagic), None)
+}
+
+pub fn sessions(alloc: Global) -> Result<bool, Unplayed> {
+    let mut server = three(alloc)?;
+    let mut hunger = Hunger::new(alloc)?;
+    hunger.starve();
+    let held = sessions_answer(&mut server);
+    hunger.feast();
+    Ok(held)
+}
+
+/// A client refuses what isn't allowed, what is too much, and all when it has ended.
+pub fn clients(alloc: Global) -> Result<bool, Unplayed> {
+    let mut client = asking(alloc)?;
+    let mut many = asking(alloc)?;
+    for _place in 8..32 {
+        many.submit(Request::Reset)?;
+    }
+    let mut hunger = Hunger::new(alloc)?;
+    hunger.starve();
+    let refused = client.submit(Request::Commit);
+    let past = many.submit(Request::Reset);
+    let losses = client.lost();
+    let closed = client.submit(Request::Begin(Mode::Read));
+    hunger.feast();
+    Ok(
+        matches!(refused, Err(SubmitFault::NotAllowed))
+            && matches!(past, Err(SubmitFault::PipelineFull))
+            && losses.as_slice().len() == 8
+            && matches!(closed, Err(SubmitFault::Closed)),
+    )
+}
+
+/// Past its limit, a message is refused again and again.
+pub fn chunks(alloc: Global) -> Result<bool, Unplayed> {
+    let mut chunks = Dechunk::new(alloc);
+    let _ = chunks.feed(&[0xFF, 0xFF]);
+    for _part in 0..65535 / 5 {
+        let _ = chunks.feed(&[0; 5]);
+    }
+    let _ = chunks.feed(&[0, 2]);
+    let mut hunger = Hunger::new(alloc)?;
+    hunger.starve();
+    let again = chunks.feed(&[0, 2, 1]);
+    hunger.feast();
+    Ok(matches!(again, Err(WireFault::TooBig { .. })))
+}
+
+/// Checking a value and asking for its size.
+pub fn spellings(alloc: Global) -> Result<bool, Unplayed> {
+    let good = decoded(alloc)?.into_value();
+    let mut hunger = Hunger::new(alloc)?;
+    hunger.starve();
+    let packed = Packed::new(good);
+    let length = match &packed {
+        Ok(packed) => size(packed),
+        Err(_) => 0,
+    };
+    hunger.feast();
+    Ok(length == SPELLED.len())
+}
+
+/// What a world answers to an event where there is no memory, and whether its report stands as it was.
+fn stepped(hunger: &mut Hunger, play: &mut Play, event: Event) -> (Result<Seen, Refused>, bool) {
+    hunger.starve();
+    let before = play.digest();
+    let seen = play.world.step(event);
+    let is_same = play.digest() == before;
+    hunger.feast();
+    (seen, is_same)
+}
+
+fn opened(alloc: Global) -> Result<Play, Unplayed> {
+    let mut play = Play::new(alloc)?;
+    let _ = play.give(&Event::Open(Peer::Ours(Wish::Only(Version::V51))))?;
+    for _place in 1..16 {
+        let _ = play.give(&Event::Open(Peer::Foreign))?;
+    }
+    Ok(play)
+}
+
+fn is_refused(hunger: &mut Hunger, play: &mut Play, event: Event, fault: Refused) -> bool {
+    let (seen, is_same) = stepped(hunger, play, event);
+    is_same && matches!(seen, Err(other) if other == fault)
+}
+
+fn is_nothing(hunger: &mut Hunger, play: &mut Play, event: Event) -> bool {
+    let (seen, _) = stepped(hunger, play, event);
+    matches!(seen, Ok(Seen::Nothing))
+}
+
+/// Events that are refused but for want of memory, a cut and a client's loss.
+pub fn worlds(alloc: Global) -> Result<bool, Unplayed> {
+    let mut play = opened(alloc)?;
+    let mut hunger = Hunger::new(alloc)?;
+    let refused = [
+        (Event::Open(Peer::Foreign), Refused::SessionsFull),
+        (Event::Work(16), Refused::NoSuchConnection),
+        (Event::Foreign(0, Vec::new(alloc)), Refused::WrongPeer),
+        (Event::Submit(1, Request::Reset), Refused::WrongPeer),
+        (Event::ToServer(2, 7), Refused::WrongPeer),
+        (Event::ClientLost(3), Refused::WrongPeer),
+    ];
+    for (event, fault) in refused {
+        if !is_refused(&mut hunger, &mut play, event, fault) {
+            return Ok(false);
+        }
+    }
+    Ok(
+        is_nothing(&mut hunger, &mut play, Event::Cut(1))
+            && is_nothing(&mut hunger, &mut play, Event::ClientLost(0)),
+    )
+}
