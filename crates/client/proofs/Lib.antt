@@ -1,7 +1,8 @@
 pub mod Judging
 pub mod Waiting
-pub mod Foreseeing
+pub mod Parts
 pub mod Taking
+pub mod Values
 pub mod Pieces
 pub mod Steps
 pub mod Later

@@ -9,8 +9,8 @@ use Rattle.messages.specs.Arrivals.{Heard as AnyHeard}
 use Rattle.client.specs.declared.heard.Heard.{Heard}
 use Rattle.client.specs.declared.faults.ClientFault.{ClientFault}
 use Rattle.client.specs.declared.faults.ClientFault.TheVariants as client_fault
-use Rattle.client.specs.Rest.{Rest, Knows, Hearing, Note, note_of, heard_as, hears_item, fed_heard, fed_item, fed_open, fed}
-use Rattle.client.specs.Notes.{note, noted}
+use Rattle.client.specs.Rest.{Rest, Knows, Hearing, Note, note_of, heard_as, hears_item, Fed, fed_heard, fed_item, fed_open, feed_of}
+use Rattle.client.specs.Notes.{note, note_result}
 use Rattle.client.specs.Fits.{UnlessMemory}
 use Rattle.client.specs.Hearings.{plain, came_in, Hears, Feeds}
 
@@ -37,27 +37,29 @@ err_note : (used : ℕ) (e : ClientFault) (m : Note) (b : Bool) → ◌≡◌ {A
 err_note used e m true h = (cc, refl)
 err_note used e m false h = absurd cc
 
-module _ (r : Rest) (m : Took Opened Item) (x : AnyHeard) (came : x ≡ came_in r.knows.version m.item) (knows : Knows) (item : Opened) (kept : item ≡ m.rest) where
+-- Now says where the client may stand.
+module _ (r : Rest) (m : Took Opened Item) (x : AnyHeard) (came : x ≡ came_in r.knows.version m.item) (Now : Rest → Type 0) (knows : Knows) (stands : (k : Knows) → knows ≡ k → Now (record r { item = m.rest; knows = k })) where
   abbrev heard : Hearing
   heard = hears_item r.wish r.knows x
-
-  abbrev after : Rest
-  after = record r { item = item; knows = knows }
-
-  same_rest : knows ≡ heard.knows → after ≡ record r { item = m.rest; knows = heard.knows }
-  same_rest e = ap (λ i. record r { item = i; knows = knows }) kept ∙ ap (λ z. record r { item = m.rest; knows = z }) e
 
   by_heard : fed_open r m ≡ fed_heard (record r { item = m.rest }) m.used x heard
   by_heard = fed_came (record r { item = m.rest }) m.used m.item ∙ ap (λ y. fed_heard (record r { item = m.rest }) m.used y (hears_item r.wish r.knows y)) (sym came)
 
-  pub heard_feeds : (used : ℕ) (told : Heard) → used ≡ m.used → Hears heard x (Ok told) knows → Feeds r (fed_open r m) (Ok (used, told)) after
-  heard_feeds used told u k =
-      (ap (λ n. Ok (n, note told)) u ∙ ok_note m.used (note told) (note_of x heard) heard.bad k.0 ∙ sym (ap (λ f. f.answer) by_heard), same_rest k.1 ∙ sym (ap (λ f. f.rest) by_heard))
+  there : knows ≡ heard.knows → Now (fed_open r m).rest
+  there e = subst (λ (f : Fed). Now f.rest) (sym by_heard) (stands heard.knows e)
 
-  pub refused_feeds : (e : ClientFault) → Hears heard x (Err e) knows → Feeds r (fed_open r m) (Err e) after
+  pub heard_feeds : (used : ℕ) (told : Heard) → used ≡ m.used → Hears heard x (Ok told) knows → Feeds Now r (fed_open r m) (Ok (used, told))
+  heard_feeds used told u k = (ap (λ n. Ok (n, note told)) u ∙ ok_note m.used (note told) (note_of x heard) heard.bad k.0 ∙ sym (ap (λ f. f.answer) by_heard), there k.1)
+
+  pub refused_feeds : (e : ClientFault) → Hears heard x (Err e) knows → Feeds Now r (fed_open r m) (Err e)
   refused_feeds e k =
       let bad = err_note m.used e (note_of x heard) heard.bad k.0 in
-      subst (λ z. Feeds r (fed_open r m) (Err z) after) (sym bad.0) (bad.1 ∙ sym (ap (λ f. f.answer) by_heard), same_rest k.1 ∙ sym (ap (λ f. f.rest) by_heard))
+      subst (λ z. Feeds Now r (fed_open r m) (Err z)) (sym bad.0) (bad.1 ∙ sym (ap (λ f. f.answer) by_heard), there k.1)
+
+-- what is heard, by what a rest has of the client
+pub hears_by : (wish other : Wish) (k l : Knows) (x : AnyHeard) (result : Result Heard ClientFault) (knows : Knows) → wish ≡ other → k ≡ l → Hears (hears_item wish k x) x result knows → Hears (hears_item other l x) x result knows
+hears_by wish other k l x result knows same known h =
+    subst (λ (w : Wish). Hears (hears_item w l x) x result knows) same (subst (λ (z : Knows). Hears (hears_item wish z x) x result knows) known h)
 
 -- a message past the limit ends the client
 pub spoils_going : (wish : Wish) (k : Knows) (x : AnyHeard) (big : Bool) → (big ≡ true → x ≡ AnyHeard.Strange) → (hears_item wish k x).knows.over ≡ false → big ≡ false
@@ -65,31 +67,24 @@ spoils_going wish k x false h o = refl
 spoils_going wish k x true h o = let e = ap (λ y. (hears_item wish k y).knows.over) (h refl) in absurd cc
 
 -- for every rest that the client fitted
-same_open : (r : Rest) (piece : List ℕ) → r.knows.over ≡ false → fed r piece ≡ fed_open r (takes at_client r.item piece)
+same_open : (r : Rest) (piece : List ℕ) → r.knows.over ≡ false → feed_of r piece ≡ fed_open r (takes at_client r.item piece)
 same_open r piece o = rw o refl
 
-pub feeds_rests : (old new : Rest) (piece : List ℕ) (result : Result (ℕ × Heard) ClientFault) → old.knows.over ≡ false → Feeds old (fed_open old (takes at_client old.item piece)) result new
-    → (r : Rest) → old ≡ r → UnlessMemory result ((noted result ≡ (fed r piece).answer) × (new ≡ (fed r piece).rest))
-feeds_rests old new piece result o h r e = subst (λ z. UnlessMemory result ((noted result ≡ (fed z piece).answer) × (new ≡ (fed z piece).rest))) e (go result h)
+pub feeds_rests : (r : Rest) (piece : List ℕ) (result : Result (ℕ × Heard) ClientFault) (Now : Rest → Type 0) → r.knows.over ≡ false → Feeds Now r (fed_open r (takes at_client r.item piece)) result
+    → UnlessMemory result ((note_result result ≡ (feed_of r piece).answer) × Now (feed_of r piece).rest)
+feeds_rests r piece result Now o h = subst (λ (f : Fed). UnlessMemory result ((note_result result ≡ f.answer) × Now f.rest)) (sym (same_open r piece o)) (go result h)
   where
-    f : fed old piece ≡ fed_open old (takes at_client old.item piece)
-    f = same_open old piece o
-
-    go : (x : Result (ℕ × Heard) ClientFault) → Feeds old (fed_open old (takes at_client old.item piece)) x new → UnlessMemory x ((noted x ≡ (fed old piece).answer) × (new ≡ (fed old piece).rest))
-    go (Ok used) k = (k.0 ∙ sym (ap (λ z. z.answer) f), k.1 ∙ sym (ap (λ z. z.rest) f))
-    go (Err client_fault.Closed) k = (k.0 ∙ sym (ap (λ z. z.answer) f), k.1 ∙ sym (ap (λ z. z.rest) f))
-    go (Err client_fault.BadPeer) k = (k.0 ∙ sym (ap (λ z. z.answer) f), k.1 ∙ sym (ap (λ z. z.rest) f))
+    go : (x : Result (ℕ × Heard) ClientFault) → Feeds Now r (fed_open r (takes at_client r.item piece)) x → UnlessMemory x ((note_result x ≡ (fed_open r (takes at_client r.item piece)).answer) × Now (fed_open r (takes at_client r.item piece)).rest)
+    go (Ok used) k = k
+    go (Err client_fault.Closed) k = k
+    go (Err client_fault.BadPeer) k = k
     go (Err client_fault.Memory) k = tt
 
-pub keeps_rests : (old new : Rest) (piece : List ℕ) (result : Result (ℕ × Heard) ClientFault) → old.knows.over ≡ false → Feeds old (fed_open old (takes at_client old.item piece)) result new
-    → (r : Rest) → old ≡ r → IsErrOf result client_fault.Memory → (new ≡ r) × (r.knows.over ≡ false)
-keeps_rests old new piece result o h r e = go result h
-  where
-    go : (x : Result (ℕ × Heard) ClientFault) → Feeds old (fed_open old (takes at_client old.item piece)) x new → IsErrOf x client_fault.Memory → (new ≡ r) × (r.knows.over ≡ false)
-    go (Ok used) k m = absurd cc
-    go (Err client_fault.Closed) k m = absurd cc
-    go (Err client_fault.BadPeer) k m = absurd cc
-    go (Err client_fault.Memory) k m = (k ∙ e, sym (ap (λ z. z.knows.over) e) ∙ o)
+pub keeps_rests : (r : Rest) (f : Fed) (result : Result (ℕ × Heard) ClientFault) (Now : Rest → Type 0) → Feeds Now r f result → IsErrOf result client_fault.Memory → Now r
+keeps_rests r f (Ok used) Now h m = absurd cc
+keeps_rests r f (Err client_fault.Closed) Now h m = absurd cc
+keeps_rests r f (Err client_fault.BadPeer) Now h m = absurd cc
+keeps_rests r f (Err client_fault.Memory) Now h m = h
 
 -- how many bytes are used: some, where there are any, and no more than there are
 some_used : (s : Opened) (piece : List ℕ) → 0 < length piece → 0 < (takes at_client s piece).used
@@ -112,9 +107,9 @@ item_used : (r : Rest) (used n : ℕ) (m : Note) (o : Option Item) → Ok (used,
 item_used r used n m None h = ap used_in h
 item_used r used n m (Some x) h = told_used used n m _ (hears_item r.wish r.knows (heard_as r.knows.version x)).bad h
 
-pub piece_used : (r : Rest) (piece : List ℕ) (result : Result (ℕ × Heard) ClientFault) (new : Rest) → Feeds r (fed_open r (takes at_client r.item piece)) result new → IfOk result (λ t. t.0 ≤ length piece) × (0 < length piece → IfOk result (λ t. 0 < t.0))
-piece_used r piece (Err e) new h = (tt, λ some. tt)
-piece_used r piece (Ok t) new h =
+pub piece_used : (r : Rest) (piece : List ℕ) (result : Result (ℕ × Heard) ClientFault) (Now : Rest → Type 0) → Feeds Now r (fed_open r (takes at_client r.item piece)) result → IfOk result (λ t. t.0 ≤ length piece) × (0 < length piece → IfOk result (λ t. 0 < t.0))
+piece_used r piece (Err e) Now h = (tt, λ some. tt)
+piece_used r piece (Ok t) Now h =
     let took = takes at_client r.item piece in
     let same : t.0 ≡ took.used = item_used (record r { item = took.rest }) t.0 took.used (note t.1) took.item h.0 in
     let most = (reads_pieces Opened Item at_client).within r.item piece in

@@ -1,29 +1,35 @@
 -- What a client takes of a piece: the answer to its offer, then chunks.
-use Rattle.std.proofs.Common.{◌≡◌, refl, sym, ◌∙◌, ap, ℕ, zero, suc, ◌+◌, ◌-◌, ◌<◌, ◌≤◌, min, Bool, true, false, eqb, Option, Some, None, Ok, Err, List, [], ◌∷◌, ◌++◌, length, take, arith, append_assoc, append-nil, length-append}
-use Rattle.std.specs.Prelude.{nat_lt, is_err, if◌then◌else◌}
+use Rattle.std.proofs.Common.{◌≡◌, refl, sym, ◌∙◌, ap, subst, inl, inr, ℕ, zero, suc, ◌+◌, ◌-◌, ◌<◌, ◌≤◌, min, Bool, true, false, eqb, Option, Some, None, Err, List, [], ◌∷◌, ◌++◌, length, take, arith, append_assoc, append-nil, length-append}
+use Rattle.std.specs.Prelude.{◌⊎◌, if◌then◌else◌}
 use Rattle.std.specs.Str.{bytes_eq}
+use Rattle.std.proofs.Math.Logic.{∥∥₁_map}
 use Rattle.std.proofs.lemmas.List.{take_all}
+use Rattle.std.proofs.lemmas.Bool.{cases_lt}
 use Rattle.std.proofs.lemmas.Bool.Decides.{nat_tests}
 use Rattle.wire.specs.declared.Version.{Version}
 use Rattle.wire.specs.declared.Version.TheVariants.{V44, V51}
-use Rattle.wire.specs.declared.Fed.{Fed}
-use Rattle.wire.specs.declared.WireFault.TheVariants as fault
 use Rattle.wire.specs.Offers.{version_answer}
-use Rattle.wire.specs.Unfinished.{Unfinished, fresh}
-use Rattle.wire.specs.declared.Piece.{Piece}
-use Rattle.wire.specs.declared.Piece.TheVariants as piece
-use Rattle.wire.specs.Items.{answer_to, answer_from}
+use Rattle.wire.specs.declared.WireFault.TheVariants as fault
+use Rattle.wire.specs.Place.{Place, start}
+use Rattle.wire.specs.Unfinished.{Unfinished, fresh, unfinished_at}
+use Rattle.wire.specs.Items.{Answered, answer_to, answer_from}
+use Rattle.wire.specs.Scanning.{Holds}
 use Rattle.wire.specs.Reader.{Took, takes, one_more, ends_at}
-use Rattle.wire.specs.Framing.{Item, Opening as Opens, chunks, Opened, opening, reading, at_client, item_in, took_by}
+use Rattle.wire.specs.Framing.{Item, Opening as Opens, chunks, Opened, opening, reading, at_client, took_by}
 use Rattle.wire.proofs.Framed.{answers_take}
-use Rattle.wire.proofs.Limits.{tells_too_big}
-use Rattle.messages.specs.Arrivals.{Heard, Chosen, Strange, Quiet, heard_version}
+use Rattle.reader.specs.Piecewise.{Point, Points, Reads, fresh as nothing_held}
+use Rattle.messages.specs.Arrivals.{Heard, Chosen, Strange, heard_version}
 use Rattle.client.specs.declared.opening.Opening.{Opening}
 use Rattle.client.specs.declared.feeding.Came.{Came}
 use Rattle.client.specs.declared.feeding.Came.TheVariants as came
-use Rattle.client.specs.Ahead.{is_message, ends_message}
+use Rattle.client.specs.declared.feeding.Taken.{Taken}
+use Rattle.client.specs.declared.items.End.{End}
+use Rattle.client.specs.declared.items.End.TheVariants as end
+use Rattle.client.specs.declared.items.Bite.{Bite}
 use Rattle.client.specs.Answers.{held_bytes}
-use Rattle.client.specs.Fits.{item_kept}
+use Rattle.client.specs.Held.{IsItem}
+use Rattle.client.specs.Rest.{heard_message}
+use Rattle.client.specs.Taking.{EndsAs, TakesItem}
 use Rattle.client.specs.Hearings.{plain, came_in, came_as, TakesPiece}
 
 -- of a stream that is opened: as of its chunks
@@ -69,69 +75,166 @@ plain_by false false false = refl
 plain_version : (bytes : List ℕ) → plain (heard_version bytes) ≡ heard_version bytes
 plain_version bytes = plain_by (bytes_eq bytes (version_answer (Some V51))) (bytes_eq bytes (version_answer (Some V44))) (bytes_eq bytes (version_answer None))
 
-kept_part : (o : Opening) (u : Unfinished) → o.len < 4 → item_kept o u ≡ opening (held_bytes o)
-kept_part o u l = let yes : nat_lt o.len 4 ≡ true = grind (arith, nat_tests) in rw yes refl
+module _ (v : Option Version) (old new : Opening) (place : Place) (p : Point) (bytes piece : List ℕ) (used : ℕ) (item : IsItem old place p (opening bytes)) (holds : length (held_bytes old) ≡ old.len) (takes_most : used ≡ min (4 - old.len) (length piece)) (longer : new.len ≡ old.len + used) (holds_more : held_bytes new ≡ held_bytes old ++ take used piece) where
+  not_past : place.too_big ≡ true → ⊥
+  not_past h = cc (ap (λ (s : Place). s.too_big) item.0.2)
 
-kept_whole : (o : Opening) (u : Unfinished) → 4 ≤ o.len → item_kept o u ≡ reading u
-kept_whole o u l = let no : nat_lt o.len 4 ≡ false = grind (arith, nat_tests) in rw no refl
-
-module _ (v : Option Version) (old new : Opening) (u w : Unfinished) (piece : List ℕ) (used : ℕ) where
-  module _ (holds : length (held_bytes old) ≡ old.len) (part : old.len < 4) (takes_most : used ≡ min (4 - old.len) (length piece)) (longer : new.len ≡ old.len + used) (holds_more : held_bytes new ≡ held_bytes old ++ take used piece) (begins : w ≡ fresh) where
-    pub answer_goes_on : new.len < 4 → TakesPiece v (takes at_client (item_kept old u) piece) (record { used = used; came = came.Nothing }) new w
-    answer_goes_on l =
-        let all : used ≡ length piece = omega arith in
-        let m = ap (λ i. takes at_client i piece) (kept_part old u part) ∙ part_taken (held_bytes old) piece (omega (arith, holds)) in
-        record {
-          used = all ∙ sym (ap (λ t. t.used) m);
-          rest = kept_part new w l ∙ ap opening (holds_more ∙ ap (λ l. held_bytes old ++ l) (take_all used piece (omega arith))) ∙ sym (ap (λ t. t.rest) m);
-          came = sym (ap (λ t. came_in v t.item) m);
-          goes_on = λ h. absurd (cc (ap (λ s. s.too_big) begins));
-        }
-
-    pub answer_ends : (c : Came) → 4 ≤ new.len → came_as c ≡ heard_version (held_bytes new) → TakesPiece v (takes at_client (item_kept old u) piece) (record { used = used; came = c }) new w
-    answer_ends c l h =
-        let m = ap (λ i. takes at_client i piece) (kept_part old u part) ∙ whole_taken used (held_bytes old) piece (omega arith) (omega arith) (omega (arith, holds)) in
-        record {
-          used = sym (ap (λ t. t.used) m);
-          rest = kept_whole new w l ∙ ap reading begins ∙ sym (ap (λ t. t.rest) m);
-          came = h ∙ ap heard_version holds_more ∙ sym (plain_version (held_bytes old ++ take used piece)) ∙ sym (ap (λ t. came_in v t.item) m);
-          goes_on = λ h. absurd (cc (ap (λ s. s.too_big) begins));
-        }
-
--- what ends that is no message is as a no-op
-quiet : (v : Option Version) (what : Piece) → false ≡ is_message what → Quiet ≡ came_in v (item_in what)
-quiet v piece.Nothing h = refl
-quiet v piece.Noop h = refl
-quiet v (piece.Message m) h = absurd cc
-
-module _ (v : Option Version) (o : Opening) (u new : Unfinished) (piece : List ℕ) (opened : 4 ≤ o.len) (going : u.too_big ≡ false) where
-  chunks_taken : takes at_client (item_kept o u) piece ≡ lifted (took_by (answer_to u piece).answer (answer_to u piece).rest)
-  chunks_taken = ap (λ i. takes at_client i piece) (kept_whole o u opened) ∙ reading_takes u piece ∙ ap lifted (answers_take u piece going)
-
-  pub chunks_go_on : (fed : Fed) (c : Came) → answer_to u piece ≡ record { answer = Ok fed; rest = new } → came_as c ≡ came_in v (item_in fed.what) → TakesPiece v (takes at_client (item_kept o u) piece) (record { used = fed.used; came = c }) o new
-  chunks_go_on fed c e h =
-      let m = chunks_taken ∙ ap (λ a. lifted (took_by a.answer a.rest)) e in
-      let on : new.too_big ≡ false = sym (ap (λ a. a.rest.too_big) e) ∙ tells_too_big u piece ∙ ap (λ a. is_err a.answer) e in
+  answer_goes_on : new.len < 4 → TakesPiece v (takes at_client (opening bytes) piece) (record { used = used; came = came.Nothing }) new place p
+  answer_goes_on l =
+      let is = item.0.1 in
+      let part = item.0.0 in
+      let all : used ≡ length piece = omega arith in
+      let m = part_taken bytes piece (omega (arith, holds, ap length is)) in
+      let more : bytes ++ piece ≡ held_bytes new = ap (λ z. z ++ piece) is ∙ ap (λ z. held_bytes old ++ z) (sym (take_all used piece (omega arith))) ∙ sym holds_more in
       record {
-        used = sym (ap (λ t. t.used) m);
-        rest = kept_whole o new opened ∙ sym (ap (λ t. t.rest) m);
-        came = h ∙ sym (ap (λ t. came_in v t.item) m);
-        goes_on = λ h. absurd cc;
+        used = all ∙ sym (ap (λ t. t.used) m);
+        rest = subst (IsItem new place p) (sym (ap (λ t. t.rest) m)) ((l, more, item.0.2), item.1);
+        came = sym (ap (λ t. came_in v t.item) m);
+        goes_on = λ h. absurd (not_past h);
       }
 
-  -- the same where no message ends
-  pub chunks_end_none : (fed : Fed) → answer_to u piece ≡ record { answer = Ok fed; rest = new } → false ≡ ends_message (answer_from u piece).answer → TakesPiece v (takes at_client (item_kept o u) piece) (record { used = fed.used; came = came.Nothing }) o new
-  chunks_end_none fed e f =
-      let begins : answer_to u piece ≡ answer_from u piece = rw going refl in
-      let none : false ≡ is_message fed.what = f ∙ ap (λ a. ends_message a.answer) (sym begins ∙ e) in
-      chunks_go_on fed came.Nothing e (quiet v fed.what none)
-
-  pub chunks_end : (used : ℕ) → answer_to u piece ≡ record { answer = Err (fault.TooBig used); rest = new } → TakesPiece v (takes at_client (item_kept o u) piece) (record { used = used; came = came.Bad }) o new
-  chunks_end used e =
-      let m = chunks_taken ∙ ap (λ a. lifted (took_by a.answer a.rest)) e in
+  answer_ends : (c : Came) → 4 ≤ new.len → came_as c ≡ heard_version (held_bytes new) → TakesPiece v (takes at_client (opening bytes) piece) (record { used = used; came = c }) new place p
+  answer_ends c l h =
+      let is = item.0.1 in
+      let part = item.0.0 in
+      let m = whole_taken used bytes piece (omega arith) (omega arith) (omega (arith, holds, ap length is)) in
+      let more : held_bytes new ≡ bytes ++ take used piece = holds_more ∙ ap (λ z. z ++ take used piece) (sym is) in
+      let begins : fresh ≡ unfinished_at place [] = ap (λ (s : Place). unfinished_at s []) (sym item.0.2) in
       record {
         used = sym (ap (λ t. t.used) m);
-        rest = kept_whole o new opened ∙ sym (ap (λ t. t.rest) m);
+        rest = subst (IsItem new place p) (sym (ap (λ t. t.rest) m)) ((l, begins, subst (Holds []) (sym item.0.2) (refl, omega arith)), item.1);
+        came = h ∙ ap heard_version more ∙ sym (plain_version (bytes ++ take used piece)) ∙ sym (ap (λ t. came_in v t.item) m);
+        goes_on = λ h. absurd (not_past h);
+      }
+
+-- of every item that the bytes of an answer may be
+module _ (v : Option Version) (old new : Opening) (place : Place) (p : Point) (piece : List ℕ) (used : ℕ) (part : old.len < 4) (holds : length (held_bytes old) ≡ old.len) (takes_most : used ≡ min (4 - old.len) (length piece)) (longer : new.len ≡ old.len + used) (holds_more : held_bytes new ≡ held_bytes old ++ take used piece) where
+  pub goes_on_of : (item : Opened) → IsItem old place p item → new.len < 4 → TakesPiece v (takes at_client item piece) (record { used = used; came = came.Nothing }) new place p
+  goes_on_of (opening bytes) is l = answer_goes_on v old new place p bytes piece used is holds takes_most longer holds_more l
+  goes_on_of (reading u) is l = absurd (omega arith)
+
+  pub ends_of : (item : Opened) → IsItem old place p item → (c : Came) → 4 ≤ new.len → came_as c ≡ heard_version (held_bytes new) → TakesPiece v (takes at_client item piece) (record { used = used; came = c }) new place p
+  ends_of (opening bytes) is c l h = answer_ends v old new place p bytes piece used is holds takes_most longer holds_more c l h
+  ends_of (reading u) is c l h = absurd (omega arith)
+
+-- what is held then, whether the answer is whole or not
+pub held_then : (old new : Opening) (place : Place) (p : Point) → old.len < 4 → (item : Opened) → IsItem old place p item → (next : Opened) × IsItem new place p next
+held_then old new place p part (opening bytes) is = elim (cases_lt new.len 4) as (λ _. (next : Opened) × IsItem new place p next) [
+  | inl l ↦ (opening (held_bytes new), ((l, refl, is.0.2), is.1))
+  | inr g ↦ (reading fresh, ((g, ap (λ (s : Place). unfinished_at s []) (sym is.0.2), subst (Holds []) (sym is.0.2) (refl, omega arith)), is.1))
+]
+held_then old new place p part (reading u) is = absurd (omega arith)
+
+-- what is taken of chunks, by what is answered to the piece
+taken_by : (u : Unfinished) (piece : List ℕ) (a : Answered) → u.too_big ≡ false → answer_from u piece ≡ a → takes at_client (reading u) piece ≡ lifted (took_by a.answer a.rest)
+taken_by u piece a going e =
+    let same : answer_to u piece ≡ a = ap (λ (b : Bool). if b then record { answer = Err (fault.TooBig 0); rest = u } else answer_from u piece) going ∙ e in
+    reading_takes u piece ∙ ap lifted (answers_take u piece going ∙ ap (λ (x : Answered). took_by x.answer x.rest) same)
+
+-- the chunks of an answered offer, of which this was taken
+module _ (v : Option Version) (o : Opening) (place : Place) (q : Point) (u : Unfinished) (piece body : List ℕ) (used : ℕ) (opened : 4 ≤ o.len) (going : u.too_big ≡ false) (reads : Reads q body) where
+  after_nothing : EndsAs u piece used body place end.Nothing → TakesPiece v (takes at_client (reading u) piece) (record { used = used; came = came.Nothing }) o place q
+  after_nothing e =
+      let m = taken_by u piece _ going e.0 in
+      record {
+        used = sym (ap (λ t. t.used) m);
+        rest = subst (IsItem o place q) (sym (ap (λ t. t.rest) m)) ((opened, refl, e.1), reads);
+        came = sym (ap (λ t. came_in v t.item) m);
+        goes_on = λ h. absurd (cc (e.2));
+      }
+
+  after_too_big : EndsAs u piece used body place end.TooBig → TakesPiece v (takes at_client (reading u) piece) (record { used = used; came = came.Bad }) o place q
+  after_too_big e =
+      let m = taken_by u piece _ going e.0 in
+      record {
+        used = sym (ap (λ t. t.used) m);
+        rest = subst (IsItem o place q) (sym (ap (λ t. t.rest) m)) ((opened, refl, e.1), reads);
         came = sym (ap (λ t. came_in v t.item) m);
         goes_on = λ h. refl;
       }
+
+  -- where the next item begins
+  begins : place ≡ start → body ≡ [] → IsItem o place q (reading fresh)
+  begins at none = ((opened, ap (λ (s : Place). unfinished_at s []) (sym at), subst (Holds []) (sym at) (refl, omega arith)), subst (Reads q) none reads)
+
+  not_big : place ≡ start → place.too_big ≡ true → ⊥
+  not_big at h = cc (ap (λ (s : Place). s.too_big) at)
+
+  after_noop : EndsAs u piece used body place end.Noop → TakesPiece v (takes at_client (reading u) piece) (record { used = used; came = came.Nothing }) o place q
+  after_noop e =
+      let m = taken_by u piece _ going e.0 in
+      record {
+        used = sym (ap (λ t. t.used) m);
+        rest = subst (IsItem o place q) (sym (ap (λ t. t.rest) m)) (begins e.1 e.2);
+        came = sym (ap (λ t. came_in v t.item) m);
+        goes_on = λ h. absurd (not_big e.1 h);
+      }
+
+  -- nothing was read of it yet
+  after_message : (c : Came) (fresh_point : Point) → Reads fresh_point [] → came_as c ≡ plain (heard_message v body) → EndsAs u piece used body place end.Message
+      → TakesPiece v (takes at_client (reading u) piece) (record { used = used; came = c }) o place fresh_point
+  after_message c fresh_point none said e =
+      let m = taken_by u piece _ going e.0 in
+      record {
+        used = sym (ap (λ t. t.used) m);
+        rest = subst (IsItem o place fresh_point) (sym (ap (λ t. t.rest) m)) ((opened, ap (λ (s : Place). unfinished_at s []) (sym e.1), subst (Holds []) (sym e.1) (refl, omega arith)), none);
+        came = said ∙ sym (ap (λ t. came_in v t.item) m);
+        goes_on = λ h. absurd (not_big e.1 h);
+      }
+
+-- of every item that is chunks
+module _ (v : Option Version) (o : Opening) (old place : Place) (p q : Point) (piece : List ℕ) (bite : Bite) (opened : 4 ≤ o.len) (going : old.too_big ≡ false)
+    (taken : (body : List ℕ) → Holds body old → Reads p body → TakesItem (unfinished_at old body) piece bite place q) where
+  abbrev Is : Taken → Point → Opened → Type 0
+  Is t z item = TakesPiece v (takes at_client item piece) t o place z
+
+  nothing_of : (u : Unfinished) → IsItem o old p (reading u) → (what : End) → (what ≡ end.Nothing) ⊎ (what ≡ end.Noop) → bite.end ≡ what → Is (record { used = bite.used; came = came.Nothing }) q (reading u)
+  nothing_of u is end.Nothing h e =
+      let t = taken u.body is.0.2 is.1 in
+      subst (λ (z : Unfinished). Is (record { used = bite.used; came = came.Nothing }) q (reading z)) (sym is.0.1) (after_nothing v o place q (unfinished_at old u.body) piece t.body bite.used opened going t.reads (subst (EndsAs (unfinished_at old u.body) piece bite.used t.body place) e t.ends))
+  nothing_of u is end.Noop h e =
+      let t = taken u.body is.0.2 is.1 in
+      subst (λ (z : Unfinished). Is (record { used = bite.used; came = came.Nothing }) q (reading z)) (sym is.0.1) (after_noop v o place q (unfinished_at old u.body) piece t.body bite.used opened going t.reads (subst (EndsAs (unfinished_at old u.body) piece bite.used t.body place) e t.ends))
+  nothing_of u is end.Message (inl h) e = cc
+  nothing_of u is end.Message (inr h) e = cc
+  nothing_of u is end.TooBig (inl h) e = cc
+  nothing_of u is end.TooBig (inr h) e = cc
+
+  pub quiet_of : (bite.end ≡ end.Nothing) ⊎ (bite.end ≡ end.Noop) → (item : Opened) → IsItem o old p item → Is (record { used = bite.used; came = came.Nothing }) q item
+  quiet_of h (opening bytes) is = absurd (omega arith)
+  quiet_of h (reading u) is = nothing_of u is bite.end h refl
+
+  pub too_big_of : bite.end ≡ end.TooBig → (item : Opened) → IsItem o old p item → Is (record { used = bite.used; came = came.Bad }) q item
+  too_big_of e (opening bytes) is = absurd (omega arith)
+  too_big_of e (reading u) is =
+      let t = taken u.body is.0.2 is.1 in
+      subst (λ (z : Unfinished). Is (record { used = bite.used; came = came.Bad }) q (reading z)) (sym is.0.1) (after_too_big v o place q (unfinished_at old u.body) piece t.body bite.used opened going t.reads (subst (EndsAs (unfinished_at old u.body) piece bite.used t.body place) e t.ends))
+
+  pub message_of : bite.end ≡ end.Message → (c : Came) (fresh_point : Point) → Reads fresh_point [] → ((b : List ℕ) → Reads q b → came_as c ≡ plain (heard_message v b)) → (item : Opened) → IsItem o old p item → Is (record { used = bite.used; came = c }) fresh_point item
+  message_of e c fresh_point none said (opening bytes) is = absurd (omega arith)
+  message_of e c fresh_point none said (reading u) is =
+      let t = taken u.body is.0.2 is.1 in
+      subst (λ (z : Unfinished). Is (record { used = bite.used; came = c }) fresh_point (reading z)) (sym is.0.1) (after_message v o place q (unfinished_at old u.body) piece t.body bite.used opened going t.reads c fresh_point none (said t.body t.reads) (subst (EndsAs (unfinished_at old u.body) piece bite.used t.body place) e t.ends))
+
+-- what is held of an item that some item is, before and after
+pub stands_then : (v : Option Version) (o : Opening) (old place : Place) (p q : Point) (piece : List ℕ) (t : Taken) → ((item : Opened) → IsItem o old p item → TakesPiece v (takes at_client item piece) t o place q)
+    → ∥ ((item : Opened) × IsItem o old p item) ∥₁ → ∥ ((item : Opened) × IsItem o place q item) ∥₁
+stands_then v o old place p q piece t taken h = ∥∥₁_map h (λ x. ((takes at_client x.0 piece).rest, (taken x.0 x.1).rest))
+
+-- chunks are those of some message
+pub body_of : (o : Opening) (place : Place) (p : Point) → 4 ≤ o.len → (item : Opened) → IsItem o place p item → (body : List ℕ) × Holds body place × Reads p body
+body_of o place p opened (opening bytes) is = absurd (omega arith)
+body_of o place p opened (reading u) is = (u.body, is.0.2, is.1)
+
+-- a point that stands where another stood
+pub held_at : (o : Opening) (place : Place) (p q : Point) → q ≡ p → ∥ ((item : Opened) × IsItem o place p item) ∥₁ → ∥ ((item : Opened) × IsItem o place q item) ∥₁
+held_at o place p q same h = ∥∥₁_map h (λ x. (x.0, subst (λ (z : Point). IsItem o place z x.0) (sym same) x.1))
+
+-- an item of what is as it was
+pub same_item : (o next : Opening) (place there : Place) (p q : Points) (item : Opened) → next ≡ o → there ≡ place → q ≡ p → IsItem o place p.here item → IsItem next there q.here item
+same_item o next place there p q item at same stands h =
+    subst (λ (x : Opening). IsItem x there q.here item) (sym at) (subst (λ (x : Place). IsItem o x q.here item) (sym same) (subst (λ (x : Points). IsItem o place x.here item) (sym stands) h))
+
+-- before the first byte
+pub held_first : (o : Opening) (place : Place) (p : Points) → o.len ≡ 0 → place ≡ start → p ≡ nothing_held → ∥ ((item : Opened) × IsItem o place p.here item) ∥₁
+held_first o place p none at begins = ∣ (opening (held_bytes o), ((omega arith, refl, at), subst (λ (x : Points). Reads x.here []) (sym begins) (tt, refl))) ∣₁

@@ -1,10 +1,11 @@
 -- What of a piece comes to be heard, and what is told of it.
 use Rattle.std.specs.Prelude.{◌≡◌, ℕ, Bool, true, if◌then◌else◌, Option, Some, None, option_map, Result, Ok, Err, List, ◌∷◌}
 use Rattle.wire.specs.declared.Version.{Version}
-use Rattle.wire.specs.Unfinished.{Unfinished}
+use Rattle.wire.specs.Place.{Place}
 use Rattle.wire.specs.Framing.{Item, Opened}
 use Rattle.wire.specs.Reader.{Took}
-use Rattle.messages.specs.View.{Ask, Say, say}
+use Rattle.reader.specs.Piecewise.{Point}
+use Rattle.messages.specs.View.{RequestView, ResponseView, response_view}
 use Rattle.messages.specs.Arrivals.{Heard as AnyHeard}
 use Rattle.machine.specs.declared.Phase.{Phase}
 use Rattle.machine.specs.declared.Kind.{Kind}
@@ -18,19 +19,19 @@ use Rattle.client.specs.declared.heard.Heard.{Heard}
 use Rattle.client.specs.declared.heard.Outcome.{Outcome}
 use Rattle.client.specs.declared.faults.ClientFault.{ClientFault}
 use Rattle.client.specs.declared.faults.ClientFault.TheVariants as client_fault
-use Rattle.client.specs.Client.{verdict_of, accepted, outcome_of, resets}
+use Rattle.client.specs.Client.{verdict_of, phase_accepted, outcome_of, resets}
 use Rattle.client.specs.Rest.{Knows, Hearing, Note, note_of, heard_as, Rest, Fed}
-use Rattle.client.specs.Notes.{note, noted}
-use Rattle.client.specs.Fits.{item_kept}
+use Rattle.client.specs.Notes.{note, note_result}
+use Rattle.client.specs.Held.{IsItem}
 
 -- the phase that a summary of a request leads to, and what became of the request, if it is accepted
-abbrev pub judged_by : Version → Phase → Kind → Bool → Option Verdict → Option (Phase × Outcome)
-judged_by v p k behind None = None
-judged_by v p k behind (Some d) = option_map (λ next. (next, outcome_of p k d)) (accepted v p k behind d)
+abbrev pub judgement_by : Version → Phase → Kind → Bool → Option Verdict → Option (Phase × Outcome)
+judgement_by v p k behind None = None
+judgement_by v p k behind (Some d) = option_map (λ next. (next, outcome_of p k d)) (phase_accepted v p k behind d)
 
-abbrev pub judged : Knows → Say → Option Version → List Ask → Option (Phase × Outcome)
-judged k a (Some v) (q ∷ later) = judged_by v k.phase (kind_of q) (resets later) (verdict_of (in_part q) a)
-judged k a o qs = None
+abbrev pub judgement_of : Knows → ResponseView → Option Version → List RequestView → Option (Phase × Outcome)
+judgement_of k a (Some v) (q ∷ later) = judgement_by v k.phase (kind_of q) (resets later) (verdict_of (in_part q) a)
+judgement_of k a o qs = None
 
 -- what is told of an item, or that it is bad
 abbrev pub note_or : AnyHeard → Hearing → Result Note ClientFault
@@ -61,18 +62,18 @@ abbrev pub came_as : Came → AnyHeard
 came_as came.Nothing = AnyHeard.Quiet
 came_as came.Bad = AnyHeard.Strange
 came_as (came.Version o) = AnyHeard.Chosen o
-came_as (came.Response response) = AnyHeard.Told (say response)
+came_as (came.Response response) = AnyHeard.Told (response_view response)
 
--- what came of a piece, and what is kept of the stream after it
-pub record TakesPiece (v : Option Version) (m : Took Opened Item) (t : Taken) (o : Opening) (chunks : Unfinished) : Type 0 where
+-- what came of a piece, and what is held of the stream after it
+pub record TakesPiece (v : Option Version) (m : Took Opened Item) (t : Taken) (o : Opening) (place : Place) (p : Point) : Type 0 where
   pub used : t.used ≡ m.used
-  pub rest : item_kept o chunks ≡ m.rest
+  pub rest : IsItem o place p m.rest
   pub came : came_as t.came ≡ came_in v m.item
-  pub goes_on : chunks.too_big ≡ true → came_as t.came ≡ AnyHeard.Strange
+  pub goes_on : place.too_big ≡ true → came_as t.came ≡ AnyHeard.Strange
 
--- the answer of a feed, and the rest after it; want of memory changes nothing
-abbrev pub Feeds : Rest → Fed → Result (ℕ × Heard) ClientFault → Rest → Type 0
-Feeds old f (Ok used) new = (noted (Ok used) ≡ f.answer) × (new ≡ f.rest)
-Feeds old f (Err client_fault.Closed) new = (Err client_fault.Closed ≡ f.answer) × (new ≡ f.rest)
-Feeds old f (Err client_fault.BadPeer) new = (Err client_fault.BadPeer ≡ f.answer) × (new ≡ f.rest)
-Feeds old f (Err client_fault.Memory) new = new ≡ old
+-- The answer of a feed, and that the client may stand at the rest after it, told by Now; want of memory changes nothing.
+abbrev pub Feeds : (Rest → Type 0) → Rest → Fed → Result (ℕ × Heard) ClientFault → Type 0
+Feeds Now old f (Ok used) = (note_result (Ok used) ≡ f.answer) × Now f.rest
+Feeds Now old f (Err client_fault.Closed) = (Err client_fault.Closed ≡ f.answer) × Now f.rest
+Feeds Now old f (Err client_fault.BadPeer) = (Err client_fault.BadPeer ≡ f.answer) × Now f.rest
+Feeds Now old f (Err client_fault.Memory) = Now old

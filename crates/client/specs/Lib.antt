@@ -1,7 +1,8 @@
 pub mod Client
 pub mod Rest
 pub mod Answers
-pub mod Ahead
+pub mod Held
+pub mod Taking
 pub mod Notes
 pub mod Fits
 pub mod Hearings

@@ -1,13 +1,15 @@
 //! The calls of a client.
 
 ghost use Rattle.std.specs.Prelude.{◌≡◌, ◌≤◌, ◌<◌, ◌^◌, false, take, length, IfOk, IfErr, OnErr, IsErrOf};
-ghost use Rattle.messages.specs.View.{ask};
-ghost use Rattle.client.specs.Rest.{Rest, begun, refuses, refuses_at_once, submitted, fed, fed_open, taken_out, losses, dropped, awaits};
-ghost use Rattle.client.specs.Notes.{noted};
+ghost use Rattle.messages.specs.View.{request_view};
+ghost use Rattle.client.specs.Rest.{Rest, begun, refuses, refuses_at_once, after_submit, feed_of, fed_open, taken_out, losses, after_drop, awaits};
+ghost use Rattle.client.specs.Notes.{note_result};
 ghost use Rattle.wire.specs.Framing.{at_client};
 ghost use Rattle.wire.specs.Reader.{takes};
+ghost use Rattle.reader.specs.Piecewise.{Reads};
 ghost use Rattle.client.specs.Hearings.{Feeds};
-ghost use Rattle.client.specs.Fits.{kept, Fits, IsAccepted, UnlessMemory};
+ghost use Rattle.client.specs.Held.{data_of};
+ghost use Rattle.client.specs.Fits.{Fits, IsAccepted, UnlessMemory};
 
 use crate::client::Client;
 use crate::faults::{ClientFault, SubmitFault};
@@ -21,9 +23,10 @@ use crate::stream::Stream;
 use bytes::{Bytes, BytesMut};
 use machine::Phase;
 use messages::Request;
+use reader::Reader;
 use std::alloc::Global;
 use std::collections::VecDeque;
-use wire::{Chunks, Dechunk, Wish, offer, put_reserved, text_len};
+use wire::{Chunks, Wish, offer, put_reserved, text_len};
 
 impl Client {
     /// Its offer is to be taken out. C5 for want of memory.
@@ -49,8 +52,8 @@ impl Client {
             },
             stream: Stream {
                 opening: Opening::new(),
-                chunks: Dechunk::new(alloc),
-                place: Chunks::new(),
+                chunks: Chunks::new(),
+                reader: Reader::new(alloc),
             },
             out,
             alloc,
@@ -63,10 +66,10 @@ impl Client {
     ///
     /// Else the first of C4, C1, C2, C7 and C3 that holds, or C5; C4, C1 and C2 take no memory. Nothing has changed then.
     pub fn submit(&mut self, request: Request) -> Result<u64, SubmitFault>
-        ensures ok { (r : Rest) → Fits self.old r → IfOk result (λ n. IsAccepted r (ask request) n × Fits self.new (submitted r (ask request))) }
+        ensures ok { (r : Rest) → Fits self.old r → IfOk result (λ n. IsAccepted r (request_view request) n × Fits self.new (after_submit r (request_view request))) }
         ensures err { (r : Rest) → Fits self.old r → OnErr result (Fits self.new r) }
-        ensures fault { (r : Rest) → Fits self.old r → IfErr result (λ e. (e ≡ SubmitFault.Memory → ⊥) → refuses r.knows (ask request) ≡ Some e) }
-        ensures memory { (r : Rest) → Fits self.old r → IsErrOf result SubmitFault.Memory → refuses_at_once r.knows (ask request) ≡ None }
+        ensures fault { (r : Rest) → Fits self.old r → IfErr result (λ e. (e ≡ SubmitFault.Memory → ⊥) → refuses r.knows (request_view request) ≡ Some e) }
+        ensures memory { (r : Rest) → Fits self.old r → IsErrOf result SubmitFault.Memory → refuses_at_once r.knows (request_view request) ≡ None }
     {
         let version = self.pipeline.admit(&request)?;
         let text = text_of(self.alloc, version, &request)?;
@@ -99,7 +102,7 @@ impl Client {
     /// row where the first waiting request is no PULL, a summary that isn't accepted, a version that wasn't offered. C5 for want
     /// of memory: nothing was used, nothing has changed.
     pub fn feed(&mut self, piece: &[u8]) -> Result<(usize, Heard), ClientFault>
-        ensures told { (r : Rest) → Fits self.old r → UnlessMemory result ((noted result ≡ (fed r piece.now).answer) × Fits self.new (fed r piece.now).rest) }
+        ensures told { (r : Rest) → Fits self.old r → UnlessMemory result ((note_result result ≡ (feed_of r piece.now).answer) × Fits self.new (feed_of r piece.now).rest) }
         ensures memory { (r : Rest) → Fits self.old r → IsErrOf result ClientFault.Memory → Fits self.new r × (r.knows.over ≡ false) }
         ensures within { IfOk result (λ t. t.0 ≤ length piece.now) }
         ensures goes_on { 0 < length piece.now → IfOk result (λ t. 0 < t.0) }
@@ -112,7 +115,7 @@ impl Client {
 
     fn feed_open(&mut self, piece: &[u8]) -> Result<(usize, Heard), ClientFault>
         requires { self.old.pipeline.over ≡ false }
-        ensures { Feeds (kept self.old) (fed_open (kept self.old) (takes at_client (kept self.old).item piece.now)) result (kept self.new) }
+        ensures { (r : Rest) → Fits self.old r → Feeds (Fits self.new) r (fed_open r (takes at_client r.item piece.now)) result }
     {
         let taken = self.stream.take(self.alloc, self.pipeline.version, piece)?;
         let Taken { used, came } = taken;
@@ -122,9 +125,18 @@ impl Client {
         }
     }
 
+    /// What was read of the message that isn't whole: its data, or a fault that each continuation of them has. The point that it
+    /// holds is where it stands. It takes no memory.
+    pub fn reader(&self) -> &Reader
+        ensures data { (r : Rest) → Fits self.now r → Reads result.now.here (data_of r.item) }
+        ensures held { result.now.held ≡ result.now.here }
+    {
+        &self.stream.reader
+    }
+
     /// The client is lost: no byte comes any more, and the outcome of each request that waited is known. It takes no memory.
     pub fn lost(&mut self) -> Losses
-        ensures { (r : Rest) → Fits self.old r → (result ≡ losses r.knows) × Fits self.new (dropped r) }
+        ensures { (r : Rest) → Fits self.old r → (result ≡ losses r.knows) × Fits self.new (after_drop r) }
     {
         self.pipeline.lose()
     }

@@ -1,20 +1,29 @@
 //! What comes of the pieces of a server's bytes.
 
-ghost use Rattle.std.specs.Prelude.{◌≡◌, ◌<◌, ◌≤◌, true, false, Option, IfOk, IfErr, OnErr};
-ghost use Rattle.wire.specs.Framing.{at_client, item_in};
+ghost use Rattle.std.specs.Prelude.{◌≡◌, ℕ, List, ◌<◌, ◌≤◌, true, false, Option, IfOk, IfErr, OnErr};
+ghost use Rattle.packstream.specs.Spelling.{Spells};
+ghost use Rattle.wire.specs.Framing.{Opened, at_client};
 ghost use Rattle.wire.specs.Reader.{takes};
+ghost use Rattle.wire.specs.Scanning.{Holds};
+ghost use Rattle.reader.specs.Piecewise.{Reads};
 ghost use Rattle.messages.specs.Arrivals.{heard_version};
-ghost use Rattle.client.specs.Ahead.{Foresees};
+ghost use Rattle.messages.specs.Messages.{response_of as response_by};
+ghost use Rattle.client.specs.declared.opening.Opening.{Opening as AnyOpening};
 ghost use Rattle.client.specs.Answers.{held_bytes};
-ghost use Rattle.client.specs.Hearings.{came_in, came_as, TakesPiece};
-ghost use Rattle.client.specs.Fits.{item_kept};
+ghost use Rattle.client.specs.Rest.{heard_response, heard_message};
+ghost use Rattle.client.specs.Hearings.{plain, came_as, TakesPiece};
+ghost use Rattle.client.specs.Held.{IsItem};
 
 use crate::faults::ClientFault;
+use crate::items::{Bite, End, take_item};
 use crate::opening::{LENGTH, Opening};
 use crate::stream::Stream;
-use messages::{MsgFault, Response, read_response};
+use messages::{MsgFault, Response, response_of};
+use packstream::{PackFault, Packed};
+use reader::Reader;
+use reader::laws::finish_reads;
 use std::alloc::Global;
-use wire::{Chunks, Dechunk, Fed, Part, Piece, Version, WireFault};
+use wire::{Chunks, Version};
 
 /// What ended with the last byte that was used.
 #[derive(Drop)]
@@ -34,28 +43,70 @@ pub(crate) struct Taken {
     pub came: Came,
 }
 
-/// The place after a piece, used to the end of the item begun, and whether that is a message's end.
-#[derive(Clone, Copy)]
-struct Ahead {
-    place: Chunks,
-    ends_message: bool,
-}
-
-/// What an item says, by the version that is known.
-fn came_of(alloc: Global, version: Option<Version>, item: Piece) -> Result<Came, ClientFault>
-    ensures ok { IfOk result (λ came. came_as came ≡ came_in version (item_in item)) }
+/// What a value says, by the table of responses.
+fn came_of_value(alloc: Global, version: Version, packed: &Packed) -> Result<Came, ClientFault>
+    ensures ok { (b : List ℕ) → Spells packed.now b → IfOk result (λ came. came_as came ≡ plain (heard_response (response_by version b))) }
     ensures err { IfErr result (λ e. e ≡ ClientFault.Memory) }
 {
-    let Piece::Message(bytes) = item else {
-        return Ok(Came::Nothing);
-    };
-    let Some(version) = version else {
-        return Ok(Came::Bad);
-    };
-    match read_response(alloc, version, &bytes) {
+    match response_of(alloc, version, packed) {
         Ok(response) => Ok(Came::Response(response)),
         Err(MsgFault::Memory) => Err(ClientFault::Memory),
         Err(_) => Ok(Came::Bad),
+    }
+}
+
+/// What a message says, by the version that is known. All of its data was read.
+fn came_of(alloc: Global, version: Option<Version>, reader: &Reader) -> Result<Came, ClientFault>
+    ensures ok { (b : List ℕ) → Reads reader.now.here b → IfOk result (λ came. came_as came ≡ plain (heard_message version b)) }
+    ensures err { IfErr result (λ e. e ≡ ClientFault.Memory) }
+{
+    finish_reads();
+    let Some(version) = version else {
+        return Ok(Came::Bad);
+    };
+    match reader.finish() {
+        Ok(packed) => came_of_value(alloc, version, &packed),
+        Err(PackFault::Memory) => Err(ClientFault::Memory),
+        Err(PackFault::Refused(_, _)) => Ok(Came::Bad),
+    }
+}
+
+/// Takes a piece of chunks, and reads the message that it ends. For want of memory it is taken in part, and the reader's held point
+/// stays.
+fn read_chunks(
+    alloc: Global,
+    version: Option<Version>,
+    chunks: &mut Chunks,
+    reader: &mut Reader,
+    piece: &[u8],
+) -> Result<Taken, ClientFault>
+    requires going { chunks.old.too_big ≡ false }
+    requires begun { ∥ ((body : List ℕ) × Holds body chunks.old × Reads reader.old.here body) ∥₁ }
+    ensures ok { (o : AnyOpening) (item : Opened) → 4 ≤ o.len → IsItem o chunks.old reader.old.here item
+        → IfOk result (λ t. TakesPiece version (takes at_client item piece.now) t o chunks.new reader.new.here) }
+    ensures err { IfErr result (λ e. e ≡ ClientFault.Memory) }
+    ensures held { OnErr result (reader.new.held ≡ reader.old.held) }
+{
+    let Ok(bite) = take_item(chunks, reader, piece) else {
+        return Err(ClientFault::Memory);
+    };
+    let Bite { used, end } = bite;
+    match end {
+        End::Nothing | End::Noop => Ok(Taken {
+            used,
+            came: Came::Nothing,
+        }),
+        End::TooBig => Ok(Taken {
+            used,
+            came: Came::Bad,
+        }),
+        End::Message => match came_of(alloc, version, reader) {
+            Ok(came) => {
+                *reader = Reader::new(alloc);
+                Ok(Taken { used, came })
+            }
+            Err(fault) => Err(fault),
+        },
     }
 }
 
@@ -79,26 +130,26 @@ impl Stream {
         piece: &[u8],
     ) -> Result<Taken, ClientFault>
         requires { self.old.chunks.too_big ≡ false }
-        ensures ok { IfOk result (λ t. TakesPiece version (takes at_client (item_kept self.old.opening self.old.chunks) piece.now) t self.new.opening self.new.chunks) }
+        ensures ok { (item : Opened) → IsItem self.old.opening self.old.chunks self.old.reader.here item
+            → IfOk result (λ t. TakesPiece version (takes at_client item piece.now) t self.new.opening self.new.chunks self.new.reader.here) }
         ensures err { IfErr result (λ e. e ≡ ClientFault.Memory) }
-        ensures same { OnErr result ((self.new.opening ≡ self.old.opening) × (self.new.chunks ≡ self.old.chunks)) }
+        ensures same { OnErr result ((self.new.opening ≡ self.old.opening) × (self.new.chunks ≡ self.old.chunks) × (self.new.reader ≡ self.old.reader)) }
     {
         if self.opening.len < LENGTH {
-            Ok(self.take_answer(alloc, piece))
+            Ok(self.take_answer(piece))
         } else {
             self.take_chunks(alloc, version, piece)
         }
     }
 
     /// The answer to the offer comes first.
-    fn take_answer(&mut self, alloc: Global, piece: &[u8]) -> Taken
+    fn take_answer(&mut self, piece: &[u8]) -> Taken
         requires { self.old.opening.len < 4 }
-        ensures { (version : Option Version) → TakesPiece version (takes at_client (item_kept self.old.opening self.old.chunks) piece.now) result self.new.opening self.new.chunks }
+        ensures { (version : Option Version) (item : Opened) → IsItem self.old.opening self.old.chunks self.old.reader.here item
+            → TakesPiece version (takes at_client item piece.now) result self.new.opening self.new.chunks self.new.reader.here }
     {
         let (opening, used) = self.opening.with(piece);
         self.opening = opening;
-        self.chunks = Dechunk::new(alloc);
-        self.place = Chunks::new();
         if opening.len < LENGTH {
             return Taken {
                 used,
@@ -111,6 +162,7 @@ impl Stream {
         }
     }
 
+    /// Then come chunks.
     fn take_chunks(
         &mut self,
         alloc: Global,
@@ -118,100 +170,22 @@ impl Stream {
         piece: &[u8],
     ) -> Result<Taken, ClientFault>
         requires { (4 ≤ self.old.opening.len) × (self.old.chunks.too_big ≡ false) }
-        ensures ok { IfOk result (λ t. TakesPiece version (takes at_client (item_kept self.old.opening self.old.chunks) piece.now) t self.new.opening self.new.chunks) }
+        ensures ok { (item : Opened) → IsItem self.old.opening self.old.chunks self.old.reader.here item
+            → IfOk result (λ t. TakesPiece version (takes at_client item piece.now) t self.new.opening self.new.chunks self.new.reader.here) }
         ensures err { IfErr result (λ e. e ≡ ClientFault.Memory) }
-        ensures same { OnErr result ((self.new.opening ≡ self.old.opening) × (self.new.chunks ≡ self.old.chunks)) }
+        ensures same { OnErr result ((self.new.opening ≡ self.old.opening) × (self.new.chunks ≡ self.old.chunks) × (self.new.reader ≡ self.old.reader)) }
     {
-        let ahead = self.look_ahead(piece);
-        if ahead.ends_message {
-            self.take_message(alloc, version, piece, ahead.place)
-        } else {
-            self.take_part(piece, ahead.place)
-        }
-    }
-
-    /// What the piece will end. It takes no memory, and time by the chunks of the piece and not by their bytes.
-    fn look_ahead(&self, piece: &[u8]) -> Ahead
-        requires { self.now.chunks.too_big ≡ false }
-        ensures { Foresees self.now.chunks piece.now result.place result.ends_message }
-    {
-        let mut place = self.place;
-        let mut used = 0;
-        while used < piece.len() {
-            let cut = place.next(&piece[used..]);
-            used += cut.used;
-            match cut.what {
-                Part::Head | Part::Data => {}
-                Part::End => {
-                    return Ahead {
-                        place,
-                        ends_message: true,
-                    };
-                }
-                Part::Noop | Part::TooBig => {
-                    return Ahead {
-                        place,
-                        ends_message: false,
-                    };
-                }
+        let before = self.chunks;
+        match read_chunks(alloc, version, &mut self.chunks, &mut self.reader, piece) {
+            Ok(taken) => {
+                self.reader.hold();
+                Ok(taken)
+            }
+            Err(fault) => {
+                self.chunks = before;
+                self.reader.back();
+                Err(fault)
             }
         }
-        Ahead {
-            place,
-            ends_message: false,
-        }
-    }
-
-    /// No message ends with the piece, so nothing is read of it that might want memory, and it is taken in place.
-    fn take_part(&mut self, piece: &[u8], next: Chunks) -> Result<Taken, ClientFault>
-        requires { (4 ≤ self.old.opening.len) × (self.old.chunks.too_big ≡ false) × Foresees self.old.chunks piece.now next false }
-        ensures ok { (version : Option Version) → IfOk result (λ t. TakesPiece version (takes at_client (item_kept self.old.opening self.old.chunks) piece.now) t self.new.opening self.new.chunks) }
-        ensures err { IfErr result (λ e. e ≡ ClientFault.Memory) }
-        ensures same { OnErr result ((self.new.opening ≡ self.old.opening) × (self.new.chunks ≡ self.old.chunks)) }
-    {
-        match self.chunks.feed(piece) {
-            Ok(fed) => {
-                self.place = next;
-                Ok(Taken {
-                    used: fed.used,
-                    came: Came::Nothing,
-                })
-            }
-            Err(WireFault::TooBig { used }) => {
-                self.place = next;
-                Ok(Taken {
-                    used,
-                    came: Came::Bad,
-                })
-            }
-            Err(WireFault::Memory) => Err(ClientFault::Memory),
-        }
-    }
-
-    /// A message ends with the piece. A copy takes it, since reading it may want memory.
-    fn take_message(
-        &mut self,
-        alloc: Global,
-        version: Option<Version>,
-        piece: &[u8],
-        next: Chunks,
-    ) -> Result<Taken, ClientFault>
-        requires { (4 ≤ self.old.opening.len) × (self.old.chunks.too_big ≡ false) × Foresees self.old.chunks piece.now next true }
-        ensures ok { IfOk result (λ t. TakesPiece version (takes at_client (item_kept self.old.opening self.old.chunks) piece.now) t self.new.opening self.new.chunks) }
-        ensures err { IfErr result (λ e. e ≡ ClientFault.Memory) }
-        ensures same { OnErr result ((self.new.opening ≡ self.old.opening) × (self.new.chunks ≡ self.old.chunks)) }
-    {
-        let Ok(mut chunks) = self.chunks.clone() else {
-            return Err(ClientFault::Memory);
-        };
-        // The message is whole, so no header has taken it past its limit.
-        let Ok(fed) = chunks.feed(piece) else {
-            return Err(ClientFault::Memory);
-        };
-        let Fed { used, what } = fed;
-        let came = came_of(alloc, version, what)?;
-        self.chunks = chunks;
-        self.place = next;
-        Ok(Taken { used, came })
     }
 }

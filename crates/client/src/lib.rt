@@ -10,6 +10,7 @@ mod faults;
 mod feeding;
 mod heard;
 mod hearing;
+mod items;
 pub mod laws;
 mod losing;
 mod losses;

@@ -1,22 +1,23 @@
 //! What a client keeps of its server's bytes.
 
 ghost use Rattle.std.specs.Prelude.{◌≡◌, ◌≤◌};
-ghost use Rattle.wire.specs.Unfinished.{unfinished};
-ghost use Rattle.wire.specs.Scanning.{Holds};
+ghost use Rattle.wire.specs.Framing.{Opened};
+ghost use Rattle.client.specs.Held.{IsItem};
 
 use crate::opening::Opening;
-use wire::{Chunks, Dechunk};
+use reader::Reader;
+use wire::Chunks;
 
 /// What has come of the item that isn't whole.
 #[derive(Drop)]
 pub(crate) struct Stream {
     /// What has come of the version answer.
     pub opening: Opening,
-    /// What has come of the item after it.
-    pub chunks: Dechunk,
-    /// The place in these chunks. It holds no data, so what a piece will end is told by a copy of it.
-    pub place: Chunks,
+    /// The place in the chunks after it.
+    pub chunks: Chunks,
+    /// What was read of the data of the message. Between two pieces it stands where its held point is.
+    pub reader: Reader,
     ghost answering: { opening.len ≤ 4 },
-    ghost agrees: { unfinished place chunks.body ≡ chunks },
-    ghost counts: { Holds chunks.body place },
+    ghost stands: { ∥ ((item : Opened) × IsItem opening chunks reader.here item) ∥₁ },
+    ghost still: { reader.held ≡ reader.here },
 }

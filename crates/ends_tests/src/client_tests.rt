@@ -312,6 +312,40 @@ fn session(rt: HostRuntime) -> Result<(), Fail> {
     play(&rt, Wish::Newest, &logged_off)
 }
 
+/// What was read of a message that comes in pieces: bytes are missing, or its value is whole.
+#[test]
+fn lends_its_reader(rt: HostRuntime) -> Result<(), Fail> {
+    let mut client = Client::new(rt.alloc(), Wish::Newest)?;
+    let begun = [
+        Feeds(NEW, Told::Version),
+        Asks(Hello, "accepted"),
+        Feeds(&[0, 2, 0xB1, 0x70], Told::Nothing(4)),
+    ];
+    go_on(&rt, &mut client, &begun)?;
+    assert!(&rt; client.reader().finish().is_err());
+    let whole = [Feeds(&[0, 1, 0xA0], Told::Nothing(3))];
+    go_on(&rt, &mut client, &whole)?;
+    assert!(&rt; client.reader().finish().is_ok());
+    let ended = [Feeds(&[0, 0], done(0, Phase::Unauth))];
+    go_on(&rt, &mut client, &ended)?;
+    assert!(&rt; client.reader().finish().is_err());
+    Ok(())
+}
+
+/// A message that can't be a value is a bad answer with its last byte, and not before.
+#[test]
+fn bad_at_its_end(rt: HostRuntime) -> Result<(), Fail> {
+    let steps = [
+        Feeds(NEW, Told::Version),
+        Asks(Hello, "accepted"),
+        Feeds(&[0, 2, 0xC4, 0xC4], Told::Nothing(4)),
+        Feeds(&[0, 1, 0xC4, 0], Told::Nothing(4)),
+        Feeds(&[0], Told::BadPeer),
+        Feeds(&[0], Told::Closed),
+    ];
+    play(&rt, Wish::Newest, &steps)
+}
+
 #[test]
 fn bad_answers(rt: HostRuntime) -> Result<(), Fail> {
     let row = [

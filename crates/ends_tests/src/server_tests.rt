@@ -2,10 +2,11 @@
 
 use crate::talking::{
     BAD_LOGON, BEGIN, COMMIT, DISCARD_ALL, FIELDS, GOODBYE, GREETING, HELLO, INVALID, LOGON, NOPE,
-    OFFER, OLD_HELLO, OLD_OFFER, PULL_ALL, PULL_THREE, PULL_TWO, PUT, RESET, ROWS, Step,
+    OFFER, OLD_HELLO, OLD_OFFER, PULL_ALL, PULL_THREE, PULL_TWO, PUT, RESET, ROWS, Step, Table,
     UNAUTHORIZED, begins, goes_on, server,
 };
 use machine::{Kind, State};
+use packstream::{PackFault, Reason};
 use server::{Cause, What, Worked};
 use std::test::Fail;
 use wire::Version;
@@ -343,4 +344,31 @@ const COMMITS: &[Step<'static>] = &[
 #[test]
 fn commits_a_transaction(rt: HostRuntime) -> Result<(), Fail> {
     goes_on(&rt, rt.alloc(), Version::V51, COMMITS)
+}
+
+/// The first fault of what the lent reader has read, and its place.
+fn fault_in(server: &Table, conn: u64) -> Option<(Reason, usize)> {
+    match server.reader(conn)?.finish() {
+        Err(PackFault::Refused(reason, place)) => Some((reason, place)),
+        _ => None,
+    }
+}
+
+#[test]
+fn lends_the_reader_of_a_message_in_pieces(rt: HostRuntime) -> Result<(), Fail> {
+    let mut server = server(rt.alloc())?;
+    let conn = server.open()?;
+    assert!(rt; server.reader(99).is_none());
+    assert_eq!(rt; fault_in(&server, conn), Some((Reason::Short, 0)));
+    server.feed(conn, OFFER)?;
+    // A structure, its tag, a dictionary, and a key of two bytes of which one has come, in two chunks.
+    server.feed(conn, &[0, 2, 0xB1, 0x01, 0, 9, 0xA1, 0x82, 0x61])?;
+    assert_eq!(rt; fault_in(&server, conn), Some((Reason::Short, 3)));
+    // A byte that announces nothing makes every continuation bad, but the message isn't at its end.
+    server.feed(conn, &[0x62, 0xC7, 0xA0])?;
+    assert_eq!(rt; fault_in(&server, conn), Some((Reason::Marker, 6)));
+    assert_eq!(rt; server.feed(conn, &[0xA0, 0xA0, 0xA0])?.what, What::Part);
+    assert_eq!(rt; server.feed(conn, &[0, 0])?.what, What::Malformed);
+    assert_eq!(rt; fault_in(&server, conn), Some((Reason::Short, 0)));
+    Ok(())
 }

@@ -10,9 +10,9 @@ use Rattle.packstream.specs.Tree.{Tree, null, boolean, int, float, byte_string, 
 use Rattle.packstream.specs.View.{tree, trees, trees_of, entries_of}
 use Rattle.packstream.specs.Markers.{marker}
 use Rattle.packstream.specs.Reading.{Read, ◌>>=◌, items_at, entries_at, layer, inner}
-use Rattle.packstream.specs.Answers.{ended, whole_of}
+use Rattle.packstream.specs.Answers.{only_value, whole_of}
 use Rattle.reader.specs.declared.item.Item.{Item}
-use Rattle.reader.specs.Items.{field, size_with, body, bodies, AreItems, spelled}
+use Rattle.reader.specs.Items.{field, size_with, body, bodies, AreItems, bytes_of_items}
 use Rattle.reader.specs.Building.{IsRead}
 use Rattle.reader.proofs.Built.{not_empty, no_marker, rest_sized, text_good, list_read, dict_read, struct_read, bind_read}
 
@@ -38,7 +38,7 @@ tree-Struct tag v = search (rules, the_lemmas)
 
 -- ---- the first of the items
 
-pub none_left : (read : Option (List ℕ → Read Tree)) (items : List Item) (store : List ℕ) → length items ≡ 0 → length store ≡ bodies items → IsRead (layer read (spelled items [] store)) → ⊥
+pub none_left : (read : Option (List ℕ → Read Tree)) (items : List Item) (store : List ℕ) → length items ≡ 0 → length store ≡ bodies items → IsRead (layer read (bytes_of_items items [] store)) → ⊥
 none_left read [] store e f h = not_empty read store f h
 none_left read (i ∷ items) store e f h = absurd (omega (arith, e))
 
@@ -54,10 +54,10 @@ first_of_items items store i is e sized fit =
     let fits : AreItems (i ∷ is) = subst AreItems e fit in
     record { all = e; small = fits.0; fit = fits.1; sized = sized ∙ ap bodies e }
 
-pub read_first : (read : Option (List ℕ → Read Tree)) (items : List Item) (store : List ℕ) (i : Item) (is : List Item) → IsFirst items store i is → IsRead (layer read (spelled items [] store)) → IsRead (layer read (spelled (i ∷ is) [] store))
-read_first read items store i is f h = subst (λ (x : List Item). IsRead (layer read (spelled x [] store))) f.all h
+pub read_first : (read : Option (List ℕ → Read Tree)) (items : List Item) (store : List ℕ) (i : Item) (is : List Item) → IsFirst items store i is → IsRead (layer read (bytes_of_items items [] store)) → IsRead (layer read (bytes_of_items (i ∷ is) [] store))
+read_first read items store i is f h = subst (λ (x : List Item). IsRead (layer read (bytes_of_items x [] store))) f.all h
 
-pub some_marker : (read : Option (List ℕ → Read Tree)) (items : List Item) (store : List ℕ) (i : Item) (is : List Item) → IsFirst items store i is → marker i.marker ≡ None → IsRead (layer read (spelled items [] store)) → ⊥
+pub some_marker : (read : Option (List ℕ → Read Tree)) (items : List Item) (store : List ℕ) (i : Item) (is : List Item) → IsFirst items store i is → marker i.marker ≡ None → IsRead (layer read (bytes_of_items items [] store)) → ⊥
 some_marker read items store i is f e h = no_marker read i is store e (read_first read items store i is f h)
 
 -- what is left behind an item of which so many bytes are in the store
@@ -71,26 +71,26 @@ enough_left items store i is what len f m e = omega (arith, f.sized, e, ap (λ (
 
 -- an item alone
 pub builds_alone : (read : Option (List ℕ → Read Tree)) (items : List Item) (store : List ℕ) (i : Item) (is : List Item) (what : Marker) (t u : Tree) → IsFirst items store i is → marker i.marker ≡ Some what → body (Some what) i.number ≡ 0
-    → layer read (spelled (i ∷ is) [] store) ≡ Ok (t, spelled is [] store) → t ≡ u → (layer read (spelled items [] store) ≡ Ok (u, spelled is [] store)) × ((length store ≡ bodies is) × AreItems is)
+    → layer read (bytes_of_items (i ∷ is) [] store) ≡ Ok (t, bytes_of_items is [] store) → t ≡ u → (layer read (bytes_of_items items [] store) ≡ Ok (u, bytes_of_items is [] store)) × ((length store ≡ bodies is) × AreItems is)
 builds_alone read items store i is what t u f m none r e = (
-  ap (λ (x : List Item). layer read (spelled x [] store)) f.all ∙ r ∙ ap (λ (x : Tree). Ok (x, spelled is [] store)) e,
+  ap (λ (x : List Item). layer read (bytes_of_items x [] store)) f.all ∙ r ∙ ap (λ (x : Tree). Ok (x, bytes_of_items is [] store)) e,
   left_behind items store i is what 0 f m (sym none),
 )
 
 -- an item and its bytes
 pub builds_bytes : (read : Option (List ℕ → Read Tree)) (items : List Item) (store : List ℕ) (i : Item) (is : List Item) (what : Marker) (len : ℕ) (t u : Tree) (rest : List Item) (after : List ℕ) → IsFirst items store i is → marker i.marker ≡ Some what
-    → len ≡ body (Some what) i.number → layer read (spelled (i ∷ is) [] store) ≡ Ok (t, spelled is [] (drop len store)) → t ≡ u → rest ≡ is → after ≡ drop len store
-    → (layer read (spelled items [] store) ≡ Ok (u, spelled rest [] after)) × ((length after ≡ bodies rest) × AreItems rest)
+    → len ≡ body (Some what) i.number → layer read (bytes_of_items (i ∷ is) [] store) ≡ Ok (t, bytes_of_items is [] (drop len store)) → t ≡ u → rest ≡ is → after ≡ drop len store
+    → (layer read (bytes_of_items items [] store) ≡ Ok (u, bytes_of_items rest [] after)) × ((length after ≡ bodies rest) × AreItems rest)
 builds_bytes read items store i is what len t u rest after f m n r e p q =
     let l = left_behind items store i is what len f m n in (
-      ap (λ (x : List Item). layer read (spelled x [] store)) f.all ∙ r ∙ ap (λ (x : Tree). Ok (x, spelled is [] (drop len store))) e
-          ∙ ap (λ (x : List Item). Ok (u, spelled x [] (drop len store))) (sym p)
-          ∙ ap (λ (x : List ℕ). Ok (u, spelled rest [] x)) (sym q),
+      ap (λ (x : List Item). layer read (bytes_of_items x [] store)) f.all ∙ r ∙ ap (λ (x : Tree). Ok (x, bytes_of_items is [] (drop len store))) e
+          ∙ ap (λ (x : List Item). Ok (u, bytes_of_items x [] (drop len store))) (sym p)
+          ∙ ap (λ (x : List ℕ). Ok (u, bytes_of_items rest [] x)) (sym q),
       (ap length q ∙ l.0 ∙ ap bodies (sym p), subst AreItems (sym p) l.1),
     )
 
 pub utf8_left : (read : Option (List ℕ → Read Tree)) (items : List Item) (store : List ℕ) (i : Item) (is : List Item) (size : Size) (len : ℕ) (found : List ℕ) → IsFirst items store i is → marker i.marker ≡ Some (announces.Text size)
-    → len ≡ size_with size i.number → found ≡ take len store → IsRead (layer read (spelled items [] store)) → IsUtf8 found
+    → len ≡ size_with size i.number → found ≡ take len store → IsRead (layer read (bytes_of_items items [] store)) → IsUtf8 found
 utf8_left read items store i is size len found f m n e h =
     let good = text_good read i is store size m f.small f.sized (read_first read items store i is f h) in
     IsUtf8-from_is_utf8 found (subst (λ (s : List ℕ). is_utf8 s ≡ true) (sym (e ∙ ap (λ (k : ℕ). take k store) n)) good)
@@ -111,34 +111,34 @@ with_members room whole one members made some e f h = record {
 }
 
 pub list_members : (room : ℕ) (items : List Item) (store : List ℕ) (i : Item) (is : List Item) (size : Size) (len : ℕ) → IsFirst items store i is → marker i.marker ≡ Some (announces.List size) → len ≡ size_with size i.number
-    → IsRead (layer (inner room) (spelled items [] store)) → HasMembers room (layer (inner room) (spelled items [] store)) (items_at (layer (inner (room - 1))) len [] (spelled is [] store)) (λ ts. list (trees_of ts))
+    → IsRead (layer (inner room) (bytes_of_items items [] store)) → HasMembers room (layer (inner room) (bytes_of_items items [] store)) (items_at (layer (inner (room - 1))) len [] (bytes_of_items is [] store)) (λ ts. list (trees_of ts))
 list_members room items store i is size len f m n h =
     let first = read_first (inner room) items store i is f h in
     let l = list_read room i is store size m f.small first in
-    subst (λ (k : ℕ). HasMembers room (layer (inner room) (spelled items [] store)) (items_at (layer (inner (room - 1))) k [] (spelled is [] store)) (λ ts. list (trees_of ts))) (sym n)
-    (with_members room (layer (inner room) (spelled items [] store)) (layer (inner room) (spelled (i ∷ is) [] store)) (items_at (layer (inner (room - 1))) (size_with size i.number) [] (spelled is [] store)) (λ ts. list (trees_of ts))
-    l.0 (ap (λ (x : List Item). layer (inner room) (spelled x [] store)) f.all) l.1 first)
+    subst (λ (k : ℕ). HasMembers room (layer (inner room) (bytes_of_items items [] store)) (items_at (layer (inner (room - 1))) k [] (bytes_of_items is [] store)) (λ ts. list (trees_of ts))) (sym n)
+    (with_members room (layer (inner room) (bytes_of_items items [] store)) (layer (inner room) (bytes_of_items (i ∷ is) [] store)) (items_at (layer (inner (room - 1))) (size_with size i.number) [] (bytes_of_items is [] store)) (λ ts. list (trees_of ts))
+    l.0 (ap (λ (x : List Item). layer (inner room) (bytes_of_items x [] store)) f.all) l.1 first)
 
 pub dict_members : (room : ℕ) (items : List Item) (store : List ℕ) (i : Item) (is : List Item) (size : Size) (len : ℕ) → IsFirst items store i is → marker i.marker ≡ Some (announces.Dict size) → len ≡ size_with size i.number
-    → IsRead (layer (inner room) (spelled items [] store)) → HasMembers room (layer (inner room) (spelled items [] store)) (entries_at (layer (inner (room - 1))) len [] (spelled is [] store)) (λ es. dict (entries_of es))
+    → IsRead (layer (inner room) (bytes_of_items items [] store)) → HasMembers room (layer (inner room) (bytes_of_items items [] store)) (entries_at (layer (inner (room - 1))) len [] (bytes_of_items is [] store)) (λ es. dict (entries_of es))
 dict_members room items store i is size len f m n h =
     let first = read_first (inner room) items store i is f h in
     let l = dict_read room i is store size m f.small first in
-    subst (λ (k : ℕ). HasMembers room (layer (inner room) (spelled items [] store)) (entries_at (layer (inner (room - 1))) k [] (spelled is [] store)) (λ es. dict (entries_of es))) (sym n)
-    (with_members room (layer (inner room) (spelled items [] store)) (layer (inner room) (spelled (i ∷ is) [] store)) (entries_at (layer (inner (room - 1))) (size_with size i.number) [] (spelled is [] store)) (λ es. dict (entries_of es))
-    l.0 (ap (λ (x : List Item). layer (inner room) (spelled x [] store)) f.all) l.1 first)
+    subst (λ (k : ℕ). HasMembers room (layer (inner room) (bytes_of_items items [] store)) (entries_at (layer (inner (room - 1))) k [] (bytes_of_items is [] store)) (λ es. dict (entries_of es))) (sym n)
+    (with_members room (layer (inner room) (bytes_of_items items [] store)) (layer (inner room) (bytes_of_items (i ∷ is) [] store)) (entries_at (layer (inner (room - 1))) (size_with size i.number) [] (bytes_of_items is [] store)) (λ es. dict (entries_of es))
+    l.0 (ap (λ (x : List Item). layer (inner room) (bytes_of_items x [] store)) f.all) l.1 first)
 
 pub struct_members : (room : ℕ) (items : List Item) (store : List ℕ) (i : Item) (is : List Item) (n : ℕ) → IsFirst items store i is → marker i.marker ≡ Some (announces.Struct n)
-    → IsRead (layer (inner room) (spelled items [] store)) → HasMembers room (layer (inner room) (spelled items [] store)) (items_at (layer (inner (room - 1))) n [] (spelled is [] store)) (λ ts. structure i.number (trees_of ts))
+    → IsRead (layer (inner room) (bytes_of_items items [] store)) → HasMembers room (layer (inner room) (bytes_of_items items [] store)) (items_at (layer (inner (room - 1))) n [] (bytes_of_items is [] store)) (λ ts. structure i.number (trees_of ts))
 struct_members room items store i is n f m h =
     let first = read_first (inner room) items store i is f h in
     let l = struct_read room i is store n m f.small first in
-    with_members room (layer (inner room) (spelled items [] store)) (layer (inner room) (spelled (i ∷ is) [] store)) (items_at (layer (inner (room - 1))) n [] (spelled is [] store)) (λ ts. structure i.number (trees_of ts))
-    l.0 (ap (λ (x : List Item). layer (inner room) (spelled x [] store)) f.all) l.1 first
+    with_members room (layer (inner room) (bytes_of_items items [] store)) (layer (inner room) (bytes_of_items (i ∷ is) [] store)) (items_at (layer (inner (room - 1))) n [] (bytes_of_items is [] store)) (λ ts. structure i.number (trees_of ts))
+    l.0 (ap (λ (x : List Item). layer (inner room) (bytes_of_items x [] store)) f.all) l.1 first
 
 -- ---- the whole
 
-ended_ok : (len : ℕ) (r : Read Tree) (t : Tree) → ended len r ≡ Ok t → r ≡ Ok (t, [])
+ended_ok : (len : ℕ) (r : Read Tree) (t : Tree) → only_value len r ≡ Ok t → r ≡ Ok (t, [])
 ended_ok len (Ok (u, [])) t e = cc
 ended_ok len (Ok (u, b ∷ rest)) t e = absurd cc
 ended_ok len (Err (q, left)) t e = absurd cc

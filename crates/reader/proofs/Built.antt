@@ -19,7 +19,7 @@ use Rattle.packstream.specs.Markers.{width, marker, size_len}
 use Rattle.packstream.specs.Reading.{Read, ◌>>=◌, number_at, size_at, int_at, bytes_at, text_at, key_of, key_at, keys, items_at, entries_at, list_at, dict_at, struct_at, form_at, layer, inner}
 use Rattle.packstream.proofs.Steps.{inner_none, inner_more}
 use Rattle.reader.specs.declared.item.Item.{Item}
-use Rattle.reader.specs.Items.{field, size_with, body, bodies, spelled}
+use Rattle.reader.specs.Items.{field, size_with, body, bodies, bytes_of_items}
 use Rattle.reader.specs.Building.{IsRead}
 
 abbrev Fault : Type 0
@@ -57,10 +57,10 @@ abbrev pub front : Item → List ℕ → List ℕ
 front i store = take (body (marker i.marker) i.number) store
 
 abbrev pub others : Item → List Item → List ℕ → List ℕ
-others i is store = spelled is [] (drop (body (marker i.marker) i.number) store)
+others i is store = bytes_of_items is [] (drop (body (marker i.marker) i.number) store)
 
 at_item : (read : Option (List ℕ → Read Tree)) (i : Item) (is : List Item) (store : List ℕ) (what : Marker) → marker i.marker ≡ Some what
-    → (left : ℕ) × (layer read (spelled (i ∷ is) [] store) ≡ form_at read left (Some what) (big_bytes (field (Some what)) i.number ++ (front i store ++ others i is store)))
+    → (left : ℕ) × (layer read (bytes_of_items (i ∷ is) [] store) ≡ form_at read left (Some what) (big_bytes (field (Some what)) i.number ++ (front i store ++ others i is store)))
 unfolding layer
 at_item read i is store what e =
     (_, ap (λ (o : Option Marker). form_at read (suc (length (big_bytes (field (marker i.marker)) i.number ++ (front i store ++ others i is store)))) o (big_bytes (field o) i.number ++ (front i store ++ others i is store))) e)
@@ -84,26 +84,26 @@ small i what e lt = subst (λ (o : Option Marker). i.number < 256 ^ field o) e l
 reads_by : {A : Type 0} (r s : Read A) → r ≡ s → IsRead r → IsRead s
 reads_by r s e h = (h.0, sym e ∙ h.1)
 
-pub read_null : (read : Option (List ℕ → Read Tree)) (i : Item) (is : List Item) (store : List ℕ) → marker i.marker ≡ Some announces.Null → layer read (spelled (i ∷ is) [] store) ≡ Ok (null, spelled is [] store)
+pub read_null : (read : Option (List ℕ → Read Tree)) (i : Item) (is : List Item) (store : List ℕ) → marker i.marker ≡ Some announces.Null → layer read (bytes_of_items (i ∷ is) [] store) ≡ Ok (null, bytes_of_items is [] store)
 unfolding form_at
-read_null read i is store e = let a = at_item read i is store announces.Null e in a.1 ∙ ap (λ (o : Option Marker). Ok (null, take (body o i.number) store ++ spelled is [] (drop (body o i.number) store))) e
+read_null read i is store e = let a = at_item read i is store announces.Null e in a.1 ∙ ap (λ (o : Option Marker). Ok (null, take (body o i.number) store ++ bytes_of_items is [] (drop (body o i.number) store))) e
 
-pub read_bool : (read : Option (List ℕ → Read Tree)) (i : Item) (is : List Item) (store : List ℕ) (b : Bool) → marker i.marker ≡ Some (announces.Bool b) → layer read (spelled (i ∷ is) [] store) ≡ Ok (boolean b, spelled is [] store)
+pub read_bool : (read : Option (List ℕ → Read Tree)) (i : Item) (is : List Item) (store : List ℕ) (b : Bool) → marker i.marker ≡ Some (announces.Bool b) → layer read (bytes_of_items (i ∷ is) [] store) ≡ Ok (boolean b, bytes_of_items is [] store)
 unfolding form_at
-read_bool read i is store b e = let a = at_item read i is store (announces.Bool b) e in a.1 ∙ ap (λ (o : Option Marker). Ok (boolean b, take (body o i.number) store ++ spelled is [] (drop (body o i.number) store))) e
+read_bool read i is store b e = let a = at_item read i is store (announces.Bool b) e in a.1 ∙ ap (λ (o : Option Marker). Ok (boolean b, take (body o i.number) store ++ bytes_of_items is [] (drop (body o i.number) store))) e
 
-pub read_tiny : (read : Option (List ℕ → Read Tree)) (i : Item) (is : List Item) (store : List ℕ) (z : _) → marker i.marker ≡ Some (announces.Tiny z) → layer read (spelled (i ∷ is) [] store) ≡ Ok (int z, spelled is [] store)
+pub read_tiny : (read : Option (List ℕ → Read Tree)) (i : Item) (is : List Item) (store : List ℕ) (z : _) → marker i.marker ≡ Some (announces.Tiny z) → layer read (bytes_of_items (i ∷ is) [] store) ≡ Ok (int z, bytes_of_items is [] store)
 unfolding form_at
-read_tiny read i is store z e = let a = at_item read i is store (announces.Tiny z) e in a.1 ∙ ap (λ (o : Option Marker). Ok (int z, take (body o i.number) store ++ spelled is [] (drop (body o i.number) store))) e
+read_tiny read i is store z e = let a = at_item read i is store (announces.Tiny z) e in a.1 ∙ ap (λ (o : Option Marker). Ok (int z, take (body o i.number) store ++ bytes_of_items is [] (drop (body o i.number) store))) e
 
 -- what follows an item without a text
-plainly : (i : Item) (is : List Item) (store : List ℕ) (what : Marker) → marker i.marker ≡ Some what → body (Some what) i.number ≡ 0 → front i store ++ others i is store ≡ spelled is [] store
+plainly : (i : Item) (is : List Item) (store : List ℕ) (what : Marker) → marker i.marker ≡ Some what → body (Some what) i.number ≡ 0 → front i store ++ others i is store ≡ bytes_of_items is [] store
 plainly i is store what e none =
     let n : body (marker i.marker) i.number ≡ 0 = ap (λ (o : Option Marker). body o i.number) e ∙ none in
-    ap (λ (k : ℕ). take k store ++ spelled is [] (drop k store)) n
+    ap (λ (k : ℕ). take k store ++ bytes_of_items is [] (drop k store)) n
 
 pub read_int : (read : Option (List ℕ → Read Tree)) (i : Item) (is : List Item) (store : List ℕ) (w : Width) → marker i.marker ≡ Some (announces.Int w) → i.number < 256 ^ field (marker i.marker)
-    → layer read (spelled (i ∷ is) [] store) ≡ Ok (int (twos_complement (width w) i.number), spelled is [] store)
+    → layer read (bytes_of_items (i ∷ is) [] store) ≡ Ok (int (twos_complement (width w) i.number), bytes_of_items is [] store)
 unfolding form_at int_at
 read_int read i is store w e lt =
     let a = at_item read i is store (announces.Int w) e in
@@ -111,7 +111,7 @@ read_int read i is store w e lt =
     a.1 ∙ rw (number_there a.0 (width w) i.number (front i store ++ others i is store) (small i (announces.Int w) e lt), p) refl
 
 pub read_float : (read : Option (List ℕ → Read Tree)) (i : Item) (is : List Item) (store : List ℕ) → marker i.marker ≡ Some announces.Float → i.number < 256 ^ field (marker i.marker)
-    → layer read (spelled (i ∷ is) [] store) ≡ Ok (float i.number, spelled is [] store)
+    → layer read (bytes_of_items (i ∷ is) [] store) ≡ Ok (float i.number, bytes_of_items is [] store)
 unfolding form_at
 read_float read i is store e lt =
     let a = at_item read i is store announces.Float e in
@@ -119,20 +119,20 @@ read_float read i is store e lt =
     a.1 ∙ rw (number_there a.0 8 i.number (front i store ++ others i is store) (small i announces.Float e lt), p) refl
 
 pub read_bytes : (read : Option (List ℕ → Read Tree)) (i : Item) (is : List Item) (store : List ℕ) (size : Size) → marker i.marker ≡ Some (announces.Bytes size) → i.number < 256 ^ field (marker i.marker) → length store ≡ bodies (i ∷ is)
-    → layer read (spelled (i ∷ is) [] store) ≡ Ok (byte_string (take (size_with size i.number) store), spelled is [] (drop (size_with size i.number) store))
+    → layer read (bytes_of_items (i ∷ is) [] store) ≡ Ok (byte_string (take (size_with size i.number) store), bytes_of_items is [] (drop (size_with size i.number) store))
 unfolding form_at
 read_bytes read i is store size e lt sized =
     let a = at_item read i is store (announces.Bytes size) e in
     let n : body (marker i.marker) i.number ≡ size_with size i.number = ap (λ (o : Option Marker). body o i.number) e in
     let b = bytes_there a.0 size i.number (front i store) (others i is store) (small i (announces.Bytes size) e lt) (front_len i is store sized ∙ n) in
-    a.1 ∙ rw b refl ∙ ap (λ (k : ℕ). Ok (byte_string (take k store), spelled is [] (drop k store))) n
+    a.1 ∙ rw b refl ∙ ap (λ (k : ℕ). Ok (byte_string (take k store), bytes_of_items is [] (drop k store))) n
 
 -- a text, or that it is none
 abbrev text_front : Bool → ℕ → List ℕ → List ℕ → Read (List ℕ)
 text_front b left s rest = cond b (Ok (s, rest)) (Err (reason.Utf8, left))
 
 text_is : (read : Option (List ℕ → Read Tree)) (i : Item) (is : List Item) (store : List ℕ) (size : Size) → marker i.marker ≡ Some (announces.Text size) → i.number < 256 ^ field (marker i.marker) → length store ≡ bodies (i ∷ is)
-    → (left : ℕ) × (layer read (spelled (i ∷ is) [] store) ≡ (text_front (is_utf8 (front i store)) left (front i store) (others i is store) >>= λ s. Ok (text s.0, s.1)))
+    → (left : ℕ) × (layer read (bytes_of_items (i ∷ is) [] store) ≡ (text_front (is_utf8 (front i store)) left (front i store) (others i is store) >>= λ s. Ok (text s.0, s.1)))
 unfolding form_at
 text_is read i is store size e lt sized =
     let a = at_item read i is store (announces.Text size) e in
@@ -146,19 +146,19 @@ passed false left s rest f h = absurd (let k : ◌≡◌ {A = Read Tree} (Err (r
 
 -- a text that is read is one
 pub text_good : (read : Option (List ℕ → Read Tree)) (i : Item) (is : List Item) (store : List ℕ) (size : Size) → marker i.marker ≡ Some (announces.Text size) → i.number < 256 ^ field (marker i.marker) → length store ≡ bodies (i ∷ is)
-    → IsRead (layer read (spelled (i ∷ is) [] store)) → is_utf8 (take (size_with size i.number) store) ≡ true
+    → IsRead (layer read (bytes_of_items (i ∷ is) [] store)) → is_utf8 (take (size_with size i.number) store) ≡ true
 text_good read i is store size e lt sized h =
     let t = text_is read i is store size e lt sized in
     let n : body (marker i.marker) i.number ≡ size_with size i.number = ap (λ (o : Option Marker). body o i.number) e in
     subst (λ (k : ℕ). is_utf8 (take k store) ≡ true) n (passed (is_utf8 (front i store)) t.0 (front i store) (others i is store) (λ s. Ok (text s.0, s.1)) (h.0, sym t.1 ∙ h.1))
 
 pub read_text : (read : Option (List ℕ → Read Tree)) (i : Item) (is : List Item) (store : List ℕ) (size : Size) → marker i.marker ≡ Some (announces.Text size) → i.number < 256 ^ field (marker i.marker) → length store ≡ bodies (i ∷ is)
-    → IsRead (layer read (spelled (i ∷ is) [] store)) → layer read (spelled (i ∷ is) [] store) ≡ Ok (text (take (size_with size i.number) store), spelled is [] (drop (size_with size i.number) store))
+    → IsRead (layer read (bytes_of_items (i ∷ is) [] store)) → layer read (bytes_of_items (i ∷ is) [] store) ≡ Ok (text (take (size_with size i.number) store), bytes_of_items is [] (drop (size_with size i.number) store))
 read_text read i is store size e lt sized h =
     let t = text_is read i is store size e lt sized in
     let n : body (marker i.marker) i.number ≡ size_with size i.number = ap (λ (o : Option Marker). body o i.number) e in
     let good : is_utf8 (front i store) ≡ true = subst (λ (k : ℕ). is_utf8 (take k store) ≡ true) (sym n) (text_good read i is store size e lt sized h) in
-    t.1 ∙ rw good refl ∙ ap (λ (k : ℕ). Ok (text (take k store), spelled is [] (drop k store))) n
+    t.1 ∙ rw good refl ∙ ap (λ (k : ℕ). Ok (text (take k store), bytes_of_items is [] (drop k store))) n
 
 -- ---- what nests
 
@@ -195,8 +195,8 @@ unfolding struct_at
 struct_some left read n tag rest = refl
 
 -- if a list is read, its members are
-pub list_read : (room : ℕ) (i : Item) (is : List Item) (store : List ℕ) (size : Size) → marker i.marker ≡ Some (announces.List size) → i.number < 256 ^ field (marker i.marker) → IsRead (layer (inner room) (spelled (i ∷ is) [] store))
-    → (room ≡ 0 → ⊥) × (layer (inner room) (spelled (i ∷ is) [] store) ≡ (items_at (layer (inner (room - 1))) (size_with size i.number) [] (spelled is [] store) >>= λ x. Ok (list (trees_of x.0), x.1)))
+pub list_read : (room : ℕ) (i : Item) (is : List Item) (store : List ℕ) (size : Size) → marker i.marker ≡ Some (announces.List size) → i.number < 256 ^ field (marker i.marker) → IsRead (layer (inner room) (bytes_of_items (i ∷ is) [] store))
+    → (room ≡ 0 → ⊥) × (layer (inner room) (bytes_of_items (i ∷ is) [] store) ≡ (items_at (layer (inner (room - 1))) (size_with size i.number) [] (bytes_of_items is [] store) >>= λ x. Ok (list (trees_of x.0), x.1)))
 unfolding form_at
 list_read room i is store size e lt h =
     let what : Marker = announces.List size in
@@ -211,8 +211,8 @@ list_read room i is store size e lt h =
           ∙ ap (λ (b : List ℕ). items_at (layer (inner (room - 1))) (size_with size i.number) [] b >>= λ x. Ok (list (trees_of x.0), x.1)) p,
     )
 
-pub dict_read : (room : ℕ) (i : Item) (is : List Item) (store : List ℕ) (size : Size) → marker i.marker ≡ Some (announces.Dict size) → i.number < 256 ^ field (marker i.marker) → IsRead (layer (inner room) (spelled (i ∷ is) [] store))
-    → (room ≡ 0 → ⊥) × (layer (inner room) (spelled (i ∷ is) [] store) ≡ (entries_at (layer (inner (room - 1))) (size_with size i.number) [] (spelled is [] store) >>= λ x. Ok (dict (entries_of x.0), x.1)))
+pub dict_read : (room : ℕ) (i : Item) (is : List Item) (store : List ℕ) (size : Size) → marker i.marker ≡ Some (announces.Dict size) → i.number < 256 ^ field (marker i.marker) → IsRead (layer (inner room) (bytes_of_items (i ∷ is) [] store))
+    → (room ≡ 0 → ⊥) × (layer (inner room) (bytes_of_items (i ∷ is) [] store) ≡ (entries_at (layer (inner (room - 1))) (size_with size i.number) [] (bytes_of_items is [] store) >>= λ x. Ok (dict (entries_of x.0), x.1)))
 unfolding form_at
 dict_read room i is store size e lt h =
     let what : Marker = announces.Dict size in
@@ -230,8 +230,8 @@ dict_read room i is store size e lt h =
 tag_is : (n : ℕ) → n < 256 ^ 1 → big_bytes 1 n ≡ n ∷ []
 tag_is n lt = let e : n % 256 ≡ n = omega arith in ap (λ (x : ℕ). x ∷ []) e
 
-pub struct_read : (room : ℕ) (i : Item) (is : List Item) (store : List ℕ) (n : ℕ) → marker i.marker ≡ Some (announces.Struct n) → i.number < 256 ^ field (marker i.marker) → IsRead (layer (inner room) (spelled (i ∷ is) [] store))
-    → (room ≡ 0 → ⊥) × (layer (inner room) (spelled (i ∷ is) [] store) ≡ (items_at (layer (inner (room - 1))) n [] (spelled is [] store) >>= λ x. Ok (structure i.number (trees_of x.0), x.1)))
+pub struct_read : (room : ℕ) (i : Item) (is : List Item) (store : List ℕ) (n : ℕ) → marker i.marker ≡ Some (announces.Struct n) → i.number < 256 ^ field (marker i.marker) → IsRead (layer (inner room) (bytes_of_items (i ∷ is) [] store))
+    → (room ≡ 0 → ⊥) × (layer (inner room) (bytes_of_items (i ∷ is) [] store) ≡ (items_at (layer (inner (room - 1))) n [] (bytes_of_items is [] store) >>= λ x. Ok (structure i.number (trees_of x.0), x.1)))
 unfolding form_at
 struct_read room i is store n e lt h =
     let what : Marker = announces.Struct n in
@@ -250,12 +250,12 @@ struct_read room i is store n e lt h =
 
 -- ---- what can't be
 
-pub not_empty : (read : Option (List ℕ → Read Tree)) (store : List ℕ) → length store ≡ 0 → IsRead (layer read (spelled [] [] store)) → ⊥
+pub not_empty : (read : Option (List ℕ → Read Tree)) (store : List ℕ) → length store ≡ 0 → IsRead (layer read (bytes_of_items [] [] store)) → ⊥
 unfolding layer
 not_empty read [] e h = let k : ◌≡◌ {A = Read Tree} (Err (reason.Short, 0)) (Ok h.0) = h.1 in cc
 not_empty read (x ∷ store) e h = absurd (omega (arith, e))
 
-pub no_marker : (read : Option (List ℕ → Read Tree)) (i : Item) (is : List Item) (store : List ℕ) → marker i.marker ≡ None → IsRead (layer read (spelled (i ∷ is) [] store)) → ⊥
+pub no_marker : (read : Option (List ℕ → Read Tree)) (i : Item) (is : List Item) (store : List ℕ) → marker i.marker ≡ None → IsRead (layer read (bytes_of_items (i ∷ is) [] store)) → ⊥
 unfolding layer form_at
 no_marker read i is store e h =
     let k = ap (λ (o : Option Marker). form_at read (suc (length (big_bytes (field (marker i.marker)) i.number ++ (front i store ++ others i is store)))) o (big_bytes (field (marker i.marker)) i.number ++ (front i store ++ others i is store))) e in
@@ -269,7 +269,7 @@ bind_read {A} {B} (Err d) f h = absurd (let k : ◌≡◌ {A = Read B} (Err d) (
 
 -- ---- keys
 
-pub key_not_empty : (items : List Item) (store : List ℕ) (before : List (List ℕ)) → length items ≡ 0 → length store ≡ bodies items → IsRead (key_at before (spelled items [] store)) → ⊥
+pub key_not_empty : (items : List Item) (store : List ℕ) (before : List (List ℕ)) → length items ≡ 0 → length store ≡ bodies items → IsRead (key_at before (bytes_of_items items [] store)) → ⊥
 unfolding key_at
 key_not_empty [] [] before e f h = let k : ◌≡◌ {A = Read (List ℕ)} (Err (reason.Short, 0)) (Ok h.0) = h.1 in cc
 key_not_empty [] (x ∷ store) before e f h = absurd (omega (arith, f))
@@ -294,12 +294,12 @@ key_announced before left (Some (announces.Dict size)) rest h = absurd (let k : 
 key_announced before left (Some (announces.Struct n)) rest h = absurd (let k : ◌≡◌ {A = Read (List ℕ)} (Err (reason.KeyKind, left)) (Ok h.0) = h.1 in cc)
 
 -- a key that is read is a text
-pub key_is_text : (i : Item) (is : List Item) (store : List ℕ) (before : List (List ℕ)) → IsRead (key_at before (spelled (i ∷ is) [] store)) → (size : Size) × (marker i.marker ≡ Some (announces.Text size))
+pub key_is_text : (i : Item) (is : List Item) (store : List ℕ) (before : List (List ℕ)) → IsRead (key_at before (bytes_of_items (i ∷ is) [] store)) → (size : Size) × (marker i.marker ≡ Some (announces.Text size))
 unfolding key_at
 key_is_text i is store before h = key_announced before _ (marker i.marker) _ h
 
 at_key_item : (before : List (List ℕ)) (i : Item) (is : List Item) (store : List ℕ) (size : Size) → marker i.marker ≡ Some (announces.Text size) → i.number < 256 ^ field (marker i.marker) → length store ≡ bodies (i ∷ is)
-    → (left : ℕ) × (key_at before (spelled (i ∷ is) [] store) ≡ (text_front (is_utf8 (front i store)) left (front i store) (others i is store) >>= λ s. cond (is_among s.0 before) (Err (reason.KeyTwice, left)) (Ok s)))
+    → (left : ℕ) × (key_at before (bytes_of_items (i ∷ is) [] store) ≡ (text_front (is_utf8 (front i store)) left (front i store) (others i is store) >>= λ s. cond (is_among s.0 before) (Err (reason.KeyTwice, left)) (Ok s)))
 unfolding key_at key_of
 at_key_item before i is store size e lt sized =
     let left : ℕ = suc (length (big_bytes (field (marker i.marker)) i.number ++ (front i store ++ others i is store))) in
@@ -316,21 +316,21 @@ new_passed true f x h = absurd (let k : ◌≡◌ {A = Read (List ℕ)} (Err f) 
 new_passed false f x h = refl
 
 pub key_good : (i : Item) (is : List Item) (store : List ℕ) (before : List (List ℕ)) (size : Size) → marker i.marker ≡ Some (announces.Text size) → i.number < 256 ^ field (marker i.marker) → length store ≡ bodies (i ∷ is)
-    → IsRead (key_at before (spelled (i ∷ is) [] store)) → is_utf8 (take (size_with size i.number) store) ≡ true
+    → IsRead (key_at before (bytes_of_items (i ∷ is) [] store)) → is_utf8 (take (size_with size i.number) store) ≡ true
 key_good i is store before size e lt sized h =
     let t = at_key_item before i is store size e lt sized in
     let n : body (marker i.marker) i.number ≡ size_with size i.number = ap (λ (o : Option Marker). body o i.number) e in
     subst (λ (k : ℕ). is_utf8 (take k store) ≡ true) n (key_passed (is_utf8 (front i store)) t.0 (reason.KeyTwice, t.0) (front i store) (others i is store) before (h.0, sym t.1 ∙ h.1))
 
 pub read_key : (i : Item) (is : List Item) (store : List ℕ) (before : List (List ℕ)) (size : Size) → marker i.marker ≡ Some (announces.Text size) → i.number < 256 ^ field (marker i.marker) → length store ≡ bodies (i ∷ is)
-    → IsRead (key_at before (spelled (i ∷ is) [] store)) → key_at before (spelled (i ∷ is) [] store) ≡ Ok (take (size_with size i.number) store, spelled is [] (drop (size_with size i.number) store))
+    → IsRead (key_at before (bytes_of_items (i ∷ is) [] store)) → key_at before (bytes_of_items (i ∷ is) [] store) ≡ Ok (take (size_with size i.number) store, bytes_of_items is [] (drop (size_with size i.number) store))
 read_key i is store before size e lt sized h =
     let t = at_key_item before i is store size e lt sized in
     let n : body (marker i.marker) i.number ≡ size_with size i.number = ap (λ (o : Option Marker). body o i.number) e in
     let good : is_utf8 (front i store) ≡ true = subst (λ (k : ℕ). is_utf8 (take k store) ≡ true) (sym n) (key_good i is store before size e lt sized h) in
     let one : (text_front (is_utf8 (front i store)) t.0 (front i store) (others i is store) >>= λ s. cond (is_among s.0 before) (Err (reason.KeyTwice, t.0)) (Ok s)) ≡ cond (is_among (front i store) before) (Err (reason.KeyTwice, t.0)) (Ok (front i store, others i is store)) = rw good refl in
     let two = new_passed (is_among (front i store) before) (reason.KeyTwice, t.0) (front i store, others i is store) (h.0, sym one ∙ sym t.1 ∙ h.1) in
-    t.1 ∙ one ∙ two ∙ ap (λ (k : ℕ). Ok (take k store, spelled is [] (drop k store))) n
+    t.1 ∙ one ∙ two ∙ ap (λ (k : ℕ). Ok (take k store, bytes_of_items is [] (drop k store))) n
 
 -- ---- members and pairs
 

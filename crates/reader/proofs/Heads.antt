@@ -14,7 +14,7 @@ use Rattle.packstream.specs.Spelling.{IsNumber, IsSize}
 use Rattle.packstream.specs.Faults.{needs, text_in}
 use Rattle.packstream.proofs.Shortest.{number_of}
 use Rattle.std.specs.Int.{byte_at}
-use Rattle.reader.specs.Items.{field, size_with, body, joined}
+use Rattle.reader.specs.Items.{field, size_with, body, number_from}
 
 -- ---- a byte more behind a number
 
@@ -36,23 +36,23 @@ bytes_next zero n b lt = ap (λ (x : ℕ). x ∷ []) (next_low n b lt)
 bytes_next (suc j) n b lt =
     ap (λ (x : ℕ). x ∷ big_bytes (suc j) (n * 256 + b)) (next_place j n b lt) ∙ ap (λ (x : List ℕ). byte_at j n ∷ x) (bytes_next j n b lt)
 
-pub joined_bytes : (k n : ℕ) (c : List ℕ) → AreBytes c → big_bytes (k + length c) (joined n c) ≡ big_bytes k n ++ c
+pub joined_bytes : (k n : ℕ) (c : List ℕ) → AreBytes c → big_bytes (k + length c) (number_from n c) ≡ big_bytes k n ++ c
 joined_bytes k n [] bytes = let e : k + 0 ≡ k = omega arith in ap (λ (x : ℕ). big_bytes x n) e ∙ sym (append-nil (big_bytes k n))
 joined_bytes k n (b ∷ c) bytes =
     let e : k + length (b ∷ c) ≡ suc k + length c = omega arith in
-    ap (λ (x : ℕ). big_bytes x (joined (n * 256 + b) c)) e
+    ap (λ (x : ℕ). big_bytes x (number_from (n * 256 + b) c)) e
     ∙ joined_bytes (suc k) (n * 256 + b) c bytes.1
     ∙ ap (λ (x : List ℕ). x ++ c) (bytes_next k n b bytes.0)
     ∙ append_assoc (big_bytes k n) (b ∷ []) c
 
-pub joined_fits : (k n : ℕ) (c : List ℕ) → AreBytes c → n < 256 ^ k → joined n c < 256 ^ (k + length c)
+pub joined_fits : (k n : ℕ) (c : List ℕ) → AreBytes c → n < 256 ^ k → number_from n c < 256 ^ (k + length c)
 joined_fits k n [] bytes lt = let e : k + 0 ≡ k = omega arith in subst (λ (x : ℕ). n < 256 ^ x) (sym e) lt
 joined_fits k n (b ∷ c) bytes lt =
     let e : suc k + length c ≡ k + length (b ∷ c) = omega arith in
     let power : 256 ^ suc k ≡ 256 * 256 ^ k = pow-succ' 256 k in
     let byte : b < 256 = bytes.0 in
     let more : n * 256 + b < 256 ^ suc k = omega arith in
-    subst (λ (x : ℕ). joined (n * 256 + b) c < 256 ^ x) e (joined_fits (suc k) (n * 256 + b) c bytes.1 more)
+    subst (λ (x : ℕ). number_from (n * 256 + b) c < 256 ^ x) e (joined_fits (suc k) (n * 256 + b) c bytes.1 more)
 
 -- a number of so few bytes fits a word
 pub fits_word : (k n : ℕ) → k ≤ 8 → n < 256 ^ k → n < 2 ^ 64

@@ -18,22 +18,22 @@ use Rattle.packstream.proofs.Deciding.{whole_value, whole_fault, err_parts}
 use Rattle.reader.specs.declared.reading.Part.{Part}
 use Rattle.reader.specs.declared.reading.Part.TheVariants as part
 use Rattle.reader.specs.declared.reading.Mark.{Mark}
-use Rattle.reader.specs.Items.{spelled, part_head, bodies, AreItems}
+use Rattle.reader.specs.Items.{bytes_of_items, part_head, bodies, AreItems}
 use Rattle.reader.specs.Naming.{ArePlaced}
 use Rattle.reader.specs.Piecewise.{Point, IsBeginning, Takes, MayGoOn}
-use Rattle.reader.specs.Holding.{Holds, bytes_of, point, mark_of, cut, turned, points, Goes, IsLacking, IsDone, IsStanding, IsKeeping, HasGrown, IsKept}
+use Rattle.reader.specs.Holding.{Holds, bytes_of, point, mark_of, at_mark, with_fault, points, Goes, IsLacking, IsDone, IsStanding, IsKeeping, HasGrown, IsKept}
 use Rattle.reader.proofs.Opening.{bad_behind}
 use Rattle.reader.proofs.Faulting.{part_is_short}
 use Rattle.reader.proofs.Standing.{bytes_behind}
 
-pub cut_all : (h : Holds) → cut (mark_of h) h ≡ h
+pub cut_all : (h : Holds) → at_mark (mark_of h) h ≡ h
 cut_all h = rw (take-length h.items, take-length h.store, take-length h.names) refl
 
-pub cut_cut : (m k : Mark) (h : Holds) → m.items ≤ k.items → m.store ≤ k.store → m.keys ≤ k.keys → cut m (cut k h) ≡ cut m h
+pub cut_cut : (m k : Mark) (h : Holds) → m.items ≤ k.items → m.store ≤ k.store → m.keys ≤ k.keys → at_mark m (at_mark k h) ≡ at_mark m h
 cut_cut m k h a b c = rw (take-take m.items k.items h.items a, take-take m.store k.store h.store b, take-take m.keys k.keys h.names c) refl
 
 -- what has grown is cut back
-pub cut_grown : (old new : Holds) → HasGrown old new → cut (mark_of old) new ≡ old
+pub cut_grown : (old new : Holds) → HasGrown old new → at_mark (mark_of old) new ≡ old
 cut_grown old new g =
     let a = ap (take (length old.items)) g.items.1 ∙ take_at old.items g.items.0 (length old.items) refl in
     let b = ap (take (length old.store)) g.store.1 ∙ take_at old.store g.store.0 (length old.store) refl in
@@ -85,24 +85,24 @@ kept_here h keeps = record {
 pub points_here : (h : Holds) → points h (mark_of h) ≡ record { here = point h; held = point h }
 points_here h = ap (λ (x : Holds). record { here = point h; held = point x }) (cut_all h)
 
-pub kept_back : (h : Holds) (m : Mark) → IsKept h m → IsKept (cut m h) m
+pub kept_back : (h : Holds) (m : Mark) → IsKept h m → IsKept (at_mark m h) m
 kept_back h m kept =
-    let again : cut m (cut m h) ≡ cut m h = cut_cut m m h (omega arith) (omega arith) (omega arith) in
+    let again : at_mark m (at_mark m h) ≡ at_mark m h = cut_cut m m h (omega arith) (omega arith) (omega arith) in
     record {
       items = omega (arith, length-take-le m.items h.items kept.items);
       store = omega (arith, length-take-le m.store h.store kept.store);
       names = omega (arith, length-take-le m.keys h.names kept.names);
       here = kept.behind;
       behind = subst IsKeeping (sym again) kept.behind;
-      held = subst (λ (x : Holds). IsBeginning (bytes_of x) (bytes_of (cut m h))) (sym again) (begins_itself (bytes_of (cut m h)));
+      held = subst (λ (x : Holds). IsBeginning (bytes_of x) (bytes_of (at_mark m h))) (sym again) (begins_itself (bytes_of (at_mark m h)));
     }
 
-pub points_back : (h : Holds) (m : Mark) → points (cut m h) m ≡ record { here = point (cut m h); held = point (cut m h) }
-points_back h m = ap (λ (x : Holds). record { here = point (cut m h); held = point x }) (cut_cut m m h (omega arith) (omega arith) (omega arith))
+pub points_back : (h : Holds) (m : Mark) → points (at_mark m h) m ≡ record { here = point (at_mark m h); held = point (at_mark m h) }
+points_back h m = ap (λ (x : Holds). record { here = point (at_mark m h); held = point x }) (cut_cut m m h (omega arith) (omega arith) (omega arith))
 
 -- a cut at the held point undoes no growth since
-cut_on : (old new : Holds) (m : Mark) → HasGrown old new → m.items ≤ length old.items → m.store ≤ length old.store → m.keys ≤ length old.names → cut m new ≡ cut m old
-cut_on old new m g a b c = sym (cut_cut m (mark_of old) new a b c) ∙ ap (cut m) (cut_grown old new g)
+cut_on : (old new : Holds) (m : Mark) → HasGrown old new → m.items ≤ length old.items → m.store ≤ length old.store → m.keys ≤ length old.names → at_mark m new ≡ at_mark m old
+cut_on old new m g a b c = sym (cut_cut m (mark_of old) new a b c) ∙ ap (at_mark m) (cut_grown old new g)
 
 -- a piece that was taken leaves the held point
 pub kept_on : (old new : Holds) (m : Mark) (piece : List ℕ) → IsKept old m → HasGrown old new → IsKeeping new → bytes_of new ≡ bytes_of old ++ piece → IsKept new m
@@ -116,11 +116,11 @@ kept_on old new m piece kept grown keeps bytes =
       behind = subst IsKeeping (sym same) kept.behind;
       held = (
         kept.held.0 ++ piece,
-        bytes ∙ ap (λ (b : List ℕ). b ++ piece) kept.held.1 ∙ append_assoc (bytes_of (cut m old)) kept.held.0 piece ∙ ap (λ (x : Holds). bytes_of x ++ (kept.held.0 ++ piece)) (sym same),
+        bytes ∙ ap (λ (b : List ℕ). b ++ piece) kept.held.1 ∙ append_assoc (bytes_of (at_mark m old)) kept.held.0 piece ∙ ap (λ (x : Holds). bytes_of x ++ (kept.held.0 ++ piece)) (sym same),
       );
     }
 
-pub held_on : (old new : Holds) (m : Mark) → IsKept old m → HasGrown old new → point (cut m new) ≡ point (cut m old)
+pub held_on : (old new : Holds) (m : Mark) → IsKept old m → HasGrown old new → point (at_mark m new) ≡ point (at_mark m old)
 held_on old new m kept grown = ap point (cut_on old new m grown kept.items kept.store kept.names)
 
 -- ---- what the bytes have
@@ -135,11 +135,11 @@ one_reason b r q o p e f = (err_parts {A = Tree} r q o p (sym e ∙ f)).0
 goes_short : (h : Holds) → (g : Goes h h.standing.part) → IsLacking h.standing.part → Bad (bytes_of h) h.standing.read reason.Short
 goes_short h g lacks =
     subst (λ (n : ℕ). Bad (bytes_of h) n reason.Short) (sym g.read)
-    (subst (λ (b : List ℕ). Bad b (length (spelled h.items [] g.full)) reason.Short) (sym (bytes_behind h h.standing.part g))
-    (bad_behind g.frames (spelled h.items [] g.full) (part_head h.standing.part ++ g.tail) reason.Short g.are (part_is_short _ h.standing.part g.tail g.isa lacks)))
+    (subst (λ (b : List ℕ). Bad b (length (bytes_of_items h.items [] g.full)) reason.Short) (sym (bytes_behind h h.standing.part g))
+    (bad_behind g.frames (bytes_of_items h.items [] g.full) (part_head h.standing.part ++ g.tail) reason.Short g.are (part_is_short _ h.standing.part g.tail g.isa lacks)))
 
-done_bytes : (h : Holds) → (d : IsDone h) → bytes_of h ≡ spelled h.items [] h.store
-done_bytes h d = ap (λ (p : Part). spelled h.items (part_head p) h.store) d.none
+done_bytes : (h : Holds) → (d : IsDone h) → bytes_of h ≡ bytes_of_items h.items [] h.store
+done_bytes h d = ap (λ (p : Part). bytes_of_items h.items (part_head p) h.store) d.none
 
 done_tree : (h : Holds) → (d : IsDone h) → AreBytes (bytes_of h) → IsGood d.tree × Spells d.tree (bytes_of h)
 done_tree h d bytes = good_spelled d.tree (bytes_of h) bytes d.deep d.sound (subst (λ (b : List ℕ). SpellsTree d.tree b) (sym (done_bytes h d)) d.spells)
@@ -162,11 +162,11 @@ done_of h keeps ended = elim (keeps.stands) as (λ _. IsDone h) [
   | inr u ↦ absurd (true_not_false (sym ended ∙ (u.0).unread))
 ]
 
-pub built_from : (h : Holds) → IsKeeping h → (d : IsDone h) → (t : Tree) × (whole_of (spelled h.items [] h.store) ≡ Ok t)
+pub built_from : (h : Holds) → IsKeeping h → (d : IsDone h) → (t : Tree) × (whole_of (bytes_of_items h.items [] h.store) ≡ Ok t)
 built_from h keeps d = (d.tree, ap whole_of (sym (done_bytes h d)) ∙ (whole_value (bytes_of h) keeps.bytes d.tree).1 (done_tree h d keeps.bytes))
 
 -- what the items spell is what the bytes do
-pub built_tree : (h : Holds) (t : Tree) → (d : IsDone h) → whole_of (spelled h.items [] h.store) ≡ Ok t → whole_of (bytes_of h) ≡ Ok t
+pub built_tree : (h : Holds) (t : Tree) → (d : IsDone h) → whole_of (bytes_of_items h.items [] h.store) ≡ Ok t → whole_of (bytes_of h) ≡ Ok t
 built_tree h t d e = ap whole_of (done_bytes h d) ∙ e
 
 pub good_tree : (h : Holds) (t : Tree) → IsKeeping h → whole_of (bytes_of h) ≡ Ok t → IsGood t
@@ -193,7 +193,7 @@ joins old new before piece is keeps good bytes still =
     subst (λ (p : Point). Takes p piece (point new)) is (rw good (inl (bytes, still, may_go_on new keeps)))
 
 -- a piece that ends in a fault is taken back, and the fault is kept
-pub turns : (old new : Holds) (before : Point) (piece : List ℕ) (r : Reason) (o : ℕ) → point old ≡ before → old.standing.bad ≡ None → new ≡ turned r o old → Bad (bytes_of old ++ piece) o r × (r ≡ reason.Short → ⊥) → Takes before piece (point new)
+pub turns : (old new : Holds) (before : Point) (piece : List ℕ) (r : Reason) (o : ℕ) → point old ≡ before → old.standing.bad ≡ None → new ≡ with_fault r o old → Bad (bytes_of old ++ piece) o r × (r ≡ reason.Short → ⊥) → Takes before piece (point new)
 turns old new before piece r o is good turn bad =
     subst (λ (p : Point). Takes p piece (point new)) is
     (subst (λ (x : Holds). Takes (point old) piece (point x)) (sym turn)
@@ -201,7 +201,7 @@ turns old new before piece r o is good turn bad =
 
 -- ---- a fault changes neither lists nor places
 
-turned_goes : (h : Holds) (r : Reason) (o : ℕ) (p : Part) → Goes h p → Goes (turned r o h) p
+turned_goes : (h : Holds) (r : Reason) (o : ℕ) (p : Part) → Goes h p → Goes (with_fault r o h) p
 turned_goes h r o p g = record {
   frames = g.frames;
   full = g.full;
@@ -218,7 +218,7 @@ turned_goes h r o p g = record {
   isa = g.isa;
 }
 
-turned_done : (h : Holds) (r : Reason) (o : ℕ) → IsDone h → IsDone (turned r o h)
+turned_done : (h : Holds) (r : Reason) (o : ℕ) → IsDone h → IsDone (with_fault r o h)
 turned_done h r o d = record {
   tree = d.tree;
   whole = d.whole;
@@ -232,11 +232,11 @@ turned_done h r o d = record {
   placed = d.placed;
 }
 
-turned_stands : (h : Holds) (r : Reason) (o : ℕ) → IsStanding h → IsStanding (turned r o h)
+turned_stands : (h : Holds) (r : Reason) (o : ℕ) → IsStanding h → IsStanding (with_fault r o h)
 turned_stands h r o (inl d) = inl (turned_done h r o d)
 turned_stands h r o (inr u) = inr (turned_goes h r o h.standing.part u.0, u.1)
 
-pub kept_turned : (h : Holds) (m : Mark) (r : Reason) (o : ℕ) → IsKept h m → IsKept (turned r o h) m
+pub kept_turned : (h : Holds) (m : Mark) (r : Reason) (o : ℕ) → IsKept h m → IsKept (with_fault r o h) m
 kept_turned h m r o kept = record {
   items = kept.items;
   store = kept.store;

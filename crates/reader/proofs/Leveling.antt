@@ -9,9 +9,9 @@ use Rattle.reader.specs.declared.open.Inside.{Inside}
 use Rattle.reader.specs.declared.open.Inside.TheVariants as inside
 use Rattle.reader.specs.declared.open.Level.{Level}
 use Rattle.packstream.specs.Faults.{Opened, in_list, in_struct, at_key, at_value}
-use Rattle.reader.specs.Frames.{Frame, level, next_of, after_value, AreLevels, waits, put, closed, whole, still, ends}
+use Rattle.reader.specs.Frames.{Frame, level, next_of, after_value, AreLevels, waits, with_member, tree_so_far, whole, still, ends}
 
-next_put : (f : Opened) (t : Tree) → next_of (put f t) ≡ after_value (next_of f)
+next_put : (f : Opened) (t : Tree) → next_of (with_member f t) ≡ after_value (next_of f)
 next_put (in_list ts) t = refl
 next_put (in_struct tag ts) t = refl
 next_put (at_key es) t = refl
@@ -40,7 +40,7 @@ step_out d (f ∷ fs) t n xs lt h le =
     let is : get_or xs (n - 1) d ≡ level f = ap (λ (m : ℕ). get_or xs m d) (sym k) ∙ get_or_from_slice_get xs h.0 (level f) d h.2 in
     let lacks : (get_or xs (n - 1) d).lacks ≡ f.lacks = ap (λ (l : Level). l.lacks) is in
     let last : nat_lt 1 f.lacks ≡ false = le-ltb _ _ (omega arith) in
-    (fs, closed (put f.opened t), subst (λ (m : ℕ). AreLevels fs m xs) k h.3, rw last refl)
+    (fs, tree_so_far (with_member f.opened t), subst (λ (m : ℕ). AreLevels fs m xs) k h.3, rw last refl)
 
 -- the innermost level has one member more, and lacks others
 pub stay_in : (d : Level) (fs : List Frame) (t : Tree) (n : ℕ) (xs : List Level) → 0 < n → AreLevels fs n xs → 1 < (get_or xs (n - 1) d).lacks
@@ -52,7 +52,7 @@ stay_in d (f ∷ fs) t n xs lt h more =
     let is : get_or xs (n - 1) d ≡ level f = ap (λ (m : ℕ). get_or xs m d) (sym k) ∙ get_or_from_slice_get xs h.0 (level f) d h.2 in
     let lacks : (get_or xs (n - 1) d).lacks ≡ f.lacks = ap (λ (l : Level). l.lacks) is in
     let some : nat_lt 1 f.lacks ≡ true = lt-ltb _ _ (omega arith) in
-    let g : Frame = record { opened = put f.opened t; lacks = f.lacks - 1; first = f.first } in
+    let g : Frame = record { opened = with_member f.opened t; lacks = f.lacks - 1; first = f.first } in
     let new : Level = record { next = after_value (get_or xs (n - 1) d).next; lacks = (get_or xs (n - 1) d).lacks - 1; keys = (get_or xs (n - 1) d).keys } in
     let new_is : new ≡ level g =
     ap (λ (l : Level). record { next = after_value l.next; lacks = l.lacks - 1; keys = l.keys }) is

@@ -14,4 +14,5 @@ pub mod Built
 pub mod Taking
 pub mod Held
 pub mod Builds
-pub mod OnePiece
+pub mod Pieces
+pub mod Alike

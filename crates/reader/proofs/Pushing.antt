@@ -9,7 +9,7 @@ use Rattle.packstream.specs.Tree.{Tree, list, dict, structure, Trees, no_trees, 
 use Rattle.packstream.specs.Good.{depth, count, entry_count, trees_depth, entries_depth, IsSound, AreSound, HaveSoundValues, AreNewKeys, is_among}
 use Rattle.packstream.specs.Spelling.{Begins, IsSize, SpellsText, SpellsTree, SpellsAll, SpellsEntries}
 use Rattle.packstream.specs.Faults.{Opened, in_list, in_struct, at_key, at_value, keys_of, key_there}
-use Rattle.reader.specs.Frames.{Frame, IsFrame, place, AreFrames, push_tree, push_entry, put, closed, ends, Stands}
+use Rattle.reader.specs.Frames.{Frame, IsFrame, place, AreFrames, push_tree, push_entry, with_member, tree_so_far, ends, Stands}
 use Rattle.packstream.proofs.Table.{few_fields}
 
 -- ---- one member more
@@ -69,7 +69,7 @@ sized : (size : Size) (n m : ℕ) (field : List ℕ) → n ≡ m → IsSize size
 sized size n m field e is = subst (λ (k : ℕ). IsSize size k field) e is
 
 frame_put : (heads : ℕ) (f : Opened) (lacks : ℕ) (t : Tree) (b c : List ℕ) → IsFrame heads f lacks b → key_there f ≡ None → 0 < lacks → SpellsTree t c → IsSound t → depth t + heads ≤ 32
-    → IsFrame heads (put f t) (lacks - 1) (b ++ c)
+    → IsFrame heads (with_member f t) (lacks - 1) (b ++ c)
 frame_put heads (in_list ts) lacks t b c h none lt one sound deep = (
   h.0,
   h.1,
@@ -117,14 +117,14 @@ struct_closes heads tag ts b h =
 dict_closes : (heads : ℕ) (es : Entries) (b : List ℕ) → IsFrame heads (at_key es) 0 b → IsValue heads (dict es) b
 dict_closes heads es b h = ((h.0, h.1, h.2, sized h.0 (entry_count es + 0) (entry_count es) h.1 (omega arith) h.3, h.4, h.8), (h.5, h.6), omega (arith, h.7))
 
-put_closes : (heads : ℕ) (f : Opened) (t : Tree) (b : List ℕ) → IsFrame heads (put f t) 0 b → IsValue heads (closed (put f t)) b
+put_closes : (heads : ℕ) (f : Opened) (t : Tree) (b : List ℕ) → IsFrame heads (with_member f t) 0 b → IsValue heads (tree_so_far (with_member f t)) b
 put_closes heads (in_list ts) t b h = list_closes heads (push_tree ts t) b h
 put_closes heads (in_struct tag ts) t b h = struct_closes heads tag (push_tree ts t) b h
 put_closes heads (at_key es) t b h = dict_closes heads es b h
 put_closes heads (at_value es k) t b h = dict_closes heads (push_entry es k t) b h
 
 stays_open : (f : Frame) (fs : List Frame) (front : List ℕ) (t : Tree) (c : List ℕ) → AreFrames (f ∷ fs) front → (place (f ∷ fs)).key ≡ None → SpellsTree t c → IsSound t → depth t + length (f ∷ fs) ≤ 32 → 1 < f.lacks
-    → AreFrames (record { opened = put f.opened t; lacks = f.lacks - 1; first = f.first } ∷ fs) (front ++ c)
+    → AreFrames (record { opened = with_member f.opened t; lacks = f.lacks - 1; first = f.first } ∷ fs) (front ++ c)
 stays_open f fs front t c h none one sound deep lt = (
   h.0,
   h.1 ++ c,
@@ -137,11 +137,11 @@ stays_open f fs front t c h none one sound deep lt = (
 )
 
 last_closes : (f : Frame) (fs : List Frame) (front : List ℕ) (t : Tree) (c : List ℕ) → (h : AreFrames (f ∷ fs) front) → (place (f ∷ fs)).key ≡ None → SpellsTree t c → IsSound t → depth t + length (f ∷ fs) ≤ 32 → f.lacks ≤ 1
-    → IsValue (length fs + 1) (closed (put f.opened t)) (h.1 ++ c)
+    → IsValue (length fs + 1) (tree_so_far (with_member f.opened t)) (h.1 ++ c)
 last_closes f fs front t c h none one sound deep le =
     let zero : f.lacks - 1 ≡ 0 = omega arith in
     put_closes (length fs + 1) f.opened t (h.1 ++ c)
-    (subst (λ (n : ℕ). IsFrame (length fs + 1) (put f.opened t) n (h.1 ++ c)) zero (frame_put (length fs + 1) f.opened f.lacks t h.1 c h.6 none h.5 one sound (omega arith)))
+    (subst (λ (n : ℕ). IsFrame (length fs + 1) (with_member f.opened t) n (h.1 ++ c)) zero (frame_put (length fs + 1) f.opened f.lacks t h.1 c h.6 none h.5 one sound (omega arith)))
 
 -- A value behind what is open leaves what the definition says.
 pub ends_stand : (fs : List Frame) (front : List ℕ) (t : Tree) (c : List ℕ) → AreFrames fs front → (place fs).key ≡ None → SpellsTree t c → IsSound t → depth t + length fs ≤ 32 → Stands (ends fs t) (front ++ c)
@@ -152,5 +152,5 @@ ends_stand (f ∷ fs) front t c h none one sound deep =
       | inr le ↦ (let e : nat_lt 1 f.lacks ≡ false = le-ltb _ _ le in
           let v = last_closes f fs front t c h none one sound deep le in
           let whole : front ++ c ≡ h.0 ++ (h.1 ++ c) = ap (λ (x : List ℕ). x ++ c) h.7 ∙ append_assoc h.0 h.1 c in
-          rw (e, whole) (ends_stand fs h.0 (closed (put f.opened t)) (h.1 ++ c) h.2 h.3 v.0 v.1 (omega (arith, v.2))))
+          rw (e, whole) (ends_stand fs h.0 (tree_so_far (with_member f.opened t)) (h.1 ++ c) h.2 h.3 v.0 v.1 (omega (arith, v.2))))
     ]

@@ -19,10 +19,10 @@ use Rattle.reader.specs.declared.open.Level.{Level}
 use Rattle.reader.specs.declared.item.Item.{Item}
 use Rattle.reader.specs.declared.reading.Part.{Part}
 use Rattle.reader.specs.declared.reading.Part.TheVariants as part
-use Rattle.reader.specs.Items.{field, body, bodies, head_bytes, part_head, spelled, AreItems}
+use Rattle.reader.specs.Items.{field, body, bodies, head_bytes, part_head, bytes_of_items, AreItems}
 use Rattle.reader.specs.Naming.{Name, IsNamed, ArePlaced, IsRoot, text_of}
-use Rattle.reader.specs.Frames.{Frame, place, AreFrames, AreLevels, AreNames, HasNames, IsApart, BeginBefore, BeginsBefore, HaveNames, put, closed, push_entry, Left, whole, still, ends, Stands, IsLeft}
-use Rattle.reader.specs.Holding.{Holds, bytes_with, pushed, Goes, IsStanding, IsValue, HasTaken}
+use Rattle.reader.specs.Frames.{Frame, place, AreFrames, AreLevels, AreNames, HasNames, IsApart, BeginBefore, BeginsBefore, HaveNames, with_member, tree_so_far, push_entry, Left, whole, still, ends, Stands, IsLeft}
+use Rattle.reader.specs.Holding.{Holds, bytes_with, with_item, Goes, IsStanding, IsValue, HasTaken}
 use Rattle.reader.proofs.Spelled.{spelled_part, spelled_push}
 use Rattle.reader.proofs.Pushing.{ends_stand}
 use Rattle.reader.proofs.Treeing.{get_front, get_last, get_pushed, text_more}
@@ -45,8 +45,8 @@ fit_push : (is : List Item) (i : Item) → AreItems is → i.number < 256 ^ fiel
 fit_push [] i h lt = (lt, tt)
 fit_push (j ∷ is) i h lt = (h.0, fit_push is i h.1 lt)
 
-pub bytes_behind : (h : Holds) (p : Part) → (g : Goes h p) → bytes_with h p ≡ spelled h.items [] g.full ++ (part_head p ++ g.tail)
-bytes_behind h p g = ap (λ (s : List ℕ). spelled h.items (part_head p) s) g.store ∙ spelled_part h.items (part_head p) g.full g.tail g.sized
+pub bytes_behind : (h : Holds) (p : Part) → (g : Goes h p) → bytes_with h p ≡ bytes_of_items h.items [] g.full ++ (part_head p ++ g.tail)
+bytes_behind h p g = ap (λ (s : List ℕ). bytes_of_items h.items (part_head p) s) g.store ∙ spelled_part h.items (part_head p) g.full g.tail g.sized
 
 -- ---- names
 
@@ -58,7 +58,7 @@ some_key : (ks : List (List ℕ)) (k : List ℕ) → ks ++ k ∷ [] ≡ [] → �
 some_key [] k e = cc
 some_key (j ∷ ks) k e = cc
 
-names_put : (f : Opened) (t : Tree) (first : ℕ) (names : List Name) (store : List ℕ) → HasNames f first names store → ((es : Entries) → f ≡ at_key es → ⊥) → HasNames (put f t) first names store
+names_put : (f : Opened) (t : Tree) (first : ℕ) (names : List Name) (store : List ℕ) → HasNames f first names store → ((es : Entries) → f ≡ at_key es → ⊥) → HasNames (with_member f t) first names store
 names_put (in_list ts) t first names store h other = tt
 names_put (in_struct tag ts) t first names store h other = tt
 names_put (at_key es) t first names store h other = absurd (other es refl)
@@ -67,7 +67,7 @@ names_put (at_value es k) t first names store h other = (
   λ (e : keys_of (push_entry es k t) ≡ []). absurd (some_key (keys_of es) k (sym (keys_push es k t) ∙ e)),
 )
 
-apart_put : (f : Opened) (t : Tree) (first : ℕ) (fs : List Frame) → IsApart f first fs → IsApart (put f t) first fs
+apart_put : (f : Opened) (t : Tree) (first : ℕ) (fs : List Frame) → IsApart f first fs → IsApart (with_member f t) first fs
 apart_put (in_list ts) t first fs h = tt
 apart_put (in_struct tag ts) t first fs h = tt
 apart_put (at_key es) t first fs h = h
@@ -82,12 +82,12 @@ names_end [] t b names store gs are none h e = absurd cc
 names_end (f ∷ fs) t b names store gs are none h e =
     elim (cases_lt 1 f.lacks) as (λ _. HaveNames gs names store) [
       | inl lt ↦ (let l : nat_lt 1 f.lacks ≡ true = lt-ltb _ _ lt in
-          let same : still (record { opened = put f.opened t; lacks = f.lacks - 1; first = f.first } ∷ fs) ≡ still gs = rw l at e in
-          let g : record { opened = put f.opened t; lacks = f.lacks - 1; first = f.first } ∷ fs ≡ gs = cc in
+          let same : still (record { opened = with_member f.opened t; lacks = f.lacks - 1; first = f.first } ∷ fs) ≡ still gs = rw l at e in
+          let g : record { opened = with_member f.opened t; lacks = f.lacks - 1; first = f.first } ∷ fs ≡ gs = cc in
           subst (λ (x : List Frame). HaveNames x names store) g (names_put f.opened t f.first names store h.0 (no_key f fs none), apart_put f.opened t f.first fs h.1, h.2))
       | inr le ↦ (let l : nat_lt 1 f.lacks ≡ false = le-ltb _ _ le in
-          let same : ends fs (closed (put f.opened t)) ≡ still gs = rw l at e in
-          names_end fs (closed (put f.opened t)) are.0 names store gs are.2 are.3 h.2 same)
+          let same : ends fs (tree_so_far (with_member f.opened t)) ≡ still gs = rw l at e in
+          names_end fs (tree_so_far (with_member f.opened t)) are.0 names store gs are.2 are.3 h.2 same)
     ]
 
 -- more bytes change no name
@@ -234,7 +234,7 @@ pub record IsReady (h : Holds) (m number : ℕ) : Type 0 where
   pub fit : AreItems h.items
   pub small : number < 256 ^ field (marker m)
   pub long : length tail ≡ body (marker m) number
-  pub read : h.standing.read ≡ length (spelled h.items [] full)
+  pub read : h.standing.read ≡ length (bytes_of_items h.items [] full)
   pub placed : ArePlaced h.names (length h.store)
 
 -- the item that is pushed
@@ -257,22 +257,22 @@ ready h m number g = record {
   placed = g.placed;
 }
 
-pushed_bytes : (h : Holds) (m number : ℕ) → (r : IsReady h m number) → spelled (h.items ++ item m number ∷ []) [] h.store ≡ spelled h.items [] r.full ++ (head_bytes m number ++ r.tail)
-pushed_bytes h m number r = ap (λ (s : List ℕ). spelled (h.items ++ item m number ∷ []) [] s) r.store ∙ spelled_push h.items (item m number) r.full r.tail r.sized r.long
+pushed_bytes : (h : Holds) (m number : ℕ) → (r : IsReady h m number) → bytes_of_items (h.items ++ item m number ∷ []) [] h.store ≡ bytes_of_items h.items [] r.full ++ (head_bytes m number ++ r.tail)
+pushed_bytes h m number r = ap (λ (s : List ℕ). bytes_of_items (h.items ++ item m number ∷ []) [] s) r.store ∙ spelled_push h.items (item m number) r.full r.tail r.sized r.long
 
 pushed_read : (h : Holds) (m number : ℕ) (what : Marker) → marker m ≡ Some what → (r : IsReady h m number)
-    → h.standing.read + (1 + field (Some what)) + body (Some what) number ≡ length (spelled (h.items ++ item m number ∷ []) [] h.store)
+    → h.standing.read + (1 + field (Some what)) + body (Some what) number ≡ length (bytes_of_items (h.items ++ item m number ∷ []) [] h.store)
 pushed_read h m number what is r =
     let f : field (marker m) ≡ field (Some what) = ap field is in
     let b : body (marker m) number ≡ body (Some what) number = ap (λ (o : Option Marker). body o number) is in
-    let len = ap length (pushed_bytes h m number r) ∙ length-append (spelled h.items [] r.full) (head_bytes m number ++ r.tail) in
+    let len = ap length (pushed_bytes h m number r) ∙ length-append (bytes_of_items h.items [] r.full) (head_bytes m number ++ r.tail) in
     omega (arith, len, length-append (head_bytes m number) r.tail, length-bytes_high_first (field (marker m)) number, f, b, r.long, r.read)
 
 all_sized : (h : Holds) (m number : ℕ) → (r : IsReady h m number) → length h.store ≡ bodies (h.items ++ item m number ∷ [])
 all_sized h m number r = omega (arith, ap length r.store, length-append r.full r.tail, r.sized, r.long, bodies_push h.items (item m number))
 
 pub goes_on : (h : Holds) (m number : ℕ) (what : Marker) (o : Open) (gs : List Frame) → marker m ≡ Some what → (r : IsReady h m number) → o.is_whole ≡ false
-    → AreFrames gs (spelled h.items [] r.full ++ (head_bytes m number ++ r.tail)) → AreLevels gs o.depth o.around → HaveNames gs h.names h.store → IsStanding (after o (pushed what m number h))
+    → AreFrames gs (bytes_of_items h.items [] r.full ++ (head_bytes m number ++ r.tail)) → AreLevels gs o.depth o.around → HaveNames gs h.names h.store → IsStanding (after o (with_item what m number h))
 goes_on h m number what o gs is r unread are levels names = inr (
   record {
     frames = gs;
@@ -293,7 +293,7 @@ goes_on h m number what o gs is r unread are levels names = inr (
 )
 
 pub is_done : (h : Holds) (m number : ℕ) (what : Marker) (o : Open) (t : Tree) → marker m ≡ Some what → (r : IsReady h m number) → o.is_whole ≡ true
-    → SpellsTree t (spelled h.items [] r.full ++ (head_bytes m number ++ r.tail)) → IsSound t → depth t ≤ 32 → IsStanding (after o (pushed what m number h))
+    → SpellsTree t (bytes_of_items h.items [] r.full ++ (head_bytes m number ++ r.tail)) → IsSound t → depth t ≤ 32 → IsStanding (after o (with_item what m number h))
 is_done h m number what o t is r ended spells sound deep = inl (record {
   tree = t;
   whole = ended;
@@ -307,27 +307,27 @@ is_done h m number what o t is r ended spells sound deep = inl (record {
   placed = r.placed;
 })
 
-left_stands : (h : Holds) (m number : ℕ) (what : Marker) (o : Open) (l : Left) → marker m ≡ Some what → (r : IsReady h m number) → Stands l (spelled h.items [] r.full ++ (head_bytes m number ++ r.tail)) → IsLeft l o
-    → ((gs : List Frame) → l ≡ still gs → HaveNames gs h.names h.store) → IsStanding (after o (pushed what m number h))
+left_stands : (h : Holds) (m number : ℕ) (what : Marker) (o : Open) (l : Left) → marker m ≡ Some what → (r : IsReady h m number) → Stands l (bytes_of_items h.items [] r.full ++ (head_bytes m number ++ r.tail)) → IsLeft l o
+    → ((gs : List Frame) → l ≡ still gs → HaveNames gs h.names h.store) → IsStanding (after o (with_item what m number h))
 left_stands h m number what o (whole t) is r s i names = is_done h m number what o t is r i s.0 s.1 s.2
 left_stands h m number what o (still gs) is r s i names = goes_on h m number what o gs is r i.0 s i.1 (names gs refl)
 
 -- a value without members
 pub value_stands : (h : Holds) (m number : ℕ) (what : Marker) (o : Open) → marker m ≡ Some what → (g : Goes h (part.Body m number 0)) → IsValue h m number
-    → ((fs : List Frame) (t : Tree) → AreLevels fs h.standing.«open».depth h.standing.«open».around → h.standing.«open».is_whole ≡ false → IsLeft (ends fs t) o) → IsStanding (after o (pushed what m number h))
+    → ((fs : List Frame) (t : Tree) → AreLevels fs h.standing.«open».depth h.standing.«open».around → h.standing.«open».is_whole ≡ false → IsLeft (ends fs t) o) → IsStanding (after o (with_item what m number h))
 value_stands h m number what o is g value left =
     let v = value g in
     left_stands h m number what o (ends g.frames v.0) is (ready h m number g)
-    (ends_stand g.frames (spelled h.items [] g.full) v.0 (head_bytes m number ++ g.tail) g.are v.4 v.3 v.1 v.2)
+    (ends_stand g.frames (bytes_of_items h.items [] g.full) v.0 (head_bytes m number ++ g.tail) g.are v.4 v.3 v.1 v.2)
     (left g.frames v.0 g.levels g.unread)
-    (λ gs e. names_end g.frames v.0 (spelled h.items [] g.full) h.names h.store gs g.are v.4 g.named e)
+    (λ gs e. names_end g.frames v.0 (bytes_of_items h.items [] g.full) h.names h.store gs g.are v.4 g.named e)
 
 -- what was taken with an item that ends
-pub has_taken : (h : Holds) (m number : ℕ) (what : Marker) (o : Open) (rest : List ℕ) → (r : IsReady h m number) → h.standing.bad ≡ None → IsStanding (after o (pushed what m number h))
-    → HasTaken (bytes_with h (part.Body m number 0) ++ rest) (after o (pushed what m number h)) rest
+pub has_taken : (h : Holds) (m number : ℕ) (what : Marker) (o : Open) (rest : List ℕ) → (r : IsReady h m number) → h.standing.bad ≡ None → IsStanding (after o (with_item what m number h))
+    → HasTaken (bytes_with h (part.Body m number 0) ++ rest) (after o (with_item what m number h)) rest
 has_taken h m number what o rest r good stands = record {
   stands = stands;
-  bytes = ap (λ (b : List ℕ). b ++ rest) (pushed_bytes h m number r ∙ sym (ap (λ (s : List ℕ). spelled h.items (head_bytes m number) s) r.store ∙ spelled_part h.items (head_bytes m number) r.full r.tail r.sized));
+  bytes = ap (λ (b : List ℕ). b ++ rest) (pushed_bytes h m number r ∙ sym (ap (λ (s : List ℕ). bytes_of_items h.items (head_bytes m number) s) r.store ∙ spelled_part h.items (head_bytes m number) r.full r.tail r.sized));
   ends = inl refl;
   bad = good;
 }

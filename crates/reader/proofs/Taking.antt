@@ -19,7 +19,7 @@ use Rattle.packstream.proofs.Ranges.{front_bytes}
 use Rattle.reader.specs.declared.item.Item.{Item}
 use Rattle.reader.specs.declared.reading.Part.{Part}
 use Rattle.reader.specs.declared.reading.Part.TheVariants as part
-use Rattle.reader.specs.Items.{field, body, size_with, joined, head_bytes, part_head, spelled}
+use Rattle.reader.specs.Items.{field, body, size_with, number_from, head_bytes, part_head, bytes_of_items}
 use Rattle.reader.specs.declared.open.Level.{Level}
 use Rattle.reader.specs.Naming.{Name, IsNamed}
 use Rattle.reader.specs.Frames.{Frame, place, AreLevels, HaveNames, head_fault}
@@ -54,9 +54,9 @@ grown_on a b c g h = record {
 
 pub fault_behind : (h : Holds) (p : Part) (rest : List ℕ) (r : Reason) → (g : Goes h p) → fault_at (place g.frames) ((part_head p ++ g.tail) ++ rest) ≡ Some r → (r ≡ reason.Short → ⊥) → Bad (bytes_with h p ++ rest) h.standing.read r × (r ≡ reason.Short → ⊥)
 fault_behind h p rest r g fault other =
-    let all : bytes_with h p ++ rest ≡ spelled h.items [] g.full ++ ((part_head p ++ g.tail) ++ rest) = ap (λ (b : List ℕ). b ++ rest) (bytes_behind h p g) ∙ append_assoc (spelled h.items [] g.full) (part_head p ++ g.tail) rest in (
+    let all : bytes_with h p ++ rest ≡ bytes_of_items h.items [] g.full ++ ((part_head p ++ g.tail) ++ rest) = ap (λ (b : List ℕ). b ++ rest) (bytes_behind h p g) ∙ append_assoc (bytes_of_items h.items [] g.full) (part_head p ++ g.tail) rest in (
       subst (λ (n : ℕ). Bad (bytes_with h p ++ rest) n r) (sym g.read)
-          (subst (λ (b : List ℕ). Bad b (length (spelled h.items [] g.full)) r) (sym all) (bad_behind g.frames (spelled h.items [] g.full) ((part_head p ++ g.tail) ++ rest) r g.are fault)),
+          (subst (λ (b : List ℕ). Bad b (length (bytes_of_items h.items [] g.full)) r) (sym all) (bad_behind g.frames (bytes_of_items h.items [] g.full) ((part_head p ++ g.tail) ++ rest) r g.are fault)),
       other,
     )
 
@@ -66,7 +66,7 @@ pub admitted_by : (h : Holds) (m number has : ℕ) → (g : Goes h (part.Head m 
 admitted_by h m number has g = g.isa.1
 
 -- more bytes of the number
-pub head_longer : (h : Holds) (m number has : ℕ) (bytes : List ℕ) → AreBytes bytes → (g : Goes h (part.Head m number has)) → has + length bytes ≤ field (marker m) → Goes h (part.Head m (joined number bytes) (has + length bytes))
+pub head_longer : (h : Holds) (m number has : ℕ) (bytes : List ℕ) → AreBytes bytes → (g : Goes h (part.Head m number has)) → has + length bytes ≤ field (marker m) → Goes h (part.Head m (number_from number bytes) (has + length bytes))
 head_longer h m number has bytes are g le = record {
   frames = g.frames;
   full = g.full;
@@ -83,24 +83,24 @@ head_longer h m number has bytes are g le = record {
   isa = (g.isa.0, g.isa.1, le, joined_fits has number bytes are g.isa.3);
 }
 
-spelled_head : (h : Holds) (p : Part) (last : List ℕ) → (g : Goes h p) → g.tail ≡ [] → spelled h.items last h.store ≡ spelled h.items [] g.full ++ last
+spelled_head : (h : Holds) (p : Part) (last : List ℕ) → (g : Goes h p) → g.tail ≡ [] → bytes_of_items h.items last h.store ≡ bytes_of_items h.items [] g.full ++ last
 spelled_head h p last g none =
-    ap (λ (s : List ℕ). spelled h.items last s) g.store
+    ap (λ (s : List ℕ). bytes_of_items h.items last s) g.store
     ∙ spelled_part h.items last g.full g.tail g.sized
-    ∙ ap (λ (t : List ℕ). spelled h.items [] g.full ++ (last ++ t)) none
-    ∙ ap (λ (b : List ℕ). spelled h.items [] g.full ++ b) (append-nil last)
+    ∙ ap (λ (t : List ℕ). bytes_of_items h.items [] g.full ++ (last ++ t)) none
+    ∙ ap (λ (b : List ℕ). bytes_of_items h.items [] g.full ++ b) (append-nil last)
 
-pub bytes_longer : (h : Holds) (m number has : ℕ) (bytes : List ℕ) → AreBytes bytes → (g : Goes h (part.Head m number has)) → bytes_with h (part.Head m (joined number bytes) (has + length bytes)) ≡ bytes_with h (part.Head m number has) ++ bytes
+pub bytes_longer : (h : Holds) (m number has : ℕ) (bytes : List ℕ) → AreBytes bytes → (g : Goes h (part.Head m number has)) → bytes_with h (part.Head m (number_from number bytes) (has + length bytes)) ≡ bytes_with h (part.Head m number has) ++ bytes
 bytes_longer h m number has bytes are g =
-    let front : List ℕ = spelled h.items [] g.full in
-    spelled_head h (part.Head m number has) (m ∷ big_bytes (has + length bytes) (joined number bytes)) g g.isa.0
+    let front : List ℕ = bytes_of_items h.items [] g.full in
+    spelled_head h (part.Head m number has) (m ∷ big_bytes (has + length bytes) (number_from number bytes)) g g.isa.0
     ∙ ap (λ (x : List ℕ). front ++ (m ∷ x)) (joined_bytes has number bytes are)
     ∙ sym (append_assoc front (m ∷ big_bytes has number) bytes)
     ∙ ap (λ (b : List ℕ). b ++ bytes) (sym (spelled_head h (part.Head m number has) (m ∷ big_bytes has number) g g.isa.0))
 
 -- all bytes of the number
 pub head_whole : (h : Holds) (m number has : ℕ) (bytes : List ℕ) → AreBytes bytes → (g : Goes h (part.Head m number has)) → has + length bytes ≡ field (marker m)
-    → Goes h (part.Body m (joined number bytes) (body (marker m) (joined number bytes)))
+    → Goes h (part.Body m (number_from number bytes) (body (marker m) (number_from number bytes)))
 head_whole h m number has bytes are g e = record {
   frames = g.frames;
   full = g.full;
@@ -114,13 +114,13 @@ head_whole h m number has bytes are g e = record {
   levels = g.levels;
   named = g.named;
   placed = g.placed;
-  isa = (g.isa.1, subst (λ (k : ℕ). joined number bytes < 256 ^ k) e (joined_fits has number bytes are g.isa.3), omega (arith, ap length g.isa.0));
+  isa = (g.isa.1, subst (λ (k : ℕ). number_from number bytes < 256 ^ k) e (joined_fits has number bytes are g.isa.3), omega (arith, ap length g.isa.0));
 }
 
 pub bytes_whole : (h : Holds) (m number has lacks : ℕ) (bytes : List ℕ) → AreBytes bytes → (g : Goes h (part.Head m number has)) → has + length bytes ≡ field (marker m)
-    → bytes_with h (part.Body m (joined number bytes) lacks) ≡ bytes_with h (part.Head m number has) ++ bytes
+    → bytes_with h (part.Body m (number_from number bytes) lacks) ≡ bytes_with h (part.Head m number has) ++ bytes
 bytes_whole h m number has lacks bytes are g e =
-    ap (λ (k : ℕ). spelled h.items (m ∷ big_bytes k (joined number bytes)) h.store) (sym e) ∙ bytes_longer h m number has bytes are g
+    ap (λ (k : ℕ). bytes_of_items h.items (m ∷ big_bytes k (number_from number bytes)) h.store) (sym e) ∙ bytes_longer h m number has bytes are g
 
 -- a marker that may stand there
 pub head_starts : (h : Holds) (m : ℕ) → (g : Goes h part.Nothing) → IsAdmitted (place g.frames) m → Goes h (part.Head m 0 0)
@@ -142,7 +142,7 @@ head_starts h m g a = record {
 
 pub bytes_start : (h : Holds) (m : ℕ) → (g : Goes h part.Nothing) → bytes_with h (part.Head m 0 0) ≡ bytes_with h part.Nothing ++ m ∷ []
 bytes_start h m g =
-    spelled_head h part.Nothing (m ∷ []) g g.isa ∙ ap (λ (b : List ℕ). b ++ m ∷ []) (sym (append-nil (spelled h.items [] g.full)) ∙ sym (spelled_head h part.Nothing [] g g.isa))
+    spelled_head h part.Nothing (m ∷ []) g g.isa ∙ ap (λ (b : List ℕ). b ++ m ∷ []) (sym (append-nil (bytes_of_items h.items [] g.full)) ∙ sym (spelled_head h part.Nothing [] g g.isa))
 
 -- ---- a text or a byte string
 
@@ -165,10 +165,10 @@ body_longer h m number lacks left s g e = record {
 
 pub bytes_stored : (h : Holds) (m number lacks left : ℕ) (s : List ℕ) → (g : Goes h (part.Body m number lacks)) → bytes_with (stored s h) (part.Body m number left) ≡ bytes_with h (part.Body m number lacks) ++ s
 bytes_stored h m number lacks left s g =
-    let front : List ℕ = spelled h.items [] g.full in
+    let front : List ℕ = bytes_of_items h.items [] g.full in
     let head : List ℕ = head_bytes m number in
-    ap (λ (x : List ℕ). spelled h.items head (x ++ s)) g.store
-    ∙ ap (λ (x : List ℕ). spelled h.items head x) (append_assoc g.full g.tail s)
+    ap (λ (x : List ℕ). bytes_of_items h.items head (x ++ s)) g.store
+    ∙ ap (λ (x : List ℕ). bytes_of_items h.items head x) (append_assoc g.full g.tail s)
     ∙ spelled_part h.items head g.full (g.tail ++ s) g.sized
     ∙ ap (λ (x : List ℕ). front ++ x) (sym (append_assoc head g.tail s))
     ∙ sym (append_assoc front (head ++ g.tail) s)
@@ -215,9 +215,9 @@ part_taken h p b g lacks e good = record {
 
 pub trails : (h : Holds) (x : ℕ) (rest : List ℕ) → (d : IsDone h) → AreBytes (bytes_of h) → Bad (bytes_of h ++ x ∷ rest) h.standing.read reason.Trailing × (reason.Trailing ≡ reason.Short → ⊥)
 trails h x rest d bytes =
-    let all : bytes_of h ≡ spelled h.items [] h.store = ap (λ (p : Part). spelled h.items (part_head p) h.store) d.none in
-    let good = good_spelled d.tree (spelled h.items [] h.store) (subst AreBytes all bytes) d.deep d.sound d.spells in (
-      inr (refl, (d.tree, spelled h.items [] h.store, x ∷ rest, good.0, good.1, ap (λ (b : List ℕ). b ++ x ∷ rest) all, omega arith, d.read)),
+    let all : bytes_of h ≡ bytes_of_items h.items [] h.store = ap (λ (p : Part). bytes_of_items h.items (part_head p) h.store) d.none in
+    let good = good_spelled d.tree (bytes_of_items h.items [] h.store) (subst AreBytes all bytes) d.deep d.sound d.spells in (
+      inr (refl, (d.tree, bytes_of_items h.items [] h.store, x ∷ rest, good.0, good.1, ap (λ (b : List ℕ). b ++ x ∷ rest) all, omega arith, d.read)),
       λ (e : reason.Trailing ≡ reason.Short). cc,
     )
 

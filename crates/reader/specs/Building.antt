@@ -3,11 +3,11 @@ use Rattle.std.specs.Prelude.{◌≡◌, ℕ, List, [], length, Result, Ok, Err}
 use Rattle.std.specs.declared.alloc.AllocError.{AllocError}
 use Rattle.packstream.specs.Reading.{Read}
 use Rattle.reader.specs.declared.building.Left.{Left}
-use Rattle.reader.specs.Items.{spelled, bodies, AreItems}
+use Rattle.reader.specs.Items.{bytes_of_items, bodies, AreItems}
 
 -- the bytes of what is left
 abbrev pub bytes_in : Left → List ℕ
-bytes_in l = spelled l.items.now [] l.store.now
+bytes_in l = bytes_of_items l.items.now [] l.store.now
 
 abbrev pub IsRest : Left → Type 0
 IsRest l = (length l.store.now ≡ bodies l.items.now) × AreItems l.items.now

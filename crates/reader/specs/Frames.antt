@@ -115,18 +115,18 @@ push_entry no_entries k t = entry_then k t no_entries
 push_entry (entry_then j x es) k t = entry_then j x (push_entry es k t)
 
 -- the value becomes a member
-abbrev pub put : Opened → Tree → Opened
-put (in_list ts) t = in_list (push_tree ts t)
-put (in_struct tag ts) t = in_struct tag (push_tree ts t)
-put (at_key es) t = at_key es
-put (at_value es k) t = at_key (push_entry es k t)
+abbrev pub with_member : Opened → Tree → Opened
+with_member (in_list ts) t = in_list (push_tree ts t)
+with_member (in_struct tag ts) t = in_struct tag (push_tree ts t)
+with_member (at_key es) t = at_key es
+with_member (at_value es k) t = at_key (push_entry es k t)
 
 -- what it is with its members so far alone
-abbrev pub closed : Opened → Tree
-closed (in_list ts) = list ts
-closed (in_struct tag ts) = structure tag ts
-closed (at_key es) = dict es
-closed (at_value es k) = dict es
+abbrev pub tree_so_far : Opened → Tree
+tree_so_far (in_list ts) = list ts
+tree_so_far (in_struct tag ts) = structure tag ts
+tree_so_far (at_key es) = dict es
+tree_so_far (at_value es k) = dict es
 
 -- what there is behind a value: it is the whole, or something is still open
 pub data Left : Type 0 where
@@ -137,7 +137,7 @@ pub data Left : Type 0 where
 abbrev pub ends : List Frame → Tree → Left
 ends [] t = whole t
 ends (f ∷ fs) t =
-    cond (nat_lt 1 f.lacks) (still (record { opened = put f.opened t; lacks = f.lacks - 1; first = f.first } ∷ fs)) (ends fs (closed (put f.opened t)))
+    cond (nat_lt 1 f.lacks) (still (record { opened = with_member f.opened t; lacks = f.lacks - 1; first = f.first } ∷ fs)) (ends fs (tree_so_far (with_member f.opened t)))
 
 abbrev pub Stands : Left → List ℕ → Type 0
 Stands (whole t) b = SpellsTree t b × IsSound t × (depth t ≤ 32)

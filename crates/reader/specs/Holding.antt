@@ -18,7 +18,7 @@ use Rattle.reader.specs.declared.reading.Part.TheVariants as part
 use Rattle.reader.specs.declared.reading.Standing.{Standing}
 use Rattle.reader.specs.declared.reading.Mark.{Mark}
 use Rattle.reader.specs.declared.reading.Reading.{Reading}
-use Rattle.reader.specs.Items.{field, body, size_with, head_bytes, spelled, part_head, bodies, AreItems}
+use Rattle.reader.specs.Items.{field, body, size_with, head_bytes, bytes_of_items, part_head, bodies, AreItems}
 use Rattle.reader.specs.Naming.{Name, ArePlaced}
 use Rattle.reader.specs.Frames.{Frame, place, AreFrames, AreLevels, HaveNames, head_fault}
 use Rattle.reader.specs.Piecewise.{Point, Points, IsBeginning}
@@ -35,7 +35,7 @@ holds r = record { items = r.items.items; store = r.texts.bytes; names = r.texts
 
 -- its bytes, if this were the part of an item that isn't whole
 abbrev pub bytes_with : Holds → Part → List ℕ
-bytes_with h p = spelled h.items (part_head p) h.store
+bytes_with h p = bytes_of_items h.items (part_head p) h.store
 
 abbrev pub bytes_of : Holds → List ℕ
 bytes_of h = bytes_with h h.standing.part
@@ -46,15 +46,15 @@ point h = record { bytes = bytes_of h; bad = h.standing.bad }
 abbrev pub mark_of : Holds → Mark
 mark_of h = record { items = length h.items; store = length h.store; keys = length h.names; standing = h.standing }
 
-abbrev pub cut : Mark → Holds → Holds
-cut m h = record { items = take m.items h.items; store = take m.store h.store; names = take m.keys h.names; standing = m.standing }
+abbrev pub at_mark : Mark → Holds → Holds
+at_mark m h = record { items = take m.items h.items; store = take m.store h.store; names = take m.keys h.names; standing = m.standing }
 
-abbrev pub turned : Reason → ℕ → Holds → Holds
-turned r o h = record h { standing = record h.standing { bad = Some (r, o) } }
+abbrev pub with_fault : Reason → ℕ → Holds → Holds
+with_fault r o h = record h { standing = record h.standing { bad = Some (r, o) } }
 
 -- with an item more, of which the store has the text or byte string
-abbrev pub pushed : Marker → ℕ → ℕ → Holds → Holds
-pushed announced m number h = record {
+abbrev pub with_item : Marker → ℕ → ℕ → Holds → Holds
+with_item announced m number h = record {
   items = h.items ++ (record { marker = m; number = number }) ∷ [];
   store = h.store;
   names = h.names;
@@ -86,8 +86,8 @@ pub record Goes (h : Holds) (p : Part) : Type 0 where
   pub store : h.store ≡ full ++ tail
   pub sized : length full ≡ bodies h.items
   pub fit : AreItems h.items
-  pub are : AreFrames frames (spelled h.items [] full)
-  pub read : h.standing.read ≡ length (spelled h.items [] full)
+  pub are : AreFrames frames (bytes_of_items h.items [] full)
+  pub read : h.standing.read ≡ length (bytes_of_items h.items [] full)
   pub levels : AreLevels frames h.standing.«open».depth h.standing.«open».around
   pub named : HaveNames frames h.names h.store
   pub placed : ArePlaced h.names (length h.store)
@@ -111,10 +111,10 @@ pub record IsDone (h : Holds) : Type 0 where
   pub none : h.standing.part ≡ part.Nothing
   pub sized : length h.store ≡ bodies h.items
   pub fit : AreItems h.items
-  pub spells : SpellsTree tree (spelled h.items [] h.store)
+  pub spells : SpellsTree tree (bytes_of_items h.items [] h.store)
   pub sound : IsSound tree
   pub deep : depth tree ≤ 32
-  pub read : h.standing.read ≡ length (spelled h.items [] h.store)
+  pub read : h.standing.read ≡ length (bytes_of_items h.items [] h.store)
   pub placed : ArePlaced h.names (length h.store)
 
 abbrev pub IsStanding : Holds → Type 0
@@ -148,7 +148,7 @@ Answers view (Ok x) b new = HasTaken b new (view x)
 Answers view (Err e) b new = IsFaultOf e b
 
 abbrev pub points : Holds → Mark → Points
-points h m = record { here = point h; held = point (cut m h) }
+points h m = record { here = point h; held = point (at_mark m h) }
 
 -- the held point is one where the reader stood
 pub record IsKept (h : Holds) (m : Mark) : Type 0 where
@@ -156,5 +156,5 @@ pub record IsKept (h : Holds) (m : Mark) : Type 0 where
   pub store : m.store ≤ length h.store
   pub names : m.keys ≤ length h.names
   pub here : IsKeeping h
-  pub behind : IsKeeping (cut m h)
-  pub held : IsBeginning (bytes_of (cut m h)) (bytes_of h)
+  pub behind : IsKeeping (at_mark m h)
+  pub held : IsBeginning (bytes_of (at_mark m h)) (bytes_of h)

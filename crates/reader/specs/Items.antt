@@ -33,9 +33,9 @@ body (Some (announces.Text size)) number = size_with size number
 body m number = 0
 
 -- the number of which these bytes are the next ones, the highest first
-abbrev pub joined : ℕ → List ℕ → ℕ
-joined number [] = number
-joined number (b ∷ bs) = joined (number * 256 + b) bs
+abbrev pub number_from : ℕ → List ℕ → ℕ
+number_from number [] = number
+number_from number (b ∷ bs) = number_from (number * 256 + b) bs
 
 abbrev pub head_bytes : ℕ → ℕ → List ℕ
 head_bytes m number = m ∷ big_bytes (field (marker m)) number
@@ -58,7 +58,7 @@ AreItems (i ∷ is) = (i.number < 256 ^ field (marker i.marker)) × AreItems is
 
 -- The bytes of items, the store having those of their texts and byte strings in turn; then those of a part, of which
 -- the rest of the store has the text or byte string as far as it came.
-abbrev pub spelled : List Item → List ℕ → List ℕ → List ℕ
-spelled [] last store = last ++ store
-spelled (i ∷ is) last store =
-    head_bytes i.marker i.number ++ (take (body (marker i.marker) i.number) store ++ spelled is last (drop (body (marker i.marker) i.number) store))
+abbrev pub bytes_of_items : List Item → List ℕ → List ℕ → List ℕ
+bytes_of_items [] last store = last ++ store
+bytes_of_items (i ∷ is) last store =
+    head_bytes i.marker i.number ++ (take (body (marker i.marker) i.number) store ++ bytes_of_items is last (drop (body (marker i.marker) i.number) store))

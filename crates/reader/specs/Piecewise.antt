@@ -1,8 +1,15 @@
 -- What a reader of pieces has read, and what a piece makes of it.
-use Rattle.std.specs.Prelude.{◌≡◌, ◌⊎◌, ℕ, List, [], ◌++◌, Option, Some, None, MatchOption}
+use Rattle.std.specs.Prelude.{◌≡◌, ◌⊎◌, ◌↔◌, ℕ, List, [], ◌++◌, Option, Some, None, MatchOption, Result, Ok, Err}
 use Rattle.packstream.specs.declared.fault.Reason.{Reason}
 use Rattle.packstream.specs.declared.fault.Reason.TheVariants as reason
+use Rattle.packstream.specs.declared.fault.PackFault.{PackFault}
+use Rattle.packstream.specs.declared.fault.PackFault.TheVariants as fault
+use Rattle.packstream.specs.Tree.{Tree}
+use Rattle.packstream.specs.Good.{IsGood}
+use Rattle.packstream.specs.Plain.{AreBytes}
+use Rattle.packstream.specs.Spelling.{Spells}
 use Rattle.packstream.specs.Faults.{Bad, IsBadAlways}
+use Rattle.packstream.specs.Answers.{UnlessMemory}
 
 -- The bytes that were read; and once each continuation of them has one fault at one place, that fault and its place.
 pub record Point : Type 0 where
@@ -34,7 +41,27 @@ Joins old piece new = (new.bytes ≡ old.bytes ++ piece) × (new.bad ≡ None) �
 -- with the piece each continuation of the bytes is bad, and the bytes that there were are kept
 abbrev pub TurnsBad : Point → List ℕ → Point → Type 0
 TurnsBad old piece new =
-    (r : Reason) × (o : ℕ) × (new.bad ≡ Some (r, o)) × IsBadAlways (old.bytes ++ piece) r o × (r ≡ reason.Short → ⊥) × IsBeginning old.bytes new.bytes
+    (r : Reason) × (o : ℕ) × (new.bad ≡ Some (r, o)) × IsBadAlways (old.bytes ++ piece) r o
+    × (r ≡ reason.Short → ⊥) × IsBeginning old.bytes new.bytes
 
 abbrev pub Takes : Point → List ℕ → Point → Type 0
-Takes old piece new = MatchOption old.bad (Joins old piece new ⊎ TurnsBad old piece new) (λ f. new ≡ old)
+Takes old piece new = MatchOption old.bad (Joins old piece new ⊎ TurnsBad old piece new)
+    (λ f. new ≡ old)
+
+-- Of these bytes the point is what came: they are its bytes, or each continuation of them has its fault.
+abbrev pub Reads : Point → List ℕ → Type 0
+Reads p b = AreBytes b × MatchOption p.bad (p.bytes ≡ b) (λ f. IsBadAlways b f.0 f.1)
+
+-- apart from memory, the good value that the bytes spell, where they spell one, and the fault at its place, where they have one
+abbrev pub TellsValue : List ℕ → Result Tree PackFault → Type 0
+TellsValue b told = (t : Tree) → UnlessMemory told ((told ≡ Ok t) ↔ (IsGood t × Spells t b))
+
+abbrev pub TellsFault : List ℕ → Result Tree PackFault → Type 0
+TellsFault b told = (r : Reason) (o : ℕ)
+    → UnlessMemory told ((told ≡ Err (fault.Refused r o)) ↔ Bad b o r)
+
+-- what is told at a point: of its bytes, or its fault
+pub record Finishes (p : Point) (told : Result Tree PackFault) : Type 0 where
+  pub value : p.bad ≡ None → TellsValue p.bytes told
+  pub bad : (r : Reason) (o : ℕ) → p.bad ≡ Some (r, o) → told ≡ Err (fault.Refused r o)
+  pub fault : p.bad ≡ None → TellsFault p.bytes told

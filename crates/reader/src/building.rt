@@ -6,7 +6,7 @@ ghost use Rattle.packstream.specs.View.{tree, trees, entries};
 ghost use Rattle.packstream.specs.Reading.{layer, inner, items_at, entries_at, key_at};
 ghost use Rattle.packstream.specs.Answers.{whole_of};
 ghost use Rattle.packstream.specs.Markers.{width};
-ghost use Rattle.reader.specs.Items.{spelled, bodies, AreItems};
+ghost use Rattle.reader.specs.Items.{bytes_of_items, bodies, AreItems};
 ghost use Rattle.reader.specs.Building.{bytes_in, IsRest, IsRead, Builds};
 
 use crate::item::{Item, size_in};
@@ -29,8 +29,8 @@ const ROOM: u8 = 32;
 pub(crate) fn build(alloc: Global, items: &[Item], store: &[u8]) -> Result<Value, AllocError>
     requires sized { length store.now ≡ bodies items.now }
     requires fit { AreItems items.now }
-    requires spells { (t : Tree) × (whole_of (spelled items.now [] store.now) ≡ Ok t) }
-    ensures { IfOk result (λ v. whole_of (spelled items.now [] store.now) ≡ Ok (tree v)) }
+    requires spells { (t : Tree) × (whole_of (bytes_of_items items.now [] store.now) ≡ Ok t) }
+    ensures { IfOk result (λ v. whole_of (bytes_of_items items.now [] store.now) ≡ Ok (tree v)) }
 {
     let (value, _) = value_of(alloc, ROOM, Left { items, store })?;
     Ok(value)

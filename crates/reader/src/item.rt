@@ -1,7 +1,7 @@
 //! What is kept of a value that was read: its marker, and the number after it.
 ghost use Rattle.std.specs.Prelude.{◌≡◌, ◌≤◌, ◌<◌, ◌+◌, ◌^◌, length, Some};
 ghost use Rattle.packstream.specs.Markers.{size_len};
-ghost use Rattle.reader.specs.Items.{field, body, size_with, joined};
+ghost use Rattle.reader.specs.Items.{field, body, size_with, number_from};
 
 use packstream::marker::{Marker, Size};
 
@@ -68,8 +68,8 @@ pub(crate) fn body_len(announced: Marker, number: u64) -> u64
 
 /// The number of which these bytes are the next ones, the highest first.
 pub(crate) fn join(number: u64, bytes: &[u8]) -> u64
-    requires { joined number bytes.now < 2 ^ 64 }
-    ensures { result ≡ joined number bytes.now }
+    requires { number_from number bytes.now < 2 ^ 64 }
+    ensures { result ≡ number_from number bytes.now }
 {
     let mut all = number;
     for byte in bytes {

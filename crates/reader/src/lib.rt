@@ -1,8 +1,11 @@
 //! Values of PackStream 1 out of bytes that come in pieces.
+//!
+//! What holds of all that was read stands in [`laws`]: who feeds a reader says by them of which bytes it tells.
 #![tactic(auto)]
 
 mod building;
 mod item;
+pub mod laws;
 mod open;
 mod piece;
 mod reader;
@@ -10,7 +13,7 @@ mod reading;
 mod stop;
 mod texts;
 
-pub use piece::read_piece;
+pub use piece::{decode_and_read, read_piece};
 pub use reader::Reader;
 
 #[cfg(test)]

@@ -10,7 +10,7 @@ ghost use Rattle.reader.specs.declared.reading.Part.TheVariants as part;
 ghost use Rattle.reader.specs.Items.{size_with};
 ghost use Rattle.reader.specs.Frames.{Frame, AreLevels, place};
 ghost use Rattle.reader.specs.Piecewise.{nothing_read};
-ghost use Rattle.reader.specs.Holding.{holds, point, bytes_of, bytes_with, cut, mark_of, turned, pushed, Goes, IsStanding, IsKeeping, IsValue, IsListOf, HasGrown, Answers};
+ghost use Rattle.reader.specs.Holding.{holds, point, bytes_of, bytes_with, at_mark, mark_of, with_fault, with_item, Goes, IsStanding, IsKeeping, IsValue, IsListOf, HasGrown, Answers};
 
 use crate::building::build;
 use crate::item::{Item, body_len, field_len, join, size_in};
@@ -93,8 +93,8 @@ impl Reading {
 
     /// Goes back to a place where it stood.
     pub(crate) fn cut(&mut self, mark: Mark)
-        requires { IsKeeping (cut mark (holds self.old)) }
-        ensures { holds self.new ≡ cut mark (holds self.old) }
+        requires { IsKeeping (at_mark mark (holds self.old)) }
+        ensures { holds self.new ≡ at_mark mark (holds self.old) }
     {
         self.items.truncate(mark.items);
         self.texts.cut(mark.store, mark.keys);
@@ -110,7 +110,7 @@ impl Reading {
 
     /// Every continuation has this fault at this place.
     pub(crate) fn turn_bad(&mut self, reason: Reason, place: usize)
-        ensures { holds self.new ≡ turned reason place (holds self.old) }
+        ensures { holds self.new ≡ with_fault reason place (holds self.old) }
     {
         self.standing.bad = Some((reason, place));
     }
@@ -421,7 +421,7 @@ impl Reading {
     /// Keeps an item, and that its bytes are read.
     #[inline]
     fn push(&mut self, announced: Marker, marker: u8, number: u64) -> Result<(), Stop>
-        ensures ok { OnOk result (holds self.new ≡ pushed announced marker number (holds self.old)) }
+        ensures ok { OnOk result (holds self.new ≡ with_item announced marker number (holds self.old)) }
         ensures fault { IfErr result (λ e. e ≡ stop.Memory) }
         ensures grown { HasGrown (holds self.old) (holds self.new) }
         ensures opened { self.new.standing.«open» ≡ self.old.standing.«open» }

@@ -3,18 +3,18 @@ use Rattle.std.proofs.Common.{◌≡◌, refl, sym, ◌∙◌, ap, subst, ℕ, B
 use Rattle.std.specs.Prelude.{option_map, option_to_list, if◌then◌else◌}
 use Rattle.wire.specs.declared.Version.{Version}
 use Rattle.wire.specs.Reader.{Took, state, takes}
-use Rattle.wire.specs.Framing.{Item, Opening, Noop, Message, TooBig, Opened, at_server, received}
+use Rattle.wire.specs.Framing.{Item, Opening, Noop, Message, TooBig, Opened, at_server, items_received}
 use Rattle.wire.proofs.Readers.{outputs-append, state-append, takes_outputs}
 use Rattle.messages.specs.declared.fault.MsgFault.{MsgFault}
-use Rattle.messages.specs.View.{Ask}
+use Rattle.messages.specs.View.{RequestView}
 use Rattle.messages.specs.Messages.{request_of}
-use Rattle.messages.specs.Arrivals.{Arrival, Shook, NoMagic, Idle, Asked, Unread, TooLong, shaken, then_asked, asked_in, after_shake, arrivals_of, arrivals}
-use Rattle.server.specs.Rest.{arrives, arrived_by, unread_among}
-use Rattle.server.specs.Past.{placed}
+use Rattle.messages.specs.Arrivals.{Arrival, Shook, NoMagic, Idle, Asked, Unread, TooLong, arrival_of_offer, then_request, requests_in, after_shake, arrivals_of, arrivals}
+use Rattle.server.specs.Rest.{arrives, arrival_by, unread_among}
+use Rattle.server.specs.Past.{places_of}
 use Rattle.wire.proofs.Opening.{AreChunks, IsChunk, MayBeChunk, MayOpen, Came, part, whole, came, opening_taken, chunk_taken}
 
 -- what stands for no request takes a place
-pub unread_placed : (xs : List Arrival) → unread_among (placed xs) ≡ unread_among xs
+pub unread_placed : (xs : List Arrival) → unread_among (places_of xs) ≡ unread_among xs
 unread_placed [] = refl
 unread_placed (Asked q ∷ xs) = unread_placed xs
 unread_placed (Unread e ∷ xs) = refl
@@ -23,7 +23,7 @@ unread_placed (Shook o ∷ xs) = unread_placed xs
 unread_placed (NoMagic ∷ xs) = unread_placed xs
 unread_placed (Idle ∷ xs) = unread_placed xs
 
-pub placed-append : (xs ys : List Arrival) → placed (xs ++ ys) ≡ placed xs ++ placed ys
+pub placed-append : (xs ys : List Arrival) → places_of (xs ++ ys) ≡ places_of xs ++ places_of ys
 placed-append [] ys = refl
 placed-append (Asked q ∷ xs) ys = ap (λ z. Asked q ∷ z) (placed-append xs ys)
 placed-append (Unread e ∷ xs) ys = ap (λ z. Unread e ∷ z) (placed-append xs ys)
@@ -33,11 +33,11 @@ placed-append (NoMagic ∷ xs) ys = placed-append xs ys
 placed-append (Idle ∷ xs) ys = placed-append xs ys
 
 -- One more item of a stream from which nothing unreadable has come is one more arrival.
-message_adds : (r : Result Ask MsgFault) → then_asked r [] ≡ arrived_by r ∷ []
+message_adds : (r : Result RequestView MsgFault) → then_request r [] ≡ arrival_by r ∷ []
 message_adds (Ok q) = refl
 message_adds (Err e) = refl
 
-pub asked_adds : (v : Version) (ys : List Item) (y : Item) → AreChunks ys → IsChunk y → unread_among (asked_in v ys) ≡ false → asked_in v (ys ++ y ∷ []) ≡ asked_in v ys ++ arrives v y ∷ []
+pub asked_adds : (v : Version) (ys : List Item) (y : Item) → AreChunks ys → IsChunk y → unread_among (requests_in v ys) ≡ false → requests_in v (ys ++ y ∷ []) ≡ requests_in v ys ++ arrives v y ∷ []
 asked_adds v [] (Opening b) c i h = absurd i
 asked_adds v [] Noop c i h = refl
 asked_adds v [] (Message b) c i h = message_adds (request_of v b)
@@ -47,8 +47,8 @@ asked_adds v (Noop ∷ ys) y c i h = ap (λ z. Idle ∷ z) (asked_adds v ys y c.
 asked_adds v (TooBig ∷ ys) y c i h = cc
 asked_adds v (Message b ∷ ys) y c i h = go (request_of v b) h (asked_adds v ys y c.1 i)
   where
-    go : (r : Result Ask MsgFault) → unread_among (then_asked r (asked_in v ys)) ≡ false → (unread_among (asked_in v ys) ≡ false → asked_in v (ys ++ y ∷ []) ≡ asked_in v ys ++ arrives v y ∷ [])
-        → then_asked r (asked_in v (ys ++ y ∷ [])) ≡ then_asked r (asked_in v ys) ++ arrives v y ∷ []
+    go : (r : Result RequestView MsgFault) → unread_among (then_request r (requests_in v ys)) ≡ false → (unread_among (requests_in v ys) ≡ false → requests_in v (ys ++ y ∷ []) ≡ requests_in v ys ++ arrives v y ∷ [])
+        → then_request r (requests_in v (ys ++ y ∷ [])) ≡ then_request r (requests_in v ys) ++ arrives v y ∷ []
     go (Ok q) h f = ap (λ z. Asked q ∷ z) (f h)
     go (Err e) h f = cc
 
@@ -76,13 +76,13 @@ no_shake v (Opening b) i = absurd i
 no_shake v Noop i = refl
 no_shake v (Message b) i = go (request_of v b)
   where
-    go : (r : Result Ask MsgFault) → is_shake (arrived_by r) ≡ false
+    go : (r : Result RequestView MsgFault) → is_shake (arrival_by r) ≡ false
     go (Ok q) = refl
     go (Err x) = refl
 no_shake v TooBig i = refl
 
 -- what a shaking is
-shaken_is : (bytes : List ℕ) → is_shake (shaken bytes) ≡ true
+shaken_is : (bytes : List ℕ) → is_shake (arrival_of_offer bytes) ≡ true
 shaken_is bytes = go _ _
   where
     go : (o : Option Version) (b : Bool) → is_shake (if b then Shook o else NoMagic) ≡ true
@@ -99,14 +99,14 @@ IsNext xs None = Unit {0}
 IsNext [] (Some a) = is_shake a ≡ true
 IsNext (x ∷ xs) (Some a) = is_shake a ≡ false
 
-module _ (bytes : List ℕ) (v : Version) (stage : Stage bytes v) (good : unread_among (placed (arrivals bytes)) ≡ false) (piece : List ℕ) where
+module _ (bytes : List ℕ) (v : Version) (stage : Stage bytes v) (good : unread_among (places_of (arrivals bytes)) ≡ false) (piece : List ℕ) where
   abbrev t : Took Opened Item
   t = takes at_server (state at_server at_server.start bytes) piece
 
   abbrev Adds : Opened → Type 0
   Adds r =
       let o = (takes at_server r piece).item in
-      (arrivals_of (received bytes ++ option_to_list o) ≡ arrivals_of (received bytes) ++ option_to_list (option_map (arrives v) o)) × IsNext (arrivals_of (received bytes)) (option_map (arrives v) o)
+      (arrivals_of (items_received bytes ++ option_to_list o) ≡ arrivals_of (items_received bytes) ++ option_to_list (option_map (arrives v) o)) × IsNext (arrivals_of (items_received bytes)) (option_map (arrives v) o)
 
   same_items : (xs : List Item) → arrivals_of (xs ++ []) ≡ arrivals_of xs ++ []
   same_items xs = ap arrivals_of (append-nil xs) ∙ sym (append-nil (arrivals_of xs))
@@ -115,30 +115,30 @@ module _ (bytes : List ℕ) (v : Version) (stage : Stage bytes v) (good : unread
   first None m xs e = (same_items xs, tt)
   first (Some x) m xs e =
       subst (λ z. (arrivals_of (z ++ x ∷ []) ≡ arrivals_of z ++ arrives v x ∷ []) × IsNext (arrivals_of z) (Some (arrives v x))) (sym e)
-      (subst (λ z. (arrivals_of (z ∷ []) ≡ arrives v z ∷ []) × (is_shake (arrives v z) ≡ true)) (sym m.1) (shake_alone (shaken m.0), shaken_is m.0))
+      (subst (λ z. (arrivals_of (z ∷ []) ≡ arrives v z ∷ []) × (is_shake (arrives v z) ≡ true)) (sym m.1) (shake_alone (arrival_of_offer m.0), shaken_is m.0))
 
-  later : (x : Option Item) → MayBeChunk x → (offer : List ℕ) (ys xs : List Item) → xs ≡ Opening offer ∷ ys → AreChunks ys → shaken offer ≡ Shook (Some v) → unread_among (placed (arrivals_of xs)) ≡ false
+  later : (x : Option Item) → MayBeChunk x → (offer : List ℕ) (ys xs : List Item) → xs ≡ Opening offer ∷ ys → AreChunks ys → arrival_of_offer offer ≡ Shook (Some v) → unread_among (places_of (arrivals_of xs)) ≡ false
       → (arrivals_of (xs ++ option_to_list x) ≡ arrivals_of xs ++ option_to_list (option_map (arrives v) x)) × IsNext (arrivals_of xs) (option_map (arrives v) x)
   later None m offer ys xs e c sh h = (same_items xs, tt)
   later (Some x) m offer ys xs e c sh h =
-      let quiet : unread_among (asked_in v ys) ≡ false = sym (ap (λ a. unread_among (a ∷ after_shake a ys)) sh) ∙ sym (ap (λ z. unread_among (arrivals_of z)) e) ∙ sym (unread_placed (arrivals_of xs)) ∙ h in
+      let quiet : unread_among (requests_in v ys) ≡ false = sym (ap (λ a. unread_among (a ∷ after_shake a ys)) sh) ∙ sym (ap (λ z. unread_among (arrivals_of z)) e) ∙ sym (unread_placed (arrivals_of xs)) ∙ h in
       subst (λ z. (arrivals_of (z ++ x ∷ []) ≡ arrivals_of z ++ arrives v x ∷ []) × IsNext (arrivals_of z) (Some (arrives v x))) (sym e)
       (subst (λ a. (a ∷ after_shake a (ys ++ x ∷ []) ≡ (a ∷ after_shake a ys) ++ arrives v x ∷ []) × (is_shake (arrives v x) ≡ false)) (sym sh) (ap (λ z. Shook (Some v) ∷ z) (asked_adds v ys x c m quiet), no_shake v x m))
 
   adds : Adds (state at_server at_server.start bytes)
   adds = go (came 20 [] bytes) stage
     where
-      go : Came 20 (received bytes) (state at_server at_server.start bytes) → Stage bytes v → Adds (state at_server at_server.start bytes)
-      go (part offer e s) h = subst Adds (sym s) (first _ (opening_taken 20 offer piece) (received bytes) e)
-      go (whole offer ys u e c s) (inl h) = let no : shaken offer ∷ after_shake (shaken offer) ys ≡ [] = sym (ap arrivals_of e) ∙ h in absurd (cc)
+      go : Came 20 (items_received bytes) (state at_server at_server.start bytes) → Stage bytes v → Adds (state at_server at_server.start bytes)
+      go (part offer e s) h = subst Adds (sym s) (first _ (opening_taken 20 offer piece) (items_received bytes) e)
+      go (whole offer ys u e c s) (inl h) = let no : arrival_of_offer offer ∷ after_shake (arrival_of_offer offer) ys ≡ [] = sym (ap arrivals_of e) ∙ h in absurd (cc)
       go (whole offer ys u e c s) (inr h) =
-          let sh : shaken offer ≡ Shook (Some v) = ap (head_or (shaken offer)) (sym (ap arrivals_of e) ∙ h.1) in
-          subst Adds (sym s) (later _ (chunk_taken 20 u piece) offer ys (received bytes) e c sh good)
+          let sh : arrival_of_offer offer ≡ Shook (Some v) = ap (head_or (arrival_of_offer offer)) (sym (ap arrivals_of e) ∙ h.1) in
+          subst Adds (sym s) (later _ (chunk_taken 20 u piece) offer ys (items_received bytes) e c sh good)
 
   -- what arrives of the bytes with those that are used
   pub more_arrives : arrivals (bytes ++ take t.used piece) ≡ arrivals bytes ++ option_to_list (option_map (arrives v) t.item)
   more_arrives =
-      ap arrivals_of (outputs-append Opened Item at_server at_server.start bytes (take t.used piece) ∙ ap (λ z. received bytes ++ z) (takes_outputs Opened Item at_server (state at_server at_server.start bytes) piece).0)
+      ap arrivals_of (outputs-append Opened Item at_server at_server.start bytes (take t.used piece) ∙ ap (λ z. items_received bytes ++ z) (takes_outputs Opened Item at_server (state at_server at_server.start bytes) piece).0)
       ∙ adds.0
 
   -- and what it is: a handshake first, and then none

@@ -4,7 +4,7 @@ use Rattle.std.specs.Prelude.{option_map, option_to_list, map, is_some, unwrap_o
 use Rattle.wire.specs.declared.Version.TheVariants.{V51}
 use Rattle.wire.specs.Reader.{Took as TookOf, state, takes}
 use Rattle.wire.specs.Framing.{Item, Opened, at_server}
-use Rattle.messages.specs.View.{Ask}
+use Rattle.messages.specs.View.{RequestView}
 use Rattle.messages.specs.Arrivals.{Arrival, Shook, NoMagic, Idle, Asked, Unread, TooLong, Quiet, arrivals}
 use Rattle.machine.specs.declared.states.State.{State}
 use Rattle.machine.specs.declared.rows.Verdict.{Verdict}
@@ -15,16 +15,16 @@ use Rattle.server.specs.declared.kinds.Cause.{Cause}
 use Rattle.server.specs.declared.kinds.Took.{Took}
 use Rattle.server.specs.declared.kinds.What.{What}
 use Rattle.server.specs.Session.{Setting, Reply, OneRow, Summary, Bye}
-use Rattle.server.specs.Rest.{Kept, Step, Ended, Full, puts, arrival, cause_of, ends, fed, full, noop_kept, puts_noop, replies, rests, reset_among, shut, struck, takes_item, takes_none, turns, unread_among, version_of, work_kept}
+use Rattle.server.specs.Rest.{Kept, Step, Ended, Full, puts, arrival, cause_of, ends, after_item, full, noop_kept, puts_noop, replies, rests, reset_among, shut, after_strike, takes_item, takes_none, turns, unread_among, version_of, work_kept}
 use Rattle.server.specs.Serving.{Live, after_feeding, fresh, fed_live, with_kept}
-use Rattle.server.specs.Past.{Agrees, Follows, IsLater, answered_by, placed}
+use Rattle.server.specs.Past.{Agrees, Follows, IsLater, answers_by, places_of}
 use Rattle.server.proofs.Arriving.{is_shake, IsNext, more_arrives, next_arrival, placed-append, rest_after}
 
-pub map-append : (xs ys : List Ask) → map Asked (xs ++ ys) ≡ map Asked xs ++ map Asked ys
+pub map-append : (xs ys : List RequestView) → map Asked (xs ++ ys) ≡ map Asked xs ++ map Asked ys
 map-append [] ys = refl
 map-append (x ∷ xs) ys = ap (λ z. Asked x ∷ z) (map-append xs ys)
 
-unread_after : (answered : List Ask) (xs : List Arrival) → unread_among (map Asked answered ++ xs) ≡ unread_among xs
+unread_after : (answered : List RequestView) (xs : List Arrival) → unread_among (map Asked answered ++ xs) ≡ unread_among xs
 unread_after [] xs = refl
 unread_after (q ∷ answered) xs = unread_after answered xs
 
@@ -51,23 +51,23 @@ stage_of (Unread f ∷ xs) k h e = absurd h
 stage_of (TooLong ∷ xs) k h e = absurd h
 
 -- What an arrival does.
-struck_waiting : (b : Bool) (k : Kept) → (cond b (struck k) k).waiting ≡ k.waiting
+struck_waiting : (b : Bool) (k : Kept) → (cond b (after_strike k) k).waiting ≡ k.waiting
 struck_waiting true k = refl
 struck_waiting false k = refl
 
-struck_first : (b : Bool) (k : Kept) → (cond b (struck k) k).first ≡ k.first
+struck_first : (b : Bool) (k : Kept) → (cond b (after_strike k) k).first ≡ k.first
 struck_first true k = refl
 struck_first false k = refl
 
-struck_version : (b : Bool) (k : Kept) → (cond b (struck k) k).version ≡ k.version
+struck_version : (b : Bool) (k : Kept) → (cond b (after_strike k) k).version ≡ k.version
 struck_version true k = refl
 struck_version false k = refl
 
-struck_ended : (b : Bool) (k : Kept) → (cond b (struck k) k).ended ≡ k.ended
+struck_ended : (b : Bool) (k : Kept) → (cond b (after_strike k) k).ended ≡ k.ended
 struck_ended true k = refl
 struck_ended false k = refl
 
-fed_waiting : (k : Kept) (a : Option Arrival) → (fed k a).waiting ≡ k.waiting ++ placed (option_to_list a)
+fed_waiting : (k : Kept) (a : Option Arrival) → (after_item k a).waiting ≡ k.waiting ++ places_of (option_to_list a)
 fed_waiting k None = sym (append-nil k.waiting)
 fed_waiting k (Some (Shook (Some v))) = sym (append-nil k.waiting)
 fed_waiting k (Some (Shook None)) = sym (append-nil k.waiting)
@@ -77,7 +77,7 @@ fed_waiting k (Some (Asked q)) = struck_waiting (is_reset (kind_of q) && interru
 fed_waiting k (Some (Unread e)) = refl
 fed_waiting k (Some TooLong) = refl
 
-fed_first : (k : Kept) (a : Option Arrival) → (fed k a).first ≡ k.first
+fed_first : (k : Kept) (a : Option Arrival) → (after_item k a).first ≡ k.first
 fed_first k None = refl
 fed_first k (Some (Shook (Some v))) = refl
 fed_first k (Some (Shook None)) = refl
@@ -88,7 +88,7 @@ fed_first k (Some (Unread e)) = refl
 fed_first k (Some TooLong) = refl
 
 -- what isn't a handshake leaves version and end
-fed_agrees : (k : Kept) (a : Option Arrival) → option_map is_shake a ≢ Some true → ((fed k a).version ≡ k.version) × ((fed k a).ended ≡ k.ended)
+fed_agrees : (k : Kept) (a : Option Arrival) → option_map is_shake a ≢ Some true → ((after_item k a).version ≡ k.version) × ((after_item k a).ended ≡ k.ended)
 fed_agrees k None h = (refl, refl)
 fed_agrees k (Some (Shook o)) h = absurd (h refl)
 fed_agrees k (Some NoMagic) h = absurd (h refl)
@@ -109,7 +109,7 @@ agrees_more (Asked q) xs ys k h = h
 agrees_more (Unread e) xs ys k h = h
 agrees_more TooLong xs ys k h = h
 
-first_agrees : (k : Kept) (a : Option Arrival) → IsNext [] a → Agrees [] k → Agrees (option_to_list a) (fed k a)
+first_agrees : (k : Kept) (a : Option Arrival) → IsNext [] a → Agrees [] k → Agrees (option_to_list a) (after_item k a)
 first_agrees k None n h = h
 first_agrees k (Some (Shook (Some v))) n h = (refl, subst IsLater (sym h.1) tt)
 first_agrees k (Some (Shook None)) n h = (h.0, refl)
@@ -123,14 +123,14 @@ no_shake : (x : Arrival) (xs : List Arrival) (a : Option Arrival) → IsNext (x 
 no_shake x xs None n = λ e. cc
 no_shake x xs (Some a) n = λ e. let bad : false ≡ true = cc in cc
 
-next_agrees : (k : Kept) (xs : List Arrival) (a : Option Arrival) → IsNext xs a → Agrees xs k → Agrees (xs ++ option_to_list a) (fed k a)
+next_agrees : (k : Kept) (xs : List Arrival) (a : Option Arrival) → IsNext xs a → Agrees xs k → Agrees (xs ++ option_to_list a) (after_item k a)
 next_agrees k [] a n h = first_agrees k a n h
 next_agrees k (x ∷ xs) a n h =
     let same = fed_agrees k a (no_shake x xs a n) in
-    agrees_kept (x ∷ (xs ++ option_to_list a)) k (fed k a) same.0 same.1 (agrees_more x xs (option_to_list a) k h)
+    agrees_kept (x ∷ (xs ++ option_to_list a)) k (after_item k a) same.0 same.1 (agrees_more x xs (option_to_list a) k h)
 
 -- other names for the bytes and the requests
-pub follows_same : (bytes more : List ℕ) (answered later : List Ask) (s : Live) → more ≡ bytes → later ≡ answered → Follows bytes answered s → Follows more later s
+pub follows_same : (bytes more : List ℕ) (answered later : List RequestView) (s : Live) → more ≡ bytes → later ≡ answered → Follows bytes answered s → Follows more later s
 follows_same bytes more answered later s b a h = subst (λ x. Follows x later s) (sym b) (subst (λ x. Follows bytes x s) (sym a) h)
 
 pub follows_begun : (conn : ℕ) → Follows [] [] (fresh conn)
@@ -141,14 +141,14 @@ either_false None b h = (refl, h)
 either_false (Some x) b h = cc
 
 -- A feed.
-module _ (bytes : List ℕ) (answered : List Ask) (s : Live) (h : Follows bytes answered s) (piece : List ℕ) where
+module _ (bytes : List ℕ) (answered : List RequestView) (s : Live) (h : Follows bytes answered s) (piece : List ℕ) where
   abbrev Fed : Took × Live → Type 0
   Fed p = Follows (bytes ++ take p.0.used piece) answered p.1
 
   none_taken : (what : What) → Fed (record { used = 0; what = what }, record { conn = s.conn; kept = s.kept; unfinished = s.unfinished })
   none_taken what = follows_same bytes (bytes ++ take 0 piece) answered answered _ (append-nil bytes) refl (record { places = h.places; first = h.first; handshake = h.handshake; unfinished = h.unfinished })
 
-  good : unread_among s.kept.waiting ≡ false → unread_among (placed (arrivals bytes)) ≡ false
+  good : unread_among s.kept.waiting ≡ false → unread_among (places_of (arrivals bytes)) ≡ false
   good e = ap unread_among (sym h.places) ∙ unread_after answered s.kept.waiting ∙ e
 
   item_taken : shut s.kept ≡ false → (u : Opened) → u ≡ state at_server at_server.start bytes → Fed (after_feeding s.conn (takes_item s.kept (takes at_server u piece)))
@@ -170,11 +170,11 @@ module _ (bytes : List ℕ) (answered : List Ask) (s : Live) (h : Follows bytes 
       taken more next rest = record {
         places =
             ap (λ z. map Asked answered ++ z) (fed_waiting s.kept a)
-            ∙ sym (append_assoc (map Asked answered) s.kept.waiting (placed (option_to_list a)))
-            ∙ ap (λ z. z ++ placed (option_to_list a)) h.places
-            ∙ sym (placed-append (arrivals bytes) (option_to_list a)) ∙ ap placed (sym more);
+            ∙ sym (append_assoc (map Asked answered) s.kept.waiting (places_of (option_to_list a)))
+            ∙ ap (λ z. z ++ places_of (option_to_list a)) h.places
+            ∙ sym (placed-append (arrivals bytes) (option_to_list a)) ∙ ap places_of (sym more);
         first = fed_first s.kept a ∙ h.first;
-        handshake = subst (λ z. Agrees z (fed s.kept a)) (sym more) (next_agrees s.kept (arrivals bytes) a next h.handshake);
+        handshake = subst (λ z. Agrees z (after_item s.kept a)) (sym more) (next_agrees s.kept (arrivals bytes) a next h.handshake);
         unfinished = sym rest;
       }
 
@@ -202,12 +202,12 @@ record Ends (k t : Kept) : Type 0 where
   waits : k.waiting ≡ first ∷ others
 
 record Stepped (k : Kept) (d : Step) : Type 0 where
-  waiting : map Asked (answered_by d.answer) ++ d.kept.waiting ≡ k.waiting
-  first : d.kept.first ≡ k.first + length (answered_by d.answer)
+  waiting : map Asked (answers_by d.answer) ++ d.kept.waiting ≡ k.waiting
+  first : d.kept.first ≡ k.first + length (answers_by d.answer)
   version : d.kept.version ≡ k.version
   ended : (d.kept.ended ≡ k.ended) ⊎ Ends k d.kept
 
-rested : (k t : Kept) (d : Step) → d.kept ≡ t → answered_by d.answer ≡ [] → t.waiting ≡ k.waiting → t.first ≡ k.first → t.version ≡ k.version → (t.ended ≡ k.ended) ⊎ Ends k t → Stepped k d
+rested : (k t : Kept) (d : Step) → d.kept ≡ t → answers_by d.answer ≡ [] → t.waiting ≡ k.waiting → t.first ≡ k.first → t.version ≡ k.version → (t.ended ≡ k.ended) ⊎ Ends k t → Stepped k d
 rested k t d same none w f v e = record {
   waiting = ap (λ z. map Asked z ++ d.kept.waiting) none ∙ ap (λ (z : Kept). z.waiting) same ∙ w;
   first = ap (λ (z : Kept). z.first) same ∙ f ∙ (let n : k.first ≡ k.first + 0 = omega arith in n) ∙ ap (λ z. k.first + length z) (sym none);
@@ -215,14 +215,14 @@ rested k t d same none w f v e = record {
   ended = subst (λ (z : Kept). (z.ended ≡ k.ended) ⊎ Ends k z) (sym same) e;
 }
 
-idles : (k : Kept) (d : Step) → d.kept ≡ k → answered_by d.answer ≡ [] → Stepped k d
+idles : (k : Kept) (d : Step) → d.kept ≡ k → answers_by d.answer ≡ [] → Stepped k d
 idles k d same none = rested k k d same none refl refl refl (inl refl)
 
 -- a step that ends the session
 closes : (k : Kept) (c : Cause) (x : Arrival) (xs : List Arrival) → k.waiting ≡ x ∷ xs → k.ended ≡ None → IsLater (Some c) → Stepped k (rests (ends c k) (Ended c))
 closes k c x xs w e l = rested k (ends c k) (rests (ends c k) (Ended c)) refl refl refl refl refl (inr (record { before = e; cause = l; first = x; others = xs; waits = w }))
 
-replies_stepped : (ledger : List EntryView) (k : Kept) (q : Ask) (later : List Arrival) (reply : Reply) → k.waiting ≡ Asked q ∷ later → k.ended ≡ None → Stepped k (replies ledger k q later reply)
+replies_stepped : (ledger : List EntryView) (k : Kept) (q : RequestView) (later : List Arrival) (reply : Reply) → k.waiting ≡ Asked q ∷ later → k.ended ≡ None → Stepped k (replies ledger k q later reply)
 replies_stepped ledger k q later (OneRow r left) w e = rested k _ (replies ledger k q later (OneRow r left)) refl refl refl refl refl (inl refl)
 replies_stepped ledger k q later (Summary d m left tx entry) w e = record {
   waiting = sym w;
@@ -233,10 +233,10 @@ replies_stepped ledger k q later (Summary d m left tx entry) w e = record {
 replies_stepped ledger k q later Bye w e = closes k Cause.Goodbye (Asked q) later w e tt
 
 -- a RESET that strikes leaves what waits, version and end
-struck_stepped : (b : Bool) (k : Kept) (d : Step) → Stepped (cond b (struck k) k) d → Stepped k d
+struck_stepped : (b : Bool) (k : Kept) (d : Step) → Stepped (cond b (after_strike k) k) d → Stepped k d
 struck_stepped true k d h = record { waiting = h.waiting; first = h.first; version = h.version; ended = go h.ended }
   where
-    go : (d.kept.ended ≡ k.ended) ⊎ Ends (struck k) d.kept → (d.kept.ended ≡ k.ended) ⊎ Ends k d.kept
+    go : (d.kept.ended ≡ k.ended) ⊎ Ends (after_strike k) d.kept → (d.kept.ended ≡ k.ended) ⊎ Ends k d.kept
     go (inl e) = inl e
     go (inr e) = inr (record { before = e.before; cause = e.cause; first = e.first; others = e.others; waits = e.waits })
 struck_stepped false k d h = h
@@ -245,7 +245,7 @@ turns_stepped : (S : Setting) (c : ℕ) (ledger : List EntryView) (k : Kept) (xs
 turns_stepped S c ledger k [] w e = idles k (turns S c ledger k []) refl refl
 turns_stepped S c ledger k (Asked q ∷ later) w e =
     let b : Bool = reset_among (Asked q ∷ later) && interruptible k.state in
-    let t : Kept = cond b (struck k) k in
+    let t : Kept = cond b (after_strike k) k in
     struck_stepped b k (turns S c ledger k (Asked q ∷ later)) (replies_stepped ledger t q later _ (struck_waiting b k ∙ w) (struck_ended b k ∙ e))
 turns_stepped S c ledger k (Unread f ∷ later) w e = closes k Cause.Malformed (Unread f) later w e tt
 turns_stepped S c ledger k (TooLong ∷ later) w e = closes k Cause.TooBig TooLong later w e tt
@@ -262,10 +262,10 @@ work_stepped S c ledger k None e = by_room (leb 65536 (length k.unsent))
     by_room false = turns_stepped S c ledger k k.waiting refl e
 
 -- where something waits, an offer has come of which a version was taken
-waits_agrees : (xs : List Arrival) (answered : List Ask) (k t : Kept) → map Asked answered ++ k.waiting ≡ placed xs → t.version ≡ k.version → Ends k t → Agrees xs k → Agrees xs t
+waits_agrees : (xs : List Arrival) (answered : List RequestView) (k t : Kept) → map Asked answered ++ k.waiting ≡ places_of xs → t.version ≡ k.version → Ends k t → Agrees xs k → Agrees xs t
 waits_agrees [] answered k t p v e h = let bad : map Asked answered ++ e.first ∷ e.others ≡ [] = ap (λ z. map Asked answered ++ z) (sym e.waits) ∙ p in absurd (none answered bad)
   where
-    none : (qs : List Ask) → map Asked qs ++ e.first ∷ e.others ≡ [] → ⊥
+    none : (qs : List RequestView) → map Asked qs ++ e.first ∷ e.others ≡ [] → ⊥
     none [] b = cc
     none (q ∷ qs) b = cc
 waits_agrees (Shook (Some w) ∷ xs) answered k t p v e h = (v ∙ h.0, e.cause)
@@ -277,17 +277,17 @@ waits_agrees (Unread f ∷ xs) answered k t p v e h = h
 waits_agrees (TooLong ∷ xs) answered k t p v e h = h
 
 -- A step.
-pub follows_work : (S : Setting) (ledger : List EntryView) (bytes : List ℕ) (answered : List Ask) (s : Live) → Follows bytes answered s
-    → (let d = work_kept S s.conn ledger s.kept s.kept.ended in Follows bytes (answered ++ answered_by d.answer) (with_kept s d.kept))
+pub follows_work : (S : Setting) (ledger : List EntryView) (bytes : List ℕ) (answered : List RequestView) (s : Live) → Follows bytes answered s
+    → (let d = work_kept S s.conn ledger s.kept s.kept.ended in Follows bytes (answered ++ answers_by d.answer) (with_kept s d.kept))
 follows_work S ledger bytes answered s h = stepped (work_kept S s.conn ledger s.kept s.kept.ended) (work_stepped S s.conn ledger s.kept s.kept.ended refl)
   where
-    stepped : (d : Step) → Stepped s.kept d → Follows bytes (answered ++ answered_by d.answer) (with_kept s d.kept)
+    stepped : (d : Step) → Stepped s.kept d → Follows bytes (answered ++ answers_by d.answer) (with_kept s d.kept)
     stepped d w = record {
       places =
-          ap (λ z. z ++ d.kept.waiting) (map-append answered (answered_by d.answer))
-          ∙ append_assoc (map Asked answered) (map Asked (answered_by d.answer)) d.kept.waiting
+          ap (λ z. z ++ d.kept.waiting) (map-append answered (answers_by d.answer))
+          ∙ append_assoc (map Asked answered) (map Asked (answers_by d.answer)) d.kept.waiting
           ∙ ap (λ z. map Asked answered ++ z) w.waiting ∙ h.places;
-      first = w.first ∙ ap (λ n. n + length (answered_by d.answer)) h.first ∙ sym (length-append answered (answered_by d.answer));
+      first = w.first ∙ ap (λ n. n + length (answers_by d.answer)) h.first ∙ sym (length-append answered (answers_by d.answer));
       handshake = go w.ended;
       unfinished = h.unfinished;
     }
@@ -297,7 +297,7 @@ follows_work S ledger bytes answered s h = stepped (work_kept S s.conn ledger s.
         go (inr e) = waits_agrees (arrivals bytes) answered s.kept d.kept h.places w.version e h.handshake
 
 -- Bytes that are taken out, and a no-op.
-pub follows_unsent : (bytes : List ℕ) (answered : List Ask) (s : Live) (unsent : List ℕ) → Follows bytes answered s → Follows bytes answered (with_kept s (record s.kept { unsent = unsent }))
+pub follows_unsent : (bytes : List ℕ) (answered : List RequestView) (s : Live) (unsent : List ℕ) → Follows bytes answered s → Follows bytes answered (with_kept s (record s.kept { unsent = unsent }))
 follows_unsent bytes answered s unsent h = record {
   places = h.places;
   first = h.first;
@@ -305,7 +305,7 @@ follows_unsent bytes answered s unsent h = record {
   unfinished = h.unfinished;
 }
 
-pub follows_noop : (bytes : List ℕ) (answered : List Ask) (s : Live) → Follows bytes answered s → Follows bytes answered (with_kept s (noop_kept s.kept))
+pub follows_noop : (bytes : List ℕ) (answered : List RequestView) (s : Live) → Follows bytes answered s → Follows bytes answered (with_kept s (noop_kept s.kept))
 follows_noop bytes answered s h = go (puts_noop s.kept)
   where
     go : (b : Bool) → Follows bytes answered (with_kept s (cond b (record s.kept { unsent = puts s.kept Quiet }) s.kept))

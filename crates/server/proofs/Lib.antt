@@ -1,4 +1,7 @@
 pub mod Readings
+pub mod Requests
+pub mod Coming
+pub mod Feeds
 pub mod Queues
 pub mod Placed
 pub mod Calls
@@ -12,4 +15,3 @@ pub mod Ledgers
 pub mod Arriving
 pub mod Following
 pub mod Pasts
-pub mod Looks

@@ -6,17 +6,17 @@ use Rattle.wire.specs.declared.Version.{Version}
 use Rattle.wire.specs.Unfinished.{fresh as unread}
 use Rattle.wire.specs.Stream.{items_of}
 use Rattle.wire.specs.Whole.{whole}
-use Rattle.messages.specs.View.{Ask}
+use Rattle.messages.specs.View.{RequestView}
 use Rattle.messages.specs.Messages.{request_of}
 use Rattle.messages.specs.declared.fault.MsgFault.{MsgFault}
-use Rattle.messages.specs.Arrivals.{Arrival, Shook, NoMagic, Idle, Asked, Unread, TooLong, arrivals, asked_of, then_asked, without_idle}
+use Rattle.messages.specs.Arrivals.{Arrival, Shook, NoMagic, Idle, Asked, Unread, TooLong, arrivals, requests_of, then_request, without_idle}
 use Rattle.messages.proofs.Wholes.{arrives_whole}
 use Rattle.engine.specs.declared.answer.Mode.{Mode as QueryMode}
 use Rattle.engine.specs.Views.{WriteView, ParameterView, EntryView, AnswerView, QueryFault}
 use Rattle.server.specs.Rest.{take_kept, work_kept}
 use Rattle.server.specs.Serving.{Live, Rest, after_step, empty, fed_live, find, fresh, is_full, noop_put, opened, replace, setting, taken_from, with_kept, with_session, without}
 use Rattle.server.specs.Running.{AreBelow, Event, opens, feeds, works, takes, noops, loses, after_call, after_event, after_events}
-use Rattle.server.specs.Past.{Asks, Follows, answered_by, bytes_taken, call_answered, placed, requests_answered, step_answered, took_by, used_of}
+use Rattle.server.specs.Past.{Asks, Follows, answers_by, bytes_taken, call_answered, places_of, requests_answered, step_answered, took_by, used_of}
 use Rattle.server.proofs.Bounds.{FewRows}
 use Rattle.server.proofs.Following.{follows_begun, follows_feed, follows_noop, follows_same, follows_unsent, follows_work}
 use Rattle.server.proofs.Runs.{Held, find-conn, find_other-replace, held_empty, held_event}
@@ -85,19 +85,19 @@ whose c conn before t s ss f e g = elim (eqb c conn) as (λ b. eqb c conn ≡ b 
 ] refl
 
 -- What is known of each live session, and that nothing came of the numbers that aren't given yet.
-record Traced {G : Type 0} (r : Rest G) (taken : ℕ → List ℕ) (answered : ℕ → List Ask) : Type 0 where
+record Traced {G : Type 0} (r : Rest G) (taken : ℕ → List ℕ) (answered : ℕ → List RequestView) : Type 0 where
   live : (conn : ℕ) (s : Live) → find conn r.sessions ≡ Some s → Follows (taken conn) (answered conn) s
   none : (conn : ℕ) → r.next ≤ conn → (taken conn ≡ []) × (answered conn ≡ [])
 
-traced_same : {G : Type 0} (r : Rest G) (taken more : ℕ → List ℕ) (answered later : ℕ → List Ask) → ((n : ℕ) → more n ≡ taken n) → ((n : ℕ) → later n ≡ answered n) → Traced r taken answered → Traced r more later
+traced_same : {G : Type 0} (r : Rest G) (taken more : ℕ → List ℕ) (answered later : ℕ → List RequestView) → ((n : ℕ) → more n ≡ taken n) → ((n : ℕ) → later n ≡ answered n) → Traced r taken answered → Traced r more later
 traced_same r taken more answered later b a h = record {
   live = λ conn s f. follows_same (taken conn) (more conn) (answered conn) (later conn) s (b conn) (a conn) (h.live conn s f);
   none = λ conn l. (b conn ∙ (h.none conn l).0, a conn ∙ (h.none conn l).1);
 }
 
 module _ {G : Type 0} (answer : List EntryView → List WriteView → List ℕ → List ParameterView → QueryMode → Result AnswerView QueryFault) (few : (ledger : List EntryView) (own : List WriteView) (query : List ℕ) (params : List ParameterView) (m : QueryMode) → FewRows (answer ledger own query params m)) (accepts : G → List ℕ → List ℕ → Bool) where
-  module _ (r : Rest G) (taken : ℕ → List ℕ) (answered : ℕ → List Ask) (numbers : AreBelow r.next r.sessions) (h : Traced r taken answered) where
-    still : (conn : ℕ) (s : Live) (b : List ℕ) (a : List Ask) → b ≡ [] → a ≡ [] → find conn r.sessions ≡ Some s → Follows (taken conn ++ b) (answered conn ++ a) s
+  module _ (r : Rest G) (taken : ℕ → List ℕ) (answered : ℕ → List RequestView) (numbers : AreBelow r.next r.sessions) (h : Traced r taken answered) where
+    still : (conn : ℕ) (s : Live) (b : List ℕ) (a : List RequestView) → b ≡ [] → a ≡ [] → find conn r.sessions ≡ Some s → Follows (taken conn ++ b) (answered conn ++ a) s
     still conn s b a none_taken none_answered f =
         follows_same (taken conn) (taken conn ++ b) (answered conn) (answered conn ++ a) s (ap (λ z. taken conn ++ z) none_taken ∙ append-nil (taken conn)) (ap (λ z. answered conn ++ z) none_answered ∙ append-nil (answered conn)) (h.live conn s f)
 
@@ -114,7 +114,7 @@ module _ {G : Type 0} (answer : List EntryView → List WriteView → List ℕ �
     if_its false xs e = cc
 
     -- a call on one session
-    called : (c conn : ℕ) (before t s : Live) (b : List ℕ) (a : List Ask) → find c r.sessions ≡ Some before → t.conn ≡ c → (Follows (taken c) (answered c) before → Follows (taken c ++ b) (answered c ++ a) t)
+    called : (c conn : ℕ) (before t s : Live) (b : List ℕ) (a : List RequestView) → find c r.sessions ≡ Some before → t.conn ≡ c → (Follows (taken c) (answered c) before → Follows (taken c ++ b) (answered c ++ a) t)
         → find conn (replace t.conn t r.sessions) ≡ Some s → Follows (taken conn ++ cond (eqb c conn) b []) (answered conn ++ cond (eqb c conn) a []) s
     called c conn before t s b a f e keeps g = go (whose c conn before t s r.sessions f e g)
       where
@@ -150,11 +150,11 @@ module _ {G : Type 0} (answer : List EntryView → List WriteView → List ℕ �
     worked c conn s (Some t) e f =
         let d = work_kept (setting answer accepts r) t.conn r.ledger t.kept t.kept.ended in
         follows_same (taken conn ++ cond (eqb c conn) [] []) (taken conn ++ []) _ _ s (ap (λ z. taken conn ++ z) (sym (if_none (eqb c conn)))) refl
-        (called c conn t (with_kept t d.kept) s [] (answered_by d.answer) e (find-conn c r.sessions t e)
+        (called c conn t (with_kept t d.kept) s [] (answers_by d.answer) e (find-conn c r.sessions t e)
         (λ k. follows_same (taken c) (taken c ++ []) _ _ _ (append-nil (taken c)) refl (follows_work (setting answer accepts r) r.ledger (taken c) (answered c) t k)) f)
 
     -- a call that neither takes bytes nor answers
-    kept_call : {A : Type 0} (c conn : ℕ) (f : Live → A × Live) (s : Live) → ((t : Live) → (f t).1.conn ≡ t.conn) → ((b : List ℕ) (a : List Ask) (t : Live) → Follows b a t → Follows b a (f t).1) → (o : Option Live) → find c r.sessions ≡ o
+    kept_call : {A : Type 0} (c conn : ℕ) (f : Live → A × Live) (s : Live) → ((t : Live) → (f t).1.conn ≡ t.conn) → ((b : List ℕ) (a : List RequestView) (t : Live) → Follows b a t → Follows b a (f t).1) → (o : Option Live) → find c r.sessions ≡ o
         → find conn (after_call (option_map (λ t. ((f t).0, with_session (f t).1 r)) o) r).sessions ≡ Some s → Follows (taken conn ++ []) (answered conn ++ []) s
     kept_call c conn f s keeps follows None e g = still conn s [] [] refl refl g
     kept_call c conn f s keeps follows (Some t) e g =
@@ -212,7 +212,7 @@ module _ {G : Type 0} (answer : List EntryView → List WriteView → List ℕ �
           (ap (λ z. z ++ took_by conn e r) before.0 ∙ none.0, ap (λ z. z ++ call_answered answer accepts conn e r) before.1 ∙ none.1);
     }
 
-  traced_events : (es : List Event) (r : Rest G) (taken : ℕ → List ℕ) (answered : ℕ → List Ask) → Held r → Traced r taken answered
+  traced_events : (es : List Event) (r : Rest G) (taken : ℕ → List ℕ) (answered : ℕ → List RequestView) → Held r → Traced r taken answered
       → Traced (after_events answer accepts es r) (λ n. taken n ++ bytes_taken answer accepts n es r) (λ n. answered n ++ requests_answered answer accepts n es r)
   traced_events [] r taken answered k h = traced_same r taken _ answered _ (λ n. append-nil (taken n)) (λ n. append-nil (answered n)) h
   traced_events (e ∷ es) r taken answered k h =
@@ -230,7 +230,7 @@ module _ {G : Type 0} (answer : List EntryView → List WriteView → List ℕ �
   places_follow ledger gate events conn s f = (traced_events events (empty ledger gate) (λ n. []) (λ n. []) (held_empty ledger gate) (untraced ledger gate)).live conn s f
 
 -- What arrives after an offer takes its places by the grammar of chunks.
-placed_quiet : (xs : List Arrival) → placed (without_idle xs) ≡ placed xs
+placed_quiet : (xs : List Arrival) → places_of (without_idle xs) ≡ places_of xs
 placed_quiet [] = refl
 placed_quiet (Shook o ∷ xs) = placed_quiet xs
 placed_quiet (NoMagic ∷ xs) = placed_quiet xs
@@ -239,19 +239,19 @@ placed_quiet (Asked q ∷ xs) = ap (λ z. Asked q ∷ z) (placed_quiet xs)
 placed_quiet (Unread e ∷ xs) = ap (λ z. Unread e ∷ z) (placed_quiet xs)
 placed_quiet (TooLong ∷ xs) = ap (λ z. TooLong ∷ z) (placed_quiet xs)
 
-placed_all : (v : Version) (ms : List (List ℕ)) (past : Bool) → placed (asked_of v ms past) ≡ asked_of v ms past
+placed_all : (v : Version) (ms : List (List ℕ)) (past : Bool) → places_of (requests_of v ms past) ≡ requests_of v ms past
 placed_all v [] true = refl
 placed_all v [] false = refl
 placed_all v (b ∷ ms) past = go (request_of v b) (placed_all v ms past)
   where
-    go : (r : Result Ask MsgFault) → placed (asked_of v ms past) ≡ asked_of v ms past → placed (then_asked r (asked_of v ms past)) ≡ then_asked r (asked_of v ms past)
+    go : (r : Result RequestView MsgFault) → places_of (requests_of v ms past) ≡ requests_of v ms past → places_of (then_request r (requests_of v ms past)) ≡ then_request r (requests_of v ms past)
     go (Ok q) h = ap (λ z. Asked q ∷ z) h
     go (Err e) h = refl
 
-pub follows_asks : (bytes : List ℕ) (answered : List Ask) (s : Live) → Follows bytes answered s → Asks bytes answered s
+pub follows_asks : (bytes : List ℕ) (answered : List RequestView) (s : Live) → Follows bytes answered s → Asks bytes answered s
 follows_asks bytes answered s h =
     λ offer more v long shakes is.
-    h.places ∙ ap (λ z. placed (arrivals z)) is
+    h.places ∙ ap (λ z. places_of (arrivals z)) is
     ∙ sym (placed_quiet (arrivals (offer ++ more)))
-    ∙ ap placed (arrives_whole offer more v long shakes)
+    ∙ ap places_of (arrives_whole offer more v long shakes)
     ∙ placed_all v (whole more) (items_of unread more).rest.too_big

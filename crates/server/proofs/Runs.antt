@@ -4,7 +4,7 @@ use Rattle.std.specs.Prelude.{option_map, ◌||◌}
 use Rattle.std.proofs.lemmas.Bool.Decides.{nat_tests}
 use Rattle.engine.specs.declared.answer.Mode.{Mode as QueryMode}
 use Rattle.engine.specs.Views.{WriteView, ParameterView, EntryView, AnswerView, QueryFault}
-use Rattle.server.specs.Serving.{empty, with_sessions, committed, Live, Rest, fresh, find, replace, without, is_full, opened, fed_live, taken_from, noop_put, on_live, with_kept, with_session, after_step, setting}
+use Rattle.server.specs.Serving.{empty, with_sessions, commit_entries, Live, Rest, fresh, find, replace, without, is_full, opened, fed_live, taken_from, noop_put, on_live, with_kept, with_session, after_step, setting}
 use Rattle.server.specs.Rest.{work_kept}
 use Rattle.server.proofs.Bounds.{Fine, fine_bounded, FewRows, few_answers, begun_fine, feed_fine, work_fine, taken_fine, noop_fine}
 use Rattle.server.specs.Running.{AllBounded, AreBelow, IsKept, after_events, Event, opens, feeds, works, takes, noops, loses, after_call, after_event, conn_of}
@@ -195,7 +195,7 @@ module _ {G : Type 0} (answer : List EntryView → List WriteView → List ℕ �
       let S = setting answer accepts r in
       held_call r conn (λ s. after_step s (work_kept S s.conn r.ledger s.kept s.kept.ended) r) h
       (λ s b e. let d = work_kept S s.conn r.ledger s.kept s.kept.ended in
-      held_replace r conn (with_kept s d.kept) (r.ledger ++ committed s.conn s.kept.first d.commit) h (work_fine S (few_answers S few) s.conn r.ledger s.kept s.unfinished s.kept.ended b) e) (find conn r.sessions) refl
+      held_replace r conn (with_kept s d.kept) (r.ledger ++ commit_entries s.conn s.kept.first d.commit) h (work_fine S (few_answers S few) s.conn r.ledger s.kept s.unfinished s.kept.ended b) e) (find conn r.sessions) refl
   held_event (takes conn max) r h = held_call r conn _ h (λ s b e. held_replace r conn (taken_from max s).1 r.ledger h (taken_fine max s.kept s.unfinished b) e) (find conn r.sessions) refl
   held_event (noops conn) r h = held_call r conn _ h (λ s b e. held_replace r conn (noop_put s).1 r.ledger h (noop_fine s.kept s.unfinished b) e) (find conn r.sessions) refl
   held_event (loses conn) r h = held_without r conn h

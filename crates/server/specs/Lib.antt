@@ -3,11 +3,10 @@ pub mod Said
 pub mod Session
 pub mod Rest
 pub mod Serving
-pub mod Sound
 pub mod Rows
+pub mod Incoming
 pub mod Views
 pub mod Places
 pub mod Acts
 pub mod Running
 pub mod Past
-pub mod Looking

@@ -6,8 +6,8 @@ use Rattle.wire.specs.Framing.{at_server}
 use Rattle.wire.specs.Unfinished.{fresh as unread}
 use Rattle.wire.specs.Stream.{items_of}
 use Rattle.wire.specs.Whole.{whole}
-use Rattle.messages.specs.View.{Ask}
-use Rattle.messages.specs.Arrivals.{Arrival, Shook, NoMagic, Asked, Unread, TooLong, shaken, arrivals, asked_of}
+use Rattle.messages.specs.View.{RequestView}
+use Rattle.messages.specs.Arrivals.{Arrival, Shook, NoMagic, Asked, Unread, TooLong, arrival_of_offer, arrivals, requests_of}
 use Rattle.engine.specs.declared.answer.Mode.{Mode as QueryMode}
 use Rattle.engine.specs.Views.{WriteView, ParameterView, EntryView, AnswerView, QueryFault}
 use Rattle.server.specs.declared.kinds.Cause.{Cause}
@@ -23,9 +23,9 @@ used_of piece None = []
 used_of piece (Some p) = take p.0.used piece
 
 -- the request that a step answered by a summary
-abbrev pub answered_by : Done → List Ask
-answered_by (Wrote x) = x.request ∷ []
-answered_by _ = []
+abbrev pub answers_by : Done → List RequestView
+answers_by (Wrote x) = x.request ∷ []
+answers_by _ = []
 
 -- what a call took of the bytes of a session
 abbrev pub took_by : {G : Type 0} → ℕ → Event → Rest G → List ℕ
@@ -33,12 +33,12 @@ took_by conn (feeds c piece) r = if c == conn then used_of piece (feed_at c piec
 took_by conn _ r = []
 
 module _ {G : Type 0} (answer : List EntryView → List WriteView → List ℕ → List ParameterView → QueryMode → Result AnswerView QueryFault) (accepts : G → List ℕ → List ℕ → Bool) where
-  abbrev pub step_answered : Option Live → Rest G → List Ask
+  abbrev pub step_answered : Option Live → Rest G → List RequestView
   step_answered None r = []
-  step_answered (Some s) r = answered_by (work_kept (setting answer accepts r) s.conn r.ledger s.kept s.kept.ended).answer
+  step_answered (Some s) r = answers_by (work_kept (setting answer accepts r) s.conn r.ledger s.kept s.kept.ended).answer
 
   -- the request of a session that a call answered
-  abbrev pub call_answered : ℕ → Event → Rest G → List Ask
+  abbrev pub call_answered : ℕ → Event → Rest G → List RequestView
   call_answered conn (works c) r = if c == conn then step_answered (find c r.sessions) r else []
   call_answered conn _ r = []
 
@@ -48,17 +48,17 @@ module _ {G : Type 0} (answer : List EntryView → List WriteView → List ℕ �
   bytes_taken conn (e ∷ es) r = took_by conn e r ++ bytes_taken conn es (after_event answer accepts e r)
 
   -- and the requests that it answered
-  abbrev pub requests_answered : ℕ → List Event → Rest G → List Ask
+  abbrev pub requests_answered : ℕ → List Event → Rest G → List RequestView
   requests_answered conn [] r = []
   requests_answered conn (e ∷ es) r = call_answered conn e r ++ requests_answered conn es (after_event answer accepts e r)
 
 -- what takes a place among arrivals: requests, and at last what stands for none
-abbrev pub placed : List Arrival → List Arrival
-placed [] = []
-placed (Asked q ∷ xs) = Asked q ∷ placed xs
-placed (Unread e ∷ xs) = Unread e ∷ placed xs
-placed (TooLong ∷ xs) = TooLong ∷ placed xs
-placed (_ ∷ xs) = placed xs
+abbrev pub places_of : List Arrival → List Arrival
+places_of [] = []
+places_of (Asked q ∷ xs) = Asked q ∷ places_of xs
+places_of (Unread e ∷ xs) = Unread e ∷ places_of xs
+places_of (TooLong ∷ xs) = TooLong ∷ places_of xs
+places_of (_ ∷ xs) = places_of xs
 
 -- an end that no handshake brings
 abbrev pub IsLater : Option Cause → Type 0
@@ -76,14 +76,14 @@ Agrees _ k = ⊥
 
 -- A session that took these bytes and answered these requests: what it answered and what waits is, in order, what its bytes ask for;
 -- the first that waits has the number of those before it; version and handshake are those of the bytes, and so is what is unfinished.
-pub record Follows (bytes : List ℕ) (answered : List Ask) (s : Live) : Type 0 where
-  pub places : map Asked answered ++ s.kept.waiting ≡ placed (arrivals bytes)
+pub record Follows (bytes : List ℕ) (answered : List RequestView) (s : Live) : Type 0 where
+  pub places : map Asked answered ++ s.kept.waiting ≡ places_of (arrivals bytes)
   pub first : s.kept.first ≡ length answered
   pub handshake : Agrees (arrivals bytes) s.kept
   pub unfinished : s.unfinished ≡ state at_server at_server.start bytes
 
 -- The same where the bytes are an offer of which a version is taken and then any bytes, by the grammar of chunks alone.
-abbrev pub Asks : List ℕ → List Ask → Live → Type 0
+abbrev pub Asks : List ℕ → List RequestView → Live → Type 0
 Asks bytes answered s =
-    (offer more : List ℕ) (v : Version) → length offer ≡ 20 → shaken offer ≡ Shook (Some v) → bytes ≡ offer ++ more
-    → map Asked answered ++ s.kept.waiting ≡ asked_of v (whole more) (items_of unread more).rest.too_big
+    (offer more : List ℕ) (v : Version) → length offer ≡ 20 → arrival_of_offer offer ≡ Shook (Some v) → bytes ≡ offer ++ more
+    → map Asked answered ++ s.kept.waiting ≡ requests_of v (whole more) (items_of unread more).rest.too_big

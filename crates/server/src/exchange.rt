@@ -1,16 +1,20 @@
 //! What a session was asked and what it answers.
-ghost use Rattle.std.specs.Prelude.{ℕ, ◌+◌, ◌^◌, ◌≤◌, length};
+ghost use Rattle.std.specs.Prelude.{ℕ, List, ◌+◌, ◌^◌, ◌≤◌, length};
 ghost use Rattle.std.specs.VecDeque.{deque_len, deque_capacity};
+ghost use Rattle.reader.specs.Piecewise.{Reads};
+ghost use Rattle.messages.specs.View.{request_view};
+ghost use Rattle.messages.specs.Reading.{Answers};
+ghost use Rattle.messages.specs.Messages.{request_of as request_by};
 
 use crate::acts::Turn;
-use crate::incoming::Item;
 use crate::kinds::{Cause, What};
 use crate::queue::has_unread;
 use crate::result::{OpenResult, Transaction};
 use crate::words::{answer_of, is_interruptible};
 use bytes::{Bytes, BytesMut};
 use machine::{State, is_reset};
-use messages::{MsgFault, Request, read_request};
+use messages::{MsgFault, Request, request_of};
+use reader::Reader;
 use std::alloc::{AllocError, Global};
 use std::collections::VecDeque;
 use wire::{Version, choose};
@@ -52,6 +56,16 @@ pub(crate) struct Exchange {
     ghost numbered: { first + deque_len queue ≤ 2 ^ 63 },
 }
 
+/// The request of what a reader has read: what `read_request` answers for its bytes.
+fn request_in(alloc: Global, version: Version, reader: &Reader) -> Result<Request, MsgFault>
+    ensures { (b : List ℕ) → Reads reader.now.here b
+        → Answers request_view result (request_by version b) }
+{
+    reader::laws::finish_reads();
+    let packed = reader.finish()?;
+    request_of(alloc, version, &packed)
+}
+
 impl Waiting {
     ghost use Rattle.std.specs.Prelude.{◌≡◌};
     ghost use Rattle.server.specs.Views.{is_unread, is_reset_in};
@@ -88,12 +102,11 @@ impl Waiting {
 }
 
 impl Exchange {
-    ghost use Rattle.std.specs.Prelude.{◌≡◌, ◌<◌, Some, None, option_map, true, IfOk, OnOk, OnErr};
-    ghost use Rattle.server.specs.Session.{closed, no_tx};
-    ghost use Rattle.messages.specs.Messages.{request_of};
-    ghost use Rattle.messages.specs.Arrivals.{shaken};
-    ghost use Rattle.server.specs.Rest.{begun, shut, full, ends, arrives, arrival, arrived_by, version_of, fed, what_of, taken_out, take_kept, puts_noop, noop_kept, struck, Receives};
-    ghost use Rattle.server.specs.Views.{kept_of, item_of, is_read};
+    ghost use Rattle.std.specs.Prelude.{◌≡◌, ◌<◌, List, Some, None, true, IfOk, OnErr};
+    ghost use Rattle.server.specs.Session.{no_result, no_tx};
+    ghost use Rattle.messages.specs.Arrivals.{arrival_of_offer, TooLong};
+    ghost use Rattle.server.specs.Rest.{begun, shut, full, ends, arrival_by, version_of, taken_out, take_kept, puts_noop, noop_kept, after_strike, Receives};
+    ghost use Rattle.server.specs.Views.{kept_of};
 
     /// Before the first byte.
     pub(crate) fn new(alloc: Global) -> Result<Exchange, AllocError>
@@ -128,7 +141,9 @@ impl Exchange {
 
     /// The smaller of `max` and what waits to go.
     pub(crate) fn take_out(&mut self, max: usize) -> Result<Bytes, AllocError>
-        ensures ok { IfOk result (λ b. (b ≡ taken_out max (kept_of self.old)) × (kept_of self.new ≡ take_kept max (kept_of self.old))) }
+        ensures ok { IfOk result
+            (λ b. (b ≡ taken_out max (kept_of self.old))
+            × (kept_of self.new ≡ take_kept max (kept_of self.old))) }
         ensures err { OnErr result (kept_of self.new ≡ kept_of self.old) }
     {
         let count = max.min(self.out.len());
@@ -137,7 +152,9 @@ impl Exchange {
 
     /// Puts a no-op where it may, and answers whether it did.
     pub(crate) fn noop(&mut self) -> Result<bool, AllocError>
-        ensures ok { IfOk result (λ b. (b ≡ puts_noop (kept_of self.old)) × (kept_of self.new ≡ noop_kept (kept_of self.old))) }
+        ensures ok { IfOk result
+            (λ b. (b ≡ puts_noop (kept_of self.old))
+            × (kept_of self.new ≡ noop_kept (kept_of self.old))) }
         ensures err { OnErr result (kept_of self.new ≡ kept_of self.old) }
         ensures memory { OnErr result (puts_noop (kept_of self.old) ≡ true) }
     {
@@ -148,42 +165,11 @@ impl Exchange {
         Ok(true)
     }
 
-    /// What a piece does by the item that it ends, if one.
-    pub(crate) fn receive(&mut self, item: Option<Item>) -> Result<What, AllocError>
-        requires place { length self.old.queue.items < 32 }
-        requires ordinal { self.old.first + length self.old.queue.items < 2 ^ 63 }
-        ensures ok { IfOk result (λ what. (what ≡ what_of (arrival (kept_of self.old) (option_map item_of item))) × (kept_of self.new ≡ fed (kept_of self.old) (arrival (kept_of self.old) (option_map item_of item)))) }
-        ensures err { OnErr result (kept_of self.new ≡ kept_of self.old) }
-        ensures memory { OnErr result (is_read (option_map item_of item) ≡ true) }
-    {
-        match item {
-            None => Ok(What::Part),
-            Some(item) => self.receive_item(item),
-        }
-    }
-
-    /// What a whole item does: a request takes a place, and a RESET strikes.
-    fn receive_item(&mut self, item: Item) -> Result<What, AllocError>
-        requires place { length self.old.queue.items < 32 }
-        requires ordinal { self.old.first + length self.old.queue.items < 2 ^ 63 }
-        ensures ok { IfOk result (λ what. Receives what (kept_of self.old) (kept_of self.new) (arrives (version_of (kept_of self.old)) (item_of item))) }
-        ensures err { OnErr result (kept_of self.new ≡ kept_of self.old) }
-        ensures memory { OnErr result (is_read (Some (item_of item)) ≡ true) }
-    {
-        match item {
-            Item::Handshake(offer) => self.shake(&offer),
-            Item::Noop => Ok(What::Noop),
-            Item::Message(message) => self.ask(&message),
-            Item::TooBig => {
-                self.queue.push_back_reserved(Waiting::TooLong);
-                Ok(What::Malformed)
-            }
-        }
-    }
-
     /// Judges a handshake, and answers it.
-    fn shake(&mut self, offer: &[u8; 20]) -> Result<What, AllocError>
-        ensures ok { IfOk result (λ what. Receives what (kept_of self.old) (kept_of self.new) (shaken offer.now)) }
+    pub(crate) fn shake(&mut self, offer: &[u8; 20]) -> Result<What, AllocError>
+        ensures ok { IfOk result
+            (λ what. Receives what (kept_of self.old) (kept_of self.new)
+            (arrival_of_offer offer.now)) }
         ensures err { OnErr result (kept_of self.new ≡ kept_of self.old) }
     {
         let Ok(version) = choose(offer) else {
@@ -198,14 +184,16 @@ impl Exchange {
         Ok(What::Handshake(version))
     }
 
-    /// Reads a message.
-    fn ask(&mut self, message: &[u8]) -> Result<What, AllocError>
+    /// Takes the message that was read, whose bytes are all there. A request takes a place, and a RESET strikes.
+    pub(crate) fn ask(&mut self, reader: &Reader) -> Result<What, AllocError>
         requires place { length self.old.queue.items < 32 }
         requires ordinal { self.old.first + length self.old.queue.items < 2 ^ 63 }
-        ensures ok { IfOk result (λ what. Receives what (kept_of self.old) (kept_of self.new) (arrived_by (request_of (version_of (kept_of self.old)) message.now))) }
+        ensures ok { (b : List ℕ) → Reads reader.now.here b
+            → IfOk result (λ what. Receives what (kept_of self.old) (kept_of self.new)
+            (arrival_by (request_by (version_of (kept_of self.old)) b))) }
         ensures err { OnErr result (kept_of self.new ≡ kept_of self.old) }
     {
-        match read_request(self.alloc, self.version(), message) {
+        match request_in(self.alloc, self.version(), reader) {
             Ok(request) => {
                 let strikes = is_reset(&request) && is_interruptible(self.state);
                 self.queue.push_back_reserved(Waiting::Asked(request));
@@ -220,6 +208,16 @@ impl Exchange {
                 Ok(What::Malformed)
             }
         }
+    }
+
+    /// A message past its limit takes a place.
+    pub(crate) fn refuse(&mut self) -> What
+        requires place { length self.old.queue.items < 32 }
+        requires ordinal { self.old.first + length self.old.queue.items < 2 ^ 63 }
+        ensures { Receives result (kept_of self.old) (kept_of self.new) TooLong }
+    {
+        self.queue.push_back_reserved(Waiting::TooLong);
+        What::Malformed
     }
 
     /// The version, 5.1 before one is chosen.
@@ -240,7 +238,7 @@ impl Exchange {
 
     /// A RESET strikes: what is open is dropped.
     pub(crate) fn strike(&mut self)
-        ensures { kept_of self.new ≡ struck (kept_of self.old) }
+        ensures { kept_of self.new ≡ after_strike (kept_of self.old) }
     {
         self.state = State::Interrupted;
         self.close();
@@ -248,7 +246,7 @@ impl Exchange {
 
     /// The open result and the open transaction are dropped.
     pub(crate) fn close(&mut self)
-        ensures { kept_of self.new ≡ record (kept_of self.old) { result = closed; tx = no_tx } }
+        ensures { kept_of self.new ≡ record (kept_of self.old) { result = no_result; tx = no_tx } }
     {
         self.result = OpenResult::closed(self.alloc);
         self.tx = Transaction::none(self.alloc);

@@ -1,286 +1,250 @@
 //! The items of the bytes that a session takes: the handshake, then no-ops and messages.
-ghost use Rattle.std.specs.Prelude.{◌≡◌, ◌<◌, true};
-ghost use Rattle.wire.specs.Unfinished.{unfinished};
-ghost use Rattle.wire.specs.Scanning.{Holds};
-ghost use Rattle.server.specs.Sound.{is_sound};
+ghost use Rattle.std.specs.Prelude.{◌≡◌, ◌≤◌, length};
 
-use crate::taking::{Bite, take_item, take_part};
-use bytes::Bytes;
+use crate::exchange::Exchange;
+use crate::kinds::{Took, What};
+use reader::Reader;
 use std::alloc::{AllocError, Global};
-use wire::{Chunks, Dechunk, Part};
+use wire::{Chunks, Cut, Part};
 
 /// How many bytes a handshake has.
 const HANDSHAKE: usize = 20;
 
-/// The bytes of a handshake that isn't whole.
+/// The bytes of a handshake that have come.
 #[derive(Clone, Copy)]
 pub(crate) struct Offer {
     pub bytes: [u8; 20],
     pub len: usize,
-    ghost short: { len < 20 },
+    ghost long: { length bytes ≡ 20 },
+    ghost within: { len ≤ 20 },
 }
 
-/// A stream of chunks, the place in it, and whether a message was refused. Nothing is read after that.
+/// How many bytes of a piece were used, and the handshake with them.
+#[derive(Clone, Copy)]
+struct Filled {
+    used: usize,
+    offer: Offer,
+}
+
+/// A stream of chunks: the place in it, a reader of the data of the message that isn't whole, and whether a message was refused.
+/// Nothing is read after that.
 #[derive(Drop)]
 pub(crate) struct Stream {
-    pub chunks: Dechunk,
-    pub place: Chunks,
+    pub chunks: Chunks,
+    pub reader: Reader,
     pub is_over: bool,
-    ghost sound: { is_sound chunks ≡ true },
-    ghost told: { chunks.too_big ≡ is_over },
-    ghost placed: { chunks ≡ unfinished place chunks.body },
-    ghost holds: { Holds chunks.body place },
 }
 
-/// Where a piece leads in a stream, and whether a message ends in it, or nothing does.
-#[derive(Clone, Copy)]
-pub(crate) struct Ahead {
-    pub place: Chunks,
-    pub ends_message: bool,
-    pub ends_nothing: bool,
-}
-
-/// What has come of an item that isn't whole.
+/// What has come of an item that isn't whole: of the handshake, and after it of a message. Between two calls the reader stands at
+/// the point that it holds.
 #[derive(Drop)]
-pub(crate) enum Incoming {
-    Offer(Offer),
-    Chunks(Stream),
-}
-
-/// A whole item.
-#[derive(Drop)]
-pub(crate) enum Item {
-    Handshake([u8; 20]),
-    Noop,
-    Message(Bytes),
-    TooBig,
-}
-
-/// How many bytes of a piece were used, the item that ended with the last of them, and what was kept before them, where reading the
-/// item takes memory and may fail.
-#[derive(Drop)]
-pub(crate) struct Taken {
-    pub used: usize,
-    pub item: Option<Item>,
-    pub before: Option<Incoming>,
+pub(crate) struct Incoming {
+    pub offer: Offer,
+    pub stream: Stream,
+    ghost still: { stream.reader.held ≡ stream.reader.here },
 }
 
 impl Incoming {
-    ghost use Rattle.std.specs.Prelude.{IfOk, IfSome, OnErr, is_some, option_map};
-    ghost use Rattle.wire.specs.Framing.{at_server};
+    ghost use Rattle.std.specs.Prelude.{ℕ, ◌+◌, ◌<◌, ◌^◌, length, IfOk, OnErr};
+    ghost use Rattle.wire.specs.Framing.{Opened, at_server};
     ghost use Rattle.wire.specs.Reader.{takes};
-    ghost use Rattle.server.specs.Views.{opened_of, took_of, item_of, is_read};
-    ghost use Rattle.server.specs.Looking.{TakesPart};
+    ghost use Rattle.server.specs.Rest.{takes_item};
+    ghost use Rattle.server.specs.Views.{kept_of};
+    ghost use Rattle.server.specs.Incoming.{IsOpened, IsFed, IsSame};
 
     /// Before the first byte.
-    pub(crate) fn new() -> Incoming
-        ensures { opened_of result ≡ at_server.start }
+    pub(crate) fn new(alloc: Global) -> Incoming
+        ensures { IsOpened result at_server.start }
     {
-        Incoming::Offer(Offer {
-            bytes: [0; HANDSHAKE],
-            len: 0,
-        })
-    }
-
-    /// Takes a piece of a stream that ends nothing, and answers how many bytes were used, without the large answer of `take`. Where it
-    /// ends something nothing is done, and an `Err` changes nothing.
-    pub fn take_part(&mut self, piece: &[u8]) -> Result<Option<usize>, AllocError>
-        ensures ok { IfOk result (λ o. TakesPart o (opened_of self.old) piece.now (opened_of self.new)) }
-        ensures err { OnErr result (opened_of self.new ≡ opened_of self.old) }
-    {
-        match self {
-            Incoming::Offer(_) => Ok(None),
-            Incoming::Chunks(stream) => stream.take_part(piece),
+        reader::laws::reads_nothing();
+        Incoming {
+            offer: Offer {
+                bytes: [0; HANDSHAKE],
+                len: 0,
+            },
+            stream: Stream {
+                chunks: Chunks::new(),
+                reader: Reader::new(alloc),
+                is_over: false,
+            },
         }
     }
 
-    /// Takes a piece to the end of the item begun, else whole. An `Err` changes nothing.
-    pub(crate) fn take(&mut self, alloc: Global, piece: &[u8]) -> Result<Taken, AllocError>
-        ensures takes { IfOk result (λ t. takes at_server (opened_of self.old) piece.now ≡ took_of t (opened_of self.new)) }
-        ensures before { IfOk result (λ t. IfSome t.before (λ i. opened_of i ≡ opened_of self.old)) }
-        ensures read { IfOk result (λ t. is_some t.before ≡ is_read (option_map item_of t.item)) }
-        ensures err { OnErr result (opened_of self.new ≡ opened_of self.old) }
+    /// Takes a piece to the end of the item begun, else whole, and the exchange receives the item. An `Err` changes nothing.
+    pub(crate) fn take(&mut self, exchange: &mut Exchange, piece: &[u8]) -> Result<Took, AllocError>
+        requires place { length exchange.old.queue.items < 32 }
+        requires ordinal { exchange.old.first + length exchange.old.queue.items < 2 ^ 63 }
+        ensures ok { (u : Opened) → IsOpened self.old u
+            → IfOk result (λ took. IsFed
+            (takes_item (kept_of exchange.old) (takes at_server u piece.now)) took
+            (kept_of exchange.new) self.new) }
+        ensures err { OnErr result
+            (IsSame self.old self.new × (kept_of exchange.new ≡ kept_of exchange.old)) }
     {
-        match self {
-            Incoming::Offer(offer) => {
-                let (incoming, taken) = offer.with(alloc, piece);
-                *self = incoming;
-                Ok(taken)
-            }
-            Incoming::Chunks(stream) => stream.take(piece),
+        if self.offer.len < HANDSHAKE {
+            return self.take_offer(exchange, piece);
         }
+        self.take_chunks(exchange, piece)
+    }
+
+    /// Takes bytes of the handshake.
+    fn take_offer(&mut self, exchange: &mut Exchange, piece: &[u8]) -> Result<Took, AllocError>
+        requires { self.old.offer.len < 20 }
+        ensures ok { (u : Opened) → IsOpened self.old u
+            → IfOk result (λ took. IsFed
+            (takes_item (kept_of exchange.old) (takes at_server u piece.now)) took
+            (kept_of exchange.new) self.new) }
+        ensures err { OnErr result
+            (IsSame self.old self.new × (kept_of exchange.new ≡ kept_of exchange.old)) }
+    {
+        let Filled { used, offer } = self.offer.with(piece);
+        if offer.len < HANDSHAKE {
+            self.offer = offer;
+            return Ok(Took {
+                used,
+                what: What::Part,
+            });
+        }
+        let what = exchange.shake(&offer.bytes)?;
+        self.offer = offer;
+        Ok(Took { used, what })
+    }
+
+    /// Takes bytes of chunks. For want of memory the place is put back, and the reader returns to the point that it holds.
+    fn take_chunks(&mut self, exchange: &mut Exchange, piece: &[u8]) -> Result<Took, AllocError>
+        requires place { length exchange.old.queue.items < 32 }
+        requires ordinal { exchange.old.first + length exchange.old.queue.items < 2 ^ 63 }
+        requires whole { self.old.offer.len ≡ 20 }
+        ensures ok { (u : Opened) → IsOpened self.old u
+            → IfOk result (λ took. IsFed
+            (takes_item (kept_of exchange.old) (takes at_server u piece.now)) took
+            (kept_of exchange.new) self.new) }
+        ensures err { OnErr result
+            (IsSame self.old self.new × (kept_of exchange.new ≡ kept_of exchange.old)) }
+    {
+        let place = self.stream.chunks;
+        let Ok(took) = self.stream.take(exchange, piece) else {
+            self.stream.chunks = place;
+            self.stream.reader.back();
+            return Err(AllocError);
+        };
+        self.stream.reader.hold();
+        Ok(took)
     }
 }
 
 impl Offer {
-    ghost use Rattle.std.specs.Prelude.{◌+◌, ◌-◌, ◌≤◌, ◌++◌, IfSome, is_some, length, take, min, option_map};
-    ghost use Rattle.wire.specs.Framing.{at_server, opening};
-    ghost use Rattle.wire.specs.Reader.{takes};
-    ghost use Rattle.server.specs.Views.{opened_of, took_of, item_of, is_read};
+    ghost use Rattle.std.specs.Prelude.{◌+◌, ◌-◌, ◌<◌, ◌++◌, length, take, min};
 
-    fn with(self, alloc: Global, piece: &[u8]) -> (Incoming, Taken)
-        ensures takes { takes at_server (opening (take self.len self.bytes)) piece.now ≡ took_of result.1 (opened_of result.0) }
-        ensures before { IfSome result.1.before (λ i. opened_of i ≡ opening (take self.len self.bytes)) }
-        ensures read { is_some result.1.before ≡ is_read (option_map item_of result.1.item) }
+    /// With the bytes of a piece that it lacks.
+    fn with(self, piece: &[u8]) -> Filled
+        requires { self.len < 20 }
+        ensures used { result.used ≡ min (20 - self.len) (length piece.now) }
+        ensures len { result.offer.len ≡ self.len + result.used }
+        ensures bytes { take result.offer.len result.offer.bytes
+            ≡ take self.len self.bytes ++ take result.used piece.now }
     {
         let used = (HANDSHAKE - self.len).min(piece.len());
-        let len = self.len + used;
-        let bytes = self.filled(&piece[..used]);
-        if len < HANDSHAKE {
-            return (
-                Incoming::Offer(Offer { bytes, len }),
-                Taken {
-                    used,
-                    item: None,
-                    before: None,
-                },
-            );
-        }
-        (
-            Incoming::Chunks(Stream::new(alloc)),
-            Taken {
-                used,
-                item: Some(Item::Handshake(bytes)),
-                before: Some(Incoming::Offer(self)),
-            },
-        )
-    }
-
-    /// With more of its bytes.
-    fn filled(self, more: &[u8]) -> [u8; 20]
-        requires { self.len + length more.now ≤ 20 }
-        ensures filled { take (self.len + length more.now) result ≡ take self.len self.bytes ++ more.now }
-        ensures long { (length self.bytes ≡ 20) × (length result ≡ 20) }
-    {
         let mut bytes = self.bytes;
-        bytes[self.len..self.len + more.len()].copy_from_slice(more);
-        bytes
+        bytes[self.len..self.len + used].copy_from_slice(&piece[..used]);
+        Filled {
+            used,
+            offer: Offer {
+                bytes,
+                len: self.len + used,
+            },
+        }
     }
 }
 
 impl Stream {
-    ghost use Rattle.std.specs.Prelude.{IfOk, IfSome, OnErr, false, is_some, option_map};
-    ghost use Rattle.wire.specs.Unfinished.{fresh};
+    ghost use Rattle.std.specs.Prelude.{ℕ, List, ◌+◌, ◌<◌, ◌^◌, false, length, take, IfOk, OnErr};
+    ghost use Rattle.wire.specs.Unfinished.{Unfinished};
     ghost use Rattle.wire.specs.Framing.{at_server, reading};
     ghost use Rattle.wire.specs.Reader.{takes};
-    ghost use Rattle.server.specs.Views.{opened_of, took_of, item_of, is_read};
-    ghost use Rattle.server.specs.Looking.{LooksAhead, TakesPart};
+    ghost use Rattle.wire.specs.Parts.{cut_at};
+    ghost use Rattle.wire.specs.Scanning.{with_data};
+    ghost use Rattle.reader.specs.Piecewise.{Reads};
+    ghost use Rattle.server.specs.Rest.{takes_item};
+    ghost use Rattle.server.specs.Views.{kept_of};
+    ghost use Rattle.server.specs.Incoming.{IsAt, IsFedAt, Scans};
 
-    fn new(alloc: Global) -> Stream
-        ensures { result.chunks ≡ fresh }
-    {
-        Stream {
-            chunks: Dechunk::new(alloc),
-            place: Chunks::new(),
-            is_over: false,
-        }
-    }
-
-    fn clone(&self) -> Result<Stream, AllocError>
-        ensures { IfOk result (λ s. s.chunks ≡ self.now.chunks) }
-    {
-        let Ok(chunks) = self.chunks.clone() else {
-            return Err(AllocError);
-        };
-        Ok(Stream {
-            chunks,
-            place: self.place,
-            is_over: self.is_over,
-        })
-    }
-
-    /// Takes a piece. Only where it ends a message is there a copy of what was kept before it: so a message costs one copy, however
-    /// many pieces it comes in.
-    fn take(&mut self, piece: &[u8]) -> Result<Taken, AllocError>
-        ensures takes { IfOk result (λ t. takes at_server (reading self.old.chunks) piece.now ≡ took_of t (reading self.new.chunks)) }
-        ensures before { IfOk result (λ t. IfSome t.before (λ i. opened_of i ≡ reading self.old.chunks)) }
-        ensures read { IfOk result (λ t. is_some t.before ≡ is_read (option_map item_of t.item)) }
-        ensures err { OnErr result (self.new.chunks ≡ self.old.chunks) }
+    /// Takes a piece to the end of the item begun, else whole, and the exchange receives the item. After an `Err` the held point
+    /// and the exchange are as before.
+    fn take(&mut self, exchange: &mut Exchange, piece: &[u8]) -> Result<Took, AllocError>
+        requires place { length exchange.old.queue.items < 32 }
+        requires ordinal { exchange.old.first + length exchange.old.queue.items < 2 ^ 63 }
+        ensures ok { (u : Unfinished) → IsAt self.old u
+            → IfOk result (λ took. IsFedAt
+            (takes_item (kept_of exchange.old) (takes at_server (reading u) piece.now)) took
+            (kept_of exchange.new) self.new) }
+        ensures err { OnErr result
+            ((kept_of exchange.new ≡ kept_of exchange.old)
+            × (self.new.reader.held ≡ self.old.reader.held)
+            × (self.new.is_over ≡ self.old.is_over)) }
     {
         if self.is_over {
-            return Ok(Taken {
+            return Ok(Took {
                 used: piece.len(),
-                item: None,
-                before: None,
+                what: What::Part,
             });
         }
-        let ahead = self.ahead(piece);
-        let place = ahead.place;
-        let before = self.way_back(ahead)?;
-        let Bite { used, item } = take_item(&mut self.chunks, piece)?;
-        self.place = place;
-        self.is_over = matches!(item, Some(Item::TooBig));
-        Ok(Taken { used, item, before })
+        let Cut { used, what } = self.scan(piece)?;
+        let what = match what {
+            Part::Head | Part::Data => What::Part,
+            Part::Noop => What::Noop,
+            Part::End => {
+                let what = exchange.ask(&self.reader)?;
+                self.reader = Reader::new(exchange.alloc);
+                what
+            }
+            Part::TooBig => {
+                self.is_over = true;
+                exchange.refuse()
+            }
+        };
+        Ok(Took { used, what })
     }
 
-    /// Takes a piece that ends nothing, and answers how many bytes were used.
-    fn take_part(&mut self, piece: &[u8]) -> Result<Option<usize>, AllocError>
-        ensures ok { IfOk result (λ o. TakesPart o (reading self.old.chunks) piece.now (reading self.new.chunks)) }
-        ensures err { OnErr result (self.new.chunks ≡ self.old.chunks) }
+    /// Takes a piece to the end of the item begun, else whole: how many bytes were used, and what the last of them are.
+    fn scan(&mut self, piece: &[u8]) -> Result<Cut, AllocError>
+        requires { self.old.is_over ≡ false }
+        ensures ok { (u : Unfinished) → IsAt self.old u
+            → IfOk result (λ cut. Scans u piece.now cut self.new) }
+        ensures held { self.new.reader.held ≡ self.old.reader.held }
+        ensures over { self.new.is_over ≡ self.old.is_over }
     {
-        if self.is_over {
-            return Ok(None);
-        }
-        let ahead = self.ahead(piece);
-        if !ahead.ends_nothing {
-            return Ok(None);
-        }
-        let used = take_part(&mut self.chunks, piece)?;
-        self.place = ahead.place;
-        Ok(Some(used))
-    }
-
-    /// A copy, where a message ends ahead.
-    fn way_back(&self, ahead: Ahead) -> Result<Option<Incoming>, AllocError>
-        ensures same { IfOk result (λ o. IfSome o (λ i. opened_of i ≡ reading self.now.chunks)) }
-        ensures some { IfOk result (λ o. is_some o ≡ ahead.ends_message) }
-    {
-        if !ahead.ends_message {
-            return Ok(None);
-        }
-        Ok(Some(Incoming::Chunks(self.clone()?)))
-    }
-
-    /// Where a piece leads, told without its data. Takes no memory.
-    #[tactic(auto, using(crate::proofs::Looks::never_nothing))]
-    fn ahead(&self, piece: &[u8]) -> Ahead
-        requires { self.now.chunks.too_big ≡ false }
-        ensures { LooksAhead self.now.chunks piece.now result }
-    {
-        let mut place = self.place;
         let mut used = 0;
         while used < piece.len() {
-            let cut = place.next(&piece[used..]);
+            let cut = self.next(&piece[used..])?;
             used += cut.used;
             match cut.what {
                 Part::Head | Part::Data => {}
-                Part::Noop => {
-                    return Ahead {
-                        place,
-                        ends_message: false,
-                        ends_nothing: false,
-                    };
-                }
-                Part::TooBig => {
-                    return Ahead {
-                        place,
-                        ends_message: false,
-                        ends_nothing: false,
-                    };
-                }
-                Part::End => {
-                    return Ahead {
-                        place,
-                        ends_message: true,
-                        ends_nothing: false,
-                    };
-                }
+                what => return Ok(Cut { used, what }),
             }
         }
-        Ahead {
-            place,
-            ends_message: false,
-            ends_nothing: true,
+        Ok(Cut {
+            used,
+            what: Part::Head,
+        })
+    }
+
+    /// Takes what is of one kind at the front of a piece; data goes to the reader.
+    fn next(&mut self, piece: &[u8]) -> Result<Cut, AllocError>
+        ensures cut { IfOk result
+            (λ cut. (cut ≡ (cut_at self.old.chunks piece.now).cut)
+            × (self.new.chunks ≡ (cut_at self.old.chunks piece.now).place)) }
+        ensures reads { (body : List ℕ) → Reads self.old.reader.here body
+            → IfOk result (λ cut. Reads self.new.reader.here
+            (with_data cut.what cut.used piece.now body)) }
+        ensures held { self.new.reader.held ≡ self.old.reader.held }
+        ensures over { self.new.is_over ≡ self.old.is_over }
+    {
+        reader::laws::reads_more();
+        let cut = self.chunks.next(piece);
+        if let Part::Data = cut.what {
+            self.reader.feed(&piece[..cut.used])?;
         }
+        Ok(cut)
     }
 }

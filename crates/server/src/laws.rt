@@ -1,6 +1,6 @@
 //! What holds of a server over every list of calls. Each function has an empty body, and its contract is the law.
 ghost use Rattle.std.specs.Prelude.{◌≡◌, ◌≢◌, ℕ, List, Some};
-ghost use Rattle.messages.specs.View.{Ask};
+ghost use Rattle.messages.specs.View.{RequestView};
 ghost use Rattle.engine.specs.Views.{EntryView};
 ghost use Rattle.server.specs.Past.{Asks, Follows, bytes_taken, requests_answered};
 ghost use Rattle.server.specs.Serving.{Live, Rest, empty, find};
@@ -30,5 +30,5 @@ pub fn grows_by_commits<E: Engine, G: Gate>()
 pub fn places_follow_bytes<E: Engine, G: Gate>()
     ensures follows { (ledger : List EntryView) (gate : G) (events : List Event) (conn : ℕ) (s : Live) → find conn (after_events E.answer G.accepts events (empty ledger gate)).sessions ≡ Some s
         → Follows (bytes_taken E.answer G.accepts conn events (empty ledger gate)) (requests_answered E.answer G.accepts conn events (empty ledger gate)) s }
-    ensures asks { (bytes : List ℕ) (answered : List Ask) (s : Live) → Follows bytes answered s → Asks bytes answered s }
+    ensures asks { (bytes : List ℕ) (answered : List RequestView) (s : Live) → Follows bytes answered s → Asks bytes answered s }
 {}

@@ -20,7 +20,6 @@ mod result;
 mod server;
 mod session;
 mod summary;
-mod taking;
 mod texts;
 mod words;
 

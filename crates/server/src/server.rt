@@ -1,7 +1,7 @@
 //! Up to sixteen sessions over one engine and one gate.
 ghost use Rattle.std.specs.Prelude.{◌≡◌, List, IfOk, IfSome, IsErrOf};
 ghost use Rattle.server.specs.Serving.{Rest, empty, find, feed_at, work_at, take_out_at, noop_at, lost_at, state_at, cause_at, is_full, Answers, Opens, MayFeed, MayWork, MayPutNoop, IsCounted};
-ghost use Rattle.server.specs.Views.{Fits};
+ghost use Rattle.server.specs.Views.{Fits, Lends};
 
 use crate::kinds::{Cause, Refused, Took, Worked};
 use crate::places::place_of;
@@ -9,6 +9,7 @@ use crate::session::Session;
 use bytes::Bytes;
 use engine::{Engine, Gate};
 use machine::State;
+use reader::Reader;
 use std::alloc::Global;
 
 /// The most sessions that live.
@@ -53,7 +54,8 @@ impl<E: Engine, G: Gate> Server<E, G> {
     /// Opens a session, and answers its number. Numbers go from 0, each once.
     #[tactic(auto, unfolding(crate::specs::Views::Fits))]
     pub fn open(&mut self) -> Result<u64, Refused>
-        ensures { (r : Rest G) → Fits E.entries self.old r → Opens result r (Fits E.entries self.new) }
+        ensures { (r : Rest G) → Fits E.entries self.old r
+            → Opens result r (Fits E.entries self.new) }
     {
         if self.sessions.len() >= MAX_SESSIONS || self.next >= MAX_NUMBERS {
             return Err(Refused::SessionsFull);
@@ -72,8 +74,10 @@ impl<E: Engine, G: Gate> Server<E, G> {
     /// Takes at most one handshake, no-op or message of the piece, else all of it.
     #[tactic(auto, unfolding(crate::specs::Views::Fits))]
     pub fn feed(&mut self, conn: u64, piece: &[u8]) -> Result<Took, Refused>
-        ensures answers { (r : Rest G) → Fits E.entries self.old r → Answers result (feed_at conn piece.now r) r (Fits E.entries self.new) }
-        ensures memory { (r : Rest G) → Fits E.entries self.old r → IsErrOf result Refused.Memory → IfSome (find conn r.sessions) MayFeed }
+        ensures answers { (r : Rest G) → Fits E.entries self.old r
+            → Answers result (feed_at conn piece.now r) r (Fits E.entries self.new) }
+        ensures memory { (r : Rest G) → Fits E.entries self.old r → IsErrOf result Refused.Memory
+            → IfSome (find conn r.sessions) MayFeed }
     {
         let Some(at) = place_of(&self.sessions, conn) else {
             return Err(Refused::NoSuchConnection);
@@ -88,8 +92,10 @@ impl<E: Engine, G: Gate> Server<E, G> {
     /// Does one step of a session: a row, a summary or an end.
     #[tactic(auto, unfolding(crate::specs::Views::Fits))]
     pub fn work(&mut self, conn: u64) -> Result<Worked, Refused>
-        ensures answers { (r : Rest G) → Fits E.entries self.old r → Answers result (work_at E.answer G.accepts conn r) r (Fits E.entries self.new) }
-        ensures memory { (r : Rest G) → Fits E.entries self.old r → IsErrOf result Refused.Memory → IfSome (find conn r.sessions) MayWork }
+        ensures answers { (r : Rest G) → Fits E.entries self.old r
+            → Answers result (work_at E.answer G.accepts conn r) r (Fits E.entries self.new) }
+        ensures memory { (r : Rest G) → Fits E.entries self.old r → IsErrOf result Refused.Memory
+            → IfSome (find conn r.sessions) MayWork }
         ensures counted { IfOk result IsCounted }
     {
         let Some(at) = place_of(&self.sessions, conn) else {
@@ -105,7 +111,8 @@ impl<E: Engine, G: Gate> Server<E, G> {
     /// Takes out the smaller of `max` and what waits to go, in order.
     #[tactic(auto, unfolding(crate::specs::Views::Fits))]
     pub fn take_out(&mut self, conn: u64, max: usize) -> Result<Bytes, Refused>
-        ensures { (r : Rest G) → Fits E.entries self.old r → Answers result (take_out_at conn max r) r (Fits E.entries self.new) }
+        ensures { (r : Rest G) → Fits E.entries self.old r
+            → Answers result (take_out_at conn max r) r (Fits E.entries self.new) }
     {
         let Some(at) = place_of(&self.sessions, conn) else {
             return Err(Refused::NoSuchConnection);
@@ -121,8 +128,10 @@ impl<E: Engine, G: Gate> Server<E, G> {
     /// to go.
     #[tactic(auto, unfolding(crate::specs::Views::Fits))]
     pub fn noop(&mut self, conn: u64) -> Result<bool, Refused>
-        ensures answers { (r : Rest G) → Fits E.entries self.old r → Answers result (noop_at conn r) r (Fits E.entries self.new) }
-        ensures memory { (r : Rest G) → Fits E.entries self.old r → IsErrOf result Refused.Memory → IfSome (find conn r.sessions) MayPutNoop }
+        ensures answers { (r : Rest G) → Fits E.entries self.old r
+            → Answers result (noop_at conn r) r (Fits E.entries self.new) }
+        ensures memory { (r : Rest G) → Fits E.entries self.old r → IsErrOf result Refused.Memory
+            → IfSome (find conn r.sessions) MayPutNoop }
     {
         let Some(at) = place_of(&self.sessions, conn) else {
             return Err(Refused::NoSuchConnection);
@@ -137,7 +146,8 @@ impl<E: Engine, G: Gate> Server<E, G> {
     /// Gives a session up, and answers the cause of its end; `Lost` where it hadn't ended, None where it doesn't live. Takes no memory.
     #[tactic(auto, unfolding(crate::specs::Views::Fits))]
     pub fn lost(&mut self, conn: u64) -> Option<Cause>
-        ensures { (r : Rest G) → Fits E.entries self.old r → (result ≡ (lost_at conn r).0) × Fits E.entries self.new (lost_at conn r).1 }
+        ensures { (r : Rest G) → Fits E.entries self.old r
+            → (result ≡ (lost_at conn r).0) × Fits E.entries self.new (lost_at conn r).1 }
     {
         match place_of(&self.sessions, conn) {
             None => None,
@@ -166,6 +176,17 @@ impl<E: Engine, G: Gate> Server<E, G> {
         let at = place_of(&self.sessions, conn)?;
         let session = &self.sessions[at];
         session.cause()
+    }
+
+    /// Lends the reader of the message of a live session that isn't whole: it has read the message's bytes so far, or every
+    /// continuation of them has its fault. Takes no memory.
+    #[tactic(auto, unfolding(crate::specs::Views::Fits))]
+    pub fn reader(&self, conn: u64) -> Option<&Reader>
+        ensures { (r : Rest G) → Fits E.entries self.now r → Lends result (find conn r.sessions) }
+    {
+        let at = place_of(&self.sessions, conn)?;
+        let session = &self.sessions[at];
+        Some(&session.incoming.stream.reader)
     }
 
     /// Lends the engine. Takes no memory.

@@ -1,7 +1,7 @@
 //! One session.
 
 use crate::exchange::Exchange;
-use crate::incoming::{Incoming, Taken};
+use crate::incoming::Incoming;
 use crate::kinds::{Cause, Took, What, Worked};
 use bytes::Bytes;
 use engine::{Engine, Gate};
@@ -17,26 +17,27 @@ pub(crate) struct Session {
 }
 
 impl Session {
-    ghost use Rattle.std.specs.Prelude.{◌≡◌, ◌+◌, ◌<◌, ◌^◌, length, IfOk, OnErr};
-    ghost use Rattle.server.specs.Serving.{fresh, fed_live, taken_live, taken_from, noop_put, IsCounted, MayFeed, MayPutNoop, MayWork, Works};
+    ghost use Rattle.std.specs.Prelude.{◌≡◌, IfOk, OnErr};
+    ghost use Rattle.server.specs.Serving.{Live, fresh, fed_live, taken_from, noop_put, IsCounted, MayFeed, MayPutNoop, MayWork};
     ghost use Rattle.server.specs.Rest.{work_kept};
-    ghost use Rattle.server.specs.Views.{live_of};
+    ghost use Rattle.server.specs.Views.{IsLive, Gives, Works};
 
     pub(crate) fn new(alloc: Global, conn: u64) -> Result<Session, AllocError>
-        ensures { IfOk result (λ s. live_of s ≡ fresh conn) }
+        ensures { IfOk result (λ s. IsLive s (fresh conn)) }
     {
         Ok(Session {
             conn,
-            incoming: Incoming::new(),
+            incoming: Incoming::new(alloc),
             exchange: Exchange::new(alloc)?,
         })
     }
 
     /// Takes at most one item of the piece, else all of it.
     pub(crate) fn feed(&mut self, piece: &[u8]) -> Result<Took, AllocError>
-        ensures ok { IfOk result (λ took. fed_live (live_of self.old) piece.now ≡ (took, live_of self.new)) }
-        ensures err { OnErr result (live_of self.new ≡ live_of self.old) }
-        ensures memory { OnErr result (MayFeed (live_of self.old)) }
+        ensures ok { (l : Live) → IsLive self.old l
+            → IfOk result (λ took. Gives (fed_live l piece.now) took self.new) }
+        ensures err { (l : Live) → IsLive self.old l
+            → OnErr result (IsLive self.new l × MayFeed l) }
     {
         if self.exchange.is_shut() {
             return Ok(Took {
@@ -50,70 +51,37 @@ impl Session {
                 what: What::Full,
             });
         }
-        self.take(piece)
-    }
-
-    /// There is a place for what the piece ends.
-    fn take(&mut self, piece: &[u8]) -> Result<Took, AllocError>
-        requires place { length self.old.exchange.queue.items < 32 }
-        requires ordinal { self.old.exchange.first + length self.old.exchange.queue.items < 2 ^ 63 }
-        ensures ok { IfOk result (λ took. taken_live (live_of self.old) piece.now ≡ (took, live_of self.new)) }
-        ensures err { OnErr result (live_of self.new ≡ live_of self.old) }
-    {
-        if let Some(used) = self.incoming.take_part(piece)? {
-            return Ok(Took {
-                used,
-                what: What::Part,
-            });
-        }
-        self.take_item(piece)
-    }
-
-    /// The piece may end an item.
-    fn take_item(&mut self, piece: &[u8]) -> Result<Took, AllocError>
-        requires place { length self.old.exchange.queue.items < 32 }
-        requires ordinal { self.old.exchange.first + length self.old.exchange.queue.items < 2 ^ 63 }
-        ensures ok { IfOk result (λ took. taken_live (live_of self.old) piece.now ≡ (took, live_of self.new)) }
-        ensures err { OnErr result (live_of self.new ≡ live_of self.old) }
-    {
-        let alloc = self.exchange.alloc;
-        let Taken { used, item, before } = self.incoming.take(alloc, piece)?;
-        let Ok(what) = self.exchange.receive(item) else {
-            let Some(before) = before else {
-                unreachable!();
-            };
-            self.incoming = before;
-            return Err(AllocError);
-        };
-        Ok(Took { used, what })
+        self.incoming.take(&mut self.exchange, piece)
     }
 
     /// The smaller of `max` and what waits to go.
     pub(crate) fn take_out(&mut self, max: usize) -> Result<Bytes, AllocError>
-        ensures ok { IfOk result (λ b. taken_from max (live_of self.old) ≡ (b, live_of self.new)) }
-        ensures err { OnErr result (live_of self.new ≡ live_of self.old) }
+        ensures ok { (l : Live) → IsLive self.old l
+            → IfOk result (λ b. Gives (taken_from max l) b self.new) }
+        ensures err { (l : Live) → IsLive self.old l → OnErr result (IsLive self.new l) }
     {
         self.exchange.take_out(max)
     }
 
     /// Puts a no-op where it may, and answers whether it did.
     pub(crate) fn noop(&mut self) -> Result<bool, AllocError>
-        ensures ok { IfOk result (λ b. noop_put (live_of self.old) ≡ (b, live_of self.new)) }
-        ensures err { OnErr result (live_of self.new ≡ live_of self.old) }
-        ensures memory { OnErr result (MayPutNoop (live_of self.old)) }
+        ensures ok { (l : Live) → IsLive self.old l
+            → IfOk result (λ b. Gives (noop_put l) b self.new) }
+        ensures err { (l : Live) → IsLive self.old l
+            → OnErr result (IsLive self.new l × MayPutNoop l) }
     {
         self.exchange.noop()
     }
 
     pub(crate) fn state(&self) -> State
-        ensures { result ≡ (live_of self.now).kept.state }
+        ensures { (l : Live) → IsLive self.now l → result ≡ l.kept.state }
     {
         self.exchange.state
     }
 
     /// Why it has ended.
     pub(crate) fn cause(&self) -> Option<Cause>
-        ensures { result ≡ (live_of self.now).kept.ended }
+        ensures { (l : Live) → IsLive self.now l → result ≡ l.kept.ended }
     {
         self.exchange.cause
     }
@@ -124,9 +92,14 @@ impl Session {
         engine: &mut E,
         gate: &G,
     ) -> Result<Worked, AllocError>
-        ensures ok { let s = live_of self.old in IfOk result (λ w. Works (work_kept (record { run = E.answer; check = G.accepts gate.now }) s.conn (E.entries engine.old) s.kept s.kept.ended) s w (live_of self.new) (E.entries engine.old) (E.entries engine.new)) }
-        ensures err { OnErr result ((live_of self.new ≡ live_of self.old) × (E.entries engine.new ≡ E.entries engine.old)) }
-        ensures memory { OnErr result (MayWork (live_of self.old)) }
+        ensures ok { (l : Live) → IsLive self.old l
+            → IfOk result (λ w. Works
+            (work_kept (record { run = E.answer; check = G.accepts gate.now }) l.conn
+            (E.entries engine.old) l.kept l.kept.ended) l w self.new
+            (E.entries engine.old) (E.entries engine.new)) }
+        ensures err { (l : Live) → IsLive self.old l
+            → OnErr result (IsLive self.new l × MayWork l
+            × (E.entries engine.new ≡ E.entries engine.old)) }
         ensures counted { IfOk result IsCounted }
     {
         self.exchange.work(self.conn, engine, gate)

@@ -4,7 +4,7 @@ use Rattle.packstream.specs.declared.marker.Marker.{Marker}
 use Rattle.packstream.specs.declared.marker.Marker.TheVariants as announces
 use Rattle.packstream.specs.Tree.{Tree, byte_string, text}
 use Rattle.packstream.specs.declared.value.Value.{the_lemmas}
-use Rattle.reader.specs.Items.{spelled}
+use Rattle.reader.specs.Items.{bytes_of_items}
 use Rattle.packstream.specs.View.{tree, trees, entry, entries}
 use Rattle.packstream.specs.Reading.{layer, inner, items_at, entries_at, keys}
 use Rattle.packstream.proofs.Views.{tree-Dict, tree-List, tree-Text}
@@ -232,7 +232,7 @@ value_of-returns-in_ok-from_slice-in-Some-Bytes t c =
     let f = first_of_items items store i is c.in-Some.ensures.cases.0 c.requires.rest.0 c.requires.rest.1 in
     let m = sym c.in-Some-Bytes.ensures ∙ ap (λ (x : Marker). Some x) c.in-Some-Bytes.field-0-is in
     let bytes : byte_string (take c.size_in.result store) ≡ byte_string c.in_ok-from_slice-in-Some-Bytes.field-0.items = ap (λ (x : List ℕ). byte_string x) (sym (c.in_ok-from_slice-in-Some-Bytes.ensures.items ∙ c.front_of.ensures.front)) in
-    let read = ap (λ (n : ℕ). Ok (byte_string (take n store), spelled is [] (drop n store))) (sym c.size_in.ensures) in
+    let read = ap (λ (n : ℕ). Ok (byte_string (take n store), bytes_of_items is [] (drop n store))) (sym c.size_in.ensures) in
     builds_bytes (inner c.args.room) items store i is (announces.Bytes c.in-Some-Bytes.size) c.size_in.result _ _ c.front_of.result.1.items.now c.front_of.result.1.store.now f m c.size_in.ensures
     (read_bytes (inner c.args.room) i is store c.in-Some-Bytes.size m f.small f.sized ∙ read) (bytes ∙ sym (tree-Bytes c.in_ok-from_slice-in-Some-Bytes.field-0)) c.front_of.ensures.items c.front_of.ensures.store
 
@@ -246,7 +246,7 @@ value_of-returns-in_ok-from_str-in-Some-Text t c =
     let m = sym c.in-Some-Text.ensures ∙ ap (λ (x : Marker). Some x) c.in-Some-Text.field-0-is in
     let s = c.in_ok-from_str-in-Some-Text.field-0 in
     let bytes : text (take c.size_in-in-Some-Text.result store) ≡ text (string_bytes s) = ap (λ (x : List ℕ). text x) (sym (c.in_ok-from_str-in-Some-Text.ensures.ok ∙ c.from_utf8_unchecked-text.ensures ∙ c.front_of-in-Some-Text.ensures.front)) in
-    let read = ap (λ (n : ℕ). Ok (text (take n store), spelled is [] (drop n store))) (sym c.size_in-in-Some-Text.ensures) in
+    let read = ap (λ (n : ℕ). Ok (text (take n store), bytes_of_items is [] (drop n store))) (sym c.size_in-in-Some-Text.ensures) in
     builds_bytes (inner c.args.room) items store i is (announces.Text c.in-Some-Text.size) c.size_in-in-Some-Text.result _ _ c.front_of-in-Some-Text.result.1.items.now c.front_of-in-Some-Text.result.1.store.now f m c.size_in-in-Some-Text.ensures
     (read_text (inner c.args.room) i is store c.in-Some-Text.size m f.small f.sized (read_first (inner c.args.room) items store i is f c.requires.spells) ∙ read) (bytes ∙ sym (tree-Text s)) c.front_of-in-Some-Text.ensures.items c.front_of-in-Some-Text.ensures.store
 

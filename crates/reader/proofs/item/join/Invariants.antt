@@ -1,6 +1,6 @@
 use Rattle.std.proofs.Common.{◌≡◌, drop}
-use Rattle.reader.specs.Items.{joined}
+use Rattle.reader.specs.Items.{number_from}
 use Rattle.reader.proofs.item.join.Given as goal
 
 abbrev pub invariant-loop-byte : goal.invariant-loop-byte
-invariant-loop-byte l = joined l.all (drop l.byte-index l.bytes) ≡ joined l.number l.bytes
+invariant-loop-byte l = number_from l.all (drop l.byte-index l.bytes) ≡ number_from l.number l.bytes

@@ -5,7 +5,7 @@ use Rattle.reader.specs.Piecewise.{Points}
 use Rattle.packstream.specs.declared.fault.Reason.{Reason}
 use Rattle.reader.specs.declared.stop.Stop.{Stop}
 use Rattle.reader.specs.declared.reading.Mark.{Mark}
-use Rattle.reader.specs.Holding.{Holds, holds, bytes_of, mark_of, cut, turned, IsFaultOf, HasGrown, IsKept}
+use Rattle.reader.specs.Holding.{Holds, holds, bytes_of, mark_of, at_mark, with_fault, IsFaultOf, HasGrown, IsKept}
 use Rattle.reader.proofs.Held.{cut_grown, kept_on, kept_turned, keeps_on, joins, turns}
 use Rattle.reader.proofs.reader.Reader.feed.Goals as goal
 
@@ -19,8 +19,8 @@ invariant_of-self c =
     kept_on old new c.self.inside.held c.args.piece.now kept c.take.ensures.grown (keeps_on old new c.args.piece.now kept.here (bytes_from_each c.args.piece.now c.type_inv.piece) t.stands bytes) bytes
 
 -- what was taken back, and then turned bad
-back_and_bad : (old new back bad : Holds) (m : Mark) (r : Reason) (o : ℕ) → m ≡ mark_of old → HasGrown old new → back ≡ cut m new → bad ≡ turned r o back → bad ≡ turned r o old
-back_and_bad old new back bad m r o e grown b t = t ∙ ap (turned r o) (b ∙ ap (λ (k : Mark). cut k new) e ∙ cut_grown old new grown)
+back_and_bad : (old new back bad : Holds) (m : Mark) (r : Reason) (o : ℕ) → m ≡ mark_of old → HasGrown old new → back ≡ at_mark m new → bad ≡ with_fault r o back → bad ≡ with_fault r o old
+back_and_bad old new back bad m r o e grown b t = t ∙ ap (with_fault r o) (b ∙ ap (λ (k : Mark). at_mark k new) e ∙ cut_grown old new grown)
 
 pub invariant_of-self-in-Err-Fault : goal.invariant_of-self-in-Err-Fault
 invariant_of-self-in-Err-Fault c =

@@ -6,7 +6,7 @@ use Rattle.reader.specs.declared.reading.Part.TheVariants as part
 use Rattle.reader.specs.Naming.{Name, IsRoot, IsNamed}
 use Rattle.packstream.specs.Faults.{at_key}
 use Rattle.reader.specs.Frames.{Frame, waits, AreLevels}
-use Rattle.reader.specs.Holding.{Holds, holds, bytes_with, pushed, HasTaken}
+use Rattle.reader.specs.Holding.{Holds, holds, bytes_with, with_item, HasTaken}
 use Rattle.packstream.specs.declared.marker.Marker.{Marker}
 use Rattle.reader.specs.Items.{body, size_with}
 use Rattle.reader.proofs.Standing.{after, has_taken}
@@ -46,7 +46,7 @@ returns-clause-told c =
     let fresh = c.in_ok-is_new.ensures.fresh (ap (λ (b : Bool). Ok b) c.if-not-is_new.false) in
     let name : Name = record { start = c.args.start; len = length h.store - c.args.start; first = k.first } in
     let read = named_is h c.join.new.self.bytes c.join.new.self.names c.args.start (length h.store - c.args.start) k.first c.keys-first.result c.join.ensures.bytes fresh.1 first in
-    let same = ap (λ (x : Holds). after o x) (c.in_ok-push.ensures.ok ∙ ap (λ (x : Holds). pushed (announces.Text c.args.size) m n x) read) in
+    let same = ap (λ (x : Holds). after o x) (c.in_ok-push.ensures.ok ∙ ap (λ (x : Holds). with_item (announces.Text c.args.size) m n x) read) in
     let len : length g.tail ≡ size_with c.args.size n = omega (arith, g.isa.2) ∙ ap (λ (x : Option Marker). body x n) c.requires.announced in
     subst (λ (x : Holds). HasTaken (bytes_with h (part.Body m n 0) ++ c.args.rest.now) x c.args.rest.now) (sym same)
     (has_taken (named_with name h) m n (announces.Text c.args.size) o c.args.rest.now (key_ready h m n c.args.start g k (omega (arith, c.requires.start))) c.requires.good

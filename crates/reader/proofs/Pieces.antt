@@ -1,0 +1,121 @@
+-- Of which bytes a reader tells.
+use Rattle.std.proofs.Common.{◌≡◌, ℕ, List, [], ◌++◌, Option, Some, None, Result, Ok, Err, refl, sym, ap, subst, ◌∙◌, append_assoc, inl, inr}
+use Rattle.std.specs.Prelude.{◌⊎◌, ◌↔◌, MatchOption}
+use Rattle.std.proofs.lemmas.List.{append-nil}
+use Rattle.packstream.specs.declared.fault.Reason.{Reason}
+use Rattle.packstream.specs.declared.fault.PackFault.{PackFault}
+use Rattle.packstream.specs.declared.fault.PackFault.TheVariants as fault
+use Rattle.packstream.specs.Tree.{Tree}
+use Rattle.packstream.specs.Good.{IsGood}
+use Rattle.packstream.specs.Plain.{AreBytes}
+use Rattle.packstream.specs.Spelling.{Spells}
+use Rattle.packstream.specs.Faults.{Bad, IsBadAlways}
+use Rattle.packstream.specs.Answers.{UnlessMemory, Tells, whole_of}
+use Rattle.packstream.proofs.Ranges.{both_bytes}
+use Rattle.packstream.proofs.Deciding.{whole_value, whole_fault, err_parts}
+use Rattle.reader.specs.Piecewise.{Point, nothing_read, Joins, TurnsBad, Takes, Reads, TellsValue, TellsFault, Finishes}
+
+abbrev Told : Type 0
+Told = Result Tree PackFault
+
+-- a point with these bytes reads these, where it has no fault; else each continuation has its fault
+abbrev Keeps : List ℕ → Option (Reason × ℕ) → List ℕ → Type 0
+Keeps bytes bad b = MatchOption bad (bytes ≡ b) (λ f. IsBadAlways b f.0 f.1)
+
+bad_on : (b c : List ℕ) (r : Reason) (o : ℕ) → AreBytes c → IsBadAlways b r o
+    → IsBadAlways (b ++ c) r o
+bad_on b c r o bytes bad =
+    λ more are. subst (λ (x : List ℕ). Bad x o r) (sym (append_assoc b c more))
+    (bad (c ++ more) (both_bytes c more bytes are))
+
+joined_keeps : (bytes b c : List ℕ) (new : Point) → bytes ≡ b
+    → Joins (record { bytes = bytes; bad = None }) c new → Keeps new.bytes new.bad (b ++ c)
+joined_keeps bytes b c new e j =
+    subst (λ (x : Option (Reason × ℕ)). Keeps new.bytes x (b ++ c)) (sym j.1)
+    (j.0 ∙ ap (λ (x : List ℕ). x ++ c) e)
+
+turned_keeps : (bytes b c : List ℕ) (new : Point) → bytes ≡ b
+    → TurnsBad (record { bytes = bytes; bad = None }) c new → Keeps new.bytes new.bad (b ++ c)
+turned_keeps bytes b c new e t =
+    subst (λ (x : Option (Reason × ℕ)). Keeps new.bytes x (b ++ c)) (sym t.2)
+    (subst (λ (x : List ℕ). IsBadAlways (x ++ c) t.0 t.1) e t.3)
+
+keeps_more : (bytes : List ℕ) (bad : Option (Reason × ℕ)) (b c : List ℕ) (new : Point) → AreBytes c
+    → Keeps bytes bad b → Takes (record { bytes = bytes; bad = bad }) c new
+    → Keeps new.bytes new.bad (b ++ c)
+keeps_more bytes None b c new are e (inl j) = joined_keeps bytes b c new e j
+keeps_more bytes None b c new are e (inr t) = turned_keeps bytes b c new e t
+keeps_more bytes (Some f) b c new are bad same =
+    subst (λ (p : Point). Keeps p.bytes p.bad (b ++ c)) (sym same) (bad_on b c f.0 f.1 are bad)
+
+pub more_read : (old new : Point) (b piece : List ℕ) → Reads old b → AreBytes piece
+    → Takes old piece new → Reads new (b ++ piece)
+more_read old new b piece reads are takes =
+    (both_bytes b piece reads.0 are, keeps_more old.bytes old.bad b piece new are reads.1 takes)
+
+-- ---- what is told of bytes with a fault
+
+not_both : (b : List ℕ) (t : Tree) (r : Reason) (o : ℕ) → AreBytes b → Bad b o r
+    → IsGood t × Spells t b → ⊥
+not_both b t r o bytes bad h = let k : ◌≡◌ {A = Result Tree (Reason × ℕ)} (Ok t) (Err (r, o)) =
+    sym ((whole_value b bytes t).1 h) ∙ (whole_fault b bytes r o).1 bad in cc
+
+pub bad_value : (b : List ℕ) (r : Reason) (o : ℕ) (t : Tree) → AreBytes b → Bad b o r
+    → ◌≡◌ {A = Told} (Err (fault.Refused r o)) (Ok t) ↔ (IsGood t × Spells t b)
+bad_value b r o t bytes bad = (
+  (λ (e : ◌≡◌ {A = Told} (Err (fault.Refused r o)) (Ok t)). absurd cc),
+  (λ (h : IsGood t × Spells t b). absurd (not_both b t r o bytes bad h)),
+)
+
+same_fault : (r q : Reason) (o p : ℕ)
+    → ◌≡◌ {A = Told} (Err (fault.Refused r o)) (Err (fault.Refused q p)) → (r ≡ q) × (o ≡ p)
+same_fault r q o p e = (cc, cc)
+
+pub bad_fault : (b : List ℕ) (r q : Reason) (o p : ℕ) → AreBytes b → Bad b o r
+    → ◌≡◌ {A = Told} (Err (fault.Refused r o)) (Err (fault.Refused q p)) ↔ Bad b p q
+bad_fault b r q o p bytes bad = (
+  (λ (e : ◌≡◌ {A = Told} (Err (fault.Refused r o)) (Err (fault.Refused q p))).
+      let s = same_fault r q o p e in
+      subst (λ (x : Reason). Bad b p x) s.0 (subst (λ (x : ℕ). Bad b x r) s.1 bad)),
+  (λ (h : Bad b p q).
+      let s = err_parts {A = Tree} r q o p
+      (sym ((whole_fault b bytes r o).1 bad) ∙ (whole_fault b bytes q p).1 h) in
+      ap (λ (x : Reason). Err (fault.Refused x o)) s.0
+      ∙ ap (λ (x : ℕ). Err (fault.Refused q x)) s.1),
+)
+
+bad_now : (b : List ℕ) (r : Reason) (o : ℕ) → IsBadAlways b r o → Bad b o r
+bad_now b r o bad = subst (λ (x : List ℕ). Bad x o r) (append-nil b) (bad [] tt)
+
+told_value : (bytes : List ℕ) (bad : Option (Reason × ℕ)) (b : List ℕ) (told : Told) → AreBytes b
+    → Keeps bytes bad b → Finishes (record { bytes = bytes; bad = bad }) told → TellsValue b told
+told_value bytes None b told are e f = subst (λ (x : List ℕ). TellsValue x told) e (f.value refl)
+told_value bytes (Some x) b told are bad f = λ t.
+    subst (λ (y : Told). UnlessMemory y ((y ≡ Ok t) ↔ (IsGood t × Spells t b)))
+    (sym (f.bad x.0 x.1 refl)) (bad_value b x.0 x.1 t are (bad_now b x.0 x.1 bad))
+
+told_fault : (bytes : List ℕ) (bad : Option (Reason × ℕ)) (b : List ℕ) (told : Told) → AreBytes b
+    → Keeps bytes bad b → Finishes (record { bytes = bytes; bad = bad }) told → TellsFault b told
+told_fault bytes None b told are e f = subst (λ (x : List ℕ). TellsFault x told) e (f.fault refl)
+told_fault bytes (Some x) b told are bad f = λ r o.
+    subst (λ (y : Told). UnlessMemory y ((y ≡ Err (fault.Refused r o)) ↔ Bad b o r))
+    (sym (f.bad x.0 x.1 refl)) (bad_fault b x.0 r x.1 o are (bad_now b x.0 x.1 bad))
+
+pub value_read : (p : Point) (b : List ℕ) (told : Told) → Reads p b → Finishes p told
+    → TellsValue b told
+value_read p b told reads f = told_value p.bytes p.bad b told reads.0 reads.1 f
+
+pub fault_read : (p : Point) (b : List ℕ) (told : Told) → Reads p b → Finishes p told
+    → TellsFault b told
+fault_read p b told reads f = told_fault p.bytes p.bad b told reads.0 reads.1 f
+
+told_whole : (b : List ℕ) (told : Told) → AreBytes b → TellsValue b told → TellsFault b told
+    → Tells (λ t. t) told (whole_of b)
+told_whole b (Ok t) are v f = (whole_value b are t).1 ((v t).0 refl)
+told_whole b (Err (fault.Refused r o)) are v f = (whole_fault b are r o).1 ((f r o).0 refl)
+told_whole b (Err fault.Memory) are v f = tt
+
+pub whole_read : (p : Point) (b : List ℕ) (told : Told) → Reads p b → Finishes p told
+    → Tells (λ t. t) told (whole_of b)
+whole_read p b told reads f =
+    told_whole b told reads.0 (value_read p b told reads f) (fault_read p b told reads f)

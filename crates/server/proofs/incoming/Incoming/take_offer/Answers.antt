@@ -1,0 +1,13 @@
+use Rattle.server.specs.Views.{kept_of}
+use Rattle.server.proofs.Feeds.{offer_goes, offer_ends}
+use Rattle.server.proofs.incoming.Incoming.take_offer.Goals as goal
+
+pub returns-then-offer-lt-HANDSHAKE-clause-ok : goal.returns-then-offer-lt-HANDSHAKE-clause-ok
+returns-then-offer-lt-HANDSHAKE-clause-ok c = λ u is.
+    let f = c.with-used.result in
+    offer_goes c.args.self.now.offer f.offer c.args.self.now.stream (kept_of c.args.exchange.now) c.args.piece.now f.used c.requires c.with-used.ensures.used c.with-used.ensures.len c.with-used.ensures.bytes u is c.if-offer-lt-HANDSHAKE.true
+
+pub returns-clause-ok : goal.returns-clause-ok
+returns-clause-ok c = λ u is.
+    let f = c.with-used.result in
+    offer_ends c.args.self.now.offer f.offer c.args.self.now.stream (kept_of c.args.exchange.now) c.args.piece.now f.used c.requires c.with-used.ensures.used c.with-used.ensures.len c.with-used.ensures.bytes u is c.in_ok-what.what (kept_of c.shake.new.self) c.in_ok-what.ensures.ok c.if-offer-lt-HANDSHAKE.false

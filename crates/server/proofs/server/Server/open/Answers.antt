@@ -1,0 +1,53 @@
+use Rattle.std.proofs.Common.{◌≡◌, ◌+◌, ◌++◌, ◌∙◌, sym, ap, subst, List, [], ◌∷◌, length, rules}
+use Rattle.server.specs.declared.session.Session.{Session}
+use Rattle.server.specs.Serving.{fresh}
+use Rattle.server.specs.Views.{Fits, IsLive, AreLive}
+use Rattle.server.proofs.Calls.{live_length, live_pushed, full_of, none_left, not_full}
+use Rattle.server.proofs.server.Server.open.Goals.{then-len-ge-MAX_SESSIONS-via-then-len-ge-MAX_SESSIONS, then-len-ge-MAX_SESSIONS-via-else-len-ge-MAX_SESSIONS+then-self-ge-MAX_NUMBERS}
+use Rattle.server.proofs.server.Server.open.Goals as goal
+
+pub returns-then-len-ge-MAX_SESSIONS : goal.returns-then-len-ge-MAX_SESSIONS
+unfolding Fits
+returns-then-len-ge-MAX_SESSIONS g c =
+    let s = c.args.self.now in
+    let len : c.len.result ≡ length s.sessions.items = search rules in
+    λ r fits.
+    let live = len ∙ live_length s.sessions.items r.sessions fits.0 in (
+      elim c.then-len-ge-MAX_SESSIONS.branch [
+        | then-len-ge-MAX_SESSIONS-via-then-len-ge-MAX_SESSIONS w ↦ full_of r c.len.result s.next live fits.1 w.if-len-ge-MAX_SESSIONS.true
+        | then-len-ge-MAX_SESSIONS-via-else-len-ge-MAX_SESSIONS+then-self-ge-MAX_NUMBERS w ↦ none_left r c.len.result s.next live fits.1 w.if-len-ge-MAX_SESSIONS.false w.if-self-ge-MAX_NUMBERS.true
+      ],
+      fits,
+    )
+
+pub returns-in_default : goal.returns-in_default
+unfolding Fits
+returns-in_default g c =
+    let s = c.args.self.now in
+    let len : c.len.result ≡ length s.sessions.items = search rules in
+    λ r fits. (not_full r c.len.result s.next (len ∙ live_length s.sessions.items r.sessions fits.0) fits.1 c.if-len-ge-MAX_SESSIONS.false c.if-self-ge-MAX_NUMBERS.false, fits)
+
+pub returns-then-is_err : goal.returns-then-is_err
+unfolding Fits
+returns-then-is_err g c =
+    let s = c.args.self.now in
+    let len : c.len.result ≡ length s.sessions.items = search rules in
+    let same : c.push.new.self.items ≡ s.sessions.items = rw c.if-is_err.ensures.negation at c.push.ensures.items in
+    λ r fits. (not_full r c.len.result s.next (len ∙ live_length s.sessions.items r.sessions fits.0) fits.1 c.if-len-ge-MAX_SESSIONS.false c.if-self-ge-MAX_NUMBERS.false, (subst (λ (ss : List Session). AreLive ss r.sessions) (sym same) fits.0, fits.1, fits.2, fits.3))
+
+pub returns : goal.returns
+unfolding Fits
+returns g c =
+    let s = c.args.self.now in
+    let len : c.len.result ≡ length s.sessions.items = search rules in
+    let pushed : c.push.new.self.items ≡ s.sessions.items ++ c.in-Ok.session ∷ [] = rw c.if-is_err.ensures.negation at c.push.ensures.items in
+    λ r fits. (
+      not_full r c.len.result s.next (len ∙ live_length s.sessions.items r.sessions fits.0) fits.1 c.if-len-ge-MAX_SESSIONS.false c.if-self-ge-MAX_NUMBERS.false,
+      sym fits.1,
+      (
+        subst (λ (ss : List Session). AreLive ss (r.sessions ++ fresh r.next ∷ [])) (sym pushed) (live_pushed s.sessions.items r.sessions c.in-Ok.session (fresh r.next) fits.0 (subst (λ n. IsLive c.in-Ok.session (fresh n)) (sym fits.1) c.in-Ok.ensures)),
+        ap (λ n. n + 1) fits.1,
+        fits.2,
+        fits.3,
+      ),
+    )
