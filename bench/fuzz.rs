@@ -1,11 +1,6 @@
-//! Looks for what no proof of the product could let through, from outside: `fuzz SECONDS SEED FILE [PROGRAM SHIM SCRIPT..]`. Linked with the
+//! Looks for what no proof of the product could let through, from outside: `fuzz SECONDS SEED FILE [PROGRAM]`. Linked with the
 //! static library `bench_hostile`, and with `--wrap=malloc --wrap=realloc --wrap=free`, so that it can refuse any allocation. It stops with a
 //! line and status 1 where
-//! - a script, a conversation of a client and a server, or a value decoded, cloned and encoded, with its Nth allocation refused, for
-//!   some N, doesn't end as with ample memory, or a refused call changed what can be seen,
-//! - a call that takes no memory answers otherwise where there is none,
-//! - PROGRAM, replaying a script with its Nth allocation refused, ends otherwise than with status 0 and the whole report, or with
-//!   status 3 and a beginning of it,
 //! - a run by chance answers other than 0: a report that isn't good, a refused event that changed the report, a client that took
 //!   nothing and went on, a value that reads back otherwise,
 //! - a call takes more than ten seconds,
@@ -18,11 +13,7 @@ use std::time::{Duration, Instant};
 
 unsafe extern "C" {
     fn hostile_plays(seed: u64, events: u64) -> u64;
-    fn hostile_plays_script(number: u32) -> u64;
     fn hostile_hears(seed: u64) -> u64;
-    fn hostile_ends() -> u64;
-    fn hostile_values() -> u64;
-    fn hostile_without_memory(number: u32) -> u64;
     fn hostile_hoards(places: u32) -> u64;
     fn __real_malloc(size: usize) -> *mut u8;
     fn __real_realloc(block: *mut u8, size: usize) -> *mut u8;
@@ -30,8 +21,6 @@ unsafe extern "C" {
     fn malloc_usable_size(block: *mut u8) -> usize;
 }
 
-/// How many allocations are granted before one is refused; below 0 none is refused.
-static GRANTED: AtomicI64 = AtomicI64::new(-1);
 /// One allocation in so many is refused by chance, 0 for none.
 static ODDS: AtomicU64 = AtomicU64::new(0);
 static CHANCE: AtomicU64 = AtomicU64::new(1);
@@ -39,40 +28,21 @@ static REFUSED: AtomicU64 = AtomicU64::new(0);
 /// When the present call began, in milliseconds, or 0.
 static BEGUN: AtomicU64 = AtomicU64::new(0);
 
-/// Between blocks of these sizes every allocation is refused.
-const STARVE: usize = 777_777;
-const FEAST: usize = 888_888;
-static STARVED: AtomicU64 = AtomicU64::new(0);
-
-fn is_refused(size: usize) -> bool {
-    if size == STARVE {
-        STARVED.fetch_add(1, Relaxed);
-        ODDS.store(1, Relaxed);
-        return false;
-    }
-    if size == FEAST {
-        ODDS.store(0, Relaxed);
-    }
+fn is_refused() -> bool {
     let odds = ODDS.load(Relaxed);
-    if odds > 0 && next(&CHANCE) % odds == 0 {
-        REFUSED.fetch_add(1, Relaxed);
-        return true;
-    }
-    if GRANTED.load(Relaxed) < 0 || GRANTED.fetch_sub(1, Relaxed) > 0 {
-        return false;
-    }
-    REFUSED.fetch_add(1, Relaxed);
-    true
+    let is_refused = odds > 0 && next(&CHANCE) % odds == 0;
+    REFUSED.fetch_add(u64::from(is_refused), Relaxed);
+    is_refused
 }
 
 #[unsafe(no_mangle)]
 extern "C" fn __wrap_malloc(size: usize) -> *mut u8 {
-    if is_refused(size) { std::ptr::null_mut() } else { unsafe { held(__real_malloc(size), 0) } }
+    if is_refused() { std::ptr::null_mut() } else { unsafe { held(__real_malloc(size), 0) } }
 }
 
 #[unsafe(no_mangle)]
 extern "C" fn __wrap_realloc(block: *mut u8, size: usize) -> *mut u8 {
-    if is_refused(size) {
+    if is_refused() {
         return std::ptr::null_mut();
     }
     unsafe {
@@ -124,54 +94,6 @@ fn stop(why: &str) -> ! {
     exit(1)
 }
 
-/// A call with its Nth allocation refused, for N from 1 until none is.
-fn refuse_each(start: Instant, file: &std::fs::File, name: &str, call: impl Fn() -> u64) {
-    let wanted = watched(start, &call);
-    if wanted < 100 {
-        stop(&format!("{name}: {wanted}"));
-    }
-    let (mut number, mut unplayed) = (0, 0);
-    loop {
-        number += 1;
-        begin(file, &format!("{name}, allocation {number}"));
-        REFUSED.store(0, Relaxed);
-        GRANTED.store(number - 1, Relaxed);
-        let told = watched(start, &call);
-        GRANTED.store(-1, Relaxed);
-        if REFUSED.load(Relaxed) == 0 {
-            break;
-        }
-        match told {
-            8 => unplayed += 1,
-            told if told == wanted => {}
-            told => stop(&format!("{name}, allocation {number} refused: {told}")),
-        }
-    }
-    println!("{name}: each of {} allocations refused, {unplayed} of them before there was anything to refuse it to", number - 1);
-}
-
-fn refuse_all(start: Instant, file: &std::fs::File) {
-    for number in 0..3 {
-        refuse_each(start, file, ["a pipeline with resets", "a transaction", "a commit whose answer is lost"][number as usize], || unsafe { hostile_plays_script(number) });
-    }
-    refuse_each(start, file, "both ends", || unsafe { hostile_ends() });
-    refuse_each(start, file, "values", || unsafe { hostile_values() });
-}
-
-/// Calls that take no memory, where there is none.
-fn without_memory(start: Instant, file: &std::fs::File) {
-    for number in 0..5 {
-        begin(file, &format!("without memory {number}"));
-        STARVED.store(0, Relaxed);
-        let told = watched(start, || unsafe { hostile_without_memory(number) });
-        ODDS.store(0, Relaxed);
-        if told != 0 || STARVED.load(Relaxed) == 0 {
-            stop(&format!("without memory {number}: {told}"));
-        }
-    }
-    println!("calls that take no memory answer as ever without");
-}
-
 /// The most memory that a session takes for so many of the dearest requests, in MB.
 fn hoard(start: Instant, places: u32) -> f64 {
     let before = LIVE.load(Relaxed);
@@ -181,29 +103,6 @@ fn hoard(start: Instant, places: u32) -> f64 {
         stop(&format!("{taken} of {places} requests were taken"));
     }
     (MOST.load(Relaxed) - before) as f64 / 1e6
-}
-
-/// The program replaying a script with its Nth allocation refused, for each N of those that it makes. `shim` refuses it from within.
-fn refuse_replay(program: &str, shim: &str, script: &str, count: &str) {
-    let run = |number: u64| -> (Option<i32>, Vec<u8>, u64) {
-        let command = Command::new(program).arg("replay").arg(script).env("LD_PRELOAD", shim).env("REFUSED", number.to_string())
-            .env("COUNT", count).stdin(Stdio::null()).stderr(Stdio::null()).output().expect("a program");
-        let made = std::fs::read_to_string(count).ok().and_then(|text| text.trim().parse().ok()).unwrap_or(0);
-        (command.status.code(), command.stdout, made)
-    };
-    let (status, whole, made) = run(0);
-    if status != Some(0) || whole.is_empty() || made == 0 {
-        stop(&format!("{script}: status {status:?}, {made} allocations"));
-    }
-    let mut ended = 0;
-    for number in 1..=made {
-        match run(number) {
-            (Some(0), told, _) if told == whole => {}
-            (Some(3), told, _) if whole.starts_with(&told) => ended += 1,
-            (status, told, _) => stop(&format!("{script}, allocation {number} refused: {status:?}, {}", String::from_utf8_lossy(&told))),
-        }
-    }
-    println!("{script}: each of {made} allocations of the program refused, {ended} times it ended with status 3");
 }
 
 fn begin(file: &std::fs::File, what: &str) { file.write_all_at(format!("{what:<60}\n").as_bytes(), 0).expect("a file"); }
@@ -240,15 +139,8 @@ fn main() {
             }
         }
     });
-    refuse_all(start, &file);
-    without_memory(start, &file);
     begin(&file, "requests of 65,536 bytes");
     println!("requests of 65,536 bytes that wait: one takes at most {:.1} MB, 32 take {:.1} MB", hoard(start, 1), hoard(start, 32));
-    if let [_, _, _, _, program, shim, scripts @ ..] = &words[..] {
-        for script in scripts {
-            refuse_replay(program, shim, script, &format!("{}.count", words[3]));
-        }
-    }
     let (mut seed, mut refused, chance) = (first, 0, AtomicU64::new(first));
     while start.elapsed().as_secs() < seconds {
         begin(&file, &format!("seed {seed}"));

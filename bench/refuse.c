@@ -1,31 +1,44 @@
-// Loaded before a program, refuses its allocation of the number in REFUSED, from 1, and writes to the file in COUNT how many it asked for.
+// Loaded before a program, refuses its allocation of the number in REFUSED, from 1, and every allocation between two blocks of these
+// sizes. At the end it writes to the file in COUNT how many the program asked for, and how often it asked for a block of the first size.
 #include <stdio.h>
 #include <stdlib.h>
+
+#define STARVE 777777
+#define FEAST 888888
 
 void *__libc_malloc(size_t size);
 void *__libc_calloc(size_t count, size_t size);
 void *__libc_realloc(void *block, size_t size);
 
-static long asked, refused = -1;
+static long asked, starved, refused = -1;
+static int is_starving;
 
-static int is_refused(void) {
+static int is_refused(size_t size) {
     if (refused < 0) {
         const char *number = getenv("REFUSED");
         refused = number ? atol(number) : 0;
     }
-    return ++asked == refused;
+    if (size == STARVE) {
+        starved++;
+        is_starving = 1;
+        return 0;
+    }
+    if (size == FEAST) is_starving = 0;
+    return ++asked == refused || is_starving;
 }
 
-void *malloc(size_t size) { return is_refused() ? NULL : __libc_malloc(size); }
+void *malloc(size_t size) { return is_refused(size) ? NULL : __libc_malloc(size); }
 void *calloc(size_t count, size_t size) { return __libc_calloc(count, size); }
-void *realloc(void *block, size_t size) { return is_refused() ? NULL : __libc_realloc(block, size); }
+void *realloc(void *block, size_t size) { return is_refused(size) ? NULL : __libc_realloc(block, size); }
 
 __attribute__((destructor)) static void tell(void) {
     long made = asked;
     const char *name = getenv("COUNT");
     FILE *file = name ? fopen(name, "w") : NULL;
+    is_starving = 0;
+    refused = 0;
     if (file) {
-        fprintf(file, "%ld\n", made);
+        fprintf(file, "%ld %ld\n", made, starved);
         fclose(file);
     }
 }
