@@ -10,7 +10,8 @@ use Rattle.streams.specs.Responding.{end_of}
 
 -- the one user that is let in
 abbrev pub lets_in : List ℕ → List ℕ → Bool
-lets_in principal credentials = bytes_eq principal (codes "user") && bytes_eq credentials (codes "pass")
+lets_in principal credentials =
+    bytes_eq principal (codes "user") && bytes_eq credentials (codes "pass")
 
 -- over a fixed table
 abbrev pub serving : Setting

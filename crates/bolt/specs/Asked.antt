@@ -34,24 +34,27 @@ pub data Ask : Type 0 where
 
 -- the version of a word
 abbrev pub version_at : Text → Option Version
-version_at word = if bytes_eq word (codes "4.4") then Some V44 else (if bytes_eq word (codes "5.1") then Some V51 else None)
+version_at word = if bytes_eq word (codes "4.4") then Some V44
+    else (if bytes_eq word (codes "5.1") then Some V51 else None)
 
 -- a check of a text, where there is such a version
 abbrev pub check_at : Option Version → Text → Ask
 check_at (Some v) hex = ToCheck v hex
 check_at None hex = Nothing
 
--- the port of a word: 1 to 65,535
+-- a number as a port: 1 to 65,535
 abbrev pub port_in : ℕ → Option ℕ
 port_in n = if n == 0 || nat_lt 65535 n then None else Some n
 
+-- the port that a word says in decimal: 1 to 65,535
 abbrev pub port_at : Text → Option ℕ
 port_at word = option_and_then port_in (number_of word)
 
--- the count of a word: 0 to 1,000,000
+-- a number as a count of connections: 0 to 1,000,000
 abbrev pub count_in : ℕ → Option ℕ
 count_in n = if nat_lt 1000000 n then None else Some n
 
+-- the count of connections that a word says in decimal: 0 to 1,000,000
 abbrev pub count_at : Text → Option ℕ
 count_at word = option_and_then count_in (number_of word)
 
@@ -82,14 +85,17 @@ abbrev pub asked_answer : List Text → Ask
 asked_answer (hex ∷ []) = ToAnswer hex
 asked_answer _ = Nothing
 
+-- the words after `check`: a version, and bytes in hex
 abbrev pub asked_check : List Text → Ask
 asked_check (version ∷ hex ∷ []) = check_at (version_at version) hex
 asked_check _ = Nothing
 
+-- the words after `replay`: a file
 abbrev pub asked_replay : List Text → Ask
 asked_replay (file ∷ []) = ToReplay file
 asked_replay _ = Nothing
 
+-- the words after `loop`: a file
 abbrev pub asked_loop : List Text → Ask
 asked_loop (file ∷ []) = ToLoop file
 asked_loop _ = Nothing
@@ -98,14 +104,17 @@ asked_loop _ = Nothing
 unfoldable pub serve_by : Text → Text → Ask
 serve_by port count = serve_at (port_at port) (count_at count)
 
+-- the words after `serve`: a port, and a count of connections
 abbrev pub asked_serve : List Text → Ask
 asked_serve (port ∷ count ∷ []) = serve_by port count
 asked_serve _ = Nothing
 
+-- the words after `vectors`: none
 abbrev pub asked_vectors : List Text → Ask
 asked_vectors [] = ToPass
 asked_vectors _ = Nothing
 
+-- the words after `shell`: a host, and a port
 abbrev pub asked_shell : List Text → Ask
 asked_shell (host ∷ port ∷ []) = shell_at host (port_at port)
 asked_shell _ = Nothing
@@ -121,9 +130,9 @@ asked_by word rest = if bytes_eq word (codes "answer") then asked_answer rest
     else (if bytes_eq word (codes "shell") then asked_shell rest else Nothing))))))
 
 -- the program's name and the words after it
-abbrev pub asked_plain : List Text → Ask
-asked_plain (program ∷ word ∷ rest) = asked_by word rest
-asked_plain _ = Nothing
+abbrev pub ask_of_words : List Text → Ask
+ask_of_words (program ∷ word ∷ rest) = asked_by word rest
+ask_of_words _ = Nothing
 
 -- a hyphen and more
 abbrev pub is_flag : Text → Bool
@@ -135,8 +144,8 @@ abbrev pub has_flag : List Text → Bool
 has_flag words = list_any is_flag (drop 1 words)
 
 -- no command has a flag
-abbrev pub asked : List Text → Ask
-asked words = if has_flag words then Nothing else asked_plain words
+abbrev pub ask_of_command : List Text → Ask
+ask_of_command words = if has_flag words then Nothing else ask_of_words words
 
 -- a stream over a call: what it had taken before and has taken after, and whether it had failed, and has
 pub record Passage : Type 0 where
@@ -147,7 +156,9 @@ pub record Passage : Type 0 where
 
 -- This is said to a replay of a source, which stands for the file.
 abbrev pub SaysReplay : Passage → Said → Type 0
-SaysReplay source s = (r : Replayed) × SaysSource source.has_failed source.before source.after r × (string_bytes s.out ≡ string_bytes r.out) × (string_bytes s.err ≡ string_bytes r.err) × (s.status ≡ r.status)
+SaysReplay source s = (r : Replayed) × SaysSource source.has_failed source.before source.after r
+    × (string_bytes s.out ≡ string_bytes r.out) × (string_bytes s.err ≡ string_bytes r.err)
+    × (s.status ≡ r.status)
 
 -- This is said to what was asked, with this source; to words that are `main`'s own, the same as to none.
 abbrev pub SaysTo : Ask → Passage → Said → Type 0
@@ -176,8 +187,10 @@ is_replay Nothing = false
 abbrev pub IsPut : Said → Passage → Passage → ℕ → Type 0
 IsPut s out err status =
     (out.has_failed ≡ false → Appends out.before out.after (string_bytes s.out))
-    × (out.has_failed ≡ false → err.has_failed ≡ false → Appends err.before err.after (string_bytes s.err) × (status ≡ s.status))
+    × (out.has_failed ≡ false → err.has_failed ≡ false
+    → Appends err.before err.after (string_bytes s.err) × (status ≡ s.status))
     × (out.had_failed ≡ false → out.has_failed ≡ true → status ≡ 1)
     × (err.had_failed ≡ false → err.has_failed ≡ true → status ≡ 1)
     × AppendsFront out.before out.after (string_bytes s.out)
-    × (out.had_failed ≡ false → out.has_failed ≡ true → err.has_failed ≡ false → Appends err.before err.after (codes "fault I2" ++ 10 ∷ []))
+    × (out.had_failed ≡ false → out.has_failed ≡ true → err.has_failed ≡ false
+    → Appends err.before err.after (codes "fault I2" ++ 10 ∷ []))

@@ -40,7 +40,8 @@ IsRefused v b r o = Bad b o r ⊎ ((r ≡ Size) × (o ≡ 0) × IsTooLong v b)
 -- The shortest spelling of the value that the bytes spell, which is a cell; or what is wrong with them, and where; or
 -- what is wrong with the first of its structures that has a fault, and its number.
 abbrev pub Checks : Version → List ℕ → Checked → Type 0
-Checks v b (Fine hex) = (t : Tree) × IsGood t × Spells t b × IsCell v t × (length (canon t) ≤ 65536) × (string_bytes hex ≡ encode_lower (canon t))
+Checks v b (Fine hex) = (t : Tree) × IsGood t × Spells t b × IsCell v t × (length (canon t) ≤ 65536)
+    × (string_bytes hex ≡ encode_lower (canon t))
 Checks v b (Refused r o) = IsRefused v b r o
 Checks v b (Unfit r k) = (t : Tree) × IsGood t × Spells t b × IsBad v t k r
 
@@ -48,6 +49,7 @@ Checks v b (Unfit r k) = (t : Tree) × IsGood t × Spells t b × IsBad v t k r
 abbrev pub ChecksHex : Version → List ℕ → Checked → Type 0
 ChecksHex v text c = (bytes : List ℕ) × (decode_of text ≡ Ok bytes) × Checks v bytes c
 
+-- the bytes have this fault, and at its place; of want of memory nothing is known
 abbrev pub ChecksFault : List ℕ → PackFault → Type 0
 ChecksFault b (fault.Refused r o) = Bad b o r
 ChecksFault b fault.Memory = Unit {0}
@@ -61,4 +63,5 @@ IsUnfit cell_fault.Memory c = ⊥
 -- the form of a cell is spelled, or the cell can't be written
 abbrev pub IsWrittenBack : Version → Tree → Checked → Type 0
 IsWrittenBack v s c =
-    ((t : Tree) × Form v s t × IsGood t × IsSpelled t c) ⊎ ((e : CellFault) × Writes v s (Err e) × IsUnfit e c)
+    ((t : Tree) × Form v s t × IsGood t × IsSpelled t c)
+    ⊎ ((e : CellFault) × Writes v s (Err e) × IsUnfit e c)

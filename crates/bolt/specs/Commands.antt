@@ -29,6 +29,7 @@ state_words State.Failed = codes "state Failed"
 state_words State.Interrupted = codes "state Interrupted"
 state_words State.Defunct = codes "state Defunct"
 
+-- a cause as it is printed: `ended`, and its code, E1 to E8
 abbrev pub cause_words : Cause → List ℕ
 cause_words Cause.BadMagic = codes "ended E1"
 cause_words Cause.NoVersion = codes "ended E2"
@@ -46,8 +47,10 @@ end_words (Over cause) = cause_words cause
 
 -- on standard output and standard error, with this status
 abbrev pub Says : List ℕ → List ℕ → ℕ → Said → Type 0
-Says out err status s = (string_bytes s.out ≡ out) × (string_bytes s.err ≡ err) × (s.status ≡ status)
+Says out err status s = (string_bytes s.out ≡ out) × (string_bytes s.err ≡ err)
+    × (s.status ≡ status)
 
+-- that a text isn't hex of whole bytes: I4 on standard error, with status 2
 abbrev pub IsBadHex : Said → Type 0
 IsBadHex s = Says [] (codes "fault I4" ++ 10 ∷ []) 2 s
 
@@ -55,7 +58,8 @@ IsBadHex s = Says [] (codes "fault I4" ++ 10 ∷ []) 2 s
 abbrev pub SaysAnswer : List ℕ → Said → Type 0
 SaysAnswer text s =
     (IsErr (decode_of text) × IsBadHex s)
-    ⊎ ((hex : List ℕ) × (last : End) × AnswersHex text hex last × Says (hex ++ 10 ∷ [] ++ end_words last ++ 10 ∷ []) [] 0 s)
+    ⊎ ((hex : List ℕ) × (last : End) × AnswersHex text hex last
+    × Says (hex ++ 10 ∷ [] ++ end_words last ++ 10 ∷ []) [] 0 s)
 
 -- the codes of what is wrong with a value
 abbrev pub pack_code_of : PackReason → List ℕ
@@ -79,7 +83,8 @@ cell_code_of NotInVersion = codes "S6"
 
 -- a refusal on a line, with status 1
 abbrev pub SaysRefused : List ℕ → ℕ → Said → Type 0
-SaysRefused code place s = Says (codes "refused " ++ code ++ codes " at " ++ decimal place ++ 10 ∷ []) [] 1 s
+SaysRefused code place s =
+    Says (codes "refused " ++ code ++ codes " at " ++ decimal place ++ 10 ∷ []) [] 1 s
 
 -- the shortest spelling on a line, or a refusal with its code and its place
 abbrev pub SaysChecked : Checked → Said → Type 0
@@ -87,5 +92,7 @@ SaysChecked (Fine hex) s = Says (codes "ok " ++ string_bytes hex ++ 10 ∷ []) [
 SaysChecked (Refused r o) s = SaysRefused (pack_code_of r) o s
 SaysChecked (Unfit r k) s = SaysRefused (cell_code_of r) k s
 
+-- the check of the bytes of a text at a version; or that the text isn't hex of whole bytes
 abbrev pub SaysCheck : Version → List ℕ → Said → Type 0
-SaysCheck v text s = (IsErr (decode_of text) × IsBadHex s) ⊎ ((c : Checked) × ChecksHex v text c × SaysChecked c s)
+SaysCheck v text s = (IsErr (decode_of text) × IsBadHex s)
+    ⊎ ((c : Checked) × ChecksHex v text c × SaysChecked c s)

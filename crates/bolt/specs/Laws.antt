@@ -21,4 +21,5 @@ IsSameCheck c d = ⊥
 
 -- of bytes a check tells one thing at a version
 abbrev pub HasOneCheck : Type 0
-HasOneCheck = (v : Version) (b : List ℕ) (c d : Checked) → AreBytes b → Checks v b c → Checks v b d → IsSameCheck c d
+HasOneCheck = (v : Version) (b : List ℕ) (c d : Checked) → AreBytes b → Checks v b c → Checks v b d
+    → IsSameCheck c d

@@ -22,7 +22,9 @@ served_lines conn (cause ∷ causes) = conn_line conn cause ++ served_lines (con
 
 -- the line of the port, and the line of each of so many connections, from number 0 on
 abbrev pub HasServedAll : Option (List ℕ) → Option (List ℕ) → ℕ → ℕ → Type 0
-HasServedAll before after port count = (causes : List Cause) × (length causes ≡ count) × Appends before after (listening_line port ++ served_lines 0 causes)
+HasServedAll before after port count =
+    (causes : List Cause) × (length causes ≡ count)
+    × Appends before after (listening_line port ++ served_lines 0 causes)
 
 -- no session lives, and the next number is this
 abbrev pub IsServing : Server FixedTable OneUser → ℕ → Type 0

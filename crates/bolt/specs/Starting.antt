@@ -3,10 +3,12 @@ use Rattle.std.specs.Prelude.{ℕ, List, [], ◌∷◌, ◌++◌, codes}
 use Rattle.bolt.specs.declared.starting.Unread.{Unread}
 use Rattle.bolt.specs.declared.starting.Unread.TheVariants.{Memory, NotText}
 
+-- the status where the program's words can't be read: 3 for want of memory, else 2
 abbrev pub unread_status : Unread → ℕ
 unread_status Memory = 3
 unread_status NotText = 2
 
+-- the line on standard error where the program's words can't be read
 abbrev pub unread_text : Unread → List ℕ
 unread_text Memory = codes "fault I3" ++ 10 ∷ []
 unread_text NotText = codes "error: a word is not UTF-8" ++ 10 ∷ []

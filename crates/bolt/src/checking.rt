@@ -58,7 +58,8 @@ fn check(alloc: Global, version: Version, bytes: &[u8]) -> Result<Checked, Alloc
 }
 
 fn refused(fault: PackFault) -> Result<Checked, AllocError>
-    ensures { (v : AnyVersion) (b : List ℕ) → ChecksFault b fault → IfOk result (λ c. Checks v b c) }
+    ensures { (v : AnyVersion) (b : List ℕ) → ChecksFault b fault
+        → IfOk result (λ c. Checks v b c) }
 {
     match fault {
         PackFault::Refused(reason, place) => Ok(Checked::Refused(reason, place)),

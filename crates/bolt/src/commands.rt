@@ -2,7 +2,7 @@
 ghost use Rattle.std.specs.Prelude.{◌≡◌, ◌≤◌, ◌⊎◌, ℕ, List, [], ◌∷◌, ◌++◌, codes, string_bytes, true, false, map, IfOk, IsErr};
 ghost use Rattle.std.specs.Io.KnownBytes.{Appends, Consumes};
 ghost use Rattle.streams.specs.Fronts.{AppendsFront};
-ghost use Rattle.bolt.specs.Asked.{Passage, SaysReplay, SaysTo, IsPut, asked, is_replay};
+ghost use Rattle.bolt.specs.Asked.{Passage, SaysReplay, SaysTo, IsPut, ask_of_command, is_replay};
 ghost use Rattle.bolt.specs.Commands.{IsBadHex, SaysAnswer, SaysCheck, SaysChecked, SaysRefused};
 
 use crate::answering::{AnswerFault, answer};
@@ -50,16 +50,23 @@ pub fn command<S: Source, O: Sink, E: Sink>(
     ensures status { result ≤ 3 }
     ensures failed { O.has_failed out.old ≡ true → O.has_failed out.new ≡ true }
     // Nothing is read but by a replay, which reads a beginning of what the input held.
-    ensures input { is_replay (asked (map string_bytes words.now)) ≡ false → input.new ≡ input.old }
+    ensures input { is_replay (ask_of_command (map string_bytes words.now)) ≡ false
+        → input.new ≡ input.old }
     ensures read { (front : List ℕ) × Consumes (S.left input.old) (S.left input.new) front }
     // Want of memory puts nothing out, and says so.
     ensures memory { result ≡ 3 → (O.taken out.new ≡ O.taken out.old)
         × (E.has_failed err.new ≡ false → Appends (E.taken err.old) (E.taken err.new) (codes "fault I3" ++ 10 ∷ [])) }
     // Else what the words ask for is said, and put on the streams.
-    ensures says { let output : Passage = record { before = O.taken out.old; after = O.taken out.new; had_failed = O.has_failed out.old; has_failed = O.has_failed out.new } in
+    ensures says { let output : Passage =
+        record {
+          before = O.taken out.old;
+          after = O.taken out.new;
+          had_failed = O.has_failed out.old;
+          has_failed = O.has_failed out.new;
+        } in
         let errors : Passage = record { before = E.taken err.old; after = E.taken err.new; had_failed = E.has_failed err.old; has_failed = E.has_failed err.new } in
         let source : Passage = record { before = S.left input.old; after = S.left input.new; had_failed = S.has_failed input.old; has_failed = S.has_failed input.new } in
-        (result ≡ 3) ⊎ ((s : Said) × SaysTo (asked (map string_bytes words.now)) source s × IsPut s output errors result) }
+        (result ≡ 3) ⊎ ((s : Said) × SaysTo (ask_of_command (map string_bytes words.now)) source s × IsPut s output errors result) }
 {
     match say(alloc, words, input) {
         Ok(said) => put_said(&said, out, err),
@@ -69,14 +76,19 @@ pub fn command<S: Source, O: Sink, E: Sink>(
 
 /// Writes what a command says.
 fn put_said<O: Sink, E: Sink>(said: &Said, out: &mut O, err: &mut E) -> u8
-    ensures status { (result ≡ said.now.status) ⊎ ((result ≡ 1) × ((O.has_failed out.new ≡ true) ⊎ (E.has_failed err.new ≡ true))) }
-    ensures out { O.has_failed out.new ≡ false → Appends (O.taken out.old) (O.taken out.new) (string_bytes said.now.out) }
-    ensures err { O.has_failed out.new ≡ false → E.has_failed err.new ≡ false → Appends (E.taken err.old) (E.taken err.new) (string_bytes said.now.err) }
+    ensures status { (result ≡ said.now.status)
+        ⊎ ((result ≡ 1) × ((O.has_failed out.new ≡ true) ⊎ (E.has_failed err.new ≡ true))) }
+    ensures out { O.has_failed out.new ≡ false
+        → Appends (O.taken out.old) (O.taken out.new) (string_bytes said.now.out) }
+    ensures err { O.has_failed out.new ≡ false → E.has_failed err.new ≡ false
+        → Appends (E.taken err.old) (E.taken err.new) (string_bytes said.now.err) }
     ensures stays { O.has_failed out.old ≡ true → O.has_failed out.new ≡ true }
     ensures out_fails { O.has_failed out.old ≡ false → O.has_failed out.new ≡ true → result ≡ 1 }
     ensures err_fails { E.has_failed err.old ≡ false → E.has_failed err.new ≡ true → result ≡ 1 }
     ensures front { AppendsFront (O.taken out.old) (O.taken out.new) (string_bytes said.now.out) }
-    ensures fault { O.has_failed out.old ≡ false → O.has_failed out.new ≡ true → E.has_failed err.new ≡ false → Appends (E.taken err.old) (E.taken err.new) (codes "fault I2" ++ 10 ∷ []) }
+    ensures fault { O.has_failed out.old ≡ false → O.has_failed out.new ≡ true
+        → E.has_failed err.new ≡ false
+        → Appends (E.taken err.old) (E.taken err.new) (codes "fault I2" ++ 10 ∷ []) }
 {
     if write_all(out, said.out.as_bytes()).is_err() {
         return put_fault(b"fault I2\n", REFUSED, err);
@@ -90,7 +102,8 @@ fn put_said<O: Sink, E: Sink>(said: &Said, out: &mut O, err: &mut E) -> u8
 /// Writes a fault, and answers the status.
 fn put_fault<E: Sink>(text: &[u8], status: u8, err: &mut E) -> u8
     ensures status { result ≡ status }
-    ensures text { E.has_failed err.new ≡ false → Appends (E.taken err.old) (E.taken err.new) text.now }
+    ensures text { E.has_failed err.new ≡ false
+        → Appends (E.taken err.old) (E.taken err.new) text.now }
     ensures stays { E.has_failed err.old ≡ true → E.has_failed err.new ≡ true }
 {
     let _ = write_all(err, text);
@@ -99,10 +112,17 @@ fn put_fault<E: Sink>(text: &[u8], status: u8, err: &mut E) -> u8
 
 /// What the words ask for is said.
 fn say<S: Source>(alloc: Global, words: &[String], input: &mut S) -> Result<Said, AllocError>
-    ensures says { let source : Passage = record { before = S.left input.old; after = S.left input.new; had_failed = S.has_failed input.old; has_failed = S.has_failed input.new } in
-        IfOk result (SaysTo (asked (map string_bytes words.now)) source) }
+    ensures says { let source : Passage =
+        record {
+          before = S.left input.old;
+          after = S.left input.new;
+          had_failed = S.has_failed input.old;
+          has_failed = S.has_failed input.new;
+        } in
+        IfOk result (SaysTo (ask_of_command (map string_bytes words.now)) source) }
     ensures status { IfOk result (λ s. s.status ≤ 2) }
-    ensures input { is_replay (asked (map string_bytes words.now)) ≡ false → input.new ≡ input.old }
+    ensures input { is_replay (ask_of_command (map string_bytes words.now)) ≡ false
+        → input.new ≡ input.old }
     ensures read { (front : List ℕ) × Consumes (S.left input.old) (S.left input.new) front }
 {
     match asked(words) {
@@ -156,7 +176,8 @@ fn say_bad_hex(alloc: Global) -> Result<Said, AllocError>
 }
 
 fn say_out(alloc: Global, out: String, status: u8) -> Said
-    ensures { (string_bytes result.out ≡ string_bytes out) × (string_bytes result.err ≡ []) × (result.status ≡ status) }
+    ensures { (string_bytes result.out ≡ string_bytes out) × (string_bytes result.err ≡ [])
+        × (result.status ≡ status) }
 {
     Said {
         out,
@@ -220,7 +241,13 @@ fn say_refused(alloc: Global, code: &str, place: usize) -> Result<Said, AllocErr
 
 /// What is said of the script that the input holds.
 fn say_replay<S: Source>(alloc: Global, input: &mut S) -> Result<Said, AllocError>
-    ensures says { let source : Passage = record { before = S.left input.old; after = S.left input.new; had_failed = S.has_failed input.old; has_failed = S.has_failed input.new } in
+    ensures says { let source : Passage =
+        record {
+          before = S.left input.old;
+          after = S.left input.new;
+          had_failed = S.has_failed input.old;
+          has_failed = S.has_failed input.new;
+        } in
         IfOk result (SaysReplay source) }
     ensures status { IfOk result (λ s. s.status ≤ 2) }
     ensures read { (front : List ℕ) × Consumes (S.left input.old) (S.left input.new) front }

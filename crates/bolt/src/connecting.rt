@@ -3,7 +3,7 @@ ghost use Rattle.std.specs.Prelude.{◌≡◌, ◌⊎◌, ◌↔◌, true, None,
 ghost use Rattle.std.specs.Io.KnownBytes.{Appends};
 ghost use Rattle.std.specs.IoError.{error_kind};
 ghost use Rattle.scripts.specs.Rows.{request_line_of};
-ghost use Rattle.scripts.specs.Script.{filled, unreadable};
+ghost use Rattle.scripts.specs.Script.{filled_lines, unreadable};
 ghost use Rattle.bolt.specs.Served.{IsServing, HasServedAll, listening_line};
 
 use engine::{FixedTable, OneUser};
@@ -142,7 +142,7 @@ pub(crate) fn loop_lines<O: Sink, E: Sink>(
     err: &mut E,
 ) -> u8
     // 0 is only for lines that can all be read.
-    ensures readable { result ≡ 0 → unreadable request_line_of (filled script.now) ≡ None }
+    ensures readable { result ≡ 0 → unreadable request_line_of (filled_lines script.now) ≡ None }
 {
     let alloc = rt.alloc();
     let (near, far) = match connected(rt) {
@@ -166,7 +166,8 @@ pub(crate) fn loop_lines<O: Sink, E: Sink>(
 
 /// The fault of a file that isn't read, and of a connection that isn't had: want of memory, or I1.
 pub(crate) fn unread(error: &io::Error) -> StreamFault
-    ensures memory { (result ≡ StreamFault.Memory) ↔ (error_kind error.now ≡ ErrorKind.OutOfMemory) }
+    ensures memory { (result ≡ StreamFault.Memory)
+        ↔ (error_kind error.now ≡ ErrorKind.OutOfMemory) }
     ensures read { (result ≡ StreamFault.Memory) ⊎ (result ≡ StreamFault.ReadFailed) }
 {
     if error.kind() == ErrorKind::OutOfMemory {

@@ -35,7 +35,8 @@ pub(crate) fn words_of<R: Env + AllocGlobal>(rt: &R) -> Result<Vec<String>, Unre
 /// Says why there are no words, and answers the exit status. The texts are fixed, so that it takes no memory.
 pub(crate) fn refuse<E: Sink>(unread: Unread, err: &mut E) -> u8
     ensures status { result ≡ unread_status unread }
-    ensures text { E.has_failed err.new ≡ false → Appends (E.taken err.old) (E.taken err.new) (unread_text unread) }
+    ensures text { E.has_failed err.new ≡ false
+        → Appends (E.taken err.old) (E.taken err.new) (unread_text unread) }
 {
     let (text, status) = match unread {
         Unread::Memory => (b"fault I3\n".as_slice(), 3),

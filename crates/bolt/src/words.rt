@@ -1,7 +1,7 @@
 //! What the words of a command line ask for.
 ghost use Rattle.std.specs.Prelude.{◌≡◌, map, string_bytes};
 ghost use Rattle.std.specs.List.{list_any};
-ghost use Rattle.bolt.specs.Asked.{ask_of, asked, asked_answer, asked_by, asked_check, asked_loop, asked_plain, asked_replay, asked_serve, asked_shell, asked_vectors, check_at, count_at, has_flag, is_flag, port_at, serve_at, serve_by, shell_at, version_at};
+ghost use Rattle.bolt.specs.Asked.{ask_of, ask_of_command, asked_answer, asked_by, asked_check, asked_loop, ask_of_words, asked_replay, asked_serve, asked_shell, asked_vectors, check_at, count_at, has_flag, is_flag, port_at, serve_at, serve_by, shell_at, version_at};
 
 use scripts::number_of;
 use wire::Version;
@@ -29,7 +29,7 @@ pub(crate) enum CommandLine<'a> {
 
 /// What the words, of which the first is the program's name, ask for. No command has a flag.
 pub(crate) fn asked<'a>(words: &'a [String]) -> CommandLine<'a>
-    ensures { ask_of result ≡ asked (map string_bytes words.entry.now) }
+    ensures { ask_of result ≡ ask_of_command (map string_bytes words.entry.now) }
 {
     if has_flags(words) {
         return CommandLine::Nothing;
@@ -39,7 +39,7 @@ pub(crate) fn asked<'a>(words: &'a [String]) -> CommandLine<'a>
 
 /// The same, whether or not one of them is a flag.
 fn plain<'a>(words: &'a [String]) -> CommandLine<'a>
-    ensures { ask_of result ≡ asked_plain (map string_bytes words.entry.now) }
+    ensures { ask_of result ≡ ask_of_words (map string_bytes words.entry.now) }
 {
     let Some((_, after)) = words.split_first() else {
         return CommandLine::Nothing;

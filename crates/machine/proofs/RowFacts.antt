@@ -1,7 +1,7 @@
 -- Facts of the rows, by computation over all of them.
 use Rattle.std.proofs.Common.{◌≡◌, refl, sym, ap, Bool, true, is_some, is_none, Option, Some, None, List}
 use Rattle.std.specs.List.{list_any}
-use Rattle.messages.specs.View.{Ask}
+use Rattle.messages.specs.View.{RequestView}
 use Rattle.wire.specs.declared.Version.{Version}
 use Rattle.machine.specs.declared.states.State.{State}
 use Rattle.machine.specs.declared.states.Phase.{Phase}
@@ -9,7 +9,7 @@ use Rattle.machine.specs.declared.kinds.Kind.{Kind}
 use Rattle.machine.specs.declared.rows.Verdict.{Verdict}
 use Rattle.machine.specs.Rows.{row_of}
 use Rattle.machine.specs.Asks.{kind_of, in_part}
-use Rattle.machine.specs.Following.{next, table, has, joined, follow}
+use Rattle.machine.specs.Following.{next, table, has, set_after, follow}
 use Rattle.machine.proofs.Sets.{set_of-agree}
 use Rattle.machine.proofs.Gathered.{list_any-agree}
 use Rattle.machine.proofs.Tables.{at_rows, at_places, implies, implies_at, same_bool, same_bool-true}
@@ -29,7 +29,7 @@ pub table_is_next : (v : Version) (p : Phase) (k : Kind) (part : Bool) (x : Phas
 table_is_next v p k part x = same_bool-true _ _ (at_places (λ v p k b x. same_bool (has x (next v p k b)) (has x (table v p k b))) refl v p k part x)
 
 -- so what the table says of a set is what the rows say
-pub joined-follow : (v : Version) (ps : List Phase) (a : Ask) → joined v ps a ≡ follow v ps a
+pub joined-follow : (v : Version) (ps : List Phase) (a : RequestView) → set_after v ps a ≡ follow v ps a
 joined-follow v ps a =
     set_of-agree (λ x. list_any (λ p. has x (table v p (kind_of a) (in_part a))) ps) (λ x. list_any (λ p. has x (next v p (kind_of a) (in_part a))) ps)
     (λ x. list_any-agree (λ p. has x (table v p (kind_of a) (in_part a))) (λ p. has x (next v p (kind_of a) (in_part a))) (λ p. sym (table_is_next v p (kind_of a) (in_part a) x)) ps)

@@ -3,22 +3,22 @@ use Rattle.std.specs.Prelude.{Bool, true, false, not, ◌&&◌, ◌||◌, ◌==�
 use Rattle.wire.specs.declared.Version.{Version}
 use Rattle.wire.specs.Versions.{major_of, minor_of, has_logon}
 use Rattle.messages.specs.declared.request.Count.{Count}
-use Rattle.messages.specs.View.{Ask}
+use Rattle.messages.specs.View.{RequestView}
 use Rattle.machine.specs.declared.kinds.Kind.{Kind}
 
 -- the kind of a request
-abbrev pub kind_of : Ask → Kind
-kind_of (Ask.Hello agent auth) = Kind.Hello
-kind_of (Ask.Logon auth) = Kind.Logon
-kind_of Ask.Logoff = Kind.Logoff
-kind_of Ask.Goodbye = Kind.Goodbye
-kind_of Ask.Reset = Kind.Reset
-kind_of (Ask.Run text params mode) = Kind.Run
-kind_of (Ask.Begin mode) = Kind.Begin
-kind_of Ask.Commit = Kind.Commit
-kind_of Ask.Rollback = Kind.Rollback
-kind_of (Ask.Discard count) = Kind.Discard
-kind_of (Ask.Pull count) = Kind.Pull
+abbrev pub kind_of : RequestView → Kind
+kind_of (RequestView.Hello agent auth) = Kind.Hello
+kind_of (RequestView.Logon auth) = Kind.Logon
+kind_of RequestView.Logoff = Kind.Logoff
+kind_of RequestView.Goodbye = Kind.Goodbye
+kind_of RequestView.Reset = Kind.Reset
+kind_of (RequestView.Run text params mode) = Kind.Run
+kind_of (RequestView.Begin mode) = Kind.Begin
+kind_of RequestView.Commit = Kind.Commit
+kind_of RequestView.Rollback = Kind.Rollback
+kind_of (RequestView.Discard count) = Kind.Discard
+kind_of (RequestView.Pull count) = Kind.Pull
 
 -- a count that may leave rows
 abbrev pub is_part : Count → Bool
@@ -26,18 +26,18 @@ is_part Count.All = false
 is_part (Count.Of rows) = true
 
 -- a PULL or DISCARD of so many rows, and not of all
-abbrev pub in_part : Ask → Bool
-in_part (Ask.Hello agent auth) = false
-in_part (Ask.Logon auth) = false
-in_part Ask.Logoff = false
-in_part Ask.Goodbye = false
-in_part Ask.Reset = false
-in_part (Ask.Run text params mode) = false
-in_part (Ask.Begin mode) = false
-in_part Ask.Commit = false
-in_part Ask.Rollback = false
-in_part (Ask.Discard count) = is_part count
-in_part (Ask.Pull count) = is_part count
+abbrev pub in_part : RequestView → Bool
+in_part (RequestView.Hello agent auth) = false
+in_part (RequestView.Logon auth) = false
+in_part RequestView.Logoff = false
+in_part RequestView.Goodbye = false
+in_part RequestView.Reset = false
+in_part (RequestView.Run text params mode) = false
+in_part (RequestView.Begin mode) = false
+in_part RequestView.Commit = false
+in_part RequestView.Rollback = false
+in_part (RequestView.Discard count) = is_part count
+in_part (RequestView.Pull count) = is_part count
 
 -- the kinds that a version has with LOGON alone
 abbrev pub is_with_logon : Kind → Bool
@@ -72,5 +72,6 @@ same_kind _ _ = false
 abbrev pub is_reset : Kind → Bool
 is_reset k = same_kind k Kind.Reset
 
+-- whether requests of this kind are GOODBYE
 abbrev pub is_goodbye : Kind → Bool
 is_goodbye k = same_kind k Kind.Goodbye

@@ -1,4 +1,4 @@
--- A set of phases as it is kept, a flag for each. Proofs alone need it.
+-- A set of phases as it is kept, a flag for each. Private functions and proofs alone need it.
 use Rattle.std.specs.Prelude.{◌≡◌, refl, Bool, true, ◌&&◌, List}
 use Rattle.std.proofs.Common.{sym, ap, ◌∙◌, true≢false}
 use Rattle.std.proofs.Math.Bool.{and-true}
@@ -8,6 +8,7 @@ use Rattle.machine.specs.declared.phase_set.PhaseSet.TheInside.{Inside}
 use Rattle.machine.specs.States.{same_phase}
 use Rattle.machine.specs.Following.{has, set_of, every_phase}
 
+-- the flag of a phase
 abbrev pub holds : Inside → Phase → Bool
 holds a Phase.Fresh = a.fresh
 holds a Phase.Unauth = a.unauth
@@ -18,9 +19,11 @@ holds a Phase.TxStreaming = a.tx_streaming
 holds a Phase.Halted = a.halted
 holds a Phase.Defunct = a.defunct
 
+-- the phases whose flags are set, in the order of `every_phase`
 abbrev pub members : Inside → List Phase
 members a = set_of (holds a)
 
+-- the flags of a list of phases: those are set that the list has
 abbrev pub fields : List Phase → Inside
 fields ps =
     record {

@@ -31,7 +31,15 @@ pub record Line : Type 0 where
 
 -- a line by its parts
 abbrev pub line : (Version → Bool) → List State → List Kind → Next → Next → Next → Line
-line vs ss ks success more failure = record { versions = vs; states = ss; kinds = ks; success = success; more = more; failure = failure }
+line vs ss ks success more failure =
+    record {
+      versions = vs;
+      states = ss;
+      kinds = ks;
+      success = success;
+      more = more;
+      failure = failure;
+    }
 
 -- the rows by versions, states, requests, and the states after Success, More and Failure
 abbrev pub lines : List Line
@@ -41,17 +49,21 @@ lines =
     ∷ line every_version (Ready ∷ []) (Run ∷ []) (To Streaming) Nowhere (To Failed)
     ∷ line every_version (Ready ∷ []) (Begin ∷ []) (To TxReady) Nowhere (To Failed)
     ∷ line has_logon (Ready ∷ []) (Logoff ∷ []) (To Unauth) Nowhere (To Failed)
-    ∷ line every_version (Streaming ∷ []) (Pull ∷ Discard ∷ []) (Commits Ready) (To Streaming) (To Failed)
+    ∷ line every_version (Streaming ∷ []) (Pull ∷ Discard ∷ []) (Commits Ready) (To Streaming)
+    (To Failed)
     ∷ line every_version (TxReady ∷ []) (Run ∷ []) (To TxStreaming) Nowhere (To Failed)
     ∷ line every_version (TxReady ∷ []) (Commit ∷ []) (Commits Ready) Nowhere (To Failed)
     ∷ line every_version (TxReady ∷ []) (Rollback ∷ []) (To Ready) Nowhere (To Failed)
-    ∷ line every_version (TxStreaming ∷ []) (Pull ∷ Discard ∷ []) (To TxReady) (To TxStreaming) (To Failed)
-    ∷ line every_version (Ready ∷ Streaming ∷ TxReady ∷ TxStreaming ∷ Failed ∷ Interrupted ∷ []) (Reset ∷ []) (To Ready) Nowhere Nowhere
+    ∷ line every_version (TxStreaming ∷ []) (Pull ∷ Discard ∷ []) (To TxReady) (To TxStreaming)
+    (To Failed)
+    ∷ line every_version (Ready ∷ Streaming ∷ TxReady ∷ TxStreaming ∷ Failed ∷ Interrupted ∷ [])
+    (Reset ∷ []) (To Ready) Nowhere Nowhere
     ∷ []
 
 -- whether a line is for a request in a state
 abbrev pub covers : Line → Version → State → Kind → Bool
-covers x v s k = x.versions v && (list_any (same_state s) x.states && list_any (same_kind k) x.kinds)
+covers x v s k = x.versions v
+    && (list_any (same_state s) x.states && list_any (same_kind k) x.kinds)
 
 -- the line of a request in a state, where there is one
 abbrev pub line_of : Version → State → Kind → Option Line
@@ -71,15 +83,18 @@ pub record Other : Type 0 where
 
 -- one of the other rows by its parts
 abbrev pub other : List State → Requests → Verdict → State → Other
-other ss requests verdict next = record { states = ss; requests = requests; verdict = verdict; next = next }
+other ss requests verdict next =
+    record { states = ss; requests = requests; verdict = verdict; next = next }
 
 -- the other rows by states, requests, verdict, and the state that follows
 abbrev pub others : List Other
 others =
-    other (Fresh ∷ Unauth ∷ Ready ∷ Streaming ∷ TxReady ∷ TxStreaming ∷ Failed ∷ Interrupted ∷ []) (Only (Goodbye ∷ [])) Gone Defunct
+    other (Fresh ∷ Unauth ∷ Ready ∷ Streaming ∷ TxReady ∷ TxStreaming ∷ Failed ∷ Interrupted ∷ [])
+    (Only (Goodbye ∷ [])) Gone Defunct
     ∷ other (Failed ∷ []) (AllBut (Reset ∷ Goodbye ∷ [])) Ignored Failed
     ∷ other (Interrupted ∷ []) (AllBut (Reset ∷ Goodbye ∷ [])) Ignored Interrupted
-    ∷ other (Fresh ∷ Unauth ∷ Ready ∷ Streaming ∷ TxReady ∷ TxStreaming ∷ []) WithNoRowAbove Invalid Defunct
+    ∷ other (Fresh ∷ Unauth ∷ Ready ∷ Streaming ∷ TxReady ∷ TxStreaming ∷ []) WithNoRowAbove Invalid
+    Defunct
     ∷ []
 
 -- whether these are requests that one of the other rows is for
@@ -100,7 +115,8 @@ same_verdict _ _ = false
 
 -- whether one of the other rows is for a request in a state at a verdict
 abbrev pub stands : Other → Version → State → Kind → Verdict → Bool
-stands x v s k d = same_verdict d x.verdict && (list_any (same_state s) x.states && is_for x.requests v s k)
+stands x v s k d = same_verdict d x.verdict
+    && (list_any (same_state s) x.states && is_for x.requests v s k)
 
 -- the other row of a request in a state at a verdict, where there is one
 abbrev pub other_of : Version → State → Kind → Verdict → Option Other
@@ -127,7 +143,8 @@ or_else (Some s) o = Some s
 
 -- the rows, also for a kind that isn't of the version
 abbrev pub row_of : Version → State → Kind → Verdict → Option State
-row_of v s k d = or_else (option_and_then (λ x. goal v (column d x)) (line_of v s k)) (option_map (λ x. x.next) (other_of v s k d))
+row_of v s k d = or_else (option_and_then (λ x. goal v (column d x)) (line_of v s k))
+    (option_map (λ x. x.next) (other_of v s k d))
 
 -- all the places of the tables where a request has a next state at a verdict
 abbrev pub nexts_of : Version → State → Kind → Verdict → List State

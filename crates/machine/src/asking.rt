@@ -1,5 +1,5 @@
 ghost use Rattle.std.specs.Prelude.{◌≡◌};
-ghost use Rattle.messages.specs.View.{ask};
+ghost use Rattle.messages.specs.View.{request_view};
 ghost use Rattle.machine.specs.Asks.{kind_of, in_part, is_reset, is_goodbye};
 
 use crate::kinds::Kind;
@@ -7,7 +7,7 @@ use messages::{Count, Request};
 
 /// The kind of a request.
 pub fn kind(request: &Request) -> Kind
-    ensures { result ≡ kind_of (ask request.now) }
+    ensures { result ≡ kind_of (request_view request.now) }
 {
     match request {
         Request::Hello { .. } => Kind::Hello,
@@ -26,7 +26,7 @@ pub fn kind(request: &Request) -> Kind
 
 /// Whether a request asks for so many rows, and not for all. Takes no memory.
 pub fn is_partial(request: &Request) -> bool
-    ensures { result ≡ in_part (ask request.now) }
+    ensures { result ≡ in_part (request_view request.now) }
 {
     matches!(
         request,
@@ -36,14 +36,14 @@ pub fn is_partial(request: &Request) -> bool
 
 /// Whether a request is a RESET. Takes no memory.
 pub fn is_reset(request: &Request) -> bool
-    ensures { result ≡ is_reset (kind_of (ask request.now)) }
+    ensures { result ≡ is_reset (kind_of (request_view request.now)) }
 {
     matches!(request, Request::Reset)
 }
 
 /// Whether a request is a GOODBYE. Takes no memory.
 pub fn is_goodbye(request: &Request) -> bool
-    ensures { result ≡ is_goodbye (kind_of (ask request.now)) }
+    ensures { result ≡ is_goodbye (kind_of (request_view request.now)) }
 {
     matches!(request, Request::Goodbye)
 }

@@ -1,7 +1,7 @@
 ghost use Rattle.std.specs.Prelude.{◌≡◌, List, [], ◌∷◌, Option, Some, None};
-ghost use Rattle.messages.specs.View.{ask};
+ghost use Rattle.messages.specs.View.{request_view};
 ghost use Rattle.machine.specs.Asks.{kind_of, in_part};
-ghost use Rattle.machine.specs.Following.{after_greeting, after_halted, after_row, after_serving, allowed_in, allows, as_set, joined, phases_of, possible, table};
+ghost use Rattle.machine.specs.Following.{after_greeting, after_halted, after_row, after_serving, allowed_in, allows, as_set, set_after, phases_of, possible, table};
 
 use crate::asking::{is_partial, kind};
 use crate::kinds::Kind;
@@ -55,8 +55,8 @@ pub fn allowed(version: Version, set: PhaseSet, kind: Kind) -> bool
 
 /// The phases that may follow a request, of a server in one of these phases.
 pub fn after(version: Version, set: PhaseSet, request: &Request) -> PhaseSet
-    ensures table { result ≡ joined version set (ask request.now) }
-    ensures rows { result ≡ possible version set (ask request.now ∷ []) }
+    ensures table { result ≡ set_after version set (request_view request.now) }
+    ensures rows { result ≡ possible version set (request_view request.now ∷ []) }
 {
     let mut following = PhaseSet::empty();
     for phase in PHASES {
@@ -69,7 +69,9 @@ pub fn after(version: Version, set: PhaseSet, request: &Request) -> PhaseSet
 
 /// The table of what may follow, by the phase.
 fn after_one(version: Version, phase: Phase, request: &Request) -> PhaseSet
-    ensures { result ≡ as_set (table version phase (kind_of (ask request.now)) (in_part (ask request.now))) }
+    ensures { result ≡ as_set
+        (table version phase (kind_of (request_view request.now))
+        (in_part (request_view request.now))) }
 {
     match phase {
         Phase::Defunct => PhaseSet::of(Phase::Defunct),
@@ -108,7 +110,9 @@ fn by_greeting(success: Option<State>, failure: Option<State>) -> PhaseSet
 
 /// What may follow where requests are served.
 fn while_serving(version: Version, state: State, request: &Request) -> PhaseSet
-    ensures { result ≡ as_set (after_serving version state (kind_of (ask request.now)) (in_part (ask request.now))) }
+    ensures { result ≡ as_set
+        (after_serving version state (kind_of (request_view request.now))
+        (in_part (request_view request.now))) }
 {
     let kind = kind(request);
     match kind {

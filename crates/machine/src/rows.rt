@@ -50,9 +50,11 @@ pub fn row(version: Version, state: State, kind: Kind, verdict: Verdict) -> Opti
 
 /// The rule for a request, with its states after SUCCESS, after SUCCESS with rows left, and after FAILURE.
 fn rule_for(version: Version, state: State, kind: Kind) -> Option<Rule>
-    ensures success { option_map (λ r. r.success) result ≡ row_of version state kind Verdict.Success }
+    ensures success { option_map (λ r. r.success) result
+        ≡ row_of version state kind Verdict.Success }
     ensures more { option_and_then (λ r. r.more) result ≡ row_of version state kind Verdict.More }
-    ensures failure { option_and_then (λ r. r.failure) result ≡ row_of version state kind Verdict.Failure }
+    ensures failure { option_and_then (λ r. r.failure) result
+        ≡ row_of version state kind Verdict.Failure }
 {
     use State::*;
     let (success, more, failure) = match (state, kind, version.has_logon()) {

@@ -1,4 +1,4 @@
--- A text reads back as the message that it was written of.
+-- A spelling reads back as the message that it was written of.
 use Rattle.std.proofs.Common.{◌≡◌, ℕ, ℤ, pos, int_le, ◌≤◌, List, [], ◌∷◌, ◌++◌, length, Bool, true, false, Some, None, Result, Ok, Err, codes, refl, ap, sym, subst, ◌∙◌, arith}
 use Rattle.packstream.specs.declared.fault.Reason.{Reason}
 use Rattle.packstream.specs.Tree.{Tree, null, boolean, int, float, byte_string, text, dict, list, structure, Trees, no_trees, tree_then, Entries, no_entries, entry_then}
@@ -16,18 +16,18 @@ use Rattle.structures.specs.declared.cell.Cell.{Cell}
 use Rattle.structures.specs.Shape.{shape}
 use Rattle.structures.specs.Faults.{scan, fault as structure_fault, structures, structures_in, structures_under}
 use Rattle.structures.specs.Form.{form, typed, typed_all, typed_under}
-use Rattle.structures.specs.Writing.{unwritten, IsWritable}
+use Rattle.structures.specs.Writing.{fault_of_structure, IsWritable}
 use Rattle.structures.proofs.Fine.{fine_scan}
 use Rattle.structures.proofs.Formed.{form_is}
 use Rattle.wire.specs.declared.Version.TheVariants.{V44, V51}
 use Rattle.messages.specs.declared.request.Mode.TheVariants.{Read, Write}
 use Rattle.messages.specs.declared.request.Count.TheVariants.{All, Of}
 use Rattle.messages.specs.declared.fault.MsgFault.{MsgFault}
-use Rattle.messages.specs.View.{Ask, Hello, Logon, Logoff, Goodbye, Reset, Run, Begin, Commit, Rollback, Discard, Pull, Say, Success, Record, Ignored, Failure}
-use Rattle.messages.specs.Reading.{◌>>=◌, cell_told, cell_by, asks, says}
+use Rattle.messages.specs.View.{RequestView, Hello, Logon, Logoff, Goodbye, Reset, Run, Begin, Commit, Rollback, Discard, Pull, ResponseView, Success, Record, Ignored, Failure}
+use Rattle.messages.specs.Reading.{◌>>=◌, cell_of_field, cell_by, request_contents, response_contents}
 use Rattle.messages.specs.Messages.{Req, Resp}
 use Rattle.messages.specs.Cells.{cell_put}
-use Rattle.messages.specs.Writing.{form_put, packed_by, sized, text_put_of, request_text, response_text}
+use Rattle.messages.specs.Writing.{form_put, packed_by, spelling_within, spelling_of_tree, request_spelling, response_spelling}
 use Rattle.messages.specs.Sound.{IsCell, IsRequest, IsResponse, RequestsReadBack, ResponsesReadBack}
 use Rattle.messages.proofs.Forms.{form_again}
 use Rattle.messages.proofs.Rounds.{IsBack, AreBack, AreAnsweredBack, put_is, told_back, answered_back_told}
@@ -40,12 +40,12 @@ written_form v s u c h = put_is v s u h ∙ form_again v s c.0 c.2
 
 cell_again : (v : Version) (s : Tree) → IsCell v s → IsBack v s
 cell_again v s c u h =
-    ap (cell_told v) (written_form v s u c h) ∙ ap (λ r. cell_by r c.0) c.2.0.1 ∙ ap Ok (sym c.2.1)
+    ap (cell_of_field v) (written_form v s u c h) ∙ ap (λ r. cell_by r c.0) c.2.0.1 ∙ ap Ok (sym c.2.1)
 
 cell_plain : (v : Version) (s u : Tree) → IsCell v s → cell_put v s ≡ Ok u → IsPlain u
 cell_plain v s u c h = subst IsPlain (sym (written_form v s u c h)) c.1
 
-pub asked_again : (v : Version) (m : Ask) → IsRequest v m → AreBack v m
+pub asked_again : (v : Version) (m : RequestView) → IsRequest v m → AreBack v m
 asked_again v (Run s ps m) h = cell_again v (dict (entries_of ps)) h.1
 asked_again v (Hello a o) h = tt
 asked_again v (Logon l) h = tt
@@ -58,7 +58,7 @@ asked_again v Rollback h = tt
 asked_again v (Discard c) h = tt
 asked_again v (Pull c) h = tt
 
-pub said_again : (v : Version) (m : Say) → IsResponse v m → AreAnsweredBack v m
+pub said_again : (v : Version) (m : ResponseView) → IsResponse v m → AreAnsweredBack v m
 said_again v (Success ms) h = cell_again v (dict (entries_of ms)) h
 said_again v (Record cs) h = cell_again v (list (trees_of cs)) h
 said_again v Ignored h = tt
@@ -68,26 +68,26 @@ said_again v (Failure c m) h = tt
 plain_from : (x t : Tree) → ◌≡◌ {A = Result Tree MsgFault} (Ok x) (Ok t) → IsPlain x → IsPlain t
 plain_from x t e p = let same : x ≡ t = cc in subst IsPlain same p
 
-pull_plain : (v : Version) (z : ℤ) (b : Bool) (t : Tree) → int_le (pos 1) z ≡ b → IsRequest v (Pull (Of z)) → form_put v (asks (Pull (Of z))) ≡ Ok t → IsPlain t
+pull_plain : (v : Version) (z : ℤ) (b : Bool) (t : Tree) → int_le (pos 1) z ≡ b → IsRequest v (Pull (Of z)) → form_put v (request_contents (Pull (Of z))) ≡ Ok t → IsPlain t
 unfolding lib.Utf8.encode
 pull_plain v z true t e p h = plain_from _ t (rw e at h) (omega arith, (((codes "n", (refl, refl)), p, tt), tt))
 pull_plain v z false t e p h = let k = rw e at h in absurd cc
 
-discard_plain : (v : Version) (z : ℤ) (b : Bool) (t : Tree) → int_le (pos 1) z ≡ b → IsRequest v (Discard (Of z)) → form_put v (asks (Discard (Of z))) ≡ Ok t → IsPlain t
+discard_plain : (v : Version) (z : ℤ) (b : Bool) (t : Tree) → int_le (pos 1) z ≡ b → IsRequest v (Discard (Of z)) → form_put v (request_contents (Discard (Of z))) ≡ Ok t → IsPlain t
 unfolding lib.Utf8.encode
 discard_plain v z true t e p h = plain_from _ t (rw e at h) (omega arith, (((codes "n", (refl, refl)), p, tt), tt))
 discard_plain v z false t e p h = let k = rw e at h in absurd cc
 
-read_plain : (v : Version) (s : List ℕ) (ps : List (List ℕ × Tree)) (r : Result Tree MsgFault) (t : Tree) → cell_put v (dict (entries_of ps)) ≡ r → IsRequest v (Run s ps Read) → form_put v (asks (Run s ps Read)) ≡ Ok t → IsPlain t
+read_plain : (v : Version) (s : List ℕ) (ps : List (List ℕ × Tree)) (r : Result Tree MsgFault) (t : Tree) → cell_put v (dict (entries_of ps)) ≡ r → IsRequest v (Run s ps Read) → form_put v (request_contents (Run s ps Read)) ≡ Ok t → IsPlain t
 unfolding lib.Utf8.encode
 read_plain v s ps (Ok u) t e p h = plain_from _ t (rw e at h) (omega arith, (p.0, (cell_plain v _ u p.1 e, (((codes "mode", (refl, refl)), (codes "r", (refl, refl)), tt), tt))))
 read_plain v s ps (Err x) t e p h = let k = rw e at h in absurd cc
 
-write_plain : (v : Version) (s : List ℕ) (ps : List (List ℕ × Tree)) (r : Result Tree MsgFault) (t : Tree) → cell_put v (dict (entries_of ps)) ≡ r → IsRequest v (Run s ps Write) → form_put v (asks (Run s ps Write)) ≡ Ok t → IsPlain t
+write_plain : (v : Version) (s : List ℕ) (ps : List (List ℕ × Tree)) (r : Result Tree MsgFault) (t : Tree) → cell_put v (dict (entries_of ps)) ≡ r → IsRequest v (Run s ps Write) → form_put v (request_contents (Run s ps Write)) ≡ Ok t → IsPlain t
 write_plain v s ps (Ok u) t e p h = plain_from _ t (rw e at h) (omega arith, (p.0, (cell_plain v _ u p.1 e, (tt, tt))))
 write_plain v s ps (Err x) t e p h = let k = rw e at h in absurd cc
 
-asked_plain : (v : Version) (m : Ask) (t : Tree) → IsRequest v m → form_put v (asks m) ≡ Ok t → IsPlain t
+asked_plain : (v : Version) (m : RequestView) (t : Tree) → IsRequest v m → form_put v (request_contents m) ≡ Ok t → IsPlain t
 unfolding lib.Utf8.encode
 asked_plain V44 (Hello a None) t p h = absurd cc
 asked_plain V51 (Hello a None) t p h = plain_from _ t h (omega arith, (((codes "user_agent", (refl, refl)), p.0, tt), tt))
@@ -110,27 +110,27 @@ asked_plain v (Discard (Of z)) t p h = discard_plain v z (int_le (pos 1) z) t re
 asked_plain v (Pull All) t p h = plain_from _ t h (omega arith, (((codes "n", (refl, refl)), fits_neg 0 (omega arith), tt), tt))
 asked_plain v (Pull (Of z)) t p h = pull_plain v z (int_le (pos 1) z) t refl p h
 
-success_plain : (v : Version) (ms : List (List ℕ × Tree)) (r : Result Tree MsgFault) (t : Tree) → cell_put v (dict (entries_of ms)) ≡ r → IsResponse v (Success ms) → form_put v (says (Success ms)) ≡ Ok t → IsPlain t
+success_plain : (v : Version) (ms : List (List ℕ × Tree)) (r : Result Tree MsgFault) (t : Tree) → cell_put v (dict (entries_of ms)) ≡ r → IsResponse v (Success ms) → form_put v (response_contents (Success ms)) ≡ Ok t → IsPlain t
 success_plain v ms (Ok u) t e p h = plain_from _ t (rw e at h) (omega arith, (cell_plain v _ u p e, tt))
 success_plain v ms (Err x) t e p h = let k = rw e at h in absurd cc
 
-record_plain : (v : Version) (cs : List Tree) (r : Result Tree MsgFault) (t : Tree) → cell_put v (list (trees_of cs)) ≡ r → IsResponse v (Record cs) → form_put v (says (Record cs)) ≡ Ok t → IsPlain t
+record_plain : (v : Version) (cs : List Tree) (r : Result Tree MsgFault) (t : Tree) → cell_put v (list (trees_of cs)) ≡ r → IsResponse v (Record cs) → form_put v (response_contents (Record cs)) ≡ Ok t → IsPlain t
 record_plain v cs (Ok u) t e p h = plain_from _ t (rw e at h) (omega arith, (cell_plain v _ u p e, tt))
 record_plain v cs (Err x) t e p h = let k = rw e at h in absurd cc
 
-said_plain : (v : Version) (m : Say) (t : Tree) → IsResponse v m → form_put v (says m) ≡ Ok t → IsPlain t
+said_plain : (v : Version) (m : ResponseView) (t : Tree) → IsResponse v m → form_put v (response_contents m) ≡ Ok t → IsPlain t
 unfolding lib.Utf8.encode
 said_plain v (Success ms) t p h = success_plain v ms (cell_put v (dict (entries_of ms))) t refl p h
 said_plain v (Record cs) t p h = record_plain v cs (cell_put v (list (trees_of cs))) t refl p h
 said_plain v Ignored t p h = plain_from _ t h (omega arith, tt)
 said_plain v (Failure c m) t p h = plain_from _ t h (omega arith, (((codes "code", (refl, refl)), p.0, ((codes "message", (refl, refl)), p.1, tt)), tt))
 
--- What has a text was made of a good value, whose shortest spelling it is.
+-- What has a spelling was made of a good value, whose shortest spelling it is.
 pub record Spelled (t : Tree) (b : List ℕ) : Type 0 where
   pub good : IsGood t
   pub spells : Spells t b
 
-spelled_by : (t : Tree) (b : List ℕ) (r : Result ℕ (Reason × ℕ)) → first_fault (faults_in 0 false t) 0 ≡ r → (packed_by r t >>= sized) ≡ Ok b → IsPlain t → b ≡ canon t → Spelled t b
+spelled_by : (t : Tree) (b : List ℕ) (r : Result ℕ (Reason × ℕ)) → first_fault (faults_in 0 false t) 0 ≡ r → (packed_by r t >>= spelling_within) ≡ Ok b → IsPlain t → b ≡ canon t → Spelled t b
 spelled_by t b (Ok n) w h p is =
     let good : IsGood t = good_when t n (sym w) p in
     let short : length b ≤ 65536 = short_packed t (Ok n) b h in
@@ -138,28 +138,28 @@ spelled_by t b (Ok n) w h p is =
     record { good = good; spells = subst (Spells t) (sym is) (canon_spells t good fits) }
 spelled_by t b (Err e) w h p is = absurd cc
 
-spelled : (t : Tree) (b : List ℕ) → text_put_of t ≡ Ok b → IsPlain t → Spelled t b
+spelled : (t : Tree) (b : List ℕ) → spelling_of_tree t ≡ Ok b → IsPlain t → Spelled t b
 spelled t b h p = spelled_by t b (first_fault (faults_in 0 false t) 0) refl h p (canon_is t b h)
 
-request_means : (v : Version) (m : Ask) (b : List ℕ) (r : Result Tree MsgFault) → IsRequest v m → form_put v (asks m) ≡ r → (r >>= text_put_of) ≡ Ok b → Req v m b
+request_means : (v : Version) (m : RequestView) (b : List ℕ) (r : Result Tree MsgFault) → IsRequest v m → form_put v (request_contents m) ≡ r → (r >>= spelling_of_tree) ≡ Ok b → Req v m b
 request_means v m b (Ok t) q w h = let s = spelled t b h (asked_plain v m t q w) in (t, s.good, s.spells, told_back v m t (asked_again v m q) w)
 request_means v m b (Err e) q w h = absurd cc
 
-response_means : (v : Version) (m : Say) (b : List ℕ) (r : Result Tree MsgFault) → IsResponse v m → form_put v (says m) ≡ r → (r >>= text_put_of) ≡ Ok b → Resp v m b
+response_means : (v : Version) (m : ResponseView) (b : List ℕ) (r : Result Tree MsgFault) → IsResponse v m → form_put v (response_contents m) ≡ r → (r >>= spelling_of_tree) ≡ Ok b → Resp v m b
 response_means v m b (Ok t) q w h = let s = spelled t b h (said_plain v m t q w) in (t, s.good, s.spells, answered_back_told v m t (said_again v m q) w)
 response_means v m b (Err e) q w h = absurd cc
 
 pub request_reads_back : RequestsReadBack
-unfolding request_text
-request_reads_back v m b q h = let r = request_means v m b (form_put v (asks m)) q refl h in (r, request_is v m b r)
+unfolding request_spelling
+request_reads_back v m b q h = let r = request_means v m b (form_put v (request_contents m)) q refl h in (r, request_is v m b r)
 
 pub response_reads_back : ResponsesReadBack
-unfolding response_text
-response_reads_back v m b q h = let r = response_means v m b (form_put v (says m)) q refl h in (r, response_is v m b r)
+unfolding response_spelling
+response_reads_back v m b q h = let r = response_means v m b (form_put v (response_contents m)) q refl h in (r, response_is v m b r)
 
 -- What is a cell of the version: a cell that can be written in numbers within their ranges, and a value without structures.
 pub cell_is : (v : Version) (c : Cell) → IsWritable v (shape c) → IsPlain (form v (shape c)) → IsCell v (shape c)
-cell_is v c w p = (form v (shape c), p, form_is v c (fine_scan (unwritten v) 0 w.0 (structures (shape c)) w.1))
+cell_is v c w p = (form v (shape c), p, form_is v c (fine_scan (fault_of_structure v) 0 w.0 (structures (shape c)) w.1))
 
 no_left : (xs ys : List (ℕ × Trees)) → xs ++ ys ≡ [] → xs ≡ []
 no_left [] ys e = refl

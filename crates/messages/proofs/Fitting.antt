@@ -19,9 +19,9 @@ use Rattle.wire.specs.declared.Version.{Version}
 use Rattle.messages.specs.declared.request.Mode.{Mode}
 use Rattle.messages.specs.declared.request.Mode.TheVariants.{Read, Write}
 use Rattle.messages.specs.Table.{responses}
-use Rattle.messages.specs.Reading.{◌>>=◌, message_told, says}
-use Rattle.messages.specs.Writing.{form_put, text_put_of, packed_by, sized, response_text}
-use Rattle.messages.specs.Summaries.{Summary, Greeting, RowsLeft, Closing, Committed, Plain, Refused, Passed, bookmark, bookmark_of, greeting, ending, said_of, IsShort, HasTexts, room, FitsRoom, ReadsBack}
+use Rattle.messages.specs.Reading.{◌>>=◌, contents_of_message, response_contents}
+use Rattle.messages.specs.Writing.{form_put, spelling_of_tree, packed_by, spelling_within, response_spelling}
+use Rattle.messages.specs.Summaries.{Summary, Greeting, RowsLeft, Closing, Committed, Plain, Refused, Passed, bookmark, bookmark_of, greeting, ending, response_of_summary, IsShort, HasTexts, room, FitsRoom, ReadsBack}
 use Rattle.messages.proofs.Texts.{sized_fits}
 
 -- The structure that each is written as.
@@ -40,7 +40,7 @@ form_of Plain = success no_entries
 form_of (Refused code message) = failure code message
 form_of Passed = structure 0x7E no_trees
 
-formed : (v : Version) (s : Summary) → form_put v (says (said_of s)) ≡ Ok (form_of s)
+formed : (v : Version) (s : Summary) → form_put v (response_contents (response_of_summary s)) ≡ Ok (form_of s)
 unfolding first_fault
 formed v (Greeting n) = refl
 formed v RowsLeft = refl
@@ -66,7 +66,7 @@ faultless Plain = (2, refl)
 faultless (Refused code message) = (4, refl)
 faultless Passed = (1, refl)
 
-told : (v : Version) (s : Summary) → message_told v responses (form_of s) ≡ Ok (says (said_of s))
+told : (v : Version) (s : Summary) → contents_of_message v responses (form_of s) ≡ Ok (response_contents (response_of_summary s))
 told v (Greeting n) = refl
 told v RowsLeft = refl
 told v (Closing None Read) = refl
@@ -160,13 +160,13 @@ room_le (Committed n) h = omega arith
 room_le Plain h = omega arith
 room_le Passed h = omega arith
 
-packed : (t : Tree) (n : ℕ) (r : Result ℕ (PackReason × ℕ)) → first_fault (faults_in 0 false t) 0 ≡ r → Ok n ≡ r → text_put_of t ≡ sized t
-packed t n r w e = ap (λ x. packed_by x t >>= sized) (w ∙ sym e)
+packed : (t : Tree) (n : ℕ) (r : Result ℕ (PackReason × ℕ)) → first_fault (faults_in 0 false t) 0 ≡ r → Ok n ≡ r → spelling_of_tree t ≡ spelling_within t
+packed t n r w e = ap (λ x. packed_by x t >>= spelling_within) (w ∙ sym e)
 
-text_is : (v : Version) (s : Summary) → IsShort s → response_text v (said_of s) ≡ Ok (canon (form_of s))
-unfolding response_text
+text_is : (v : Version) (s : Summary) → IsShort s → response_spelling v (response_of_summary s) ≡ Ok (canon (form_of s))
+unfolding response_spelling
 text_is v s h =
-    ap (λ r. r >>= text_put_of) (formed v s)
+    ap (λ r. r >>= spelling_of_tree) (formed v s)
     ∙ packed (form_of s) (faultless s).0 _ refl (faultless s).1
     ∙ sized_fits (form_of s) (λ long. omega (arith, long, form_le s h, room_le s h))
 

@@ -10,13 +10,15 @@ use Rattle.structures.specs.declared.fault.CellFault.{CellFault}
 use Rattle.structures.specs.declared.fault.CellFault.TheVariants as cell_fault
 use Rattle.structures.specs.Faults.{fault as structure_fault, structures}
 use Rattle.structures.specs.Form.{Form, form}
-use Rattle.structures.specs.Answers.{Writes}
+use Rattle.structures.specs.Answers.{Reads, Writes}
 use Rattle.structures.proofs.Back.{again}
 use Rattle.structures.proofs.Fine.{fine_scan}
 use Rattle.messages.specs.declared.fault.MsgFault.{MsgFault}
 use Rattle.messages.specs.declared.fault.MsgFault.TheVariants as fault
 use Rattle.messages.specs.Faults.{of_cell}
-use Rattle.messages.specs.Reading.{Answers}
+use Rattle.structures.specs.declared.cell.Cell.{Cell}
+use Rattle.structures.specs.Shape.{shape}
+use Rattle.messages.specs.Reading.{Answers, cell_by, cell_of_field}
 use Rattle.messages.specs.Cells.{value_by, form_by, cell_put}
 
 -- a value that stands for a cell is the cell's form
@@ -26,6 +28,14 @@ form_again v s t f = ap (form v) f.1 ∙ again v t (fine_scan (structure_fault v
 good_value : (t : Tree) (r : Result ℕ (PackReason × ℕ)) → first_fault (faults_in 0 false t) 0 ≡ r → IsGood t → value_by r t ≡ Ok t
 good_value t (Ok n) w g = refl
 good_value t (Err e) w g = absurd (bad_when t e (sym w) g)
+
+pub read_value_is : (v : Version) (t : Tree) (c : Cell) → Reads v t (Ok c) → cell_of_field v t ≡ Ok (shape c)
+read_value_is v t c h = ap (λ x. cell_by x t) h.0.1 ∙ ap (λ s. Ok s) (sym h.1)
+
+pub read_fault_is : (v : Version) (t : Tree) (e : CellFault) → Reads v t (Err e) → (of_cell e ≡ fault.Memory → ⊥) → cell_of_field v t ≡ Err (of_cell e)
+read_fault_is v t (cell_fault.Refused r k) h n = ap (λ x. cell_by x t) h
+read_fault_is v t (cell_fault.Pack r o) h n = absurd h
+read_fault_is v t cell_fault.Memory h n = absurd (n refl)
 
 pub put_value : (v : Version) (s t : Tree) → Writes v s (Ok t) → cell_put v s ≡ Ok t
 put_value v s t h =

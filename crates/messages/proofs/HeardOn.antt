@@ -7,9 +7,9 @@ use Rattle.wire.specs.Reader.{state, outputs}
 use Rattle.wire.specs.Framing.{Item, Opening, Noop, Message, TooBig, Opened, at_client}
 use Rattle.wire.proofs.Readers.{outputs-append}
 use Rattle.messages.specs.declared.fault.MsgFault.{MsgFault}
-use Rattle.messages.specs.View.{Say}
+use Rattle.messages.specs.View.{ResponseView}
 use Rattle.messages.specs.Messages.{response_of}
-use Rattle.messages.specs.Arrivals.{Heard, Chosen, Quiet, Told, heard_version, then_told, heard_in, after_version, heard_of, hears, HearsGoOn, IsLastHeard, NothingMoreHeard}
+use Rattle.messages.specs.Arrivals.{Heard, Chosen, Quiet, Told, heard_version, then_response, heard_in, after_version, heard_of, hears, HearsGoOn, IsLastHeard, NothingMoreHeard}
 
 -- the items of a server's bytes, the oldest first
 abbrev said : List ℕ → List Item
@@ -30,7 +30,7 @@ told_more v (Opening bytes ∷ xs) ys = ([], refl)
 told_more v (Noop ∷ xs) ys = one_more Quiet (heard_in v xs) (heard_in v (xs ++ ys)) (told_more v xs ys)
 told_more v (Message b ∷ xs) ys = go (response_of v b) (told_more v xs ys)
   where
-    go : (r : Result Say MsgFault) → Begins (heard_in v xs) (heard_in v (xs ++ ys)) → Begins (then_told r (heard_in v xs)) (then_told r (heard_in v (xs ++ ys)))
+    go : (r : Result ResponseView MsgFault) → Begins (heard_in v xs) (heard_in v (xs ++ ys)) → Begins (then_response r (heard_in v xs)) (then_response r (heard_in v (xs ++ ys)))
     go (Ok m) h = one_more (Told m) (heard_in v xs) (heard_in v (xs ++ ys)) h
     go (Err e) h = ([], refl)
 told_more v (TooBig ∷ xs) ys = ([], refl)
@@ -76,7 +76,7 @@ told_ended v (Opening bytes ∷ xs) ys h = absurd h
 told_ended v (Noop ∷ xs) ys h = goes_on Quiet (heard_in v xs) (heard_in v (xs ++ ys)) (λ n. n) (told_ended v xs ys) h
 told_ended v (Message b ∷ xs) ys h = go (response_of v b) (told_ended v xs ys) h
   where
-    go : (r : Result Say MsgFault) → (Ended (heard_in v xs) → heard_in v (xs ++ ys) ≡ heard_in v xs) → Ended (then_told r (heard_in v xs)) → then_told r (heard_in v (xs ++ ys)) ≡ then_told r (heard_in v xs)
+    go : (r : Result ResponseView MsgFault) → (Ended (heard_in v xs) → heard_in v (xs ++ ys) ≡ heard_in v xs) → Ended (then_response r (heard_in v xs)) → then_response r (heard_in v (xs ++ ys)) ≡ then_response r (heard_in v xs)
     go (Ok m) k e = goes_on (Told m) (heard_in v xs) (heard_in v (xs ++ ys)) (λ n. n) k e
     go (Err x) k e = refl
 told_ended v (TooBig ∷ xs) ys h = refl

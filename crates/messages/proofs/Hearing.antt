@@ -6,25 +6,25 @@ use Rattle.std.proofs.lemmas.List.{reverse-append, reverse-reverse}
 use Rattle.wire.specs.declared.Version.{Version}
 use Rattle.wire.specs.declared.Version.TheVariants.{V44, V51}
 use Rattle.wire.specs.Offers.{version_answer}
-use Rattle.wire.specs.Framing.{Item, Opening, Noop, Message, item_text, said_text, said_within, Spoken}
+use Rattle.wire.specs.Framing.{Item, Opening, Noop, Message, item_bytes, bytes_newest_first, within_newest_first, Spoken}
 use Rattle.wire.proofs.Opened.{said_text-map, said_within-map, said_arrives}
-use Rattle.messages.specs.Writing.{response_text}
-use Rattle.messages.specs.Arrivals.{Heard, Chosen, Strange, Quiet, Told, Unheard, Over, heard_version, then_told, heard_in, after_version, heard_of, hears, heard_bytes, IsSaid, IsSpoken, SaysArrive, SoFarArrives, NoVersionArrives}
+use Rattle.messages.specs.Writing.{response_spelling}
+use Rattle.messages.specs.Arrivals.{Heard, Chosen, Strange, Quiet, Told, Unheard, Over, heard_version, then_response, heard_in, after_version, heard_of, hears, heard_bytes, IsSaid, IsSpoken, SaysArrive, SoFarArrives, NoVersionArrives}
 use Rattle.messages.proofs.Sent.{response_fits, response_is, Fits, sent, sent_text}
 
 abbrev item_of : Version → Heard → Item
 item_of v (Chosen o) = Opening (version_answer o)
 item_of v Strange = Opening []
 item_of v Quiet = Noop
-item_of v (Told m) = sent (response_text v m)
+item_of v (Told m) = sent (response_spelling v m)
 item_of v (Unheard e) = Opening []
 item_of v Over = Opening []
 
-same_text : (v : Version) (x : Heard) → item_text (item_of v x) ≡ heard_bytes v x
+same_text : (v : Version) (x : Heard) → item_bytes (item_of v x) ≡ heard_bytes v x
 same_text v (Chosen o) = refl
 same_text v Strange = refl
 same_text v Quiet = refl
-same_text v (Told m) = sent_text (response_text v m)
+same_text v (Told m) = sent_text (response_spelling v m)
 same_text v (Unheard e) = refl
 same_text v Over = refl
 
@@ -68,7 +68,7 @@ all_heard v (Strange ∷ xs) h = absurd h
 all_heard v (Quiet ∷ xs) h = ap (λ l. Quiet ∷ l) (all_heard v xs h)
 all_heard v (Told m ∷ xs) h =
     ap (λ r. heard_in v (sent r ∷ map (item_of v) xs)) h.0.1
-    ∙ ap (λ r. then_told r (heard_in v (map (item_of v) xs))) (response_is v m h.0.0 h.0.2)
+    ∙ ap (λ r. then_response r (heard_in v (map (item_of v) xs))) (response_is v m h.0.0 h.0.2)
     ∙ ap (λ l. Told m ∷ l) (all_heard v xs h.1)
 all_heard v (Unheard e ∷ xs) h = absurd h
 all_heard v (Over ∷ xs) h = absurd h
@@ -104,12 +104,12 @@ whole_or v true xs ys h k = inr h
 whole_or v false xs ys h k = k
 
 -- what lies whole in a front is the older part, or nothing
-front_spoken : (v : Version) (text : Heard → List ℕ) (n : ℕ) (xs : List Heard) → IsSpoken v xs → (said_within text n xs ≡ []) ⊎ IsSpoken v (said_within text n xs)
+front_spoken : (v : Version) (text : Heard → List ℕ) (n : ℕ) (xs : List Heard) → IsSpoken v xs → (within_newest_first text n xs ≡ []) ⊎ IsSpoken v (within_newest_first text n xs)
 front_spoken v text n [] h = absurd h
-front_spoken v text n (Chosen o ∷ xs) h = whole_or v (nat_le (length (said_text text (Chosen o ∷ xs))) n) (Chosen o ∷ xs) (said_within text n xs) h (inl (ap (said_within text n) h.1))
+front_spoken v text n (Chosen o ∷ xs) h = whole_or v (nat_le (length (bytes_newest_first text (Chosen o ∷ xs))) n) (Chosen o ∷ xs) (within_newest_first text n xs) h (inl (ap (within_newest_first text n) h.1))
 front_spoken v text n (Strange ∷ xs) h = absurd h
-front_spoken v text n (Quiet ∷ xs) h = whole_or v (nat_le (length (said_text text (Quiet ∷ xs))) n) (Quiet ∷ xs) (said_within text n xs) h (front_spoken v text n xs h)
-front_spoken v text n (Told m ∷ xs) h = whole_or v (nat_le (length (said_text text (Told m ∷ xs))) n) (Told m ∷ xs) (said_within text n xs) h (front_spoken v text n xs h.1)
+front_spoken v text n (Quiet ∷ xs) h = whole_or v (nat_le (length (bytes_newest_first text (Quiet ∷ xs))) n) (Quiet ∷ xs) (within_newest_first text n xs) h (front_spoken v text n xs h)
+front_spoken v text n (Told m ∷ xs) h = whole_or v (nat_le (length (bytes_newest_first text (Told m ∷ xs))) n) (Told m ∷ xs) (within_newest_first text n xs) h (front_spoken v text n xs h.1)
 front_spoken v text n (Unheard e ∷ xs) h = absurd h
 front_spoken v text n (Over ∷ xs) h = absurd h
 
@@ -117,10 +117,10 @@ pub says_arrive : SaysArrive
 says_arrive v xs n h =
     ap (λ t. hears (take n t)) (sym (said_text-map Heard (heard_bytes v) (item_of v) (same_text v) xs))
     ∙ ap (λ l. reverse (heard_of (reverse l))) (said_arrives (map (item_of v) xs) n (spoken v xs h) ∙ said_within-map Heard (heard_bytes v) (item_of v) (same_text v) n xs)
-    ∙ heard_back v (said_within (heard_bytes v) n xs) (front_spoken v (heard_bytes v) n xs h)
+    ∙ heard_back v (within_newest_first (heard_bytes v) n xs) (front_spoken v (heard_bytes v) n xs h)
 
 pub so_far_arrives : SoFarArrives
-so_far_arrives v xs n (inl e) = subst (λ (l : List Heard). hears (take n (said_text (heard_bytes v) l)) ≡ said_within (heard_bytes v) n l) (sym e) (ap hears (take-nil n))
+so_far_arrives v xs n (inl e) = subst (λ (l : List Heard). hears (take n (bytes_newest_first (heard_bytes v) l)) ≡ within_newest_first (heard_bytes v) n l) (sym e) (ap hears (take-nil n))
 so_far_arrives v xs n (inr h) = says_arrive v xs n h
 
 pub no_version_arrives : NoVersionArrives

@@ -17,7 +17,7 @@ use Rattle.structures.specs.Form.{Form, typed}
 use Rattle.messages.specs.declared.fault.MsgFault.{MsgFault}
 use Rattle.messages.specs.declared.fault.MsgFault.TheVariants as fault
 use Rattle.messages.specs.Table.{Holds, a_text, a_mode, a_count, last_query, Named, Others, ignored, refused, Field, text_field, cells, cell_list, extra, Row, requests, responses, layout, row_in}
-use Rattle.messages.specs.Reading.{◌>>=◌, Said, said, are_kinds, lookup, told, all_told, is_named, all_named, extra_told, entries_told, cell_by, cell_told, fields_told, row_told, row_at, told_by, message_told}
+use Rattle.messages.specs.Reading.{◌>>=◌, Contents, contents, are_kinds, lookup, contents_of_entry, contents_of_named, is_named, all_named, contents_of_extra, contents_of_entries, cell_by, cell_of_field, contents_of_fields, contents_of_row, row_at, contents_by_row, contents_of_message}
 use Rattle.messages.specs.Saying.{IsEntry, absent, here, further, SaysEntry, the_text, reads, writes, writes_unsaid, all_rows, some_rows, of_last, of_last_unsaid, SaysNamed, no_more, passed_over, then_named, HasOnly, SaysField, of_text, of_cells, of_list, of_extra, SaysFields, no_fields, then_field, SaysRow, of_row, SaysMessage, IsSpelled}
 use Rattle.messages.specs.Messages.{Means}
 
@@ -83,7 +83,7 @@ query_says : (z : ℤ) (xs : List Tree) (b : Bool) → int_eq z (negsuc 0) ≡ b
 query_says z xs true e h = minus_says z xs last_query [] e of_last h
 query_says z xs false e h = absurd cc
 
-entry_says : (h : Holds) (o : Option Tree) (xs : List Tree) → told h o ≡ Ok xs → SaysEntry h o xs
+entry_says : (h : Holds) (o : Option Tree) (xs : List Tree) → contents_of_entry h o ≡ Ok xs → SaysEntry h o xs
 entry_says a_text (Some (text s)) xs e = says_too a_text (Some (text s)) (text s ∷ []) xs (the_text s) e
 entry_says a_text o xs e = absurd cc
 entry_says a_mode None xs e = says_too a_mode None (text (codes "w") ∷ []) xs writes_unsaid e
@@ -95,7 +95,7 @@ entry_says last_query None xs e = says_too last_query None [] xs of_last_unsaid 
 entry_says last_query (Some (int z)) xs e = query_says z xs (int_eq z (negsuc 0)) refl e
 entry_says last_query o xs e = absurd cc
 
-entry_told : (h : Holds) (o : Option Tree) (xs : List Tree) → SaysEntry h o xs → told h o ≡ Ok xs
+entry_told : (h : Holds) (o : Option Tree) (xs : List Tree) → SaysEntry h o xs → contents_of_entry h o ≡ Ok xs
 entry_told _ _ _ (the_text s) = refl
 entry_told _ _ _ reads = refl
 entry_told _ _ _ writes = refl
@@ -106,18 +106,18 @@ entry_told _ _ _ of_last = refl
 entry_told _ _ _ of_last_unsaid = refl
 
 -- What the named entries say.
-one_says : (v : Version) (es : Entries) (n : Named) (ns : List Named) (x xs : List Tree) (b : Bool) → n.stands v ≡ b → cond b (told n.holds (lookup n.name es)) (Ok []) ≡ Ok x → SaysNamed v es ns xs → SaysNamed v es (n ∷ ns) (x ++ xs)
+one_says : (v : Version) (es : Entries) (n : Named) (ns : List Named) (x xs : List Tree) (b : Bool) → n.stands v ≡ b → cond b (contents_of_entry n.holds (lookup n.name es)) (Ok []) ≡ Ok x → SaysNamed v es ns xs → SaysNamed v es (n ∷ ns) (x ++ xs)
 one_says v es n ns x xs true e h s = then_named n ns (lookup n.name es) x xs e (looked_up n.name es) (entry_says n.holds (lookup n.name es) x h) s
 one_says v es n ns x xs false e h s = subst (λ (ys : List Tree). SaysNamed v es (n ∷ ns) (ys ++ xs)) (ok_is [] x h) (passed_over n ns xs e s)
 
-named_says : (v : Version) (es : Entries) (ns : List Named) (xs : List Tree) → all_told v ns es ≡ Ok xs → SaysNamed v es ns xs
+named_says : (v : Version) (es : Entries) (ns : List Named) (xs : List Tree) → contents_of_named v ns es ≡ Ok xs → SaysNamed v es ns xs
 named_says v es [] xs e = subst (λ (ys : List Tree). SaysNamed v es [] ys) (ok_is [] xs e) no_more
 named_says v es (n ∷ ns) xs e =
-    let p = bind_ok (cond (n.stands v) (told n.holds (lookup n.name es)) (Ok [])) (λ x. all_told v ns es >>= λ ys. Ok (x ++ ys)) xs e in
-    let q = bind_ok (all_told v ns es) (λ ys. Ok (p.0 ++ ys)) xs p.2 in
+    let p = bind_ok (cond (n.stands v) (contents_of_entry n.holds (lookup n.name es)) (Ok [])) (λ x. contents_of_named v ns es >>= λ ys. Ok (x ++ ys)) xs e in
+    let q = bind_ok (contents_of_named v ns es) (λ ys. Ok (p.0 ++ ys)) xs p.2 in
     subst (λ (ys : List Tree). SaysNamed v es (n ∷ ns) ys) (ok_is (p.0 ++ q.0) xs q.2) (one_says v es n ns p.0 q.0 (n.stands v) refl p.1 (named_says v es ns q.0 q.1))
 
-named_told : (v : Version) (es : Entries) (ns : List Named) (xs : List Tree) → SaysNamed v es ns xs → all_told v ns es ≡ Ok xs
+named_told : (v : Version) (es : Entries) (ns : List Named) (xs : List Tree) → SaysNamed v es ns xs → contents_of_named v ns es ≡ Ok xs
 named_told v es _ _ no_more = refl
 named_told v es _ _ (passed_over n ns xs e s) = rw (e, named_told v es ns xs s) refl
 named_told v es _ _ (then_named n ns o x xs e at h s) = rw (e, entry_is n.name es o at, entry_told n.holds o x h, named_told v es ns xs s) refl
@@ -144,13 +144,13 @@ names_only : (ns : List Named) (es : Entries) → All (λ k. Any (λ n. k ≡ n.
 names_only ns no_entries h = refl
 names_only ns (entry_then k t es) h = rw (name_any k ns (h 0 [] (omega arith)), names_only ns es (λ i d lt. h (suc i) d (omega (arith, lt)))) refl
 
-extra_says : (v : Version) (o : Others) (ns : List Named) (es : Entries) (xs : List Tree) → extra_told v o ns es ≡ Ok xs → SaysField v (extra o ns) (dict es) [] xs
+extra_says : (v : Version) (o : Others) (ns : List Named) (es : Entries) (xs : List Tree) → contents_of_extra v o ns es ≡ Ok xs → SaysField v (extra o ns) (dict es) [] xs
 extra_says v ignored ns es xs e = of_extra ignored ns es xs tt (named_says v es ns xs e)
 extra_says v refused ns es xs e =
-    let p = cond_ok (all_named ns es) (all_told v ns es) fault.Extra xs e in
+    let p = cond_ok (all_named ns es) (contents_of_named v ns es) fault.Extra xs e in
     of_extra refused ns es xs (only_names ns es p.0) (named_says v es ns xs p.1)
 
-told_extra : (v : Version) (o : Others) (ns : List Named) (es : Entries) (xs : List Tree) → HasOnly o ns es → SaysNamed v es ns xs → extra_told v o ns es ≡ Ok xs
+told_extra : (v : Version) (o : Others) (ns : List Named) (es : Entries) (xs : List Tree) → HasOnly o ns es → SaysNamed v es ns xs → contents_of_extra v o ns es ≡ Ok xs
 told_extra v ignored ns es xs h s = named_told v es ns xs s
 told_extra v refused ns es xs h s = rw (names_only ns es h, named_told v es ns xs s) refl
 
@@ -159,10 +159,10 @@ by_form : (v : Version) (t c : Tree) (r : Result ℕ (CellReason × ℕ)) → sc
 by_form v t c (Ok n) w h = ((n, w), sym (ok_is (typed t) c h))
 by_form v t c (Err e) w h = absurd cc
 
-cell_says : (v : Version) (t c : Tree) → cell_told v t ≡ Ok c → Form v c t
+cell_says : (v : Version) (t c : Tree) → cell_of_field v t ≡ Ok c → Form v c t
 cell_says v t c h = by_form v t c (scan (structure_fault v) 0 (structures t)) refl h
 
-told_cell : (v : Version) (t c : Tree) → Form v c t → cell_told v t ≡ Ok c
+told_cell : (v : Version) (t c : Tree) → Form v c t → cell_of_field v t ≡ Ok c
 told_cell v t c f = ap (λ r. cell_by r t) f.0.1 ∙ ap Ok (sym f.1)
 
 -- a dictionary with named entries is always the last field
@@ -177,22 +177,22 @@ IsExtraLast (cell_list ∷ ks) = IsExtraLast ks
 moved : (v : Version) (ks : List Field) (ts : Trees) (fs gs xs ys : List Tree) → SaysFields v ks ts fs xs → fs ≡ gs → xs ≡ ys → SaysFields v ks ts gs ys
 moved v ks ts fs gs xs ys s e f = subst (λ (zs : List Tree). SaysFields v ks ts gs zs) f (subst (λ (zs : List Tree). SaysFields v ks ts zs xs) e s)
 
-fields_say : (v : Version) (ks : List Field) (ts : Trees) (fs xs : List Tree) → IsExtraLast ks → are_kinds ks ts ≡ true → entries_told v ks ts ≡ Ok xs → fields_told v ks ts ≡ Ok fs → SaysFields v ks ts fs xs
+fields_say : (v : Version) (ks : List Field) (ts : Trees) (fs xs : List Tree) → IsExtraLast ks → are_kinds ks ts ≡ true → contents_of_entries v ks ts ≡ Ok xs → contents_of_fields v ks ts ≡ Ok fs → SaysFields v ks ts fs xs
 fields_say v [] no_trees fs xs l k e f = moved v [] no_trees [] fs [] xs no_fields (ok_is [] fs f) (ok_is [] xs e)
 fields_say v [] (tree_then t ts) fs xs l k e f = absurd cc
 fields_say v (k' ∷ ks) no_trees fs xs l k e f = absurd cc
 fields_say v (text_field ∷ ks) (tree_then (text s) ts) fs xs l k e f =
-    let p = bind_ok (fields_told v ks ts) (λ gs. Ok (text s ∷ gs)) fs f in
+    let p = bind_ok (contents_of_fields v ks ts) (λ gs. Ok (text s ∷ gs)) fs f in
     moved v (text_field ∷ ks) (tree_then (text s) ts) (text s ∷ p.0) fs xs xs (then_field text_field ks (text s) ts (text s ∷ []) p.0 [] xs (of_text s) (fields_say v ks ts p.0 xs l k e p.1)) (ok_is (text s ∷ p.0) fs p.2) refl
 fields_say v (text_field ∷ ks) (tree_then t ts) fs xs l k e f = absurd cc
 fields_say v (cells ∷ ks) (tree_then (dict es) ts) fs xs l k e f =
-    let p = bind_ok (cell_told v (dict es)) (λ c. fields_told v ks ts >>= λ gs. Ok (c ∷ gs)) fs f in
-    let q = bind_ok (fields_told v ks ts) (λ gs. Ok (p.0 ∷ gs)) fs p.2 in
+    let p = bind_ok (cell_of_field v (dict es)) (λ c. contents_of_fields v ks ts >>= λ gs. Ok (c ∷ gs)) fs f in
+    let q = bind_ok (contents_of_fields v ks ts) (λ gs. Ok (p.0 ∷ gs)) fs p.2 in
     moved v (cells ∷ ks) (tree_then (dict es) ts) (p.0 ∷ q.0) fs xs xs (then_field cells ks (dict es) ts (p.0 ∷ []) q.0 [] xs (of_cells p.0 es (cell_says v (dict es) p.0 p.1)) (fields_say v ks ts q.0 xs l k e q.1)) (ok_is (p.0 ∷ q.0) fs q.2) refl
 fields_say v (cells ∷ ks) (tree_then t ts) fs xs l k e f = absurd cc
 fields_say v (cell_list ∷ ks) (tree_then (list us) ts) fs xs l k e f =
-    let p = bind_ok (cell_told v (list us)) (λ c. fields_told v ks ts >>= λ gs. Ok (c ∷ gs)) fs f in
-    let q = bind_ok (fields_told v ks ts) (λ gs. Ok (p.0 ∷ gs)) fs p.2 in
+    let p = bind_ok (cell_of_field v (list us)) (λ c. contents_of_fields v ks ts >>= λ gs. Ok (c ∷ gs)) fs f in
+    let q = bind_ok (contents_of_fields v ks ts) (λ gs. Ok (p.0 ∷ gs)) fs p.2 in
     moved v (cell_list ∷ ks) (tree_then (list us) ts) (p.0 ∷ q.0) fs xs xs (then_field cell_list ks (list us) ts (p.0 ∷ []) q.0 [] xs (of_list p.0 us (cell_says v (list us) p.0 p.1)) (fields_say v ks ts q.0 xs l k e q.1)) (ok_is (p.0 ∷ q.0) fs q.2) refl
 fields_say v (cell_list ∷ ks) (tree_then t ts) fs xs l k e f = absurd cc
 fields_say v (extra o ns ∷ []) (tree_then (dict es) no_trees) fs xs l k e f =
@@ -203,13 +203,13 @@ fields_say v (extra o ns ∷ (k' ∷ ks)) (tree_then t ts) fs xs l k e f = absur
 
 -- what is told of the fields, all at once
 abbrev AreTold : Version → List Field → Trees → List Tree → List Tree → Type 0
-AreTold v ks ts fs xs = (are_kinds ks ts ≡ true) × (entries_told v ks ts ≡ Ok xs) × (fields_told v ks ts ≡ Ok fs)
+AreTold v ks ts fs xs = (are_kinds ks ts ≡ true) × (contents_of_entries v ks ts ≡ Ok xs) × (contents_of_fields v ks ts ≡ Ok fs)
 
 none_say : (v : Version) (ks : List Field) (ts : Trees) (fs xs : List Tree) → ks ≡ [] → SaysFields v ks ts fs xs → (ts ≡ no_trees) × (fs ≡ []) × (xs ≡ [])
 none_say v _ _ _ _ e no_fields = (refl, refl, refl)
 none_say v _ _ _ _ e (then_field k ks t ts f fs x xs s r) = absurd cc
 
-last_told : (v : Version) (o : Others) (ns : List Named) (es : Entries) (ts : Trees) (fs xs ys : List Tree) → ts ≡ no_trees → fs ≡ [] → xs ≡ [] → extra_told v o ns es ≡ Ok ys → AreTold v (extra o ns ∷ []) (tree_then (dict es) ts) fs (ys ++ xs)
+last_told : (v : Version) (o : Others) (ns : List Named) (es : Entries) (ts : Trees) (fs xs ys : List Tree) → ts ≡ no_trees → fs ≡ [] → xs ≡ [] → contents_of_extra v o ns es ≡ Ok ys → AreTold v (extra o ns ∷ []) (tree_then (dict es) ts) fs (ys ++ xs)
 last_told v o ns es ts fs xs ys a b c h = rw (a, b, c, append-nil ys) (refl, h, refl)
 
 told_fields : (v : Version) (ks : List Field) (ts : Trees) (fs xs : List Tree) → IsExtraLast ks → SaysFields v ks ts fs xs → AreTold v ks ts fs xs
@@ -229,14 +229,14 @@ told_fields v _ _ _ _ l (then_field _ [] _ ts _ fs _ xs (of_extra o ns es ys h s
 told_fields v _ _ _ _ l (then_field _ (k ∷ ks) _ ts _ fs _ xs (of_extra o ns es ys h s) r) = absurd l
 
 -- A row.
-row_says : (v : Version) (r : Row) (ts : Trees) (s : Said) → IsExtraLast r.fields → r.stands v ≡ true → row_told v r.name r.fields ts ≡ Ok s → SaysRow v r (structure r.tag ts) s
+row_says : (v : Version) (r : Row) (ts : Trees) (s : Contents) → IsExtraLast r.fields → r.stands v ≡ true → contents_of_row v r.name r.fields ts ≡ Ok s → SaysRow v r (structure r.tag ts) s
 row_says v r ts s l h e =
-    let p = cond_ok (are_kinds r.fields ts) (entries_told v r.fields ts >>= λ xs. fields_told v r.fields ts >>= λ fs. Ok (said r.name fs xs)) fault.Fields s e in
-    let q = bind_ok (entries_told v r.fields ts) (λ xs. fields_told v r.fields ts >>= λ fs. Ok (said r.name fs xs)) s p.1 in
-    let f = bind_ok (fields_told v r.fields ts) (λ fs. Ok (said r.name fs q.0)) s q.2 in
-    subst (λ (x : Said). SaysRow v r (structure r.tag ts) x) (ok_is (said r.name f.0 q.0) s f.2) (of_row ts f.0 q.0 h (fields_say v r.fields ts f.0 q.0 l p.0 q.1 f.1))
+    let p = cond_ok (are_kinds r.fields ts) (contents_of_entries v r.fields ts >>= λ xs. contents_of_fields v r.fields ts >>= λ fs. Ok (contents r.name fs xs)) fault.Fields s e in
+    let q = bind_ok (contents_of_entries v r.fields ts) (λ xs. contents_of_fields v r.fields ts >>= λ fs. Ok (contents r.name fs xs)) s p.1 in
+    let f = bind_ok (contents_of_fields v r.fields ts) (λ fs. Ok (contents r.name fs q.0)) s q.2 in
+    subst (λ (x : Contents). SaysRow v r (structure r.tag ts) x) (ok_is (contents r.name f.0 q.0) s f.2) (of_row ts f.0 q.0 h (fields_say v r.fields ts f.0 q.0 l p.0 q.1 f.1))
 
-told_row : (v : Version) (r : Row) (ts : Trees) (fs xs : List Tree) → IsExtraLast r.fields → SaysFields v r.fields ts fs xs → row_told v r.name r.fields ts ≡ Ok (said r.name fs xs)
+told_row : (v : Version) (r : Row) (ts : Trees) (fs xs : List Tree) → IsExtraLast r.fields → SaysFields v r.fields ts fs xs → contents_of_row v r.name r.fields ts ≡ Ok (contents r.name fs xs)
 told_row v r ts fs xs l s = let p = told_fields v r.fields ts fs xs l s in rw (p.0, p.1, p.2) refl
 
 -- each of these rows of a table is the layout of its name, with its named entries last, and is found by its tag
@@ -268,11 +268,11 @@ in_table : (tag : ℕ) (table : List Row) (r : Row) → row_in tag table ≡ Som
 in_table tag [] r e = absurd cc
 in_table tag (q ∷ rs) r e = by_tag tag q r rs (tag == q.tag) refl (in_table tag rs r) e
 
-standing : (v : Version) (r : Row) (ts : Trees) (s : Said) (b : Bool) → r.stands v ≡ b → IsExtraLast r.fields → told_by v (cond b (Some r) None) ts ≡ Ok s → SaysRow v r (structure r.tag ts) s
+standing : (v : Version) (r : Row) (ts : Trees) (s : Contents) (b : Bool) → r.stands v ≡ b → IsExtraLast r.fields → contents_by_row v (cond b (Some r) None) ts ≡ Ok s → SaysRow v r (structure r.tag ts) s
 standing v r ts s true h l e = row_says v r ts s l h e
 standing v r ts s false h l e = absurd cc
 
-tag_says : (v : Version) (table : List Row) (tag : ℕ) (ts : Trees) (s : Said) (o : Option Row) → AreLaid table table → row_in tag table ≡ o → told_by v (row_at v o) ts ≡ Ok s → SaysMessage v table (structure tag ts) s
+tag_says : (v : Version) (table : List Row) (tag : ℕ) (ts : Trees) (s : Contents) (o : Option Row) → AreLaid table table → row_in tag table ≡ o → contents_by_row v (row_at v o) ts ≡ Ok s → SaysMessage v table (structure tag ts) s
 tag_says v table tag ts s None l w e = absurd cc
 tag_says v table tag ts s (Some r) l w e =
     let there = in_table tag table r w in
@@ -280,23 +280,23 @@ tag_says v table tag ts s (Some r) l w e =
     let says : SaysRow v r (structure tag ts) s = subst (λ (n : ℕ). SaysRow v r (structure n ts) s) there.1 (standing v r ts s (r.stands v) refl laid.1 e) in
     (r.name, subst (λ (x : Row). Contains table x) (sym laid.0) there.0, subst (λ (x : Row). SaysRow v x (structure tag ts) s) (sym laid.0) says)
 
-message_says : (v : Version) (table : List Row) (t : Tree) (s : Said) → AreLaid table table → message_told v table t ≡ Ok s → SaysMessage v table t s
+message_says : (v : Version) (table : List Row) (t : Tree) (s : Contents) → AreLaid table table → contents_of_message v table t ≡ Ok s → SaysMessage v table t s
 message_says v table (structure tag ts) s l e = tag_says v table tag ts s (row_in tag table) l refl e
 message_says v table t s l e = absurd cc
 
-told_message : (v : Version) (table : List Row) (r : Row) (t : Tree) (s : Said) → IsLaid table r → SaysRow v r t s → message_told v table t ≡ Ok s
+told_message : (v : Version) (table : List Row) (r : Row) (t : Tree) (s : Contents) → IsLaid table r → SaysRow v r t s → contents_of_message v table t ≡ Ok s
 told_message v table r _ _ l (of_row ts fs xs h s) =
-    ap (λ o. told_by v (row_at v o) ts) l.2 ∙ ap (λ b. told_by v (cond b (Some r) None) ts) h ∙ told_row v r ts fs xs l.1 s
+    ap (λ o. contents_by_row v (row_at v o) ts) l.2 ∙ ap (λ b. contents_by_row v (cond b (Some r) None) ts) h ∙ told_row v r ts fs xs l.1 s
 
 -- what is told is what a row of the table says
-pub told_by_rows : (v : Version) (table : List Row) (t : Tree) (s : Said) → AreLaid table table → (message_told v table t ≡ Ok s) ↔ SaysMessage v table t s
+pub told_by_rows : (v : Version) (table : List Row) (t : Tree) (s : Contents) → AreLaid table table → (contents_of_message v table t ≡ Ok s) ↔ SaysMessage v table t s
 told_by_rows v table t s l = (
-  (λ (e : message_told v table t ≡ Ok s). message_says v table t s l e),
+  (λ (e : contents_of_message v table t ≡ Ok s). message_says v table t s l e),
   (λ (m : SaysMessage v table t s). told_message v table (layout m.0) t s (is_laid table table (layout m.0) l m.1) m.2),
 )
 
 -- so the bytes stand for what a row says of the value that they spell
-pub spelled_by_rows : (v : Version) (table : List Row) (s : Said) (b : List ℕ) → AreLaid table table → Means v table s b ↔ IsSpelled v table s b
+pub spelled_by_rows : (v : Version) (table : List Row) (s : Contents) (b : List ℕ) → AreLaid table table → Means v table s b ↔ IsSpelled v table s b
 spelled_by_rows v table s b l = (
   (λ (m : Means v table s b). (m.0, m.1, m.2, (told_by_rows v table m.0 s l).0 m.3)),
   (λ (m : IsSpelled v table s b). (m.0, m.1, m.2, (told_by_rows v table m.0 s l).1 m.3)),

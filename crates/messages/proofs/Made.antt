@@ -11,8 +11,8 @@ use Rattle.messages.specs.declared.request.Count.TheVariants.{All, Of}
 use Rattle.messages.specs.declared.fault.MsgFault.{MsgFault}
 use Rattle.messages.specs.declared.fault.MsgFault.TheVariants as fault
 use Rattle.messages.specs.Table.{Holds, a_text, a_mode, a_count, last_query, Named, Field, text_field, cells, cell_list, extra, Name, Row, layout, requests, responses, row_in, HELLO, LOGON, LOGOFF, GOODBYE, RESET, RUN, BEGIN, COMMIT, ROLLBACK, DISCARD, PULL, SUCCESS, RECORD, IGNORED, FAILURE}
-use Rattle.messages.specs.View.{Ask, Hello, Logon, Logoff, Goodbye, Reset, Run, Begin, Commit, Rollback, Discard, Pull, Say, Success, Record, Ignored, Failure}
-use Rattle.messages.specs.Reading.{◌>>=◌, Said, said, is_mode, lookup, told, text_told, mode_told, count_told, query_told, all_told, entries_told, cell_by, cell_told, fields_told, are_kinds, row_told, row_at, told_by, message_told, asks, says}
+use Rattle.messages.specs.View.{RequestView, Hello, Logon, Logoff, Goodbye, Reset, Run, Begin, Commit, Rollback, Discard, Pull, ResponseView, Success, Record, Ignored, Failure}
+use Rattle.messages.specs.Reading.{◌>>=◌, Contents, contents, is_mode, lookup, contents_of_entry, contents_of_text, contents_of_mode, contents_of_count, contents_of_query, contents_of_named, contents_of_entries, cell_by, cell_of_field, contents_of_fields, are_kinds, contents_of_row, row_at, contents_by_row, contents_of_message, request_contents, response_contents}
 use Rattle.messages.specs.Sound.{IsCell, IsRequest, IsResponse, RequestsAreMade, ResponsesAreMade}
 use Rattle.messages.proofs.Telling.{if_bind, extra_said}
 
@@ -38,23 +38,23 @@ cell_made : (v : Version) (t : Tree) (r : Result ℕ (CellReason × ℕ)) → sc
 cell_made v t (Ok n) e h = (t, h, ((n, e), refl))
 cell_made v t (Err x) e h = tt
 
-cell_of : (v : Version) (t : Tree) → IsPlain t → IfOk (cell_told v t) (IsCell v)
+cell_of : (v : Version) (t : Tree) → IsPlain t → IfOk (cell_of_field v t) (IsCell v)
 cell_of v t h = cell_made v t (scan (structure_fault v) 0 (structures t)) refl h
 
-fields_plain : (v : Version) (ks : List Field) (ts : Trees) → ArePlain ts → IfOk (fields_told v ks ts) (FieldsOf v ks)
+fields_plain : (v : Version) (ks : List Field) (ts : Trees) → ArePlain ts → IfOk (contents_of_fields v ks ts) (FieldsOf v ks)
 fields_plain v [] ts h = tt
 fields_plain v (extra o ns ∷ ks) no_trees h = no_fields v ks
 fields_plain v (extra o ns ∷ ks) (tree_then t ts) h = fields_plain v ks ts h.1
 fields_plain v (text_field ∷ ks) no_trees h = tt
-fields_plain v (text_field ∷ ks) (tree_then t ts) h = if_bind (fields_told v ks ts) (λ xs. Ok (t ∷ xs)) (FieldsOf v ks) (FieldsOf v (text_field ∷ ks)) (fields_plain v ks ts h.1) (λ xs p. (h.0, p))
+fields_plain v (text_field ∷ ks) (tree_then t ts) h = if_bind (contents_of_fields v ks ts) (λ xs. Ok (t ∷ xs)) (FieldsOf v ks) (FieldsOf v (text_field ∷ ks)) (fields_plain v ks ts h.1) (λ xs p. (h.0, p))
 fields_plain v (cells ∷ ks) no_trees h = tt
 fields_plain v (cells ∷ ks) (tree_then t ts) h =
-    if_bind (cell_told v t) (λ x. fields_told v ks ts >>= λ xs. Ok (x ∷ xs)) (IsCell v) (FieldsOf v (cells ∷ ks)) (cell_of v t h.0)
-    (λ x c. if_bind (fields_told v ks ts) (λ xs. Ok (x ∷ xs)) (FieldsOf v ks) (FieldsOf v (cells ∷ ks)) (fields_plain v ks ts h.1) (λ xs p. (c, p)))
+    if_bind (cell_of_field v t) (λ x. contents_of_fields v ks ts >>= λ xs. Ok (x ∷ xs)) (IsCell v) (FieldsOf v (cells ∷ ks)) (cell_of v t h.0)
+    (λ x c. if_bind (contents_of_fields v ks ts) (λ xs. Ok (x ∷ xs)) (FieldsOf v ks) (FieldsOf v (cells ∷ ks)) (fields_plain v ks ts h.1) (λ xs p. (c, p)))
 fields_plain v (cell_list ∷ ks) no_trees h = tt
 fields_plain v (cell_list ∷ ks) (tree_then t ts) h =
-    if_bind (cell_told v t) (λ x. fields_told v ks ts >>= λ xs. Ok (x ∷ xs)) (IsCell v) (FieldsOf v (cell_list ∷ ks)) (cell_of v t h.0)
-    (λ x c. if_bind (fields_told v ks ts) (λ xs. Ok (x ∷ xs)) (FieldsOf v ks) (FieldsOf v (cell_list ∷ ks)) (fields_plain v ks ts h.1) (λ xs p. (c, p)))
+    if_bind (cell_of_field v t) (λ x. contents_of_fields v ks ts >>= λ xs. Ok (x ∷ xs)) (IsCell v) (FieldsOf v (cell_list ∷ ks)) (cell_of v t h.0)
+    (λ x c. if_bind (contents_of_fields v ks ts) (λ xs. Ok (x ∷ xs)) (FieldsOf v ks) (FieldsOf v (cell_list ∷ ks)) (fields_plain v ks ts h.1) (λ xs p. (c, p)))
 
 -- Entries.
 abbrev AllPlain : List Tree → Type 0
@@ -77,7 +77,7 @@ lookup_plain : (name : List ℕ) (es : Entries) → HavePlain es → PlainIn (lo
 lookup_plain name no_entries h = tt
 lookup_plain name (entry_then k t es) h = found_plain (bytes_eq name k) t (lookup name es) h.1 (lookup_plain name es h.2)
 
-text_plain : (o : Option Tree) → PlainIn o → IfOk (text_told o) AllPlain
+text_plain : (o : Option Tree) → PlainIn o → IfOk (contents_of_text o) AllPlain
 text_plain (Some (text s)) h = (h, tt)
 text_plain o h = tt
 
@@ -85,7 +85,7 @@ mode_by : (s : List ℕ) (b : Bool) → IsPlain (text s) → IfOk (cond {A = Res
 mode_by s true h = (h, tt)
 mode_by s false h = tt
 
-mode_plain : (o : Option Tree) → PlainIn o → IfOk (mode_told o) AllPlain
+mode_plain : (o : Option Tree) → PlainIn o → IfOk (contents_of_mode o) AllPlain
 unfolding lib.Utf8.encode
 mode_plain None h = ((codes "w", (refl, refl)), tt)
 mode_plain (Some (text s)) h = mode_by s (is_mode s) h
@@ -96,7 +96,7 @@ number_by z true b h = (tt, tt)
 number_by z false true h = (h, tt)
 number_by z false false h = tt
 
-count_plain : (o : Option Tree) → PlainIn o → IfOk (count_told o) AllPlain
+count_plain : (o : Option Tree) → PlainIn o → IfOk (contents_of_count o) AllPlain
 count_plain (Some (int z)) h = number_by z (int_eq z (negsuc 0)) (int_le (pos 1) z) h
 count_plain o h = tt
 
@@ -104,28 +104,28 @@ query_by : (b : Bool) → IfOk (cond {A = Result (List Tree) MsgFault} b (Ok [])
 query_by true = tt
 query_by false = tt
 
-query_plain : (o : Option Tree) → PlainIn o → IfOk (query_told o) AllPlain
+query_plain : (o : Option Tree) → PlainIn o → IfOk (contents_of_query o) AllPlain
 query_plain None h = tt
 query_plain (Some (int z)) h = query_by (int_eq z (negsuc 0))
 query_plain o h = tt
 
-told_plain : (k : Holds) (o : Option Tree) → PlainIn o → IfOk (told k o) AllPlain
+told_plain : (k : Holds) (o : Option Tree) → PlainIn o → IfOk (contents_of_entry k o) AllPlain
 told_plain a_text o h = text_plain o h
 told_plain a_mode o h = mode_plain o h
 told_plain a_count o h = count_plain o h
 told_plain last_query o h = query_plain o h
 
-standing_plain : (b : Bool) (k : Holds) (o : Option Tree) → PlainIn o → IfOk (cond b (told k o) (Ok [])) AllPlain
+standing_plain : (b : Bool) (k : Holds) (o : Option Tree) → PlainIn o → IfOk (cond b (contents_of_entry k o) (Ok [])) AllPlain
 standing_plain true k o h = told_plain k o h
 standing_plain false k o h = tt
 
-all_plain : (v : Version) (ns : List Named) (es : Entries) → HavePlain es → IfOk (all_told v ns es) AllPlain
+all_plain : (v : Version) (ns : List Named) (es : Entries) → HavePlain es → IfOk (contents_of_named v ns es) AllPlain
 all_plain v [] es h = tt
 all_plain v (n ∷ ns) es h =
-    if_bind (cond (n.stands v) (told n.holds (lookup n.name es)) (Ok [])) (λ x. all_told v ns es >>= λ xs. Ok (x ++ xs)) AllPlain AllPlain (standing_plain (n.stands v) n.holds (lookup n.name es) (lookup_plain n.name es h))
-    (λ x p. if_bind (all_told v ns es) (λ xs. Ok (x ++ xs)) AllPlain AllPlain (all_plain v ns es h) (λ xs q. plain_append x xs p q))
+    if_bind (cond (n.stands v) (contents_of_entry n.holds (lookup n.name es)) (Ok [])) (λ x. contents_of_named v ns es >>= λ xs. Ok (x ++ xs)) AllPlain AllPlain (standing_plain (n.stands v) n.holds (lookup n.name es) (lookup_plain n.name es h))
+    (λ x p. if_bind (contents_of_named v ns es) (λ xs. Ok (x ++ xs)) AllPlain AllPlain (all_plain v ns es h) (λ xs q. plain_append x xs p q))
 
-entries_plain : (v : Version) (ks : List Field) (ts : Trees) → ArePlain ts → IfOk (entries_told v ks ts) AllPlain
+entries_plain : (v : Version) (ks : List Field) (ts : Trees) → ArePlain ts → IfOk (contents_of_entries v ks ts) AllPlain
 entries_plain v (extra o ns ∷ ks) (tree_then (dict es) ts) h = extra_said v o ns es AllPlain (all_plain v ns es h.0)
 entries_plain v (extra o ns ∷ ks) (tree_then t ts) h = entries_plain v ks ts h.1
 entries_plain v (extra o ns ∷ ks) no_trees h = tt
@@ -138,33 +138,33 @@ entries_plain v (cell_list ∷ ks) no_trees h = tt
 entries_plain v [] ts h = tt
 
 -- What a message holds, by its name.
-abbrev IsMade : Version → Said → Type 0
-IsMade v (said n fs es) = FieldsOf v (layout n).fields fs × AllPlain es
+abbrev IsMade : Version → Contents → Type 0
+IsMade v (contents n fs es) = FieldsOf v (layout n).fields fs × AllPlain es
 
-row_by : (v : Version) (n : Name) (ks : List Field) (ts : Trees) (b : Bool) → ArePlain ts → ((fs es : List Tree) → FieldsOf v ks fs → AllPlain es → IsMade v (said n fs es))
-    → IfOk (cond b (entries_told v ks ts >>= λ es. fields_told v ks ts >>= λ fs. Ok (said n fs es)) (Err fault.Fields)) (IsMade v)
+row_by : (v : Version) (n : Name) (ks : List Field) (ts : Trees) (b : Bool) → ArePlain ts → ((fs es : List Tree) → FieldsOf v ks fs → AllPlain es → IsMade v (contents n fs es))
+    → IfOk (cond b (contents_of_entries v ks ts >>= λ es. contents_of_fields v ks ts >>= λ fs. Ok (contents n fs es)) (Err fault.Fields)) (IsMade v)
 row_by v n ks ts true h k =
-    if_bind (entries_told v ks ts) (λ es. fields_told v ks ts >>= λ fs. Ok (said n fs es)) AllPlain (IsMade v) (entries_plain v ks ts h)
-    (λ es p. if_bind (fields_told v ks ts) (λ fs. Ok (said n fs es)) (FieldsOf v ks) (IsMade v) (fields_plain v ks ts h) (λ fs q. k fs es q p))
+    if_bind (contents_of_entries v ks ts) (λ es. contents_of_fields v ks ts >>= λ fs. Ok (contents n fs es)) AllPlain (IsMade v) (entries_plain v ks ts h)
+    (λ es p. if_bind (contents_of_fields v ks ts) (λ fs. Ok (contents n fs es)) (FieldsOf v ks) (IsMade v) (fields_plain v ks ts h) (λ fs q. k fs es q p))
 row_by v n ks ts false h k = tt
 
-row_made : (v : Version) (n : Name) (ks : List Field) (ts : Trees) → ArePlain ts → ((fs es : List Tree) → FieldsOf v ks fs → AllPlain es → IsMade v (said n fs es)) → IfOk (row_told v n ks ts) (IsMade v)
+row_made : (v : Version) (n : Name) (ks : List Field) (ts : Trees) → ArePlain ts → ((fs es : List Tree) → FieldsOf v ks fs → AllPlain es → IsMade v (contents n fs es)) → IfOk (contents_of_row v n ks ts) (IsMade v)
 row_made v n ks ts h k = row_by v n ks ts (are_kinds ks ts) h k
 
 -- The rows of a table.
 abbrev AreMade : Version → Trees → List Row → Type 0
 AreMade v ts [] = Unit {0}
-AreMade v ts (r ∷ rs) = IfOk (row_told v r.name r.fields ts) (IsMade v) × AreMade v ts rs
+AreMade v ts (r ∷ rs) = IfOk (contents_of_row v r.name r.fields ts) (IsMade v) × AreMade v ts rs
 
-at_version : (v : Version) (ts : Trees) (r : Row) (b : Bool) → IfOk (row_told v r.name r.fields ts) (IsMade v) → IfOk (told_by v (cond b (Some r) None) ts) (IsMade v)
+at_version : (v : Version) (ts : Trees) (r : Row) (b : Bool) → IfOk (contents_of_row v r.name r.fields ts) (IsMade v) → IfOk (contents_by_row v (cond b (Some r) None) ts) (IsMade v)
 at_version v ts r true h = h
 at_version v ts r false h = tt
 
-at_row : (v : Version) (ts : Trees) (r : Row) (o : Option Row) (b : Bool) → IfOk (row_told v r.name r.fields ts) (IsMade v) → IfOk (told_by v (row_at v o) ts) (IsMade v) → IfOk (told_by v (row_at v (cond b (Some r) o)) ts) (IsMade v)
+at_row : (v : Version) (ts : Trees) (r : Row) (o : Option Row) (b : Bool) → IfOk (contents_of_row v r.name r.fields ts) (IsMade v) → IfOk (contents_by_row v (row_at v o) ts) (IsMade v) → IfOk (contents_by_row v (row_at v (cond b (Some r) o)) ts) (IsMade v)
 at_row v ts r o true h k = at_version v ts r (r.stands v) h
 at_row v ts r o false h k = k
 
-rows_made : (v : Version) (tag : ℕ) (ts : Trees) (rs : List Row) → AreMade v ts rs → IfOk (told_by v (row_at v (row_in tag rs)) ts) (IsMade v)
+rows_made : (v : Version) (tag : ℕ) (ts : Trees) (rs : List Row) → AreMade v ts rs → IfOk (contents_by_row v (row_at v (row_in tag rs)) ts) (IsMade v)
 rows_made v tag ts [] h = tt
 rows_made v tag ts (r ∷ rs) h = at_row v ts r (row_in tag rs) (tag == r.tag) h.0 (rows_made v tag ts rs h.1)
 
@@ -176,18 +176,18 @@ responses_made : (v : Version) (ts : Trees) → ArePlain ts → AreMade v ts res
 responses_made v ts h =
     (row_made v SUCCESS (layout SUCCESS).fields ts h (λ fs es f p. (f, p)), (row_made v RECORD (layout RECORD).fields ts h (λ fs es f p. (f, p)), (row_made v IGNORED (layout IGNORED).fields ts h (λ fs es f p. (f, p)), (row_made v FAILURE (layout FAILURE).fields ts h (λ fs es f p. (f, p)), tt))))
 
-asked_made : (v : Version) (t : Tree) → IsPlain t → IfOk (message_told v requests t) (IsMade v)
+asked_made : (v : Version) (t : Tree) → IsPlain t → IfOk (contents_of_message v requests t) (IsMade v)
 asked_made v (structure tag ts) h = rows_made v tag ts requests (requests_made v ts h.1)
 asked_made v t h = tt
 
-said_made : (v : Version) (t : Tree) → IsPlain t → IfOk (message_told v responses t) (IsMade v)
+said_made : (v : Version) (t : Tree) → IsPlain t → IfOk (contents_of_message v responses t) (IsMade v)
 said_made v (structure tag ts) h = rows_made v tag ts responses (responses_made v ts h.1)
 said_made v t h = tt
 
-made : (v : Version) (r : Result Said MsgFault) (s : Said) → IfOk r (IsMade v) → r ≡ Ok s → IsMade v s
-made v r s h e = subst (λ (x : Result Said MsgFault). IfOk x (IsMade v)) e h
+made : (v : Version) (r : Result Contents MsgFault) (s : Contents) → IfOk r (IsMade v) → r ≡ Ok s → IsMade v s
+made v r s h e = subst (λ (x : Result Contents MsgFault). IfOk x (IsMade v)) e h
 
-request_made : (v : Version) (m : Ask) → IsMade v (asks m) → IsRequest v m
+request_made : (v : Version) (m : RequestView) → IsMade v (request_contents m) → IsRequest v m
 request_made v (Hello a None) h = (h.1.0, tt)
 request_made v (Hello a (Some l)) h = (h.1.0, (h.1.1.0, h.1.1.1.0, h.1.1.1.1.0))
 request_made v (Logon l) h = (h.1.0, h.1.1.0, h.1.1.1.0)
@@ -203,14 +203,14 @@ request_made v (Discard (Of n)) h = h.1.0
 request_made v (Pull All) h = tt
 request_made v (Pull (Of n)) h = h.1.0
 
-response_made : (v : Version) (m : Say) → IsMade v (says m) → IsResponse v m
+response_made : (v : Version) (m : ResponseView) → IsMade v (response_contents m) → IsResponse v m
 response_made v (Success ms) h = h.0.0
 response_made v (Record cs) h = h.0.0
 response_made v Ignored h = tt
 response_made v (Failure c m) h = (h.1.0, h.1.1.0)
 
 pub requests_are_made : RequestsAreMade
-requests_are_made v m b r = request_made v m (made v (message_told v requests r.0) (asks m) (asked_made v r.0 r.1.2) r.3)
+requests_are_made v m b r = request_made v m (made v (contents_of_message v requests r.0) (request_contents m) (asked_made v r.0 r.1.2) r.3)
 
 pub responses_are_made : ResponsesAreMade
-responses_are_made v m b r = response_made v m (made v (message_told v responses r.0) (says m) (said_made v r.0 r.1.2) r.3)
+responses_are_made v m b r = response_made v m (made v (contents_of_message v responses r.0) (response_contents m) (said_made v r.0 r.1.2) r.3)

@@ -17,30 +17,30 @@ use Rattle.messages.specs.declared.request.Count.TheVariants.{All, Of}
 use Rattle.messages.specs.declared.fault.MsgFault.{MsgFault}
 use Rattle.messages.specs.declared.fault.MsgFault.TheVariants as fault
 use Rattle.messages.specs.Table.{Row}
-use Rattle.messages.specs.View.{Ask, Hello, Logon, Logoff, Goodbye, Reset, Run, Begin, Commit, Rollback, Discard, Pull, Say, Success, Record, Ignored, Failure}
+use Rattle.messages.specs.View.{RequestView, Hello, Logon, Logoff, Goodbye, Reset, Run, Begin, Commit, Rollback, Discard, Pull, ResponseView, Success, Record, Ignored, Failure}
 use Rattle.messages.specs.Faults.{of_pack}
-use Rattle.messages.specs.Reading.{◌>>=◌, Said, message_told, Answers, asks, says}
-use Rattle.messages.specs.Messages.{Means, IsNone, Gave, UnlessMemory, said_by, said_in, asked, answered, pairs_of, list_of}
+use Rattle.messages.specs.Reading.{◌>>=◌, Contents, contents_of_message, Answers, request_contents, response_contents}
+use Rattle.messages.specs.Messages.{Means, IsNone, Gave, UnlessMemory, contents_by, contents_in, request_held, response_held, pairs_of, list_of}
 
-pub means_said : (v : Version) (table : List Row) (s : Said) (b : List ℕ) (bytes : AreBytes b) → Means v table s b → said_in v table b ≡ Ok s
-means_said v table s b bytes h = ap (said_by v table) ((whole_value b bytes h.0).1 (h.1, h.2)) ∙ h.3
+pub means_said : (v : Version) (table : List Row) (s : Contents) (b : List ℕ) (bytes : AreBytes b) → Means v table s b → contents_in v table b ≡ Ok s
+means_said v table s b bytes h = ap (contents_by v table) ((whole_value b bytes h.0).1 (h.1, h.2)) ∙ h.3
 
-pub none_said : (v : Version) (table : List Row) (e : MsgFault) (b : List ℕ) (bytes : AreBytes b) → IsNone v table e b → said_in v table b ≡ Err e
-none_said v table e b bytes (inl h) = ap (said_by v table) ((whole_fault b bytes h.0 h.1).1 h.3) ∙ ap Err (sym h.2)
-none_said v table e b bytes (inr h) = ap (said_by v table) ((whole_value b bytes h.0).1 (h.1, h.2)) ∙ h.3
+pub none_said : (v : Version) (table : List Row) (e : MsgFault) (b : List ℕ) (bytes : AreBytes b) → IsNone v table e b → contents_in v table b ≡ Err e
+none_said v table e b bytes (inl h) = ap (contents_by v table) ((whole_fault b bytes h.0 h.1).1 h.3) ∙ ap Err (sym h.2)
+none_said v table e b bytes (inr h) = ap (contents_by v table) ((whole_value b bytes h.0).1 (h.1, h.2)) ∙ h.3
 
-told_means : (v : Version) (table : List Row) (s : Said) (b : List ℕ) (bytes : AreBytes b) (r : Result Tree (Reason × ℕ)) → whole_of b ≡ r → said_by v table r ≡ Ok s → Means v table s b
+told_means : (v : Version) (table : List Row) (s : Contents) (b : List ℕ) (bytes : AreBytes b) (r : Result Tree (Reason × ℕ)) → whole_of b ≡ r → contents_by v table r ≡ Ok s → Means v table s b
 told_means v table s b bytes (Ok t) w h = let g : IsGood t × Spells t b = (whole_value b bytes t).0 w in (t, g.0, g.1, h)
 told_means v table s b bytes (Err e) w h = absurd cc
 
-told_none : (v : Version) (table : List Row) (e : MsgFault) (b : List ℕ) (bytes : AreBytes b) (r : Result Tree (Reason × ℕ)) → whole_of b ≡ r → said_by v table r ≡ Err e → IsNone v table e b
+told_none : (v : Version) (table : List Row) (e : MsgFault) (b : List ℕ) (bytes : AreBytes b) (r : Result Tree (Reason × ℕ)) → whole_of b ≡ r → contents_by v table r ≡ Err e → IsNone v table e b
 told_none v table e b bytes (Ok t) w h = let g : IsGood t × Spells t b = (whole_value b bytes t).0 w in inr (t, g.0, g.1, h)
 told_none v table e b bytes (Err p) w h = let same : fault.Pack (pack.Refused p.0 p.1) ≡ e = cc in inl (p.0, p.1, sym same, (whole_fault b bytes p.0 p.1).0 w)
 
-pub said_means : (v : Version) (table : List Row) (s : Said) (b : List ℕ) (bytes : AreBytes b) → said_in v table b ≡ Ok s → Means v table s b
+pub said_means : (v : Version) (table : List Row) (s : Contents) (b : List ℕ) (bytes : AreBytes b) → contents_in v table b ≡ Ok s → Means v table s b
 said_means v table s b bytes h = told_means v table s b bytes (whole_of b) refl h
 
-pub said_none : (v : Version) (table : List Row) (e : MsgFault) (b : List ℕ) (bytes : AreBytes b) → said_in v table b ≡ Err e → IsNone v table e b
+pub said_none : (v : Version) (table : List Row) (e : MsgFault) (b : List ℕ) (bytes : AreBytes b) → contents_in v table b ≡ Err e → IsNone v table e b
 said_none v table e b bytes h = told_none v table e b bytes (whole_of b) refl h
 
 pub err_is : {X : Type 0} (r : Result X MsgFault) (x : MsgFault) → IsErrAnd r (λ e. e ≡ x) → r ≡ Err x
@@ -48,10 +48,10 @@ err_is (Ok y) x h = absurd h
 err_is (Err e) x h = ap Err h
 
 -- the decoder's fault is what the bytes say
-pub bad_answers : {X : Type 0} (view : X → Said) (v : Version) (table : List Row) (b : List ℕ) (bytes : AreBytes b) (p : PackFault) (r : Result X MsgFault)
-    → ((q : Reason) (o : ℕ) → PackUnless {A = Tree} (Err p) (◌≡◌ {A = Result Tree PackFault} (Err p) (Err (pack.Refused q o)) ↔ Bad b o q)) → r ≡ Err (of_pack p) → Answers view r (said_in v table b)
+pub bad_answers : {X : Type 0} (view : X → Contents) (v : Version) (table : List Row) (b : List ℕ) (bytes : AreBytes b) (p : PackFault) (r : Result X MsgFault)
+    → ((q : Reason) (o : ℕ) → PackUnless {A = Tree} (Err p) (◌≡◌ {A = Result Tree PackFault} (Err p) (Err (pack.Refused q o)) ↔ Bad b o q)) → r ≡ Err (of_pack p) → Answers view r (contents_in v table b)
 bad_answers view v table b bytes (pack.Refused q o) r h e =
-    let w : said_in v table b ≡ Err (fault.Pack (pack.Refused q o)) = ap (said_by v table) ((whole_fault b bytes q o).1 ((h q o).0 refl)) in
+    let w : contents_in v table b ≡ Err (fault.Pack (pack.Refused q o)) = ap (contents_by v table) ((whole_fault b bytes q o).1 ((h q o).0 refl)) in
     rw e (λ n. w)
 bad_answers view v table b bytes pack.Memory r h e = rw e (λ n. absurd (n refl))
 
@@ -64,7 +64,7 @@ list_back : (ts : List Tree) → list_of (trees_of ts) ≡ ts
 list_back [] = refl
 list_back (t ∷ ts) = ap (λ r. t ∷ r) (list_back ts)
 
-pub asked_back : (m : Ask) → asked (asks m) ≡ m
+pub asked_back : (m : RequestView) → request_held (request_contents m) ≡ m
 asked_back (Hello a None) = refl
 asked_back (Hello a (Some l)) = refl
 asked_back (Logon l) = refl
@@ -82,15 +82,15 @@ asked_back (Discard (Of n)) = refl
 asked_back (Pull All) = refl
 asked_back (Pull (Of n)) = refl
 
-pub answered_back : (m : Say) → answered (says m) ≡ m
+pub answered_back : (m : ResponseView) → response_held (response_contents m) ≡ m
 answered_back (Success es) = ap Success (pairs_back es)
 answered_back (Record cs) = ap Record (list_back cs)
 answered_back Ignored = refl
 answered_back (Failure c m) = refl
 
 -- What was read is what the bytes stand for, where what a message holds tells it.
-pub gives_message : {X Y : Type 0} (see : X → Y) (holds : Y → Said) (back : Said → Y) → ((y : Y) → back (holds y) ≡ y) → (v : Version) (table : List Row) (b : List ℕ) (bytes : AreBytes b) (r : Result X MsgFault)
-    → Answers (λ x. holds (see x)) r (said_in v table b) → (m : Y) → UnlessMemory r (Gave see r m ↔ Means v table (holds m) b)
+pub gives_message : {X Y : Type 0} (see : X → Y) (holds : Y → Contents) (back : Contents → Y) → ((y : Y) → back (holds y) ≡ y) → (v : Version) (table : List Row) (b : List ℕ) (bytes : AreBytes b) (r : Result X MsgFault)
+    → Answers (λ x. holds (see x)) r (contents_in v table b) → (m : Y) → UnlessMemory r (Gave see r m ↔ Means v table (holds m) b)
 gives_message see holds back tells v table b bytes (Ok x) h m = (
   (λ (e : see x ≡ m). said_means v table (holds m) b bytes (h ∙ ap (λ y. Ok (holds y)) e)),
   (λ (w : Means v table (holds m) b). let same : holds (see x) ≡ holds m = (let k = means_said v table (holds m) b bytes w in cc) in sym (tells (see x)) ∙ ap back same ∙ tells m),
@@ -100,8 +100,8 @@ gives_message see holds back tells v table b bytes (Err e) h m = λ n. (
   (λ (w : Means v table (holds m) b). let k = means_said v table (holds m) b bytes w in let f = h n in absurd cc),
 )
 
-pub gives_fault : {X : Type 0} (view : X → Said) (v : Version) (table : List Row) (b : List ℕ) (bytes : AreBytes b) (r : Result X MsgFault)
-    → Answers view r (said_in v table b) → (e : MsgFault) → UnlessMemory r ((r ≡ Err e) ↔ IsNone v table e b)
+pub gives_fault : {X : Type 0} (view : X → Contents) (v : Version) (table : List Row) (b : List ℕ) (bytes : AreBytes b) (r : Result X MsgFault)
+    → Answers view r (contents_in v table b) → (e : MsgFault) → UnlessMemory r ((r ≡ Err e) ↔ IsNone v table e b)
 gives_fault view v table b bytes (Ok x) h e = (
   (λ (w : Ok x ≡ Err e). absurd cc),
   (λ (w : IsNone v table e b). let k = none_said v table e b bytes w in absurd cc),
@@ -115,16 +115,16 @@ pub kept_fault : {A B : Type 0} (f : A → B) (r : Result A MsgFault) (e : MsgFa
 kept_fault f (Ok x) e h = absurd cc
 kept_fault f (Err d) e h = let same : d ≡ e = cc in ap Err same
 
-pub gives_same : {X Y : Type 0} (see : X → Y) (holds : Y → Said) (back : Said → Y) → ((y : Y) → back (holds y) ≡ y) → (r : Result X MsgFault) (s : Result Said MsgFault)
+pub gives_same : {X Y : Type 0} (see : X → Y) (holds : Y → Contents) (back : Contents → Y) → ((y : Y) → back (holds y) ≡ y) → (r : Result X MsgFault) (s : Result Contents MsgFault)
     → Answers (λ x. holds (see x)) r s → Answers see r (s >>= λ x. Ok (back x))
 gives_same see holds back tells (Ok x) s h = ap (λ r. r >>= λ y. Ok (back y)) h ∙ ap Ok (tells (see x))
 gives_same see holds back tells (Err e) s h = λ n. ap (λ r. r >>= λ y. Ok (back y)) (h n)
 
 -- bytes say one thing at most
-pub means_one : (v : Version) (table : List Row) (s u : Said) (b : List ℕ) → Means v table s b → Means v table u b → s ≡ u
+pub means_one : (v : Version) (table : List Row) (s u : Contents) (b : List ℕ) → Means v table s b → Means v table u b → s ≡ u
 means_one v table s u b p q =
     let again : Spells q.0 (b ++ []) = rw append-nil q.2 in
     let k : p.0 ≡ q.0 = (no_proper_beginning_is p.0 q.0 b [] p.1 q.1 p.2 again).1 in
-    let told : message_told v table q.0 ≡ Ok s = rw k at p.3 in
-    let other : message_told v table q.0 ≡ Ok u = q.3 in
+    let told : contents_of_message v table q.0 ≡ Ok s = rw k at p.3 in
+    let other : contents_of_message v table q.0 ≡ Ok u = q.3 in
     cc

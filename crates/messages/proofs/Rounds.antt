@@ -8,7 +8,7 @@ use Rattle.wire.specs.declared.Version.{Version}
 use Rattle.wire.specs.declared.Version.TheVariants.{V44, V51}
 use Rattle.structures.specs.declared.fault.Reason.{Reason as CellReason}
 use Rattle.structures.specs.Faults.{scan, structures}
-use Rattle.structures.specs.Writing.{unwritten}
+use Rattle.structures.specs.Writing.{fault_of_structure}
 use Rattle.std.specs.Ordering.{int_eq}
 use Rattle.structures.specs.Form.{form, form_under, form_all}
 use Rattle.structures.specs.Shape.{shape}
@@ -24,25 +24,25 @@ use Rattle.messages.specs.declared.request.Mode.TheVariants.{Read, Write}
 use Rattle.messages.specs.declared.request.Count.TheVariants.{All, Of}
 use Rattle.messages.specs.declared.fault.MsgFault.{MsgFault}
 use Rattle.messages.specs.Table.{Row, requests, responses, RUN}
-use Rattle.messages.specs.View.{ask, say, Ask, Hello, Logon, Logoff, Goodbye, Reset, Run, Begin, Commit, Rollback, Discard, Pull, Say, Success, Record, Ignored, Failure}
-use Rattle.messages.specs.Reading.{Said, said, message_told, mode_told, lookup, cell_told, cell_by, asks, says}
+use Rattle.messages.specs.View.{request_view, response_view, RequestView, Hello, Logon, Logoff, Goodbye, Reset, Run, Begin, Commit, Rollback, Discard, Pull, ResponseView, Success, Record, Ignored, Failure}
+use Rattle.messages.specs.Reading.{Contents, contents, contents_of_message, contents_of_mode, lookup, cell_of_field, cell_by, request_contents, response_contents}
 use Rattle.messages.specs.Cells.{value_by, form_by, cell_put}
 use Rattle.messages.specs.Writing.{form_put}
 
 -- a field of cells that is written is told as these cells again
 abbrev pub IsBack : Version → Tree → Type 0
-IsBack v c = (u : Tree) → cell_put v c ≡ Ok u → cell_told v u ≡ Ok c
+IsBack v c = (u : Tree) → cell_put v c ≡ Ok u → cell_of_field v u ≡ Ok c
 
-abbrev pub AreBack : Version → Ask → Type 0
+abbrev pub AreBack : Version → RequestView → Type 0
 AreBack v (Run s ps m) = IsBack v (dict (entries_of ps))
 AreBack v m = Unit {0}
 
-abbrev pub AreAnsweredBack : Version → Say → Type 0
+abbrev pub AreAnsweredBack : Version → ResponseView → Type 0
 AreAnsweredBack v (Success ms) = IsBack v (dict (entries_of ms))
 AreAnsweredBack v (Record cs) = IsBack v (list (trees_of cs))
 AreAnsweredBack v m = Unit {0}
 
-told_from : (v : Version) (table : List Row) (s : Said) (x t : Tree) → ◌≡◌ {A = Result Tree MsgFault} (Ok x) (Ok t) → message_told v table x ≡ Ok s → message_told v table t ≡ Ok s
+told_from : (v : Version) (table : List Row) (s : Contents) (x t : Tree) → ◌≡◌ {A = Result Tree MsgFault} (Ok x) (Ok t) → contents_of_message v table x ≡ Ok s → contents_of_message v table t ≡ Ok s
 told_from v table s x t e k = let same : x ≡ t = cc in rw (sym same) k
 
 value_is : (r : Result ℕ (PackReason × ℕ)) (t u : Tree) → value_by r t ≡ Ok u → u ≡ t
@@ -55,36 +55,36 @@ form_is (Err e) t u h = absurd cc
 
 -- what is written of a field of cells is its form
 pub put_is : (v : Version) (s u : Tree) → cell_put v s ≡ Ok u → u ≡ form v s
-put_is v s u h = form_is (scan (unwritten v) 0 (structures s)) (form v s) u h
+put_is v s u h = form_is (scan (fault_of_structure v) 0 (structures s)) (form v s) u h
 
 not_minus : (z : ℤ) → int_le (pos 1) z ≡ true → int_eq z (negsuc 0) ≡ false
 not_minus (pos n) h = refl
 not_minus (negsuc n) h = absurd cc
 
-pull_back : (v : Version) (z : ℤ) (b : Bool) (t : Tree) → int_le (pos 1) z ≡ b → form_put v (asks (Pull (Of z))) ≡ Ok t → message_told v requests t ≡ Ok (asks (Pull (Of z)))
+pull_back : (v : Version) (z : ℤ) (b : Bool) (t : Tree) → int_le (pos 1) z ≡ b → form_put v (request_contents (Pull (Of z))) ≡ Ok t → contents_of_message v requests t ≡ Ok (request_contents (Pull (Of z)))
 pull_back v z true t e h = told_from v requests _ _ t (rw e at h) (rw (not_minus z e, e) refl)
 pull_back v z false t e h = let k = rw e at h in absurd cc
 
-discard_back : (v : Version) (z : ℤ) (b : Bool) (t : Tree) → int_le (pos 1) z ≡ b → form_put v (asks (Discard (Of z))) ≡ Ok t → message_told v requests t ≡ Ok (asks (Discard (Of z)))
+discard_back : (v : Version) (z : ℤ) (b : Bool) (t : Tree) → int_le (pos 1) z ≡ b → form_put v (request_contents (Discard (Of z))) ≡ Ok t → contents_of_message v requests t ≡ Ok (request_contents (Discard (Of z)))
 discard_back v z true t e h = told_from v requests _ _ t (rw e at h) (rw (not_minus z e, e) refl)
 discard_back v z false t e h = let k = rw e at h in absurd cc
 
 -- a RUN whose entries are these, and one whose parameters are told
-run_told_as : (v : Version) (s : List ℕ) (es : Entries) (x : List Tree) (u c : Tree) (f : Entries) → u ≡ dict f → cell_told v u ≡ Ok c → (mode_told (lookup (codes "mode") es) ≡ Ok x)
-    → message_told v requests (structure 0x10 (tree_then (text s) (tree_then u (tree_then (dict es) no_trees)))) ≡ Ok (said RUN (text s ∷ c ∷ []) (x ++ []))
+run_told_as : (v : Version) (s : List ℕ) (es : Entries) (x : List Tree) (u c : Tree) (f : Entries) → u ≡ dict f → cell_of_field v u ≡ Ok c → (contents_of_mode (lookup (codes "mode") es) ≡ Ok x)
+    → contents_of_message v requests (structure 0x10 (tree_then (text s) (tree_then u (tree_then (dict es) no_trees)))) ≡ Ok (contents RUN (text s ∷ c ∷ []) (x ++ []))
 run_told_as v s es x u c f is k m =
-    let k' : cell_told v (dict f) ≡ Ok c = ap (cell_told v) (sym is) ∙ k in
+    let k' : cell_of_field v (dict f) ≡ Ok c = ap (cell_of_field v) (sym is) ∙ k in
     rw is (rw (m, k') refl)
 
-read_back : (v : Version) (s : List ℕ) (ps : List (List ℕ × Tree)) (r : Result Tree MsgFault) (t : Tree) → cell_put v (dict (entries_of ps)) ≡ r → IsBack v (dict (entries_of ps)) → form_put v (asks (Run s ps Read)) ≡ Ok t → message_told v requests t ≡ Ok (asks (Run s ps Read))
+read_back : (v : Version) (s : List ℕ) (ps : List (List ℕ × Tree)) (r : Result Tree MsgFault) (t : Tree) → cell_put v (dict (entries_of ps)) ≡ r → IsBack v (dict (entries_of ps)) → form_put v (request_contents (Run s ps Read)) ≡ Ok t → contents_of_message v requests t ≡ Ok (request_contents (Run s ps Read))
 read_back v s ps (Ok u) t e p h = told_from v requests _ _ t (rw e at h) (run_told_as v s (entry_then (codes "mode") (text (codes "r")) no_entries) (text (codes "r") ∷ []) u (dict (entries_of ps)) (form_under v (entries_of ps)) (put_is v (dict (entries_of ps)) u e) (p u e) refl)
 read_back v s ps (Err x) t e p h = let k = rw e at h in absurd cc
 
-write_back : (v : Version) (s : List ℕ) (ps : List (List ℕ × Tree)) (r : Result Tree MsgFault) (t : Tree) → cell_put v (dict (entries_of ps)) ≡ r → IsBack v (dict (entries_of ps)) → form_put v (asks (Run s ps Write)) ≡ Ok t → message_told v requests t ≡ Ok (asks (Run s ps Write))
+write_back : (v : Version) (s : List ℕ) (ps : List (List ℕ × Tree)) (r : Result Tree MsgFault) (t : Tree) → cell_put v (dict (entries_of ps)) ≡ r → IsBack v (dict (entries_of ps)) → form_put v (request_contents (Run s ps Write)) ≡ Ok t → contents_of_message v requests t ≡ Ok (request_contents (Run s ps Write))
 write_back v s ps (Ok u) t e p h = told_from v requests _ _ t (rw e at h) (run_told_as v s no_entries (text (codes "w") ∷ []) u (dict (entries_of ps)) (form_under v (entries_of ps)) (put_is v (dict (entries_of ps)) u e) (p u e) refl)
 write_back v s ps (Err x) t e p h = let k = rw e at h in absurd cc
 
-pub told_back : (v : Version) (m : Ask) (t : Tree) → AreBack v m → form_put v (asks m) ≡ Ok t → message_told v requests t ≡ Ok (asks m)
+pub told_back : (v : Version) (m : RequestView) (t : Tree) → AreBack v m → form_put v (request_contents m) ≡ Ok t → contents_of_message v requests t ≡ Ok (request_contents m)
 told_back V44 (Hello a None) t p h = absurd cc
 told_back V51 (Hello a None) t p h = told_from V51 requests _ _ t h refl
 told_back V44 (Hello a (Some l)) t p h = told_from V44 requests _ _ t h refl
@@ -106,21 +106,21 @@ told_back v (Discard (Of z)) t p h = discard_back v z (int_le (pos 1) z) t refl 
 told_back v (Pull All) t p h = told_from v requests _ _ t h refl
 told_back v (Pull (Of z)) t p h = pull_back v z (int_le (pos 1) z) t refl h
 
-success_back : (v : Version) (ms : List (List ℕ × Tree)) (r : Result Tree MsgFault) (t : Tree) → cell_put v (dict (entries_of ms)) ≡ r → IsBack v (dict (entries_of ms)) → form_put v (says (Success ms)) ≡ Ok t → message_told v responses t ≡ Ok (says (Success ms))
+success_back : (v : Version) (ms : List (List ℕ × Tree)) (r : Result Tree MsgFault) (t : Tree) → cell_put v (dict (entries_of ms)) ≡ r → IsBack v (dict (entries_of ms)) → form_put v (response_contents (Success ms)) ≡ Ok t → contents_of_message v responses t ≡ Ok (response_contents (Success ms))
 success_back v ms (Ok u) t e p h =
     let is = put_is v (dict (entries_of ms)) u e in
-    let k : cell_told v (dict (form_under v (entries_of ms))) ≡ Ok (dict (entries_of ms)) = ap (cell_told v) (sym is) ∙ p u e in
+    let k : cell_of_field v (dict (form_under v (entries_of ms))) ≡ Ok (dict (entries_of ms)) = ap (cell_of_field v) (sym is) ∙ p u e in
     told_from v responses _ _ t (rw e at h) (rw is (rw k refl))
 success_back v ms (Err x) t e p h = let k = rw e at h in absurd cc
 
-record_back : (v : Version) (cs : List Tree) (r : Result Tree MsgFault) (t : Tree) → cell_put v (list (trees_of cs)) ≡ r → IsBack v (list (trees_of cs)) → form_put v (says (Record cs)) ≡ Ok t → message_told v responses t ≡ Ok (says (Record cs))
+record_back : (v : Version) (cs : List Tree) (r : Result Tree MsgFault) (t : Tree) → cell_put v (list (trees_of cs)) ≡ r → IsBack v (list (trees_of cs)) → form_put v (response_contents (Record cs)) ≡ Ok t → contents_of_message v responses t ≡ Ok (response_contents (Record cs))
 record_back v cs (Ok u) t e p h =
     let is = put_is v (list (trees_of cs)) u e in
-    let k : cell_told v (list (form_all v (trees_of cs))) ≡ Ok (list (trees_of cs)) = ap (cell_told v) (sym is) ∙ p u e in
+    let k : cell_of_field v (list (form_all v (trees_of cs))) ≡ Ok (list (trees_of cs)) = ap (cell_of_field v) (sym is) ∙ p u e in
     told_from v responses _ _ t (rw e at h) (rw is (rw k refl))
 record_back v cs (Err x) t e p h = let k = rw e at h in absurd cc
 
-pub answered_back_told : (v : Version) (m : Say) (t : Tree) → AreAnsweredBack v m → form_put v (says m) ≡ Ok t → message_told v responses t ≡ Ok (says m)
+pub answered_back_told : (v : Version) (m : ResponseView) (t : Tree) → AreAnsweredBack v m → form_put v (response_contents m) ≡ Ok t → contents_of_message v responses t ≡ Ok (response_contents m)
 answered_back_told v (Success ms) t p h = success_back v ms (cell_put v (dict (entries_of ms))) t refl p h
 answered_back_told v (Record cs) t p h = record_back v cs (cell_put v (list (trees_of cs))) t refl p h
 answered_back_told v Ignored t p h = told_from v responses _ _ t h refl
@@ -133,11 +133,11 @@ writable_in (Err e) t u h = absurd cc
 -- what is written of a cell is told as that cell
 pub cell_back : (v : Version) (c : Cell) → IsBack v (shape c)
 cell_back v c u h =
-    let w = writable_in (scan (unwritten v) 0 (structures (shape c))) (form v (shape c)) u h in
-    let f = formed_is v c (fine_scan (unwritten v) 0 w.0 (structures (shape c)) w.1) in
-    ap (cell_told v) (put_is v (shape c) u h) ∙ ap (λ r. cell_by r (form v (shape c))) f.0.1 ∙ ap Ok (sym f.1)
+    let w = writable_in (scan (fault_of_structure v) 0 (structures (shape c))) (form v (shape c)) u h in
+    let f = formed_is v c (fine_scan (fault_of_structure v) 0 w.0 (structures (shape c)) w.1) in
+    ap (cell_of_field v) (put_is v (shape c) u h) ∙ ap (λ r. cell_by r (form v (shape c))) f.0.1 ∙ ap Ok (sym f.1)
 
-pub request_back : (v : Version) (r : Request) → AreBack v (ask r)
+pub request_back : (v : Version) (r : Request) → AreBack v (request_view r)
 request_back v (request.Run s ps m) = subst (IsBack v) (shape-Dict ps) (cell_back v (DictCell ps))
 request_back v (request.Hello a o) = tt
 request_back v (request.Logon l) = tt
@@ -150,7 +150,7 @@ request_back v request.Rollback = tt
 request_back v (request.Discard c) = tt
 request_back v (request.Pull c) = tt
 
-pub response_back : (v : Version) (r : Response) → AreAnsweredBack v (say r)
+pub response_back : (v : Version) (r : Response) → AreAnsweredBack v (response_view r)
 response_back v (response.Success ms) = subst (IsBack v) (shape-Dict ms) (cell_back v (DictCell ms))
 response_back v (response.Record cs) = subst (IsBack v) (shape-List cs) (cell_back v (ListCell cs))
 response_back v response.Ignored = tt

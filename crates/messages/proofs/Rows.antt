@@ -6,16 +6,16 @@ use Rattle.wire.specs.Versions.{hello_has_login}
 use Rattle.messages.specs.declared.fault.MsgFault.{MsgFault}
 use Rattle.messages.specs.Table.{Name, Others, Named, ignored, extra, text_field, cells, cell_list, credentials, hello, HELLO, RUN, mode_alone}
 use Rattle.structures.specs.Form.{typed_under}
-use Rattle.messages.specs.Reading.{◌>>=◌, Said, said, all_told, text_told, row_told, extra_told, cell_told, mode_told, lookup, cell_by}
-use Rattle.messages.specs.Parts.{no_field, one_field, dict_told, list_told, only_dict, login_told, run_parts, run_told, as_dict, as_list}
+use Rattle.messages.specs.Reading.{◌>>=◌, Contents, contents, contents_of_named, contents_of_text, contents_of_row, contents_of_extra, cell_of_field, contents_of_mode, lookup, cell_by}
+use Rattle.messages.specs.Parts.{no_field, one_field, entries_of_dict, members_of_list, only_dict, contents_of_login, run_parts, contents_of_run, as_dict, as_list}
 use Rattle.structures.specs.declared.fault.Reason.{Reason as CellReason}
 use Rattle.structures.specs.Faults.{scan, fault as structure_fault, structures}
 
-pub none_row : (v : Version) (n : Name) (ts : Trees) → row_told v n [] ts ≡ (no_field ts >>= λ x. Ok (said n [] []))
+pub none_row : (v : Version) (n : Name) (ts : Trees) → contents_of_row v n [] ts ≡ (no_field ts >>= λ x. Ok (contents n [] []))
 none_row v n no_trees = refl
 none_row v n (tree_then t ts) = refl
 
-pub extra_row : (v : Version) (n : Name) (o : Others) (ns : List Named) (ts : Trees) → row_told v n (extra o ns ∷ []) ts ≡ (only_dict ts >>= λ es. extra_told v o ns es >>= λ xs. Ok (said n [] xs))
+pub extra_row : (v : Version) (n : Name) (o : Others) (ns : List Named) (ts : Trees) → contents_of_row v n (extra o ns ∷ []) ts ≡ (only_dict ts >>= λ es. contents_of_extra v o ns es >>= λ xs. Ok (contents n [] xs))
 extra_row v n o ns (tree_then (dict es) no_trees) = refl
 extra_row v n o ns (tree_then (dict es) (tree_then t ts)) = refl
 extra_row v n o ns (tree_then t no_trees) = refl
@@ -24,45 +24,45 @@ extra_row v n o ns no_trees = refl
 
 -- the same from what its dictionary says
 pub dict_row : (v : Version) (n : Name) (o : Others) (ns : List Named) (ts : Trees) (es : Entries) (r : Result (List Tree) MsgFault)
-    → only_dict ts ≡ Ok es → extra_told v o ns es ≡ r → row_told v n (extra o ns ∷ []) ts ≡ (r >>= λ xs. Ok (said n [] xs))
+    → only_dict ts ≡ Ok es → contents_of_extra v o ns es ≡ r → contents_of_row v n (extra o ns ∷ []) ts ≡ (r >>= λ xs. Ok (contents n [] xs))
 dict_row v n o ns ts es r d e =
     extra_row v n o ns ts
-    ∙ ap (λ x. x >>= λ es. extra_told v o ns es >>= λ xs. Ok (said n [] xs)) d
-    ∙ ap (λ x. x >>= λ xs. Ok (said n [] xs)) e
+    ∙ ap (λ x. x >>= λ es. contents_of_extra v o ns es >>= λ xs. Ok (contents n [] xs)) d
+    ∙ ap (λ x. x >>= λ xs. Ok (contents n [] xs)) e
 
 -- who the client is, where HELLO carries it
-pub login_here : (v : Version) (es : Entries) → hello_has_login v ≡ true → all_told v (credentials hello_has_login) es ≡ login_told v es
+pub login_here : (v : Version) (es : Entries) → hello_has_login v ≡ true → contents_of_named v (credentials hello_has_login) es ≡ contents_of_login v es
 login_here v es h = rw h refl
 
 -- a HELLO, from what its agent and what else it carries say
-abbrev pub greeted : Result (List Tree) MsgFault → Result (List Tree) MsgFault → Result Said MsgFault
-greeted a l = (a >>= λ x. l >>= λ xs. Ok (x ++ xs)) >>= λ xs. Ok (said HELLO [] xs)
+abbrev pub greeted : Result (List Tree) MsgFault → Result (List Tree) MsgFault → Result Contents MsgFault
+greeted a l = (a >>= λ x. l >>= λ xs. Ok (x ++ xs)) >>= λ xs. Ok (contents HELLO [] xs)
 
 pub hello_row : (v : Version) (ts : Trees) (es : Entries) (a : List Tree) (l : Result (List Tree) MsgFault)
-    → only_dict ts ≡ Ok es → text_told (lookup (codes "user_agent") es) ≡ Ok a → all_told v (credentials hello_has_login) es ≡ l
-    → row_told v HELLO (extra ignored hello ∷ []) ts ≡ greeted (Ok a) l
+    → only_dict ts ≡ Ok es → contents_of_text (lookup (codes "user_agent") es) ≡ Ok a → contents_of_named v (credentials hello_has_login) es ≡ l
+    → contents_of_row v HELLO (extra ignored hello ∷ []) ts ≡ greeted (Ok a) l
 hello_row v ts es a l d t e =
     extra_row v HELLO ignored hello ts
-    ∙ ap (λ r. r >>= λ es. extra_told v ignored hello es >>= λ xs. Ok (said HELLO [] xs)) d
-    ∙ ap (λ r. greeted r (all_told v (credentials hello_has_login) es)) t
+    ∙ ap (λ r. r >>= λ es. contents_of_extra v ignored hello es >>= λ xs. Ok (contents HELLO [] xs)) d
+    ∙ ap (λ r. greeted r (contents_of_named v (credentials hello_has_login) es)) t
     ∙ ap (λ r. greeted (Ok a) r) e
 
-one_dict : (n : Name) (es : Entries) (r : Result ℕ (CellReason × ℕ)) → ((cell_by r (dict es) >>= λ x. Ok (x ∷ [])) >>= λ fs. Ok (said n fs [])) ≡ ((cell_by r (dict es) >>= as_dict) >>= λ c. Ok (said n (c ∷ []) []))
+one_dict : (n : Name) (es : Entries) (r : Result ℕ (CellReason × ℕ)) → ((cell_by r (dict es) >>= λ x. Ok (x ∷ [])) >>= λ fs. Ok (contents n fs [])) ≡ ((cell_by r (dict es) >>= as_dict) >>= λ c. Ok (contents n (c ∷ []) []))
 one_dict n es (Ok k) = refl
 one_dict n es (Err e) = refl
 
-one_list : (n : Name) (ts : Trees) (r : Result ℕ (CellReason × ℕ)) → ((cell_by r (list ts) >>= λ x. Ok (x ∷ [])) >>= λ fs. Ok (said n fs [])) ≡ ((cell_by r (list ts) >>= as_list) >>= λ c. Ok (said n (c ∷ []) []))
+one_list : (n : Name) (ts : Trees) (r : Result ℕ (CellReason × ℕ)) → ((cell_by r (list ts) >>= λ x. Ok (x ∷ [])) >>= λ fs. Ok (contents n fs [])) ≡ ((cell_by r (list ts) >>= as_list) >>= λ c. Ok (contents n (c ∷ []) []))
 one_list n ts (Ok k) = refl
 one_list n ts (Err e) = refl
 
-pub cells_row : (v : Version) (n : Name) (ts : Trees) → row_told v n (cells ∷ []) ts ≡ (one_field ts >>= λ t. dict_told t >>= λ es. (cell_told v t >>= as_dict) >>= λ c. Ok (said n (c ∷ []) []))
+pub cells_row : (v : Version) (n : Name) (ts : Trees) → contents_of_row v n (cells ∷ []) ts ≡ (one_field ts >>= λ t. entries_of_dict t >>= λ es. (cell_of_field v t >>= as_dict) >>= λ c. Ok (contents n (c ∷ []) []))
 cells_row v n (tree_then (dict es) no_trees) = one_dict n es (scan (structure_fault v) 0 (structures (dict es)))
 cells_row v n (tree_then (dict es) (tree_then t ts)) = refl
 cells_row v n (tree_then t no_trees) = refl
 cells_row v n (tree_then t (tree_then u ts)) = refl
 cells_row v n no_trees = refl
 
-pub list_row : (v : Version) (n : Name) (ts : Trees) → row_told v n (cell_list ∷ []) ts ≡ (one_field ts >>= λ t. list_told t >>= λ us. (cell_told v t >>= as_list) >>= λ c. Ok (said n (c ∷ []) []))
+pub list_row : (v : Version) (n : Name) (ts : Trees) → contents_of_row v n (cell_list ∷ []) ts ≡ (one_field ts >>= λ t. members_of_list t >>= λ us. (cell_of_field v t >>= as_list) >>= λ c. Ok (contents n (c ∷ []) []))
 list_row v n (tree_then (list us) no_trees) = one_list n us (scan (structure_fault v) 0 (structures (list us)))
 list_row v n (tree_then (list us) (tree_then t ts)) = refl
 list_row v n (tree_then t no_trees) = refl
@@ -70,12 +70,12 @@ list_row v n (tree_then t (tree_then u ts)) = refl
 list_row v n no_trees = refl
 
 text_and_dict : (n : Name) (t : Tree) (es : Entries) (a : Result (List Tree) MsgFault) (r : Result ℕ (CellReason × ℕ))
-    → ((a >>= λ x. Ok (x ++ [])) >>= λ x. ((cell_by r (dict es) >>= λ x. Ok (x ∷ [])) >>= λ xs. Ok (t ∷ xs)) >>= λ fs. Ok (said n fs x)) ≡ (a >>= λ x. (cell_by r (dict es) >>= as_dict) >>= λ c. Ok (said n (t ∷ c ∷ []) x))
-text_and_dict n t es (Ok a) (Ok b) = ap (λ x. Ok (said n (t ∷ dict (typed_under es) ∷ []) x)) (append-nil a)
+    → ((a >>= λ x. Ok (x ++ [])) >>= λ x. ((cell_by r (dict es) >>= λ x. Ok (x ∷ [])) >>= λ xs. Ok (t ∷ xs)) >>= λ fs. Ok (contents n fs x)) ≡ (a >>= λ x. (cell_by r (dict es) >>= as_dict) >>= λ c. Ok (contents n (t ∷ c ∷ []) x))
+text_and_dict n t es (Ok a) (Ok b) = ap (λ x. Ok (contents n (t ∷ dict (typed_under es) ∷ []) x)) (append-nil a)
 text_and_dict n t es (Ok a) (Err b) = refl
 text_and_dict n t es (Err a) b = refl
 
 pub run_row : (v : Version) (ts : Trees)
-    → row_told v RUN (text_field ∷ cells ∷ extra ignored mode_alone ∷ []) ts ≡ (run_parts ts >>= λ p. run_told v p.0 p.1 p.2)
-run_row v (tree_then (text s) (tree_then (dict ps) (tree_then (dict es) no_trees))) = text_and_dict RUN (text s) ps (mode_told (lookup (codes "mode") es)) (scan (structure_fault v) 0 (structures (dict ps)))
+    → contents_of_row v RUN (text_field ∷ cells ∷ extra ignored mode_alone ∷ []) ts ≡ (run_parts ts >>= λ p. contents_of_run v p.0 p.1 p.2)
+run_row v (tree_then (text s) (tree_then (dict ps) (tree_then (dict es) no_trees))) = text_and_dict RUN (text s) ps (contents_of_mode (lookup (codes "mode") es)) (scan (structure_fault v) 0 (structures (dict ps)))
 run_row v ts = refl

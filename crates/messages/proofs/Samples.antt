@@ -5,19 +5,19 @@ use Rattle.packstream.specs.Reading.{items_at, struct_at, form_at, layer, inner}
 use Rattle.packstream.specs.Answers.{whole_of}
 use Rattle.wire.specs.declared.Version.TheVariants.{V51}
 use Rattle.wire.specs.declared.Wish.TheVariants.{Newest}
-use Rattle.wire.specs.Offers.{offered, version_answer}
+use Rattle.wire.specs.Offers.{offer_of, version_answer}
 use Rattle.messages.specs.declared.fault.MsgFault.TheVariants as fault
 use Rattle.messages.specs.View.{Reset, Ignored}
 use Rattle.messages.specs.Messages.{request_of, response_of}
 use Rattle.messages.specs.Arrivals.{Shook, NoMagic, Idle, Asked, Unread, arrivals, Chosen, Strange, Quiet, Told, hears}
 
 -- the offer of 5.1 and 4.4, a no-op, RESET, and half of a header
-a_reset_arrives : arrivals (offered Newest ++ 0 ∷ 0 ∷ 0 ∷ 2 ∷ 0xB0 ∷ 0x0F ∷ 0 ∷ 0 ∷ 0 ∷ []) ≡ Shook (Some V51) ∷ Idle ∷ Asked Reset ∷ []
+a_reset_arrives : arrivals (offer_of Newest ++ 0 ∷ 0 ∷ 0 ∷ 2 ∷ 0xB0 ∷ 0x0F ∷ 0 ∷ 0 ∷ 0 ∷ []) ≡ Shook (Some V51) ∷ Idle ∷ Asked Reset ∷ []
 unfolding request_of whole_of layer inner form_at marker struct_at items_at
 a_reset_arrives = refl
 
 -- a structure without fields by the tag of no request, and then RESET
-no_request_arrives : arrivals (offered Newest ++ 0 ∷ 2 ∷ 0xB0 ∷ 0x7E ∷ 0 ∷ 0 ∷ 0 ∷ 2 ∷ 0xB0 ∷ 0x0F ∷ 0 ∷ 0 ∷ []) ≡ Shook (Some V51) ∷ Unread fault.UnknownTag ∷ []
+no_request_arrives : arrivals (offer_of Newest ++ 0 ∷ 2 ∷ 0xB0 ∷ 0x7E ∷ 0 ∷ 0 ∷ 0 ∷ 2 ∷ 0xB0 ∷ 0x0F ∷ 0 ∷ 0 ∷ []) ≡ Shook (Some V51) ∷ Unread fault.UnknownTag ∷ []
 unfolding request_of whole_of layer inner form_at marker struct_at items_at
 no_request_arrives = refl
 

@@ -11,9 +11,9 @@ use Rattle.messages.specs.declared.request.Count.{Count}
 use Rattle.messages.specs.declared.request.Count.TheVariants.{All, Of}
 use Rattle.messages.specs.declared.fault.MsgFault.{MsgFault}
 use Rattle.messages.specs.declared.fault.MsgFault.TheVariants as fault
-use Rattle.messages.specs.Table.{a_text, Named, Others, ignored, refused, extra, Name, Row, named, credentials, mode_alone, how_many, row_in}
-use Rattle.messages.specs.View.{Login}
-use Rattle.messages.specs.Reading.{◌>>=◌, Said, said, lookup, text_told, mode_told, count_told, query_told, all_told, all_named, extra_told, row_told, row_at, told_by, message_told, mode_tree, count_tree, login_trees}
+use Rattle.messages.specs.Table.{a_text, Named, Others, ignored, refused, extra, Name, Row, named_entry, credentials, mode_alone, how_many, row_in}
+use Rattle.messages.specs.View.{AuthView}
+use Rattle.messages.specs.Reading.{◌>>=◌, Contents, contents, lookup, contents_of_text, contents_of_mode, contents_of_count, contents_of_query, contents_of_named, all_named, contents_of_extra, contents_of_row, row_at, contents_by_row, contents_of_message, mode_tree, count_tree, login_trees}
 use Rattle.messages.specs.Parts.{no_field, only_dict, as_dict, as_list}
 use Rattle.messages.proofs.Rows.{none_row, extra_row}
 
@@ -39,7 +39,7 @@ IsCount xs = (c : Count) × (xs ≡ count_tree c ∷ [])
 abbrev pub IsNothing : List Tree → Type 0
 IsNothing xs = xs ≡ []
 
-text_said : (o : Option Tree) → IfOk (text_told o) IsText
+text_said : (o : Option Tree) → IfOk (contents_of_text o) IsText
 text_said (Some (text s)) = (s, refl)
 text_said o = tt
 
@@ -48,7 +48,7 @@ mode_by s true b e f = (Read, ap (λ x. text x ∷ []) ((bytes_eq-Decides s (cod
 mode_by s false true e f = (Write, ap (λ x. text x ∷ []) ((bytes_eq-Decides s (codes "w")).0 f))
 mode_by s false false e f = tt
 
-pub mode_said : (o : Option Tree) → IfOk (mode_told o) IsMode
+pub mode_said : (o : Option Tree) → IfOk (contents_of_mode o) IsMode
 mode_said None = (Write, refl)
 mode_said (Some (text s)) = mode_by s (bytes_eq s (codes "r")) (bytes_eq s (codes "w")) refl refl
 mode_said o = tt
@@ -58,7 +58,7 @@ count_by z true b = (All, refl)
 count_by z false true = (Of z, refl)
 count_by z false false = tt
 
-count_said : (o : Option Tree) → IfOk (count_told o) IsCount
+count_said : (o : Option Tree) → IfOk (contents_of_count o) IsCount
 count_said (Some (int z)) = count_by z (int_eq z (negsuc 0)) (int_le (pos 1) z)
 count_said o = tt
 
@@ -66,7 +66,7 @@ query_by : (a : Bool) → IfOk (cond {A = Result (List Tree) MsgFault} a (Ok [])
 query_by true = refl
 query_by false = tt
 
-query_said : (o : Option Tree) → IfOk (query_told o) IsNothing
+query_said : (o : Option Tree) → IfOk (contents_of_query o) IsNothing
 query_said None = refl
 query_said (Some (int z)) = query_by (int_eq z (negsuc 0))
 query_said o = tt
@@ -76,35 +76,35 @@ abbrev pub IsTwo : List Tree → Type 0
 IsTwo xs = (a : List ℕ) × (b : List ℕ) × (xs ≡ text a ∷ text b ∷ [])
 
 abbrev pub IsLogin : List Tree → Type 0
-IsLogin xs = (l : Login) × (xs ≡ login_trees l)
+IsLogin xs = (l : AuthView) × (xs ≡ login_trees l)
 
 -- an entry that is a text, before others
 pub each_text : (v : Version) (name : List ℕ) (stands : Version → Bool) (ns : List Named) (es : Entries) (Q P : List Tree → Type 0)
-    → stands v ≡ true → IfOk (all_told v ns es) Q → ((s : List ℕ) (xs : List Tree) → Q xs → P (text s ∷ xs)) → IfOk (all_told v (named name stands a_text ∷ ns) es) P
+    → stands v ≡ true → IfOk (contents_of_named v ns es) Q → ((s : List ℕ) (xs : List Tree) → Q xs → P (text s ∷ xs)) → IfOk (contents_of_named v (named_entry name stands a_text ∷ ns) es) P
 each_text v name stands ns es Q P e h k =
-    subst (λ b. IfOk (cond b (text_told (lookup name es)) (Ok []) >>= λ x. all_told v ns es >>= λ xs. Ok (x ++ xs)) P) (sym e)
-    (if_bind (text_told (lookup name es)) (λ x. all_told v ns es >>= λ xs. Ok (x ++ xs)) IsText P (text_said (lookup name es))
-    (λ x p. if_bind (all_told v ns es) (λ xs. Ok (x ++ xs)) Q P h (λ xs q. subst (λ y. P (y ++ xs)) (sym p.1) (k p.0 xs q))))
+    subst (λ b. IfOk (cond b (contents_of_text (lookup name es)) (Ok []) >>= λ x. contents_of_named v ns es >>= λ xs. Ok (x ++ xs)) P) (sym e)
+    (if_bind (contents_of_text (lookup name es)) (λ x. contents_of_named v ns es >>= λ xs. Ok (x ++ xs)) IsText P (text_said (lookup name es))
+    (λ x p. if_bind (contents_of_named v ns es) (λ xs. Ok (x ++ xs)) Q P h (λ xs q. subst (λ y. P (y ++ xs)) (sym p.1) (k p.0 xs q))))
 
-pub two_said : (v : Version) (a b : List ℕ) (stands : Version → Bool) (es : Entries) → stands v ≡ true → IfOk (all_told v (named a stands a_text ∷ named b stands a_text ∷ []) es) IsTwo
+pub two_said : (v : Version) (a b : List ℕ) (stands : Version → Bool) (es : Entries) → stands v ≡ true → IfOk (contents_of_named v (named_entry a stands a_text ∷ named_entry b stands a_text ∷ []) es) IsTwo
 two_said v a b stands es e =
-    each_text v a stands (named b stands a_text ∷ []) es IsText IsTwo e (each_text v b stands [] es IsNothing IsText e refl (λ s xs q. (s, ap (λ l. text s ∷ l) q)))
+    each_text v a stands (named_entry b stands a_text ∷ []) es IsText IsTwo e (each_text v b stands [] es IsNothing IsText e refl (λ s xs q. (s, ap (λ l. text s ∷ l) q)))
     (λ s xs q. (s, q.0, ap (λ l. text s ∷ l) q.1))
 
-pub login_said : (v : Version) (stands : Version → Bool) (es : Entries) → stands v ≡ true → IfOk (all_told v (credentials stands) es) IsLogin
+pub login_said : (v : Version) (stands : Version → Bool) (es : Entries) → stands v ≡ true → IfOk (contents_of_named v (credentials stands) es) IsLogin
 login_said v stands es e =
-    each_text v (codes "scheme") stands (named (codes "principal") stands a_text ∷ named (codes "credentials") stands a_text ∷ []) es IsTwo IsLogin e
+    each_text v (codes "scheme") stands (named_entry (codes "principal") stands a_text ∷ named_entry (codes "credentials") stands a_text ∷ []) es IsTwo IsLogin e
     (two_said v (codes "principal") (codes "credentials") stands es e)
     (λ s xs q. (record { scheme = s; principal = q.0; credentials = q.1 }, ap (λ l. text s ∷ l) q.2))
 
-pub mode_alone_said : (v : Version) (es : Entries) → IfOk (all_told v mode_alone es) IsMode
-mode_alone_said v es = if_bind (mode_told (lookup (codes "mode") es)) (λ x. Ok (x ++ [])) IsMode IsMode (mode_said (lookup (codes "mode") es)) (λ x p. (p.0, ap (λ l. l ++ []) p.1))
+pub mode_alone_said : (v : Version) (es : Entries) → IfOk (contents_of_named v mode_alone es) IsMode
+mode_alone_said v es = if_bind (contents_of_mode (lookup (codes "mode") es)) (λ x. Ok (x ++ [])) IsMode IsMode (mode_said (lookup (codes "mode") es)) (λ x p. (p.0, ap (λ l. l ++ []) p.1))
 
-pub how_many_said : (v : Version) (es : Entries) → IfOk (all_told v how_many es) IsCount
+pub how_many_said : (v : Version) (es : Entries) → IfOk (contents_of_named v how_many es) IsCount
 how_many_said v es =
-    if_bind (count_told (lookup (codes "n") es)) (λ x. (query_told (lookup (codes "qid") es) >>= λ y. Ok (y ++ [])) >>= λ xs. Ok (x ++ xs)) IsCount IsCount (count_said (lookup (codes "n") es)) (λ x p.
-    if_bind (query_told (lookup (codes "qid") es) >>= λ y. Ok (y ++ [])) (λ xs. Ok (x ++ xs)) IsNothing IsCount
-    (if_bind (query_told (lookup (codes "qid") es)) (λ y. Ok (y ++ [])) IsNothing IsNothing (query_said (lookup (codes "qid") es)) (λ y q. ap (λ l. l ++ []) q))
+    if_bind (contents_of_count (lookup (codes "n") es)) (λ x. (contents_of_query (lookup (codes "qid") es) >>= λ y. Ok (y ++ [])) >>= λ xs. Ok (x ++ xs)) IsCount IsCount (count_said (lookup (codes "n") es)) (λ x p.
+    if_bind (contents_of_query (lookup (codes "qid") es) >>= λ y. Ok (y ++ [])) (λ xs. Ok (x ++ xs)) IsNothing IsCount
+    (if_bind (contents_of_query (lookup (codes "qid") es)) (λ y. Ok (y ++ [])) IsNothing IsNothing (query_said (lookup (codes "qid") es)) (λ y q. ap (λ l. l ++ []) q))
     (λ xs q. (p.0, ap (λ l. l ++ xs) p.1 ∙ ap (λ l. count_tree p.0 ∷ l) q)))
 
 -- What a field says.
@@ -123,44 +123,44 @@ list_said (list ts) = (ts, refl)
 list_said t = tt
 
 -- What a row tells is what a message holds, where it is so of each of its contents.
-abbrev pub Tells : (Said → Type 0) → Version → Row → Type 0
-Tells B v r = (ts : Trees) → IfOk (row_told v r.name r.fields ts) B
+abbrev pub Tells : (Contents → Type 0) → Version → Row → Type 0
+Tells B v r = (ts : Trees) → IfOk (contents_of_row v r.name r.fields ts) B
 
-pub none_tells : (B : Said → Type 0) (v : Version) (n : Name) (ts : Trees) → B (said n [] []) → IfOk (row_told v n [] ts) B
-none_tells B v n ts h = subst (λ r. IfOk r B) (sym (none_row v n ts)) (if_bind (no_field ts) (λ x. Ok (said n [] [])) (λ x. Unit {0}) B (if_any (no_field ts)) (λ x p. h))
+pub none_tells : (B : Contents → Type 0) (v : Version) (n : Name) (ts : Trees) → B (contents n [] []) → IfOk (contents_of_row v n [] ts) B
+none_tells B v n ts h = subst (λ r. IfOk r B) (sym (none_row v n ts)) (if_bind (no_field ts) (λ x. Ok (contents n [] [])) (λ x. Unit {0}) B (if_any (no_field ts)) (λ x p. h))
 
-pub extra_said : (v : Version) (o : Others) (ns : List Named) (es : Entries) (P : List Tree → Type 0) → IfOk (all_told v ns es) P → IfOk (extra_told v o ns es) P
+pub extra_said : (v : Version) (o : Others) (ns : List Named) (es : Entries) (P : List Tree → Type 0) → IfOk (contents_of_named v ns es) P → IfOk (contents_of_extra v o ns es) P
 extra_said v ignored ns es P h = h
 extra_said v refused ns es P h = go (all_named ns es)
   where
-    go : (b : Bool) → IfOk (cond b (all_told v ns es) (Err fault.Extra)) P
+    go : (b : Bool) → IfOk (cond b (contents_of_named v ns es) (Err fault.Extra)) P
     go true = h
     go false = tt
 
-pub extra_tells : (B : Said → Type 0) (v : Version) (n : Name) (o : Others) (ns : List Named) (ts : Trees) (P : List Tree → Type 0)
-    → ((es : Entries) → IfOk (all_told v ns es) P) → ((xs : List Tree) → P xs → B (said n [] xs)) → IfOk (row_told v n (extra o ns ∷ []) ts) B
+pub extra_tells : (B : Contents → Type 0) (v : Version) (n : Name) (o : Others) (ns : List Named) (ts : Trees) (P : List Tree → Type 0)
+    → ((es : Entries) → IfOk (contents_of_named v ns es) P) → ((xs : List Tree) → P xs → B (contents n [] xs)) → IfOk (contents_of_row v n (extra o ns ∷ []) ts) B
 extra_tells B v n o ns ts P h k =
     subst (λ r. IfOk r B) (sym (extra_row v n o ns ts))
-    (if_bind (only_dict ts) (λ es. extra_told v o ns es >>= λ xs. Ok (said n [] xs)) (λ x. Unit {0}) B (if_any (only_dict ts)) (λ es u.
-    if_bind (extra_told v o ns es) (λ xs. Ok (said n [] xs)) P B (extra_said v o ns es P (h es)) (λ xs p. k xs p)))
+    (if_bind (only_dict ts) (λ es. contents_of_extra v o ns es >>= λ xs. Ok (contents n [] xs)) (λ x. Unit {0}) B (if_any (only_dict ts)) (λ es u.
+    if_bind (contents_of_extra v o ns es) (λ xs. Ok (contents n [] xs)) P B (extra_said v o ns es P (h es)) (λ xs p. k xs p)))
 
 -- The rows of a table.
-abbrev pub AllTell : (Said → Type 0) → Version → List Row → Type 0
+abbrev pub AllTell : (Contents → Type 0) → Version → List Row → Type 0
 AllTell B v [] = Unit {0}
 AllTell B v (r ∷ rs) = Tells B v r × AllTell B v rs
 
-rows_tell : (B : Said → Type 0) (v : Version) (table : List Row) → AllTell B v table → (tag : ℕ) (ts : Trees) → IfOk (told_by v (row_at v (row_in tag table)) ts) B
+rows_tell : (B : Contents → Type 0) (v : Version) (table : List Row) → AllTell B v table → (tag : ℕ) (ts : Trees) → IfOk (contents_by_row v (row_at v (row_in tag table)) ts) B
 rows_tell B v [] h tag ts = tt
 rows_tell B v (r ∷ rs) h tag ts = go (tag == r.tag) (rows_tell B v rs h.1 tag ts)
   where
-    at : (b : Bool) → IfOk (told_by v (cond b (Some r) None) ts) B
+    at : (b : Bool) → IfOk (contents_by_row v (cond b (Some r) None) ts) B
     at true = h.0 ts
     at false = tt
 
-    go : (b : Bool) → IfOk (told_by v (row_at v (row_in tag rs)) ts) B → IfOk (told_by v (row_at v (cond b (Some r) (row_in tag rs))) ts) B
+    go : (b : Bool) → IfOk (contents_by_row v (row_at v (row_in tag rs)) ts) B → IfOk (contents_by_row v (row_at v (cond b (Some r) (row_in tag rs))) ts) B
     go true k = at (r.stands v)
     go false k = k
 
-pub message_tells : (B : Said → Type 0) (v : Version) (table : List Row) → AllTell B v table → (t : Tree) → IfOk (message_told v table t) B
+pub message_tells : (B : Contents → Type 0) (v : Version) (table : List Row) → AllTell B v table → (t : Tree) → IfOk (contents_of_message v table t) B
 message_tells B v table h (structure tag ts) = rows_tell B v table h tag ts
 message_tells B v table h t = tt

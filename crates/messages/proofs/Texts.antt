@@ -1,4 +1,4 @@
--- The text of a structure, from what making its value and its spelling told.
+-- The spelling of a structure, from what making its value and encoding it told.
 use Rattle.std.proofs.Common.{◌≡◌, ◌↔◌, ◌<◌, ℕ, List, length, Bool, true, false, cond, nat_lt, Result, Ok, Err, OnOk, refl, ap, arith}
 use borrow.Author.Tests.{ltb-true, ltb-false}
 use Rattle.packstream.specs.declared.fault.Reason.{Reason}
@@ -11,7 +11,7 @@ use Rattle.messages.specs.declared.fault.MsgFault.{MsgFault}
 use Rattle.messages.specs.declared.fault.MsgFault.TheVariants as fault
 use Rattle.messages.specs.Faults.{of_pack}
 use Rattle.messages.specs.Reading.{◌>>=◌}
-use Rattle.messages.specs.Writing.{packed_by, sized, text_put_of, Appends}
+use Rattle.messages.specs.Writing.{packed_by, spelling_within, spelling_of_tree, Appends}
 
 size_fits : (n : ℕ) (b : Bool) (s : List ℕ) → nat_lt 65536 n ≡ b → (65536 < n → ⊥) → cond {A = Result (List ℕ) MsgFault} b (Err fault.Size) (Ok s) ≡ Ok s
 size_fits n true s e h = absurd (h (ltb-true _ _ e))
@@ -21,24 +21,24 @@ size_past : (n : ℕ) (b : Bool) (s : List ℕ) → nat_lt 65536 n ≡ b → 655
 size_past n true s e h = refl
 size_past n false s e h = absurd (omega (arith, ltb-false _ _ e, h))
 
-pub sized_fits : (t : Tree) → (65536 < length (canon t) → ⊥) → sized t ≡ Ok (canon t)
+pub sized_fits : (t : Tree) → (65536 < length (canon t) → ⊥) → spelling_within t ≡ Ok (canon t)
 sized_fits t h = size_fits (length (canon t)) _ (canon t) refl h
 
-pub sized_past : (t : Tree) → 65536 < length (canon t) → sized t ≡ Err fault.Size
+pub sized_past : (t : Tree) → 65536 < length (canon t) → spelling_within t ≡ Err fault.Size
 sized_past t h = size_past (length (canon t)) _ (canon t) refl h
 
 abbrev pub Told : Tree → Result Tree PackFault → Type 0
 Told t made = (r : Reason) (o : ℕ) → (made ≡ Err (pack.Refused r o)) ↔ (first_fault (faults_in 0 false t) 0 ≡ Err (r, o))
 
-good_by : (t u : Tree) (r : Result ℕ (Reason × ℕ)) → first_fault (faults_in 0 false t) 0 ≡ r → Told t (Ok u) → (packed_by r t >>= sized) ≡ sized t
+good_by : (t u : Tree) (r : Result ℕ (Reason × ℕ)) → first_fault (faults_in 0 false t) 0 ≡ r → Told t (Ok u) → (packed_by r t >>= spelling_within) ≡ spelling_within t
 good_by t u (Ok n) w h = refl
 good_by t u (Err e) w h = absurd (let k = (h e.0 e.1).1 w in cc)
 
-pub good_text : (t u : Tree) → Told t (Ok u) → text_put_of t ≡ sized t
+pub good_text : (t u : Tree) → Told t (Ok u) → spelling_of_tree t ≡ spelling_within t
 good_text t u h = good_by t u (first_fault (faults_in 0 false t) 0) refl h
 
-pub bad_text : (t : Tree) (p : PackFault) → Told t (Err p) → (◌≡◌ {A = Result Tree PackFault} (Err p) (Err pack.Memory) → ⊥) → text_put_of t ≡ Err (of_pack p)
-bad_text t (pack.Refused r o) h m = ap (λ x. packed_by x t >>= sized) ((h r o).0 refl)
+pub bad_text : (t : Tree) (p : PackFault) → Told t (Err p) → (◌≡◌ {A = Result Tree PackFault} (Err p) (Err pack.Memory) → ⊥) → spelling_of_tree t ≡ Err (of_pack p)
+bad_text t (pack.Refused r o) h m = ap (λ x. packed_by x t >>= spelling_within) ((h r o).0 refl)
 bad_text t pack.Memory h m = absurd (m refl)
 
 pub nothing_appended : {A : Type 0} (r : Result A MsgFault) (old : List ℕ) (s : Result (List ℕ) MsgFault) (e : MsgFault) → r ≡ Err e → s ≡ Err e → Appends r old old s
@@ -48,12 +48,12 @@ sized_is : (n : ℕ) (c : Bool) (s b : List ℕ) → nat_lt 65536 n ≡ c → co
 sized_is n true s b e h = absurd cc
 sized_is n false s b e h = cc
 
-packed_is : (t : Tree) (r : Result ℕ (Reason × ℕ)) (b : List ℕ) → (packed_by r t >>= sized) ≡ Ok b → b ≡ canon t
+packed_is : (t : Tree) (r : Result ℕ (Reason × ℕ)) (b : List ℕ) → (packed_by r t >>= spelling_within) ≡ Ok b → b ≡ canon t
 packed_is t (Ok n) b h = sized_is (length (canon t)) _ (canon t) b refl h
 packed_is t (Err e) b h = absurd cc
 
--- the text of a structure is its shortest spelling
-pub canon_is : (t : Tree) (b : List ℕ) → text_put_of t ≡ Ok b → b ≡ canon t
+-- what is written of a structure is its shortest spelling
+pub canon_is : (t : Tree) (b : List ℕ) → spelling_of_tree t ≡ Ok b → b ≡ canon t
 canon_is t b h = packed_is t (first_fault (faults_in 0 false t) 0) b h
 
 pub on_ok : {A : Type 0} (r : Result A MsgFault) (P Q : Type 0) → (P → Q) → OnOk r P → OnOk r Q

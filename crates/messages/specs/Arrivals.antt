@@ -5,16 +5,16 @@ use Rattle.std.specs.Str.{bytes_eq}
 use Rattle.wire.specs.declared.Version.{Version}
 use Rattle.wire.specs.declared.Wish.{Wish}
 use Rattle.wire.specs.Versions.{versions}
-use Rattle.wire.specs.Offers.{magic, chosen as version_taken, offered, wished, version_answer}
-use Rattle.wire.specs.Texts.{text_of, noop}
-use Rattle.wire.specs.Framing.{Item, Opening, Noop, Message, TooBig, received, heard as items_heard, texts, within, said_text, said_within}
+use Rattle.wire.specs.Offers.{magic, choice_of as version_taken, offer_of, wish_version, version_answer}
+use Rattle.wire.specs.Texts.{written_run, noop}
+use Rattle.wire.specs.Framing.{Item, Opening, Noop, Message, TooBig, items_received, items_heard, bytes_in_order, within, bytes_newest_first, within_newest_first}
 use Rattle.wire.specs.Unfinished.{fresh}
 use Rattle.wire.specs.Stream.{items_of}
 use Rattle.wire.specs.Whole.{whole}
 use Rattle.messages.specs.declared.fault.MsgFault.{MsgFault}
-use Rattle.messages.specs.View.{Ask, Say}
+use Rattle.messages.specs.View.{RequestView, ResponseView}
 use Rattle.messages.specs.Messages.{Req, Resp, request_of, response_of}
-use Rattle.messages.specs.Writing.{request_text, response_text}
+use Rattle.messages.specs.Writing.{request_spelling, response_spelling}
 
 -- What a server takes a whole item of the bytes as: an offer, with the version taken of it, or none; an offer that doesn't begin
 -- with the magic; a no-op; a request; bytes that stand for no request; the header that takes a message past its limit.
@@ -22,38 +22,41 @@ pub data Arrival : Type 0 where
   Shook : Option Version → Arrival
   NoMagic : Arrival
   Idle : Arrival
-  Asked : Ask → Arrival
+  Asked : RequestView → Arrival
   Unread : MsgFault → Arrival
   TooLong : Arrival
 
 -- by the bytes of an offer
-abbrev pub shaken : List ℕ → Arrival
-shaken bytes = if bytes_eq (take 4 bytes) magic then Shook (version_taken (drop 4 bytes)) else NoMagic
+abbrev pub arrival_of_offer : List ℕ → Arrival
+arrival_of_offer bytes =
+    if bytes_eq (take 4 bytes) magic then Shook (version_taken (drop 4 bytes)) else NoMagic
 
 -- after bytes that stand for no request nothing is read
-abbrev pub then_asked : Result Ask MsgFault → List Arrival → List Arrival
-then_asked (Ok m) rest = Asked m ∷ rest
-then_asked (Err e) rest = Unread e ∷ []
+abbrev pub then_request : Result RequestView MsgFault → List Arrival → List Arrival
+then_request (Ok m) rest = Asked m ∷ rest
+then_request (Err e) rest = Unread e ∷ []
 
-abbrev pub asked_in : Version → List Item → List Arrival
-asked_in v [] = []
-asked_in v (Opening bytes ∷ xs) = []
-asked_in v (Noop ∷ xs) = Idle ∷ asked_in v xs
-asked_in v (Message b ∷ xs) = then_asked (request_of v b) (asked_in v xs)
-asked_in v (TooBig ∷ xs) = TooLong ∷ []
+-- what a server takes the items after an offer as, up to the first after which nothing is read
+abbrev pub requests_in : Version → List Item → List Arrival
+requests_in v [] = []
+requests_in v (Opening bytes ∷ xs) = []
+requests_in v (Noop ∷ xs) = Idle ∷ requests_in v xs
+requests_in v (Message b ∷ xs) = then_request (request_of v b) (requests_in v xs)
+requests_in v (TooBig ∷ xs) = TooLong ∷ []
 
 -- requests are read by the version that was taken, and where none was, nothing is
 abbrev pub after_shake : Arrival → List Item → List Arrival
-after_shake (Shook (Some v)) xs = asked_in v xs
+after_shake (Shook (Some v)) xs = requests_in v xs
 after_shake a xs = []
 
+-- what a server takes the items of a stream as: the offer, and what follows it
 abbrev pub arrivals_of : List Item → List Arrival
-arrivals_of (Opening bytes ∷ xs) = shaken bytes ∷ after_shake (shaken bytes) xs
+arrivals_of (Opening bytes ∷ xs) = arrival_of_offer bytes ∷ after_shake (arrival_of_offer bytes) xs
 arrivals_of xs = []
 
 -- what arrives at a server, the oldest first
 abbrev pub arrivals : List ℕ → List Arrival
-arrivals bytes = arrivals_of (received bytes)
+arrivals bytes = arrivals_of (items_received bytes)
 
 -- what arrives but no-ops
 abbrev pub without_idle : List Arrival → List Arrival
@@ -70,41 +73,49 @@ abbrev pub too_long : Bool → List Arrival
 too_long past = if past then TooLong ∷ [] else []
 
 -- the requests that messages stand for, up to the first that stands for none
-abbrev pub asked_of : Version → List (List ℕ) → Bool → List Arrival
-asked_of v [] past = too_long past
-asked_of v (b ∷ bs) past = then_asked (request_of v b) (asked_of v bs past)
+abbrev pub requests_of : Version → List (List ℕ) → Bool → List Arrival
+requests_of v [] past = too_long past
+requests_of v (b ∷ bs) past = then_request (request_of v b) (requests_of v bs past)
 
 -- What arrives after an offer of which a version is taken is the requests of the whole messages of the bytes after it, and the
 -- refusal of a message past its limit; no-ops aside.
 abbrev pub ArrivesWhole : Type 0
-ArrivesWhole = (offer bytes : List ℕ) (v : Version) → length offer ≡ 20 → shaken offer ≡ Shook (Some v)
-    → without_idle (arrivals (offer ++ bytes)) ≡ Shook (Some v) ∷ asked_of v (whole bytes) (items_of fresh bytes).rest.too_big
+ArrivesWhole = (offer bytes : List ℕ) (v : Version) → length offer ≡ 20
+    → arrival_of_offer offer ≡ Shook (Some v)
+    → without_idle (arrivals (offer ++ bytes))
+    ≡ Shook (Some v) ∷ requests_of v (whole bytes) (items_of fresh bytes).rest.too_big
 
 -- the chunks of what is written, empty where it can't be
-abbrev pub framed : Result (List ℕ) MsgFault → List ℕ
-framed (Ok b) = text_of b
-framed (Err e) = []
+abbrev pub run_of_result : Result (List ℕ) MsgFault → List ℕ
+run_of_result (Ok b) = written_run b
+run_of_result (Err e) = []
 
-abbrev pub request_bytes : Version → Ask → List ℕ
-request_bytes v m = framed (request_text v m)
+-- the written run of a request at a version, no bytes where it can't be written
+abbrev pub request_bytes : Version → RequestView → List ℕ
+request_bytes v m = run_of_result (request_spelling v m)
 
--- a request with a text that stands for it, as each has that this product wrote
-abbrev pub IsWritten : Version → Ask → Type 0
-IsWritten v m = (b : List ℕ) × (request_text v m ≡ Ok b) × Req v m b
+-- a request with a spelling that stands for it, as each has that this product wrote
+abbrev pub IsWritten : Version → RequestView → Type 0
+IsWritten v m = (b : List ℕ) × (request_spelling v m ≡ Ok b) × Req v m b
 
-abbrev pub AreWritten : Version → List Ask → Type 0
+-- requests each with a spelling that stands for it
+abbrev pub AreWritten : Version → List RequestView → Type 0
 AreWritten v [] = Unit {0}
 AreWritten v (m ∷ ms) = IsWritten v m × AreWritten v ms
 
--- Of every front of an offer and requests' texts, the version that was wished and the requests that lie whole in it arrive.
+-- Of every front of an offer and requests' runs, the version that was wished and the requests that lie whole in it arrive.
 abbrev pub RequestsArrive : Type 0
-RequestsArrive = (wish : Wish) (ms : List Ask) (n : ℕ) → AreWritten (wished wish) ms
-    → arrivals (take n (offered wish ++ texts (request_bytes (wished wish)) ms))
-    ≡ (if nat_le (length (offered wish)) n then Shook (Some (wished wish)) ∷ map Asked (within (request_bytes (wished wish)) (n - length (offered wish)) ms) else [])
+RequestsArrive = (wish : Wish) (ms : List RequestView) (n : ℕ) → AreWritten (wish_version wish) ms
+    → arrivals (take n (offer_of wish ++ bytes_in_order (request_bytes (wish_version wish)) ms))
+    ≡ (if nat_le (length (offer_of wish)) n then
+    Shook (Some (wish_version wish))
+    ∷ map Asked (within (request_bytes (wish_version wish)) (n - length (offer_of wish)) ms)
+    else [])
 
 -- What arrives of more bytes begins with what arrived.
 abbrev pub ArrivalsGoOn : Type 0
-ArrivalsGoOn = (bytes more : List ℕ) → (rest : List Arrival) × (arrivals (bytes ++ more) ≡ arrivals bytes ++ rest)
+ArrivalsGoOn = (bytes more : List ℕ)
+    → (rest : List Arrival) × (arrivals (bytes ++ more) ≡ arrivals bytes ++ rest)
 
 -- after which nothing is read
 abbrev pub IsLast : Arrival → Type 0
@@ -116,8 +127,10 @@ IsLast (Asked m) = ⊥
 IsLast (Unread e) = Unit {0}
 IsLast TooLong = Unit {0}
 
+-- Where nothing is read after one of the arrivals, more bytes bring none.
 abbrev pub NothingFollows : Type 0
-NothingFollows = (bytes more : List ℕ) (before after : List Arrival) (last : Arrival) → IsLast last → arrivals bytes ≡ before ++ last ∷ after → arrivals (bytes ++ more) ≡ arrivals bytes
+NothingFollows = (bytes more : List ℕ) (before after : List Arrival) (last : Arrival) → IsLast last
+    → arrivals bytes ≡ before ++ last ∷ after → arrivals (bytes ++ more) ≡ arrivals bytes
 
 -- What a client takes a whole item of the bytes as: the answer to its offer, with a version, or none; four bytes that are no such
 -- answer; a no-op; a response; bytes that stand for no response; the header that takes a message past its limit.
@@ -125,28 +138,31 @@ pub data Heard : Type 0 where
   Chosen : Option Version → Heard
   Strange : Heard
   Quiet : Heard
-  Told : Say → Heard
+  Told : ResponseView → Heard
   Unheard : MsgFault → Heard
   Over : Heard
 
 -- by the bytes of an answer: that of one of these versions, that of none, or none of them
 abbrev pub heard_among : List Version → List ℕ → Heard
 heard_among [] bytes = if bytes_eq bytes (version_answer None) then Chosen None else Strange
-heard_among (v ∷ vs) bytes = if bytes_eq bytes (version_answer (Some v)) then Chosen (Some v) else heard_among vs bytes
+heard_among (v ∷ vs) bytes =
+    if bytes_eq bytes (version_answer (Some v)) then Chosen (Some v) else heard_among vs bytes
 
+-- what a client takes a version answer as, among the versions of this product
 abbrev pub heard_version : List ℕ → Heard
 heard_version bytes = heard_among versions bytes
 
 -- after bytes that stand for no response nothing is read
-abbrev pub then_told : Result Say MsgFault → List Heard → List Heard
-then_told (Ok m) rest = Told m ∷ rest
-then_told (Err e) rest = Unheard e ∷ []
+abbrev pub then_response : Result ResponseView MsgFault → List Heard → List Heard
+then_response (Ok m) rest = Told m ∷ rest
+then_response (Err e) rest = Unheard e ∷ []
 
+-- what a client takes the items after its version as, up to the first after which nothing is heard
 abbrev pub heard_in : Version → List Item → List Heard
 heard_in v [] = []
 heard_in v (Opening bytes ∷ xs) = []
 heard_in v (Noop ∷ xs) = Quiet ∷ heard_in v xs
-heard_in v (Message b ∷ xs) = then_told (response_of v b) (heard_in v xs)
+heard_in v (Message b ∷ xs) = then_response (response_of v b) (heard_in v xs)
 heard_in v (TooBig ∷ xs) = Over ∷ []
 
 -- responses are read by the version that was answered, and where none was, nothing is
@@ -154,6 +170,7 @@ abbrev pub after_version : Heard → List Item → List Heard
 after_version (Chosen (Some v)) xs = heard_in v xs
 after_version h xs = []
 
+-- what a client takes the items of a stream as: the version answer, and what follows it
 abbrev pub heard_of : List Item → List Heard
 heard_of (Opening bytes ∷ xs) = heard_version bytes ∷ after_version (heard_version bytes) xs
 heard_of xs = []
@@ -167,13 +184,13 @@ abbrev pub heard_bytes : Version → Heard → List ℕ
 heard_bytes v (Chosen o) = version_answer o
 heard_bytes v Strange = []
 heard_bytes v Quiet = noop
-heard_bytes v (Told m) = framed (response_text v m)
+heard_bytes v (Told m) = run_of_result (response_spelling v m)
 heard_bytes v (Unheard e) = []
 heard_bytes v Over = []
 
--- a response with a text that stands for it, as each has that this product wrote
-abbrev pub IsSaid : Version → Say → Type 0
-IsSaid v m = (b : List ℕ) × (response_text v m ≡ Ok b) × Resp v m b
+-- a response with a spelling that stands for it, as each has that this product wrote
+abbrev pub IsSaid : Version → ResponseView → Type 0
+IsSaid v m = (b : List ℕ) × (response_spelling v m ≡ Ok b) × Resp v m b
 
 -- what a server of this product says where it takes a version, the newest first: the version, and after it no-ops and responses
 abbrev pub IsSpoken : Version → List Heard → Type 0
@@ -187,22 +204,29 @@ IsSpoken v (Over ∷ xs) = ⊥
 
 -- Of every front of what a server says, a client hears what lies whole in it.
 abbrev pub SaysArrive : Type 0
-SaysArrive = (v : Version) (xs : List Heard) (n : ℕ) → IsSpoken v xs → hears (take n (said_text (heard_bytes v) xs)) ≡ said_within (heard_bytes v) n xs
+SaysArrive = (v : Version) (xs : List Heard) (n : ℕ) → IsSpoken v xs
+    → hears (take n (bytes_newest_first (heard_bytes v) xs))
+    ≡ within_newest_first (heard_bytes v) n xs
 
 -- The same of all that a server has said by a moment: nothing yet, or what begins with a version.
 abbrev pub IsSaidSoFar : Version → List Heard → Type 0
 IsSaidSoFar v xs = (xs ≡ []) ⊎ IsSpoken v xs
 
+-- Of every front of what a server has said by a moment, a client hears what lies whole in it.
 abbrev pub SoFarArrives : Type 0
-SoFarArrives = (v : Version) (xs : List Heard) (n : ℕ) → IsSaidSoFar v xs → hears (take n (said_text (heard_bytes v) xs)) ≡ said_within (heard_bytes v) n xs
+SoFarArrives = (v : Version) (xs : List Heard) (n : ℕ) → IsSaidSoFar v xs
+    → hears (take n (bytes_newest_first (heard_bytes v) xs))
+    ≡ within_newest_first (heard_bytes v) n xs
 
 -- The answer of a server that takes no version is heard as that, once it is there whole.
 abbrev pub NoVersionArrives : Type 0
-NoVersionArrives = (n : ℕ) → hears (take n (version_answer None)) ≡ (if nat_le 4 n then Chosen None ∷ [] else [])
+NoVersionArrives = (n : ℕ)
+    → hears (take n (version_answer None)) ≡ (if nat_le 4 n then Chosen None ∷ [] else [])
 
 -- What is heard of more bytes is what was heard, and what is newer.
 abbrev pub HearsGoOn : Type 0
-HearsGoOn = (bytes more : List ℕ) → (newer : List Heard) × (hears (bytes ++ more) ≡ newer ++ hears bytes)
+HearsGoOn = (bytes more : List ℕ)
+    → (newer : List Heard) × (hears (bytes ++ more) ≡ newer ++ hears bytes)
 
 -- after which nothing is heard
 abbrev pub IsLastHeard : Heard → Type 0
@@ -214,5 +238,7 @@ IsLastHeard (Told m) = ⊥
 IsLastHeard (Unheard e) = Unit {0}
 IsLastHeard Over = Unit {0}
 
+-- Where nothing is heard after one of these, more bytes tell nothing more.
 abbrev pub NothingMoreHeard : Type 0
-NothingMoreHeard = (bytes more : List ℕ) (newer older : List Heard) (last : Heard) → IsLastHeard last → hears bytes ≡ newer ++ last ∷ older → hears (bytes ++ more) ≡ hears bytes
+NothingMoreHeard = (bytes more : List ℕ) (newer older : List Heard) (last : Heard)
+    → IsLastHeard last → hears bytes ≡ newer ++ last ∷ older → hears (bytes ++ more) ≡ hears bytes

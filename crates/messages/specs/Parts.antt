@@ -1,5 +1,5 @@
--- Messages a part at a time, as the code reads and builds them. Proofs alone need it: what it says is compared with the table.
-use Rattle.std.specs.Prelude.{◌≡◌, ℕ, pos, negsuc, int_le, List, [], ◌∷◌, cond, codes, Option, None, Some, Result, Ok, Err}
+-- Messages a part at a time, as the code reads and builds them. Private functions and proofs alone need it: what it says is compared with the table.
+use Rattle.std.specs.Prelude.{if◌then◌else◌, ◌≡◌, ℕ, pos, negsuc, int_le, List, [], ◌∷◌, codes, Option, None, Some, Result, Ok, Err}
 use Rattle.std.specs.Borrow.{Bor}
 use Rattle.packstream.specs.declared.value.Value.{Value}
 use Rattle.packstream.specs.Tree.{Tree, null, int, text, list, dict, structure, Trees, no_trees, tree_then, Entries}
@@ -9,7 +9,7 @@ use Rattle.messages.specs.declared.fault.MsgFault.{MsgFault}
 use Rattle.messages.specs.declared.fault.MsgFault.TheVariants as fault
 use Rattle.wire.specs.Versions.{every_version}
 use Rattle.messages.specs.Table.{credentials, RUN}
-use Rattle.messages.specs.Reading.{◌>>=◌, Said, said, lookup, mode_told, all_told, cell_told}
+use Rattle.messages.specs.Reading.{◌>>=◌, Contents, contents, lookup, contents_of_mode, contents_of_named, cell_of_field}
 
 -- a value that may be there, seen as its tree
 abbrev pub Seen : Option (Bor Value) → Option Tree → Type 0
@@ -21,59 +21,71 @@ abbrev pub no_field : Trees → Result (Unit {0}) MsgFault
 no_field no_trees = Ok tt
 no_field (tree_then t ts) = Err fault.Fields
 
+-- the only field; another number of them is a fault
 abbrev pub one_field : Trees → Result Tree MsgFault
 one_field (tree_then t no_trees) = Ok t
 one_field ts = Err fault.Fields
 
-abbrev pub dict_told : Tree → Result Entries MsgFault
-dict_told (dict es) = Ok es
-dict_told t = Err fault.Fields
+-- the entries of a field that is a dictionary; another kind is a fault
+abbrev pub entries_of_dict : Tree → Result Entries MsgFault
+entries_of_dict (dict es) = Ok es
+entries_of_dict t = Err fault.Fields
 
+-- the entries of the only field, a dictionary; other fields are a fault
 abbrev pub only_dict : Trees → Result Entries MsgFault
-only_dict ts = one_field ts >>= dict_told
+only_dict ts = one_field ts >>= entries_of_dict
 
-abbrev pub list_told : Tree → Result Trees MsgFault
-list_told (list ts) = Ok ts
-list_told t = Err fault.Fields
+-- the members of a field that is a list; another kind is a fault
+abbrev pub members_of_list : Tree → Result Trees MsgFault
+members_of_list (list ts) = Ok ts
+members_of_list t = Err fault.Fields
 
+-- the members of the only field, a list; other fields are a fault
 abbrev pub only_list : Trees → Result Trees MsgFault
-only_list ts = one_field ts >>= list_told
+only_list ts = one_field ts >>= members_of_list
 
 -- a text, a dictionary of cells as it stands, and the entries of the last field
 abbrev pub run_parts : Trees → Result (List ℕ × Tree × Entries) MsgFault
-run_parts (tree_then (text s) (tree_then (dict ps) (tree_then (dict es) no_trees))) = Ok (s, dict ps, es)
+run_parts (tree_then (text s) (tree_then (dict ps) (tree_then (dict es) no_trees))) =
+    Ok (s, dict ps, es)
 run_parts ts = Err fault.Fields
 
 -- who a client is
-abbrev pub login_told : Version → Entries → Result (List Tree) MsgFault
-login_told v es = all_told v (credentials every_version) es
+abbrev pub contents_of_login : Version → Entries → Result (List Tree) MsgFault
+contents_of_login v es = contents_of_named v (credentials every_version) es
 
+-- the bytes of a field that is a text; another kind is a fault
 abbrev pub field_text : Tree → Result (List ℕ) MsgFault
 field_text (text s) = Ok s
 field_text t = Err fault.Fields
 
+-- a field that is a dictionary, as it stands; another kind is a fault
 abbrev pub as_dict : Tree → Result Tree MsgFault
 as_dict (dict es) = Ok (dict es)
 as_dict t = Err fault.Fields
 
+-- a field that is a list, as it stands; another kind is a fault
 abbrev pub as_list : Tree → Result Tree MsgFault
 as_list (list ts) = Ok (list ts)
 as_list t = Err fault.Fields
 
 -- a field as a dictionary, or a list, of cells
-abbrev pub cells_told : Version → Tree → Result Tree MsgFault
-cells_told v t = cell_told v t >>= as_dict
+abbrev pub dict_of_cells : Version → Tree → Result Tree MsgFault
+dict_of_cells v t = cell_of_field v t >>= as_dict
 
-abbrev pub list_of_cells_told : Version → Tree → Result Tree MsgFault
-list_of_cells_told v t = cell_told v t >>= as_list
+-- a field as a list of cells of the version; a fault of the cells comes before one of its kind
+abbrev pub list_of_cells : Version → Tree → Result Tree MsgFault
+list_of_cells v t = cell_of_field v t >>= as_list
 
 -- a message without fields
-abbrev pub plain_told : Said → Trees → Result Said MsgFault
-plain_told s ts = no_field ts >>= λ x. Ok s
+abbrev pub contents_of_plain : Contents → Trees → Result Contents MsgFault
+contents_of_plain s ts = no_field ts >>= λ x. Ok s
 
 -- a RUN of its text, its parameters as they stand, and its other entries
-abbrev pub run_told : Version → List ℕ → Tree → Entries → Result Said MsgFault
-run_told v s t es = mode_told (lookup (codes "mode") es) >>= λ m. cells_told v t >>= λ c. Ok (said RUN (text s ∷ c ∷ []) m)
+abbrev pub contents_of_run : Version → List ℕ → Tree → Entries → Result Contents MsgFault
+contents_of_run v s t es =
+    contents_of_mode (lookup (codes "mode") es) >>= λ m. dict_of_cells v t
+    >>= λ c. Ok (contents RUN (text s ∷ c ∷ []) m)
 
 -- a structure of one dictionary with these entries
 abbrev pub with_dict : ℕ → Result Entries MsgFault → Result Tree MsgFault
@@ -82,5 +94,5 @@ with_dict tag r = r >>= λ es. Ok (structure tag (tree_then (dict es) no_trees))
 -- the number that a count is written as
 abbrev pub count_number : Tree → Result Tree MsgFault
 count_number null = Ok (int (negsuc 0))
-count_number (int z) = cond (int_le (pos 1) z) (Ok (int z)) (Err fault.Extra)
+count_number (int z) = if int_le (pos 1) z then Ok (int z) else Err fault.Extra
 count_number t = Err fault.Extra

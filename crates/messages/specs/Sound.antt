@@ -10,26 +10,30 @@ use Rattle.wire.specs.declared.Version.{Version}
 use Rattle.structures.specs.Form.{Form}
 use Rattle.messages.specs.declared.request.Count.{Count}
 use Rattle.messages.specs.declared.request.Count.TheVariants.{All, Of}
-use Rattle.messages.specs.View.{Login, Ask, Hello, Logon, Logoff, Goodbye, Reset, Run, Begin, Commit, Rollback, Discard, Pull, Say, Success, Record, Ignored, Failure}
+use Rattle.messages.specs.View.{AuthView, RequestView, Hello, Logon, Logoff, Goodbye, Reset, Run, Begin, Commit, Rollback, Discard, Pull, ResponseView, Success, Record, Ignored, Failure}
 use Rattle.messages.specs.Messages.{Req, Resp, request_of, response_of}
-use Rattle.messages.specs.Writing.{request_text, response_text}
+use Rattle.messages.specs.Writing.{request_spelling, response_spelling}
 
 -- a cell of the version: a value with its texts in UTF-8 and its numbers in their ranges stands for it
 abbrev pub IsCell : Version → Tree → Type 0
 IsCell v s = (t : Tree) × IsPlain t × Form v s t
 
-abbrev pub HasTexts : Login → Type 0
+-- scheme, principal and credentials are UTF-8
+abbrev pub HasTexts : AuthView → Type 0
 HasTexts l = IsUtf8 l.scheme × IsUtf8 l.principal × IsUtf8 l.credentials
 
-abbrev pub HasLogin : Option Login → Type 0
+-- where it is said who a client is, it is in UTF-8
+abbrev pub HasLogin : Option AuthView → Type 0
 HasLogin None = Unit {0}
 HasLogin (Some l) = HasTexts l
 
+-- all rows, or a number of 64 bits with a sign
 abbrev pub IsCount : Count → Type 0
 IsCount All = Unit {0}
 IsCount (Of n) = FitsSigned w64 n
 
-abbrev pub IsRequest : Version → Ask → Type 0
+-- texts in UTF-8, counts of 64 bits, and parameters that are a cell of the version
+abbrev pub IsRequest : Version → RequestView → Type 0
 IsRequest v (Hello agent l) = IsUtf8 agent × HasLogin l
 IsRequest v (Logon l) = HasTexts l
 IsRequest v Logoff = Unit {0}
@@ -42,22 +46,27 @@ IsRequest v Rollback = Unit {0}
 IsRequest v (Discard c) = IsCount c
 IsRequest v (Pull c) = IsCount c
 
-abbrev pub IsResponse : Version → Say → Type 0
+-- texts in UTF-8, and metadata or a row that is a cell of the version
+abbrev pub IsResponse : Version → ResponseView → Type 0
 IsResponse v (Success ms) = IsCell v (dict (entries_of ms))
 IsResponse v (Record cs) = IsCell v (list (trees_of cs))
 IsResponse v Ignored = Unit {0}
 IsResponse v (Failure code message) = IsUtf8 code × IsUtf8 message
 
--- What has a text reads back: the text stands for the message, and is read as it.
+-- What has a spelling reads back: the spelling stands for the message, and is read as it.
 abbrev pub RequestsReadBack : Type 0
-RequestsReadBack = (v : Version) (m : Ask) (b : List ℕ) → IsRequest v m → request_text v m ≡ Ok b → Req v m b × (request_of v b ≡ Ok m)
+RequestsReadBack = (v : Version) (m : RequestView) (b : List ℕ) → IsRequest v m
+    → request_spelling v m ≡ Ok b → Req v m b × (request_of v b ≡ Ok m)
 
+-- What has a spelling reads back, of responses: it stands for the response, and is read as it.
 abbrev pub ResponsesReadBack : Type 0
-ResponsesReadBack = (v : Version) (m : Say) (b : List ℕ) → IsResponse v m → response_text v m ≡ Ok b → Resp v m b × (response_of v b ≡ Ok m)
+ResponsesReadBack = (v : Version) (m : ResponseView) (b : List ℕ) → IsResponse v m
+    → response_spelling v m ≡ Ok b → Resp v m b × (response_of v b ≡ Ok m)
 
 -- What was read is so made.
 abbrev pub RequestsAreMade : Type 0
-RequestsAreMade = (v : Version) (m : Ask) (b : List ℕ) → Req v m b → IsRequest v m
+RequestsAreMade = (v : Version) (m : RequestView) (b : List ℕ) → Req v m b → IsRequest v m
 
+-- A response that bytes stand for is made of texts in UTF-8 and of cells of the version.
 abbrev pub ResponsesAreMade : Type 0
-ResponsesAreMade = (v : Version) (m : Say) (b : List ℕ) → Resp v m b → IsResponse v m
+ResponsesAreMade = (v : Version) (m : ResponseView) (b : List ℕ) → Resp v m b → IsResponse v m

@@ -5,11 +5,12 @@ use Rattle.std.specs.Fmt.{decimal}
 use Rattle.packstream.specs.Tree.{Tree, boolean, int, text}
 use Rattle.wire.specs.declared.Version.{Version}
 use Rattle.messages.specs.declared.request.Mode.{Mode}
-use Rattle.messages.specs.View.{Say, Success, Ignored, Failure}
+use Rattle.messages.specs.View.{ResponseView, Success, Ignored, Failure}
 use Rattle.messages.specs.Reading.{mode_tree}
 use Rattle.messages.specs.Messages.{Resp}
-use Rattle.messages.specs.Writing.{response_text}
+use Rattle.messages.specs.Writing.{response_spelling}
 
+-- a summary of a server of this product by what it tells, but for the SUCCESS of a RUN
 pub data Summary : Type 0 where
   -- of a HELLO, by the number of the connection
   Greeting : ℕ → Summary
@@ -26,6 +27,7 @@ pub data Summary : Type 0 where
   -- of a request that was passed over
   Passed : Summary
 
+-- the metadata of a SUCCESS: keys and their values, in order
 abbrev pub Metadata : Type 0
 Metadata = List (List ℕ × Tree)
 
@@ -33,25 +35,29 @@ Metadata = List (List ℕ × Tree)
 abbrev pub bookmark : ℕ → Metadata
 bookmark n = (codes "bookmark", text (codes "bk:" ++ decimal n)) ∷ []
 
+-- the bookmark where the ledger's length is told, and else no entry
 abbrev pub bookmark_of : Option ℕ → Metadata
 bookmark_of None = []
 bookmark_of (Some n) = bookmark n
 
+-- what the SUCCESS of a HELLO tells: the server's name, and the number of the connection
 abbrev pub greeting : ℕ → Metadata
-greeting n = (codes "server", text (codes "BoltTable/1")) ∷ (codes "connection_id", text (codes "bolt-" ++ decimal n)) ∷ []
+greeting n = (codes "server", text (codes "BoltTable/1"))
+    ∷ (codes "connection_id", text (codes "bolt-" ++ decimal n)) ∷ []
 
+-- what the last SUCCESS of a result tells: what the result was for, and `t_last`, always 0
 abbrev pub ending : Mode → Metadata
 ending m = (codes "type", mode_tree m) ∷ (codes "t_last", int (pos 0)) ∷ []
 
 -- the response
-abbrev pub said_of : Summary → Say
-said_of (Greeting n) = Success (greeting n)
-said_of RowsLeft = Success ((codes "has_more", boolean true) ∷ [])
-said_of (Closing bookmarked m) = Success (bookmark_of bookmarked ++ ending m)
-said_of (Committed n) = Success (bookmark n)
-said_of Plain = Success []
-said_of (Refused code message) = Failure code message
-said_of Passed = Ignored
+abbrev pub response_of_summary : Summary → ResponseView
+response_of_summary (Greeting n) = Success (greeting n)
+response_of_summary RowsLeft = Success ((codes "has_more", boolean true) ∷ [])
+response_of_summary (Closing bookmarked m) = Success (bookmark_of bookmarked ++ ending m)
+response_of_summary (Committed n) = Success (bookmark n)
+response_of_summary Plain = Success []
+response_of_summary (Refused code message) = Failure code message
+response_of_summary Passed = Ignored
 
 -- the numbers of connections and of the ledger's entries are in their ranges, and a failure's texts are short
 abbrev pub IsShort : Summary → Type 0
@@ -86,8 +92,10 @@ room Passed = 100
 
 -- it is written, in no more bytes than that
 abbrev pub FitsRoom : Version → Summary → Type 0
-FitsRoom v s = (b : List ℕ) × (response_text v (said_of s) ≡ Ok b) × (length b ≤ room s)
+FitsRoom v s = (b : List ℕ) × (response_spelling v (response_of_summary s) ≡ Ok b)
+    × (length b ≤ room s)
 
 -- what is written stands for it
 abbrev pub ReadsBack : Version → Summary → Type 0
-ReadsBack v s = (b : List ℕ) × (response_text v (said_of s) ≡ Ok b) × Resp v (said_of s) b
+ReadsBack v s = (b : List ℕ) × (response_spelling v (response_of_summary s) ≡ Ok b)
+    × Resp v (response_of_summary s) b

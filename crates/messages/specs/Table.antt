@@ -8,45 +8,59 @@ use Rattle.wire.specs.Versions.{every_version, hello_has_login, has_logon}
 abbrev pub hello_tag : ℕ
 hello_tag = 0x01
 
+-- the tag of LOGON, which says who the client is
 abbrev pub logon_tag : ℕ
 logon_tag = 0x6A
 
+-- the tag of LOGOFF, after which nobody is logged on
 abbrev pub logoff_tag : ℕ
 logoff_tag = 0x6B
 
+-- the tag of GOODBYE, with which a client ends its connection
 abbrev pub goodbye_tag : ℕ
 goodbye_tag = 0x02
 
+-- the tag of RESET, which drops what is open and leads back to Ready
 abbrev pub reset_tag : ℕ
 reset_tag = 0x0F
 
+-- the tag of RUN, a query with its parameters
 abbrev pub run_tag : ℕ
 run_tag = 0x10
 
+-- the tag of BEGIN, which opens a transaction
 abbrev pub begin_tag : ℕ
 begin_tag = 0x11
 
+-- the tag of COMMIT, which commits the open transaction
 abbrev pub commit_tag : ℕ
 commit_tag = 0x12
 
+-- the tag of ROLLBACK, which drops the open transaction
 abbrev pub rollback_tag : ℕ
 rollback_tag = 0x13
 
+-- the tag of DISCARD, which drops rows of the open result
 abbrev pub discard_tag : ℕ
 discard_tag = 0x2F
 
+-- the tag of PULL, which asks for rows of the open result
 abbrev pub pull_tag : ℕ
 pull_tag = 0x3F
 
+-- the tag of SUCCESS, which answers a request that was done
 abbrev pub success_tag : ℕ
 success_tag = 0x70
 
+-- the tag of RECORD, which holds one row of a result
 abbrev pub record_tag : ℕ
 record_tag = 0x71
 
+-- the tag of IGNORED, which answers a request that was passed over
 abbrev pub ignored_tag : ℕ
 ignored_tag = 0x7E
 
+-- the tag of FAILURE, which answers a request with an error
 abbrev pub failure_tag : ℕ
 failure_tag = 0x7F
 
@@ -105,28 +119,35 @@ pub record Row : Type 0 where
 abbrev pub row : Name → ℕ → (Version → Bool) → List Field → Row
 row n t s fs = record { name = n; tag = t; stands = s; fields = fs }
 
-abbrev pub named : List ℕ → (Version → Bool) → Holds → Named
-named n s h = record { name = n; stands = s; holds = h }
+-- a named entry by its parts: its name, the test of its versions, and what it holds
+abbrev pub named_entry : List ℕ → (Version → Bool) → Holds → Named
+named_entry n s h = record { name = n; stands = s; holds = h }
 
 -- who a client is, its mode, a count of rows, an error, and a HELLO
 abbrev pub credentials : (Version → Bool) → List Named
 credentials s =
-    named (codes "scheme") s a_text
-    ∷ named (codes "principal") s a_text
-    ∷ named (codes "credentials") s a_text
+    named_entry (codes "scheme") s a_text
+    ∷ named_entry (codes "principal") s a_text
+    ∷ named_entry (codes "credentials") s a_text
     ∷ []
 
+-- the named entries of RUN and BEGIN: the mode alone
 abbrev pub mode_alone : List Named
-mode_alone = named (codes "mode") every_version a_mode ∷ []
+mode_alone = named_entry (codes "mode") every_version a_mode ∷ []
 
+-- the named entries of PULL and DISCARD: a count of rows, and the number of the query
 abbrev pub how_many : List Named
-how_many = named (codes "n") every_version a_count ∷ named (codes "qid") every_version last_query ∷ []
+how_many = named_entry (codes "n") every_version a_count
+    ∷ named_entry (codes "qid") every_version last_query ∷ []
 
+-- the named entries of FAILURE: the code and the message of an error
 abbrev pub of_error : List Named
-of_error = named (codes "code") every_version a_text ∷ named (codes "message") every_version a_text ∷ []
+of_error = named_entry (codes "code") every_version a_text
+    ∷ named_entry (codes "message") every_version a_text ∷ []
 
+-- the named entries of HELLO: the client's name, and at some versions who the client is
 abbrev pub hello : List Named
-hello = named (codes "user_agent") every_version a_text ∷ credentials hello_has_login
+hello = named_entry (codes "user_agent") every_version a_text ∷ credentials hello_has_login
 
 -- the row of a name
 abbrev pub layout : Name → Row
@@ -162,6 +183,7 @@ requests =
     ∷ layout PULL
     ∷ []
 
+-- the rows of responses, in the order of their tags
 abbrev pub responses : List Row
 responses = layout SUCCESS ∷ layout RECORD ∷ layout IGNORED ∷ layout FAILURE ∷ []
 

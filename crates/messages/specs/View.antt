@@ -11,52 +11,62 @@ use Rattle.messages.specs.declared.response.Response.{Response}
 use Rattle.messages.specs.declared.response.Response.TheVariants as response
 
 -- who a client is: scheme, principal and credentials
-pub record Login : Type 0 where
+pub record AuthView : Type 0 where
   pub scheme : List ℕ
   pub principal : List ℕ
   pub credentials : List ℕ
 
-pub data Ask : Type 0 where
-  Hello : List ℕ → Option Login → Ask
-  Logon : Login → Ask
-  Logoff : Ask
-  Goodbye : Ask
-  Reset : Ask
-  Run : List ℕ → List (List ℕ × Tree) → Mode → Ask
-  Begin : Mode → Ask
-  Commit : Ask
-  Rollback : Ask
-  Discard : Count → Ask
-  Pull : Count → Ask
+-- a request as contracts see it: texts by their bytes, parameters by the trees of their cells
+pub data RequestView : Type 0 where
+  Hello : List ℕ → Option AuthView → RequestView
+  Logon : AuthView → RequestView
+  Logoff : RequestView
+  Goodbye : RequestView
+  Reset : RequestView
+  Run : List ℕ → List (List ℕ × Tree) → Mode → RequestView
+  Begin : Mode → RequestView
+  Commit : RequestView
+  Rollback : RequestView
+  Discard : Count → RequestView
+  Pull : Count → RequestView
 
-pub data Say : Type 0 where
-  Success : List (List ℕ × Tree) → Say
-  Record : List Tree → Say
-  Ignored : Say
-  Failure : List ℕ → List ℕ → Say
+-- a response as contracts see it: an error by its bytes, metadata and rows by the trees of cells
+pub data ResponseView : Type 0 where
+  Success : List (List ℕ × Tree) → ResponseView
+  Record : List Tree → ResponseView
+  Ignored : ResponseView
+  Failure : List ℕ → List ℕ → ResponseView
 
-abbrev pub auth_of : Auth → Login
-auth_of a = record { scheme = string_bytes a.scheme; principal = string_bytes a.principal; credentials = string_bytes a.credentials }
+-- the view of who a client is, by the bytes of its texts
+abbrev pub auth_view : Auth → AuthView
+auth_view a = record {
+  scheme = string_bytes a.scheme;
+  principal = string_bytes a.principal;
+  credentials = string_bytes a.credentials;
+}
 
-abbrev pub auth_in : Option Auth → Option Login
+-- the view of who a client is, where it is said
+abbrev pub auth_in : Option Auth → Option AuthView
 auth_in None = None
-auth_in (Some a) = Some (auth_of a)
+auth_in (Some a) = Some (auth_view a)
 
-abbrev pub ask : Request → Ask
-ask (request.Hello agent auth) = Hello (string_bytes agent) (auth_in auth)
-ask (request.Logon auth) = Logon (auth_of auth)
-ask request.Logoff = Logoff
-ask request.Goodbye = Goodbye
-ask request.Reset = Reset
-ask (request.Run text params mode) = Run (string_bytes text) (entries params.items) mode
-ask (request.Begin mode) = Begin mode
-ask request.Commit = Commit
-ask request.Rollback = Rollback
-ask (request.Discard count) = Discard count
-ask (request.Pull count) = Pull count
+-- the view of a request
+abbrev pub request_view : Request → RequestView
+request_view (request.Hello agent auth) = Hello (string_bytes agent) (auth_in auth)
+request_view (request.Logon auth) = Logon (auth_view auth)
+request_view request.Logoff = Logoff
+request_view request.Goodbye = Goodbye
+request_view request.Reset = Reset
+request_view (request.Run text params mode) = Run (string_bytes text) (entries params.items) mode
+request_view (request.Begin mode) = Begin mode
+request_view request.Commit = Commit
+request_view request.Rollback = Rollback
+request_view (request.Discard count) = Discard count
+request_view (request.Pull count) = Pull count
 
-abbrev pub say : Response → Say
-say (response.Success metadata) = Success (entries metadata.items)
-say (response.Record cells) = Record (shapes cells.items)
-say response.Ignored = Ignored
-say (response.Failure code message) = Failure (string_bytes code) (string_bytes message)
+-- the view of a response
+abbrev pub response_view : Response → ResponseView
+response_view (response.Success metadata) = Success (entries metadata.items)
+response_view (response.Record cells) = Record (shapes cells.items)
+response_view response.Ignored = Ignored
+response_view (response.Failure code message) = Failure (string_bytes code) (string_bytes message)

@@ -3,9 +3,9 @@ ghost use Rattle.std.specs.Prelude.{◌≡◌, true, false, ◌∷◌, [], ◌++
 ghost use Rattle.packstream.specs.Tree.{int, text, dict, list, structure, no_trees, tree_then};
 ghost use Rattle.packstream.specs.View.{tree, trees, trees_of, entries as value_entries, entries_of};
 ghost use Rattle.structures.specs.Shape.{entries, shapes, text_of};
-ghost use Rattle.messages.specs.View.{ask, say, auth_in, auth_of, Hello, Logon, Logoff, Run, Success, Record, Failure};
+ghost use Rattle.messages.specs.View.{request_view, response_view, auth_in, auth_view, Hello, Logon, Logoff, Run, Success, Record, Failure};
 ghost use Rattle.messages.specs.Table.{how_many, mode_alone, run_tag, begin_tag};
-ghost use Rattle.messages.specs.Reading.{Answers, asks, says, said, mode_tree, count_tree, login_trees};
+ghost use Rattle.messages.specs.Reading.{Answers, request_contents, response_contents, contents, mode_tree, count_tree, login_trees};
 ghost use Rattle.messages.specs.Writing.{form_put, named_put};
 ghost use Rattle.messages.specs.Parts.{with_dict, count_number};
 ghost use Rattle.messages.specs.Cells.{cell_put};
@@ -23,7 +23,8 @@ use wire::Version;
 
 /// Adds an entry.
 fn push(pairs: &mut Vec<(String, Value)>, name: &str, value: Value) -> Result<(), AllocError>
-    ensures { OnOk result (value_entries pairs.new.items ≡ value_entries pairs.old.items ++ (name.now, tree value) ∷ []) }
+    ensures { OnOk result (value_entries pairs.new.items
+        ≡ value_entries pairs.old.items ++ (name.now, tree value) ∷ []) }
 {
     let key = String::from_str(*pairs.allocator(), name)?;
     pairs.push((key, value))?;
@@ -32,14 +33,18 @@ fn push(pairs: &mut Vec<(String, Value)>, name: &str, value: Value) -> Result<()
 
 /// Adds a text.
 fn push_text(pairs: &mut Vec<(String, Value)>, name: &str, text: &String) -> Result<(), AllocError>
-    ensures { OnOk result (value_entries pairs.new.items ≡ value_entries pairs.old.items ++ (name.now, text_of text.now) ∷ []) }
+    ensures { OnOk result (value_entries pairs.new.items
+        ≡ value_entries pairs.old.items ++ (name.now, text_of text.now) ∷ []) }
 {
     push(pairs, name, Value::Text(text.clone()?))
 }
 
 /// Adds who a client is.
 fn push_auth(pairs: &mut Vec<(String, Value)>, auth: &Auth) -> Result<(), AllocError>
-    ensures { OnOk result (value_entries pairs.new.items ≡ value_entries pairs.old.items ++ (codes "scheme", text_of auth.now.scheme) ∷ [] ++ (codes "principal", text_of auth.now.principal) ∷ [] ++ (codes "credentials", text_of auth.now.credentials) ∷ []) }
+    ensures { OnOk result (value_entries pairs.new.items
+        ≡ value_entries pairs.old.items ++ (codes "scheme", text_of auth.now.scheme) ∷ []
+        ++ (codes "principal", text_of auth.now.principal) ∷ []
+        ++ (codes "credentials", text_of auth.now.credentials) ∷ []) }
 {
     push_text(pairs, "scheme", &auth.scheme)?;
     push_text(pairs, "principal", &auth.principal)?;
@@ -57,13 +62,16 @@ fn of_one(alloc: Global, tag: u8, field: Value) -> Result<Value, AllocError>
 /// A structure of one dictionary.
 #[tactic(auto, using(crate::proofs::Fields::tree_of_dict))]
 fn of_dict(alloc: Global, tag: u8, pairs: Vec<(String, Value)>) -> Result<Value, AllocError>
-    ensures { IfOk result (λ w. tree w ≡ structure tag (tree_then (dict (entries_of (value_entries pairs.items))) no_trees)) }
+    ensures { IfOk result (λ w. tree w
+        ≡ structure tag (tree_then (dict (entries_of (value_entries pairs.items))) no_trees)) }
 {
     of_one(alloc, tag, Value::Dict(pairs))
 }
 
 fn hello_with_auth(alloc: Global, agent: &String, auth: &Auth) -> Result<Value, MsgFault>
-    ensures { (v : AnyVersion) → hello_has_login v ≡ true → Answers tree result (form_put v (asks (Hello (string_bytes agent.now) (Some (auth_of auth.now))))) }
+    ensures { (v : AnyVersion) → hello_has_login v ≡ true
+        → Answers tree result (form_put v
+        (request_contents (Hello (string_bytes agent.now) (Some (auth_view auth.now))))) }
 {
     let mut pairs = Vec::new(alloc);
     push_text(&mut pairs, "user_agent", agent)?;
@@ -72,7 +80,9 @@ fn hello_with_auth(alloc: Global, agent: &String, auth: &Auth) -> Result<Value, 
 }
 
 fn hello_alone(alloc: Global, agent: &String) -> Result<Value, MsgFault>
-    ensures { (v : AnyVersion) → hello_has_login v ≡ false → Answers tree result (form_put v (asks (Hello (string_bytes agent.now) None))) }
+    ensures { (v : AnyVersion) → hello_has_login v ≡ false
+        → Answers tree result (form_put v
+        (request_contents (Hello (string_bytes agent.now) None))) }
 {
     let mut pairs = Vec::new(alloc);
     push_text(&mut pairs, "user_agent", agent)?;
@@ -86,7 +96,9 @@ fn hello_value(
     agent: &String,
     auth: &Option<Auth>,
 ) -> Result<Value, MsgFault>
-    ensures { Answers tree result (form_put version (asks (Hello (string_bytes agent.now) (auth_in auth.now)))) }
+    ensures { Answers tree result
+        (form_put version (request_contents
+        (Hello (string_bytes agent.now) (auth_in auth.now)))) }
 {
     match (version.hello_has_login(), auth) {
         (true, Some(auth)) => hello_with_auth(alloc, agent, auth),
@@ -97,7 +109,8 @@ fn hello_value(
 
 /// LOGON, where the version has it.
 fn logon_value(alloc: Global, version: Version, auth: &Auth) -> Result<Value, MsgFault>
-    ensures { Answers tree result (form_put version (asks (Logon (auth_of auth.now)))) }
+    ensures { Answers tree result
+        (form_put version (request_contents (Logon (auth_view auth.now)))) }
 {
     if !version.has_logon() {
         return Err(MsgFault::UnknownTag);
@@ -108,7 +121,7 @@ fn logon_value(alloc: Global, version: Version, auth: &Auth) -> Result<Value, Ms
 }
 
 fn logoff_value(alloc: Global, version: Version) -> Result<Value, MsgFault>
-    ensures { Answers tree result (form_put version (asks Logoff)) }
+    ensures { Answers tree result (form_put version (request_contents Logoff)) }
 {
     if version.has_logon() {
         plain(alloc, tags::LOGOFF)
@@ -119,7 +132,9 @@ fn logoff_value(alloc: Global, version: Version) -> Result<Value, MsgFault>
 
 /// The entries of a mode; that of writing isn't written.
 fn mode_entries(alloc: Global, mode: Mode) -> Result<Vec<(String, Value)>, AllocError>
-    ensures { IfOk result (λ pairs. (v : AnyVersion) → named_put v mode_alone (mode_tree mode ∷ []) ≡ Ok (entries_of (value_entries pairs.items))) }
+    ensures { IfOk result (λ pairs. (v : AnyVersion)
+        → named_put v mode_alone (mode_tree mode ∷ [])
+        ≡ Ok (entries_of (value_entries pairs.items))) }
 {
     let mut pairs = Vec::new(alloc);
     if mode == Mode::Read {
@@ -130,7 +145,8 @@ fn mode_entries(alloc: Global, mode: Mode) -> Result<Vec<(String, Value)>, Alloc
 }
 
 fn begin_value(alloc: Global, mode: Mode) -> Result<Value, MsgFault>
-    ensures { (v : AnyVersion) → Answers tree result (with_dict begin_tag (named_put v mode_alone (mode_tree mode ∷ []))) }
+    ensures { (v : AnyVersion)
+        → Answers tree result (with_dict begin_tag (named_put v mode_alone (mode_tree mode ∷ []))) }
 {
     let pairs = mode_entries(alloc, mode)?;
     Ok(of_dict(alloc, tags::BEGIN, pairs)?)
@@ -148,7 +164,8 @@ fn number_of(count: Count) -> Result<i64, MsgFault>
 
 /// A structure of a count.
 fn count_value(alloc: Global, tag: u8, count: Count) -> Result<Value, MsgFault>
-    ensures { (v : AnyVersion) → Answers tree result (with_dict tag (named_put v how_many (count_tree count ∷ []))) }
+    ensures { (v : AnyVersion)
+        → Answers tree result (with_dict tag (named_put v how_many (count_tree count ∷ []))) }
 {
     let number = number_of(count)?;
     let mut pairs = Vec::new(alloc);
@@ -164,7 +181,9 @@ fn of_three(
     second: Value,
     third: Value,
 ) -> Result<Value, AllocError>
-    ensures { IfOk result (λ w. tree w ≡ structure tag (tree_then (tree first) (tree_then (tree second) (tree_then (tree third) no_trees)))) }
+    ensures { IfOk result (λ w. tree w
+        ≡ structure tag (tree_then (tree first)
+        (tree_then (tree second) (tree_then (tree third) no_trees)))) }
 {
     Ok(Value::Struct(tag, vec![in alloc; first, second, third]?))
 }
@@ -176,7 +195,10 @@ fn of_run(
     params: Value,
     pairs: Vec<(String, Value)>,
 ) -> Result<Value, AllocError>
-    ensures { IfOk result (λ w. tree w ≡ structure run_tag (tree_then (text_of text.now) (tree_then (tree params) (tree_then (dict (entries_of (value_entries pairs.items))) no_trees)))) }
+    ensures { IfOk result (λ w. tree w
+        ≡ structure run_tag (tree_then (text_of text.now)
+        (tree_then (tree params)
+        (tree_then (dict (entries_of (value_entries pairs.items))) no_trees)))) }
 {
     let text = text.clone()?;
     of_three(
@@ -215,7 +237,9 @@ fn run_value(
     params: &Vec<(String, Cell)>,
     mode: Mode,
 ) -> Result<Value, MsgFault>
-    ensures { Answers tree result (form_put version (asks (Run (string_bytes text.now) (entries params.now.items) mode))) }
+    ensures { Answers tree result
+        (form_put version (request_contents
+        (Run (string_bytes text.now) (entries params.now.items) mode))) }
 {
     let pairs = mode_entries(alloc, mode)?;
     let field = cells_value(alloc, version, params)?;
@@ -227,21 +251,25 @@ fn success_value(
     version: Version,
     metadata: &Vec<(String, Cell)>,
 ) -> Result<Value, MsgFault>
-    ensures { Answers tree result (form_put version (says (Success (entries metadata.now.items)))) }
+    ensures { Answers tree result
+        (form_put version (response_contents (Success (entries metadata.now.items)))) }
 {
     let field = cells_value(alloc, version, metadata)?;
     Ok(of_one(alloc, tags::SUCCESS, field)?)
 }
 
 fn record_value(alloc: Global, version: Version, row: &Vec<Cell>) -> Result<Value, MsgFault>
-    ensures { Answers tree result (form_put version (says (Record (shapes row.now.items)))) }
+    ensures { Answers tree result
+        (form_put version (response_contents (Record (shapes row.now.items)))) }
 {
     let field = row_value(alloc, version, row)?;
     Ok(of_one(alloc, tags::RECORD, field)?)
 }
 
 fn failure_value(alloc: Global, code: &String, message: &String) -> Result<Value, MsgFault>
-    ensures { (v : AnyVersion) → Answers tree result (form_put v (says (Failure (string_bytes code.now) (string_bytes message.now)))) }
+    ensures { (v : AnyVersion)
+        → Answers tree result (form_put v
+        (response_contents (Failure (string_bytes code.now) (string_bytes message.now)))) }
 {
     let mut pairs = Vec::new(alloc);
     push_text(&mut pairs, "code", code)?;
@@ -262,7 +290,7 @@ pub(crate) fn request_value(
     version: Version,
     request: &Request,
 ) -> Result<Value, MsgFault>
-    ensures { Answers tree result (form_put version (asks (ask request.now))) }
+    ensures { Answers tree result (form_put version (request_contents (request_view request.now))) }
 {
     match request {
         Request::Hello { agent, auth } => hello_value(alloc, version, agent, auth),
@@ -285,7 +313,8 @@ pub(crate) fn response_value(
     version: Version,
     response: &Response,
 ) -> Result<Value, MsgFault>
-    ensures { Answers tree result (form_put version (says (say response.now))) }
+    ensures { Answers tree result
+        (form_put version (response_contents (response_view response.now))) }
 {
     match response {
         Response::Success(metadata) => success_value(alloc, version, metadata),

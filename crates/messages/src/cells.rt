@@ -3,8 +3,8 @@ ghost use Rattle.std.specs.Prelude.{◌≡◌, ◌∷◌, [], IfOk, IsOk};
 ghost use Rattle.packstream.specs.Tree.{Tree, text, list, dict, Trees, Entries};
 ghost use Rattle.packstream.specs.View.{tree, trees_of, entries_of};
 ghost use Rattle.structures.specs.Shape.{shape, shapes, entries};
-ghost use Rattle.messages.specs.Reading.{Answers, cell_told};
-ghost use Rattle.messages.specs.Parts.{cells_told, list_of_cells_told, as_dict, as_list};
+ghost use Rattle.messages.specs.Reading.{Answers, cell_of_field};
+ghost use Rattle.messages.specs.Parts.{dict_of_cells, list_of_cells, as_dict, as_list};
 
 use crate::fault::MsgFault;
 use packstream::Value;
@@ -14,7 +14,7 @@ use wire::Version;
 
 /// The cell in a field.
 fn cell_in(alloc: Global, version: Version, field: &Value) -> Result<Cell, MsgFault>
-    ensures { Answers shape result (cell_told version (tree field.now)) }
+    ensures { Answers shape result (cell_of_field version (tree field.now)) }
 {
     Ok(read_value(alloc, version, field)?)
 }
@@ -45,14 +45,16 @@ pub(crate) fn cells_in(
     version: Version,
     field: &Value,
 ) -> Result<Vec<(String, Cell)>, MsgFault>
-    ensures { Answers (λ v. dict (entries_of (entries v.items))) result (cells_told version (tree field.now)) }
+    ensures { Answers (λ v. dict (entries_of (entries v.items))) result
+        (dict_of_cells version (tree field.now)) }
 {
     entries_of_cell(cell_in(alloc, version, field)?)
 }
 
 /// A list of cells.
 pub(crate) fn row_in(alloc: Global, version: Version, field: &Value) -> Result<Vec<Cell>, MsgFault>
-    ensures { Answers (λ v. list (trees_of (shapes v.items))) result (list_of_cells_told version (tree field.now)) }
+    ensures { Answers (λ v. list (trees_of (shapes v.items))) result
+        (list_of_cells version (tree field.now)) }
 {
     members_of_cell(cell_in(alloc, version, field)?)
 }

@@ -1,14 +1,14 @@
 //! `clone` of requests, written out since a derived one says nothing of types that hold cells.
 ghost use Rattle.std.specs.Prelude.{◌≡◌, IfOk};
 ghost use Rattle.structures.specs.Shape.{entries};
-ghost use Rattle.messages.specs.View.{ask, auth_of, auth_in};
+ghost use Rattle.messages.specs.View.{request_view, auth_view, auth_in};
 
 use crate::request::{Auth, Request};
 use std::alloc::AllocError;
 use structures::Cell;
 
 impl Clone for Auth {
-    ghost is_clone = { λ a b. auth_of b ≡ auth_of a };
+    ghost is_clone = { λ a b. auth_view b ≡ auth_view a };
 
     fn clone(&self) -> Result<Auth, AllocError> {
         Ok(Auth {
@@ -40,7 +40,7 @@ fn copy_cells(cells: &Vec<(String, Cell)>) -> Result<Vec<(String, Cell)>, AllocE
 }
 
 impl Clone for Request {
-    ghost is_clone = { λ r s. ask s ≡ ask r };
+    ghost is_clone = { λ r s. request_view s ≡ request_view r };
 
     fn clone(&self) -> Result<Request, AllocError> {
         match self {

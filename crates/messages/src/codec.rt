@@ -6,10 +6,10 @@ ghost use Rattle.packstream.specs.Spelling.{Spells};
 ghost use Rattle.packstream.specs.View.{tree};
 ghost use Rattle.messages.specs.declared.fault.MsgFault.{MsgFault as AnyFault};
 ghost use Rattle.messages.specs.Table.{requests, responses};
-ghost use Rattle.messages.specs.View.{ask, say, Ask, Say};
-ghost use Rattle.messages.specs.Reading.{Answers, asks, says};
-ghost use Rattle.messages.specs.Messages.{Req, Resp, NoRequest, NoResponse, Gave, UnlessMemory, said_in, request_of, response_of};
-ghost use Rattle.messages.specs.Writing.{Appends, sized, text_put_of, request_text, response_text};
+ghost use Rattle.messages.specs.View.{request_view, response_view, RequestView, ResponseView};
+ghost use Rattle.messages.specs.Reading.{Answers, request_contents, response_contents};
+ghost use Rattle.messages.specs.Messages.{Req, Resp, NoRequest, NoResponse, Gave, UnlessMemory, contents_in, request_of, response_of};
+ghost use Rattle.messages.specs.Writing.{Appends, spelling_within, spelling_of_tree, request_spelling, response_spelling};
 
 use crate::building::{request_value, response_value};
 use crate::fault::MsgFault;
@@ -22,14 +22,16 @@ use std::alloc::Global;
 use wire::Version;
 
 fn request_in(alloc: Global, version: Version, bytes: &[u8]) -> Result<Request, MsgFault>
-    ensures { Answers (λ r. asks (ask r)) result (said_in version requests bytes.now) }
+    ensures { Answers (λ r. request_contents (request_view r)) result
+        (contents_in version requests bytes.now) }
 {
     let packed = decode(alloc, bytes)?;
     of_packed::request_of(alloc, version, &packed)
 }
 
 fn response_in(alloc: Global, version: Version, bytes: &[u8]) -> Result<Response, MsgFault>
-    ensures { Answers (λ r. says (say r)) result (said_in version responses bytes.now) }
+    ensures { Answers (λ r. response_contents (response_view r)) result
+        (contents_in version responses bytes.now) }
 {
     let packed = decode(alloc, bytes)?;
     of_packed::response_of(alloc, version, &packed)
@@ -38,13 +40,15 @@ fn response_in(alloc: Global, version: Version, bytes: &[u8]) -> Result<Response
 /// The request of the bytes of one message, without chunks (Bolt message specification).
 pub fn read_request(alloc: Global, version: Version, bytes: &[u8]) -> Result<Request, MsgFault>
     // Apart from memory, it is the request that the bytes stand for at the version, where they stand for one ..
-    ensures request { (m : Ask) → UnlessMemory result (Gave ask result m ↔ Req version m bytes.now) }
+    ensures request { (m : RequestView)
+        → UnlessMemory result (Gave request_view result m ↔ Req version m bytes.now) }
 
     // .. and the first fault that they have, where they have one.
-    ensures fault { (e : AnyFault) → UnlessMemory result ((result ≡ Err e) ↔ NoRequest version e bytes.now) }
+    ensures fault { (e : AnyFault)
+        → UnlessMemory result ((result ≡ Err e) ↔ NoRequest version e bytes.now) }
 
     // The same as a function of the bytes.
-    ensures same { Answers ask result (request_of version bytes.now) }
+    ensures same { Answers request_view result (request_of version bytes.now) }
 {
     request_in(alloc, version, bytes)
 }
@@ -52,19 +56,21 @@ pub fn read_request(alloc: Global, version: Version, bytes: &[u8]) -> Result<Req
 /// The response of the bytes of one message, without chunks (Bolt message specification).
 pub fn read_response(alloc: Global, version: Version, bytes: &[u8]) -> Result<Response, MsgFault>
     // Apart from memory, it is the response that the bytes stand for at the version, where they stand for one ..
-    ensures response { (m : Say) → UnlessMemory result (Gave say result m ↔ Resp version m bytes.now) }
+    ensures response { (m : ResponseView)
+        → UnlessMemory result (Gave response_view result m ↔ Resp version m bytes.now) }
 
     // .. and the first fault that they have, where they have one.
-    ensures fault { (e : AnyFault) → UnlessMemory result ((result ≡ Err e) ↔ NoResponse version e bytes.now) }
+    ensures fault { (e : AnyFault)
+        → UnlessMemory result ((result ≡ Err e) ↔ NoResponse version e bytes.now) }
 
     // The same as a function of the bytes.
-    ensures same { Answers say result (response_of version bytes.now) }
+    ensures same { Answers response_view result (response_of version bytes.now) }
 {
     response_in(alloc, version, bytes)
 }
 
 fn put_packed(packed: &Packed, out: &mut BytesMut) -> Result<(), MsgFault>
-    ensures text { Appends result out.old.items out.new.items (sized packed.now) }
+    ensures text { Appends result out.old.items out.new.items (spelling_within packed.now) }
     ensures spells { OnOk result (Spells packed.now (canon packed.now)) }
 {
     match encode(packed, out) {
@@ -75,40 +81,46 @@ fn put_packed(packed: &Packed, out: &mut BytesMut) -> Result<(), MsgFault>
 }
 
 fn put(value: Value, out: &mut BytesMut) -> Result<(), MsgFault>
-    ensures text { Appends result out.old.items out.new.items (text_put_of (tree value)) }
+    ensures text { Appends result out.old.items out.new.items (spelling_of_tree (tree value)) }
     ensures spells { OnOk result (IsGood (tree value) × Spells (tree value) (canon (tree value))) }
 {
     let packed = Packed::new_in(*out.allocator(), value)?;
     put_packed(&packed, out)
 }
 
-/// Appends the one text of a request, the shortest of its spellings (PackStream version 1), or nothing: the fault is the
+/// Appends the one spelling that is written of a request, the shortest (PackStream version 1), or nothing: the fault is the
 /// first of `UnknownTag`, `Extra`, `Cell`, `Pack` and `Size`, unless memory ran out.
 /// What is written reads back as the request.
-#[tactic(auto, unfolding(crate::specs::Writing::request_text))]
+#[tactic(auto, unfolding(crate::specs::Writing::request_spelling))]
 pub fn write_request(
     version: Version,
     request: &Request,
     out: &mut BytesMut,
 ) -> Result<(), MsgFault>
-    ensures text { Appends result out.old.items out.new.items (request_text version (ask request.now)) }
-    ensures read_back { OnOk result ((b : List ℕ) → request_text version (ask request.now) ≡ Ok b → Req version (ask request.now) b) }
+    ensures text { Appends result out.old.items out.new.items
+        (request_spelling version (request_view request.now)) }
+    ensures read_back { OnOk result
+        ((b : List ℕ) → request_spelling version (request_view request.now) ≡ Ok b
+        → Req version (request_view request.now) b) }
 {
     let value = request_value(*out.allocator(), version, request)?;
     put(value, out)
 }
 
-/// Appends the one text of a response, the shortest of its spellings (PackStream version 1), or nothing: the fault is
+/// Appends the one spelling that is written of a response, the shortest (PackStream version 1), or nothing: the fault is
 /// the first of `Cell`, `Pack` and `Size`, unless memory ran out.
 /// What is written reads back as the response.
-#[tactic(auto, unfolding(crate::specs::Writing::response_text))]
+#[tactic(auto, unfolding(crate::specs::Writing::response_spelling))]
 pub fn write_response(
     version: Version,
     response: &Response,
     out: &mut BytesMut,
 ) -> Result<(), MsgFault>
-    ensures text { Appends result out.old.items out.new.items (response_text version (say response.now)) }
-    ensures read_back { OnOk result ((b : List ℕ) → response_text version (say response.now) ≡ Ok b → Resp version (say response.now) b) }
+    ensures text { Appends result out.old.items out.new.items
+        (response_spelling version (response_view response.now)) }
+    ensures read_back { OnOk result
+        ((b : List ℕ) → response_spelling version (response_view response.now) ≡ Ok b
+        → Resp version (response_view response.now) b) }
 {
     let value = response_value(*out.allocator(), version, response)?;
     put(value, out)

@@ -3,10 +3,10 @@ ghost use Rattle.std.specs.Prelude.{◌≡◌, codes, MatchOption, IsNone, Some,
 ghost use Rattle.packstream.specs.View.{tree, entries, entries_of};
 ghost use Rattle.packstream.specs.Tree.{text};
 ghost use Rattle.structures.specs.Shape.{text_of};
-ghost use Rattle.messages.specs.Reading.{Answers, lookup, text_told, mode_told, count_told, query_told, mode_tree, count_tree, login_trees, all_named, extra_told};
-ghost use Rattle.messages.specs.Parts.{login_told, Seen};
+ghost use Rattle.messages.specs.Reading.{Answers, lookup, contents_of_text, contents_of_mode, contents_of_count, contents_of_query, mode_tree, count_tree, login_trees, all_named, contents_of_extra};
+ghost use Rattle.messages.specs.Parts.{contents_of_login, Seen};
 ghost use Rattle.messages.specs.Table.{refused, how_many};
-ghost use Rattle.messages.specs.View.{auth_of as login};
+ghost use Rattle.messages.specs.View.{auth_view as login};
 ghost use Rattle.wire.specs.declared.Version.{Version as AnyVersion};
 
 use crate::fault::MsgFault;
@@ -27,7 +27,8 @@ pub(crate) fn entry<'a>(pairs: &'a [(String, Value)], name: &str) -> Option<&'a 
 
 /// A text that has to be there.
 pub(crate) fn text_in(pairs: &[(String, Value)], name: &str) -> Result<String, MsgFault>
-    ensures { Answers (λ s. text_of s ∷ []) result (text_told (lookup name.now (entries_of (entries pairs.now)))) }
+    ensures { Answers (λ s. text_of s ∷ []) result
+        (contents_of_text (lookup name.now (entries_of (entries pairs.now)))) }
 {
     match entry(pairs, name) {
         Some(Value::Text(text)) => Ok(text.clone()?),
@@ -36,7 +37,7 @@ pub(crate) fn text_in(pairs: &[(String, Value)], name: &str) -> Result<String, M
 }
 
 fn mode_of(value: &Value) -> Result<Mode, MsgFault>
-    ensures { Answers (λ m. mode_tree m ∷ []) result (mode_told (Some (tree value.now))) }
+    ensures { Answers (λ m. mode_tree m ∷ []) result (contents_of_mode (Some (tree value.now))) }
 {
     let Value::Text(text) = value else {
         return Err(MsgFault::Extra);
@@ -52,7 +53,8 @@ fn mode_of(value: &Value) -> Result<Mode, MsgFault>
 
 /// The mode, to write where it is absent.
 pub(crate) fn mode_in(pairs: &[(String, Value)]) -> Result<Mode, MsgFault>
-    ensures { Answers (λ m. mode_tree m ∷ []) result (mode_told (lookup (codes "mode") (entries_of (entries pairs.now)))) }
+    ensures { Answers (λ m. mode_tree m ∷ []) result
+        (contents_of_mode (lookup (codes "mode") (entries_of (entries pairs.now)))) }
 {
     match entry(pairs, "mode") {
         None => Ok(Mode::Write),
@@ -61,7 +63,7 @@ pub(crate) fn mode_in(pairs: &[(String, Value)]) -> Result<Mode, MsgFault>
 }
 
 fn count_of(value: &Value) -> Result<Count, MsgFault>
-    ensures { Answers (λ c. count_tree c ∷ []) result (count_told (Some (tree value.now))) }
+    ensures { Answers (λ c. count_tree c ∷ []) result (contents_of_count (Some (tree value.now))) }
 {
     let Value::Int(n) = value else {
         return Err(MsgFault::Extra);
@@ -76,7 +78,7 @@ fn count_of(value: &Value) -> Result<Count, MsgFault>
 }
 
 fn query_of(value: &Value) -> Result<(), MsgFault>
-    ensures { Answers (λ _. []) result (query_told (Some (tree value.now))) }
+    ensures { Answers (λ _. []) result (contents_of_query (Some (tree value.now))) }
 {
     let Value::Int(n) = value else {
         return Err(MsgFault::Extra);
@@ -89,7 +91,8 @@ fn query_of(value: &Value) -> Result<(), MsgFault>
 
 /// That the last query is meant, if one is named.
 fn query_in(pairs: &[(String, Value)]) -> Result<(), MsgFault>
-    ensures { Answers (λ _. []) result (query_told (lookup (codes "qid") (entries_of (entries pairs.now)))) }
+    ensures { Answers (λ _. []) result
+        (contents_of_query (lookup (codes "qid") (entries_of (entries pairs.now)))) }
 {
     match entry(pairs, "qid") {
         None => Ok(()),
@@ -98,7 +101,8 @@ fn query_in(pairs: &[(String, Value)]) -> Result<(), MsgFault>
 }
 
 fn number_in(pairs: &[(String, Value)]) -> Result<Count, MsgFault>
-    ensures { Answers (λ c. count_tree c ∷ []) result (count_told (lookup (codes "n") (entries_of (entries pairs.now)))) }
+    ensures { Answers (λ c. count_tree c ∷ []) result
+        (contents_of_count (lookup (codes "n") (entries_of (entries pairs.now)))) }
 {
     match entry(pairs, "n") {
         None => Err(MsgFault::Extra),
@@ -120,7 +124,9 @@ fn say_how_many_alone(pairs: &[(String, Value)]) -> bool
 
 /// How many rows; no other entry is allowed.
 pub(crate) fn count_in(pairs: &[(String, Value)]) -> Result<Count, MsgFault>
-    ensures { (v : AnyVersion) → Answers (λ c. count_tree c ∷ []) result (extra_told v refused how_many (entries_of (entries pairs.now))) }
+    ensures { (v : AnyVersion)
+        → Answers (λ c. count_tree c ∷ []) result
+        (contents_of_extra v refused how_many (entries_of (entries pairs.now))) }
 {
     if !say_how_many_alone(pairs) {
         return Err(MsgFault::Extra);
@@ -132,7 +138,9 @@ pub(crate) fn count_in(pairs: &[(String, Value)]) -> Result<Count, MsgFault>
 
 /// Who a client is.
 pub(crate) fn auth_of(pairs: &[(String, Value)]) -> Result<Auth, MsgFault>
-    ensures { (v : AnyVersion) → Answers (λ a. login_trees (login a)) result (login_told v (entries_of (entries pairs.now))) }
+    ensures { (v : AnyVersion)
+        → Answers (λ a. login_trees (login a)) result
+        (contents_of_login v (entries_of (entries pairs.now))) }
 {
     let scheme = text_in(pairs, "scheme")?;
     let principal = text_in(pairs, "principal")?;

@@ -4,8 +4,8 @@ ghost use Rattle.packstream.specs.Spelling.{Spells};
 ghost use Rattle.packstream.specs.View.{tree};
 ghost use Rattle.messages.specs.declared.fault.MsgFault.{MsgFault as AnyFault};
 ghost use Rattle.messages.specs.Table.{requests, responses};
-ghost use Rattle.messages.specs.View.{ask, say, Ask, Say};
-ghost use Rattle.messages.specs.Reading.{Answers, asks, says, message_told};
+ghost use Rattle.messages.specs.View.{request_view, response_view, RequestView, ResponseView};
+ghost use Rattle.messages.specs.Reading.{Answers, request_contents, response_contents, contents_of_message};
 ghost use Rattle.messages.specs.Messages.{Req, Resp, NoRequest, NoResponse, Gave, UnlessMemory, request_of as request_by, response_of as response_by};
 
 use crate::fault::MsgFault;
@@ -18,7 +18,8 @@ use wire::Version;
 
 /// The request of a value, by the table of requests.
 fn request_of_value(alloc: Global, version: Version, value: &Value) -> Result<Request, MsgFault>
-    ensures { Answers (λ r. asks (ask r)) result (message_told version requests (tree value.now)) }
+    ensures { Answers (λ r. request_contents (request_view r)) result
+        (contents_of_message version requests (tree value.now)) }
 {
     match value {
         Value::Struct(tag, fields) => request_tagged(alloc, version, *tag, fields),
@@ -28,7 +29,8 @@ fn request_of_value(alloc: Global, version: Version, value: &Value) -> Result<Re
 
 /// The response of a value, by the table of responses.
 fn response_of_value(alloc: Global, version: Version, value: &Value) -> Result<Response, MsgFault>
-    ensures { Answers (λ r. says (say r)) result (message_told version responses (tree value.now)) }
+    ensures { Answers (λ r. response_contents (response_view r)) result
+        (contents_of_message version responses (tree value.now)) }
 {
     match value {
         Value::Struct(tag, fields) => response_tagged(alloc, version, *tag, fields),
@@ -40,16 +42,20 @@ fn response_of_value(alloc: Global, version: Version, value: &Value) -> Result<R
 /// `NotAMessage`, `UnknownTag`, `Fields`, `Extra`, `Cell` and `Memory`.
 pub fn request_of(alloc: Global, version: Version, packed: &Packed) -> Result<Request, MsgFault>
     // Apart from memory, it is what the value says by the table of requests: a request, or the first fault.
-    ensures told { Answers (λ r. asks (ask r)) result (message_told version requests packed.now) }
+    ensures told { Answers (λ r. request_contents (request_view r)) result
+        (contents_of_message version requests packed.now) }
 
     // Of bytes that spell the value it is the request that they stand for, where they stand for one ..
-    ensures request { (b : List ℕ) (m : Ask) → Spells packed.now b → UnlessMemory result (Gave ask result m ↔ Req version m b) }
+    ensures request { (b : List ℕ) (m : RequestView) → Spells packed.now b
+        → UnlessMemory result (Gave request_view result m ↔ Req version m b) }
 
     // .. and the first fault that they have, where they have one.
-    ensures fault { (b : List ℕ) (e : AnyFault) → Spells packed.now b → UnlessMemory result ((result ≡ Err e) ↔ NoRequest version e b) }
+    ensures fault { (b : List ℕ) (e : AnyFault) → Spells packed.now b
+        → UnlessMemory result ((result ≡ Err e) ↔ NoRequest version e b) }
 
     // The same as a function of the bytes.
-    ensures same { (b : List ℕ) → Spells packed.now b → Answers ask result (request_by version b) }
+    ensures same { (b : List ℕ) → Spells packed.now b
+        → Answers request_view result (request_by version b) }
 {
     request_of_value(alloc, version, packed.value())
 }
@@ -58,16 +64,20 @@ pub fn request_of(alloc: Global, version: Version, packed: &Packed) -> Result<Re
 /// `NotAMessage`, `UnknownTag`, `Fields`, `Extra`, `Cell` and `Memory`.
 pub fn response_of(alloc: Global, version: Version, packed: &Packed) -> Result<Response, MsgFault>
     // Apart from memory, it is what the value says by the table of responses: a response, or the first fault.
-    ensures told { Answers (λ r. says (say r)) result (message_told version responses packed.now) }
+    ensures told { Answers (λ r. response_contents (response_view r)) result
+        (contents_of_message version responses packed.now) }
 
     // Of bytes that spell the value it is the response that they stand for, where they stand for one ..
-    ensures response { (b : List ℕ) (m : Say) → Spells packed.now b → UnlessMemory result (Gave say result m ↔ Resp version m b) }
+    ensures response { (b : List ℕ) (m : ResponseView) → Spells packed.now b
+        → UnlessMemory result (Gave response_view result m ↔ Resp version m b) }
 
     // .. and the first fault that they have, where they have one.
-    ensures fault { (b : List ℕ) (e : AnyFault) → Spells packed.now b → UnlessMemory result ((result ≡ Err e) ↔ NoResponse version e b) }
+    ensures fault { (b : List ℕ) (e : AnyFault) → Spells packed.now b
+        → UnlessMemory result ((result ≡ Err e) ↔ NoResponse version e b) }
 
     // The same as a function of the bytes.
-    ensures same { (b : List ℕ) → Spells packed.now b → Answers say result (response_by version b) }
+    ensures same { (b : List ℕ) → Spells packed.now b
+        → Answers response_view result (response_by version b) }
 {
     response_of_value(alloc, version, packed.value())
 }

@@ -6,9 +6,9 @@ ghost use Rattle.structures.specs.Shape.{shape, shapes, entries};
 ghost use Rattle.wire.specs.declared.Version.{Version as AnyVersion};
 ghost use Rattle.wire.specs.Versions.{every_version};
 ghost use Rattle.messages.specs.Table.{ignored, refused, extra, text_field, cells, cell_list, hello, credentials, mode_alone, how_many, of_error, Name, HELLO, LOGON, LOGOFF, GOODBYE, RESET, RUN, BEGIN, COMMIT, ROLLBACK, DISCARD, PULL, SUCCESS, RECORD, IGNORED, FAILURE, requests, responses};
-ghost use Rattle.messages.specs.View.{ask, say};
-ghost use Rattle.messages.specs.Reading.{said, Answers, row_told, cell_told, tagged, asks, says, count_tree};
-ghost use Rattle.messages.specs.Parts.{plain_told, run_told, dict_told, list_told, only_dict, only_list, run_parts, field_text, no_field, one_field};
+ghost use Rattle.messages.specs.View.{request_view, response_view};
+ghost use Rattle.messages.specs.Reading.{contents, Answers, contents_of_row, cell_of_field, contents_at_tag, request_contents, response_contents, count_tree};
+ghost use Rattle.messages.specs.Parts.{contents_of_plain, contents_of_run, entries_of_dict, members_of_list, only_dict, only_list, run_parts, field_text, no_field, one_field};
 
 use crate::cells::{cells_in, row_in};
 use crate::entries::{auth_of, count_in, mode_in, text_in};
@@ -43,7 +43,8 @@ fn one(fields: &[Value]) -> Result<&Value, MsgFault>
 
 /// A dictionary.
 fn entries_in(field: &Value) -> Result<&[(String, Value)], MsgFault>
-    ensures { Answers (λ x. entries_of (value_entries x.now)) result (dict_told (tree field.now)) }
+    ensures { Answers (λ x. entries_of (value_entries x.now)) result
+        (entries_of_dict (tree field.now)) }
 {
     match field {
         Value::Dict(pairs) => Ok(pairs),
@@ -53,14 +54,15 @@ fn entries_in(field: &Value) -> Result<&[(String, Value)], MsgFault>
 
 /// One field, a dictionary.
 fn extra_in(fields: &[Value]) -> Result<&[(String, Value)], MsgFault>
-    ensures { Answers (λ x. entries_of (value_entries x.now)) result (only_dict (trees_of (trees fields.now))) }
+    ensures { Answers (λ x. entries_of (value_entries x.now)) result
+        (only_dict (trees_of (trees fields.now))) }
 {
     entries_in(one(fields)?)
 }
 
 /// A list.
 fn members_in(field: &Value) -> Result<&[Value], MsgFault>
-    ensures { Answers (λ x. trees_of (trees x.now)) result (list_told (tree field.now)) }
+    ensures { Answers (λ x. trees_of (trees x.now)) result (members_of_list (tree field.now)) }
 {
     match field {
         Value::List(members) => Ok(members),
@@ -70,7 +72,9 @@ fn members_in(field: &Value) -> Result<&[Value], MsgFault>
 
 /// A request without fields.
 fn plain(request: Request, fields: &[Value]) -> Result<Request, MsgFault>
-    ensures { Answers (λ r. asks (ask r)) result (plain_told (asks (ask request)) (trees_of (trees fields.now))) }
+    ensures { Answers (λ r. request_contents (request_view r)) result
+        (contents_of_plain (request_contents (request_view request))
+        (trees_of (trees fields.now))) }
 {
     none(fields)?;
     Ok(request)
@@ -79,7 +83,9 @@ fn plain(request: Request, fields: &[Value]) -> Result<Request, MsgFault>
 /// HELLO: the client's name, and who it is where the version tells that with it.
 #[tactic(auto, using(crate::proofs::Rows::extra_row))]
 fn hello_of(version: Version, fields: &[Value]) -> Result<Request, MsgFault>
-    ensures { Answers (λ r. asks (ask r)) result (row_told version HELLO (extra ignored hello ∷ []) (trees_of (trees fields.now))) }
+    ensures { Answers (λ r. request_contents (request_view r)) result
+        (contents_of_row version HELLO (extra ignored hello ∷ [])
+        (trees_of (trees fields.now))) }
 {
     let pairs = extra_in(fields)?;
     let agent = text_in(pairs, "user_agent")?;
@@ -95,7 +101,10 @@ fn hello_of(version: Version, fields: &[Value]) -> Result<Request, MsgFault>
 
 #[tactic(auto, using(crate::proofs::Rows::extra_row))]
 fn logon_of(fields: &[Value]) -> Result<Request, MsgFault>
-    ensures { (v : AnyVersion) → Answers (λ r. asks (ask r)) result (row_told v LOGON (extra ignored (credentials every_version) ∷ []) (trees_of (trees fields.now))) }
+    ensures { (v : AnyVersion)
+        → Answers (λ r. request_contents (request_view r)) result
+        (contents_of_row v LOGON (extra ignored (credentials every_version) ∷ [])
+        (trees_of (trees fields.now))) }
 {
     let pairs = extra_in(fields)?;
     let auth = auth_of(pairs)?;
@@ -104,7 +113,10 @@ fn logon_of(fields: &[Value]) -> Result<Request, MsgFault>
 
 #[tactic(auto, using(crate::proofs::Rows::extra_row))]
 fn begin_of(fields: &[Value]) -> Result<Request, MsgFault>
-    ensures { (v : AnyVersion) → Answers (λ r. asks (ask r)) result (row_told v BEGIN (extra ignored mode_alone ∷ []) (trees_of (trees fields.now))) }
+    ensures { (v : AnyVersion)
+        → Answers (λ r. request_contents (request_view r)) result
+        (contents_of_row v BEGIN (extra ignored mode_alone ∷ [])
+        (trees_of (trees fields.now))) }
 {
     let pairs = extra_in(fields)?;
     Ok(Request::Begin(mode_in(pairs)?))
@@ -112,7 +124,10 @@ fn begin_of(fields: &[Value]) -> Result<Request, MsgFault>
 
 #[tactic(auto, using(crate::proofs::Rows::extra_row))]
 fn discard_of(fields: &[Value]) -> Result<Request, MsgFault>
-    ensures { (v : AnyVersion) → Answers (λ r. asks (ask r)) result (row_told v DISCARD (extra refused how_many ∷ []) (trees_of (trees fields.now))) }
+    ensures { (v : AnyVersion)
+        → Answers (λ r. request_contents (request_view r)) result
+        (contents_of_row v DISCARD (extra refused how_many ∷ [])
+        (trees_of (trees fields.now))) }
 {
     let pairs = extra_in(fields)?;
     Ok(Request::Discard(count_in(pairs)?))
@@ -120,7 +135,9 @@ fn discard_of(fields: &[Value]) -> Result<Request, MsgFault>
 
 #[tactic(auto, using(crate::proofs::Rows::extra_row))]
 fn pull_of(fields: &[Value]) -> Result<Request, MsgFault>
-    ensures { (v : AnyVersion) → Answers (λ r. asks (ask r)) result (row_told v PULL (extra refused how_many ∷ []) (trees_of (trees fields.now))) }
+    ensures { (v : AnyVersion)
+        → Answers (λ r. request_contents (request_view r)) result
+        (contents_of_row v PULL (extra refused how_many ∷ []) (trees_of (trees fields.now))) }
 {
     let pairs = extra_in(fields)?;
     Ok(Request::Pull(count_in(pairs)?))
@@ -128,7 +145,8 @@ fn pull_of(fields: &[Value]) -> Result<Request, MsgFault>
 
 #[tactic(auto, using(crate::proofs::Rows::cells_row))]
 fn success_of(alloc: Global, version: Version, fields: &[Value]) -> Result<Response, MsgFault>
-    ensures { Answers (λ r. says (say r)) result (row_told version SUCCESS (cells ∷ []) (trees_of (trees fields.now))) }
+    ensures { Answers (λ r. response_contents (response_view r)) result
+        (contents_of_row version SUCCESS (cells ∷ []) (trees_of (trees fields.now))) }
 {
     let field = one(fields)?;
     let _ = entries_in(field)?;
@@ -137,7 +155,8 @@ fn success_of(alloc: Global, version: Version, fields: &[Value]) -> Result<Respo
 
 #[tactic(auto, using(crate::proofs::Rows::list_row))]
 fn record_of(alloc: Global, version: Version, fields: &[Value]) -> Result<Response, MsgFault>
-    ensures { Answers (λ r. says (say r)) result (row_told version RECORD (cell_list ∷ []) (trees_of (trees fields.now))) }
+    ensures { Answers (λ r. response_contents (response_view r)) result
+        (contents_of_row version RECORD (cell_list ∷ []) (trees_of (trees fields.now))) }
 {
     let field = one(fields)?;
     let _ = members_in(field)?;
@@ -145,7 +164,8 @@ fn record_of(alloc: Global, version: Version, fields: &[Value]) -> Result<Respon
 }
 
 fn ignored_of(fields: &[Value]) -> Result<Response, MsgFault>
-    ensures { Answers (λ r. says (say r)) result (plain_told (said IGNORED [] []) (trees_of (trees fields.now))) }
+    ensures { Answers (λ r. response_contents (response_view r)) result
+        (contents_of_plain (contents IGNORED [] []) (trees_of (trees fields.now))) }
 {
     none(fields)?;
     Ok(Response::Ignored)
@@ -153,7 +173,10 @@ fn ignored_of(fields: &[Value]) -> Result<Response, MsgFault>
 
 #[tactic(auto, using(crate::proofs::Rows::extra_row))]
 fn failure_of(fields: &[Value]) -> Result<Response, MsgFault>
-    ensures { (v : AnyVersion) → Answers (λ r. says (say r)) result (row_told v FAILURE (extra ignored of_error ∷ []) (trees_of (trees fields.now))) }
+    ensures { (v : AnyVersion)
+        → Answers (λ r. response_contents (response_view r)) result
+        (contents_of_row v FAILURE (extra ignored of_error ∷ [])
+        (trees_of (trees fields.now))) }
 {
     let pairs = extra_in(fields)?;
     let code = text_in(pairs, "code")?;
@@ -172,7 +195,8 @@ fn text_in_field(field: &Value) -> Result<&str, MsgFault>
 
 /// The text, the parameters and the other entries of a RUN.
 fn run_fields(fields: &[Value]) -> Result<(&str, &Value, &[(String, Value)]), MsgFault>
-    ensures { Answers (λ x. (x.0.now, tree x.1.now, entries_of (value_entries x.2.now))) result (run_parts (trees_of (trees fields.now))) }
+    ensures { Answers (λ x. (x.0.now, tree x.1.now, entries_of (value_entries x.2.now))) result
+        (run_parts (trees_of (trees fields.now))) }
 {
     if fields.len() != 3 {
         return Err(MsgFault::Fields);
@@ -190,7 +214,9 @@ fn run_with(
     field: &Value,
     pairs: &[(String, Value)],
 ) -> Result<Request, MsgFault>
-    ensures { Answers (λ r. asks (ask r)) result (run_told version text.now (tree field.now) (entries_of (value_entries pairs.now))) }
+    ensures { Answers (λ r. request_contents (request_view r)) result
+        (contents_of_run version text.now (tree field.now)
+        (entries_of (value_entries pairs.now))) }
 {
     let mode = mode_in(pairs)?;
     let params = cells_in(alloc, version, field)?;
@@ -200,7 +226,9 @@ fn run_with(
 
 #[tactic(auto, using(crate::proofs::Rows::run_row))]
 fn run_of(alloc: Global, version: Version, fields: &[Value]) -> Result<Request, MsgFault>
-    ensures { Answers (λ r. asks (ask r)) result (row_told version RUN (text_field ∷ cells ∷ extra ignored mode_alone ∷ []) (trees_of (trees fields.now))) }
+    ensures { Answers (λ r. request_contents (request_view r)) result
+        (contents_of_row version RUN (text_field ∷ cells ∷ extra ignored mode_alone ∷ [])
+        (trees_of (trees fields.now))) }
 {
     let (text, field, pairs) = run_fields(fields)?;
     run_with(alloc, version, text, field, pairs)
@@ -214,7 +242,8 @@ pub(crate) fn request_tagged(
     tag: u8,
     fields: &[Value],
 ) -> Result<Request, MsgFault>
-    ensures { Answers (λ r. asks (ask r)) result (tagged version requests tag (trees_of (trees fields.now))) }
+    ensures { Answers (λ r. request_contents (request_view r)) result
+        (contents_at_tag version requests tag (trees_of (trees fields.now))) }
 {
     match (tag, version.has_logon()) {
         (tags::HELLO, _) => hello_of(version, fields),
@@ -240,7 +269,8 @@ pub(crate) fn response_tagged(
     tag: u8,
     fields: &[Value],
 ) -> Result<Response, MsgFault>
-    ensures { Answers (λ r. says (say r)) result (tagged version responses tag (trees_of (trees fields.now))) }
+    ensures { Answers (λ r. response_contents (response_view r)) result
+        (contents_at_tag version responses tag (trees_of (trees fields.now))) }
 {
     match tag {
         tags::SUCCESS => success_of(alloc, version, fields),

@@ -1,12 +1,14 @@
--- The first pair of a dictionary whose key stands before it too. Proofs alone need it.
+-- The first pair of a dictionary whose key stands before it too. Private functions and proofs alone need it.
 use Rattle.std.specs.Prelude.{◌≡◌, ◌<◌, ◌≤◌, ℕ, List, [], length, take, map, get_or, Bool, true, false, String, string_bytes}
 use Rattle.std.proofs.Common.{Global}
 use Rattle.packstream.specs.declared.value.Value.{Value}
 use Rattle.packstream.specs.Good.{is_among}
 
+-- a key of a dictionary and its value
 abbrev pub Pair : Type 0
 Pair = String Global × Value
 
+-- the keys of pairs, in order, by their bytes
 abbrev pub names : List Pair → List (List ℕ)
 names es = map (λ e. string_bytes e.0) es
 

@@ -8,7 +8,8 @@ use Rattle.streams.specs.Settling.{Grows}
 
 -- the line of an entry of the ledger: its connection, its request's ordinal, and how many writes it has
 abbrev pub entry_line : EntryView → List ℕ
-entry_line e = codes "entry " ++ decimal e.conn ++ codes " " ++ decimal e.ordinal ++ codes " " ++ decimal (length e.writes) ++ 10 ∷ []
+entry_line e = codes "entry " ++ decimal e.conn ++ codes " " ++ decimal e.ordinal ++ codes " "
+    ++ decimal (length e.writes) ++ 10 ∷ []
 
 -- a source that gives no more: it has failed, or nothing is left of it
 abbrev pub GivesNoMore : Bool → Option (List ℕ) → Type 0

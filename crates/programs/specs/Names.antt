@@ -9,6 +9,7 @@ use Rattle.machine.specs.declared.Phase.TheVariants as phase
 use Rattle.machine.specs.declared.State.{State}
 use Rattle.server.specs.declared.kinds.Cause.{Cause}
 
+-- the name of what became of a request
 abbrev pub outcome_name : Outcome → List ℕ
 outcome_name outcome.Done = codes "Done"
 outcome_name outcome.Committed = codes "Committed"
@@ -17,6 +18,7 @@ outcome_name outcome.Ignored = codes "Ignored"
 outcome_name outcome.Lost = codes "Lost"
 outcome_name outcome.Unknown = codes "Unknown"
 
+-- the name of a phase
 abbrev pub phase_name : Phase → List ℕ
 phase_name phase.Fresh = codes "Fresh"
 phase_name phase.Unauth = codes "Unauth"
@@ -36,6 +38,7 @@ refusal_code refusal.Closed = Some (codes "C4")
 refusal_code refusal.Memory = None
 refusal_code (refusal.Unwritable e) = Some (codes "C7")
 
+-- the name of a session's state
 abbrev pub state_name : State → List ℕ
 state_name State.Fresh = codes "Fresh"
 state_name State.Unauth = codes "Unauth"

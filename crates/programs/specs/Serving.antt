@@ -28,12 +28,16 @@ IsCauseOf cause (Err fault) input output = (cause ≡ Cause.Lost) × IsDueTo fau
 module _ {G : Type 0} (r : Rest G) where
   -- One more session was opened and given up, and the ledger has grown by some entries, or by none.
   abbrev pub HasServed : (Rest G → Type 0) → Type 0
-  HasServed Now = (more : List EntryView) × Now (record { sessions = []; next = r.next + 1; ledger = r.ledger ++ more; gate = r.gate })
+  HasServed Now = (more : List EntryView)
+      × Now (record { sessions = []; next = r.next + 1; ledger = r.ledger ++ more; gate = r.gate })
 
   -- the same, or no session could be opened
   abbrev pub MayHaveServed : (Rest G → Type 0) → Type 0
   MayHaveServed Now = Now r ⊎ HasServed Now
 
   -- The connection was served as this conversation has it, whole or up to a fault of a stream, and this cause is told of it.
-  abbrev pub ServesSo : ℕ → Talk → (Rest G → Type 0) → Option (List ℕ) → Option (List ℕ) → Bool → Bool → Cause → Type 0
-  ServesSo conn t Now old new input output cause = (served : Result Cause StreamFault) × Serves r conn t Now old new served × IsCauseOf cause served input output
+  abbrev pub ServesSo : ℕ → Talk → (Rest G → Type 0) → Option (List ℕ) → Option (List ℕ) → Bool
+      → Bool → Cause → Type 0
+  ServesSo conn t Now old new input output cause =
+      (served : Result Cause StreamFault) × Serves r conn t Now old new served
+      × IsCauseOf cause served input output

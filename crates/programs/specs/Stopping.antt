@@ -13,6 +13,7 @@ stop_status (Broken ReadFailed) = 1
 stop_status (Broken WriteFailed) = 1
 stop_status (Broken Memory) = 3
 
+-- the line of why a program stops: the number of a line, from 1, or the code of a fault
 abbrev pub stop_text : Stop → List ℕ
 stop_text (Unreadable n) = codes "line " ++ decimal n ++ codes " unreadable" ++ 10 ∷ []
 stop_text (Broken ReadFailed) = codes "fault I1" ++ 10 ∷ []
@@ -31,10 +32,13 @@ abbrev pub ends_with : Option Stop → ℕ
 ends_with None = 0
 ends_with (Some stop) = stop_status stop
 
+-- what is said on standard error: nothing, or why the program stops
 abbrev pub said_of : Option Stop → List ℕ
 said_of None = []
 said_of (Some stop) = stop_text stop
 
+-- a status with which the program may end, and what standard error got then, unless it failed
 abbrev pub Ends : ℕ → Type 0 → Type 0 → Bool → Option (List ℕ) → Option (List ℕ) → Type 0
 Ends status read written err_failed before after =
-    (stop : Option Stop) × (status ≡ ends_with stop) × IfSome stop (λ s. IsStopOf s read written) × (err_failed ≡ false → Appends before after (said_of stop))
+    (stop : Option Stop) × (status ≡ ends_with stop) × IfSome stop (λ s. IsStopOf s read written)
+    × (err_failed ≡ false → Appends before after (said_of stop))

@@ -7,7 +7,7 @@ use Rattle.packstream.specs.Tree.{Tree, list}
 use Rattle.packstream.specs.View.{trees_of}
 use Rattle.structures.specs.Form.{Form}
 use Rattle.wire.specs.declared.Version.{Version}
-use Rattle.messages.specs.View.{Say, Success, Record, Ignored, Failure}
+use Rattle.messages.specs.View.{ResponseView, Success, Record, Ignored, Failure}
 use Rattle.client.specs.Rest.{Note, Nothing, Chose, Row, Summary}
 use Rattle.programs.specs.Names.{outcome_name, phase_name}
 
@@ -19,12 +19,15 @@ IsSpelled v cell hex = (t : Tree) × Form v cell t × (hex ≡ encode_lower (can
 abbrev pub row_line : List ℕ → List ℕ
 row_line hex = codes "row " ++ hex ++ 10 ∷ []
 
+-- what is printed of a row at this version, by the shortest spelling of the list of its cells
 abbrev pub IsRowLine : Version → List Tree → List ℕ → Type 0
-IsRowLine v cells text = (hex : List ℕ) × IsSpelled v (list (trees_of cells)) hex × (text ≡ row_line hex)
+IsRowLine v cells text =
+    (hex : List ℕ) × IsSpelled v (list (trees_of cells)) hex × (text ≡ row_line hex)
 
 -- a summary: its request's ordinal, and the names of its outcome and of the phase that it leads to
 abbrev pub heard_line : ℕ → List ℕ → List ℕ → List ℕ
-heard_line ordinal outcome phase = codes "heard " ++ decimal ordinal ++ codes " " ++ outcome ++ codes " " ++ phase ++ 10 ∷ []
+heard_line ordinal outcome phase =
+    codes "heard " ++ decimal ordinal ++ codes " " ++ outcome ++ codes " " ++ phase ++ 10 ∷ []
 
 -- a failure by its code and its message
 abbrev pub fault_line : List ℕ → List ℕ → List ℕ
@@ -35,15 +38,17 @@ abbrev pub IsTold : Version → Note → List ℕ → Type 0
 IsTold v Nothing text = text ≡ []
 IsTold v (Chose o) text = text ≡ []
 IsTold v (Row cells) text = IsRowLine v cells text
-IsTold v (Summary ordinal phase outcome said) text = text ≡ heard_line ordinal (outcome_name outcome) (phase_name phase)
+IsTold v (Summary ordinal phase outcome said) text =
+    text ≡ heard_line ordinal (outcome_name outcome) (phase_name phase)
 
 -- what is printed of a failure beside it: its code and its message
-abbrev pub failure_line : Say → List ℕ
+abbrev pub failure_line : ResponseView → List ℕ
 failure_line (Failure code message) = fault_line code message
 failure_line (Success es) = []
 failure_line (Record cells) = []
 failure_line Ignored = []
 
+-- the same of a note, of which only a summary may tell a failure
 abbrev pub failure_told : Note → List ℕ
 failure_told Nothing = []
 failure_told (Chose o) = []

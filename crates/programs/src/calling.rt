@@ -48,7 +48,9 @@ impl Caller {
 
     /// Prints what was heard: `row HEX`, `heard ORDINAL OUTCOME PHASE`, or nothing.
     pub fn put_heard<O: Sink>(&mut self, heard: Heard, out: &mut O) -> Result<(), StreamFault>
-        ensures told { OnOk result ((text : List ℕ) × IsTold (version_after self.old.version (note heard)) (note heard) text × Appends (O.taken out.old) (O.taken out.new) text) }
+        ensures told { OnOk result
+            ((text : List ℕ) × IsTold (version_after self.old.version (note heard)) (note heard)
+            text × Appends (O.taken out.old) (O.taken out.new) text) }
         ensures read { IsErrOf result StreamFault.ReadFailed → ⊥ }
         ensures written { IsErrOf result StreamFault.WriteFailed → O.has_failed out.new ≡ true }
         ensures client { self.new.client ≡ self.old.client }
@@ -59,7 +61,10 @@ impl Caller {
 
     /// The same, and after the line of a FAILURE `fault CODE MESSAGE`.
     pub fn put_explained<O: Sink>(&mut self, heard: Heard, out: &mut O) -> Result<(), StreamFault>
-        ensures told { OnOk result ((text : List ℕ) × IsTold (version_after self.old.version (note heard)) (note heard) text × Appends (O.taken out.old) (O.taken out.new) (text ++ failure_told (note heard))) }
+        ensures told { OnOk result
+            ((text : List ℕ) × IsTold (version_after self.old.version (note heard)) (note heard)
+            text × Appends (O.taken out.old) (O.taken out.new)
+            (text ++ failure_told (note heard))) }
         ensures read { IsErrOf result StreamFault.ReadFailed → ⊥ }
         ensures written { IsErrOf result StreamFault.WriteFailed → O.has_failed out.new ≡ true }
         ensures client { self.new.client ≡ self.old.client }

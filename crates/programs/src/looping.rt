@@ -6,7 +6,7 @@ ghost use Rattle.streams.specs.Settling.{IsLive, LivesOn};
 ghost use Rattle.programs.specs.Looping.{GivesNoMore, HasLooped};
 ghost use Rattle.programs.specs.Serving.{IsVacant};
 ghost use Rattle.scripts.specs.Rows.{request_line_of};
-ghost use Rattle.scripts.specs.Script.{filled, unreadable};
+ghost use Rattle.scripts.specs.Script.{filled_lines, unreadable};
 ghost use Rattle.programs.specs.Stopping.{Ends, stop_status};
 
 use crate::calling::Caller;
@@ -34,7 +34,8 @@ pub struct Channel<I, O> {
 
 /// Reads bytes that are known to wait, as many as there is room for. I1 where the source fails or ends before.
 fn read_known<S: Source>(source: &mut S, buffer: &mut [u8]) -> Result<(), StreamFault>
-    ensures read { IsErrOf result StreamFault.ReadFailed → GivesNoMore (S.has_failed source.new) (S.left source.new) }
+    ensures read { IsErrOf result StreamFault.ReadFailed
+        → GivesNoMore (S.has_failed source.new) (S.left source.new) }
     ensures written { IsErrOf result StreamFault.WriteFailed → ⊥ }
     ensures len { length buffer.new ≡ length buffer.old }
 {
@@ -58,7 +59,8 @@ fn pass<S: Source, T: Sink>(
     sink: &mut T,
     source: &mut S,
 ) -> Result<Vec<u8>, StreamFault>
-    ensures read { IsErrOf result StreamFault.ReadFailed → GivesNoMore (S.has_failed source.new) (S.left source.new) }
+    ensures read { IsErrOf result StreamFault.ReadFailed
+        → GivesNoMore (S.has_failed source.new) (S.left source.new) }
     ensures written { IsErrOf result StreamFault.WriteFailed → T.has_failed sink.new ≡ true }
 {
     if write_all(sink, bytes).is_err() {
@@ -106,8 +108,10 @@ fn hand_over<S: Source, T: Sink, O: Sink>(
     source: &mut S,
     out: &mut O,
 ) -> Result<(), StreamFault>
-    ensures read { IsErrOf result StreamFault.ReadFailed → GivesNoMore (S.has_failed source.new) (S.left source.new) }
-    ensures written { IsErrOf result StreamFault.WriteFailed → (T.has_failed sink.new ≡ true) ⊎ (O.has_failed out.new ≡ true) }
+    ensures read { IsErrOf result StreamFault.ReadFailed
+        → GivesNoMore (S.has_failed source.new) (S.left source.new) }
+    ensures written { IsErrOf result StreamFault.WriteFailed
+        → (T.has_failed sink.new ≡ true) ⊎ (O.has_failed out.new ≡ true) }
 {
     let mut rest = bytes;
     while !rest.is_empty() {
@@ -138,8 +142,12 @@ fn turn<E: Engine, G: Gate, A: Source, B: Sink, C: Source, D: Sink, O: Sink>(
     requires { IsLive E.entries conn server.old }
     ensures live { IsLive E.entries conn server.new }
     ensures grows { LivesOn conn (Fits E.entries server.old) (Fits E.entries server.new) }
-    ensures read { IsErrOf result StreamFault.ReadFailed → GivesNoMore (A.has_failed near.new.source) (A.left near.new.source) ⊎ GivesNoMore (C.has_failed far.new.source) (C.left far.new.source) }
-    ensures written { IsErrOf result StreamFault.WriteFailed → (B.has_failed near.new.sink ≡ true) ⊎ (D.has_failed far.new.sink ≡ true) ⊎ (O.has_failed out.new ≡ true) }
+    ensures read { IsErrOf result StreamFault.ReadFailed
+        → GivesNoMore (A.has_failed near.new.source) (A.left near.new.source)
+        ⊎ GivesNoMore (C.has_failed far.new.source) (C.left far.new.source) }
+    ensures written { IsErrOf result StreamFault.WriteFailed
+        → (B.has_failed near.new.sink ≡ true) ⊎ (D.has_failed far.new.sink ≡ true)
+        ⊎ (O.has_failed out.new ≡ true) }
 {
     let Ok(bytes) = caller.client.take_out(PIECE) else {
         return Err(StreamFault::Memory);
@@ -175,8 +183,12 @@ fn exchange<E: Engine, G: Gate, A: Source, B: Sink, C: Source, D: Sink, O: Sink>
     requires { IsLive E.entries conn server.old }
     ensures live { IsLive E.entries conn server.new }
     ensures grows { LivesOn conn (Fits E.entries server.old) (Fits E.entries server.new) }
-    ensures read { IsErrOf result StreamFault.ReadFailed → GivesNoMore (A.has_failed near.new.source) (A.left near.new.source) ⊎ GivesNoMore (C.has_failed far.new.source) (C.left far.new.source) }
-    ensures written { IsErrOf result StreamFault.WriteFailed → (B.has_failed near.new.sink ≡ true) ⊎ (D.has_failed far.new.sink ≡ true) ⊎ (O.has_failed out.new ≡ true) }
+    ensures read { IsErrOf result StreamFault.ReadFailed
+        → GivesNoMore (A.has_failed near.new.source) (A.left near.new.source)
+        ⊎ GivesNoMore (C.has_failed far.new.source) (C.left far.new.source) }
+    ensures written { IsErrOf result StreamFault.WriteFailed
+        → (B.has_failed near.new.sink ≡ true) ⊎ (D.has_failed far.new.sink ≡ true)
+        ⊎ (O.has_failed out.new ≡ true) }
 {
     for _ in 0..MOST_TURNS {
         let moved = match turn(caller, server, conn, near, far, out) {
@@ -205,8 +217,12 @@ fn run_lines<E: Engine, G: Gate, A: Source, B: Sink, C: Source, D: Sink, O: Sink
 ) -> Result<(), StreamFault>
     requires { IsLive E.entries conn server.old }
     ensures grows { LivesOn conn (Fits E.entries server.old) (Fits E.entries server.new) }
-    ensures read { IsErrOf result StreamFault.ReadFailed → GivesNoMore (A.has_failed near.new.source) (A.left near.new.source) ⊎ GivesNoMore (C.has_failed far.new.source) (C.left far.new.source) }
-    ensures written { IsErrOf result StreamFault.WriteFailed → (B.has_failed near.new.sink ≡ true) ⊎ (D.has_failed far.new.sink ≡ true) ⊎ (O.has_failed out.new ≡ true) }
+    ensures read { IsErrOf result StreamFault.ReadFailed
+        → GivesNoMore (A.has_failed near.new.source) (A.left near.new.source)
+        ⊎ GivesNoMore (C.has_failed far.new.source) (C.left far.new.source) }
+    ensures written { IsErrOf result StreamFault.WriteFailed
+        → (B.has_failed near.new.sink ≡ true) ⊎ (D.has_failed far.new.sink ≡ true)
+        ⊎ (O.has_failed out.new ≡ true) }
 {
     match exchange(caller, server, conn, near, far, out) {
         Ok(()) => {}
@@ -234,8 +250,12 @@ fn run_line<E: Engine, G: Gate, A: Source, B: Sink, C: Source, D: Sink, O: Sink>
     requires { IsLive E.entries conn server.old }
     ensures live { IsLive E.entries conn server.new }
     ensures grows { LivesOn conn (Fits E.entries server.old) (Fits E.entries server.new) }
-    ensures read { IsErrOf result StreamFault.ReadFailed → GivesNoMore (A.has_failed near.new.source) (A.left near.new.source) ⊎ GivesNoMore (C.has_failed far.new.source) (C.left far.new.source) }
-    ensures written { IsErrOf result StreamFault.WriteFailed → (B.has_failed near.new.sink ≡ true) ⊎ (D.has_failed far.new.sink ≡ true) ⊎ (O.has_failed out.new ≡ true) }
+    ensures read { IsErrOf result StreamFault.ReadFailed
+        → GivesNoMore (A.has_failed near.new.source) (A.left near.new.source)
+        ⊎ GivesNoMore (C.has_failed far.new.source) (C.left far.new.source) }
+    ensures written { IsErrOf result StreamFault.WriteFailed
+        → (B.has_failed near.new.sink ≡ true) ⊎ (D.has_failed far.new.sink ≡ true)
+        ⊎ (O.has_failed out.new ≡ true) }
 {
     match caller.submit(line.number, line.said, out) {
         Ok(true) => exchange(caller, server, conn, near, far, out),
@@ -254,9 +274,14 @@ fn run_opened<E: Engine, G: Gate, A: Source, B: Sink, C: Source, D: Sink, O: Sin
     out: &mut O,
 ) -> Result<(), StreamFault>
     requires { IsVacant E.entries server.old }
-    ensures grows { (r : Rest G) → Fits E.entries server.old r → r.sessions ≡ [] → HasLooped r (Fits E.entries server.new) }
-    ensures read { IsErrOf result StreamFault.ReadFailed → GivesNoMore (A.has_failed near.new.source) (A.left near.new.source) ⊎ GivesNoMore (C.has_failed far.new.source) (C.left far.new.source) }
-    ensures written { IsErrOf result StreamFault.WriteFailed → (B.has_failed near.new.sink ≡ true) ⊎ (D.has_failed far.new.sink ≡ true) ⊎ (O.has_failed out.new ≡ true) }
+    ensures grows { (r : Rest G) → Fits E.entries server.old r → r.sessions ≡ []
+        → HasLooped r (Fits E.entries server.new) }
+    ensures read { IsErrOf result StreamFault.ReadFailed
+        → GivesNoMore (A.has_failed near.new.source) (A.left near.new.source)
+        ⊎ GivesNoMore (C.has_failed far.new.source) (C.left far.new.source) }
+    ensures written { IsErrOf result StreamFault.WriteFailed
+        → (B.has_failed near.new.sink ≡ true) ⊎ (D.has_failed far.new.sink ≡ true)
+        ⊎ (O.has_failed out.new ≡ true) }
 {
     let mut caller = match Caller::new(alloc) {
         Ok(caller) => caller,
@@ -282,12 +307,21 @@ fn run<E: Engine, G: Gate, A: Source, B: Sink, C: Source, D: Sink, O: Sink>(
     out: &mut O,
 ) -> Result<(), Stop>
     requires { IsVacant E.entries server.old }
-    ensures grows { (r : Rest G) → Fits E.entries server.old r → r.sessions ≡ [] → HasLooped r (Fits E.entries server.new) }
-    ensures read { IsErrOf result (Stop.Broken StreamFault.ReadFailed) → GivesNoMore (A.has_failed near.new.source) (A.left near.new.source) ⊎ GivesNoMore (C.has_failed far.new.source) (C.left far.new.source) }
-    ensures written { IsErrOf result (Stop.Broken StreamFault.WriteFailed) → (B.has_failed near.new.sink ≡ true) ⊎ (D.has_failed far.new.sink ≡ true) ⊎ (O.has_failed out.new ≡ true) }
+    ensures grows { (r : Rest G) → Fits E.entries server.old r → r.sessions ≡ []
+        → HasLooped r (Fits E.entries server.new) }
+    ensures read { IsErrOf result (Stop.Broken StreamFault.ReadFailed)
+        → GivesNoMore (A.has_failed near.new.source) (A.left near.new.source)
+        ⊎ GivesNoMore (C.has_failed far.new.source) (C.left far.new.source) }
+    ensures written { IsErrOf result (Stop.Broken StreamFault.WriteFailed)
+        → (B.has_failed near.new.sink ≡ true) ⊎ (D.has_failed far.new.sink ≡ true)
+        ⊎ (O.has_failed out.new ≡ true) }
     // Nothing is run where a line can't be read.
-    ensures unreadable { IfErr result (λ stop. stop_status stop ≡ 2 → IsSome (unreadable request_line_of (filled script.now)) × (server.new ≡ server.old) × (near.new ≡ near.old) × (far.new ≡ far.old) × (out.new ≡ out.old)) }
-    ensures readable { OnOk result (unreadable request_line_of (filled script.now) ≡ None) }
+    ensures unreadable { IfErr result
+        (λ stop. stop_status stop ≡ 2
+        → IsSome (unreadable request_line_of (filled_lines script.now))
+        × (server.new ≡ server.old) × (near.new ≡ near.old) × (far.new ≡ far.old)
+        × (out.new ≡ out.old)) }
+    ensures readable { OnOk result (unreadable request_line_of (filled_lines script.now) ≡ None) }
 {
     let lines = match read_requests(alloc, script) {
         Ok(lines) => lines,
@@ -321,12 +355,20 @@ pub fn run_loop<E: Engine, G: Gate, A: Source, B: Sink, C: Source, D: Sink, O: S
 ) -> u8
     requires { IsVacant E.entries server.old }
     // The status and the text on standard error are those of why it stops; I1 only where a source gives no more, I2 only where a sink has failed.
-    ensures ends { Ends result (GivesNoMore (A.has_failed near.new.source) (A.left near.new.source) ⊎ GivesNoMore (C.has_failed far.new.source) (C.left far.new.source)) ((B.has_failed near.new.sink ≡ true) ⊎ (D.has_failed far.new.sink ≡ true) ⊎ (O.has_failed out.new ≡ true)) (F.has_failed err.new) (F.taken err.old) (F.taken err.new) }
+    ensures ends { Ends result
+        (GivesNoMore (A.has_failed near.new.source) (A.left near.new.source)
+        ⊎ GivesNoMore (C.has_failed far.new.source) (C.left far.new.source))
+        ((B.has_failed near.new.sink ≡ true) ⊎ (D.has_failed far.new.sink ≡ true)
+        ⊎ (O.has_failed out.new ≡ true)) (F.has_failed err.new) (F.taken err.old)
+        (F.taken err.new) }
     // 0 is only for a script of which each line can be read, and 2 only for one of which one can't: nothing is run then.
-    ensures readable { result ≡ 0 → unreadable request_line_of (filled script.now) ≡ None }
-    ensures unreadable { result ≡ 2 → IsSome (unreadable request_line_of (filled script.now)) × (server.new ≡ server.old) × (near.new ≡ near.old) × (far.new ≡ far.old) × (out.new ≡ out.old) }
+    ensures readable { result ≡ 0 → unreadable request_line_of (filled_lines script.now) ≡ None }
+    ensures unreadable { result ≡ 2
+        → IsSome (unreadable request_line_of (filled_lines script.now)) × (server.new ≡ server.old)
+        × (near.new ≡ near.old) × (far.new ≡ far.old) × (out.new ≡ out.old) }
     // At most one session is opened, and the ledger has at most grown.
-    ensures grows { (r : Rest G) → Fits E.entries server.old r → r.sessions ≡ [] → HasLooped r (Fits E.entries server.new) }
+    ensures grows { (r : Rest G) → Fits E.entries server.old r → r.sessions ≡ []
+        → HasLooped r (Fits E.entries server.new) }
 {
     match run(alloc, server, script, near, far, out) {
         Ok(()) => 0,

@@ -36,7 +36,9 @@ pub(crate) fn put_heard<O: Sink>(
     heard: Heard,
     out: &mut O,
 ) -> Result<(), StreamFault>
-    ensures told { OnOk result ((text : List ℕ) × IsTold version (note heard) text × Appends (O.taken out.old) (O.taken out.new) text) }
+    ensures told { OnOk result
+        ((text : List ℕ) × IsTold version (note heard) text
+        × Appends (O.taken out.old) (O.taken out.new) text) }
     ensures read { IsErrOf result StreamFault.ReadFailed → ⊥ }
     ensures written { IsErrOf result StreamFault.WriteFailed → O.has_failed out.new ≡ true }
 {
@@ -53,7 +55,8 @@ pub(crate) fn put_refused<O: Sink>(
     code: &str,
     out: &mut O,
 ) -> Result<(), StreamFault>
-    ensures told { OnOk result (Appends (O.taken out.old) (O.taken out.new) (refused_line number code.now)) }
+    ensures told { OnOk result
+        (Appends (O.taken out.old) (O.taken out.new) (refused_line number code.now)) }
     ensures read { IsErrOf result StreamFault.ReadFailed → ⊥ }
     ensures written { IsErrOf result StreamFault.WriteFailed → O.has_failed out.new ≡ true }
 {
@@ -77,7 +80,8 @@ pub(crate) fn put_end<O: Sink>(
     cause: Cause,
     out: &mut O,
 ) -> Result<(), StreamFault>
-    ensures told { OnOk result (Appends (O.taken out.old) (O.taken out.new) (conn_line conn cause)) }
+    ensures told { OnOk result
+        (Appends (O.taken out.old) (O.taken out.new) (conn_line conn cause)) }
     ensures read { IsErrOf result StreamFault.ReadFailed → ⊥ }
     ensures written { IsErrOf result StreamFault.WriteFailed → O.has_failed out.new ≡ true }
 {
@@ -114,7 +118,8 @@ pub(crate) fn put_entries<O: Sink>(
 }
 
 fn put_entry<O: Sink>(alloc: Global, entry: &Entry, out: &mut O) -> Result<(), StreamFault>
-    ensures told { OnOk result (Appends (O.taken out.old) (O.taken out.new) (entry_line (entry_view entry.now))) }
+    ensures told { OnOk result
+        (Appends (O.taken out.old) (O.taken out.new) (entry_line (entry_view entry.now))) }
     ensures read { IsErrOf result StreamFault.ReadFailed → ⊥ }
     ensures written { IsErrOf result StreamFault.WriteFailed → O.has_failed out.new ≡ true }
 {
@@ -125,7 +130,9 @@ fn put_entry<O: Sink>(alloc: Global, entry: &Entry, out: &mut O) -> Result<(), S
 }
 
 fn entry_text(alloc: Global, conn: u64, ordinal: u64, count: usize) -> Result<String, AllocError>
-    ensures { IfOk result (λ t. string_bytes t ≡ codes "entry " ++ decimal conn ++ codes " " ++ decimal ordinal ++ codes " " ++ decimal count ++ 10 ∷ []) }
+    ensures { IfOk result (λ t. string_bytes t
+        ≡ codes "entry " ++ decimal conn ++ codes " " ++ decimal ordinal ++ codes " "
+        ++ decimal count ++ 10 ∷ []) }
 {
     let text = format!(in alloc; "entry {conn} {ordinal} {count}\n")?;
     Ok(text)

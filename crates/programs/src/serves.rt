@@ -27,13 +27,18 @@ pub fn serve_next<E: Engine, G: Gate, I: Source, O: Sink, P: Sink>(
     requires { IsVacant E.entries server.old }
     ensures vacant { IsVacant E.entries server.new }
     // The session is given up, the next number is one more, and the ledger has at most grown ..
-    ensures ok { (r : Rest G) → Fits E.entries server.old r → r.sessions ≡ [] → OnOk result (HasServed r (Fits E.entries server.new)) }
+    ensures ok { (r : Rest G) → Fits E.entries server.old r → r.sessions ≡ []
+        → OnOk result (HasServed r (Fits E.entries server.new)) }
     // .. also after a fault, where a session was opened.
-    ensures err { (r : Rest G) → Fits E.entries server.old r → r.sessions ≡ [] → OnErr result (MayHaveServed r (Fits E.entries server.new)) }
+    ensures err { (r : Rest G) → Fits E.entries server.old r → r.sessions ≡ []
+        → OnErr result (MayHaveServed r (Fits E.entries server.new)) }
     // What is printed is the connection's number and its cause.
-    ensures told { (r : Rest G) → Fits E.entries server.old r → IfOk result (λ cause. Appends (P.taken out.old) (P.taken out.new) (conn_line r.next cause)) }
+    ensures told { (r : Rest G) → Fits E.entries server.old r
+        → IfOk result (λ cause. Appends (P.taken out.old) (P.taken out.new)
+        (conn_line r.next cause)) }
     // Where the bytes of the client are known, what it was answered, the ledger and the cause are those of its conversation.
-    ensures serves { (r : Rest G) (bytes : List ℕ) → Fits E.entries server.old r → r.sessions ≡ [] → I.left source.old ≡ Some bytes
+    ensures serves { (r : Rest G) (bytes : List ℕ) → Fits E.entries server.old r → r.sessions ≡ []
+        → I.left source.old ≡ Some bytes
         → IfOk result (ServesSo (opened r) r.next (conversation (setting E.answer G.accepts r) r.next r.ledger bytes) (Fits E.entries server.new) (O.taken sink.old) (O.taken sink.new) (I.has_failed source.new) (O.has_failed sink.new)) }
     ensures read { IsErrOf result StreamFault.ReadFailed → ⊥ }
     ensures written { IsErrOf result StreamFault.WriteFailed → P.has_failed out.new ≡ true }
@@ -60,8 +65,10 @@ fn serve_opened<E: Engine, G: Gate, I: Source, O: Sink>(
     sink: &mut O,
 ) -> Result<Cause, StreamFault>
     requires { IsLive E.entries conn server.old }
-    ensures leaves { (r : Rest G) → Fits E.entries server.old r → IsSome (find conn r.sessions) → LeavesOthers r conn (Fits E.entries server.new) }
-    ensures serves { (r : Rest G) (bytes : List ℕ) → Fits E.entries server.old r → find conn r.sessions ≡ Some (fresh conn) → I.left source.old ≡ Some bytes
+    ensures leaves { (r : Rest G) → Fits E.entries server.old r → IsSome (find conn r.sessions)
+        → LeavesOthers r conn (Fits E.entries server.new) }
+    ensures serves { (r : Rest G) (bytes : List ℕ) → Fits E.entries server.old r
+        → find conn r.sessions ≡ Some (fresh conn) → I.left source.old ≡ Some bytes
         → IfOk result (ServesSo r conn (conversation (setting E.answer G.accepts r) conn r.ledger bytes) (Fits E.entries server.new) (O.taken sink.old) (O.taken sink.new) (I.has_failed source.new) (O.has_failed sink.new)) }
     ensures memory { IfErr result (λ e. e ≡ StreamFault.Memory) }
 {

@@ -45,7 +45,8 @@ impl Conversation {
         out: &mut O,
     ) -> Result<(), StreamFault>
         ensures read { IsErrOf result StreamFault.ReadFailed → S.has_failed source.new ≡ true }
-        ensures written { IsErrOf result StreamFault.WriteFailed → (T.has_failed sink.new ≡ true) ⊎ (O.has_failed out.new ≡ true) }
+        ensures written { IsErrOf result StreamFault.WriteFailed
+            → (T.has_failed sink.new ≡ true) ⊎ (O.has_failed out.new ≡ true) }
     {
         match write_out(&mut self.caller.client, sink) {
             Ok(()) => {}
@@ -86,7 +87,8 @@ impl Conversation {
     ) -> Result<bool, StreamFault>
         ensures read { IsErrOf result StreamFault.ReadFailed → S.has_failed source.new ≡ true }
         ensures written { IsErrOf result StreamFault.WriteFailed → O.has_failed out.new ≡ true }
-        ensures lowers { IfOk result (λ some. some ≡ true → S.reads source.new < S.reads source.old) }
+        ensures lowers { IfOk result
+            (λ some. some ≡ true → S.reads source.new < S.reads source.old) }
     {
         let mut heard = Vec::new(self.alloc);
         let done = hear_piece(&mut self.caller.client, source, &mut heard);
@@ -118,8 +120,10 @@ impl Conversation {
         sink: &mut T,
         out: &mut O,
     ) -> Result<(), Stop>
-        ensures read { IsErrOf result (Stop.Broken StreamFault.ReadFailed) → S.has_failed source.new ≡ true }
-        ensures written { IsErrOf result (Stop.Broken StreamFault.WriteFailed) → (T.has_failed sink.new ≡ true) ⊎ (O.has_failed out.new ≡ true) }
+        ensures read { IsErrOf result (Stop.Broken StreamFault.ReadFailed)
+            → S.has_failed source.new ≡ true }
+        ensures written { IsErrOf result (Stop.Broken StreamFault.WriteFailed)
+            → (T.has_failed sink.new ≡ true) ⊎ (O.has_failed out.new ≡ true) }
     {
         for byte in piece {
             if *byte == b'\n' {
@@ -143,8 +147,10 @@ impl Conversation {
         sink: &mut T,
         out: &mut O,
     ) -> Result<(), Stop>
-        ensures read { IsErrOf result (Stop.Broken StreamFault.ReadFailed) → S.has_failed source.new ≡ true }
-        ensures written { IsErrOf result (Stop.Broken StreamFault.WriteFailed) → (T.has_failed sink.new ≡ true) ⊎ (O.has_failed out.new ≡ true) }
+        ensures read { IsErrOf result (Stop.Broken StreamFault.ReadFailed)
+            → S.has_failed source.new ≡ true }
+        ensures written { IsErrOf result (Stop.Broken StreamFault.WriteFailed)
+            → (T.has_failed sink.new ≡ true) ⊎ (O.has_failed out.new ≡ true) }
     {
         if self.begun.is_empty() {
             return Ok(());
@@ -169,7 +175,8 @@ impl Conversation {
         out: &mut O,
     ) -> Result<(), StreamFault>
         ensures read { IsErrOf result StreamFault.ReadFailed → S.has_failed source.new ≡ true }
-        ensures written { IsErrOf result StreamFault.WriteFailed → (T.has_failed sink.new ≡ true) ⊎ (O.has_failed out.new ≡ true) }
+        ensures written { IsErrOf result StreamFault.WriteFailed
+            → (T.has_failed sink.new ≡ true) ⊎ (O.has_failed out.new ≡ true) }
     {
         match self.caller.submit(self.number, request, out) {
             Ok(true) => self.ask(source, sink, out),
@@ -187,8 +194,10 @@ fn run<I: Source, S: Source, T: Sink, O: Sink>(
     sink: &mut T,
     out: &mut O,
 ) -> Result<(), Stop>
-    ensures read { IsErrOf result (Stop.Broken StreamFault.ReadFailed) → (I.has_failed input.new ≡ true) ⊎ (S.has_failed source.new ≡ true) }
-    ensures written { IsErrOf result (Stop.Broken StreamFault.WriteFailed) → (T.has_failed sink.new ≡ true) ⊎ (O.has_failed out.new ≡ true) }
+    ensures read { IsErrOf result (Stop.Broken StreamFault.ReadFailed)
+        → (I.has_failed input.new ≡ true) ⊎ (S.has_failed source.new ≡ true) }
+    ensures written { IsErrOf result (Stop.Broken StreamFault.WriteFailed)
+        → (T.has_failed sink.new ≡ true) ⊎ (O.has_failed out.new ≡ true) }
 {
     let mut conversation = match Conversation::new(alloc) {
         Ok(conversation) => conversation,
@@ -229,7 +238,9 @@ pub fn shell<I: Source, S: Source, T: Sink, O: Sink, E: Sink>(
     err: &mut E,
 ) -> u8
     // The status and the text on standard error are those of why it stops; I1 only where a source has failed, I2 only where a sink has.
-    ensures { Ends result ((I.has_failed input.new ≡ true) ⊎ (S.has_failed source.new ≡ true)) ((T.has_failed sink.new ≡ true) ⊎ (O.has_failed out.new ≡ true)) (E.has_failed err.new) (E.taken err.old) (E.taken err.new) }
+    ensures { Ends result ((I.has_failed input.new ≡ true) ⊎ (S.has_failed source.new ≡ true))
+        ((T.has_failed sink.new ≡ true) ⊎ (O.has_failed out.new ≡ true)) (E.has_failed err.new)
+        (E.taken err.old) (E.taken err.new) }
 {
     match run(alloc, input, source, sink, out) {
         Ok(()) => 0,

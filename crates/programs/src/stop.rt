@@ -18,7 +18,8 @@ pub(crate) enum Stop {
 /// Writes why a program stops, and answers its exit status: 2 for a line that can't be read, 1 for a stream that has failed, 3
 /// for want of memory. Where there is no memory for the text, that is why.
 pub(crate) fn put_stop<E: Sink>(alloc: Global, stop: Stop, err: &mut E) -> u8
-    ensures { (told : Stop) × ((told ≡ stop) ⊎ (told ≡ Stop.Broken StreamFault.Memory)) × (result ≡ stop_status told)
+    ensures { (told : Stop) × ((told ≡ stop) ⊎ (told ≡ Stop.Broken StreamFault.Memory))
+        × (result ≡ stop_status told)
         × (E.has_failed err.new ≡ false → Appends (E.taken err.old) (E.taken err.new) (stop_text told)) }
 {
     match stop {
@@ -28,7 +29,8 @@ pub(crate) fn put_stop<E: Sink>(alloc: Global, stop: Stop, err: &mut E) -> u8
 }
 
 fn put_unreadable<E: Sink>(alloc: Global, number: usize, err: &mut E) -> u8
-    ensures { (told : Stop) × ((told ≡ Stop.Unreadable number) ⊎ (told ≡ Stop.Broken StreamFault.Memory)) × (result ≡ stop_status told)
+    ensures { (told : Stop) × ((told ≡ Stop.Unreadable number)
+        ⊎ (told ≡ Stop.Broken StreamFault.Memory)) × (result ≡ stop_status told)
         × (E.has_failed err.new ≡ false → Appends (E.taken err.old) (E.taken err.new) (stop_text told)) }
 {
     match unreadable_text(alloc, number) {
@@ -47,7 +49,8 @@ fn unreadable_text(alloc: Global, number: usize) -> Result<String, AllocError>
 /// Writes a fault on a line, `fault I1` and the like, and answers the exit status: 3 for want of memory, else 1. It takes no memory.
 pub fn put_fault<E: Sink>(fault: StreamFault, err: &mut E) -> u8
     ensures status { result ≡ stop_status (Stop.Broken fault) }
-    ensures text { E.has_failed err.new ≡ false → Appends (E.taken err.old) (E.taken err.new) (stop_text (Stop.Broken fault)) }
+    ensures text { E.has_failed err.new ≡ false
+        → Appends (E.taken err.old) (E.taken err.new) (stop_text (Stop.Broken fault)) }
 {
     match fault {
         StreamFault::ReadFailed => put(b"fault I1\n", 1, err),
@@ -59,7 +62,8 @@ pub fn put_fault<E: Sink>(fault: StreamFault, err: &mut E) -> u8
 /// Writes a text, and answers the status.
 fn put<E: Sink>(text: &[u8], status: u8, err: &mut E) -> u8
     ensures status { result ≡ status }
-    ensures text { E.has_failed err.new ≡ false → Appends (E.taken err.old) (E.taken err.new) text.now }
+    ensures text { E.has_failed err.new ≡ false
+        → Appends (E.taken err.old) (E.taken err.new) text.now }
 {
     let _ = write_all(err, text);
     status

@@ -1,7 +1,7 @@
 //! What is printed of what a client heard.
 ghost use Rattle.std.specs.Prelude.{◌≡◌, IfOk, string_bytes};
 ghost use Rattle.structures.specs.Shape.{shape, shapes};
-ghost use Rattle.messages.specs.View.{say};
+ghost use Rattle.messages.specs.View.{response_view};
 ghost use Rattle.client.specs.Notes.{note};
 ghost use Rattle.programs.specs.Telling.{IsSpelled, IsTold, IsRowLine, row_line, heard_line, fault_line, failure_line, failure_told};
 ghost use Rattle.programs.specs.Names.{outcome_name, phase_name};
@@ -70,7 +70,8 @@ pub fn summary(
     outcome: Outcome,
     phase: Phase,
 ) -> Result<String, AllocError>
-    ensures { IfOk result (λ t. string_bytes t ≡ heard_line ordinal (outcome_name outcome) (phase_name phase)) }
+    ensures { IfOk result (λ t. string_bytes t
+        ≡ heard_line ordinal (outcome_name outcome) (phase_name phase)) }
 {
     let outcome = outcome_name(outcome);
     let phase = phase_name(phase);
@@ -100,7 +101,7 @@ pub(crate) fn failure_of(alloc: Global, heard: &Heard) -> Result<String, AllocEr
 }
 
 fn failure(alloc: Global, response: &Response) -> Result<String, AllocError>
-    ensures { IfOk result (λ t. string_bytes t ≡ failure_line (say response.now)) }
+    ensures { IfOk result (λ t. string_bytes t ≡ failure_line (response_view response.now)) }
 {
     match response {
         Response::Failure { code, message } => {

@@ -4,12 +4,12 @@ use Rattle.std.proofs.lemmas.List.{append-nil}
 use Rattle.std.specs.Option.{option_map}
 use Rattle.server.specs.Session.{Setting}
 use Rattle.scripts.specs.Rows.{line_of}
-use Rattle.scripts.specs.Script.{filled, said}
+use Rattle.scripts.specs.Script.{filled_lines, lines_read}
 use Rattle.scripts.specs.Views.{LineView}
 use Rattle.world.specs.World.{World, Event, Seen, Refusal, step, empty}
 use Rattle.replays.specs.declared.replaying.Replayed.{Replayed}
 use Rattle.replays.specs.Events.{Came, moves, code_of, repeats, event_at}
-use Rattle.replays.specs.Running.{serving, Takes, Once, Moves, stays, moves_on, Repeats, Done, Does, noted, Runs, starts, runs_on}
+use Rattle.replays.specs.Running.{serving, Takes, Once, Moves, stays, moves_on, Repeats, Done, Does, line_of_note, Runs, starts, runs_on}
 use Rattle.replays.specs.Scripts.{SaysScript, unreadable_line}
 use Rattle.replays.specs.Texts.{report_text}
 
@@ -70,20 +70,20 @@ done_one false S w e c d x y h k =
 -- lines in order, by the first
 RunsOn : Setting → World → List (ℕ × LineView) → List ℕ → World → Type 0
 RunsOn S w [] text last = (text ≡ []) × (last ≡ w)
-RunsOn S w (l ∷ ls) text last = (code : Option (List ℕ)) × (w2 : World) × (rest : List ℕ) × Does S w l.1 code w2 × RunsOn S w2 ls rest last × (text ≡ noted l.0 code ++ rest)
+RunsOn S w (l ∷ ls) text last = (code : Option (List ℕ)) × (w2 : World) × (rest : List ℕ) × Does S w l.1 code w2 × RunsOn S w2 ls rest last × (text ≡ line_of_note l.0 code ++ rest)
 
 on_more : (S : Setting) (ls : List (ℕ × LineView)) (w : World) (text : List ℕ) (w2 : World) (n : ℕ) (l : LineView) (code : Option (List ℕ)) (last : World)
-    → RunsOn S w ls text w2 → Does S w2 l code last → RunsOn S w (ls ++ (n, l) ∷ []) (text ++ noted n code) last
+    → RunsOn S w ls text w2 → Does S w2 l code last → RunsOn S w (ls ++ (n, l) ∷ []) (text ++ line_of_note n code) last
 unfolding RunsOn
 on_more S [] w text w2 n l code last h d =
-    (code, last, [], subst (λ z. Does S z l code last) h.1 d, (refl, refl), ap (λ z. z ++ noted n code) h.0 ∙ sym (append-nil (noted n code)))
+    (code, last, [], subst (λ z. Does S z l code last) h.1 d, (refl, refl), ap (λ z. z ++ line_of_note n code) h.0 ∙ sym (append-nil (line_of_note n code)))
 on_more S (m ∷ ls) w text w2 n l code last h d = (
   h.0,
   h.1,
-  h.2 ++ noted n code,
+  h.2 ++ line_of_note n code,
   h.3,
   on_more S ls h.1 h.2 w2 n l code last h.4 d,
-  ap (λ z. z ++ noted n code) h.5 ∙ append_assoc (noted m.0 h.0) h.2 (noted n code),
+  ap (λ z. z ++ line_of_note n code) h.5 ∙ append_assoc (line_of_note m.0 h.0) h.2 (line_of_note n code),
 )
 
 in_front : (S : Setting) (w : World) {ls : List (ℕ × LineView)} {text : List ℕ} {last : World} → Runs S w ls text last → RunsOn S w ls text last
@@ -97,7 +97,7 @@ runs_one S [] w t u x y h k = (h.0 ∙ sym k.0, h.1 ∙ sym k.1)
 runs_one S (l ∷ ls) w t u x y h k =
     let p = done_one (repeats l.1) S w (event_at w l.1) h.0 k.0 h.1 k.1 h.3 k.3 in
     let q = runs_one S ls k.1 h.2 k.2 x y (subst (λ z. RunsOn S z ls h.2 x) p.1 h.4) k.4 in
-    (h.5 ∙ ap (λ z. noted l.0 z ++ h.2) p.0 ∙ ap (λ z. noted l.0 k.0 ++ z) q.0 ∙ sym k.5, q.1)
+    (h.5 ∙ ap (λ z. line_of_note l.0 z ++ h.2) p.0 ∙ ap (λ z. line_of_note l.0 k.0 ++ z) q.0 ∙ sym k.5, q.1)
 
 pub one_said : (b : List ℕ) (r s : Replayed) → SaysScript b r → SaysScript b s → (string_bytes r.out ≡ string_bytes s.out) × (string_bytes r.err ≡ string_bytes s.err) × (r.status ≡ s.status)
 one_said b r s (inl h) (inl k) =
@@ -111,5 +111,5 @@ one_said b r s (inl h) (inr k) =
 one_said b r s (inr h) (inl k) =
     let bad : ◌≡◌ {A = Option ℕ} None (Some k.0) = ap (option_map (λ l. l.0)) (sym h.readable) ∙ k.1 in absurd cc
 one_said b r s (inr h) (inr k) =
-    let p = runs_one serving (said line_of (filled b)) (empty []) h.text k.text h.after k.after (in_front serving (empty []) h.runs) (in_front serving (empty []) k.runs) in
+    let p = runs_one serving (lines_read line_of (filled_lines b)) (empty []) h.text k.text h.after k.after (in_front serving (empty []) h.runs) (in_front serving (empty []) k.runs) in
     (h.says.out ∙ ap (λ z. z ++ report_text h.after) p.0 ∙ ap (λ z. k.text ++ report_text z) p.1 ∙ sym k.says.out, h.says.err ∙ sym k.says.err, h.says.status ∙ sym k.says.status)

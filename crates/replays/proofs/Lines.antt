@@ -11,7 +11,7 @@ use Rattle.scripts.specs.Script.{said_lines}
 use Rattle.world.specs.declared.world.World.{World as WorldHeld}
 use Rattle.world.specs.World.{World, Event}
 use Rattle.replays.specs.Events.{repeats, event_at}
-use Rattle.replays.specs.Running.{Leads, LeadsBy, Does, Done, Once, Repeats, Runs, runs_on, noted}
+use Rattle.replays.specs.Running.{Leads, LeadsBy, Does, Done, Once, Repeats, Runs, runs_on, line_of_note}
 use Rattle.replays.proofs.Stepping.{leads_as}
 
 -- whatever the line is, by the two ways that it is done
@@ -35,7 +35,7 @@ module _ {E G : Type 0} (entries : E → List EntryView) (S : Setting) (gate : G
 
   -- one more line
   pub runs_more : (w : World) (ls : List (Numbered Line)) (n : ℕ) (l : Line) (text more : List ℕ) (code : Option (List ℕ)) (s t : WorldHeld E G) (numbered : Numbered Line)
-      → numbered ≡ record { number = n; said = l } → more ≡ text ++ noted n code
+      → numbered ≡ record { number = n; said = l } → more ≡ text ++ line_of_note n code
       → (h : Leads entries S gate brought (Runs S w (said_lines ls) text) s) → Leads entries S gate brought (Does S h.after (line_view l) code) t
       → Leads entries S gate brought (Runs S w (said_lines (ls ++ numbered ∷ [])) more) t
   runs_more w ls n l text more code s t numbered is told h d =

@@ -5,7 +5,7 @@ use Rattle.std.specs.List.{flat_map}
 use Rattle.std.specs.declared.option.Option.{Option}
 use Rattle.std.specs.Prelude.{Some, None, slice_get}
 use Rattle.world.specs.World.{Connection}
-use Rattle.world.specs.Reports.{ordinals, read, lost, waits, standing}
+use Rattle.world.specs.Reports.{ordinals, summaries_told, outcomes_at_loss, waits, standing}
 use Rattle.world.specs.Reported.{IsReport, standing_seen}
 use Rattle.world.specs.Views.{read_of}
 use Rattle.world.specs.declared.report.Connection.{Connection as ConnectionTold}
@@ -75,7 +75,7 @@ connections_on old text new ks i k at before e =
 pub connection_is : (conn : ℕ) (k : Connection) (c : ConnectionTold) (t0 t1 t2 t3 t4 t5 : List ℕ) → IsReport k c → t1 ≡ t0 ++ conn_line conn → t2 ≡ t1 ++ flat_map read_line (map read_of c.read.now)
     → t3 ≡ t2 ++ flat_map lost_line c.lost.now → t4 ≡ t3 ++ flat_map waits_line (ordinals (length c.read.now) c.waits) → t5 ≡ t4 ++ standing_line (standing_seen c.standing) → t5 ≡ t0 ++ connection_text conn k
 connection_is conn k c t0 t1 t2 t3 t4 t5 is e1 e2 e3 e4 e5 =
-    rw (e5, e4, e3, e2, e1, is.read, is.lost, is.waits, is.standing) (joined t0 (conn_line conn) (flat_map read_line (read k)) (flat_map lost_line (lost k)) (flat_map waits_line (waits k)) (standing_line (standing k)))
+    rw (e5, e4, e3, e2, e1, is.read, is.lost, is.waits, is.standing) (joined t0 (conn_line conn) (flat_map read_line (summaries_told k)) (flat_map lost_line (outcomes_at_loss k)) (flat_map waits_line (waits k)) (standing_line (standing k)))
   where
     joined : (t a b c d e : List ℕ) → t ++ a ++ b ++ c ++ d ++ e ≡ t ++ (a ++ b ++ c ++ d ++ e)
     joined t a b c d e =

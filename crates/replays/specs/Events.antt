@@ -2,7 +2,7 @@
 use Rattle.std.specs.Prelude.{◌≡◌, ℕ, nat_lt, Bool, true, false, List, codes, Option, Some, None, Result, Ok, Err, slice_get}
 use Rattle.wire.specs.declared.Version.{Version}
 use Rattle.wire.specs.declared.Version.TheVariants.{V51}
-use Rattle.wire.specs.Offers.{wished}
+use Rattle.wire.specs.Offers.{wish_version}
 use Rattle.server.specs.declared.What.{What}
 use Rattle.server.specs.declared.What.TheVariants as what
 use Rattle.server.specs.declared.Worked.{Worked}
@@ -23,11 +23,13 @@ use Rattle.world.specs.World.{World, Connection, Peer, Ours, Foreign, Event, Ope
 -- the version of the requests of a connection: the one that its client wishes, and the newest where it has none
 abbrev pub version_of : Option Connection → Version
 version_of None = V51
-version_of (Some k) = wished (wish_of k.peer)
+version_of (Some k) = wish_version (wish_of k.peer)
 
+-- the same of the connection with this number
 abbrev pub version_at : World → ℕ → Version
 version_at w c = version_of (slice_get w.conns c)
 
+-- the peer that the line of an opening says
 abbrev pub peer_said : PeerSaid → Peer
 peer_said (peer.Ours wish) = Ours wish
 peer_said peer.Foreign = Foreign
@@ -63,18 +65,21 @@ event_by v (line.ClientLost c) = ClientLost c
 event_by v (line.ServerLost c) = ServerLost c
 event_by v (line.Foreign c bytes) = Feeds c bytes
 
+-- the event of a line in a world, by the version of its connection's requests
 abbrev pub event_at : World → LineView → Event
 event_at w l = event_by (version_at w (conn_of l)) l
 
--- whether a line has the word `all`
+-- whether an amount of bytes is the word `all`
 abbrev pub is_all : Amount → Bool
 is_all (Bytes n) = false
 is_all All = true
 
+-- the same of how often a session works
 abbrev pub is_always : Times → Bool
 is_always times.Once = false
 is_always times.All = true
 
+-- whether the event of a line comes again as long as it moves something
 abbrev pub repeats : LineView → Bool
 repeats (line.ToServer c a) = is_all a
 repeats (line.ToClient c a) = is_all a
@@ -99,6 +104,7 @@ works worked.Row = true
 works (worked.Wrote ordinal kind state entry) = true
 works (worked.Ended cause) = false
 
+-- the same by what is seen: a byte was used, or a step wrote a row or a summary
 abbrev pub moves_seen : Seen → Bool
 moves_seen (Opened c) = false
 moves_seen (Submitted answer) = false
@@ -108,15 +114,17 @@ moves_seen (SawWork w) = works w
 moves_seen (SawNoop put) = false
 moves_seen SawNothing = false
 
+-- the same by what an event comes to: a refusal moves nothing
 abbrev pub moves : Came → Bool
 moves (Ok seen) = moves_seen seen
 moves (Err refusal) = false
 
--- the codes: of a refused request, of an event that can't be, and of a session that is full
+-- the code of a request that was submitted: None where it was taken
 abbrev pub submit_code : Result ℕ SubmitFault → Option (List ℕ)
 submit_code (Ok ordinal) = None
 submit_code (Err fault) = refusal_code fault
 
+-- the code of bytes at a session: Full, where no place or no ordinal is left
 abbrev pub fed_code : What → Option (List ℕ)
 fed_code what.Part = None
 fed_code (what.Handshake v) = None
@@ -127,6 +135,7 @@ fed_code what.Malformed = None
 fed_code what.Full = Some (codes "Full")
 fed_code what.Closed = None
 
+-- the code of a session's step: Full, where 65536 bytes or more lie untaken
 abbrev pub worked_code : Worked → Option (List ℕ)
 worked_code worked.Idle = None
 worked_code worked.Full = Some (codes "Full")
@@ -134,6 +143,7 @@ worked_code worked.Row = None
 worked_code (worked.Wrote ordinal kind state entry) = None
 worked_code (worked.Ended cause) = None
 
+-- the code of what is seen of an event, None where nothing is noted
 abbrev pub seen_code : Seen → Option (List ℕ)
 seen_code (Opened c) = None
 seen_code (Submitted answer) = submit_code answer
@@ -143,6 +153,7 @@ seen_code (SawWork w) = worked_code w
 seen_code (SawNoop put) = None
 seen_code SawNothing = None
 
+-- the code of what an event comes to, None where nothing is noted
 abbrev pub code_of : Came → Option (List ℕ)
 code_of (Ok seen) = seen_code seen
 code_of (Err V1) = Some (codes "V1")

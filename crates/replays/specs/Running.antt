@@ -19,7 +19,8 @@ use Rattle.replays.specs.Events.{Came, moves, code_of, repeats, event_at}
 
 -- the one user that is let in
 abbrev pub lets_in : List ℕ → List ℕ → Bool
-lets_in principal credentials = bytes_eq principal (codes "user") && bytes_eq credentials (codes "pass")
+lets_in principal credentials =
+    bytes_eq principal (codes "user") && bytes_eq credentials (codes "pass")
 
 -- over a fixed table
 abbrev pub serving : Setting
@@ -37,11 +38,13 @@ Once S w e code w2 = (a : Came) × Takes S w e a w2 × (code ≡ code_of a)
 -- an event again and again, each time moving something
 pub data Moves (S : Setting) (e : Event) (w : World) : World → Type 0 where
   stays : Moves S e w w
-  moves_on : (w2 w3 : World) (a : Came) → Moves S e w w2 → Takes S w2 e a w3 → moves a ≡ true → Moves S e w w3
+  moves_on : (w2 w3 : World) (a : Came) → Moves S e w w2 → Takes S w2 e a w3 → moves a ≡ true
+      → Moves S e w w3
 
 -- and then once more, moving nothing
 abbrev pub Repeats : Setting → World → Event → Option (List ℕ) → World → Type 0
-Repeats S w e code w3 = (w2 : World) × (a : Came) × Moves S e w w2 × Takes S w2 e a w3 × (moves a ≡ false) × (code ≡ code_of a)
+Repeats S w e code w3 = (w2 : World) × (a : Came) × Moves S e w w2 × Takes S w2 e a w3
+    × (moves a ≡ false) × (code ≡ code_of a)
 
 -- an event as often as a line says
 abbrev pub Done : Bool → Setting → World → Event → Option (List ℕ) → World → Type 0
@@ -53,32 +56,37 @@ abbrev pub Does : Setting → World → LineView → Option (List ℕ) → World
 Does S w l code w2 = Done (repeats l) S w (event_at w l) code w2
 
 -- what is printed of a line with this number
-abbrev pub noted : ℕ → Option (List ℕ) → List ℕ
-noted n None = []
-noted n (Some code) = refused_line n code
+abbrev pub line_of_note : ℕ → Option (List ℕ) → List ℕ
+line_of_note n None = []
+line_of_note n (Some code) = refused_line n code
 
 -- numbered lines in order, and the text of what is noted of them
 pub data Runs (S : Setting) (w : World) : List (ℕ × LineView) → List ℕ → World → Type 0 where
   starts : Runs S w [] [] w
-  runs_on : (lines : List (ℕ × LineView)) (text : List ℕ) (w2 w3 : World) (n : ℕ) (l : LineView) (code : Option (List ℕ))
-      → Runs S w lines text w2 → Does S w2 l code w3 → Runs S w (lines ++ (n, l) ∷ []) (text ++ noted n code) w3
+  runs_on : (lines : List (ℕ × LineView)) (text : List ℕ) (w2 w3 : World) (n : ℕ) (l : LineView)
+      (code : Option (List ℕ))
+      → Runs S w lines text w2 → Does S w2 l code w3
+      → Runs S w (lines ++ (n, l) ∷ []) (text ++ line_of_note n code) w3
 
 -- A world that an object fits, which was reached in this way.
-pub record Leads {E G : Type 0} (entries : E → List EntryView) (S : Setting) (gate : G) (brought : List EntryView) (Way : World → Type 0) (s : WorldHeld E G) : Type 0 where
+pub record Leads {E G : Type 0} (entries : E → List EntryView) (S : Setting) (gate : G)
+    (brought : List EntryView) (Way : World → Type 0) (s : WorldHeld E G) : Type 0 where
   pub after : World
   pub way : Way after
   pub reached : Reached S brought after
   pub fits : FitsWorld entries s gate after
 
 -- The same of an answer; where memory was wanting the object fits some world that was reached.
-abbrev pub LeadsBy : {A E G : Type 0} → (E → List EntryView) → Setting → G → List EntryView → (A → World → Type 0) → Result A AllocError → WorldHeld E G → Type 0
+abbrev pub LeadsBy : {A E G : Type 0} → (E → List EntryView) → Setting → G → List EntryView
+    → (A → World → Type 0) → Result A AllocError → WorldHeld E G → Type 0
 LeadsBy entries S gate brought Way (Ok x) s = Leads entries S gate brought (Way x) s
 LeadsBy entries S gate brought Way (Err e) s = Leads entries S gate brought (λ w. Unit {0}) s
 
--- a step that is this answer of an event
+-- the code in a step, where one is noted
 abbrev pub code_in : Step → Option (List ℕ)
 code_in s = option_map (λ t. t.now) s.code
 
+-- a step tells what an event came to: the code that is noted of it, and whether something moved
 abbrev pub IsStep : Came → Step → Type 0
 IsStep a s = (code_in s ≡ code_of a) × (s.goes_on ≡ moves a)
 

@@ -3,7 +3,7 @@ use Rattle.std.specs.Prelude.{◌≡◌, ◌⊎◌, ℕ, Bool, true, false, List
 use Rattle.std.specs.Fmt.{decimal}
 use Rattle.std.specs.Io.KnownBytes.{Consumes, IsAtEnd}
 use Rattle.scripts.specs.Rows.{line_of}
-use Rattle.scripts.specs.Script.{filled, said, unreadable}
+use Rattle.scripts.specs.Script.{filled_lines, lines_read, unreadable}
 use Rattle.world.specs.World.{World, empty}
 use Rattle.replays.specs.declared.replaying.Replayed.{Replayed}
 use Rattle.replays.specs.Running.{serving, Runs}
@@ -15,19 +15,20 @@ pub record Says (put told : List ℕ) (ends : ℕ) (r : Replayed) : Type 0 where
   pub err : string_bytes r.err ≡ told
   pub status : r.status ≡ ends
 
+-- what is told of a line that can't be read: its number, from 1
 abbrev pub unreadable_line : ℕ → List ℕ
 unreadable_line n = codes "line " ++ decimal n ++ codes " unreadable" ++ 10 ∷ []
 
 -- the first line that can't be read has this number
 abbrev pub StopsAt : List ℕ → ℕ → Type 0
-StopsAt b n = option_map (λ l. l.0) (unreadable line_of (filled b)) ≡ Some n
+StopsAt b n = option_map (λ l. l.0) (unreadable line_of (filled_lines b)) ≡ Some n
 
 -- all lines can be read, and this is said of what they do to a world without connections
 pub record Reports (b : List ℕ) (r : Replayed) : Type 0 where
-  pub readable : unreadable line_of (filled b) ≡ None
+  pub readable : unreadable line_of (filled_lines b) ≡ None
   pub text : List ℕ
   pub after : World
-  pub runs : Runs serving (empty []) (said line_of (filled b)) text after
+  pub runs : Runs serving (empty []) (lines_read line_of (filled_lines b)) text after
   pub says : Says (text ++ report_text after) [] 0 r
 
 -- The first line that can't be read is told, and nothing else; or else what is noted of the lines, and then the report.
@@ -37,8 +38,11 @@ SaysScript b r = ((n : ℕ) × StopsAt b n × Says [] (unreadable_line n) 2 r) �
 -- What is said of a source, which had these bytes before and has those now, by whether it has failed.
 abbrev pub SaysSource : Bool → Option (List ℕ) → Option (List ℕ) → Replayed → Type 0
 SaysSource true before after r = Says [] (codes "fault I1" ++ 10 ∷ []) 1 r
-SaysSource false before after r = (b : List ℕ) × Consumes before after b × IsAtEnd after × SaysScript b r
+SaysSource false before after r =
+    (b : List ℕ) × Consumes before after b × IsAtEnd after × SaysScript b r
 
 -- Bytes have one output, one standard error and one status.
 abbrev pub SaysOneThing : Type 0
-SaysOneThing = (b : List ℕ) (r s : Replayed) → SaysScript b r → SaysScript b s → (string_bytes r.out ≡ string_bytes s.out) × (string_bytes r.err ≡ string_bytes s.err) × (r.status ≡ s.status)
+SaysOneThing = (b : List ℕ) (r s : Replayed) → SaysScript b r → SaysScript b s
+    → (string_bytes r.out ≡ string_bytes s.out) × (string_bytes r.err ≡ string_bytes s.err)
+    × (r.status ≡ s.status)

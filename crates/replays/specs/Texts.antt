@@ -8,28 +8,35 @@ use Rattle.engine.specs.Views.{EntryView}
 use Rattle.programs.specs.Names.{outcome_name, phase_name, state_name, cause_code}
 use Rattle.programs.specs.Telling.{heard_line}
 use Rattle.world.specs.World.{World, Connection, ledger}
-use Rattle.world.specs.Reports.{read, lost, waits, Standing, stands, has_ended, standing}
+use Rattle.world.specs.Reports.{summaries_told, outcomes_at_loss, waits, Standing, stands, has_ended, standing}
 
+-- the line of a summary that a client read: ordinal, outcome and phase
 abbrev pub read_line : ℕ × Phase × Outcome → List ℕ
 read_line x = heard_line x.0 (outcome_name x.2) (phase_name x.1)
 
+-- the line of an outcome at a client's loss, with its request's ordinal
 abbrev pub lost_line : ℕ × Outcome → List ℕ
 lost_line x = codes "lost " ++ decimal x.0 ++ codes " " ++ outcome_name x.1 ++ 10 ∷ []
 
+-- the line of a request that waits, by its ordinal
 abbrev pub waits_line : ℕ → List ℕ
 waits_line ordinal = codes "waits " ++ decimal ordinal ++ 10 ∷ []
 
+-- the line of a session's state, or of the code of the cause by which it has ended
 abbrev pub standing_line : Standing → List ℕ
 standing_line (stands state) = codes "server " ++ state_name state ++ 10 ∷ []
 standing_line (has_ended cause) = codes "server ended " ++ cause_code cause ++ 10 ∷ []
 
+-- the line before all others of a connection: its number
 abbrev pub conn_line : ℕ → List ℕ
 conn_line c = codes "conn " ++ decimal c ++ 10 ∷ []
 
 -- A connection: the summaries that its client read, the outcomes at its loss, the requests that wait, and where its session stands. Of
 -- a foreign peer there are none of the first three.
 abbrev pub connection_text : ℕ → Connection → List ℕ
-connection_text c k = conn_line c ++ flat_map read_line (read k) ++ flat_map lost_line (lost k) ++ flat_map waits_line (waits k) ++ standing_line (standing k)
+connection_text c k = conn_line c ++ flat_map read_line (summaries_told k)
+    ++ flat_map lost_line (outcomes_at_loss k) ++ flat_map waits_line (waits k)
+    ++ standing_line (standing k)
 
 -- connections, of which the first has this number
 unfoldable pub connections_text : ℕ → List Connection → List ℕ
@@ -38,7 +45,8 @@ connections_text c (k ∷ ks) = connection_text c k ++ connections_text (suc c) 
 
 -- an entry of the ledger: connection, ordinal and how many writes
 abbrev pub entry_line : EntryView → List ℕ
-entry_line e = codes "entry " ++ decimal e.conn ++ codes " " ++ decimal e.ordinal ++ codes " " ++ decimal (length e.writes) ++ 10 ∷ []
+entry_line e = codes "entry " ++ decimal e.conn ++ codes " " ++ decimal e.ordinal ++ codes " "
+    ++ decimal (length e.writes) ++ 10 ∷ []
 
 -- each connection in the order of opening, and then the ledger
 abbrev pub report_text : World → List ℕ

@@ -2,7 +2,7 @@
 ghost use Rattle.std.specs.Prelude.{◌≡◌, IfOk};
 ghost use Rattle.scripts.specs.Views.{line_view};
 ghost use Rattle.scripts.specs.Meant.{meant};
-ghost use Rattle.scripts.specs.Views.{request_view};
+ghost use Rattle.scripts.specs.Views.{script_request_view};
 ghost use Rattle.world.specs.Views.{event_of, peer_of};
 ghost use Rattle.world.specs.World.{Submit};
 ghost use Rattle.replays.specs.Events.{conn_of, event_by, repeats, is_all, is_always, bytes_in, peer_said};
@@ -106,7 +106,8 @@ fn submit(
     conn: u64,
     request: ScriptRequest,
 ) -> Result<Event, AllocError>
-    ensures { IfOk result (λ e. event_of e ≡ Submit conn (meant version (request_view request))) }
+    ensures { IfOk result (λ e. event_of e
+        ≡ Submit conn (meant version (script_request_view request))) }
 {
     let request = request.into_request(alloc, version)?;
     Ok(Event::Submit(conn, request))

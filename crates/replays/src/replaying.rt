@@ -28,7 +28,8 @@ pub struct Replayed {
 /// `user` with `pass`. What is noted of its lines is said, and then the report. Of a script with a line that can't be read nothing is
 /// run: `line 3 unreadable` is said on standard error, with status 2. Where the source fails, `fault I1` is, with status 1.
 pub fn replay<S: Source>(alloc: Global, source: &mut S) -> Result<Replayed, AllocError>
-    ensures says { IfOk result (λ r. SaysSource (S.has_failed source.new) (S.left source.old) (S.left source.new) r) }
+    ensures says { IfOk result
+        (λ r. SaysSource (S.has_failed source.new) (S.left source.old) (S.left source.new) r) }
     ensures status { IfOk result (λ r. r.status ≤ 2) }
     // What was read is a beginning of what the source held, also where memory is wanting.
     ensures bytes { (front : List ℕ) × Consumes (S.left source.old) (S.left source.new) front }
@@ -74,7 +75,9 @@ fn say_unreadable(alloc: Global, number: usize) -> Result<Replayed, AllocError>
 
 /// What is said of the lines of a script.
 fn say_lines(alloc: Global, lines: Vec<Numbered<Line>>) -> Result<Replayed, AllocError>
-    ensures { IfOk result (λ r. (text : List ℕ) × (w : WorldSeen) × Runs serving (empty []) (said_lines lines.items) text w × Says (text ++ report_text w) [] 0 r) }
+    ensures { IfOk result (λ r. (text : List ℕ) × (w : WorldSeen)
+        × Runs serving (empty []) (said_lines lines.items) text w
+        × Says (text ++ report_text w) [] 0 r) }
 {
     let gate = OneUser::new(alloc, "user", "pass")?;
     let mut world = World::new(alloc, FixedTable::new(alloc), gate);

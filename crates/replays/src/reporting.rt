@@ -20,7 +20,9 @@ use world::{Connection, Read, Standing, World};
 /// client read, `lost ORDINAL OUTCOME` for each outcome at its loss, `waits ORDINAL` for each request that waits, and `server STATE`
 /// or `server ended E1`; then `entry K ORDINAL COUNT` for each entry of the ledger, with the count of its writes.
 pub fn report<E: Engine, G: Gate>(alloc: Global, world: &World<E, G>) -> Result<String, AllocError>
-    ensures { (gate : G) (brought : List EntryView) (w : WorldSeen) → Reached (setting_of E.answer G.accepts gate) brought w → FitsWorld E.entries world.now gate w
+    ensures { (gate : G) (brought : List EntryView) (w : WorldSeen)
+        → Reached (setting_of E.answer G.accepts gate) brought w
+        → FitsWorld E.entries world.now gate w
         → IfOk result (λ text. string_bytes text ≡ report_text w) }
 {
     let mut text = String::new(alloc);
@@ -31,7 +33,8 @@ pub fn report<E: Engine, G: Gate>(alloc: Global, world: &World<E, G>) -> Result<
 
 /// The ledger of a world.
 fn ledger_of<E: Engine, G: Gate>(world: &World<E, G>) -> &[Entry]
-    ensures { (gate : G) (w : WorldSeen) → FitsWorld E.entries world.now gate w → entries_view result.now ≡ ledger w }
+    ensures { (gate : G) (w : WorldSeen) → FitsWorld E.entries world.now gate w
+        → entries_view result.now ≡ ledger w }
 {
     world.ledger()
 }
@@ -42,7 +45,9 @@ fn push_connections<E: Engine, G: Gate>(
     text: &mut String,
     world: &World<E, G>,
 ) -> Result<(), AllocError>
-    ensures { (gate : G) (brought : List EntryView) (w : WorldSeen) → Reached (setting_of E.answer G.accepts gate) brought w → FitsWorld E.entries world.now gate w
+    ensures { (gate : G) (brought : List EntryView) (w : WorldSeen)
+        → Reached (setting_of E.answer G.accepts gate) brought w
+        → FitsWorld E.entries world.now gate w
         → OnOk result (string_bytes text.new ≡ string_bytes text.old ++ connections_text 0 w.conns) }
 {
     for conn in 0..u64::MAX {
@@ -61,7 +66,8 @@ fn push_connection(
     conn: u64,
     connection: Connection<'_>,
 ) -> Result<(), AllocError>
-    ensures { (k : ConnectionSeen) → IsReport k connection.entry → OnOk result (string_bytes text.new ≡ string_bytes text.old ++ connection_text conn k) }
+    ensures { (k : ConnectionSeen) → IsReport k connection.entry
+        → OnOk result (string_bytes text.new ≡ string_bytes text.old ++ connection_text conn k) }
 {
     push_conn(alloc, text, conn)?;
     push_read(alloc, text, connection.read)?;
@@ -79,7 +85,8 @@ fn push_conn(alloc: Global, text: &mut String, conn: u64) -> Result<(), AllocErr
 
 /// Adds the summaries that were read.
 fn push_read(alloc: Global, text: &mut String, summaries: &[Read]) -> Result<(), AllocError>
-    ensures { OnOk result (string_bytes text.new ≡ string_bytes text.old ++ flat_map read_line (map read_of summaries.now)) }
+    ensures { OnOk result (string_bytes text.new
+        ≡ string_bytes text.old ++ flat_map read_line (map read_of summaries.now)) }
 {
     for read in summaries {
         let line = summary(alloc, read.ordinal, read.outcome, read.phase)?;
@@ -90,7 +97,8 @@ fn push_read(alloc: Global, text: &mut String, summaries: &[Read]) -> Result<(),
 
 /// Adds the outcomes at the loss.
 fn push_lost(alloc: Global, text: &mut String, losses: &[(u64, Outcome)]) -> Result<(), AllocError>
-    ensures { OnOk result (string_bytes text.new ≡ string_bytes text.old ++ flat_map lost_line losses.now) }
+    ensures { OnOk result (string_bytes text.new
+        ≡ string_bytes text.old ++ flat_map lost_line losses.now) }
 {
     for (ordinal, outcome) in losses {
         push_loss(alloc, text, *ordinal, *outcome)?;
@@ -104,7 +112,8 @@ fn push_loss(
     ordinal: u64,
     outcome: Outcome,
 ) -> Result<(), AllocError>
-    ensures { OnOk result (string_bytes text.new ≡ string_bytes text.old ++ lost_line (ordinal, outcome)) }
+    ensures { OnOk result (string_bytes text.new
+        ≡ string_bytes text.old ++ lost_line (ordinal, outcome)) }
 {
     let outcome = outcome_name(outcome);
     let line = format!(in alloc; "lost {ordinal} {outcome}\n")?;
@@ -118,7 +127,8 @@ fn push_waits(
     first: usize,
     count: usize,
 ) -> Result<(), AllocError>
-    ensures { OnOk result (string_bytes text.new ≡ string_bytes text.old ++ flat_map waits_line (ordinals first count)) }
+    ensures { OnOk result (string_bytes text.new
+        ≡ string_bytes text.old ++ flat_map waits_line (ordinals first count)) }
 {
     let Some(end) = first.checked_add(count) else {
         return Err(AllocError);
@@ -138,7 +148,8 @@ fn push_waiting(alloc: Global, text: &mut String, ordinal: usize) -> Result<(), 
 
 /// Adds where the session stands.
 fn push_standing(alloc: Global, text: &mut String, standing: Standing) -> Result<(), AllocError>
-    ensures { OnOk result (string_bytes text.new ≡ string_bytes text.old ++ standing_line (standing_seen standing)) }
+    ensures { OnOk result (string_bytes text.new
+        ≡ string_bytes text.old ++ standing_line (standing_seen standing)) }
 {
     match standing {
         Standing::Stands(state) => push_words(alloc, text, "server ", state_name(state)),
@@ -147,7 +158,8 @@ fn push_standing(alloc: Global, text: &mut String, standing: Standing) -> Result
 }
 
 fn push_words(alloc: Global, text: &mut String, words: &str, name: &str) -> Result<(), AllocError>
-    ensures { OnOk result (string_bytes text.new ≡ string_bytes text.old ++ (words.now ++ name.now ++ 10 ∷ [])) }
+    ensures { OnOk result (string_bytes text.new
+        ≡ string_bytes text.old ++ (words.now ++ name.now ++ 10 ∷ [])) }
 {
     let line = format!(in alloc; "{words}{name}\n")?;
     text.push_str(line.as_str())
@@ -155,7 +167,8 @@ fn push_words(alloc: Global, text: &mut String, words: &str, name: &str) -> Resu
 
 /// Adds the entries of a ledger.
 fn push_entries(alloc: Global, text: &mut String, entries: &[Entry]) -> Result<(), AllocError>
-    ensures { OnOk result (string_bytes text.new ≡ string_bytes text.old ++ flat_map entry_line (entries_view entries.now)) }
+    ensures { OnOk result (string_bytes text.new
+        ≡ string_bytes text.old ++ flat_map entry_line (entries_view entries.now)) }
 {
     for entry in entries {
         push_entry(alloc, text, entry)?;
@@ -164,7 +177,8 @@ fn push_entries(alloc: Global, text: &mut String, entries: &[Entry]) -> Result<(
 }
 
 fn push_entry(alloc: Global, text: &mut String, entry: &Entry) -> Result<(), AllocError>
-    ensures { OnOk result (string_bytes text.new ≡ string_bytes text.old ++ entry_line (entry_view entry.now)) }
+    ensures { OnOk result (string_bytes text.new
+        ≡ string_bytes text.old ++ entry_line (entry_view entry.now)) }
 {
     let conn = entry.id.conn;
     let ordinal = entry.id.ordinal;

@@ -4,13 +4,13 @@ ghost use Rattle.std.specs.Option.{option_map};
 ghost use Rattle.engine.specs.Views.{EntryView};
 ghost use Rattle.scripts.specs.Views.{line_view};
 ghost use Rattle.scripts.specs.Script.{said_lines};
-ghost use Rattle.wire.specs.Offers.{wished};
+ghost use Rattle.wire.specs.Offers.{wish_version};
 ghost use Rattle.world.specs.World.{World as WorldSeen, Reached, wish_of};
 ghost use Rattle.world.specs.Views.{event_of, peer_of};
 ghost use Rattle.world.specs.Reported.{Reports};
 ghost use Rattle.world.specs.Turns.{FitsWorld, setting_of};
 ghost use Rattle.replays.specs.Events.{version_at};
-ghost use Rattle.replays.specs.Running.{Does, LeadsBy, Once, Repeats, Runs, noted};
+ghost use Rattle.replays.specs.Running.{Does, LeadsBy, Once, Repeats, Runs, line_of_note};
 
 use crate::events::{conn_of, event_by, repeats};
 use crate::steps::take_step;
@@ -28,7 +28,9 @@ pub fn run<E: Engine, G: Gate>(
     world: &mut World<E, G>,
     lines: Vec<Numbered<Line>>,
 ) -> Result<String, AllocError>
-    ensures { (gate : G) (brought : List EntryView) (w : WorldSeen) → Reached (setting_of E.answer G.accepts gate) brought w → FitsWorld E.entries world.old gate w
+    ensures { (gate : G) (brought : List EntryView) (w : WorldSeen)
+        → Reached (setting_of E.answer G.accepts gate) brought w
+        → FitsWorld E.entries world.old gate w
         → LeadsBy E.entries (setting_of E.answer G.accepts gate) gate brought (λ text. Runs (setting_of E.answer G.accepts gate) w (said_lines lines.items) (string_bytes text)) result world.new }
 {
     let mut text = String::new(alloc);
@@ -47,7 +49,8 @@ fn push_noted(
     number: usize,
     code: Option<&'static str>,
 ) -> Result<(), AllocError>
-    ensures { OnOk result (string_bytes text.new ≡ string_bytes text.old ++ noted number (option_map (λ t. t.now) code.entry)) }
+    ensures { OnOk result (string_bytes text.new
+        ≡ string_bytes text.old ++ line_of_note number (option_map (λ t. t.now) code.entry)) }
 {
     match code {
         None => Ok(()),
@@ -56,7 +59,8 @@ fn push_noted(
 }
 
 fn push_line(alloc: Global, text: &mut String, number: usize, code: &str) -> Result<(), AllocError>
-    ensures { OnOk result (string_bytes text.new ≡ string_bytes text.old ++ noted number (Some code.now)) }
+    ensures { OnOk result (string_bytes text.new
+        ≡ string_bytes text.old ++ line_of_note number (Some code.now)) }
 {
     let line = format!(in alloc; "line {number} {code}\n")?;
     text.push_str(line.as_str())
@@ -68,7 +72,9 @@ fn do_line<E: Engine, G: Gate>(
     world: &mut World<E, G>,
     line: Line,
 ) -> Result<Option<&'static str>, AllocError>
-    ensures { (gate : G) (brought : List EntryView) (w : WorldSeen) → Reached (setting_of E.answer G.accepts gate) brought w → FitsWorld E.entries world.old gate w
+    ensures { (gate : G) (brought : List EntryView) (w : WorldSeen)
+        → Reached (setting_of E.answer G.accepts gate) brought w
+        → FitsWorld E.entries world.old gate w
         → LeadsBy E.entries (setting_of E.answer G.accepts gate) gate brought (λ code. Does (setting_of E.answer G.accepts gate) w (line_view line) (option_map (λ t. t.now) code)) result world.new }
 {
     let version = version_at(world, conn_of(&line));
@@ -82,7 +88,9 @@ fn do_line<E: Engine, G: Gate>(
 
 /// The version of the requests of a connection: the one that its client wishes, and the newest where it has none.
 fn version_at<E: Engine, G: Gate>(world: &World<E, G>, conn: u64) -> Version
-    ensures { (gate : G) (brought : List EntryView) (w : WorldSeen) → Reached (setting_of E.answer G.accepts gate) brought w → FitsWorld E.entries world.now gate w
+    ensures { (gate : G) (brought : List EntryView) (w : WorldSeen)
+        → Reached (setting_of E.answer G.accepts gate) brought w
+        → FitsWorld E.entries world.now gate w
         → result ≡ version_at w conn }
 {
     match connection_at(world, conn) {
@@ -96,14 +104,16 @@ pub(crate) fn connection_at<E: Engine, G: Gate>(
     world: &World<E, G>,
     conn: u64,
 ) -> Option<Connection<'_>>
-    ensures { (gate : G) (brought : List EntryView) (w : WorldSeen) → Reached (setting_of E.answer G.accepts gate) brought w → FitsWorld E.entries world.now gate w → Reports w conn result }
+    ensures { (gate : G) (brought : List EntryView) (w : WorldSeen)
+        → Reached (setting_of E.answer G.accepts gate) brought w
+        → FitsWorld E.entries world.now gate w → Reports w conn result }
 {
     world.report().connection(conn)
 }
 
 /// The version that a peer wishes.
 fn wished(peer: Peer) -> Version
-    ensures { result ≡ wished (wish_of (peer_of peer)) }
+    ensures { result ≡ wish_version (wish_of (peer_of peer)) }
 {
     match peer {
         Peer::Ours(Wish::Only(version)) => version,
@@ -116,7 +126,9 @@ fn once<E: Engine, G: Gate>(
     world: &mut World<E, G>,
     event: Event,
 ) -> Result<Option<&'static str>, AllocError>
-    ensures { (gate : G) (brought : List EntryView) (w : WorldSeen) → Reached (setting_of E.answer G.accepts gate) brought w → FitsWorld E.entries world.old gate w
+    ensures { (gate : G) (brought : List EntryView) (w : WorldSeen)
+        → Reached (setting_of E.answer G.accepts gate) brought w
+        → FitsWorld E.entries world.old gate w
         → LeadsBy E.entries (setting_of E.answer G.accepts gate) gate brought (λ code. Once (setting_of E.answer G.accepts gate) w (event_of event) (option_map (λ t. t.now) code)) result world.new }
 {
     let done = take_step(world, event)?;
@@ -128,7 +140,9 @@ fn repeat<E: Engine, G: Gate>(
     world: &mut World<E, G>,
     event: &Event,
 ) -> Result<Option<&'static str>, AllocError>
-    ensures { (gate : G) (brought : List EntryView) (w : WorldSeen) → Reached (setting_of E.answer G.accepts gate) brought w → FitsWorld E.entries world.old gate w
+    ensures { (gate : G) (brought : List EntryView) (w : WorldSeen)
+        → Reached (setting_of E.answer G.accepts gate) brought w
+        → FitsWorld E.entries world.old gate w
         → LeadsBy E.entries (setting_of E.answer G.accepts gate) gate brought (λ code. Repeats (setting_of E.answer G.accepts gate) w (event_of event.now) (option_map (λ t. t.now) code)) result world.new }
 {
     for _time in 0..u64::MAX {

@@ -3,3 +3,4 @@ pub mod Texts
 pub mod Lines
 pub mod Parted
 pub mod Dictionaries
+pub mod Cells

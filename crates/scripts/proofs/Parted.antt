@@ -5,7 +5,7 @@ use Rattle.std.specs.Str.{is_utf8}
 use Rattle.std.proofs.lemmas.List.Splits.{length-slice_split, join_with_byte-slice_split}
 use Rattle.std.proofs.lemmas.Str.{IsUtf8-from_is_utf8}
 use Rattle.scripts.specs.Views.{Text}
-use Rattle.scripts.specs.Words.{is_empty, parted, words_of}
+use Rattle.scripts.specs.Words.{is_empty, parts_of, words_of}
 use Rattle.scripts.specs.Laws.{is_word, AreWords}
 use Rattle.scripts.proofs.Texts.{whole_words}
 
@@ -28,11 +28,11 @@ not_is true h = absurd cc
 not_is false h = refl
 
 -- a word without a blank is the one part, or the first
-alone : (w : Text) → has_blank w ≡ false → parted w ≡ w ∷ []
+alone : (w : Text) → has_blank w ≡ false → parts_of w ≡ w ∷ []
 alone [] h = refl
 alone (x ∷ w) h = let p = or_none (is_blank x) (has_blank w) h in rw (p.0, alone w p.1) refl
 
-first : (w rest : Text) → has_blank w ≡ false → parted (w ++ (32 ∷ rest)) ≡ w ∷ parted rest
+first : (w rest : Text) → has_blank w ≡ false → parts_of (w ++ (32 ∷ rest)) ≡ w ∷ parts_of rest
 first [] rest h = refl
 first (x ∷ w) rest h = let p = or_none (is_blank x) (has_blank w) h in rw (p.0, first w rest p.1) refl
 
@@ -40,7 +40,7 @@ word_parts : (w : Text) → is_word w ≡ true → (is_empty w ≡ false) × (ha
 word_parts w h = let p = and_both (not (is_empty w)) (not (has_blank w)) h in (not_is (is_empty w) p.0, not_is (has_blank w) p.1)
 
 -- words that are joined are parted again
-again : (ws : List Text) → 0 < length ws → list_all is_word ws ≡ true → parted (join_with_byte 32 ws) ≡ ws
+again : (ws : List Text) → 0 < length ws → list_all is_word ws ≡ true → parts_of (join_with_byte 32 ws) ≡ ws
 again [] some h = absurd (omega arith)
 again (w ∷ []) some h = alone w (word_parts w (and_both (is_word w) true h).0).1
 again (w ∷ v ∷ ws) some h =
@@ -63,9 +63,9 @@ parts_by : (x : ℕ) (parts : List Text) (b : Bool) → is_blank x ≡ b → lis
 parts_by x parts true e h = h
 parts_by x parts false e h = onto x parts e h
 
-unblanked : (line : Text) → list_all has_none (parted line) ≡ true
+unblanked : (line : Text) → list_all has_none (parts_of line) ≡ true
 unblanked [] = refl
-unblanked (x ∷ line) = parts_by x (parted line) (is_blank x) refl (unblanked line)
+unblanked (x ∷ line) = parts_by x (parts_of line) (is_blank x) refl (unblanked line)
 
 words_all : (ws : List Text) → list_any is_empty ws ≡ false → list_all has_none ws ≡ true → list_all is_word ws ≡ true
 words_all [] e h = refl
@@ -74,21 +74,21 @@ words_all (w ∷ ws) e h =
     let q = and_both (has_none w) (list_all has_none ws) h in
     rw (p.0, q.0, words_all ws p.1 q.1) refl
 
-some_words : (line : Text) → 0 < length (parted line)
+some_words : (line : Text) → 0 < length (parts_of line)
 some_words line = omega (arith, length-slice_split is_blank line)
 
-words_by : (line : Text) (ws : List Text) (u e : Bool) → is_utf8 line ≡ u → list_any is_empty (parted line) ≡ e → cond (u && not e) (Some (parted line)) None ≡ Some ws → AreWords line ws
+words_by : (line : Text) (ws : List Text) (u e : Bool) → is_utf8 line ≡ u → list_any is_empty (parts_of line) ≡ e → cond (u && not e) (Some (parts_of line)) None ≡ Some ws → AreWords line ws
 words_by line ws true false u e h =
-    let same : parted line ≡ ws = cc in
+    let same : parts_of line ≡ ws = cc in
     let P : List Text → Type 0 = λ vs. AreWords line vs in
-    subst P same (IsUtf8-from_is_utf8 line u, some_words line, words_all (parted line) e (unblanked line), join_with_byte-slice_split 32 line)
+    subst P same (IsUtf8-from_is_utf8 line u, some_words line, words_all (parts_of line) e (unblanked line), join_with_byte-slice_split 32 line)
 words_by line ws true true u e h = absurd cc
 words_by line ws false e u f h = absurd cc
 
 pub are_words : (line : Text) (ws : List Text) → (words_of line ≡ Some ws) ↔ AreWords line ws
 are_words line ws = (
-  (λ (h : words_of line ≡ Some ws). words_by line ws (is_utf8 line) (list_any is_empty (parted line)) refl refl h),
+  (λ (h : words_of line ≡ Some ws). words_by line ws (is_utf8 line) (list_any is_empty (parts_of line)) refl refl h),
   (λ (h : AreWords line ws).
-      let same : parted line ≡ ws = ap parted (sym h.3) ∙ again ws h.1 h.2 in
+      let same : parts_of line ≡ ws = ap parts_of (sym h.3) ∙ again ws h.1 h.2 in
       whole_words line h.0 (ap (list_any is_empty) same ∙ none_empty ws h.2) ∙ ap Some same),
 )

@@ -3,7 +3,7 @@ use Rattle.std.proofs.Common.{◌≡◌, ℕ, ◌≤◌, Bool, true, false, cond
 use Rattle.std.specs.List.{list_any}
 use Rattle.std.specs.Str.{IsUtf8, is_utf8}
 use Rattle.std.proofs.lemmas.Str.{IsUtf8-from_is_utf8, is_utf8-from_IsUtf8}
-use Rattle.scripts.specs.Words.{parted, is_empty, words_of}
+use Rattle.scripts.specs.Words.{parts_of, is_empty, words_of}
 use Rattle.scripts.specs.Rows.{request_of}
 
 not_true : (b : Bool) → (b ≡ true → ⊥) → b ≡ false
@@ -13,14 +13,14 @@ not_true false h = refl
 pub no_words : (line : List ℕ) → ¬ (IsUtf8 line) → words_of line ≡ None
 no_words line h = let e : is_utf8 line ≡ false = not_true _ (λ t. h (IsUtf8-from_is_utf8 line t)) in rw e refl
 
-empty_by : (u : Bool) (line : List ℕ) → list_any is_empty (parted line) ≡ true → cond (u && not (list_any is_empty (parted line))) (Some (parted line)) None ≡ None
+empty_by : (u : Bool) (line : List ℕ) → list_any is_empty (parts_of line) ≡ true → cond (u && not (list_any is_empty (parts_of line))) (Some (parts_of line)) None ≡ None
 empty_by true line e = rw e refl
 empty_by false line e = refl
 
-pub empty_word : (line : List ℕ) → list_any is_empty (parted line) ≡ true → words_of line ≡ None
+pub empty_word : (line : List ℕ) → list_any is_empty (parts_of line) ≡ true → words_of line ≡ None
 empty_word line e = empty_by (is_utf8 line) line e
 
-pub whole_words : (line : List ℕ) → IsUtf8 line → list_any is_empty (parted line) ≡ false → words_of line ≡ Some (parted line)
+pub whole_words : (line : List ℕ) → IsUtf8 line → list_any is_empty (parts_of line) ≡ false → words_of line ≡ Some (parts_of line)
 whole_words line u e = rw (is_utf8-from_IsUtf8 line u, e) refl
 
 -- no request has more than four words

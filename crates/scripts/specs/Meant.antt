@@ -2,20 +2,25 @@
 use Rattle.std.specs.Prelude.{ℕ, List, codes, Option, Some, None}
 use Rattle.wire.specs.declared.Version.{Version}
 use Rattle.wire.specs.declared.Version.TheVariants.{V44, V51}
-use Rattle.messages.specs.View.{Login, Ask, Hello, Logon, Logoff, Goodbye, Reset, Run, Begin, Commit, Rollback, Discard, Pull}
+use Rattle.messages.specs.View.{AuthView, RequestView, Hello, Logon, Logoff, Goodbye, Reset, Run, Begin, Commit, Rollback, Discard, Pull}
 use Rattle.scripts.specs.Views as script
-use Rattle.scripts.specs.Views.{RequestView}
+use Rattle.scripts.specs.Views.{ScriptRequestView}
 
 -- the user `user` by the scheme `basic`, with these credentials
-abbrev pub login : List ℕ → Login
-login credentials = record { scheme = codes "basic"; principal = codes "user"; credentials = credentials }
+abbrev pub login : List ℕ → AuthView
+login credentials = record {
+  scheme = codes "basic";
+  principal = codes "user";
+  credentials = credentials;
+}
 
 -- at 4.4 a HELLO has the login, at 5.1 a LOGON
-abbrev pub login_at : Version → Option Login
+abbrev pub login_at : Version → Option AuthView
 login_at V44 = Some (login (codes "pass"))
 login_at V51 = None
 
-abbrev pub meant : Version → RequestView → Ask
+-- the request that a script's request is at a version; a HELLO names the client `t/1`
+abbrev pub meant : Version → ScriptRequestView → RequestView
 meant v script.Hello = Hello (codes "t/1") (login_at v)
 meant v script.Logon = Logon (login (codes "pass"))
 meant v script.LogonBad = Logon (login (codes "bad"))

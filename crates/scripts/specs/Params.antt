@@ -33,6 +33,7 @@ or_else (Some t) o = Some t
 abbrev pub cell_of : Tree → Option Tree
 cell_of t = or_else (cell_at V51 t) (cell_at V44 t)
 
+-- the entries of a value that is a dictionary, as parameters
 abbrev pub entries_in : Tree → Option Params
 entries_in (dict es) = Some (pairs_of es)
 entries_in t = None

@@ -11,12 +11,12 @@ use Rattle.scripts.specs.declared.line.Peer.TheVariants as peer
 use Rattle.scripts.specs.declared.line.Amount.{Amount}
 use Rattle.scripts.specs.declared.line.Amount.TheVariants as amount
 use Rattle.scripts.specs.declared.line.Times.TheVariants as times
-use Rattle.scripts.specs.Views.{Text, RequestView, Hello, Logon, LogonBad, Logoff, Goodbye, Reset, Run, Begin, Commit, Rollback, Discard, Pull, LineView, Open, Submit, ToServer, ToClient, Work, Noop, Cut, ClientLost, ServerLost, Foreign}
+use Rattle.scripts.specs.Views.{Text, ScriptRequestView, Hello, Logon, LogonBad, Logoff, Goodbye, Reset, Run, Begin, Commit, Rollback, Discard, Pull, LineView, Open, Submit, ToServer, ToClient, Work, Noop, Cut, ClientLost, ServerLost, Foreign}
 use Rattle.scripts.specs.Words.{words_of, number_of, whole_of, count_of, bytes_of}
 use Rattle.scripts.specs.Params.{params_of}
 
 -- Requests of one word.
-abbrev pub of_one : Text → Option RequestView
+abbrev pub of_one : Text → Option ScriptRequestView
 of_one name =
     if bytes_eq name (codes "hello") then Some Hello
     else (if bytes_eq name (codes "logon") then Some Logon
@@ -29,27 +29,34 @@ of_one name =
     else None)))))))
 
 -- Requests of two words.
-abbrev pub of_two : Text → Text → Option RequestView
+abbrev pub of_two : Text → Text → Option ScriptRequestView
 of_two name word =
-    if bytes_eq name (codes "logon") then (if bytes_eq word (codes "bad") then Some LogonBad else None)
-    else (if bytes_eq name (codes "begin") then (if bytes_eq word (codes "r") then Some (Begin Read) else None)
-    else (if bytes_eq name (codes "discard") then option_map (λ z. Discard (count_of z)) (whole_of word)
+    if bytes_eq name (codes "logon") then
+    (if bytes_eq word (codes "bad") then Some LogonBad else None)
+    else (if bytes_eq name (codes "begin") then
+    (if bytes_eq word (codes "r") then Some (Begin Read) else None)
+    else (if bytes_eq name (codes "discard") then
+    option_map (λ z. Discard (count_of z)) (whole_of word)
     else (if bytes_eq name (codes "pull") then option_map (λ z. Pull (count_of z)) (whole_of word)
     else None)))
 
 -- a run of a text with the parameters in hex
-abbrev pub run_of : Text → Text → Mode → Option RequestView
-run_of text hex mode = option_map (λ ps. Run text ps mode) (option_and_then params_of (bytes_of hex))
+abbrev pub run_of : Text → Text → Mode → Option ScriptRequestView
+run_of text hex mode = option_map (λ ps. Run text ps mode)
+    (option_and_then params_of (bytes_of hex))
 
 -- Requests.
-abbrev pub request_of : List Text → Option RequestView
+abbrev pub request_of : List Text → Option ScriptRequestView
 request_of [] = None
 request_of (name ∷ []) = of_one name
 request_of (name ∷ word ∷ []) = of_two name word
-request_of (name ∷ text ∷ hex ∷ []) = if bytes_eq name (codes "run") then run_of text hex Write else None
-request_of (name ∷ text ∷ hex ∷ mode ∷ []) = if bytes_eq name (codes "run") && bytes_eq mode (codes "r") then run_of text hex Read else None
+request_of (name ∷ text ∷ hex ∷ []) =
+    if bytes_eq name (codes "run") then run_of text hex Write else None
+request_of (name ∷ text ∷ hex ∷ mode ∷ []) =
+    if bytes_eq name (codes "run") && bytes_eq mode (codes "r") then run_of text hex Read else None
 request_of (name ∷ text ∷ hex ∷ mode ∷ more ∷ rest) = None
 
+-- the peer of a word: a client of ours for `newest`, `4.4` and `5.1`, or a foreign one
 abbrev pub peer_of : Text → Option Peer
 peer_of word =
     if bytes_eq word (codes "newest") then Some (peer.Ours Newest)
@@ -58,8 +65,10 @@ peer_of word =
     else (if bytes_eq word (codes "foreign") then Some peer.Foreign
     else None)))
 
+-- how many bytes move, by a word: `all`, or at most so many
 abbrev pub amount_of : Text → Option Amount
-amount_of word = if bytes_eq word (codes "all") then Some amount.All else option_map (λ n. amount.Bytes n) (number_of word)
+amount_of word = if bytes_eq word (codes "all") then Some amount.All
+    else option_map (λ n. amount.Bytes n) (number_of word)
 
 -- Events that need a connection alone.
 abbrev pub at_one : Text → ℕ → Option LineView
@@ -76,7 +85,8 @@ abbrev pub at_two : Text → ℕ → Text → Option LineView
 at_two name k word =
     if bytes_eq name (codes "server") then option_map (ToServer k) (amount_of word)
     else (if bytes_eq name (codes "client") then option_map (ToClient k) (amount_of word)
-    else (if bytes_eq name (codes "work") then (if bytes_eq word (codes "all") then Some (Work k times.All) else None)
+    else (if bytes_eq name (codes "work") then
+    (if bytes_eq word (codes "all") then Some (Work k times.All) else None)
     else (if bytes_eq name (codes "foreign") then option_map (Foreign k) (bytes_of word)
     else None)))
 
@@ -87,17 +97,18 @@ at_more name (word ∷ []) k = at_two name k word
 at_more name (word ∷ more ∷ rest) k = None
 
 -- An opening.
-abbrev pub opened : List Text → Text → Option LineView
-opened [] word = option_map (λ p. Open p) (peer_of word)
-opened (more ∷ rest) word = None
+abbrev pub opening_line : List Text → Text → Option LineView
+opening_line [] word = option_map (λ p. Open p) (peer_of word)
+opening_line (more ∷ rest) word = None
 
 -- The events of a script.
 abbrev pub event_of : List Text → Option LineView
 event_of [] = None
 event_of (name ∷ []) = None
 event_of (name ∷ word ∷ rest) =
-    if bytes_eq name (codes "open") then opened rest word
-    else (if bytes_eq name (codes "submit") then option_and_then (λ k. option_map (Submit k) (request_of rest)) (number_of word)
+    if bytes_eq name (codes "open") then opening_line rest word
+    else (if bytes_eq name (codes "submit") then
+    option_and_then (λ k. option_map (Submit k) (request_of rest)) (number_of word)
     else option_and_then (at_more name rest) (number_of word))
 
 -- a line as an event
@@ -105,5 +116,5 @@ abbrev pub line_of : Text → Option LineView
 line_of b = option_and_then event_of (words_of b)
 
 -- a line as a request
-abbrev pub request_line_of : Text → Option RequestView
+abbrev pub request_line_of : Text → Option ScriptRequestView
 request_line_of b = option_and_then request_of (words_of b)

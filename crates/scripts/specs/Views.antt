@@ -20,23 +20,25 @@ Text = List ℕ
 abbrev pub Params : Type 0
 Params = List (Text × Tree)
 
-pub data RequestView : Type 0 where
-  Hello : RequestView
-  Logon : RequestView
-  LogonBad : RequestView
-  Logoff : RequestView
-  Goodbye : RequestView
-  Reset : RequestView
-  Run : Text → Params → Mode → RequestView
-  Begin : Mode → RequestView
-  Commit : RequestView
-  Rollback : RequestView
-  Discard : Count → RequestView
-  Pull : Count → RequestView
+-- a request as a line says it; which message it is depends on the version
+pub data ScriptRequestView : Type 0 where
+  Hello : ScriptRequestView
+  Logon : ScriptRequestView
+  LogonBad : ScriptRequestView
+  Logoff : ScriptRequestView
+  Goodbye : ScriptRequestView
+  Reset : ScriptRequestView
+  Run : Text → Params → Mode → ScriptRequestView
+  Begin : Mode → ScriptRequestView
+  Commit : ScriptRequestView
+  Rollback : ScriptRequestView
+  Discard : Count → ScriptRequestView
+  Pull : Count → ScriptRequestView
 
+-- an event of a script; each but an opening has the number of its connection first, from 0
 pub data LineView : Type 0 where
   Open : Peer → LineView
-  Submit : ℕ → RequestView → LineView
+  Submit : ℕ → ScriptRequestView → LineView
   ToServer : ℕ → Amount → LineView
   ToClient : ℕ → Amount → LineView
   Work : ℕ → Times → LineView
@@ -46,23 +48,26 @@ pub data LineView : Type 0 where
   ServerLost : ℕ → LineView
   Foreign : ℕ → List ℕ → LineView
 
-abbrev pub request_view : ScriptRequest → RequestView
-request_view request.Hello = Hello
-request_view request.Logon = Logon
-request_view request.LogonBad = LogonBad
-request_view request.Logoff = Logoff
-request_view request.Goodbye = Goodbye
-request_view request.Reset = Reset
-request_view (request.Run text params mode) = Run (string_bytes text) (entries params.items) mode
-request_view (request.Begin mode) = Begin mode
-request_view request.Commit = Commit
-request_view request.Rollback = Rollback
-request_view (request.Discard count) = Discard count
-request_view (request.Pull count) = Pull count
+-- the content of a script's request
+abbrev pub script_request_view : ScriptRequest → ScriptRequestView
+script_request_view request.Hello = Hello
+script_request_view request.Logon = Logon
+script_request_view request.LogonBad = LogonBad
+script_request_view request.Logoff = Logoff
+script_request_view request.Goodbye = Goodbye
+script_request_view request.Reset = Reset
+script_request_view (request.Run text params mode) =
+    Run (string_bytes text) (entries params.items) mode
+script_request_view (request.Begin mode) = Begin mode
+script_request_view request.Commit = Commit
+script_request_view request.Rollback = Rollback
+script_request_view (request.Discard count) = Discard count
+script_request_view (request.Pull count) = Pull count
 
+-- the content of a line
 abbrev pub line_view : Line → LineView
 line_view (line.Open peer) = Open peer
-line_view (line.Submit conn request) = Submit conn (request_view request)
+line_view (line.Submit conn request) = Submit conn (script_request_view request)
 line_view (line.ToServer conn amount) = ToServer conn amount
 line_view (line.ToClient conn amount) = ToClient conn amount
 line_view (line.Work conn times) = Work conn times

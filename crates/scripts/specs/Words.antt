@@ -12,16 +12,18 @@ use Rattle.messages.specs.declared.request.Count.TheVariants.{All, Of}
 use Rattle.scripts.specs.Views.{Text}
 
 -- parted by one blank each
-abbrev pub parted : Text → List Text
-parted line = slice_split (λ b. b == 32) line
+abbrev pub parts_of : Text → List Text
+parts_of line = slice_split (λ b. b == 32) line
 
+-- whether a text has no bytes
 abbrev pub is_empty : Text → Bool
 is_empty [] = true
 is_empty (x ∷ xs) = false
 
 -- the words of a line: it is UTF-8, and none of them is empty
 abbrev pub words_of : Text → Option (List Text)
-words_of line = if is_utf8 line && not (list_any is_empty (parted line)) then Some (parted line) else None
+words_of line = if is_utf8 line && not (list_any is_empty (parts_of line)) then Some (parts_of line)
+    else None
 
 -- decimal digits, one or more, and nothing else
 abbrev pub is_decimal : Text → Bool
@@ -29,7 +31,9 @@ is_decimal word = not (is_empty word) && all_ascii_digits word
 
 -- the number of decimal digits that is below a limit
 abbrev pub number_below : ℕ → Text → Option ℕ
-number_below limit word = if is_decimal word && nat_lt (digits_value 10 word) limit then Some (digits_value 10 word) else None
+number_below limit word =
+    if is_decimal word && nat_lt (digits_value 10 word) limit then Some (digits_value 10 word)
+    else None
 
 -- the number of a connection, or of bytes: of 64 bits, without a sign
 abbrev pub number_of : Text → Option ℕ

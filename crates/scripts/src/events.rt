@@ -4,7 +4,7 @@ ghost use Rattle.std.specs.Option.{option_map};
 ghost use Rattle.std.specs.Str.{bytes_eq};
 ghost use Rattle.scripts.specs.declared.line.Times.TheVariants as times;
 ghost use Rattle.scripts.specs.Answers.{Gives};
-ghost use Rattle.scripts.specs.Rows.{request_of, peer_of, amount_of, at_one, at_two, at_more, opened, event_of};
+ghost use Rattle.scripts.specs.Rows.{request_of, peer_of, amount_of, at_one, at_two, at_more, opening_line, event_of};
 ghost use Rattle.scripts.specs.Views.{line_view, Submit, Work};
 
 use crate::fault::LineFault;
@@ -45,7 +45,7 @@ fn named(alloc: Global, name: &str, word: &str, rest: &[&str]) -> Result<Line, L
 
 /// `open PEER`.
 fn opened(word: &str, rest: &[&str]) -> Result<Line, LineFault>
-    ensures { Gives line_view result (opened (map (λ w. w.now) rest.now) word.now) }
+    ensures { Gives line_view result (opening_line (map (λ w. w.now) rest.now) word.now) }
 {
     if !rest.is_empty() {
         return Err(LineFault::Unreadable);
@@ -74,7 +74,8 @@ fn peer_of(word: &str) -> Option<Peer>
 
 /// `submit K REQUEST`.
 fn submitted(alloc: Global, conn: u64, words: &[&str]) -> Result<Line, LineFault>
-    ensures { Gives line_view result (option_map (Submit conn) (request_of (map (λ w. w.now) words.now))) }
+    ensures { Gives line_view result
+        (option_map (Submit conn) (request_of (map (λ w. w.now) words.now))) }
 {
     let request = request_of(alloc, words)?;
     Ok(Line::Submit { conn, request })
@@ -152,7 +153,8 @@ fn amount_of(word: &str) -> Result<Amount, LineFault>
 
 /// `work K all`.
 fn worked(conn: u64, word: &str) -> Result<Line, LineFault>
-    ensures { Gives line_view result (if bytes_eq word.now (codes "all") then Some (Work conn times.All) else None) }
+    ensures { Gives line_view result
+        (if bytes_eq word.now (codes "all") then Some (Work conn times.All) else None) }
 {
     if word == "all" {
         let times = Times::All;

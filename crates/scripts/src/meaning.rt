@@ -1,8 +1,8 @@
 //! The messages that a script's requests stand for.
 ghost use Rattle.std.specs.Prelude.{◌≡◌, IfOk, codes};
-ghost use Rattle.messages.specs.View.{ask, auth_of, auth_in, Hello};
+ghost use Rattle.messages.specs.View.{request_view, auth_view, auth_in, Hello};
 ghost use Rattle.scripts.specs.Meant.{meant, login, login_at};
-ghost use Rattle.scripts.specs.Views.{request_view};
+ghost use Rattle.scripts.specs.Views.{script_request_view};
 
 use crate::request::ScriptRequest;
 use messages::{Auth, Request};
@@ -13,7 +13,7 @@ impl ScriptRequest {
     /// The request at a version: the agent is `t/1`, the scheme `basic`, the user `user` and the credentials `pass`, or
     /// `bad` for `logon bad`. A HELLO has the login at 4.4 alone.
     pub fn into_request(self, alloc: Global, version: Version) -> Result<Request, AllocError>
-        ensures { IfOk result (λ r. ask r ≡ meant version (request_view self)) }
+        ensures { IfOk result (λ r. request_view r ≡ meant version (script_request_view self)) }
     {
         Ok(match self {
             ScriptRequest::Hello => return hello(alloc, version),
@@ -33,7 +33,7 @@ impl ScriptRequest {
 }
 
 fn hello(alloc: Global, version: Version) -> Result<Request, AllocError>
-    ensures { IfOk result (λ r. ask r ≡ Hello (codes "t/1") (login_at version)) }
+    ensures { IfOk result (λ r. request_view r ≡ Hello (codes "t/1") (login_at version)) }
 {
     let agent = String::from_str(alloc, "t/1")?;
     let auth = login_at(alloc, version)?;
@@ -51,7 +51,7 @@ fn login_at(alloc: Global, version: Version) -> Result<Option<Auth>, AllocError>
 }
 
 fn auth(alloc: Global, credentials: &str) -> Result<Auth, AllocError>
-    ensures { IfOk result (λ a. auth_of a ≡ login credentials.now) }
+    ensures { IfOk result (λ a. auth_view a ≡ login credentials.now) }
 {
     Ok(Auth {
         scheme: String::from_str(alloc, "basic")?,

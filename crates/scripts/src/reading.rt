@@ -1,7 +1,7 @@
 //! Lines out of bytes.
 ghost use Rattle.scripts.specs.Answers.{Gives};
 ghost use Rattle.scripts.specs.Rows.{line_of, request_line_of};
-ghost use Rattle.scripts.specs.Views.{line_view, request_view};
+ghost use Rattle.scripts.specs.Views.{line_view, script_request_view};
 
 use crate::events::event_of;
 use crate::fault::LineFault;
@@ -21,7 +21,7 @@ pub fn read_line(alloc: Global, line: &[u8]) -> Result<Line, LineFault>
 
 /// A line that is a request alone, as a shell's.
 pub fn read_request(alloc: Global, line: &[u8]) -> Result<ScriptRequest, LineFault>
-    ensures { Gives request_view result (request_line_of line.now) }
+    ensures { Gives script_request_view result (request_line_of line.now) }
 {
     let words = words_of(alloc, line)?;
     request_of(alloc, words.as_slice())

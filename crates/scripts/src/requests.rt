@@ -5,7 +5,7 @@ ghost use Rattle.std.specs.Str.{bytes_eq};
 ghost use Rattle.messages.specs.declared.request.Mode.TheVariants.{Read, Write};
 ghost use Rattle.scripts.specs.Answers.{Gives};
 ghost use Rattle.scripts.specs.Rows.{of_one, of_two, run_of, request_of};
-ghost use Rattle.scripts.specs.Views.{request_view};
+ghost use Rattle.scripts.specs.Views.{script_request_view};
 ghost use Rattle.scripts.specs.Words.{whole_of, count_of};
 
 use crate::fault::LineFault;
@@ -17,7 +17,7 @@ use std::alloc::Global;
 
 /// A request.
 pub(crate) fn request_of(alloc: Global, words: &[&str]) -> Result<ScriptRequest, LineFault>
-    ensures { Gives request_view result (request_of (map (λ w. w.now) words.now)) }
+    ensures { Gives script_request_view result (request_of (map (λ w. w.now) words.now)) }
 {
     match words {
         [] => Err(LineFault::Unreadable),
@@ -31,7 +31,7 @@ pub(crate) fn request_of(alloc: Global, words: &[&str]) -> Result<ScriptRequest,
 
 /// A request of one word.
 fn of_one(name: &str) -> Result<ScriptRequest, LineFault>
-    ensures { Gives request_view result (of_one name.now) }
+    ensures { Gives script_request_view result (of_one name.now) }
 {
     if name == "hello" {
         return Ok(ScriptRequest::Hello);
@@ -62,7 +62,7 @@ fn of_one(name: &str) -> Result<ScriptRequest, LineFault>
 
 /// A request of two words.
 fn of_two(name: &str, word: &str) -> Result<ScriptRequest, LineFault>
-    ensures { Gives request_view result (of_two name.now word.now) }
+    ensures { Gives script_request_view result (of_two name.now word.now) }
 {
     if name == "logon" {
         return match word {
@@ -96,7 +96,8 @@ fn count_in(word: &str) -> Result<Count, LineFault>
 
 /// `run TEXT HEX`.
 fn of_three(alloc: Global, name: &str, text: &str, hex: &str) -> Result<ScriptRequest, LineFault>
-    ensures { Gives request_view result (if bytes_eq name.now (codes "run") then run_of text.now hex.now Write else None) }
+    ensures { Gives script_request_view result
+        (if bytes_eq name.now (codes "run") then run_of text.now hex.now Write else None) }
 {
     if name != "run" {
         return Err(LineFault::Unreadable);
@@ -112,7 +113,9 @@ fn of_four(
     hex: &str,
     mode: &str,
 ) -> Result<ScriptRequest, LineFault>
-    ensures { Gives request_view result (if bytes_eq name.now (codes "run") && bytes_eq mode.now (codes "r") then run_of text.now hex.now Read else None) }
+    ensures { Gives script_request_view result
+        (if bytes_eq name.now (codes "run") && bytes_eq mode.now (codes "r") then
+        run_of text.now hex.now Read else None) }
 {
     if name != "run" || mode != "r" {
         return Err(LineFault::Unreadable);
@@ -122,7 +125,7 @@ fn of_four(
 
 /// A run of a text with the parameters that the hex spells.
 fn run_of(alloc: Global, text: &str, hex: &str, mode: Mode) -> Result<ScriptRequest, LineFault>
-    ensures { Gives request_view result (run_of text.now hex.now mode) }
+    ensures { Gives script_request_view result (run_of text.now hex.now mode) }
 {
     let bytes = bytes_of(alloc, hex)?;
     let params = params_of(alloc, &bytes)?;

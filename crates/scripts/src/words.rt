@@ -3,7 +3,7 @@ ghost use Rattle.std.specs.Prelude.{◌≡◌, map, IfOk};
 ghost use Rattle.std.specs.List.{list_any};
 ghost use Rattle.std.specs.Str.{all_ascii_digits};
 ghost use Rattle.scripts.specs.Answers.{Gives};
-ghost use Rattle.scripts.specs.Words.{parted, is_empty, words_of, is_decimal, number_of, whole_of, without_minus, count_of, bytes_of};
+ghost use Rattle.scripts.specs.Words.{parts_of, is_empty, words_of, is_decimal, number_of, whole_of, without_minus, count_of, bytes_of};
 
 use crate::fault::LineFault;
 use hex::FromHexError;
@@ -27,7 +27,7 @@ pub(crate) fn words_of<'a>(alloc: Global, line: &'a [u8]) -> Result<Vec<&'a str>
 }
 
 fn parted<'a>(alloc: Global, text: &'a str) -> Result<Vec<&'a str>, AllocError>
-    ensures { IfOk result (λ v. map (λ w. w.now) v.items ≡ parted text.entry.now) }
+    ensures { IfOk result (λ v. map (λ w. w.now) v.items ≡ parts_of text.entry.now) }
 {
     text.split(' ').collect(alloc)
 }

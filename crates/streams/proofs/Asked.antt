@@ -5,7 +5,7 @@ use Rattle.std.specs.Result.{result_err}
 use Rattle.std.specs.Io.KnownBytes.{Appends, Consumes, IsAtEnd, Keeps}
 use Rattle.std.proofs.lemmas.Bool.Decides.{nat_tests}
 use Rattle.client.specs.declared.Outcome.{Outcome}
-use Rattle.client.specs.Rest.{Knows, Note, Rest, losses, dropped, taken_out, awaits}
+use Rattle.client.specs.Rest.{Knows, Note, Rest, losses, after_drop, taken_out, awaits}
 use Rattle.streams.specs.declared.fault.StreamFault.{StreamFault}
 use Rattle.streams.specs.declared.fault.StreamFault.TheVariants as stream_fault
 use Rattle.streams.specs.Fronts.{AppendsFront}
@@ -30,7 +30,7 @@ unanswered_waits k l =
     let some : (length k.waiting == 0) ≡ false = grind (arith, nat_tests) in
     ap (λ b. not (awaits k) && b) some ∙ and_false (not (awaits k))
 
-pub loses : (r : Rest) (Now : Rest → Type 0) (lost : List (ℕ × Outcome)) → all_answered r.knows ≡ false → (lost ≡ losses r.knows) × Now (dropped r) → GivesUp Now lost r
+pub loses : (r : Rest) (Now : Rest → Type 0) (lost : List (ℕ × Outcome)) → all_answered r.knows ≡ false → (lost ≡ losses r.knows) × Now (after_drop r) → GivesUp Now lost r
 loses r Now lost e h = rw e (h.1, h.0)
 
 -- bytes that are consumed in turn

@@ -7,8 +7,8 @@ use Rattle.engine.specs.Views.{EntryView, WriteView, ParameterView, AnswerView, 
 use Rattle.server.specs.declared.kinds.Refused.{Refused}
 use Rattle.server.specs.declared.kinds.Refused.TheVariants.{NoSuchConnection, SessionsFull, Memory}
 use Rattle.server.specs.declared.kinds.Worked.{Worked}
-use Rattle.server.specs.Rest.{Kept, told, work_kept}
-use Rattle.server.specs.Serving.{Live, Rest, find, replace, with_kept, with_session, on_live, after_step, committed, setting, work_at, Answers}
+use Rattle.server.specs.Rest.{Kept, worked_of, work_kept}
+use Rattle.server.specs.Serving.{Live, Rest, find, replace, with_kept, with_session, on_live, after_step, commit_entries, setting, work_at, Answers}
 use Rattle.server.proofs.Runs.{find-conn}
 use Rattle.streams.specs.Conversing.{with_talk}
 use Rattle.streams.proofs.Seats.{find-replace, here, talk-found, talk-replaced}
@@ -77,13 +77,13 @@ module _ {G : Type 0} (r : Rest G) (conn : ℕ) (lives : IsSome (find conn r.ses
   -- a step
   pub stepped_talk : (answer : List EntryView → List WriteView → List ℕ → List ParameterView → QueryMode → Result AnswerView QueryFault) (accepts : G → List ℕ → List ℕ → Bool) (o : Result Worked Refused) (Now : Rest G → Type 0)
       → Answers o (work_at answer accepts conn W) W Now
-      → (let d = work_kept (setting answer accepts r) conn ledger k k.ended in Called (told d.answer) u (ledger ++ committed conn k.first d.commit) d.kept Now o)
+      → (let d = work_kept (setting answer accepts r) conn ledger k k.ended in Called (worked_of d.answer) u (ledger ++ commit_entries conn k.first d.commit) d.kept Now o)
   stepped_talk answer accepts o Now h =
       let d = work_kept (setting answer accepts r) conn ledger k k.ended in
-      let after = ledger ++ committed conn k.first d.commit in
+      let after = ledger ++ commit_entries conn k.first d.commit in
       let model = ap (option_map (λ (s : Live). after_step s (work_kept (setting answer accepts W) s.conn ledger s.kept s.kept.ended) W)) (talk-found r conn lives u ledger k)
-      ∙ ap (λ x. Some (pair (told d.answer) x)) (seated u after d.kept) in
-      by_answer (told d.answer) u after d.kept o Now (subst (λ m. Answers o m W Now) model h)
+      ∙ ap (λ x. Some (pair (worked_of d.answer) x)) (seated u after d.kept) in
+      by_answer (worked_of d.answer) u after d.kept o Now (subst (λ m. Answers o m W Now) model h)
 
 -- a session that lives does so after a step
 pub work_lives : {G : Type 0} (conn : ℕ) (r : Rest G) (answer : List EntryView → List WriteView → List ℕ → List ParameterView → QueryMode → Result AnswerView QueryFault) (accepts : G → List ℕ → List ℕ → Bool) (o : Result Worked Refused) (Now : Rest G → Type 0)

@@ -8,7 +8,7 @@ use Rattle.engine.specs.Views.{EntryView}
 use Rattle.server.specs.declared.kinds.Refused.{Refused}
 use Rattle.server.specs.declared.kinds.Took.{Took}
 use Rattle.server.specs.declared.kinds.What.{What}
-use Rattle.server.specs.Rest.{Kept, Feeding, feeding, takes_none, takes_item, shut, full, fed, arrival}
+use Rattle.server.specs.Rest.{Kept, Feeding, feeding, takes_none, takes_item, shut, full, after_item, arrival}
 use Rattle.server.specs.Serving.{Live, Rest, find, fed_live, with_session, feed_at, Answers}
 use Rattle.streams.specs.Conversing.{with_talk}
 use Rattle.streams.proofs.Called.{lives_on, found_again, called, some_first}
@@ -49,13 +49,13 @@ module _ {G : Type 0} (r : Rest G) (conn : ℕ) (i : IsSome (find conn r.session
   pub feed_somehow : Answers (Ok took) (feed_at conn piece (with_talk r conn u ledger k)) (with_talk r conn u ledger k) Now → (v : Opened) × (l : Kept) × Now (with_talk r conn v ledger l)
   feed_somehow h = ((feeding u piece k).unfinished, (feeding u piece k).kept, (fed_there h).1)
 
-  by_full : (a b : Bool) → a ≡ false → 0 < took.used → (took ≡ (by_room a b u k t).took) × Now (with_talk r conn (by_room a b u k t).unfinished ledger (by_room a b u k t).kept) → (took.used ≡ t.used) × Now (with_talk r conn t.rest ledger (fed k (arrival k t.item)))
+  by_full : (a b : Bool) → a ≡ false → 0 < took.used → (took ≡ (by_room a b u k t).took) × Now (with_talk r conn (by_room a b u k t).unfinished ledger (by_room a b u k t).kept) → (took.used ≡ t.used) × Now (with_talk r conn t.rest ledger (after_item k (arrival k t.item)))
   by_full true b e l h = cc
   by_full false true e l h = let none : took.used ≡ 0 = ap (λ (x : Took). x.used) h.0 in absurd (omega arith)
   by_full false false e l h = (ap (λ (x : Took). x.used) h.0, h.1)
 
   -- and where it isn't shut and took bytes, it took an item at most
-  pub feed_takes : shut k ≡ false → 0 < took.used → Answers (Ok took) (feed_at conn piece (with_talk r conn u ledger k)) (with_talk r conn u ledger k) Now → (took.used ≡ t.used) × Now (with_talk r conn t.rest ledger (fed k (arrival k t.item)))
+  pub feed_takes : shut k ≡ false → 0 < took.used → Answers (Ok took) (feed_at conn piece (with_talk r conn u ledger k)) (with_talk r conn u ledger k) Now → (took.used ≡ t.used) × Now (with_talk r conn t.rest ledger (after_item k (arrival k t.item)))
   feed_takes s l h = by_full (shut k) (full k) s l (fed_there h)
 
 pub feed_refused : {G : Type 0} (r : Rest G) (conn : ℕ) (i : IsSome (find conn r.sessions)) (u : Opened) (ledger : List EntryView) (k : Kept) (piece : List ℕ) (e : Refused) (Now : Rest G → Type 0)

@@ -11,7 +11,7 @@ use Rattle.streams.specs.declared.fault.Standing.{Standing}
 use Rattle.streams.specs.declared.fault.StreamFault.{StreamFault}
 use Rattle.streams.specs.Fronts.{AppendsFront}
 use Rattle.streams.specs.Putting.{Puts}
-use Rattle.streams.specs.Conversing.{Talk, after_bytes, heard_out, steps, settled, with_talk}
+use Rattle.streams.specs.Conversing.{Talk, after_bytes, heard_out, steps, talk_of_due, with_talk}
 use Rattle.streams.specs.Settling.{IsPlaced, due, Settles, Steps, Breaks}
 use Rattle.streams.proofs.Stepping.{steps_grow}
 
@@ -54,10 +54,10 @@ module _ {G : Type 0} (r : Rest G) (conn : ℕ) (u : Opened) (S : Setting) (t : 
         (u, g.2, g.1, m.0, g.8, m.1, (g.3, (steps S conn g.0 g.1 g.2).out, refl, g.9))
 
 -- What waits to go is out, and the steps follow.
-pub goes_first : {G : Type 0} (r : Rest G) (conn : ℕ) (u : Opened) (S : Setting) (ledger : List EntryView) (k : Kept) (Now : Rest G → Type 0) (old new : Option (List ℕ)) → IsPlaced k.waiting → Puts r conn u ledger k Now old new (Ok tt) → GoesOn r conn u S (settled S conn ledger k) old Now new
+pub goes_first : {G : Type 0} (r : Rest G) (conn : ℕ) (u : Opened) (S : Setting) (ledger : List EntryView) (k : Kept) (Now : Rest G → Type 0) (old new : Option (List ℕ)) → IsPlaced k.waiting → Puts r conn u ledger k Now old new (Ok tt) → GoesOn r conn u S (talk_of_due S conn ledger k) old Now new
 goes_first r conn u S ledger k Now old new p h = (due k, ledger, heard_out k, k.unsent, refl, refl, p, omega arith, h.0, h.1)
 
-pub goes_not : {G : Type 0} (r : Rest G) (conn : ℕ) (u : Opened) (S : Setting) (ledger : List EntryView) (k : Kept) (Now : Rest G → Type 0) (old new : Option (List ℕ)) (fault : StreamFault) → Puts r conn u ledger k Now old new (Err fault) → Breaks r conn (settled S conn ledger k) Now old new
+pub goes_not : {G : Type 0} (r : Rest G) (conn : ℕ) (u : Opened) (S : Setting) (ledger : List EntryView) (k : Kept) (Now : Rest G → Type 0) (old new : Option (List ℕ)) (fault : StreamFault) → Puts r conn u ledger k Now old new (Err fault) → Breaks r conn (talk_of_due S conn ledger k) Now old new
 goes_not r conn u S ledger k Now old new fault h =
     let m = steps_grow S conn (due k) ledger (heard_out k) in
     (u, h.0, ledger, m.0, h.1, m.1, front_more old new k.unsent (steps S conn (due k) ledger (heard_out k)).out h.2)

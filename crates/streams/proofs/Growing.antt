@@ -9,7 +9,7 @@ use Rattle.server.specs.declared.kinds.Refused.{Refused}
 use Rattle.server.specs.declared.kinds.Took.{Took}
 use Rattle.server.specs.declared.kinds.Worked.{Worked}
 use Rattle.server.specs.Rest.{Kept, work_kept}
-use Rattle.server.specs.Serving.{Live, Rest, find, replace, on_live, fed_live, taken_from, committed, setting, work_at, Answers}
+use Rattle.server.specs.Serving.{Live, Rest, find, replace, on_live, fed_live, taken_from, commit_entries, setting, work_at, Answers}
 use Rattle.server.proofs.Runs.{find-conn}
 use Rattle.streams.specs.Conversing.{with_talk, without_talk}
 use Rattle.streams.specs.Settling.{Grows, LivesOn}
@@ -77,7 +77,7 @@ module _ {G : Type 0} (conn : ℕ) where
       → ((r : Rest G) → Old r → Answers o (work_at answer accepts conn r) r Now) → LivesOn conn Old Now
   lives_worked answer accepts Old Now o answers r old i = by_talk r Old Now i old (λ u k h.
       let d = work_kept (setting answer accepts r) conn r.ledger k k.ended in
-      by_called r i Now u u k d.kept (committed conn k.first d.commit) _ o (stepped_talk r conn i u r.ledger k answer accepts o Now (answers (with_talk r conn u r.ledger k) h)))
+      by_called r i Now u u k d.kept (commit_entries conn k.first d.commit) _ o (stepped_talk r conn i u r.ledger k answer accepts o Now (answers (with_talk r conn u r.ledger k) h)))
 
   -- and then it is given up
   pub lives_no_more : (Old Mid Now : Rest G → Type 0) (o : Option Cause) → LivesOn conn Old Mid → Loses conn Mid Now o → (r : Rest G) → Old r → IsSome (find conn r.sessions) → LeavesOthers r conn Now

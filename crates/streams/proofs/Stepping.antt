@@ -4,11 +4,11 @@ use Rattle.std.specs.Prelude.{◌&&◌, ◌||◌, if◌then◌else◌, nat_le, i
 use Rattle.packstream.specs.Tree.{Tree}
 use Rattle.wire.specs.declared.Version.{Version}
 use Rattle.wire.specs.declared.Version.TheVariants.{V44, V51}
-use Rattle.messages.specs.View.{Ask, Login, Say}
+use Rattle.messages.specs.View.{RequestView, AuthView, ResponseView}
 use Rattle.messages.specs.declared.request.Count.{Count}
 use Rattle.messages.specs.Arrivals.{Arrival, Asked, Unread, TooLong, Shook, NoMagic}
 use Rattle.messages.specs.Arrivals as arrival
-use Rattle.messages.specs.Writing.{response_text}
+use Rattle.messages.specs.Writing.{response_spelling}
 use Rattle.machine.specs.declared.states.State.{State}
 use Rattle.machine.specs.declared.rows.Verdict.{Verdict}
 use Rattle.machine.specs.Asks.{kind_of, is_goodbye, is_reset}
@@ -18,9 +18,9 @@ use Rattle.engine.specs.Views.{EntryView, AnswerView, QueryFault}
 use Rattle.server.specs.declared.kinds.Cause.{Cause}
 use Rattle.server.specs.declared.fault.Fault.{Fault}
 use Rattle.server.specs.Said.{fits}
-use Rattle.server.specs.Session.{Setting, Open, closed, Tx, Reply, OneRow, Summary, Bye, fails, succeeds, close, close_last, if_fits, unwritable, pull, used_up, greets, admitted, ran, opened, with_write, no_tx, in_transaction, fields_said, perform, serve, passed_over, halted}
-use Rattle.server.specs.Rest.{Kept, rests, turns, serves, Done, Idle, Full, WroteRow, Wrote, Ended, Step, work_kept, replies, struck, version_of}
-use Rattle.server.specs.Serving.{committed}
+use Rattle.server.specs.Session.{Setting, Open, no_result, Tx, Reply, OneRow, Summary, Bye, fails, succeeds, close, close_last, if_fits, unwritable, pull, used_up, greets, reply_to_login, reply_to_run, result_of_answer, with_write, no_tx, in_transaction, fields_said, perform, serve, passed_over, is_halted}
+use Rattle.server.specs.Rest.{Kept, rests, turns, serves, Done, Idle, Full, WroteRow, Wrote, Ended, Step, work_kept, replies, after_strike, version_of}
+use Rattle.server.specs.Serving.{commit_entries}
 use Rattle.streams.specs.Conversing.{Talk, silent, after_bytes, heard_out, step_then, steps, steps_due}
 use Rattle.streams.specs.Settling.{IsPlaced, due}
 
@@ -34,9 +34,9 @@ either : (n : ℕ) (b : Bool) (x y : Reply) → Lessens n x → Lessens n y → 
 either n true x y p q = p
 either n false x y p q = q
 
-if_fits_lessens : (n : ℕ) (v : Version) (m : Say) (reply : Reply) → Lessens n reply → Lessens n (if_fits v m reply)
+if_fits_lessens : (n : ℕ) (v : Version) (m : ResponseView) (reply : Reply) → Lessens n reply → Lessens n (if_fits v m reply)
 unfolding Lessens
-if_fits_lessens n v m reply h = either n (fits v m) reply (fails (unwritable (response_text v m))) h tt
+if_fits_lessens n v m reply h = either n (fits v m) reply (fails (unwritable (response_spelling v m))) h tt
 
 last_lessens : (n : ℕ) (s : State) (len : ℕ) (left : Open) (tx : Tx) → Lessens n (close_last s len left tx)
 unfolding Lessens
@@ -53,49 +53,49 @@ unfolding Lessens
 pull_lessens v s len count [] left tx = last_lessens 0 s len left tx
 pull_lessens v s len count (r ∷ rs) left tx =
     let row : Reply = OneRow r (record { rows = rs; mode = left.mode; write = left.write; written = suc left.written }) in
-    either (suc (length rs)) (used_up count left.written) (close s len (r ∷ rs) left tx) (if_fits v (Say.Record r) row) tt (if_fits_lessens (suc (length rs)) v (Say.Record r) row (omega arith))
+    either (suc (length rs)) (used_up count left.written) (close s len (r ∷ rs) left tx) (if_fits v (ResponseView.Record r) row) tt (if_fits_lessens (suc (length rs)) v (ResponseView.Record r) row (omega arith))
 
-admitted_lessens : (n : ℕ) (S : Setting) (a : Login) (m : Say) → Lessens n (admitted S a m)
+admitted_lessens : (n : ℕ) (S : Setting) (a : AuthView) (m : ResponseView) → Lessens n (reply_to_login S a m)
 unfolding Lessens
 admitted_lessens n S a m = either n _ (succeeds m) (fails Fault.Unauthorized) tt tt
 
-greets_lessens : (n : ℕ) (S : Setting) (v : Version) (c : ℕ) (auth : Option Login) → Lessens n (greets S v c auth)
+greets_lessens : (n : ℕ) (S : Setting) (v : Version) (c : ℕ) (auth : Option AuthView) → Lessens n (greets S v c auth)
 unfolding Lessens
 greets_lessens n S V51 c auth = tt
 greets_lessens n S V44 c None = tt
 greets_lessens n S V44 c (Some a) = admitted_lessens n S a _
 
-ran_lessens : (n : ℕ) (v : Version) (s : State) (tx : Tx) (a : Result AnswerView QueryFault) → Lessens n (ran v s tx a)
+ran_lessens : (n : ℕ) (v : Version) (s : State) (tx : Tx) (a : Result AnswerView QueryFault) → Lessens n (reply_to_run v s tx a)
 unfolding Lessens
 ran_lessens n v s tx (Err e) = tt
 ran_lessens n v s tx (Ok a) =
-    let ok : Reply = Summary Verdict.Success (fields_said a.fields) (opened v s a) (if in_transaction s then with_write tx a.write else no_tx) None in
+    let ok : Reply = Summary Verdict.Success (fields_said a.fields) (result_of_answer v s a) (if in_transaction s then with_write tx a.write else no_tx) None in
     either n (in_transaction s && (is_some a.write && nat_le 1024 (length tx.writes))) (fails Fault.TooManyWrites) (if_fits v (fields_said a.fields) ok) tt (if_fits_lessens n v (fields_said a.fields) ok tt)
 
-perform_lessens : (S : Setting) (v : Version) (c : ℕ) (ledger : List EntryView) (s : State) (left : Open) (tx : Tx) (q : Ask) → Lessens (length left.rows) (perform S v c ledger s left tx q)
+perform_lessens : (S : Setting) (v : Version) (c : ℕ) (ledger : List EntryView) (s : State) (left : Open) (tx : Tx) (q : RequestView) → Lessens (length left.rows) (perform S v c ledger s left tx q)
 unfolding Lessens
-perform_lessens S v c ledger s left tx (Ask.Hello agent auth) = greets_lessens _ S v c auth
-perform_lessens S v c ledger s left tx (Ask.Logon a) = admitted_lessens _ S a _
-perform_lessens S v c ledger s left tx Ask.Logoff = tt
-perform_lessens S v c ledger s left tx Ask.Goodbye = tt
-perform_lessens S v c ledger s left tx Ask.Reset = tt
-perform_lessens S v c ledger s left tx (Ask.Run query params mode) = either _ (in_transaction s) _ _ (ran_lessens _ v s tx _) (ran_lessens _ v s tx _)
-perform_lessens S v c ledger s left tx (Ask.Begin mode) = tt
-perform_lessens S v c ledger s left tx Ask.Commit = tt
-perform_lessens S v c ledger s left tx Ask.Rollback = tt
-perform_lessens S v c ledger s left tx (Ask.Discard n) = close_lessens _ s (length ledger) _ left tx
-perform_lessens S v c ledger s left tx (Ask.Pull n) = pull_lessens v s (length ledger) n left.rows left tx
+perform_lessens S v c ledger s left tx (RequestView.Hello agent auth) = greets_lessens _ S v c auth
+perform_lessens S v c ledger s left tx (RequestView.Logon a) = admitted_lessens _ S a _
+perform_lessens S v c ledger s left tx RequestView.Logoff = tt
+perform_lessens S v c ledger s left tx RequestView.Goodbye = tt
+perform_lessens S v c ledger s left tx RequestView.Reset = tt
+perform_lessens S v c ledger s left tx (RequestView.Run query params mode) = either _ (in_transaction s) _ _ (ran_lessens _ v s tx _) (ran_lessens _ v s tx _)
+perform_lessens S v c ledger s left tx (RequestView.Begin mode) = tt
+perform_lessens S v c ledger s left tx RequestView.Commit = tt
+perform_lessens S v c ledger s left tx RequestView.Rollback = tt
+perform_lessens S v c ledger s left tx (RequestView.Discard n) = close_lessens _ s (length ledger) _ left tx
+perform_lessens S v c ledger s left tx (RequestView.Pull n) = pull_lessens v s (length ledger) n left.rows left tx
 
 passed_lessens : (n : ℕ) (b : Bool) → Lessens n (passed_over b)
 unfolding Lessens
 passed_lessens n true = tt
 passed_lessens n false = tt
 
-pub serve_lessens : (S : Setting) (v : Version) (c : ℕ) (ledger : List EntryView) (s : State) (left : Open) (tx : Tx) (q : Ask) → Lessens (length left.rows) (serve S v c ledger s left tx q)
+pub serve_lessens : (S : Setting) (v : Version) (c : ℕ) (ledger : List EntryView) (s : State) (left : Open) (tx : Tx) (q : RequestView) → Lessens (length left.rows) (serve S v c ledger s left tx q)
 unfolding Lessens
 serve_lessens S v c ledger s left tx q =
     either _ (is_goodbye (kind_of q)) Bye _ tt
-    (either _ (halted s) _ _ (passed_lessens _ (is_reset (kind_of q)))
+    (either _ (is_halted s) _ _ (passed_lessens _ (is_reset (kind_of q)))
     (either _ (is_some (row_at v s (kind_of q) Verdict.Success)) _ _ (perform_lessens S v c ledger s left tx q) tt))
 
 -- a step that puts something
@@ -115,7 +115,7 @@ module _ (S : Setting) (c : ℕ) (ledger : List EntryView) (k : Kept) (sent : k.
   waits_one : (x : Arrival) → k.waiting ≡ x ∷ [] → due k ≡ suc (length k.result.rows)
   waits_one x e = ap (λ z. steps_due z (length k.result.rows)) e
 
-  by_reply : (s : Kept) (q : Ask) → k.waiting ≡ Asked q ∷ [] → s.waiting ≡ k.waiting → s.unsent ≡ [] → s.version ≡ k.version → length s.result.rows ≤ length k.result.rows → (p : Reply) → Lessens (length s.result.rows) p → StepKind k (replies ledger s q [] p)
+  by_reply : (s : Kept) (q : RequestView) → k.waiting ≡ Asked q ∷ [] → s.waiting ≡ k.waiting → s.unsent ≡ [] → s.version ≡ k.version → length s.result.rows ≤ length k.result.rows → (p : Reply) → Lessens (length s.result.rows) p → StepKind k (replies ledger s q [] p)
   unfolding Lessens
   by_reply s q e w t v l (OneRow r left) h =
       let d = waits_one (Asked q) e in
@@ -124,8 +124,8 @@ module _ (S : Setting) (c : ℕ) (ledger : List EntryView) (k : Kept) (sent : k.
   by_reply s q e w t v l Bye h = let d = waits_one (Asked q) e in over Cause.Goodbye refl refl refl t v (inr (omega arith))
   by_reply s q e w t v l (Summary d m left tx entry) h = let d = waits_one (Asked q) e in puts tt tt (omega arith) v
 
-  by_struck : (b : Bool) (q : Ask) → k.waiting ≡ Asked q ∷ [] → StepKind k (serves S c ledger (if b then struck k else k) q [])
-  by_struck true q e = by_reply (struck k) q e refl sent refl (omega arith) _ (serve_lessens S (version_of k) c ledger State.Interrupted closed no_tx q)
+  by_struck : (b : Bool) (q : RequestView) → k.waiting ≡ Asked q ∷ [] → StepKind k (serves S c ledger (if b then after_strike k else k) q [])
+  by_struck true q e = by_reply (after_strike k) q e refl sent refl (omega arith) _ (serve_lessens S (version_of k) c ledger State.Interrupted no_result no_tx q)
   by_struck false q e = by_reply k q e refl sent refl (omega arith) _ (serve_lessens S (version_of k) c ledger k.state k.result k.tx q)
 
   by_turn : k.ended ≡ None → (xs : List Arrival) → k.waiting ≡ xs → IsPlaced xs → StepKind k (turns S c ledger k xs)
@@ -156,10 +156,10 @@ abbrev pub after_step : Setting → ℕ → List EntryView → Kept → Step
 after_step S c ledger k = work_kept S c ledger k k.ended
 
 -- the steps that follow one that puts something
-pub steps_put : (S : Setting) (c n : ℕ) (ledger : List EntryView) (k : Kept) (d : Step) → IsPut d.answer → step_then c k.first ledger d d.answer (steps S c n) ≡ after_bytes d.kept.unsent (steps S c n (ledger ++ committed c k.first d.commit) (heard_out d.kept))
+pub steps_put : (S : Setting) (c n : ℕ) (ledger : List EntryView) (k : Kept) (d : Step) → IsPut d.answer → step_then c k.first ledger d d.answer (steps S c n) ≡ after_bytes d.kept.unsent (steps S c n (ledger ++ commit_entries c k.first d.commit) (heard_out d.kept))
 steps_put S c n ledger k d p = go d.answer p
   where
-    go : (a : Done) → IsPut a → step_then c k.first ledger d a (steps S c n) ≡ after_bytes d.kept.unsent (steps S c n (ledger ++ committed c k.first d.commit) (heard_out d.kept))
+    go : (a : Done) → IsPut a → step_then c k.first ledger d a (steps S c n) ≡ after_bytes d.kept.unsent (steps S c n (ledger ++ commit_entries c k.first d.commit) (heard_out d.kept))
     go WroteRow p = refl
     go (Wrote x) p = refl
     go Idle p = absurd p
@@ -188,7 +188,7 @@ steps_rest_go S c n ledger k l more (over e a o m u v f) = subst (RestsAs k) (sy
 steps_rest_go S c zero ledger k l more (puts i q f v) = absurd (omega arith)
 steps_rest_go S c (suc m) ledger k l more (puts i q f v) =
     let d = after_step S c ledger k in
-    let h = more m (ledger ++ committed c k.first d.commit) (heard_out d.kept) refl refl q (omega arith) in
+    let h = more m (ledger ++ commit_entries c k.first d.commit) (heard_out d.kept) refl refl q (omega arith) in
     subst (RestsAs k) (sym (steps_put S c m ledger k d i)) (h.0, h.1 ∙ v)
 
 pub steps_rest : (S : Setting) (c n : ℕ) (ledger : List EntryView) (k : Kept) → k.unsent ≡ [] → IsPlaced k.waiting → due k ≤ n → RestsAs k (steps S c n ledger k)
@@ -204,8 +204,8 @@ grown_then : (c first : ℕ) (ledger : List EntryView) (d : Step) (a : Done) (mo
 grown_then c first ledger d Idle more f = ([], append-nil ledger)
 grown_then c first ledger d Full more f = ([], append-nil ledger)
 grown_then c first ledger d (Ended e) more f = ([], append-nil ledger)
-grown_then c first ledger d WroteRow more f = let h = f (ledger ++ committed c first d.commit) (heard_out d.kept) in (committed c first d.commit ++ h.0, sym (append_assoc ledger (committed c first d.commit) h.0) ∙ h.1)
-grown_then c first ledger d (Wrote x) more f = let h = f (ledger ++ committed c first d.commit) (heard_out d.kept) in (committed c first d.commit ++ h.0, sym (append_assoc ledger (committed c first d.commit) h.0) ∙ h.1)
+grown_then c first ledger d WroteRow more f = let h = f (ledger ++ commit_entries c first d.commit) (heard_out d.kept) in (commit_entries c first d.commit ++ h.0, sym (append_assoc ledger (commit_entries c first d.commit) h.0) ∙ h.1)
+grown_then c first ledger d (Wrote x) more f = let h = f (ledger ++ commit_entries c first d.commit) (heard_out d.kept) in (commit_entries c first d.commit ++ h.0, sym (append_assoc ledger (commit_entries c first d.commit) h.0) ∙ h.1)
 
 pub steps_grow : (S : Setting) (c n : ℕ) (ledger : List EntryView) (k : Kept) → Grown ledger (steps S c n ledger k)
 steps_grow S c zero ledger k = ([], append-nil ledger)

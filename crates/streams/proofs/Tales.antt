@@ -7,7 +7,7 @@ use Rattle.wire.specs.declared.Wish.{Wish}
 use Rattle.wire.specs.Framing.{Item, Opened, at_client}
 use Rattle.wire.specs.Reader.{outputs, state, takes}
 use Rattle.wire.proofs.Readers.{outputs-append, state-append, takes_outputs}
-use Rattle.messages.specs.View.{Ask, Say}
+use Rattle.messages.specs.View.{RequestView, ResponseView}
 use Rattle.messages.specs.Arrivals.{Heard as AnyHeard}
 use Rattle.machine.specs.declared.Phase.{Phase}
 use Rattle.machine.specs.declared.Verdict.{Verdict}
@@ -15,11 +15,11 @@ use Rattle.machine.specs.Asks.{kind_of, in_part}
 use Rattle.client.specs.declared.Heard.{Heard}
 use Rattle.client.specs.declared.ClientFault.{ClientFault}
 use Rattle.client.specs.declared.ClientFault.TheVariants as client_fault
-use Rattle.client.specs.Client.{is_wished, verdict_of, accepted, resets}
-use Rattle.client.specs.Rest.{Knows, Hearing, spoiled, hears_version, hears_row, hears_as, hears_verdict, hears_summary, hears_response, hears_item, heard_as, Note, Nothing, note_of, Rest, Fed, fed, fed_item, fed_open}
-use Rattle.client.specs.Notes.{note, noted}
+use Rattle.client.specs.Client.{is_wished, verdict_of, phase_accepted, resets}
+use Rattle.client.specs.Rest.{Knows, Hearing, after_bad_answer, hears_version, hears_row, hears_as, hears_verdict, hears_summary, hears_response, hears_item, heard_as, Note, Nothing, note_of, Rest, Fed, feed_of, fed_item, fed_open}
+use Rattle.client.specs.Notes.{note, note_result}
 use Rattle.client.specs.Fits.{UnlessMemory}
-use Rattle.streams.specs.Asking.{told_by, told_of, Tale, after_notes, tale_of, hears_all, after_all, has_ended, FeedsPiece, PartFed}
+use Rattle.streams.specs.Asking.{notes_by, notes_of, Tale, after_notes, tale_of, hears_all, after_all, has_ended, FeedsPiece, PartFed}
 
 -- nothing is heard after the end
 over_tale : (wish : Wish) (k : Knows) (xs : List Item) → k.over ≡ true → tale_of wish k xs ≡ record { knows = k; notes = [] }
@@ -40,7 +40,7 @@ tale-append wish k (x ∷ xs) ys = go k.over refl (tale-append wish (hears_item 
     h = hears_item wish k (heard_as k.version x)
 
     notes : List Note
-    notes = told_of (heard_as k.version x) h
+    notes = notes_of (heard_as k.version x) h
 
     first : Bool → List Item → Tale
     first b zs = if b then record { knows = k; notes = [] } else after_notes notes (tale_of wish h.knows zs)
@@ -69,18 +69,18 @@ module _ (wish : Wish) (k : Knows) where
   version_spoils : (o w : Option Version) → Spoils (hears_version wish k w o)
   version_spoils (Some v) None h = pick (is_wished wish v) h
     where
-      pick : (b : Bool) → Spoils (if b then record { knows = record k { version = Some v }; bad = false; tells = None } else spoiled k)
+      pick : (b : Bool) → Spoils (if b then record { knows = record k { version = Some v }; bad = false; tells = None } else after_bad_answer k)
       pick true h = absurd (true≢false (sym h))
       pick false h = refl
   version_spoils None None h = refl
   version_spoils o (Some w) h = refl
 
-  row_spoils : (cells : List Tree) (ws : List Ask) → Spoils (hears_row k cells ws)
+  row_spoils : (cells : List Tree) (ws : List RequestView) → Spoils (hears_row k cells ws)
   row_spoils cells [] h = refl
-  row_spoils cells (Ask.Pull n ∷ ws) h = absurd (true≢false (sym h))
+  row_spoils cells (RequestView.Pull n ∷ ws) h = absurd (true≢false (sym h))
   row_spoils cells (q ∷ ws) h = refl
 
-  summary_spoils : (a : Say) (v : Option Version) (ws : List Ask) → Spoils (hears_summary k a v ws)
+  summary_spoils : (a : ResponseView) (v : Option Version) (ws : List RequestView) → Spoils (hears_summary k a v ws)
   summary_spoils a None ws h = refl
   summary_spoils a (Some v) [] h = refl
   summary_spoils a (Some v) (q ∷ later) h = go (verdict_of (in_part q) a) h
@@ -91,13 +91,13 @@ module _ (wish : Wish) (k : Knows) where
 
       go : (o : Option Verdict) → Spoils (hears_verdict k later v (kind_of q) a o)
       go None h = refl
-      go (Some d) h = by_phase d (accepted v k.phase (kind_of q) (resets later) d) h
+      go (Some d) h = by_phase d (phase_accepted v k.phase (kind_of q) (resets later) d) h
 
-  response_spoils : (a : Say) → Spoils (hears_response k a)
-  response_spoils (Say.Record cells) h = row_spoils cells k.waiting h
-  response_spoils (Say.Success metadata) h = summary_spoils (Say.Success metadata) k.version k.waiting h
-  response_spoils Say.Ignored h = summary_spoils Say.Ignored k.version k.waiting h
-  response_spoils (Say.Failure code message) h = summary_spoils (Say.Failure code message) k.version k.waiting h
+  response_spoils : (a : ResponseView) → Spoils (hears_response k a)
+  response_spoils (ResponseView.Record cells) h = row_spoils cells k.waiting h
+  response_spoils (ResponseView.Success metadata) h = summary_spoils (ResponseView.Success metadata) k.version k.waiting h
+  response_spoils ResponseView.Ignored h = summary_spoils ResponseView.Ignored k.version k.waiting h
+  response_spoils (ResponseView.Failure code message) h = summary_spoils (ResponseView.Failure code message) k.version k.waiting h
 
   item_spoils : (x : AnyHeard) → Spoils (hears_item wish k x)
   item_spoils (AnyHeard.Chosen o) h = version_spoils o k.version h
@@ -109,7 +109,7 @@ module _ (wish : Wish) (k : Knows) where
 
 -- what an answer to a feed says of the rest that the client stood at
 abbrev pub AfterFeed : Rest → List ℕ → Result (ℕ × Heard) ClientFault → (Rest → Type 0) → Type 0
-AfterFeed s piece (Ok t) Now = Now (after_all s (take t.0 piece)) × ((hears_all s (take t.0 piece)).notes ≡ told_by (note t.1))
+AfterFeed s piece (Ok t) Now = Now (after_all s (take t.0 piece)) × ((hears_all s (take t.0 piece)).notes ≡ notes_by (note t.1))
 AfterFeed s piece (Err client_fault.Closed) Now = Now s × (s.knows.over ≡ true)
 AfterFeed s piece (Err client_fault.BadPeer) Now =
     (n : ℕ) × Now (after_all s (take n piece)) × ((hears_all s (take n piece)).notes ≡ []) × ((hears_all s (take n piece)).knows.over ≡ true)
@@ -146,20 +146,20 @@ module _ (s : Rest) (piece : List ℕ) (Now : Rest → Type 0) where
       at : Knows → Opened → Rest
       at k i = record s { knows = k; item = i }
 
-  ok_after : (t : Tale) → hears_all s front ≡ t → (told : ℕ × Heard) → told.0 ≡ used → t.notes ≡ told_by (note told.1) → Now (stands t) → AfterFeed s piece (Ok told) Now
+  ok_after : (t : Tale) → hears_all s front ≡ t → (told : ℕ × Heard) → told.0 ≡ used → t.notes ≡ notes_by (note told.1) → Now (stands t) → AfterFeed s piece (Ok told) Now
   ok_after t e told u n now =
-      subst (λ k. Now (after_all s (take k piece)) × ((hears_all s (take k piece)).notes ≡ told_by (note told.1))) (sym u) (subst Now (sym (stands_is t e)) now, ap (λ z. z.notes) e ∙ n)
+      subst (λ k. Now (after_all s (take k piece)) × ((hears_all s (take k piece)).notes ≡ notes_by (note told.1))) (sym u) (subst Now (sym (stands_is t e)) now, ap (λ z. z.notes) e ∙ n)
 
   bad_after : (t : Tale) → hears_all s front ≡ t → t.notes ≡ [] → t.knows.over ≡ true → Now (stands t) → AfterFeed s piece (Err client_fault.BadPeer) Now
   bad_after t e n over now = (used, subst Now (sym (stands_is t e)) now, ap (λ z. z.notes) e ∙ n, ap (λ z. z.knows.over) e ∙ over)
 
   abbrev After : Fed → Result (ℕ × Heard) ClientFault → Type 0
-  After f result = UnlessMemory result ((noted result ≡ f.answer) × Now f.rest)
+  After f result = UnlessMemory result ((note_result result ≡ f.answer) × Now f.rest)
 
   -- nothing ended
   none_after : (result : Result (ℕ × Heard) ClientFault) → (takes at_client s.item piece).item ≡ None → After (fed_item (record s { item = kept }) used None) result → AfterFeed s piece result Now
   none_after (Ok told) e h =
-      ok_after (record { knows = s.knows; notes = [] }) (told_is None e) told (ap used_in h.0) (sym (ap (λ z. told_by (note_in Nothing z)) h.0)) h.1
+      ok_after (record { knows = s.knows; notes = [] }) (told_is None e) told (ap used_in h.0) (sym (ap (λ z. notes_by (note_in Nothing z)) h.0)) h.1
   none_after (Err client_fault.Closed) e h = absurd cc
   none_after (Err client_fault.BadPeer) e h = absurd cc
   none_after (Err client_fault.Memory) e h = tt
@@ -173,12 +173,12 @@ module _ (s : Rest) (piece : List ℕ) (Now : Rest → Type 0) where
     h = hears_item s.wish s.knows y
 
     abbrev tale_by : Bool → Tale
-    tale_by b = record { knows = h.knows; notes = (if b then [] else told_by (note_of y h)) ++ [] }
+    tale_by b = record { knows = h.knows; notes = (if b then [] else notes_by (note_of y h)) ++ [] }
 
     told_as : (b : Bool) → h.bad ≡ b → hears_all s front ≡ tale_by b
     told_as b bad = told_is (Some x) e ∙ open_tale s.knows.over goes ∙ ap tale_by bad
       where
-        open_tale : (c : Bool) → c ≡ false → (if c then record { knows = s.knows; notes = [] } else after_notes (told_of y h) (record { knows = h.knows; notes = [] })) ≡ tale_by h.bad
+        open_tale : (c : Bool) → c ≡ false → (if c then record { knows = s.knows; notes = [] } else after_notes (notes_of y h) (record { knows = h.knows; notes = [] })) ≡ tale_by h.bad
         open_tale true n = absurd (true≢false n)
         open_tale false n = refl
 
@@ -187,7 +187,7 @@ module _ (s : Rest) (piece : List ℕ) (Now : Rest → Type 0) where
 
     by_bad : (b : Bool) → h.bad ≡ b → (result : Result (ℕ × Heard) ClientFault) → After (fed_by b) result → AfterFeed s piece result Now
     by_bad true bad (Ok told) k = absurd cc
-    by_bad false bad (Ok told) k = ok_after (tale_by false) (told_as false bad) told (ap used_in k.0) (append-nil _ ∙ sym (ap (λ z. told_by (note_in Nothing z)) k.0)) k.1
+    by_bad false bad (Ok told) k = ok_after (tale_by false) (told_as false bad) told (ap used_in k.0) (append-nil _ ∙ sym (ap (λ z. notes_by (note_in Nothing z)) k.0)) k.1
     by_bad true bad (Err client_fault.Closed) k = absurd cc
     by_bad false bad (Err client_fault.Closed) k = absurd cc
     by_bad true bad (Err client_fault.BadPeer) k = bad_after (tale_by true) (told_as true bad) refl (item_spoils s.wish s.knows y bad) k.1
@@ -201,7 +201,7 @@ module _ (s : Rest) (piece : List ℕ) (Now : Rest → Type 0) where
       go None e k = none_after result e k
       go (Some x) e k = by_bad x e goes (hears_item s.wish s.knows (heard_as s.knows.version x)).bad refl result k
 
-  pub after_feed : (result : Result (ℕ × Heard) ClientFault) → After (fed s piece) result → AfterFeed s piece result Now
+  pub after_feed : (result : Result (ℕ × Heard) ClientFault) → After (feed_of s piece) result → AfterFeed s piece result Now
   after_feed result h = go s.knows.over refl h
     where
       closed : (o : Result (ℕ × Heard) ClientFault) → s.knows.over ≡ true → After (record { rest = s; answer = Err client_fault.Closed }) o → AfterFeed s piece o Now
@@ -230,11 +230,11 @@ module _ (r : Rest) (piece rest : List ℕ) (before mid : List Note) (Was Now : 
   more_parts : (n : ℕ) → piece ≡ (part.fed ++ take n rest) ++ drop n rest
   more_parts n = part.parts ∙ ap (λ l. part.fed ++ l) (sym (take-append-drop n rest)) ∙ sym (append_assoc part.fed (take n rest) (drop n rest))
 
-  pub part_goes_on : (told : ℕ × Heard) (later : List ℕ) (after : List Note) → AfterFeed (after_all r part.fed) rest (Ok told) Now → later ≡ drop told.0 rest → after ≡ mid ++ told_by (note told.1) → PartFed r piece later before after Now
+  pub part_goes_on : (told : ℕ × Heard) (later : List ℕ) (after : List Note) → AfterFeed (after_all r part.fed) rest (Ok told) Now → later ≡ drop told.0 rest → after ≡ mid ++ notes_by (note told.1) → PartFed r piece later before after Now
   part_goes_on told later after h l e = record {
     fed = part.fed ++ take told.0 rest;
     parts = more_parts told.0 ∙ ap (λ z. (part.fed ++ take told.0 rest) ++ z) (sym l);
-    told = more_told (take told.0 rest) (told_by (note told.1)) after h.1 e;
+    told = more_told (take told.0 rest) (notes_by (note told.1)) after h.1 e;
     now = more_now (take told.0 rest) h.0;
   }
 

@@ -4,15 +4,15 @@ use Rattle.std.specs.Prelude.{IsSome, is_some, ◌||◌}
 use Rattle.std.specs.Io.KnownBytes.{Appends}
 use Rattle.std.proofs.KnownBytes.{Appends-trans}
 use Rattle.wire.specs.Reader.{Took, state, outputs, takes}
-use Rattle.wire.specs.Framing.{Item, Opened, at_server, received}
+use Rattle.wire.specs.Framing.{Item, Opened, at_server, items_received}
 use Rattle.wire.proofs.Readers.{outputs-append, state-append, takes_outputs}
 use Rattle.server.specs.declared.kinds.Cause.{Cause}
 use Rattle.server.specs.Session.{Setting}
-use Rattle.server.specs.Rest.{Kept, begun, fed, arrival, shut, unread_among}
+use Rattle.server.specs.Rest.{Kept, begun, after_item, arrival, shut, unread_among}
 use Rattle.server.specs.Serving.{Rest}
 use Rattle.streams.specs.declared.fault.Standing.{Standing}
 use Rattle.streams.specs.declared.fault.StreamFault.{StreamFault}
-use Rattle.streams.specs.Conversing.{Talk, after_bytes, settled, talk_then, with_talk}
+use Rattle.streams.specs.Conversing.{Talk, after_bytes, talk_of_due, talk_then, with_talk}
 use Rattle.streams.specs.Settling.{IsPlaced, standing_of, item_talk, Breaks, Settles, Feeds, told_by, TakesOne}
 use Rattle.streams.proofs.Stepping.{Rested}
 use Rattle.streams.proofs.Telling.{item_talk-append, item_talk_rests, item_talk_grows, item_talk_over, one_item, fed_placed}
@@ -26,7 +26,7 @@ module _ {G : Type 0} (r : Rest G) (conn : ℕ) (S : Setting) where
   kept_at up = state at_server at_server.start up
 
   pub told_rests : (up : List ℕ) → Rested (told up).kept
-  told_rests up = item_talk_rests S conn (received up) r.ledger begun (record { sent = refl; done = λ e. refl })
+  told_rests up = item_talk_rests S conn (items_received up) r.ledger begun (record { sent = refl; done = λ e. refl })
 
   -- a session that goes on isn't shut
   pub open_not_shut : (up : List ℕ) → (told up).kept.ended ≡ None → shut (told up).kept ≡ false
@@ -35,7 +35,7 @@ module _ {G : Type 0} (r : Rest G) (conn : ℕ) (S : Setting) where
   told_append : (up more : List ℕ) → told (up ++ more) ≡ talk_then (told up) (item_talk S conn (outputs at_server (kept_at up) more))
   told_append up more =
       ap (λ xs. item_talk S conn xs r.ledger begun) (outputs-append Opened Item at_server at_server.start up more)
-      ∙ item_talk-append S conn (received up) (outputs at_server (kept_at up) more) r.ledger begun
+      ∙ item_talk-append S conn (items_received up) (outputs at_server (kept_at up) more) r.ledger begun
 
   -- nothing more is said after an end
   pub told_over : (up more : List ℕ) → IsSome (told up).kept.ended → told (up ++ more) ≡ told up
@@ -57,10 +57,10 @@ module _ {G : Type 0} (r : Rest G) (conn : ℕ) (S : Setting) where
     t = takes at_server (kept_at up) piece
 
     abbrev next : Kept
-    next = fed (told up).kept (arrival (told up).kept t.item)
+    next = after_item (told up).kept (arrival (told up).kept t.item)
 
     abbrev then_said : Talk
-    then_said = settled S conn (told up).ledger next
+    then_said = talk_of_due S conn (told up).ledger next
 
     pub next_placed : IsPlaced next.waiting
     next_placed = fed_placed (told up).kept (arrival (told up).kept t.item) ((told_rests up).done goes_on)

@@ -4,8 +4,8 @@ use Rattle.wire.specs.Framing.{Opened}
 use Rattle.engine.specs.Views.{EntryView}
 use Rattle.server.specs.declared.kinds.Worked.{Worked}
 use Rattle.server.specs.Session.{Setting}
-use Rattle.server.specs.Rest.{Kept, Done, Idle, Full, WroteRow, Wrote, Ended, Step, told}
-use Rattle.server.specs.Serving.{Rest, committed}
+use Rattle.server.specs.Rest.{Kept, Done, Idle, Full, WroteRow, Wrote, Ended, Step, worked_of}
+use Rattle.server.specs.Serving.{Rest, commit_entries}
 use Rattle.streams.specs.declared.fault.Standing.{Standing}
 use Rattle.streams.specs.declared.fault.Standing.TheVariants.{Open, Over}
 use Rattle.std.specs.Io.KnownBytes.{Appends}
@@ -16,7 +16,7 @@ use Rattle.streams.specs.Conversing.{Talk, silent, steps, with_talk, heard_out}
 use Rattle.streams.specs.Settling.{outcome, standing_of, IsPlaced, due, WorkStep, Steps, Breaks}
 use Rattle.streams.proofs.Stepping.{StepKind, idle, over, puts, stepped, IsPut, after_step, steps_idle, steps_over, steps_put, steps_grow}
 
-pub outcome_put : (a : Done) → IsPut a → outcome (told a) ≡ None
+pub outcome_put : (a : Done) → IsPut a → outcome (worked_of a) ≡ None
 outcome_put WroteRow p = refl
 outcome_put (Wrote x) p = refl
 outcome_put Idle p = absurd p
@@ -25,29 +25,29 @@ outcome_put (Ended e) p = absurd p
 
 module _ {G : Type 0} (r : Rest G) (conn : ℕ) (u : Opened) (S : Setting) (Now : Rest G → Type 0) where
   abbrev After : List EntryView → Kept → Type 0
-  After ledger k = let d = after_step S conn ledger k in Now (with_talk r conn u (ledger ++ committed conn k.first d.commit) d.kept)
+  After ledger k = let d = after_step S conn ledger k in Now (with_talk r conn u (ledger ++ commit_entries conn k.first d.commit) d.kept)
 
-  by_kind : (n : ℕ) (ledger : List EntryView) (k : Kept) → due k ≤ n → After ledger k → StepKind k (after_step S conn ledger k) → WorkStep r conn u ledger k S n Now (Ok (outcome (told (after_step S conn ledger k).answer)))
+  by_kind : (n : ℕ) (ledger : List EntryView) (k : Kept) → due k ≤ n → After ledger k → StepKind k (after_step S conn ledger k) → WorkStep r conn u ledger k S n Now (Ok (outcome (worked_of (after_step S conn ledger k).answer)))
   by_kind n ledger k l h (idle e o w s) =
       let t : steps S conn n ledger k ≡ silent ledger k = steps_idle S conn n ledger k e in
-      let now : Now (with_talk r conn u (ledger ++ []) k) = subst (λ (d : Step). Now (with_talk r conn u (ledger ++ committed conn k.first d.commit) d.kept)) e h in
+      let now : Now (with_talk r conn u (ledger ++ []) k) = subst (λ (d : Step). Now (with_talk r conn u (ledger ++ commit_entries conn k.first d.commit) d.kept)) e h in
       let now2 : Now (with_talk r conn u ledger k) = subst (λ (x : List EntryView). Now (with_talk r conn u x k)) (append-nil ledger) now in
-      subst (λ (d : Step). WorkStep r conn u ledger k S n Now (Ok (outcome (told d.answer)))) (sym e)
+      subst (λ (d : Step). WorkStep r conn u ledger k S n Now (Ok (outcome (worked_of d.answer)))) (sym e)
       (subst (λ (t : Talk). Now (with_talk r conn u t.ledger t.kept) × (t.out ≡ []) × (Open ≡ standing_of t.kept.ended)) (sym t) (now2, refl, ap standing_of (sym o)))
   by_kind n ledger k l h (over c a o m s v f) =
       let d = after_step S conn ledger k in
       let t : steps S conn n ledger k ≡ silent ledger d.kept = steps_over S conn n ledger k c a f l in
-      let same : ledger ++ committed conn k.first d.commit ≡ ledger = ap (λ x. ledger ++ committed conn k.first x) m ∙ append-nil ledger in
+      let same : ledger ++ commit_entries conn k.first d.commit ≡ ledger = ap (λ x. ledger ++ commit_entries conn k.first x) m ∙ append-nil ledger in
       let now : Now (with_talk r conn u ledger d.kept) = subst (λ (x : List EntryView). Now (with_talk r conn u x d.kept)) same h in
-      subst (λ (x : Done). WorkStep r conn u ledger k S n Now (Ok (outcome (told x)))) (sym a)
+      subst (λ (x : Done). WorkStep r conn u ledger k S n Now (Ok (outcome (worked_of x)))) (sym a)
       (subst (λ (t : Talk). Now (with_talk r conn u t.ledger t.kept) × (t.out ≡ []) × (Over ≡ standing_of t.kept.ended)) (sym t) (now, refl, ap standing_of (sym o)))
   by_kind zero ledger k l h (puts i q f v) = absurd (omega arith)
   by_kind (suc m) ledger k l h (puts i q f v) =
       let d = after_step S conn ledger k in
       subst (λ (x : Option Standing). WorkStep r conn u ledger k S (suc m) Now (Ok x)) (sym (outcome_put d.answer i))
-      (m, ledger ++ committed conn k.first d.commit, d.kept, refl, steps_put S conn m ledger k d i, q, omega arith, h)
+      (m, ledger ++ commit_entries conn k.first d.commit, d.kept, refl, steps_put S conn m ledger k d i, q, omega arith, h)
 
-  pub worked_step : (n : ℕ) (ledger : List EntryView) (k : Kept) (w : Worked) → k.unsent ≡ [] → IsPlaced k.waiting → due k ≤ n → w ≡ told (after_step S conn ledger k).answer → After ledger k → WorkStep r conn u ledger k S n Now (Ok (outcome w))
+  pub worked_step : (n : ℕ) (ledger : List EntryView) (k : Kept) (w : Worked) → k.unsent ≡ [] → IsPlaced k.waiting → due k ≤ n → w ≡ worked_of (after_step S conn ledger k).answer → After ledger k → WorkStep r conn u ledger k S n Now (Ok (outcome w))
   worked_step n ledger k w s p l e h = subst (λ (x : Worked). WorkStep r conn u ledger k S n Now (Ok (outcome x))) (sym e) (by_kind n ledger k l h (stepped S conn ledger k s p))
 
 module _ {G : Type 0} (r : Rest G) (conn : ℕ) (u : Opened) (S : Setting) (n : ℕ) (ledger : List EntryView) (k : Kept) where

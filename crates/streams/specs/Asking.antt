@@ -8,43 +8,53 @@ use Rattle.messages.specs.Arrivals.{Heard}
 use Rattle.client.specs.declared.Outcome.{Outcome}
 use Rattle.client.specs.declared.ClientFault.{ClientFault}
 use Rattle.client.specs.declared.ClientFault.TheVariants as client_fault
-use Rattle.client.specs.Rest.{Knows, Hearing, Note, Nothing, Chose, Row, Summary, note_of, heard_as, hears_item, Rest, losses, dropped, taken_out, awaits}
+use Rattle.client.specs.Rest.{Knows, Hearing, Note, Nothing, Chose, Row, Summary, note_of, heard_as, hears_item, Rest, losses, after_drop, taken_out, awaits}
 use Rattle.streams.specs.declared.fault.StreamFault.{StreamFault}
 use Rattle.streams.specs.declared.fault.StreamFault.TheVariants as stream_fault
 use Rattle.streams.specs.Fronts.{AppendsFront}
 
 -- what is kept of a note: a no-op tells nothing
-abbrev pub told_by : Note → List Note
-told_by Nothing = []
-told_by (Chose o) = Chose o ∷ []
-told_by (Row cells) = Row cells ∷ []
-told_by (Summary ordinal phase outcome response) = Summary ordinal phase outcome response ∷ []
+abbrev pub notes_by : Note → List Note
+notes_by Nothing = []
+notes_by (Chose o) = Chose o ∷ []
+notes_by (Row cells) = Row cells ∷ []
+notes_by (Summary ordinal phase outcome response) = Summary ordinal phase outcome response ∷ []
 
 -- what is told of an item, and nothing of a bad one
-abbrev pub told_of : Heard → Hearing → List Note
-told_of x h = if h.bad then [] else told_by (note_of x h)
+abbrev pub notes_of : Heard → Hearing → List Note
+notes_of x h = if h.bad then [] else notes_by (note_of x h)
 
 -- what a client knows after whole items, and what it told of them
 pub record Tale : Type 0 where
   pub knows : Knows
   pub notes : List Note
 
+-- a tale with notes that were told before it
 abbrev pub after_notes : List Note → Tale → Tale
 after_notes notes t = record { knows = t.knows; notes = notes ++ t.notes }
 
+-- what a client knows after items, read up to the client's end, and what it told of them
 abbrev pub tale_of : Wish → Knows → List Item → Tale
 tale_of wish k [] = record { knows = k; notes = [] }
-tale_of wish k (x ∷ xs) = if k.over then record { knows = k; notes = [] } else after_notes (told_of (heard_as k.version x) (hears_item wish k (heard_as k.version x))) (tale_of wish (hears_item wish k (heard_as k.version x)).knows xs)
+tale_of wish k (x ∷ xs) =
+    if k.over then record { knows = k; notes = [] }
+    else after_notes (notes_of (heard_as k.version x) (hears_item wish k (heard_as k.version x)))
+    (tale_of wish (hears_item wish k (heard_as k.version x)).knows xs)
 
 -- the same of bytes, and where the client stands after them
 abbrev pub hears_all : Rest → List ℕ → Tale
 hears_all r bytes = tale_of r.wish r.knows (outputs at_client r.item bytes)
 
+-- the client's rest after bytes: what it knows then, and its unfinished item
 abbrev pub after_all : Rest → List ℕ → Rest
-after_all r bytes = record r { knows = (hears_all r bytes).knows; item = state at_client r.item bytes }
+after_all r bytes = record r {
+  knows = (hears_all r bytes).knows;
+  item = state at_client r.item bytes;
+}
 
 -- A piece is fed whole, or up to the client's end; at want of memory some of it was.
-pub record FeedsPiece (r : Rest) (piece : List ℕ) (before after : List Note) (whole : Bool) (Now : Rest → Type 0) : Type 0 where
+pub record FeedsPiece (r : Rest) (piece : List ℕ) (before after : List Note) (whole : Bool)
+    (Now : Rest → Type 0) : Type 0 where
   pub fed : List ℕ
   pub unheard : List ℕ
   pub parts : piece ≡ fed ++ unheard
@@ -53,12 +63,19 @@ pub record FeedsPiece (r : Rest) (piece : List ℕ) (before after : List Note) (
   pub ends : whole ≡ true → (unheard ≡ []) ⊎ ((hears_all r fed).knows.over ≡ true)
 
 -- A piece was read, and fed whole or up to the client's end; or the input has ended; or a fault came.
-abbrev pub HearsPiece : Rest → Option (List ℕ) → Option (List ℕ) → List Note → List Note → (Rest → Type 0) → Result Bool StreamFault → Type 0
-HearsPiece r left left_now before after Now (Ok true) = (piece : List ℕ) × Consumes left left_now piece × (length piece ≤ 4096) × FeedsPiece r piece before after true Now
-HearsPiece r left left_now before after Now (Ok false) = Consumes left left_now [] × IsAtEnd left_now × (after ≡ before) × Now r
-HearsPiece r left left_now before after Now (Err stream_fault.ReadFailed) = Keeps left left_now × (after ≡ before) × Now r
+abbrev pub HearsPiece : Rest → Option (List ℕ) → Option (List ℕ) → List Note → List Note
+    → (Rest → Type 0) → Result Bool StreamFault → Type 0
+HearsPiece r left left_now before after Now (Ok true) =
+    (piece : List ℕ) × Consumes left left_now piece × (length piece ≤ 4096)
+    × FeedsPiece r piece before after true Now
+HearsPiece r left left_now before after Now (Ok false) =
+    Consumes left left_now [] × IsAtEnd left_now × (after ≡ before) × Now r
+HearsPiece r left left_now before after Now (Err stream_fault.ReadFailed) =
+    Keeps left left_now × (after ≡ before) × Now r
 HearsPiece r left left_now before after Now (Err stream_fault.WriteFailed) = ⊥
-HearsPiece r left left_now before after Now (Err stream_fault.Memory) = (piece : List ℕ) × Consumes left left_now piece × (length piece ≤ 4096) × FeedsPiece r piece before after false Now
+HearsPiece r left left_now before after Now (Err stream_fault.Memory) =
+    (piece : List ℕ) × Consumes left left_now piece × (length piece ≤ 4096)
+    × FeedsPiece r piece before after false Now
 
 -- a client that refuses bytes has ended, unless it wanted memory
 abbrev pub has_ended : ClientFault → Bool
@@ -68,10 +85,13 @@ has_ended client_fault.Memory = false
 
 -- Bytes are read only as long as an answer is still to come: it was before the last piece.
 abbrev pub IsNeeded : Rest → List ℕ → Type 0
-IsNeeded r bytes = (bytes ≡ []) ⊎ ((before : List ℕ) × (last : List ℕ) × (bytes ≡ before ++ last) × (length last ≤ 4096) × (awaits (hears_all r before).knows ≡ true))
+IsNeeded r bytes = (bytes ≡ [])
+    ⊎ ((before : List ℕ) × (last : List ℕ) × (bytes ≡ before ++ last) × (length last ≤ 4096)
+    × (awaits (hears_all r before).knows ≡ true))
 
 -- Bytes were read, and fed but for those after the client's end.
-pub record ReadsOn (r : Rest) (left left_now : Option (List ℕ)) (before after : List Note) (Now : Rest → Type 0) : Type 0 where
+pub record ReadsOn (r : Rest) (left left_now : Option (List ℕ)) (before after : List Note)
+    (Now : Rest → Type 0) : Type 0 where
   pub fed : List ℕ
   pub unheard : List ℕ
   pub input : Consumes left left_now (fed ++ unheard)
@@ -81,30 +101,37 @@ pub record ReadsOn (r : Rest) (left left_now : Option (List ℕ)) (before after 
   pub whole : (unheard ≡ []) ⊎ ((hears_all r fed).knows.over ≡ true)
 
 -- The same to the end of the input or of what is waited for, or to a fault; where memory ran out, some of the last piece wasn't fed.
-pub record ReadsAll (r : Rest) (left left_now : Option (List ℕ)) (before after : List Note) (Now : Rest → Type 0) (fault : Option StreamFault) : Type 0 where
+pub record ReadsAll (r : Rest) (left left_now : Option (List ℕ)) (before after : List Note)
+    (Now : Rest → Type 0) (fault : Option StreamFault) : Type 0 where
   pub fed : List ℕ
   pub unheard : List ℕ
   pub input : Consumes left left_now (fed ++ unheard)
   pub told : after ≡ before ++ (hears_all r fed).notes
   pub now : Now (after_all r fed)
   pub needed : IsNeeded r (fed ++ unheard)
-  pub whole : (fault ≡ Some stream_fault.Memory → ⊥) → (unheard ≡ []) ⊎ ((hears_all r fed).knows.over ≡ true)
+  pub whole : (fault ≡ Some stream_fault.Memory → ⊥)
+      → (unheard ≡ []) ⊎ ((hears_all r fed).knows.over ≡ true)
   pub ends : fault ≡ None → IsAtEnd left_now ⊎ (awaits (hears_all r fed).knows ≡ false)
 
 -- What was written of the output, of which n bytes were taken out: all of it, or a beginning where the sink failed or memory ran out.
 abbrev pub Writes : List ℕ → ℕ → Option StreamFault → Option (List ℕ) → Option (List ℕ) → Type 0
 Writes out n None before after = Appends before after out × (drop n out ≡ [])
-Writes out n (Some stream_fault.ReadFailed) before after = Appends before after out × (drop n out ≡ [])
-Writes out n (Some stream_fault.WriteFailed) before after = AppendsFront before after out × (drop n out ≡ [])
+Writes out n (Some stream_fault.ReadFailed) before after =
+    Appends before after out × (drop n out ≡ [])
+Writes out n (Some stream_fault.WriteFailed) before after =
+    AppendsFront before after out × (drop n out ≡ [])
 Writes out n (Some stream_fault.Memory) before after = AppendsFront before after out
 
 -- the client's output was taken out, and written
-abbrev pub PutsOut : Rest → Option (List ℕ) → Option (List ℕ) → (Rest → Type 0) → Option StreamFault → Type 0
-PutsOut r before after Now fault = (n : ℕ) × Writes r.unsent n fault before after × Now (taken_out r n)
+abbrev pub PutsOut : Rest → Option (List ℕ) → Option (List ℕ) → (Rest → Type 0) → Option StreamFault
+    → Type 0
+PutsOut r before after Now fault =
+    (n : ℕ) × Writes r.unsent n fault before after × Now (taken_out r n)
 
 -- What a client that stood at a rest wrote, and what it made of the bytes that were read. All of these were fed, but for those after
 -- the client's end and, where memory ran out, the last of them; without a fault they are all of the input, or no answer is still to come.
-pub record Asks (r : Rest) (left left_now written written_now : Option (List ℕ)) (before after : List Note) (Now : Rest → Type 0) (fault : Option StreamFault) : Type 0 where
+pub record Asks (r : Rest) (left left_now written written_now : Option (List ℕ))
+    (before after : List Note) (Now : Rest → Type 0) (fault : Option StreamFault) : Type 0 where
   pub out : ℕ
   pub fed : List ℕ
   pub unheard : List ℕ
@@ -113,7 +140,8 @@ pub record Asks (r : Rest) (left left_now written written_now : Option (List ℕ
   pub told : after ≡ before ++ (hears_all r fed).notes
   pub now : Now (after_all (taken_out r out) fed)
   pub needed : IsNeeded r (fed ++ unheard)
-  pub whole : (fault ≡ Some stream_fault.Memory → ⊥) → (unheard ≡ []) ⊎ ((hears_all r fed).knows.over ≡ true)
+  pub whole : (fault ≡ Some stream_fault.Memory → ⊥)
+      → (unheard ≡ []) ⊎ ((hears_all r fed).knows.over ≡ true)
   pub ends : fault ≡ None → IsAtEnd left_now ⊎ (awaits (hears_all r fed).knows ≡ false)
 
 -- no answer is still to come, and nothing waits that has none
@@ -122,8 +150,9 @@ all_answered k = not (awaits k) && length k.waiting == 0
 
 -- Unless all was answered, the client is lost.
 abbrev pub given_up : Rest → Rest
-given_up r = if all_answered r.knows then r else dropped r
+given_up r = if all_answered r.knows then r else after_drop r
 
+-- the outcomes of waiting requests where the client is given up; none where all was answered
 abbrev pub losses_then : Knows → List (ℕ × Outcome)
 losses_then k = if all_answered k then [] else losses k
 
@@ -132,7 +161,8 @@ abbrev pub GivesUp : (Rest → Type 0) → List (ℕ × Outcome) → Rest → Ty
 GivesUp Now lost r = Now (given_up r) × (lost ≡ losses_then r.knows)
 
 -- Some of a piece was fed, and the rest of it is still to be.
-pub record PartFed (r : Rest) (piece rest : List ℕ) (before after : List Note) (Now : Rest → Type 0) : Type 0 where
+pub record PartFed (r : Rest) (piece rest : List ℕ) (before after : List Note) (Now : Rest → Type 0)
+    : Type 0 where
   pub fed : List ℕ
   pub parts : piece ≡ fed ++ rest
   pub told : after ≡ before ++ (hears_all r fed).notes

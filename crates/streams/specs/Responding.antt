@@ -9,6 +9,7 @@ use Rattle.server.specs.Rest.{Kept}
 use Rattle.streams.specs.declared.responding.End.{End}
 use Rattle.streams.specs.declared.responding.End.TheVariants.{Live, Over}
 
+-- how a session stands: over by this cause, or live in this state where there is none
 abbrev pub end_by : Option Cause → State → End
 end_by None state = Live state
 end_by (Some cause) state = Over cause
@@ -18,5 +19,6 @@ abbrev pub end_of : Kept → End
 end_of k = end_by k.ended k.state
 
 -- what an engine answers and whom a gate lets in
-abbrev pub setting_of : (List EntryView → List WriteView → List ℕ → List ParameterView → QueryMode → Result AnswerView QueryFault) → (List ℕ → List ℕ → Bool) → Setting
+abbrev pub setting_of : (List EntryView → List WriteView → List ℕ → List ParameterView → QueryMode
+    → Result AnswerView QueryFault) → (List ℕ → List ℕ → Bool) → Setting
 setting_of run check = record { run = run; check = check }

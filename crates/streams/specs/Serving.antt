@@ -11,17 +11,21 @@ use Rattle.streams.specs.Fronts.{AppendsFront}
 use Rattle.streams.specs.Conversing.{Talk, with_talk, without_talk}
 use Rattle.streams.specs.Settling.{Breaks}
 
-module _ {G : Type 0} (r : Rest G) (conn : ℕ) (t : Talk) (Now : Rest G → Type 0) (old new : Option (List ℕ)) where
+module _ {G : Type 0} (r : Rest G) (conn : ℕ) (t : Talk) (Now : Rest G → Type 0)
+    (old new : Option (List ℕ)) where
   -- the sink took all of it, and the session is as it leaves it; or a fault came
   abbrev pub Converses : Result (Unit {0}) StreamFault → Type 0
-  Converses (Ok done) = (u : Opened) × Now (with_talk r conn u t.ledger t.kept) × Appends old new t.out
+  Converses (Ok done) = (u : Opened) × Now (with_talk r conn u t.ledger t.kept)
+      × Appends old new t.out
   Converses (Err fault) = Breaks r conn t Now old new
 
   -- The sink took all of it, the cause is that of its end, and the session lives no more; or a fault came: the sink took a beginning, and the
   -- ledger is one.
   abbrev pub Serves : Result Cause StreamFault → Type 0
-  Serves (Ok cause) = (cause ≡ cause_or t.kept.ended) × Now (without_talk r conn t.ledger) × Appends old new t.out
-  Serves (Err fault) = (ledger : List EntryView) × (more : List EntryView) × Now (without_talk r conn ledger) × (ledger ++ more ≡ t.ledger) × AppendsFront old new t.out
+  Serves (Ok cause) = (cause ≡ cause_or t.kept.ended) × Now (without_talk r conn t.ledger)
+      × Appends old new t.out
+  Serves (Err fault) = (ledger : List EntryView) × (more : List EntryView)
+      × Now (without_talk r conn ledger) × (ledger ++ more ≡ t.ledger) × AppendsFront old new t.out
 
 -- The session is given up: the others are as before, so is the next number, and the ledger has grown by some entries, or by none.
 abbrev pub LeavesOthers : {G : Type 0} → Rest G → ℕ → (Rest G → Type 0) → Type 0

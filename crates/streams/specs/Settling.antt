@@ -2,7 +2,7 @@
 use Rattle.std.specs.Prelude.{◌≡◌, ◌≤◌, ℕ, suc, length, Bool, true, List, [], ◌∷◌, ◌++◌, take, Option, Some, None, IsSome, Result, Ok, Err}
 use Rattle.std.specs.Io.KnownBytes.{Appends}
 use Rattle.wire.specs.Reader.{state, takes}
-use Rattle.wire.specs.Framing.{Item, Opened, at_server, received}
+use Rattle.wire.specs.Framing.{Item, Opened, at_server, items_received}
 use Rattle.messages.specs.Arrivals.{Arrival, Asked, Unread, TooLong}
 use Rattle.engine.specs.Views.{EntryView}
 use Rattle.server.specs.declared.kinds.Cause.{Cause}
@@ -10,7 +10,7 @@ use Rattle.server.specs.declared.server.Server.{Server}
 use Rattle.server.specs.declared.kinds.Worked.{Worked}
 use Rattle.server.specs.declared.kinds.Worked.TheVariants as worked
 use Rattle.server.specs.Session.{Setting}
-use Rattle.server.specs.Rest.{Kept, begun, fed, arrives, arrival, version_of}
+use Rattle.server.specs.Rest.{Kept, begun, after_item, arrives, arrival, version_of}
 use Rattle.server.specs.Serving.{Rest, find}
 use Rattle.server.specs.Views.{Fits}
 use Rattle.streams.specs.declared.fault.StreamFault.{StreamFault}
@@ -19,7 +19,7 @@ use Rattle.streams.specs.declared.taking.Taken.{Taken}
 use Rattle.streams.specs.declared.fault.Standing.{Standing}
 use Rattle.streams.specs.declared.fault.Standing.TheVariants.{Open, Over}
 use Rattle.streams.specs.Fronts.{AppendsFront}
-use Rattle.streams.specs.Conversing.{Talk, silent, after_bytes, heard_out, steps, steps_due, settled, unless_ended, talk_then, with_talk}
+use Rattle.streams.specs.Conversing.{Talk, silent, after_bytes, heard_out, steps, steps_due, talk_of_due, unless_ended, talk_then, with_talk}
 
 -- a stream is told to have failed only where it has
 abbrev pub IsDueTo : StreamFault → Bool → Bool → Type 0
@@ -31,6 +31,7 @@ IsDueTo Memory input output = Unit {0}
 abbrev pub IsLive : {E G : Type 0} → (E → List EntryView) → ℕ → Server E G → Type 0
 IsLive {G = G} entries conn s = (r : Rest G) × Fits entries s r × IsSome (find conn r.sessions)
 
+-- how a session stands: over where its end has a cause, and else open
 abbrev pub standing_of : Option Cause → Standing
 standing_of None = Open
 standing_of (Some cause) = Over
@@ -56,67 +57,95 @@ due k = steps_due k.waiting (length k.result.rows)
 -- the same conversation by the whole items of the bytes
 abbrev pub item_talk : Setting → ℕ → List Item → List EntryView → Kept → Talk
 item_talk S c [] ledger k = silent ledger k
-item_talk S c (x ∷ xs) ledger k = unless_ended k.ended (silent ledger k) (talk_then (settled S c ledger (fed k (Some (arrives (version_of k) x)))) (item_talk S c xs))
+item_talk S c (x ∷ xs) ledger k =
+    unless_ended k.ended (silent ledger k)
+    (talk_then (talk_of_due S c ledger (after_item k (Some (arrives (version_of k) x))))
+    (item_talk S c xs))
 
 module _ {G : Type 0} (r : Rest G) (conn : ℕ) where
   -- A fault came in the midst of it: the sink took a beginning, and the ledger is one.
   abbrev pub Breaks : Talk → (Rest G → Type 0) → Option (List ℕ) → Option (List ℕ) → Type 0
   Breaks t Now old new =
-      (u : Opened) × (k : Kept) × (ledger : List EntryView) × (more : List EntryView) × Now (with_talk r conn u ledger k) × (ledger ++ more ≡ t.ledger) × AppendsFront old new t.out
+      (u : Opened) × (k : Kept) × (ledger : List EntryView) × (more : List EntryView)
+      × Now (with_talk r conn u ledger k) × (ledger ++ more ≡ t.ledger)
+      × AppendsFront old new t.out
 
   -- The session stands somehow, the others as before, and the ledger has grown by some entries, or by none.
   abbrev pub Grows : (Rest G → Type 0) → Type 0
-  Grows Now = (u : Opened) × (k : Kept) × (more : List EntryView) × Now (with_talk r conn u (r.ledger ++ more) k)
+  Grows Now = (u : Opened) × (k : Kept) × (more : List EntryView)
+      × Now (with_talk r conn u (r.ledger ++ more) k)
 
   -- all of it went well, or a fault came
-  abbrev pub Settles : Opened → Talk → (Rest G → Type 0) → Option (List ℕ) → Option (List ℕ) → Result Standing StreamFault → Type 0
-  Settles u t Now old new (Ok standing) = Now (with_talk r conn u t.ledger t.kept) × Appends old new t.out × (standing ≡ standing_of t.kept.ended)
+  abbrev pub Settles : Opened → Talk → (Rest G → Type 0) → Option (List ℕ) → Option (List ℕ)
+      → Result Standing StreamFault → Type 0
+  Settles u t Now old new (Ok standing) =
+      Now (with_talk r conn u t.ledger t.kept) × Appends old new t.out
+      × (standing ≡ standing_of t.kept.ended)
   Settles u t Now old new (Err fault) = Breaks t Now old new
 
   -- One step of so many at most: nothing is due; or it puts something, and the others follow; or nothing was done.
-  abbrev pub WorkStep : Opened → List EntryView → Kept → Setting → ℕ → (Rest G → Type 0) → Result (Option Standing) StreamFault → Type 0
+  abbrev pub WorkStep : Opened → List EntryView → Kept → Setting → ℕ → (Rest G → Type 0)
+      → Result (Option Standing) StreamFault → Type 0
   WorkStep u ledger k S n Now (Ok (Some standing)) =
-      let t = steps S conn n ledger k in Now (with_talk r conn u t.ledger t.kept) × (t.out ≡ []) × (standing ≡ standing_of t.kept.ended)
+      let t = steps S conn n ledger k in Now (with_talk r conn u t.ledger t.kept) × (t.out ≡ [])
+      × (standing ≡ standing_of t.kept.ended)
   WorkStep u ledger k S n Now (Ok None) =
-      (m : ℕ) × (after : List EntryView) × (l : Kept) × (n ≡ suc m) × (steps S conn n ledger k ≡ after_bytes l.unsent (steps S conn m after (heard_out l)))
+      (m : ℕ) × (after : List EntryView) × (l : Kept) × (n ≡ suc m)
+      × (steps S conn n ledger k ≡ after_bytes l.unsent (steps S conn m after (heard_out l)))
       × IsPlaced l.waiting × (due l ≤ m) × Now (with_talk r conn u after l)
   WorkStep u ledger k S n Now (Err fault) = Now (with_talk r conn u ledger k)
 
   -- The same where what it put goes out: nothing is due; or it went out, and the others follow; or a fault came.
-  abbrev pub Steps : Opened → List EntryView → Kept → Setting → ℕ → (Rest G → Type 0) → Option (List ℕ) → Option (List ℕ) → Result (Option Standing) StreamFault → Type 0
-  Steps u ledger k S n Now old new (Ok (Some standing)) = Settles u (steps S conn n ledger k) Now old new (Ok standing)
+  abbrev pub Steps : Opened → List EntryView → Kept → Setting → ℕ → (Rest G → Type 0)
+      → Option (List ℕ) → Option (List ℕ) → Result (Option Standing) StreamFault → Type 0
+  Steps u ledger k S n Now old new (Ok (Some standing)) =
+      Settles u (steps S conn n ledger k) Now old new (Ok standing)
   Steps u ledger k S n Now old new (Ok None) =
-      (m : ℕ) × (after : List EntryView) × (l : Kept) × (out : List ℕ) × (n ≡ suc m) × (steps S conn n ledger k ≡ after_bytes out (steps S conn m after l))
-      × (l.unsent ≡ []) × IsPlaced l.waiting × (due l ≤ m) × Now (with_talk r conn u after l) × Appends old new out
+      (m : ℕ) × (after : List EntryView) × (l : Kept) × (out : List ℕ) × (n ≡ suc m)
+      × (steps S conn n ledger k ≡ after_bytes out (steps S conn m after l))
+      × (l.unsent ≡ []) × IsPlaced l.waiting × (due l ≤ m) × Now (with_talk r conn u after l)
+      × Appends old new out
   Steps u ledger k S n Now old new (Err fault) = Breaks (steps S conn n ledger k) Now old new
 
   -- An item at most was taken of a piece, which uses these of its bytes; or the session stands somehow.
-  abbrev pub Feeds : Opened → List EntryView → Kept → List ℕ → (Rest G → Type 0) → Result ℕ StreamFault → Type 0
-  Feeds u ledger k piece Now (Ok used) = let t = takes at_server u piece in (used ≡ t.used) × Now (with_talk r conn t.rest ledger (fed k (arrival k t.item)))
-  Feeds u ledger k piece Now (Err fault) = (v : Opened) × (l : Kept) × Now (with_talk r conn v ledger l)
+  abbrev pub Feeds : Opened → List EntryView → Kept → List ℕ → (Rest G → Type 0)
+      → Result ℕ StreamFault → Type 0
+  Feeds u ledger k piece Now (Ok used) = let t =
+      takes at_server u piece in (used ≡ t.used)
+      × Now (with_talk r conn t.rest ledger (after_item k (arrival k t.item)))
+  Feeds u ledger k piece Now (Err fault) =
+      (v : Opened) × (l : Kept) × Now (with_talk r conn v ledger l)
 
   module _ (S : Setting) where
     -- the conversation for these bytes of the client
     abbrev pub told_by : List ℕ → Talk
-    told_by up = item_talk S conn (received up) r.ledger begun
+    told_by up = item_talk S conn (items_received up) r.ledger begun
 
     -- the server and the sink are as it has them
     abbrev pub Stands : (Rest G → Type 0) → Option (List ℕ) → Option (List ℕ) → List ℕ → Type 0
-    Stands Now before new up = Now (with_talk r conn (state at_server at_server.start up) (told_by up).ledger (told_by up).kept) × Appends before new (told_by up).out
+    Stands Now before new up =
+        Now (with_talk r conn (state at_server at_server.start up) (told_by up).ledger
+        (told_by up).kept) × Appends before new (told_by up).out
 
     -- So many bytes of a piece were taken, to the end of an item; or a fault came.
-    abbrev pub TakesOne : (Rest G → Type 0) → Option (List ℕ) → Option (List ℕ) → List ℕ → List ℕ → Result Taken StreamFault → Type 0
+    abbrev pub TakesOne : (Rest G → Type 0) → Option (List ℕ) → Option (List ℕ) → List ℕ → List ℕ
+        → Result Taken StreamFault → Type 0
     TakesOne Now before new up piece (Ok taken) =
-        Stands Now before new (up ++ take taken.used piece) × (taken.standing ≡ standing_of (told_by (up ++ take taken.used piece)).kept.ended)
+        Stands Now before new (up ++ take taken.used piece)
+        × (taken.standing ≡ standing_of (told_by (up ++ take taken.used piece)).kept.ended)
     TakesOne Now before new up piece (Err fault) = Breaks (told_by (up ++ piece)) Now before new
 
     -- A piece was taken whole, or up to the end of the session; or a fault came.
-    abbrev pub TakesPiece : (Rest G → Type 0) → Option (List ℕ) → Option (List ℕ) → List ℕ → List ℕ → Result Standing StreamFault → Type 0
-    TakesPiece Now before new up piece (Ok Open) = Stands Now before new (up ++ piece) × ((told_by (up ++ piece)).kept.ended ≡ None)
+    abbrev pub TakesPiece : (Rest G → Type 0) → Option (List ℕ) → Option (List ℕ) → List ℕ → List ℕ
+        → Result Standing StreamFault → Type 0
+    TakesPiece Now before new up piece (Ok Open) =
+        Stands Now before new (up ++ piece) × ((told_by (up ++ piece)).kept.ended ≡ None)
     TakesPiece Now before new up piece (Ok Over) =
-        (front : List ℕ) × (rest : List ℕ) × (front ++ rest ≡ piece) × Stands Now before new (up ++ front) × IsSome (told_by (up ++ front)).kept.ended
+        (front : List ℕ) × (rest : List ℕ) × (front ++ rest ≡ piece)
+        × Stands Now before new (up ++ front) × IsSome (told_by (up ++ front)).kept.ended
     TakesPiece Now before new up piece (Err fault) = Breaks (told_by (up ++ piece)) Now before new
 
 -- From any rest in which it lived, the session lives on: the others are as before, and the ledger has at most grown.
 abbrev pub LivesOn : {G : Type 0} → ℕ → (Rest G → Type 0) → (Rest G → Type 0) → Type 0
-LivesOn {G = G} conn Old Now = (r : Rest G) → Old r → IsSome (find conn r.sessions) → Grows r conn Now
+LivesOn {G = G} conn Old Now = (r : Rest G) → Old r → IsSome (find conn r.sessions)
+    → Grows r conn Now

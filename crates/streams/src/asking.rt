@@ -5,7 +5,7 @@ ghost use Rattle.std.specs.Vec.{vec_len, vec_capacity};
 ghost use Rattle.client.specs.Rest.{Rest};
 ghost use Rattle.client.specs.Notes.{note};
 ghost use Rattle.client.specs.Fits.{Fits};
-ghost use Rattle.streams.specs.Asking.{told_by, has_ended, FeedsPiece, HearsPiece, ReadsAll, PutsOut, Asks, GivesUp};
+ghost use Rattle.streams.specs.Asking.{notes_by, has_ended, FeedsPiece, HearsPiece, ReadsAll, PutsOut, Asks, GivesUp};
 
 use crate::fault::StreamFault;
 use crate::traits::{Sink, Source};
@@ -30,7 +30,7 @@ pub struct Told {
 /// Keeps what was told. There is room for it.
 fn keep(heard: &mut Vec<Heard>, told: Heard)
     requires { vec_len heard.old < vec_capacity heard.old }
-    ensures { map note heard.new.items ≡ map note heard.old.items ++ told_by (note told) }
+    ensures { map note heard.new.items ≡ map note heard.old.items ++ notes_by (note told) }
 {
     match told {
         Heard::Nothing => {}
@@ -55,7 +55,9 @@ pub fn feed_piece(
     piece: &[u8],
     heard: &mut Vec<Heard>,
 ) -> Result<(), StreamFault>
-    ensures feeds { (r : Rest) → Fits client.old r → FeedsPiece r piece.now (map note heard.old.items) (map note heard.new.items) (is_ok result) (Fits client.new) }
+    ensures feeds { (r : Rest) → Fits client.old r
+        → FeedsPiece r piece.now (map note heard.old.items) (map note heard.new.items)
+        (is_ok result) (Fits client.new) }
     ensures fault { IfErr result (λ e. e ≡ StreamFault.Memory) }
 {
     let mut rest = piece;
@@ -82,7 +84,9 @@ pub fn hear_piece<I: Source>(
     source: &mut I,
     heard: &mut Vec<Heard>,
 ) -> Result<bool, StreamFault>
-    ensures hears { (r : Rest) → Fits client.old r → HearsPiece r (I.left source.old) (I.left source.new) (map note heard.old.items) (map note heard.new.items) (Fits client.new) result }
+    ensures hears { (r : Rest) → Fits client.old r
+        → HearsPiece r (I.left source.old) (I.left source.new) (map note heard.old.items)
+        (map note heard.new.items) (Fits client.new) result }
     ensures read { IsErrOf result StreamFault.ReadFailed → I.has_failed source.new ≡ true }
     ensures fault { IfErr result (λ e. e ≡ StreamFault.WriteFailed → ⊥) }
     ensures lowers { IfOk result (λ some. some ≡ true → I.reads source.new < I.reads source.old) }
@@ -106,7 +110,9 @@ fn read_on<I: Source>(
     source: &mut I,
     heard: &mut Vec<Heard>,
 ) -> Result<(), StreamFault>
-    ensures reads { (r : Rest) → Fits client.old r → ReadsAll r (I.left source.old) (I.left source.new) (map note heard.old.items) (map note heard.new.items) (Fits client.new) (result_err result) }
+    ensures reads { (r : Rest) → Fits client.old r
+        → ReadsAll r (I.left source.old) (I.left source.new) (map note heard.old.items)
+        (map note heard.new.items) (Fits client.new) (result_err result) }
     ensures read { IsErrOf result StreamFault.ReadFailed → I.has_failed source.new ≡ true }
     ensures fault { IfErr result (λ e. e ≡ StreamFault.WriteFailed → ⊥) }
 {
@@ -122,7 +128,8 @@ fn read_on<I: Source>(
 
 /// Writes all that the client puts out. I2, with a beginning of it written, or I3.
 pub fn write_out<O: Sink>(client: &mut Client, sink: &mut O) -> Result<(), StreamFault>
-    ensures out { (r : Rest) → Fits client.old r → PutsOut r (O.taken sink.old) (O.taken sink.new) (Fits client.new) (result_err result) }
+    ensures out { (r : Rest) → Fits client.old r
+        → PutsOut r (O.taken sink.old) (O.taken sink.new) (Fits client.new) (result_err result) }
     ensures written { IsErrOf result StreamFault.WriteFailed → O.has_failed sink.new ≡ true }
     ensures fault { IfErr result (λ e. e ≡ StreamFault.ReadFailed → ⊥) }
 {
@@ -155,7 +162,10 @@ fn converse<I: Source, O: Sink>(
     sink: &mut O,
     heard: &mut Vec<Heard>,
 ) -> Result<(), StreamFault>
-    ensures asks { (r : Rest) → Fits client.old r → Asks r (I.left source.old) (I.left source.new) (O.taken sink.old) (O.taken sink.new) (map note heard.old.items) (map note heard.new.items) (Fits client.new) (result_err result) }
+    ensures asks { (r : Rest) → Fits client.old r
+        → Asks r (I.left source.old) (I.left source.new) (O.taken sink.old) (O.taken sink.new)
+        (map note heard.old.items) (map note heard.new.items) (Fits client.new)
+        (result_err result) }
     ensures read { IsErrOf result StreamFault.ReadFailed → I.has_failed source.new ≡ true }
     ensures written { IsErrOf result StreamFault.WriteFailed → O.has_failed sink.new ≡ true }
 {
@@ -176,7 +186,9 @@ pub fn ask_all<I: Source, O: Sink>(
     source: &mut I,
     sink: &mut O,
 ) -> Told
-    ensures asks { (r : Rest) → Fits client.old r → Asks r (I.left source.old) (I.left source.new) (O.taken sink.old) (O.taken sink.new) [] (map note result.heard.items) (GivesUp (Fits client.new) result.losses) result.fault }
+    ensures asks { (r : Rest) → Fits client.old r
+        → Asks r (I.left source.old) (I.left source.new) (O.taken sink.old) (O.taken sink.new) []
+        (map note result.heard.items) (GivesUp (Fits client.new) result.losses) result.fault }
     ensures read { result.fault ≡ Some StreamFault.ReadFailed → I.has_failed source.new ≡ true }
     ensures written { result.fault ≡ Some StreamFault.WriteFailed → O.has_failed sink.new ≡ true }
 {

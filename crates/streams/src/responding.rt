@@ -35,8 +35,12 @@ pub fn respond<E: Engine + Drop, G: Gate + Drop>(
     gate: G,
     bytes: &[u8],
 ) -> Result<Responded, AllocError>
-    ensures out { IfOk result (λ a. a.out.items ≡ (conversation (setting_of E.answer (G.accepts gate)) 0 (E.entries engine) bytes.now).out) }
-    ensures last { IfOk result (λ a. a.last ≡ end_of (conversation (setting_of E.answer (G.accepts gate)) 0 (E.entries engine) bytes.now).kept) }
+    ensures out { IfOk result
+        (λ a. a.out.items ≡ (conversation (setting_of E.answer (G.accepts gate)) 0
+        (E.entries engine) bytes.now).out) }
+    ensures last { IfOk result
+        (λ a. a.last ≡ end_of (conversation (setting_of E.answer (G.accepts gate)) 0
+        (E.entries engine) bytes.now).kept) }
 {
     let mut server = Server::new(alloc, engine, gate);
     let Ok(conn) = server.open() else {
@@ -55,7 +59,8 @@ pub fn respond<E: Engine + Drop, G: Gate + Drop>(
 
 /// How a session stands.
 fn end_at<E: Engine, G: Gate>(server: &Server<E, G>, conn: u64) -> End
-    ensures { (r : Rest G) (s : Live) → Fits E.entries server.now r → find conn r.sessions ≡ Some s → result ≡ end_of s.kept }
+    ensures { (r : Rest G) (s : Live) → Fits E.entries server.now r → find conn r.sessions ≡ Some s
+        → result ≡ end_of s.kept }
 {
     match server.cause(conn) {
         Some(cause) => End::Over(cause),

@@ -31,12 +31,15 @@ pub fn serve_one<E: Engine, G: Gate, I: Source, O: Sink>(
     requires { IsLive E.entries conn server.old }
     // Of a fresh session, the sink takes what the conversation puts out for the bytes of the source, the ledger is as it leaves it, and the
     // cause is that of its end; at a fault the sink took a beginning, and the ledger is one. The session lives no more.
-    ensures serves { (r : Rest G) (bytes : List ℕ) → Fits E.entries server.old r → find conn r.sessions ≡ Some (fresh conn) → I.left source.old ≡ Some bytes
+    ensures serves { (r : Rest G) (bytes : List ℕ) → Fits E.entries server.old r
+        → find conn r.sessions ≡ Some (fresh conn) → I.left source.old ≡ Some bytes
         → Serves r conn (conversation (setting E.answer G.accepts r) conn r.ledger bytes) (Fits E.entries server.new) (O.taken sink.old) (O.taken sink.new) result }
     // Of any session that lived, known bytes or not: it lives no more, the others are as before, and the ledger has at most grown.
-    ensures leaves { (r : Rest G) → Fits E.entries server.old r → IsSome (find conn r.sessions) → LeavesOthers r conn (Fits E.entries server.new) }
+    ensures leaves { (r : Rest G) → Fits E.entries server.old r → IsSome (find conn r.sessions)
+        → LeavesOthers r conn (Fits E.entries server.new) }
     // A stream is told to have failed only where it has.
-    ensures failed { IfErr result (λ e. IsDueTo e (I.has_failed source.new) (O.has_failed sink.new)) }
+    ensures failed { IfErr result
+        (λ e. IsDueTo e (I.has_failed source.new) (O.has_failed sink.new)) }
 {
     let done = converse(alloc, server, conn, source, sink);
     let cause = server.lost(conn).unwrap_or(Cause::Lost);
@@ -57,9 +60,11 @@ pub fn converse<E: Engine, G: Gate, I: Source, O: Sink>(
     requires { IsLive E.entries conn server.old }
     ensures live { IsLive E.entries conn server.new }
     ensures grows { LivesOn conn (Fits E.entries server.old) (Fits E.entries server.new) }
-    ensures converses { (r : Rest G) (bytes : List ℕ) → Fits E.entries server.old r → find conn r.sessions ≡ Some (fresh conn) → I.left source.old ≡ Some bytes
+    ensures converses { (r : Rest G) (bytes : List ℕ) → Fits E.entries server.old r
+        → find conn r.sessions ≡ Some (fresh conn) → I.left source.old ≡ Some bytes
         → Converses r conn (conversation (setting E.answer G.accepts r) conn r.ledger bytes) (Fits E.entries server.new) (O.taken sink.old) (O.taken sink.new) result }
-    ensures failed { IfErr result (λ e. IsDueTo e (I.has_failed source.new) (O.has_failed sink.new)) }
+    ensures failed { IfErr result
+        (λ e. IsDueTo e (I.has_failed source.new) (O.has_failed sink.new)) }
 {
     let Ok(mut buffer) = vec![in alloc; 0; PIECE] else {
         return Err(StreamFault::Memory);
@@ -79,9 +84,11 @@ fn converse_by<E: Engine, G: Gate, I: Source, O: Sink>(
     requires room { 0 < length buffer.old }
     ensures live { IsLive E.entries conn server.new }
     ensures grows { LivesOn conn (Fits E.entries server.old) (Fits E.entries server.new) }
-    ensures converses { (r : Rest G) (bytes : List ℕ) → Fits E.entries server.old r → find conn r.sessions ≡ Some (fresh conn) → I.left source.old ≡ Some bytes
+    ensures converses { (r : Rest G) (bytes : List ℕ) → Fits E.entries server.old r
+        → find conn r.sessions ≡ Some (fresh conn) → I.left source.old ≡ Some bytes
         → Converses r conn (conversation (setting E.answer G.accepts r) conn r.ledger bytes) (Fits E.entries server.new) (O.taken sink.old) (O.taken sink.new) result }
-    ensures failed { IfErr result (λ e. IsDueTo e (I.has_failed source.new) (O.has_failed sink.new)) }
+    ensures failed { IfErr result
+        (λ e. IsDueTo e (I.has_failed source.new) (O.has_failed sink.new)) }
 {
     loop {
         let Ok(count) = source.read(buffer) else {

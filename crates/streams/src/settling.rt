@@ -5,7 +5,7 @@ ghost use Rattle.engine.specs.Views.{EntryView};
 ghost use Rattle.server.specs.Rest.{Kept};
 ghost use Rattle.server.specs.Serving.{Rest, find, setting};
 ghost use Rattle.server.specs.Views.{Fits};
-ghost use Rattle.streams.specs.Conversing.{settled, with_talk};
+ghost use Rattle.streams.specs.Conversing.{talk_of_due, with_talk};
 ghost use Rattle.streams.specs.Settling.{IsDueTo, IsLive, LivesOn, IsPlaced, Settles, Steps, WorkStep, due, outcome};
 ghost use Rattle.streams.specs.Putting.{Puts};
 
@@ -24,7 +24,8 @@ pub(crate) fn put_out<E: Engine, G: Gate, O: Sink>(
     requires { IsLive E.entries conn server.old }
     ensures live { IsLive E.entries conn server.new }
     ensures grows { LivesOn conn (Fits E.entries server.old) (Fits E.entries server.new) }
-    ensures puts { (r : Rest G) (u : Opened) (ledger : List EntryView) (k : Kept) → IsSome (find conn r.sessions) → Fits E.entries server.old (with_talk r conn u ledger k)
+    ensures puts { (r : Rest G) (u : Opened) (ledger : List EntryView) (k : Kept)
+        → IsSome (find conn r.sessions) → Fits E.entries server.old (with_talk r conn u ledger k)
         → Puts r conn u ledger k (Fits E.entries server.new) (O.taken sink.old) (O.taken sink.new) result }
     ensures failed { IfErr result (λ e. IsDueTo e false (O.has_failed sink.new)) }
 {
@@ -49,8 +50,10 @@ pub(crate) fn settle<E: Engine, G: Gate, O: Sink>(
     requires { IsLive E.entries conn server.old }
     ensures live { IsLive E.entries conn server.new }
     ensures grows { LivesOn conn (Fits E.entries server.old) (Fits E.entries server.new) }
-    ensures settles { (r : Rest G) (u : Opened) (ledger : List EntryView) (k : Kept) → IsSome (find conn r.sessions) → IsPlaced k.waiting → Fits E.entries server.old (with_talk r conn u ledger k)
-        → Settles r conn u (settled (setting E.answer G.accepts r) conn ledger k) (Fits E.entries server.new) (O.taken sink.old) (O.taken sink.new) result }
+    ensures settles { (r : Rest G) (u : Opened) (ledger : List EntryView) (k : Kept)
+        → IsSome (find conn r.sessions) → IsPlaced k.waiting
+        → Fits E.entries server.old (with_talk r conn u ledger k)
+        → Settles r conn u (talk_of_due (setting E.answer G.accepts r) conn ledger k) (Fits E.entries server.new) (O.taken sink.old) (O.taken sink.new) result }
     ensures failed { IfErr result (λ e. IsDueTo e false (O.has_failed sink.new)) }
 {
     match put_out(server, conn, sink) {
@@ -76,7 +79,9 @@ fn work_once<E: Engine, G: Gate, O: Sink>(
     requires { IsLive E.entries conn server.old }
     ensures live { IsLive E.entries conn server.new }
     ensures grows { LivesOn conn (Fits E.entries server.old) (Fits E.entries server.new) }
-    ensures steps { (r : Rest G) (u : Opened) (ledger : List EntryView) (k : Kept) (n : ℕ) → IsSome (find conn r.sessions) → k.unsent ≡ [] → IsPlaced k.waiting → due k ≤ n → Fits E.entries server.old (with_talk r conn u ledger k)
+    ensures steps { (r : Rest G) (u : Opened) (ledger : List EntryView) (k : Kept) (n : ℕ)
+        → IsSome (find conn r.sessions) → k.unsent ≡ [] → IsPlaced k.waiting → due k ≤ n
+        → Fits E.entries server.old (with_talk r conn u ledger k)
         → Steps r conn u ledger k (setting E.answer G.accepts r) n (Fits E.entries server.new) (O.taken sink.old) (O.taken sink.new) result }
     ensures failed { IfErr result (λ e. IsDueTo e false (O.has_failed sink.new)) }
 {
@@ -99,7 +104,9 @@ fn work_step<E: Engine, G: Gate>(
     requires { IsLive E.entries conn server.old }
     ensures live { IsLive E.entries conn server.new }
     ensures grows { LivesOn conn (Fits E.entries server.old) (Fits E.entries server.new) }
-    ensures works { (r : Rest G) (u : Opened) (ledger : List EntryView) (k : Kept) (n : ℕ) → IsSome (find conn r.sessions) → k.unsent ≡ [] → IsPlaced k.waiting → due k ≤ n → Fits E.entries server.old (with_talk r conn u ledger k)
+    ensures works { (r : Rest G) (u : Opened) (ledger : List EntryView) (k : Kept) (n : ℕ)
+        → IsSome (find conn r.sessions) → k.unsent ≡ [] → IsPlaced k.waiting → due k ≤ n
+        → Fits E.entries server.old (with_talk r conn u ledger k)
         → WorkStep r conn u ledger k (setting E.answer G.accepts r) n (Fits E.entries server.new) result }
     ensures memory { IfErr result (λ e. e ≡ StreamFault.Memory) }
 {

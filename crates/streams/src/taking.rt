@@ -31,7 +31,9 @@ pub fn take_piece<E: Engine, G: Gate, O: Sink>(
     requires { IsLive E.entries conn server.old }
     ensures live { IsLive E.entries conn server.new }
     ensures grows { LivesOn conn (Fits E.entries server.old) (Fits E.entries server.new) }
-    ensures takes { (r : Rest G) (before : Option (List ℕ)) (up : List ℕ) → IsSome (find conn r.sessions) → (told_by r conn (setting E.answer G.accepts r) up).kept.ended ≡ None
+    ensures takes { (r : Rest G) (before : Option (List ℕ)) (up : List ℕ)
+        → IsSome (find conn r.sessions)
+        → (told_by r conn (setting E.answer G.accepts r) up).kept.ended ≡ None
         → Stands r conn (setting E.answer G.accepts r) (Fits E.entries server.old) before (O.taken sink.old) up → TakesPiece r conn (setting E.answer G.accepts r) (Fits E.entries server.new) before (O.taken sink.new) up piece.now result }
     ensures failed { IfErr result (λ e. IsDueTo e false (O.has_failed sink.new)) }
 {
@@ -62,7 +64,9 @@ fn take_one<E: Engine, G: Gate, O: Sink>(
     ensures live { IsLive E.entries conn server.new }
     ensures grows { LivesOn conn (Fits E.entries server.old) (Fits E.entries server.new) }
     ensures bound { IfOk result (λ taken. (0 < taken.used) × (taken.used ≤ length piece.now)) }
-    ensures takes { (r : Rest G) (before : Option (List ℕ)) (up : List ℕ) → IsSome (find conn r.sessions) → (told_by r conn (setting E.answer G.accepts r) up).kept.ended ≡ None
+    ensures takes { (r : Rest G) (before : Option (List ℕ)) (up : List ℕ)
+        → IsSome (find conn r.sessions)
+        → (told_by r conn (setting E.answer G.accepts r) up).kept.ended ≡ None
         → Stands r conn (setting E.answer G.accepts r) (Fits E.entries server.old) before (O.taken sink.old) up → TakesOne r conn (setting E.answer G.accepts r) (Fits E.entries server.new) before (O.taken sink.new) up piece.now result }
     ensures failed { IfErr result (λ e. IsDueTo e false (O.has_failed sink.new)) }
 {
@@ -86,7 +90,9 @@ fn feed_one<E: Engine, G: Gate>(
     ensures live { IsLive E.entries conn server.new }
     ensures grows { LivesOn conn (Fits E.entries server.old) (Fits E.entries server.new) }
     ensures bound { IfOk result (λ used. (0 < used) × (used ≤ length piece.now)) }
-    ensures feeds { (r : Rest G) (u : Opened) (ledger : List EntryView) (k : Kept) → IsSome (find conn r.sessions) → shut k ≡ false → Fits E.entries server.old (with_talk r conn u ledger k)
+    ensures feeds { (r : Rest G) (u : Opened) (ledger : List EntryView) (k : Kept)
+        → IsSome (find conn r.sessions) → shut k ≡ false
+        → Fits E.entries server.old (with_talk r conn u ledger k)
         → Feeds r conn u ledger k piece.now (Fits E.entries server.new) result }
     ensures memory { IfErr result (λ e. e ≡ StreamFault.Memory) }
 {

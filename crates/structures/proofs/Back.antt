@@ -6,7 +6,7 @@ use Rattle.packstream.specs.Good.{count}
 use Rattle.wire.specs.declared.Version.{Version}
 use Rattle.wire.specs.declared.Version.TheVariants.{V44, V51}
 use Rattle.structures.specs.Table.{row_in, table}
-use Rattle.structures.specs.Faults.{dated, is_int, are_kinds, to_utc, fault, structures, structures_in, structures_under}
+use Rattle.structures.specs.Faults.{moment_fields, is_int, are_kinds, to_utc, fault, structures, structures_in, structures_under}
 use Rattle.structures.specs.Form.{typed, typed_all, typed_under, form, form_all, form_under, moment, to_local}
 use Rattle.structures.specs.Steps.{all_fine}
 use Rattle.structures.specs.Cells.{is_typed, are_typed, have_typed, is_row}
@@ -79,7 +79,7 @@ pub record Three (ts : Trees) : Type 0 where
 from_ints : (t u w : Tree) (x : (z : ℤ) × (t ≡ int z)) (y : (z : ℤ) × (u ≡ int z)) (z : (n : ℤ) × (w ≡ int n)) → Three (tree_then t (tree_then u (tree_then w no_trees)))
 from_ints t u w x y z = record { first = x.0; second = y.0; third = z.0; are = rw (x.1, y.1, z.1) refl }
 
-pub three_ints : (ts : Trees) → count ts ≡ 3 → are_kinds dated ts ≡ true → Three ts
+pub three_ints : (ts : Trees) → count ts ≡ 3 → are_kinds moment_fields ts ≡ true → Three ts
 three_ints no_trees n h = absurd cc
 three_ints (tree_then t no_trees) n h = absurd cc
 three_ints (tree_then t (tree_then u no_trees)) n h = absurd cc
@@ -87,13 +87,13 @@ three_ints (tree_then t (tree_then u (tree_then w no_trees))) n h =
     from_ints t u w (an_int t (and_left (is_int t) _ h)) (an_int u (and_left (is_int u) _ (and_right (is_int t) _ h))) (an_int w (and_left (is_int w) _ (and_right (is_int u) _ (and_right (is_int t) _ h))))
 three_ints (tree_then t (tree_then u (tree_then w (tree_then x ts)))) n h = absurd (omega (arith, n))
 
-utc_there : (ts : Trees) → count ts ≡ 3 → are_kinds dated ts ≡ true → to_local (form_all V44 (to_utc (typed_all ts))) ≡ ts
+utc_there : (ts : Trees) → count ts ≡ 3 → are_kinds moment_fields ts ≡ true → to_local (form_all V44 (to_utc (typed_all ts))) ≡ ts
 utc_there ts n h =
     let x = three_ints ts n h in
     subst (λ us. to_local (form_all V44 (to_utc (typed_all us))) ≡ us) (sym x.are) (ap (λ z. three z x.second x.third) (back_and_there x.first x.third))
 
 local_again : (v : Version) (ts : Trees) → fault v 0x46 ts ≡ None → form v (typed (structure 0x46 ts)) ≡ structure 0x46 ts
-local_again V44 ts h = let p = passed V44 0x46 ts dated refl h in ap (λ us. structure 0x46 us) (utc_there ts p.counted p.kinded)
+local_again V44 ts h = let p = passed V44 0x46 ts moment_fields refl h in ap (λ us. structure 0x46 us) (utc_there ts p.counted p.kinded)
 local_again V51 ts h = absurd cc
 
 utc_again : (v : Version) (ts us : Trees) → fault v 0x49 ts ≡ None → us ≡ ts → moment v us ≡ structure 0x49 ts

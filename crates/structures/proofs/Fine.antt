@@ -5,7 +5,7 @@ use Rattle.packstream.specs.View.{tree, trees, trees_of, entries, entries_of}
 use Rattle.packstream.specs.declared.value.Value.{Value, Struct as StructCase, the_lemmas}
 use Rattle.wire.specs.declared.Version.{Version}
 use Rattle.structures.specs.declared.fault.Reason.{Reason}
-use Rattle.structures.specs.Faults.{FaultOf, fault, scan, scanned, next, structures, structures_in, structures_under}
+use Rattle.structures.specs.Faults.{FaultOf, fault, scan, fault_or_rest, next, structures, structures_in, structures_under}
 use Rattle.structures.specs.Form.{typed, typed_under}
 use Rattle.structures.specs.Steps.{all_fine, typed_entry}
 use Rattle.structures.proofs.Got.{and_left, and_right, take_next}
@@ -66,7 +66,7 @@ pub pair_next : (out : List (List ℕ × Tree)) (t : List ℕ × Tree) (xs : Lis
 pair_next out t xs i d h e t-is o =
     ap (λ (r : List (List ℕ × Tree)). r ++ t ∷ []) (o ∙ pairs_seen (take i xs)) ∙ ap (λ (u : List ℕ × Tree). map read_pair (take i xs) ++ u ∷ []) t-is ∙ sym (take_next read_pair xs i d h e) ∙ sym (pairs_seen (take (i + 1) xs))
 
-scanned_ok : (f : Option Reason) (k n : ℕ) (rest : Found) → scanned f k rest ≡ Ok n → (is_none f ≡ true) × (rest ≡ Ok n)
+scanned_ok : (f : Option Reason) (k n : ℕ) (rest : Found) → fault_or_rest f k rest ≡ Ok n → (is_none f ≡ true) × (rest ≡ Ok n)
 scanned_ok None k n rest h = (refl, h)
 scanned_ok (Some r) k n rest h = absurd cc
 
@@ -84,7 +84,7 @@ pub scan_fine : (j : FaultOf) (k : ℕ) (ss : List (ℕ × Trees)) → all_fine 
 scan_fine j k [] h = (k, refl)
 scan_fine j k (s ∷ ss) h =
     let r = scan_fine j (next k) ss (and_right (is_none (j s.0 s.1)) _ h) in
-    (r.0, ap (λ o. scanned o k (scan j (next k) ss)) (none_of _ (and_left (is_none (j s.0 s.1)) _ h)) ∙ r.1)
+    (r.0, ap (λ o. fault_or_rest o k (scan j (next k) ss)) (none_of _ (and_left (is_none (j s.0 s.1)) _ h)) ∙ r.1)
 
 abbrev bad_at : Reason × ℕ → Found
 bad_at x = Err x

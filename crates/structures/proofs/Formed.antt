@@ -6,7 +6,7 @@ use Rattle.packstream.specs.Good.{count}
 use Rattle.wire.specs.declared.Version.{Version}
 use Rattle.wire.specs.declared.Version.TheVariants.{V44, V51}
 use Rattle.structures.specs.declared.table.Field.{Field}
-use Rattle.structures.specs.declared.table.Field.TheVariants.{Whole, Nanosecond, DayNanosecond, Offset, UtcSecond, Number, Text, Labels, Properties, Nodes, Relationships, Indices}
+use Rattle.structures.specs.declared.table.Field.TheVariants.{Integer, Nanosecond, DayNanosecond, Offset, UtcSecond, Float, Text, Labels, Properties, Nodes, Relationships, Indices}
 use Rattle.structures.specs.declared.fault.Reason.{Reason}
 use Rattle.structures.specs.declared.fault.Reason.TheVariants.{FieldCount, FieldKind, Range, PathShape}
 use Rattle.structures.specs.declared.cell.Cell.{Cell}
@@ -16,10 +16,10 @@ use Rattle.structures.proofs.Faulty.{fault_is, wrong_is}
 use Rattle.wire.specs.Versions.{has_element_ids}
 use Rattle.structures.specs.Table.{Row, fields_at, fields_of, kinds, row_in, table}
 use Rattle.structures.proofs.Standing.{stood}
-use Rattle.structures.specs.Faults.{first_failed, to_utc, dated, is_int, is_float, is_text, is_dict, has_tag, each, is_list_of, is_kind, are_kinds, in_range, are_in_range, is_path, fault, structures, structures_in, structures_under}
+use Rattle.structures.specs.Faults.{first_failed, to_utc, moment_fields, is_int, is_float, is_text, is_dict, has_tag, each, is_list_of, is_kind, are_kinds, in_range, are_in_range, is_path, fault, structures, structures_in, structures_under}
 use Rattle.structures.specs.Form.{Form, form, form_all, form_under, moment}
 use Rattle.structures.specs.Steps.{all_fine}
-use Rattle.structures.specs.Writing.{moment_tag, unwritten, unwritten_by}
+use Rattle.structures.specs.Writing.{moment_tag, fault_of_structure, fault_of_structure_by}
 use Rattle.structures.specs.Cells.{has_count, is_row, is_typed, are_typed, have_typed}
 use Rattle.structures.specs.Steps.{has_kinds}
 use Rattle.structures.proofs.Got.{and_left, and_right, le_true}
@@ -100,12 +100,12 @@ int_kept : (v : Version) (t : Tree) → is_int t ≡ true → is_int (form v t) 
 int_kept v t h = ap is_int (int_same v t h) ∙ h
 
 kind_kept : (v : Version) (k : Field) (t : Tree) → is_kind k t ≡ true → is_kind k (form v t) ≡ true
-kind_kept v Whole t h = int_kept v t h
+kind_kept v Integer t h = int_kept v t h
 kind_kept v Nanosecond t h = int_kept v t h
 kind_kept v DayNanosecond t h = int_kept v t h
 kind_kept v Offset t h = int_kept v t h
 kind_kept v UtcSecond t h = int_kept v t h
-kind_kept v Number t h = float_kept v t h
+kind_kept v Float t h = float_kept v t h
 kind_kept v Text t h = text_kept v t h
 kind_kept v Labels t h = list_kept v is_text (text_kept v) t h
 kind_kept v Properties t h = dict_kept v t h
@@ -195,7 +195,7 @@ first_none : (p : Bool) (r : Reason) (rest : Option Reason) → cond p rest (Som
 first_none true r rest h = (refl, h)
 first_none false r rest h = absurd cc
 
-pub passes : (ks : List Field) (tag : ℕ) (ts : Trees) → unwritten_by (Ok ks) tag ts ≡ None → Written ks tag ts
+pub passes : (ks : List Field) (tag : ℕ) (ts : Trees) → fault_of_structure_by (Ok ks) tag ts ≡ None → Written ks tag ts
 passes ks tag ts h =
     let a = first_none (count ts == length ks) _ _ h in
     let b = first_none (are_in_range ks ts) _ _ a.1 in
@@ -216,23 +216,23 @@ is_not : (b : Bool) → not b ≡ true → b ≡ false
 is_not true h = absurd cc
 is_not false h = refl
 
-moment_three : (v : Version) (a b d : ℤ) → are_in_range dated (three a b d) ≡ true → all_fine (fault v) (structures (moment v (three a b d))) ≡ true
+moment_three : (v : Version) (a b d : ℤ) → are_in_range moment_fields (three a b d) ≡ true → all_fine (fault v) (structures (moment v (three a b d))) ≡ true
 moment_three V44 a b d h =
-    let e = ap (λ z. are_in_range dated (three z b d)) (there_and_back a d) ∙ h in
+    let e = ap (λ z. are_in_range moment_fields (three z b d)) (there_and_back a d) ∙ h in
     ap (λ x. is_none (first_failed ((true, FieldCount) ∷ (true, FieldKind) ∷ (x, Range) ∷ (true, PathShape) ∷ [])) && true) e
 moment_three V51 a b d h = ap (λ x. is_none (first_failed ((true, FieldCount) ∷ (true, FieldKind) ∷ (x, Range) ∷ (true, PathShape) ∷ [])) && true) h
 
-moment_unwritten : (v : Version) (ts : Trees) → unwritten v 0x49 ts ≡ None → unwritten_by (Ok dated) 0x49 ts ≡ None
+moment_unwritten : (v : Version) (ts : Trees) → fault_of_structure v 0x49 ts ≡ None → fault_of_structure_by (Ok moment_fields) 0x49 ts ≡ None
 moment_unwritten V44 ts h = h
 moment_unwritten V51 ts h = h
 
-moment_from : (v : Version) (ts : Trees) → Three ts → are_in_range dated ts ≡ true → all_fine (fault v) (structures (moment v (form_all v ts))) ≡ true
-moment_from v ts x h = subst (λ us. all_fine (fault v) (structures (moment v (form_all v us))) ≡ true) (sym x.are) (moment_three v x.first x.second x.third (ap (are_in_range dated) (sym x.are) ∙ h))
+moment_from : (v : Version) (ts : Trees) → Three ts → are_in_range moment_fields ts ≡ true → all_fine (fault v) (structures (moment v (form_all v ts))) ≡ true
+moment_from v ts x h = subst (λ us. all_fine (fault v) (structures (moment v (form_all v us))) ≡ true) (sym x.are) (moment_three v x.first x.second x.third (ap (are_in_range moment_fields) (sym x.are) ∙ h))
 
-moment_fine : (v : Version) (ts : Trees) → are_kinds dated ts ≡ true → unwritten v 0x49 ts ≡ None → all_fine (fault v) (structures (moment v (form_all v ts))) ≡ true
-moment_fine v ts k u = let p = passes dated 0x49 ts (moment_unwritten v ts u) in moment_from v ts (three_ints ts (eqb-true _ _ p.counted) k) p.ranged
+moment_fine : (v : Version) (ts : Trees) → are_kinds moment_fields ts ≡ true → fault_of_structure v 0x49 ts ≡ None → all_fine (fault v) (structures (moment v (form_all v ts))) ≡ true
+moment_fine v ts k u = let p = passes moment_fields 0x49 ts (moment_unwritten v ts u) in moment_from v ts (three_ints ts (eqb-true _ _ p.counted) k) p.ranged
 
-plain_fine : (v : Version) (tag : ℕ) (ts : Trees) (r : Result (List Field) Reason) → kinds v tag ≡ r → unwritten_by r tag ts ≡ None → (tag == 0x46) ≡ false → has_kinds (row_in tag table) ts ≡ true → is_none (fault v tag (form_all v ts)) ≡ true
+plain_fine : (v : Version) (tag : ℕ) (ts : Trees) (r : Result (List Field) Reason) → kinds v tag ≡ r → fault_of_structure_by r tag ts ≡ None → (tag == 0x46) ≡ false → has_kinds (row_in tag table) ts ≡ true → is_none (fault v tag (form_all v ts)) ≡ true
 plain_fine v tag ts (Err x) e u n r = absurd cc
 plain_fine v tag ts (Ok ks) e u n r =
     let us = form_all v ts in
@@ -244,19 +244,19 @@ plain_fine v tag ts (Ok ks) e u n r =
     let s = shape_kept v tag ts (tag == 0x50) refl r (path_count v tag ks ts (tag == 0x50) refl e p.counted) p.shaped in
     ap is_none (fault_is v tag us ks e ∙ wrong_is ks tag us true true true true a b d s)
 
-structure_fine : (v : Version) (tag : ℕ) (ts : Trees) (b : Bool) → (tag == 0x49) ≡ b → not (tag == 0x46) ≡ true → has_kinds (row_in tag table) ts ≡ true → unwritten v tag ts ≡ None → all_fine (fault v) (structures_in (form_all v ts)) ≡ true
+structure_fine : (v : Version) (tag : ℕ) (ts : Trees) (b : Bool) → (tag == 0x49) ≡ b → not (tag == 0x46) ≡ true → has_kinds (row_in tag table) ts ≡ true → fault_of_structure v tag ts ≡ None → all_fine (fault v) (structures_in (form_all v ts)) ≡ true
     → all_fine (fault v) (structures (cond b (moment v (form_all v ts)) (structure tag (form_all v ts)))) ≡ true
 structure_fine v tag ts true e n r u i =
-    moment_fine v ts (subst (λ m. has_kinds (row_in m table) ts ≡ true) (eqb-true _ _ e) r) (subst (λ m. unwritten v m ts ≡ None) (eqb-true _ _ e) u)
+    moment_fine v ts (subst (λ m. has_kinds (row_in m table) ts ≡ true) (eqb-true _ _ e) r) (subst (λ m. fault_of_structure v m ts ≡ None) (eqb-true _ _ e) u)
 structure_fine v tag ts false e n r u i =
-    both_true _ _ (plain_fine v tag ts (kinds v tag) refl (subst (λ c. unwritten_by (kinds v (cond c (moment_tag v) tag)) tag ts ≡ None) e u) (is_not _ n) r) i
+    both_true _ _ (plain_fine v tag ts (kinds v tag) refl (subst (λ c. fault_of_structure_by (kinds v (cond c (moment_tag v) tag)) tag ts ≡ None) e u) (is_not _ n) r) i
 
 kinds_of : (o : Option Row) (ts : Trees) → is_row o ts ≡ true → has_kinds o ts ≡ true
 kinds_of None ts h = absurd cc
 kinds_of (Some r) ts h = and_right (has_count r ts) _ h
 
 mutual
-  pub formed : (v : Version) (t : Tree) → is_typed t ≡ true → all_fine (unwritten v) (structures t) ≡ true → all_fine (fault v) (structures (form v t)) ≡ true
+  pub formed : (v : Version) (t : Tree) → is_typed t ≡ true → all_fine (fault_of_structure v) (structures t) ≡ true → all_fine (fault v) (structures (form v t)) ≡ true
   formed v null k h = refl
   formed v (boolean b) k h = refl
   formed v (int z) k h = refl
@@ -267,23 +267,23 @@ mutual
   formed v (dict es) k h = formed_under v es k h
   formed v (structure tag ts) k h =
       let m = and_right (not (tag == 0x46)) _ k in
-      structure_fine v tag ts (tag == 0x49) refl (and_left (not (tag == 0x46)) _ k) (kinds_of (row_in tag table) ts (and_left (is_row (row_in tag table) ts) _ m)) (fine_itself (unwritten v) tag ts h) (formed_all v ts (and_right (is_row (row_in tag table) ts) _ m) (fine_within (unwritten v) tag ts h))
+      structure_fine v tag ts (tag == 0x49) refl (and_left (not (tag == 0x46)) _ k) (kinds_of (row_in tag table) ts (and_left (is_row (row_in tag table) ts) _ m)) (fine_itself (fault_of_structure v) tag ts h) (formed_all v ts (and_right (is_row (row_in tag table) ts) _ m) (fine_within (fault_of_structure v) tag ts h))
 
-  pub formed_all : (v : Version) (ts : Trees) → are_typed ts ≡ true → all_fine (unwritten v) (structures_in ts) ≡ true → all_fine (fault v) (structures_in (form_all v ts)) ≡ true
+  pub formed_all : (v : Version) (ts : Trees) → are_typed ts ≡ true → all_fine (fault_of_structure v) (structures_in ts) ≡ true → all_fine (fault v) (structures_in (form_all v ts)) ≡ true
   formed_all v no_trees k h = refl
   formed_all v (tree_then t ts) k h =
-      fine_append (fault v) (structures (form v t)) (structures_in (form_all v ts)) ∙ both_true _ _ (formed v t (and_left (is_typed t) _ k) (fine_left (unwritten v) (structures t) (structures_in ts) h)) (formed_all v ts (and_right (is_typed t) _ k) (fine_right (unwritten v) (structures t) (structures_in ts) h))
+      fine_append (fault v) (structures (form v t)) (structures_in (form_all v ts)) ∙ both_true _ _ (formed v t (and_left (is_typed t) _ k) (fine_left (fault_of_structure v) (structures t) (structures_in ts) h)) (formed_all v ts (and_right (is_typed t) _ k) (fine_right (fault_of_structure v) (structures t) (structures_in ts) h))
 
-  pub formed_under : (v : Version) (es : Entries) → have_typed es ≡ true → all_fine (unwritten v) (structures_under es) ≡ true → all_fine (fault v) (structures_under (form_under v es)) ≡ true
+  pub formed_under : (v : Version) (es : Entries) → have_typed es ≡ true → all_fine (fault_of_structure v) (structures_under es) ≡ true → all_fine (fault v) (structures_under (form_under v es)) ≡ true
   formed_under v no_entries k h = refl
   formed_under v (entry_then x t es) k h =
-      fine_append (fault v) (structures (form v t)) (structures_under (form_under v es)) ∙ both_true _ _ (formed v t (and_left (is_typed t) _ k) (fine_left (unwritten v) (structures t) (structures_under es) h)) (formed_under v es (and_right (is_typed t) _ k) (fine_right (unwritten v) (structures t) (structures_under es) h))
+      fine_append (fault v) (structures (form v t)) (structures_under (form_under v es)) ∙ both_true _ _ (formed v t (and_left (is_typed t) _ k) (fine_left (fault_of_structure v) (structures t) (structures_under es) h)) (formed_under v es (and_right (is_typed t) _ k) (fine_right (fault_of_structure v) (structures t) (structures_under es) h))
 
 -- the form of what can be written
-pub form_typed : (v : Version) (s : Tree) → is_typed s ≡ true → all_fine (unwritten v) (structures s) ≡ true → Form v s (form v s)
+pub form_typed : (v : Version) (s : Tree) → is_typed s ≡ true → all_fine (fault_of_structure v) (structures s) ≡ true → Form v s (form v s)
 form_typed v s k h = (scan_fine (fault v) 0 (structures (form v s)) (formed v s k h), sym (back v s k))
 
-pub form_is : (v : Version) (c : Cell) → all_fine (unwritten v) (structures (shape c)) ≡ true → Form v (shape c) (form v (shape c))
+pub form_is : (v : Version) (c : Cell) → all_fine (fault_of_structure v) (structures (shape c)) ≡ true → Form v (shape c) (form v (shape c))
 form_is v c h = form_typed v (shape c) (typed_shape c) h
 
 pub record Sum (u o : ℤ) : Type 0 where
@@ -291,9 +291,9 @@ pub record Sum (u o : ℤ) : Type 0 where
   pub below : (u +ℤ o) ≤ℤ pos 100000000000064800
 
 -- the sum of a DateTime that can be written
-pub local_sum : (v : Version) (u n o : ℤ) → unwritten v 0x49 (three u n o) ≡ None → Sum u o
+pub local_sum : (v : Version) (u n o : ℤ) → fault_of_structure v 0x49 (three u n o) ≡ None → Sum u o
 local_sum v u n o h =
-    let r = (passes dated 0x49 (three u n o) (moment_unwritten v (three u n o) h)).ranged in
+    let r = (passes moment_fields 0x49 (three u n o) (moment_unwritten v (three u n o) h)).ranged in
     let a : (int_le (neg_ℤ (pos 100000000000000000)) u && int_le u (pos 100000000000000000)) ≡ true = and_left (in_range UtcSecond (int u)) _ r in
     let b : (int_le (neg_ℤ (pos 64800)) o && int_le o (pos 64800)) ≡ true = and_left (in_range Offset (int o)) _ (and_right (in_range Nanosecond (int n)) _ (and_right (in_range UtcSecond (int u)) _ r)) in
     let a0 = le_true (neg_ℤ (pos 100000000000000000)) u (and_left (int_le (neg_ℤ (pos 100000000000000000)) u) _ a) in

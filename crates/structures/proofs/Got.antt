@@ -8,10 +8,10 @@ use Rattle.packstream.specs.declared.value.Value.{Value}
 use Rattle.structures.specs.declared.table.Field.{Field}
 use Rattle.wire.specs.declared.Version.{Version}
 use Rattle.wire.specs.declared.Version.TheVariants.{V44, V51}
-use Rattle.structures.specs.declared.table.Field.TheVariants.{Whole, Text, Properties, Nodes, Relationships, Indices}
+use Rattle.structures.specs.declared.table.Field.TheVariants.{Integer, Text, Properties, Nodes, Relationships, Indices}
 use Rattle.structures.specs.declared.fault.Reason.{Reason}
 use Rattle.structures.specs.Table.{kinds}
-use Rattle.structures.specs.Faults.{dated, to_utc, each, is_kind, are_kinds, are_in_range, utc_fields, is_path, wrong, fault, fault_by}
+use Rattle.structures.specs.Faults.{moment_fields, to_utc, each, is_kind, are_kinds, are_in_range, utc_fields, is_path, wrong, fault, fault_by}
 use Rattle.structures.specs.Form.{typed, typed_all}
 use Rattle.structures.specs.Steps.{tree_at, ReadElements}
 use Rattle.structures.proofs.Faulty.{count_seen}
@@ -92,7 +92,7 @@ at_new V44 tag ks r ts a b h = absurd (let e : Some r ≡ None = sym (ap (λ k. 
 pub read_by : (v : Version) (tag : ℕ) (ts us : Trees) (ks : List Field) → kinds v tag ≡ Ok ks → fault v tag ts ≡ None → count us ≡ length ks → Got 0 ks us ts → us ≡ typed_all ts
 read_by v tag ts us ks e h n g = let p = passed v tag ts ks e h in fields_are ks us ts p.counted n p.kinded g
 
-pub same_dated : (ts : Trees) → count ts ≡ 3 → are_kinds dated ts ≡ true → typed_all ts ≡ ts
+pub same_dated : (ts : Trees) → count ts ≡ 3 → are_kinds moment_fields ts ≡ true → typed_all ts ≡ ts
 same_dated (tree_then (int a) (tree_then (int b) (tree_then (int d) no_trees))) n h = refl
 same_dated (tree_then (int a) (tree_then (int b) (tree_then (int d) (tree_then e ts)))) n h = absurd (omega arith)
 same_dated ts n h = absurd cc
@@ -105,20 +105,20 @@ pub le_true : (x y : ℤ) → int_le x y ≡ true → x ≤ℤ y
 le_true x y h = grind (arith, ints)
 
 -- local seconds in range at UTC
-pub dated_range : (s n o : ℤ) → are_in_range dated (to_utc (tree_then (int s) (tree_then (int n) (tree_then (int o) no_trees)))) ≡ true → Utc s n o
+pub dated_range : (s n o : ℤ) → are_in_range moment_fields (to_utc (tree_then (int s) (tree_then (int n) (tree_then (int o) no_trees)))) ≡ true → Utc s n o
 dated_range s n o h =
     let a : (int_le (neg_ℤ (pos 100000000000000000)) (s -ℤ o) && int_le (s -ℤ o) (pos 100000000000000000)) ≡ true = and_left _ _ h in
     record { above = le_true _ _ (and_left (int_le (neg_ℤ (pos 100000000000000000)) (s -ℤ o)) _ a); below = le_true _ _ (and_right (int_le (neg_ℤ (pos 100000000000000000)) (s -ℤ o)) _ a) }
 
 -- what was read of local seconds, nanoseconds and offset
-pub dated_by : (v : Version) (ts : Trees) (s n o : ℤ) → fault v 0x46 ts ≡ None → Got 0 dated (tree_then (int s) (tree_then (int n) (tree_then (int o) no_trees))) ts
+pub dated_by : (v : Version) (ts : Trees) (s n o : ℤ) → fault v 0x46 ts ≡ None → Got 0 moment_fields (tree_then (int s) (tree_then (int n) (tree_then (int o) no_trees))) ts
     → (typed_all ts ≡ tree_then (int s) (tree_then (int n) (tree_then (int o) no_trees))) × Utc s n o
 dated_by v ts s n o h g =
-    let e = at_old v 0x46 dated _ ts refl refl h in
-    let p = passed v 0x46 ts dated e h in
-    let us = read_by v 0x46 ts (tree_then (int s) (tree_then (int n) (tree_then (int o) no_trees))) dated e h refl g in
+    let e = at_old v 0x46 moment_fields _ ts refl refl h in
+    let p = passed v 0x46 ts moment_fields e h in
+    let us = read_by v 0x46 ts (tree_then (int s) (tree_then (int n) (tree_then (int o) no_trees))) moment_fields e h refl g in
     let same = us ∙ same_dated ts p.counted p.kinded in
-    (sym us, dated_range s n o (ap (λ (x : Trees). are_in_range dated (to_utc x)) same ∙ p.ranged))
+    (sym us, dated_range s n o (ap (λ (x : Trees). are_in_range moment_fields (to_utc x)) same ∙ p.ranged))
 
 pub typed_list : (ts : List Tree) → typed_all (trees_of ts) ≡ trees_of (map typed ts)
 typed_list [] = refl
@@ -191,16 +191,16 @@ path_field v xs i d k h e lt f =
 
 -- the five fields of a relationship, and three element ids where the version adds them
 pub bound_by : (v : Version) (ts : Trees) (u0 u1 u2 u3 u4 : Tree) (es : Trees) → fault v 0x52 ts ≡ None
-    → Got 0 (Whole ∷ Whole ∷ Whole ∷ Text ∷ Properties ∷ []) (tree_then u0 (tree_then u1 (tree_then u2 (tree_then u3 (tree_then u4 no_trees))))) ts
+    → Got 0 (Integer ∷ Integer ∷ Integer ∷ Text ∷ Properties ∷ []) (tree_then u0 (tree_then u1 (tree_then u2 (tree_then u3 (tree_then u4 no_trees))))) ts
     → (count ts ≡ 5 → es ≡ no_trees) → (5 < count ts → ReadElements ts es)
     → tree_then u0 (tree_then u1 (tree_then u2 (tree_then u3 (tree_then u4 es)))) ≡ typed_all ts
 bound_by V44 ts u0 u1 u2 u3 u4 es h g absent there =
-    let p = passed V44 0x52 ts (Whole ∷ Whole ∷ Whole ∷ Text ∷ Properties ∷ []) refl h in
-    ap (λ x. tree_then u0 (tree_then u1 (tree_then u2 (tree_then u3 (tree_then u4 x))))) (absent p.counted) ∙ read_by V44 0x52 ts _ (Whole ∷ Whole ∷ Whole ∷ Text ∷ Properties ∷ []) refl h refl g
+    let p = passed V44 0x52 ts (Integer ∷ Integer ∷ Integer ∷ Text ∷ Properties ∷ []) refl h in
+    ap (λ x. tree_then u0 (tree_then u1 (tree_then u2 (tree_then u3 (tree_then u4 x))))) (absent p.counted) ∙ read_by V44 0x52 ts _ (Integer ∷ Integer ∷ Integer ∷ Text ∷ Properties ∷ []) refl h refl g
 bound_by V51 ts u0 u1 u2 u3 u4 es h g absent there =
-    let p = passed V51 0x52 ts (Whole ∷ Whole ∷ Whole ∷ Text ∷ Properties ∷ Text ∷ Text ∷ Text ∷ []) refl h in
-    let k5 : is_kind Text (tree_at 5 ts) ≡ true = kind_at 5 Text (Whole ∷ Whole ∷ Whole ∷ Text ∷ Properties ∷ Text ∷ Text ∷ Text ∷ []) ts p.counted p.kinded refl in
-    let k6 : is_kind Text (tree_at 6 ts) ≡ true = kind_at 6 Text (Whole ∷ Whole ∷ Whole ∷ Text ∷ Properties ∷ Text ∷ Text ∷ Text ∷ []) ts p.counted p.kinded refl in
-    let k7 : is_kind Text (tree_at 7 ts) ≡ true = kind_at 7 Text (Whole ∷ Whole ∷ Whole ∷ Text ∷ Properties ∷ Text ∷ Text ∷ Text ∷ []) ts p.counted p.kinded refl in
+    let p = passed V51 0x52 ts (Integer ∷ Integer ∷ Integer ∷ Text ∷ Properties ∷ Text ∷ Text ∷ Text ∷ []) refl h in
+    let k5 : is_kind Text (tree_at 5 ts) ≡ true = kind_at 5 Text (Integer ∷ Integer ∷ Integer ∷ Text ∷ Properties ∷ Text ∷ Text ∷ Text ∷ []) ts p.counted p.kinded refl in
+    let k6 : is_kind Text (tree_at 6 ts) ≡ true = kind_at 6 Text (Integer ∷ Integer ∷ Integer ∷ Text ∷ Properties ∷ Text ∷ Text ∷ Text ∷ []) ts p.counted p.kinded refl in
+    let k7 : is_kind Text (tree_at 7 ts) ≡ true = kind_at 7 Text (Integer ∷ Integer ∷ Integer ∷ Text ∷ Properties ∷ Text ∷ Text ∷ Text ∷ []) ts p.counted p.kinded refl in
     ap (λ x. tree_then u0 (tree_then u1 (tree_then u2 (tree_then u3 (tree_then u4 x))))) (there (omega (arith, p.counted)) k5 k6 k7)
-    ∙ read_by V51 0x52 ts _ (Whole ∷ Whole ∷ Whole ∷ Text ∷ Properties ∷ Text ∷ Text ∷ Text ∷ []) refl h refl (g.0, (g.1.0, (g.1.1.0, (g.1.1.1.0, (g.1.1.1.1.0, ((λ z. refl), ((λ z. refl), ((λ z. refl), tt))))))))
+    ∙ read_by V51 0x52 ts _ (Integer ∷ Integer ∷ Integer ∷ Text ∷ Properties ∷ Text ∷ Text ∷ Text ∷ []) refl h refl (g.0, (g.1.0, (g.1.1.0, (g.1.1.1.0, (g.1.1.1.1.0, ((λ z. refl), ((λ z. refl), ((λ z. refl), tt))))))))

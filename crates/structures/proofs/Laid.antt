@@ -7,7 +7,7 @@ use Rattle.packstream.specs.Tree.{Tree, int, float, text, list, dict, structure,
 use Rattle.packstream.specs.Good.{count}
 use Rattle.wire.specs.declared.Version.{Version}
 use Rattle.structures.specs.declared.table.Field.{Field}
-use Rattle.structures.specs.declared.table.Field.TheVariants.{Whole, Nanosecond, DayNanosecond, Offset, UtcSecond, Number, Text, Labels, Properties, Nodes, Relationships, Indices}
+use Rattle.structures.specs.declared.table.Field.TheVariants.{Integer, Nanosecond, DayNanosecond, Offset, UtcSecond, Float, Text, Labels, Properties, Nodes, Relationships, Indices}
 use Rattle.structures.specs.declared.fault.Reason.{Reason}
 use Rattle.wire.specs.Versions.{has_element_ids}
 use Rattle.structures.specs.Table.{Row, table, row_in, fields_at, fields_of, kinds}
@@ -46,13 +46,13 @@ from_int k (int z) h r f = f z r
 from_int k t h r f = absurd cc
 
 kind_laid : (k : Field) (t : Tree) → is_kind k t ≡ true → in_range k t ≡ true → OfKind k t
-kind_laid Whole t h r = from_int Whole t h r (λ z b. any_whole z)
+kind_laid Integer t h r = from_int Integer t h r (λ z b. any_whole z)
 kind_laid Nanosecond t h r = from_int Nanosecond t h r (λ z b. within_second z (le_true _ _ (and_left (int_le (pos 0) z) _ b)) (le_true _ _ (and_right (int_le (pos 0) z) _ b)))
 kind_laid DayNanosecond t h r = from_int DayNanosecond t h r (λ z b. within_day z (le_true _ _ (and_left (int_le (pos 0) z) _ b)) (le_true _ _ (and_right (int_le (pos 0) z) _ b)))
 kind_laid Offset t h r = from_int Offset t h r (λ z b. within_offset z (le_true _ _ (and_left (int_le (neg_ℤ (pos 64800)) z) _ b)) (le_true _ _ (and_right (int_le (neg_ℤ (pos 64800)) z) _ b)))
 kind_laid UtcSecond t h r = from_int UtcSecond t h r (λ z b. within_utc z (le_true _ _ (and_left (int_le (neg_ℤ (pos 100000000000000000)) z) _ b)) (le_true _ _ (and_right (int_le (neg_ℤ (pos 100000000000000000)) z) _ b)))
-kind_laid Number (float n) h r = any_number n
-kind_laid Number t h r = absurd cc
+kind_laid Float (float n) h r = any_number n
+kind_laid Float t h r = absurd cc
 kind_laid Text (text s) h r = any_text s
 kind_laid Text t h r = absurd cc
 kind_laid Labels (list ts) h r = any_labels ts (made text is_text a_text_is ts h)

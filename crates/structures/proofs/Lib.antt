@@ -16,3 +16,4 @@ pub mod Laid
 pub mod Related
 pub mod OneWriting
 pub mod Narrow
+pub mod Clauses

@@ -7,7 +7,7 @@ use Rattle.structures.specs.declared.fault.Reason.{Reason}
 use Rattle.structures.specs.Shape.{shape}
 use Rattle.structures.specs.Faults.{fault, scan, structures}
 use Rattle.structures.specs.Form.{Form, form}
-use Rattle.structures.specs.Writing.{unwritten}
+use Rattle.structures.specs.Writing.{fault_of_structure}
 use Rattle.structures.specs.Answers.{HasOneWriting}
 use Rattle.structures.proofs.Back.{again}
 use Rattle.structures.proofs.Fine.{fine_scan}
@@ -23,9 +23,9 @@ same_form v s t u f g =
 abbrev bad_at : Reason × ℕ → Found
 bad_at x = Err x
 
-deciding : (v : Version) (c : Cell) (f : Found) → scan (unwritten v) 0 (structures (shape c)) ≡ f → HasOneWriting v (shape c)
+deciding : (v : Version) (c : Cell) (f : Found) → scan (fault_of_structure v) 0 (structures (shape c)) ≡ f → HasOneWriting v (shape c)
 deciding v c (Ok n) e =
-    let is = form_is v c (fine_scan (unwritten v) 0 n (structures (shape c)) e) in
+    let is = form_is v c (fine_scan (fault_of_structure v) 0 n (structures (shape c)) e) in
     inl (form v (shape c), (n, e), is, (λ u g. same_form v (shape c) (form v (shape c)) u is g), (λ k r h. never_unwritable v (shape c) (form v (shape c)) k r is h))
 deciding v c (Err x) e =
     inr (
@@ -38,4 +38,4 @@ deciding v c (Err x) e =
     )
 
 pub one_writing_is : (v : Version) (c : Cell) → HasOneWriting v (shape c)
-one_writing_is v c = deciding v c (scan (unwritten v) 0 (structures (shape c))) refl
+one_writing_is v c = deciding v c (scan (fault_of_structure v) 0 (structures (shape c))) refl

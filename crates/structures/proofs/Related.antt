@@ -7,7 +7,7 @@ use Rattle.structures.specs.declared.table.Field.{Field}
 use Rattle.structures.specs.declared.table.Field.TheVariants.{Nodes, Relationships, Indices}
 use Rattle.structures.specs.declared.fault.Reason.{Reason}
 use Rattle.structures.specs.Table.{kinds}
-use Rattle.structures.specs.Faults.{dated, to_utc, are_in_range, fault, fault_by, structures, structures_in, structures_under}
+use Rattle.structures.specs.Faults.{moment_fields, to_utc, are_in_range, fault, fault_by, structures, structures_in, structures_under}
 use Rattle.structures.specs.Form.{Form, typed, typed_all, typed_under}
 use Rattle.structures.specs.Steps.{all_fine}
 use Rattle.structures.specs.Laying.{IsShaped, no_path, IsForm, of_null, of_boolean, of_int, of_float, of_bytes, of_text, of_list, of_dict, of_structure, of_local_seconds, AreForms, no_forms, then_form, HaveForms, no_entry_forms, then_entry_form}
@@ -19,15 +19,15 @@ use Rattle.structures.proofs.Formed.{both_true}
 use Rattle.structures.proofs.Laid.{kinds_laid, AreOf, kinds_are, path_laid, shaped_is, row_is, row_laid}
 
 -- Local seconds.
-local_laid : (a b d : ℤ) → are_in_range dated (to_utc (three a b d)) ≡ true → IsForm V44 (structure 0x49 (to_utc (three a b d))) (structure 0x46 (three a b d))
+local_laid : (a b d : ℤ) → are_in_range moment_fields (to_utc (three a b d)) ≡ true → IsForm V44 (structure 0x49 (to_utc (three a b d))) (structure 0x46 (three a b d))
 local_laid a b d h =
-    subst (λ z. IsForm V44 (structure 0x49 (three (a -ℤ d) b d)) (structure 0x46 (three z b d))) (back_and_there a d) (of_local_seconds dated (a -ℤ d) b d (row_laid V44 0x46 dated refl) (kinds_laid dated (three (a -ℤ d) b d) refl refl h))
+    subst (λ z. IsForm V44 (structure 0x49 (three (a -ℤ d) b d)) (structure 0x46 (three z b d))) (back_and_there a d) (of_local_seconds moment_fields (a -ℤ d) b d (row_laid V44 0x46 moment_fields refl) (kinds_laid moment_fields (three (a -ℤ d) b d) refl refl h))
 
-local_from : (ts : Trees) → Three ts → are_in_range dated (to_utc ts) ≡ true → IsForm V44 (structure 0x49 (to_utc (typed_all ts))) (structure 0x46 ts)
-local_from ts x h = subst (λ us. IsForm V44 (structure 0x49 (to_utc (typed_all us))) (structure 0x46 us)) (sym x.are) (local_laid x.first x.second x.third (ap (λ us. are_in_range dated (to_utc us)) (sym x.are) ∙ h))
+local_from : (ts : Trees) → Three ts → are_in_range moment_fields (to_utc ts) ≡ true → IsForm V44 (structure 0x49 (to_utc (typed_all ts))) (structure 0x46 ts)
+local_from ts x h = subst (λ us. IsForm V44 (structure 0x49 (to_utc (typed_all us))) (structure 0x46 us)) (sym x.are) (local_laid x.first x.second x.third (ap (λ us. are_in_range moment_fields (to_utc us)) (sym x.are) ∙ h))
 
 moment_laid : (v : Version) (ts : Trees) → fault v 0x46 ts ≡ None → IsForm v (structure 0x49 (to_utc (typed_all ts))) (structure 0x46 ts)
-moment_laid V44 ts h = let p = passed V44 0x46 ts dated refl h in local_from ts (three_ints ts p.counted p.kinded) p.ranged
+moment_laid V44 ts h = let p = passed V44 0x46 ts moment_fields refl h in local_from ts (three_ints ts p.counted p.kinded) p.ranged
 moment_laid V51 ts h = absurd cc
 
 -- what a value is read as, and that no structure of the value has a fault
@@ -37,9 +37,9 @@ IsRead v s t = (all_fine (fault v) (structures t) ≡ true) × (s ≡ typed t)
 moment_is : (v : Version) (ks : List Field) (u n o : ℤ) → kinds v 0x46 ≡ Ok ks → AreOf ks (three u n o) → IsRead v (structure 0x49 (three u n o)) (structure 0x46 (three (u +ℤ o) n o))
 moment_is V51 ks u n o k h = absurd cc
 moment_is V44 ks u n o k h =
-    let same : ks ≡ dated = cc in
-    let ranged = ap (λ z. are_in_range dated (three z n o)) (there_and_back u o) ∙ ap (λ js. are_in_range js (three u n o)) (sym same) ∙ h.ranged in
-    let fine : fault V44 0x46 (three (u +ℤ o) n o) ≡ None = wrong_is dated 0x46 (three (u +ℤ o) n o) true true true true refl refl ranged refl in
+    let same : ks ≡ moment_fields = cc in
+    let ranged = ap (λ z. are_in_range moment_fields (three z n o)) (there_and_back u o) ∙ ap (λ js. are_in_range js (three u n o)) (sym same) ∙ h.ranged in
+    let fine : fault V44 0x46 (three (u +ℤ o) n o) ≡ None = wrong_is moment_fields 0x46 (three (u +ℤ o) n o) true true true true refl refl ranged refl in
     (both_true _ _ (ap is_none fine) refl, ap (λ z. structure 0x49 (three z n o)) (sym (there_and_back u o)))
 
 -- Other structures.

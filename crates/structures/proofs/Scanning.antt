@@ -4,7 +4,7 @@ use Rattle.packstream.specs.Tree.{Tree, dict, Trees}
 use Rattle.packstream.specs.View.{tree, trees_of, entry, entries, entries_of}
 use Rattle.packstream.specs.declared.value.Value.{Value, Dict as DictCase, the_lemmas}
 use Rattle.structures.specs.declared.fault.Reason.{Reason}
-use Rattle.structures.specs.Faults.{FaultOf, scan, scanned, next, structures, structures_in, structures_under}
+use Rattle.structures.specs.Faults.{FaultOf, scan, fault_or_rest, next, structures, structures_in, structures_under}
 
 abbrev pub Pair : Type 0
 Pair = String Global × Value
@@ -29,7 +29,7 @@ abbrev pub onward : FaultOf → Found → List (ℕ × Trees) → Found
 onward j (Ok n) ys = scan j n ys
 onward j (Err e) ys = Err e
 
-scanned_onward : (j : FaultOf) (f : Option Reason) (k : ℕ) (ys : List (ℕ × Trees)) (a b : Found) → a ≡ onward j b ys → scanned f k a ≡ onward j (scanned f k b) ys
+scanned_onward : (j : FaultOf) (f : Option Reason) (k : ℕ) (ys : List (ℕ × Trees)) (a b : Found) → a ≡ onward j b ys → fault_or_rest f k a ≡ onward j (fault_or_rest f k b) ys
 scanned_onward j None k ys a b h = h
 scanned_onward j (Some r) k ys a b h = refl
 

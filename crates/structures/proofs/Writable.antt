@@ -9,10 +9,10 @@ use Rattle.structures.specs.declared.table.Field.TheVariants.{Nanosecond, DayNan
 use Rattle.structures.specs.declared.fault.Reason.{Reason}
 use Rattle.structures.specs.declared.fault.Reason.TheVariants.{NotInVersion, Range, PathShape}
 use Rattle.structures.specs.Table.{kinds}
-use Rattle.structures.specs.Faults.{first_failed, to_utc, dated, is_int, has_tag, each, is_list_of, is_kind, are_kinds, in_range, are_in_range, is_path, fault, fault_by, structures, structures_in, structures_under}
+use Rattle.structures.specs.Faults.{first_failed, to_utc, moment_fields, is_int, has_tag, each, is_list_of, is_kind, are_kinds, in_range, are_in_range, is_path, fault, fault_by, structures, structures_in, structures_under}
 use Rattle.structures.specs.Form.{Form, typed, typed_all, typed_under}
 use Rattle.structures.specs.Steps.{all_fine}
-use Rattle.structures.specs.Writing.{moment_tag, unwritten, unwritten_by, IsWritable, IsUnwritable}
+use Rattle.structures.specs.Writing.{moment_tag, fault_of_structure, fault_of_structure_by, IsWritable, IsUnwritable}
 use Rattle.structures.proofs.Scanning.{Found}
 use Rattle.structures.proofs.Got.{and_left, and_right, passed}
 use Rattle.structures.proofs.Back.{an_int, Three, three, three_ints}
@@ -80,37 +80,37 @@ tag_back V44 tag ts true e h = absurd (let g : fault V44 0x49 ts ≡ None = subs
 tag_back v tag ts false e h = refl
 
 passes_by : (ks : List Field) (tag : ℕ) (us : Trees) (a b d : Bool) → (count us == length ks) ≡ a → are_in_range ks us ≡ b → cond (tag == 0x50) (is_path us) true ≡ d
-    → unwritten_by (Ok ks) tag us ≡ first_failed ((a, NotInVersion) ∷ (b, Range) ∷ (d, PathShape) ∷ [])
+    → fault_of_structure_by (Ok ks) tag us ≡ first_failed ((a, NotInVersion) ∷ (b, Range) ∷ (d, PathShape) ∷ [])
 passes_by ks tag us a b d ea eb ed = rw (ea, eb, ed) refl
 
-plain_by : (v : Version) (tag : ℕ) (ts : Trees) (r : Result (List Field) Reason) → kinds v tag ≡ r → (tag == 0x46) ≡ false → fault v tag ts ≡ None → unwritten_by r tag (typed_all ts) ≡ None
+plain_by : (v : Version) (tag : ℕ) (ts : Trees) (r : Result (List Field) Reason) → kinds v tag ≡ r → (tag == 0x46) ≡ false → fault v tag ts ≡ None → fault_of_structure_by r tag (typed_all ts) ≡ None
 plain_by v tag ts (Err x) e n h = absurd (let g = sym (ap (λ r. fault_by r tag ts) e) ∙ h in cc)
 plain_by v tag ts (Ok ks) e n h =
     let p = passed v tag ts ks e h in
     let ranged = ranges_kept ks ts p.kinded ∙ ap (λ c. are_in_range ks (cond c (to_utc ts) ts)) (sym n) ∙ p.ranged in
     passes_by ks tag (typed_all ts) true true true (eq-eqb _ _ (count_kept ts ∙ p.counted)) ranged (walk_kept v tag ts (tag == 0x50) refl h)
 
-plain_writable : (v : Version) (tag : ℕ) (ts : Trees) → (tag == 0x46) ≡ false → fault v tag ts ≡ None → unwritten v tag (typed_all ts) ≡ None
-plain_writable v tag ts n h = ap (λ m. unwritten_by (kinds v m) tag (typed_all ts)) (tag_back v tag ts (tag == 0x49) refl h) ∙ plain_by v tag ts (kinds v tag) refl n h
+plain_writable : (v : Version) (tag : ℕ) (ts : Trees) → (tag == 0x46) ≡ false → fault v tag ts ≡ None → fault_of_structure v tag (typed_all ts) ≡ None
+plain_writable v tag ts n h = ap (λ m. fault_of_structure_by (kinds v m) tag (typed_all ts)) (tag_back v tag ts (tag == 0x49) refl h) ∙ plain_by v tag ts (kinds v tag) refl n h
 
 -- local seconds that were brought to UTC
-moment_three : (a b d : ℤ) → are_in_range dated (to_utc (three a b d)) ≡ true → all_fine (unwritten V44) (structures (structure 0x49 (to_utc (three a b d)))) ≡ true
+moment_three : (a b d : ℤ) → are_in_range moment_fields (to_utc (three a b d)) ≡ true → all_fine (fault_of_structure V44) (structures (structure 0x49 (to_utc (three a b d)))) ≡ true
 moment_three a b d h = ap (λ x. is_none (first_failed ((true, NotInVersion) ∷ (x, Range) ∷ (true, PathShape) ∷ [])) && true) h
 
-moment_from : (ts : Trees) → Three ts → are_in_range dated (to_utc ts) ≡ true → all_fine (unwritten V44) (structures (structure 0x49 (to_utc (typed_all ts)))) ≡ true
-moment_from ts x h = subst (λ us. all_fine (unwritten V44) (structures (structure 0x49 (to_utc (typed_all us)))) ≡ true) (sym x.are) (moment_three x.first x.second x.third (ap (λ us. are_in_range dated (to_utc us)) (sym x.are) ∙ h))
+moment_from : (ts : Trees) → Three ts → are_in_range moment_fields (to_utc ts) ≡ true → all_fine (fault_of_structure V44) (structures (structure 0x49 (to_utc (typed_all ts)))) ≡ true
+moment_from ts x h = subst (λ us. all_fine (fault_of_structure V44) (structures (structure 0x49 (to_utc (typed_all us)))) ≡ true) (sym x.are) (moment_three x.first x.second x.third (ap (λ us. are_in_range moment_fields (to_utc us)) (sym x.are) ∙ h))
 
-moment_writable : (v : Version) (ts : Trees) → fault v 0x46 ts ≡ None → all_fine (unwritten v) (structures (structure 0x49 (to_utc (typed_all ts)))) ≡ true
-moment_writable V44 ts h = let p = passed V44 0x46 ts dated refl h in moment_from ts (three_ints ts p.counted p.kinded) p.ranged
+moment_writable : (v : Version) (ts : Trees) → fault v 0x46 ts ≡ None → all_fine (fault_of_structure v) (structures (structure 0x49 (to_utc (typed_all ts)))) ≡ true
+moment_writable V44 ts h = let p = passed V44 0x46 ts moment_fields refl h in moment_from ts (three_ints ts p.counted p.kinded) p.ranged
 moment_writable V51 ts h = absurd cc
 
-structure_writable : (v : Version) (tag : ℕ) (ts : Trees) (b : Bool) → (tag == 0x46) ≡ b → fault v tag ts ≡ None → all_fine (unwritten v) (structures_in (typed_all ts)) ≡ true
-    → all_fine (unwritten v) (structures (structure (cond b 0x49 tag) (cond b (to_utc (typed_all ts)) (typed_all ts)))) ≡ true
+structure_writable : (v : Version) (tag : ℕ) (ts : Trees) (b : Bool) → (tag == 0x46) ≡ b → fault v tag ts ≡ None → all_fine (fault_of_structure v) (structures_in (typed_all ts)) ≡ true
+    → all_fine (fault_of_structure v) (structures (structure (cond b 0x49 tag) (cond b (to_utc (typed_all ts)) (typed_all ts)))) ≡ true
 structure_writable v tag ts true e h i = moment_writable v ts (subst (λ m. fault v m ts ≡ None) (eqb-true _ _ e) h)
 structure_writable v tag ts false e h i = both_true _ _ (ap is_none (plain_writable v tag ts e h)) i
 
 mutual
-  pub writable : (v : Version) (t : Tree) → all_fine (fault v) (structures t) ≡ true → all_fine (unwritten v) (structures (typed t)) ≡ true
+  pub writable : (v : Version) (t : Tree) → all_fine (fault v) (structures t) ≡ true → all_fine (fault_of_structure v) (structures (typed t)) ≡ true
   writable v null h = refl
   writable v (boolean b) h = refl
   writable v (int z) h = refl
@@ -121,19 +121,19 @@ mutual
   writable v (dict es) h = writable_under v es h
   writable v (structure tag ts) h = structure_writable v tag ts (tag == 0x46) refl (fine_itself (fault v) tag ts h) (writable_all v ts (fine_within (fault v) tag ts h))
 
-  pub writable_all : (v : Version) (ts : Trees) → all_fine (fault v) (structures_in ts) ≡ true → all_fine (unwritten v) (structures_in (typed_all ts)) ≡ true
+  pub writable_all : (v : Version) (ts : Trees) → all_fine (fault v) (structures_in ts) ≡ true → all_fine (fault_of_structure v) (structures_in (typed_all ts)) ≡ true
   writable_all v no_trees h = refl
   writable_all v (tree_then t ts) h =
-      fine_append (unwritten v) (structures (typed t)) (structures_in (typed_all ts)) ∙ both_true _ _ (writable v t (fine_left (fault v) (structures t) (structures_in ts) h)) (writable_all v ts (fine_right (fault v) (structures t) (structures_in ts) h))
+      fine_append (fault_of_structure v) (structures (typed t)) (structures_in (typed_all ts)) ∙ both_true _ _ (writable v t (fine_left (fault v) (structures t) (structures_in ts) h)) (writable_all v ts (fine_right (fault v) (structures t) (structures_in ts) h))
 
-  pub writable_under : (v : Version) (es : Entries) → all_fine (fault v) (structures_under es) ≡ true → all_fine (unwritten v) (structures_under (typed_under es)) ≡ true
+  pub writable_under : (v : Version) (es : Entries) → all_fine (fault v) (structures_under es) ≡ true → all_fine (fault_of_structure v) (structures_under (typed_under es)) ≡ true
   writable_under v no_entries h = refl
   writable_under v (entry_then k t es) h =
-      fine_append (unwritten v) (structures (typed t)) (structures_under (typed_under es)) ∙ both_true _ _ (writable v t (fine_left (fault v) (structures t) (structures_under es) h)) (writable_under v es (fine_right (fault v) (structures t) (structures_under es) h))
+      fine_append (fault_of_structure v) (structures (typed t)) (structures_under (typed_under es)) ∙ both_true _ _ (writable v t (fine_left (fault v) (structures t) (structures_under es) h)) (writable_under v es (fine_right (fault v) (structures t) (structures_under es) h))
 
 -- what was read can be written
 pub read_writable : (v : Version) (s t : Tree) → Form v s t → IsWritable v s
-read_writable v s t f = subst (IsWritable v) (sym f.1) (scan_fine (unwritten v) 0 (structures (typed t)) (writable v t (fine_scan (fault v) 0 f.0.0 (structures t) f.0.1)))
+read_writable v s t f = subst (IsWritable v) (sym f.1) (scan_fine (fault_of_structure v) 0 (structures (typed t)) (writable v t (fine_scan (fault v) 0 f.0.0 (structures t) f.0.1)))
 
 pub never_unwritable : (v : Version) (s t : Tree) (k : ℕ) (r : Reason) → Form v s t → IsUnwritable v s k r → ⊥
 never_unwritable v s t k r f u = let w = read_writable v s t f in let both : ◌≡◌ {A = Found} (Ok w.0) (Err (r, k)) = sym w.1 ∙ u in cc

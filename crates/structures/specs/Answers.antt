@@ -15,6 +15,18 @@ use Rattle.structures.specs.Shape.{shape}
 use Rattle.structures.specs.Faults.{IsBad, IsFine}
 use Rattle.structures.specs.Form.{Form}
 
+-- what is said of an answer other than want of memory
+abbrev pub UnlessMemory : {A : Type 0} → Result A CellFault → Type 0 → Type 0
+UnlessMemory (Ok x) p = p
+UnlessMemory (Err (fault.Refused r k)) p = p
+UnlessMemory (Err fault.Memory) p = Unit {0}
+UnlessMemory (Err (fault.Pack r o)) p = p
+
+-- it answered the cell of this tree
+abbrev pub Gave : Result Cell CellFault → Tree → Type 0
+Gave (Ok c) s = shape c ≡ s
+Gave (Err e) s = ⊥
+
 -- the value's cell, or its first fault; memory runs out only where it has none
 abbrev pub Reads : Version → Tree → Result Cell CellFault → Type 0
 Reads v t (Ok c) = Form v (shape c) t
@@ -40,22 +52,32 @@ Packs t (Err (fault.Refused r k)) = ⊥
 Packs t (Err fault.Memory) = ⊥
 Packs t (Err (fault.Pack r o)) = IsUnpacked t r o
 
+-- at the version the value is the form of one cell alone, and has no fault
 abbrev pub StandsForOne : Version → Tree → Type 0
-StandsForOne v t = (s : Tree) × Form v s t × ((u : Tree) → Form v u t → s ≡ u) × ((k : ℕ) (r : Reason) → IsBad v t k r → ⊥)
+StandsForOne v t = (s : Tree) × Form v s t × ((u : Tree) → Form v u t → s ≡ u)
+    × ((k : ℕ) (r : Reason) → IsBad v t k r → ⊥)
 
+-- at the version the value has one first fault, and is the form of no cell
 abbrev pub IsBadOnce : Version → Tree → Type 0
-IsBadOnce v t = (k : ℕ) × (r : Reason) × IsBad v t k r × ((j : ℕ) (q : Reason) → IsBad v t j q → (k ≡ j) × (r ≡ q)) × ((s : Tree) → Form v s t → ⊥)
+IsBadOnce v t = (k : ℕ) × (r : Reason) × IsBad v t k r
+    × ((j : ℕ) (q : Reason) → IsBad v t j q → (k ≡ j) × (r ≡ q)) × ((s : Tree) → Form v s t → ⊥)
 
+-- at the version the value is the form of one cell, or has one first fault, and never both
 abbrev pub HasOneReading : Version → Tree → Type 0
 HasOneReading v t = StandsForOne v t ⊎ IsBadOnce v t
 
--- The same of writing: a cell has one form, or one first fault.
+-- at the version the cell has one form, and no fault
 abbrev pub HasOneForm : Version → Tree → Type 0
-HasOneForm v s = (t : Tree) × IsWritable v s × Form v s t × ((u : Tree) → Form v s u → t ≡ u) × ((k : ℕ) (r : Reason) → IsUnwritable v s k r → ⊥)
+HasOneForm v s = (t : Tree) × IsWritable v s × Form v s t × ((u : Tree) → Form v s u → t ≡ u)
+    × ((k : ℕ) (r : Reason) → IsUnwritable v s k r → ⊥)
 
+-- at the version the cell has one first fault, and no form
 abbrev pub IsUnwritableOnce : Version → Tree → Type 0
-IsUnwritableOnce v s = (k : ℕ) × (r : Reason) × IsUnwritable v s k r × ((j : ℕ) (q : Reason) → IsUnwritable v s j q → (k ≡ j) × (r ≡ q)) × (IsWritable v s → ⊥) × ((t : Tree) → Form v s t → ⊥)
+IsUnwritableOnce v s = (k : ℕ) × (r : Reason) × IsUnwritable v s k r
+    × ((j : ℕ) (q : Reason) → IsUnwritable v s j q → (k ≡ j) × (r ≡ q)) × (IsWritable v s → ⊥)
+    × ((t : Tree) → Form v s t → ⊥)
 
+-- at the version the cell has one form, or one first fault, and never both
 abbrev pub HasOneWriting : Version → Tree → Type 0
 HasOneWriting v s = HasOneForm v s ⊎ IsUnwritableOnce v s
 

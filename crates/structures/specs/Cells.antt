@@ -1,5 +1,5 @@
 -- The trees that cells are seen as, whatever their version.
-use Rattle.std.specs.Prelude.{ℕ, length, ◌++◌, Bool, true, false, IsTrue, not, ◌&&◌, ◌||◌, ◌==◌, Option, None, Some}
+use Rattle.std.specs.Prelude.{length, ◌++◌, Bool, true, false, IsTrue, not, ◌&&◌, ◌||◌, ◌==◌, Option, None, Some}
 use Rattle.packstream.specs.Good.{count}
 use Rattle.packstream.specs.Plain.{IsPlain}
 use Rattle.packstream.specs.Tree.{Tree, null, boolean, int, float, byte_string, text, list, dict, structure, Trees, no_trees, tree_then, Entries, no_entries, entry_then}
@@ -10,6 +10,7 @@ use Rattle.structures.specs.Faults.{are_kinds}
 abbrev pub has_count : Row → Trees → Bool
 has_count r ts = (count ts == length r.fields) || (count ts == length (r.fields ++ r.added))
 
+-- there is a row, and the fields are as many as it has and of their kinds
 abbrev pub is_row : Option Row → Trees → Bool
 is_row None ts = false
 is_row (Some r) ts = has_count r ts && are_kinds (r.fields ++ r.added) ts
@@ -25,7 +26,8 @@ abbrev mutual
   is_typed (text s) = true
   is_typed (list ts) = are_typed ts
   is_typed (dict es) = have_typed es
-  is_typed (structure tag ts) = not (tag == legacy_date_time_tag) && (is_row (row_in tag table) ts && are_typed ts)
+  is_typed (structure tag ts) =
+      not (tag == legacy_date_time_tag) && (is_row (row_in tag table) ts && are_typed ts)
 
   pub are_typed : Trees → Bool
   are_typed no_trees = true

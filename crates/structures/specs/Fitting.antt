@@ -30,18 +30,20 @@ decimal_texts no_trees = no_trees
 decimal_texts (tree_then t ts) = tree_then (decimal_text t) (decimal_texts ts)
 
 -- these and then those
-abbrev pub joined : Trees → Trees → Trees
-joined no_trees us = us
-joined (tree_then t ts) us = tree_then t (joined ts us)
+abbrev pub trees_in_order : Trees → Trees → Trees
+trees_in_order no_trees us = us
+trees_in_order (tree_then t ts) us = tree_then t (trees_in_order ts us)
 
 -- the fields with as many texts of ids, the ids being the first fields, where none are there yet
 abbrev pub with_texts : List Field → List Field → Trees → Trees
-with_texts fs more ts = if count ts == length fs then joined ts (decimal_texts (front (length more) ts)) else ts
+with_texts fs more ts = if count ts == length fs then
+    trees_in_order ts (decimal_texts (front (length more) ts)) else ts
 
 -- the fields at a version, where it has these more with element ids
 abbrev pub with_added : Version → List Field → List Field → Trees → Trees
 with_added v fs [] ts = ts
-with_added v fs (f ∷ more) ts = if has_element_ids v then with_texts fs (f ∷ more) ts else front (length fs) ts
+with_added v fs (f ∷ more) ts =
+    if has_element_ids v then with_texts fs (f ∷ more) ts else front (length fs) ts
 
 -- the fields of a tag's row at a version
 abbrev pub fitted_by : Version → Option Row → Trees → Trees
@@ -78,15 +80,19 @@ abbrev pub element_or : ℤ → Trees → Trees
 element_or id no_trees = tree_then (text (signed_decimal id)) no_trees
 element_or id (tree_then t ts) = tree_then t ts
 
+-- the same at a version, and none where the version has no element ids
 abbrev pub element_at : Version → ℤ → Trees → Trees
 element_at v id es = if has_element_ids v then element_or id es else no_trees
 
 -- the element ids of three
 abbrev pub elements_or : ℤ → ℤ → ℤ → Trees → Trees
 elements_or id start end no_trees =
-    tree_then (text (signed_decimal id)) (tree_then (text (signed_decimal start)) (tree_then (text (signed_decimal end)) no_trees))
+    tree_then (text (signed_decimal id))
+    (tree_then (text (signed_decimal start))
+    (tree_then (text (signed_decimal end)) no_trees))
 elements_or id start end (tree_then t ts) = tree_then t ts
 
+-- the same at a version, and none where the version has no element ids
 abbrev pub elements_at : Version → ℤ → ℤ → ℤ → Trees → Trees
 elements_at v id start end es = if has_element_ids v then elements_or id start end es else no_trees
 

@@ -37,16 +37,18 @@ Form v cell t = IsFine v t × (cell ≡ typed t)
 
 -- Written: a DateTime has local seconds where the version has no UTC times.
 abbrev pub to_local : Trees → Trees
-to_local (tree_then (int utc) (tree_then t (tree_then (int offset) no_trees))) = tree_then (int (utc +ℤ offset)) (tree_then t (tree_then (int offset) no_trees))
+to_local (tree_then (int utc) (tree_then t (tree_then (int offset) no_trees))) =
+    tree_then (int (utc +ℤ offset)) (tree_then t (tree_then (int offset) no_trees))
 to_local ts = ts
 
 -- a DateTime at a version
 abbrev pub moment : Version → Trees → Tree
-moment v ts = if has_utc_times v then structure date_time_tag ts else structure legacy_date_time_tag (to_local ts)
+moment v ts = if has_utc_times v then structure date_time_tag ts
+    else structure legacy_date_time_tag (to_local ts)
 
 -- a structure at a version
-abbrev pub written : Version → ℕ → Trees → Tree
-written v tag ts = if tag == date_time_tag then moment v ts else structure tag ts
+abbrev pub form_of_structure : Version → ℕ → Trees → Tree
+form_of_structure v tag ts = if tag == date_time_tag then moment v ts else structure tag ts
 
 -- a cell at a version
 abbrev mutual
@@ -59,7 +61,7 @@ abbrev mutual
   form v (text s) = text s
   form v (list ts) = list (form_all v ts)
   form v (dict es) = dict (form_under v es)
-  form v (structure tag ts) = written v tag (form_all v ts)
+  form v (structure tag ts) = form_of_structure v tag (form_all v ts)
 
   pub form_all : Version → Trees → Trees
   form_all v no_trees = no_trees

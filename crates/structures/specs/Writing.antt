@@ -20,23 +20,23 @@ tag_at v tag = if tag == date_time_tag then moment_tag v else tag
 
 -- the fault of one typed cell: its structure and the number of its element ids are of the version, its numbers are
 -- in their ranges, its indices walk
-abbrev pub unwritten_by : Result (List Field) Reason → ℕ → Trees → Option Reason
-unwritten_by (Ok ks) tag ts =
+abbrev pub fault_of_structure_by : Result (List Field) Reason → ℕ → Trees → Option Reason
+fault_of_structure_by (Ok ks) tag ts =
     first_failed
     ((count ts == length ks, NotInVersion)
     ∷ (are_in_range ks ts, Range)
     ∷ (if tag == path_tag then is_path ts else true, PathShape)
     ∷ [])
-unwritten_by (Err r) tag ts = Some r
+fault_of_structure_by (Err r) tag ts = Some r
 
 -- the same of a structure by its row
-abbrev pub unwritten : Version → FaultOf
-unwritten v tag ts = unwritten_by (kinds v (tag_at v tag)) tag ts
+abbrev pub fault_of_structure : Version → FaultOf
+fault_of_structure v tag ts = fault_of_structure_by (kinds v (tag_at v tag)) tag ts
 
 -- no typed cell has a fault
 abbrev pub IsWritable : Version → Tree → Type 0
-IsWritable v s = (n : ℕ) × (scan (unwritten v) 0 (structures s) ≡ Ok n)
+IsWritable v s = (n : ℕ) × (scan (fault_of_structure v) 0 (structures s) ≡ Ok n)
 
 -- typed cell k in preorder is the first with a fault, and r is its fault
 abbrev pub IsUnwritable : Version → Tree → ℕ → Reason → Type 0
-IsUnwritable v s k r = scan (unwritten v) 0 (structures s) ≡ Err (r, k)
+IsUnwritable v s k r = scan (fault_of_structure v) 0 (structures s) ≡ Err (r, k)

@@ -1,7 +1,7 @@
 //! The first structure with a fault.
 ghost use Rattle.std.specs.Prelude.{◌≡◌};
 ghost use Rattle.packstream.specs.View.{tree, trees, trees_of, entries, entries_of};
-ghost use Rattle.structures.specs.Faults.{scan, structures, structures_in, structures_under, scanned, fault, next};
+ghost use Rattle.structures.specs.Faults.{scan, structures, structures_in, structures_under, fault_or_rest, fault, next};
 
 use crate::fault::Reason;
 use crate::wrong::fault_of;
@@ -30,7 +30,8 @@ fn check_members(
     members: &Vec<Value>,
     seen: usize,
 ) -> Result<usize, (Reason, usize)>
-    ensures { result ≡ scan (fault version) seen (structures_in (trees_of (trees members.now.items))) }
+    ensures { result ≡ scan (fault version) seen
+        (structures_in (trees_of (trees members.now.items))) }
 {
     let mut number = seen;
     for member in members {
@@ -45,7 +46,8 @@ fn check_pairs(
     pairs: &Vec<(String, Value)>,
     seen: usize,
 ) -> Result<usize, (Reason, usize)>
-    ensures { result ≡ scan (fault version) seen (structures_under (entries_of (entries pairs.now.items))) }
+    ensures { result ≡ scan (fault version) seen
+        (structures_under (entries_of (entries pairs.now.items))) }
 {
     let mut number = seen;
     for pair in pairs {

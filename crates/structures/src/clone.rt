@@ -137,7 +137,8 @@ fn copy_nodes(nodes: &Vec<Node>) -> Result<Vec<Node>, AllocError>
 fn copy_unbounds(
     relationships: &Vec<UnboundRelationship>,
 ) -> Result<Vec<UnboundRelationship>, AllocError>
-    ensures { IfOk result (λ v. map unbound_shape v.items ≡ map unbound_shape relationships.now.items) }
+    ensures { IfOk result (λ v. map unbound_shape v.items
+        ≡ map unbound_shape relationships.now.items) }
 {
     let mut copies = Vec::with_capacity(*relationships.allocator(), relationships.len())?;
     for unbound in relationships {

@@ -1,10 +1,16 @@
 //! Cells of values, and values of cells.
-ghost use Rattle.std.specs.Prelude.{◌≡◌};
-ghost use Rattle.packstream.specs.Tree.{dict, list};
+ghost use Rattle.std.specs.Prelude.{◌≡◌, ℕ, Ok, Err, ◌↔◌};
+ghost use Rattle.packstream.specs.declared.fault.Reason.{Reason as PackReason};
+ghost use Rattle.packstream.specs.Good.{IsGood};
+ghost use Rattle.packstream.specs.Tree.{Tree, dict, list};
 ghost use Rattle.packstream.specs.View.{tree, trees_of, entries_of};
-ghost use Rattle.structures.specs.Answers.{Reads, Writes, Packs};
+ghost use Rattle.structures.specs.declared.fault.CellFault.TheVariants as fault;
+ghost use Rattle.structures.specs.declared.fault.Reason.{Reason};
+ghost use Rattle.structures.specs.Answers.{Reads, Writes, Packs, Gave, UnlessMemory, IsUnpacked};
+ghost use Rattle.structures.specs.Faults.{IsBad, IsFine};
+ghost use Rattle.structures.specs.Form.{Form};
 ghost use Rattle.structures.specs.Shape.{shape, shapes, entries};
-ghost use Rattle.structures.specs.Writing.{IsWritable};
+ghost use Rattle.structures.specs.Writing.{IsWritable, IsUnwritable};
 
 use crate::cell::Cell;
 use crate::check::check;
@@ -16,8 +22,7 @@ use packstream::{PackFault, Packed, Value};
 use std::alloc::Global;
 use wire::Version;
 
-/// The cell of a value that stands inside another.
-pub fn read_value(alloc: Global, version: Version, value: &Value) -> Result<Cell, CellFault>
+fn read_cell(alloc: Global, version: Version, value: &Value) -> Result<Cell, CellFault>
     ensures { Reads version (tree value.now) result }
 {
     match check(version, value, 0) {
@@ -29,13 +34,32 @@ pub fn read_value(alloc: Global, version: Version, value: &Value) -> Result<Cell
     }
 }
 
+/// The cell of a value that stands inside another, as `read` reads it.
+pub fn read_value(alloc: Global, version: Version, value: &Value) -> Result<Cell, CellFault>
+    // Apart from memory, it is the cell whose form the value is, where it is one's ..
+    ensures cell { (s : Tree) → UnlessMemory result (Gave result s ↔ Form version s (tree value.now)) }
+
+    // .. and the first fault, where the value has one.
+    ensures fault { (r : Reason) (k : ℕ)
+        → UnlessMemory result ((result ≡ Err (fault.Refused r k)) ↔ IsBad version (tree value.now) k r) }
+    ensures memory { result ≡ Err fault.Memory → IsFine version (tree value.now) }
+{
+    read_cell(alloc, version, value)
+}
+
 /// The cell of a value in the form of a version.
 ///
 /// Refuses the first structure in preorder with a fault, by its number from 0 and its first fault in this order:
 /// unknown tag (S1) or tag of the other version (S6), number of fields (S2), kind of a field (S3), number out of its
 /// range (S4), path that doesn't walk (S5); and for want of memory (S7).
 pub fn read(alloc: Global, version: Version, packed: &Packed) -> Result<Cell, CellFault>
-    ensures { Reads version packed.now result }
+    // Apart from memory, it is the cell whose form the value is, where it is one's ..
+    ensures cell { (s : Tree) → UnlessMemory result (Gave result s ↔ Form version s packed.now) }
+
+    // .. and the first fault, where the value has one.
+    ensures fault { (r : Reason) (k : ℕ)
+        → UnlessMemory result ((result ≡ Err (fault.Refused r k)) ↔ IsBad version packed.now k r) }
+    ensures memory { result ≡ Err fault.Memory → IsFine version packed.now }
 {
     read_value(alloc, version, packed.value())
 }
@@ -58,18 +82,34 @@ fn write_fine(alloc: Global, version: Version, cell: &Cell) -> Result<Packed, Ce
     pack(alloc, value)
 }
 
-/// The value of a cell in the form of a version.
-///
-/// Refuses the first typed cell in preorder with a fault, by its number from 0 and its first fault in this order: cell
-/// or element ids of the other version (S6), number out of its range (S4), path that doesn't walk (S5). Where there is
-/// none, refuses a value that is too deep or has a key twice (S8), and for want of memory (S7).
-pub fn write(alloc: Global, version: Version, cell: &Cell) -> Result<Packed, CellFault>
+fn write_cell(alloc: Global, version: Version, cell: &Cell) -> Result<Packed, CellFault>
     ensures { Writes version (shape cell.now) result }
 {
     match check_cell(version, cell, 0) {
         Err((reason, number)) => Err(CellFault::Refused(reason, number)),
         Ok(_) => write_fine(alloc, version, cell),
     }
+}
+
+/// The value of a cell in the form of a version.
+///
+/// Refuses the first typed cell in preorder with a fault, by its number from 0 and its first fault in this order: cell
+/// or element ids of the other version (S6), number out of its range (S4), path that doesn't walk (S5). Where there is
+/// none, refuses a value that is too deep or has a key twice (S8), and for want of memory (S7).
+pub fn write(alloc: Global, version: Version, cell: &Cell) -> Result<Packed, CellFault>
+    // Apart from memory, it is the cell's form, where the cell has one and that is good ..
+    ensures value { (t : Tree)
+        → UnlessMemory result ((result ≡ Ok t) ↔ (IsWritable version (shape cell.now) × Form version (shape cell.now) t × IsGood t)) }
+
+    // .. and the first fault of a cell, or else that of the form.
+    ensures fault { (r : Reason) (k : ℕ)
+        → UnlessMemory result ((result ≡ Err (fault.Refused r k)) ↔ IsUnwritable version (shape cell.now) k r) }
+    ensures pack { (r : PackReason) (o : ℕ)
+        → UnlessMemory result ((result ≡ Err (fault.Pack r o))
+        ↔ (IsWritable version (shape cell.now) × ((t : Tree) × Form version (shape cell.now) t × IsUnpacked t r o))) }
+    ensures memory { result ≡ Err fault.Memory → IsWritable version (shape cell.now) }
+{
+    write_cell(alloc, version, cell)
 }
 
 fn members_fine(alloc: Global, version: Version, members: &Vec<Cell>) -> Result<Packed, CellFault>
@@ -80,18 +120,34 @@ fn members_fine(alloc: Global, version: Version, members: &Vec<Cell>) -> Result<
     pack(alloc, Value::List(values))
 }
 
-/// The value of a list of these cells, as `write` writes it.
-pub fn write_members(
-    alloc: Global,
-    version: Version,
-    members: &Vec<Cell>,
-) -> Result<Packed, CellFault>
+fn write_list(alloc: Global, version: Version, members: &Vec<Cell>) -> Result<Packed, CellFault>
     ensures { Writes version (list (trees_of (shapes members.now.items))) result }
 {
     match check_cells(version, members, 0) {
         Err((reason, number)) => Err(CellFault::Refused(reason, number)),
         Ok(_) => members_fine(alloc, version, members),
     }
+}
+
+/// The value of a list of these cells, as `write` writes it.
+pub fn write_members(
+    alloc: Global,
+    version: Version,
+    members: &Vec<Cell>,
+) -> Result<Packed, CellFault>
+    // Apart from memory, it is the cell's form, where the cell has one and that is good ..
+    ensures value { (t : Tree)
+        → UnlessMemory result ((result ≡ Ok t) ↔ (IsWritable version (list (trees_of (shapes members.now.items))) × Form version (list (trees_of (shapes members.now.items))) t × IsGood t)) }
+
+    // .. and the first fault of a cell, or else that of the form.
+    ensures fault { (r : Reason) (k : ℕ)
+        → UnlessMemory result ((result ≡ Err (fault.Refused r k)) ↔ IsUnwritable version (list (trees_of (shapes members.now.items))) k r) }
+    ensures pack { (r : PackReason) (o : ℕ)
+        → UnlessMemory result ((result ≡ Err (fault.Pack r o))
+        ↔ (IsWritable version (list (trees_of (shapes members.now.items))) × ((t : Tree) × Form version (list (trees_of (shapes members.now.items))) t × IsUnpacked t r o))) }
+    ensures memory { result ≡ Err fault.Memory → IsWritable version (list (trees_of (shapes members.now.items))) }
+{
+    write_list(alloc, version, members)
 }
 
 fn entries_fine(
@@ -106,8 +162,7 @@ fn entries_fine(
     pack(alloc, Value::Dict(values))
 }
 
-/// The value of a dictionary of these entries, as `write` writes it.
-pub fn write_entries(
+fn write_dict(
     alloc: Global,
     version: Version,
     pairs: &Vec<(String, Cell)>,
@@ -118,4 +173,25 @@ pub fn write_entries(
         Err((reason, number)) => Err(CellFault::Refused(reason, number)),
         Ok(_) => entries_fine(alloc, version, pairs),
     }
+}
+
+/// The value of a dictionary of these entries, as `write` writes it.
+pub fn write_entries(
+    alloc: Global,
+    version: Version,
+    pairs: &Vec<(String, Cell)>,
+) -> Result<Packed, CellFault>
+    // Apart from memory, it is the cell's form, where the cell has one and that is good ..
+    ensures value { (t : Tree)
+        → UnlessMemory result ((result ≡ Ok t) ↔ (IsWritable version (dict (entries_of (entries pairs.now.items))) × Form version (dict (entries_of (entries pairs.now.items))) t × IsGood t)) }
+
+    // .. and the first fault of a cell, or else that of the form.
+    ensures fault { (r : Reason) (k : ℕ)
+        → UnlessMemory result ((result ≡ Err (fault.Refused r k)) ↔ IsUnwritable version (dict (entries_of (entries pairs.now.items))) k r) }
+    ensures pack { (r : PackReason) (o : ℕ)
+        → UnlessMemory result ((result ≡ Err (fault.Pack r o))
+        ↔ (IsWritable version (dict (entries_of (entries pairs.now.items))) × ((t : Tree) × Form version (dict (entries_of (entries pairs.now.items))) t × IsUnpacked t r o))) }
+    ensures memory { result ≡ Err fault.Memory → IsWritable version (dict (entries_of (entries pairs.now.items))) }
+{
+    write_dict(alloc, version, pairs)
 }

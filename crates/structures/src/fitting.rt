@@ -28,7 +28,8 @@ fn fit_element(
     id: i64,
     element_id: &mut Option<String>,
 ) -> Result<(), AllocError>
-    ensures { IfOk result (λ _. element_of element_id.new ≡ element_at version id (element_of element_id.old)) }
+    ensures { IfOk result (λ _. element_of element_id.new
+        ≡ element_at version id (element_of element_id.old)) }
 {
     if !version.has_element_ids() {
         *element_id = None;
@@ -47,7 +48,8 @@ fn fit_elements(
     end: i64,
     element_ids: &mut Option<ElementIds>,
 ) -> Result<(), AllocError>
-    ensures { IfOk result (λ _. elements_of element_ids.new ≡ elements_at version id start end (elements_of element_ids.old)) }
+    ensures { IfOk result (λ _. elements_of element_ids.new
+        ≡ elements_at version id start end (elements_of element_ids.old)) }
 {
     if !version.has_element_ids() {
         *element_ids = None;
@@ -85,7 +87,8 @@ fn fit_cell(alloc: Global, version: Version, cell: &mut Cell) -> Result<(), Allo
 
 #[cycle(fitting)]
 fn fit_members(alloc: Global, version: Version, members: &mut Vec<Cell>) -> Result<(), AllocError>
-    ensures { IfOk result (λ _. shapes members.new.items ≡ map (fitted version) (shapes members.old.items)) }
+    ensures { IfOk result (λ _. shapes members.new.items
+        ≡ map (fitted version) (shapes members.old.items)) }
 {
     for i in 0..members.len() {
         fit_cell(alloc, version, &mut members[i])?;
@@ -99,7 +102,8 @@ fn fit_pairs(
     version: Version,
     pairs: &mut Vec<(String, Cell)>,
 ) -> Result<(), AllocError>
-    ensures { IfOk result (λ _. entries pairs.new.items ≡ map (fitted_entry version) (entries pairs.old.items)) }
+    ensures { IfOk result (λ _. entries pairs.new.items
+        ≡ map (fitted_entry version) (entries pairs.old.items)) }
 {
     for i in 0..pairs.len() {
         fit_cell(alloc, version, &mut pairs[i].1)?;
@@ -109,7 +113,8 @@ fn fit_pairs(
 
 #[cycle(fitting)]
 fn fit_nodes(alloc: Global, version: Version, nodes: &mut Vec<Node>) -> Result<(), AllocError>
-    ensures { IfOk result (λ _. map node_shape nodes.new.items ≡ map (fitted version) (map node_shape nodes.old.items)) }
+    ensures { IfOk result (λ _. map node_shape nodes.new.items
+        ≡ map (fitted version) (map node_shape nodes.old.items)) }
 {
     for i in 0..nodes.len() {
         fit_node(alloc, version, &mut nodes[i])?;
@@ -123,7 +128,8 @@ fn fit_unbounds(
     version: Version,
     relationships: &mut Vec<UnboundRelationship>,
 ) -> Result<(), AllocError>
-    ensures { IfOk result (λ _. map unbound_shape relationships.new.items ≡ map (fitted version) (map unbound_shape relationships.old.items)) }
+    ensures { IfOk result (λ _. map unbound_shape relationships.new.items
+        ≡ map (fitted version) (map unbound_shape relationships.old.items)) }
 {
     for i in 0..relationships.len() {
         fit_unbound(alloc, version, &mut relationships[i])?;
@@ -145,7 +151,8 @@ fn fit_unbound(
     version: Version,
     unbound: &mut UnboundRelationship,
 ) -> Result<(), AllocError>
-    ensures { IfOk result (λ _. unbound_shape unbound.new ≡ fitted version (unbound_shape unbound.old)) }
+    ensures { IfOk result (λ _. unbound_shape unbound.new
+        ≡ fitted version (unbound_shape unbound.old)) }
 {
     fit_pairs(alloc, version, &mut unbound.properties)?;
     fit_element(alloc, version, unbound.id, &mut unbound.element_id)
@@ -157,7 +164,8 @@ fn fit_relationship(
     version: Version,
     relationship: &mut Relationship,
 ) -> Result<(), AllocError>
-    ensures { IfOk result (λ _. relationship_shape relationship.new ≡ fitted version (relationship_shape relationship.old)) }
+    ensures { IfOk result (λ _. relationship_shape relationship.new
+        ≡ fitted version (relationship_shape relationship.old)) }
 {
     fit_pairs(alloc, version, &mut relationship.properties)?;
     fit_elements(

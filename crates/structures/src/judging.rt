@@ -2,11 +2,11 @@
 ghost use Rattle.std.specs.Prelude.{◌≡◌, ◌≤◌, Ok, length, map, true};
 ghost use Rattle.packstream.specs.Tree.{int};
 ghost use Rattle.packstream.specs.View.{trees_of, entries_of};
-ghost use Rattle.structures.specs.Faults.{scan, scanned, next, structures, structures_in, structures_under, is_walk};
+ghost use Rattle.structures.specs.Faults.{scan, fault_or_rest, next, structures, structures_in, structures_under, is_walk};
 ghost use Rattle.packstream.specs.Good.{count};
 ghost use Rattle.structures.specs.Shape.{element_of, elements_of, shape, shapes, entries, node_shape, unbound_shape, relationship_shape};
-ghost use Rattle.structures.specs.Writing.{unwritten, tag_at};
-ghost use Rattle.structures.specs.Steps.{judged, numbers_in_range, walk_fault};
+ghost use Rattle.structures.specs.Writing.{fault_of_structure, tag_at};
+ghost use Rattle.structures.specs.Steps.{range_fault, numbers_in_range, walk_fault};
 
 use crate::cell::{Cell, ElementIds, Node, Relationship, UnboundRelationship};
 use crate::fault::Reason;
@@ -43,7 +43,7 @@ fn are_within(kinds: &[Field], numbers: &[i64]) -> bool
 /// The fault of a typed cell by its number of fields and the numbers that they begin with.
 fn fault_by(version: Version, tag: u8, count: usize, numbers: &[i64]) -> Option<Reason>
     requires { length numbers.now ≤ count }
-    ensures { result ≡ judged version tag count numbers.now }
+    ensures { result ≡ range_fault version tag count numbers.now }
 {
     let kinds = match kinds_of(version, tag_of(version, tag)) {
         Ok(kinds) => kinds,
@@ -66,7 +66,8 @@ fn judge(
     seen: usize,
 ) -> Result<usize, (Reason, usize)>
     requires { length numbers.now ≤ count }
-    ensures { result ≡ scanned (judged version tag count numbers.now) seen (Ok (next seen)) }
+    ensures { result ≡ fault_or_rest (range_fault version tag count numbers.now) seen
+        (Ok (next seen)) }
 {
     match fault_by(version, tag, count, numbers) {
         Some(reason) => Err((reason, seen)),
@@ -101,7 +102,7 @@ pub(crate) fn check_cell(
     cell: &Cell,
     seen: usize,
 ) -> Result<usize, (Reason, usize)>
-    ensures { result ≡ scan (unwritten version) seen (structures (shape cell.now)) }
+    ensures { result ≡ scan (fault_of_structure version) seen (structures (shape cell.now)) }
 {
     match cell {
         Cell::Null
@@ -178,7 +179,8 @@ fn check_walk(
     indices: &[i64],
     seen: usize,
 ) -> Result<usize, (Reason, usize)>
-    ensures { result ≡ scanned (walk_fault nodes relationships indices.now) seen (Ok (next seen)) }
+    ensures { result ≡ fault_or_rest (walk_fault nodes relationships indices.now) seen
+        (Ok (next seen)) }
 {
     if 0 < nodes && indices_walk(nodes, relationships, indices) {
         return Ok(seen.saturating_add(1));
@@ -192,7 +194,8 @@ pub(crate) fn check_cells(
     members: &Vec<Cell>,
     seen: usize,
 ) -> Result<usize, (Reason, usize)>
-    ensures { result ≡ scan (unwritten version) seen (structures_in (trees_of (shapes members.now.items))) }
+    ensures { result ≡ scan (fault_of_structure version) seen
+        (structures_in (trees_of (shapes members.now.items))) }
 {
     let mut number = seen;
     for member in members {
@@ -207,7 +210,8 @@ pub(crate) fn check_entries(
     pairs: &Vec<(String, Cell)>,
     seen: usize,
 ) -> Result<usize, (Reason, usize)>
-    ensures { result ≡ scan (unwritten version) seen (structures_under (entries_of (entries pairs.now.items))) }
+    ensures { result ≡ scan (fault_of_structure version) seen
+        (structures_under (entries_of (entries pairs.now.items))) }
 {
     let mut number = seen;
     for pair in pairs {
@@ -218,7 +222,7 @@ pub(crate) fn check_entries(
 
 #[cycle(judge)]
 fn check_node(version: Version, node: &Node, seen: usize) -> Result<usize, (Reason, usize)>
-    ensures { result ≡ scan (unwritten version) seen (structures (node_shape node.now)) }
+    ensures { result ≡ scan (fault_of_structure version) seen (structures (node_shape node.now)) }
 {
     let count = 3 + element_count(&node.element_id);
     let number = judge(version, tags::NODE, count, &[node.id], seen)?;
@@ -231,7 +235,8 @@ fn check_unbound(
     unbound: &UnboundRelationship,
     seen: usize,
 ) -> Result<usize, (Reason, usize)>
-    ensures { result ≡ scan (unwritten version) seen (structures (unbound_shape unbound.now)) }
+    ensures { result ≡ scan (fault_of_structure version) seen
+        (structures (unbound_shape unbound.now)) }
 {
     let count = 3 + element_count(&unbound.element_id);
     let number = judge(
@@ -250,7 +255,8 @@ fn check_relationship(
     relationship: &Relationship,
     seen: usize,
 ) -> Result<usize, (Reason, usize)>
-    ensures { result ≡ scan (unwritten version) seen (structures (relationship_shape relationship.now)) }
+    ensures { result ≡ scan (fault_of_structure version) seen
+        (structures (relationship_shape relationship.now)) }
 {
     let count = 5 + elements_count(&relationship.element_ids);
     let numbers = [relationship.id, relationship.start, relationship.end];
@@ -260,7 +266,8 @@ fn check_relationship(
 
 #[cycle(judge)]
 fn check_nodes(version: Version, nodes: &Vec<Node>, seen: usize) -> Result<usize, (Reason, usize)>
-    ensures { result ≡ scan (unwritten version) seen (structures_in (trees_of (map node_shape nodes.now.items))) }
+    ensures { result ≡ scan (fault_of_structure version) seen
+        (structures_in (trees_of (map node_shape nodes.now.items))) }
 {
     let mut number = seen;
     for node in nodes {
@@ -275,7 +282,8 @@ fn check_unbounds(
     unbounds: &Vec<UnboundRelationship>,
     seen: usize,
 ) -> Result<usize, (Reason, usize)>
-    ensures { result ≡ scan (unwritten version) seen (structures_in (trees_of (map unbound_shape unbounds.now.items))) }
+    ensures { result ≡ scan (fault_of_structure version) seen
+        (structures_in (trees_of (map unbound_shape unbounds.now.items))) }
 {
     let mut number = seen;
     for unbound in unbounds {

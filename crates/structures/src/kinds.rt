@@ -65,7 +65,7 @@ pub(crate) fn holds(field: Field, value: &Value) -> bool
     ensures { result ≡ is_kind field (tree value.now) }
 {
     match (field, value) {
-        (Field::Number, Value::Float(_)) => true,
+        (Field::Float, Value::Float(_)) => true,
         (Field::Text, Value::Text(_)) => true,
         (Field::Properties, Value::Dict(_)) => true,
         (Field::Labels, Value::List(members)) => all_texts(members),
@@ -76,7 +76,7 @@ pub(crate) fn holds(field: Field, value: &Value) -> bool
         ),
         (Field::Indices, Value::List(members)) => all_ints(members),
         (
-            Field::Whole
+            Field::Integer
             | Field::Nanosecond
             | Field::DayNanosecond
             | Field::Offset

@@ -30,13 +30,15 @@ pub fn one_writing()
 
 /// What packing a cell's form is refused for is a key that stands twice, or its depth.
 pub fn packing_faults()
-    ensures { (v : AnyVersion) (s t : Tree) (r : PackReason) (o : ℕ) → Form v s t → IsUnpacked t r o → IsOfPacking r }
+    ensures { (v : AnyVersion) (s t : Tree) (r : PackReason) (o : ℕ) → Form v s t → IsUnpacked t r o
+        → IsOfPacking r }
 {}
 
 /// A cell without a fault has a form, which is read back as that cell.
 pub fn written_is_read_back()
     ensures back { (v : AnyVersion) (c : AnyCell) → typed (form v (shape c)) ≡ shape c }
-    ensures form { (v : AnyVersion) (c : AnyCell) → IsWritable v (shape c) → Form v (shape c) (form v (shape c)) }
+    ensures form { (v : AnyVersion) (c : AnyCell) → IsWritable v (shape c)
+        → Form v (shape c) (form v (shape c)) }
 {}
 
 /// A cell has at most one form: what a value was read as is written as that value again.

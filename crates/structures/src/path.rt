@@ -65,7 +65,8 @@ pub(crate) fn indices_walk(nodes: usize, relationships: usize, indices: &[i64]) 
 }
 
 fn is_shaped_by(nodes: &Value, relationships: &Value, steps: &Value) -> bool
-    ensures { result ≡ is_path (trees_of (tree nodes.now ∷ tree relationships.now ∷ tree steps.now ∷ [])) }
+    ensures { result ≡ is_path
+        (trees_of (tree nodes.now ∷ tree relationships.now ∷ tree steps.now ∷ [])) }
 {
     match (nodes, relationships, steps) {
         (Value::List(nodes), Value::List(relationships), Value::List(steps)) => nodes.len() > 0

@@ -40,7 +40,8 @@ pub(crate) fn cell_of(alloc: Global, version: Version, value: &Value) -> Result<
 
 #[cycle(read)]
 fn cells_of(alloc: Global, version: Version, members: &Vec<Value>) -> Result<Vec<Cell>, AllocError>
-    requires { all_fine (fault version) (structures_in (trees_of (trees members.now.items))) ≡ true }
+    requires { all_fine (fault version) (structures_in (trees_of (trees members.now.items)))
+        ≡ true }
     ensures { IfOk result (λ v. shapes v.items ≡ map typed (trees members.now.items)) }
 {
     let mut cells = Vec::with_capacity(alloc, members.len())?;
@@ -56,7 +57,8 @@ fn pairs_of(
     version: Version,
     pairs: &Vec<(String, Value)>,
 ) -> Result<Vec<(String, Cell)>, AllocError>
-    requires { all_fine (fault version) (structures_under (entries_of (seen_entries pairs.now.items))) ≡ true }
+    requires { all_fine (fault version)
+        (structures_under (entries_of (seen_entries pairs.now.items))) ≡ true }
     ensures { IfOk result (λ v. entries v.items ≡ map typed_entry (seen_entries pairs.now.items)) }
 {
     let mut cells = Vec::with_capacity(alloc, pairs.len())?;
@@ -75,8 +77,10 @@ fn structure_of(
     fields: &Vec<Value>,
 ) -> Result<Cell, AllocError>
     requires fine { fault version tag (trees_of (trees fields.now.items)) ≡ None }
-    requires inner { all_fine (fault version) (structures_in (trees_of (trees fields.now.items))) ≡ true }
-    ensures { IfOk result (λ c. shape c ≡ typed (structure tag (trees_of (trees fields.now.items)))) }
+    requires inner { all_fine (fault version) (structures_in (trees_of (trees fields.now.items)))
+        ≡ true }
+    ensures { IfOk result (λ c. shape c
+        ≡ typed (structure tag (trees_of (trees fields.now.items)))) }
 {
     match tag {
         tags::NODE => Ok(Cell::Node(node_of(alloc, version, fields)?)),
@@ -103,8 +107,10 @@ fn structure_of(
 #[cycle(read)]
 fn node_of(alloc: Global, version: Version, fields: &Vec<Value>) -> Result<Node, AllocError>
     requires fine { fault version node_tag (trees_of (trees fields.now.items)) ≡ None }
-    requires inner { all_fine (fault version) (structures_in (trees_of (trees fields.now.items))) ≡ true }
-    ensures { IfOk result (λ n. node_shape n ≡ typed (structure node_tag (trees_of (trees fields.now.items)))) }
+    requires inner { all_fine (fault version) (structures_in (trees_of (trees fields.now.items)))
+        ≡ true }
+    ensures { IfOk result (λ n. node_shape n
+        ≡ typed (structure node_tag (trees_of (trees fields.now.items)))) }
 {
     let id = int_at(fields, 0);
     let labels = texts_at(alloc, fields, 1)?;
@@ -125,8 +131,10 @@ fn unbound_of(
     fields: &Vec<Value>,
 ) -> Result<UnboundRelationship, AllocError>
     requires fine { fault version unbound_tag (trees_of (trees fields.now.items)) ≡ None }
-    requires inner { all_fine (fault version) (structures_in (trees_of (trees fields.now.items))) ≡ true }
-    ensures { IfOk result (λ n. unbound_shape n ≡ typed (structure unbound_tag (trees_of (trees fields.now.items)))) }
+    requires inner { all_fine (fault version) (structures_in (trees_of (trees fields.now.items)))
+        ≡ true }
+    ensures { IfOk result (λ n. unbound_shape n
+        ≡ typed (structure unbound_tag (trees_of (trees fields.now.items)))) }
 {
     let id = int_at(fields, 0);
     let kind = text_at(alloc, fields, 1)?;
@@ -147,8 +155,10 @@ fn relationship_of(
     fields: &Vec<Value>,
 ) -> Result<Relationship, AllocError>
     requires fine { fault version relationship_tag (trees_of (trees fields.now.items)) ≡ None }
-    requires inner { all_fine (fault version) (structures_in (trees_of (trees fields.now.items))) ≡ true }
-    ensures { IfOk result (λ n. relationship_shape n ≡ typed (structure relationship_tag (trees_of (trees fields.now.items)))) }
+    requires inner { all_fine (fault version) (structures_in (trees_of (trees fields.now.items)))
+        ≡ true }
+    ensures { IfOk result (λ n. relationship_shape n
+        ≡ typed (structure relationship_tag (trees_of (trees fields.now.items)))) }
 {
     let id = int_at(fields, 0);
     let start = int_at(fields, 1);
@@ -169,8 +179,10 @@ fn relationship_of(
 #[cycle(read)]
 fn path_of(alloc: Global, version: Version, fields: &Vec<Value>) -> Result<Cell, AllocError>
     requires fine { fault version path_tag (trees_of (trees fields.now.items)) ≡ None }
-    requires inner { all_fine (fault version) (structures_in (trees_of (trees fields.now.items))) ≡ true }
-    ensures { IfOk result (λ c. shape c ≡ typed (structure path_tag (trees_of (trees fields.now.items)))) }
+    requires inner { all_fine (fault version) (structures_in (trees_of (trees fields.now.items)))
+        ≡ true }
+    ensures { IfOk result (λ c. shape c
+        ≡ typed (structure path_tag (trees_of (trees fields.now.items)))) }
 {
     let nodes = nodes_of(alloc, version, &fields[0])?;
     let relationships = unbounds_of(alloc, version, &fields[1])?;
@@ -196,7 +208,8 @@ fn nodes_of(alloc: Global, version: Version, value: &Value) -> Result<Vec<Node>,
 
 #[cycle(read)]
 fn nodes_in(alloc: Global, version: Version, members: &Vec<Value>) -> Result<Vec<Node>, AllocError>
-    requires fine { all_fine (fault version) (structures_in (trees_of (trees members.now.items))) ≡ true }
+    requires fine { all_fine (fault version) (structures_in (trees_of (trees members.now.items)))
+        ≡ true }
     requires tagged { each (has_tag node_tag) (trees_of (trees members.now.items)) ≡ true }
     ensures { IfOk result (λ v. map node_shape v.items ≡ map typed (trees members.now.items)) }
 {
@@ -227,7 +240,8 @@ fn unbounds_of(
 ) -> Result<Vec<UnboundRelationship>, AllocError>
     requires fine { all_fine (fault version) (structures (tree value.now)) ≡ true }
     requires kind { is_kind Field.Relationships (tree value.now) ≡ true }
-    ensures { IfOk result (λ v. list (trees_of (map unbound_shape v.items)) ≡ typed (tree value.now)) }
+    ensures { IfOk result (λ v. list (trees_of (map unbound_shape v.items))
+        ≡ typed (tree value.now)) }
 {
     match value {
         Value::List(members) => unbounds_in(alloc, version, members),
@@ -241,7 +255,8 @@ fn unbounds_in(
     version: Version,
     members: &Vec<Value>,
 ) -> Result<Vec<UnboundRelationship>, AllocError>
-    requires fine { all_fine (fault version) (structures_in (trees_of (trees members.now.items))) ≡ true }
+    requires fine { all_fine (fault version) (structures_in (trees_of (trees members.now.items)))
+        ≡ true }
     requires tagged { each (has_tag unbound_tag) (trees_of (trees members.now.items)) ≡ true }
     ensures { IfOk result (λ v. map unbound_shape v.items ≡ map typed (trees members.now.items)) }
 {
@@ -275,7 +290,8 @@ fn properties_in(
     value: &Value,
 ) -> Result<Vec<(String, Cell)>, AllocError>
     requires { all_fine (fault version) (structures (tree value.now)) ≡ true }
-    ensures { IfOk result (λ v. is_kind Field.Properties (tree value.now) ≡ true → dict (entries_of (entries v.items)) ≡ typed (tree value.now)) }
+    ensures { IfOk result (λ v. is_kind Field.Properties (tree value.now) ≡ true
+        → dict (entries_of (entries v.items)) ≡ typed (tree value.now)) }
 {
     match value {
         Value::Dict(pairs) => pairs_of(alloc, version, pairs),
@@ -292,7 +308,10 @@ fn properties_of(
     i: usize,
 ) -> Result<Vec<(String, Cell)>, AllocError>
     requires { all_fine (fault version) (structures_in (trees_of (trees fields.now.items))) ≡ true }
-    ensures { IfOk result (λ v. is_kind Field.Properties (tree_at i (trees_of (trees fields.now.items))) ≡ true → dict (entries_of (entries v.items)) ≡ typed (tree_at i (trees_of (trees fields.now.items)))) }
+    ensures { IfOk result (λ v. is_kind Field.Properties
+        (tree_at i (trees_of (trees fields.now.items))) ≡ true
+        → dict (entries_of (entries v.items))
+        ≡ typed (tree_at i (trees_of (trees fields.now.items)))) }
 {
     match fields.get(i) {
         Some(value) => properties_in(alloc, version, value),

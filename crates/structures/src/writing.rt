@@ -5,7 +5,7 @@ ghost use Rattle.packstream.specs.View.{tree, trees, trees_of, entries_of, entri
 ghost use Rattle.structures.specs.Faults.{structures, structures_in, structures_under};
 ghost use Rattle.structures.specs.Form.{form};
 ghost use Rattle.structures.specs.Steps.{form_entry, all_fine};
-ghost use Rattle.structures.specs.Writing.{unwritten};
+ghost use Rattle.structures.specs.Writing.{fault_of_structure};
 ghost use Rattle.structures.specs.Shape.{shape, shapes, entries, node_shape, unbound_shape, relationship_shape, text_of, texts_of, numbers_of, element_of, elements_of};
 ghost use Rattle.structures.specs.Table.{relationship_tag, path_tag, date_time_tag};
 
@@ -50,7 +50,8 @@ fn list_of_texts(alloc: Global, texts: &Vec<String>) -> Result<Value, AllocError
 
 /// A number, then floats.
 fn of_point(alloc: Global, tag: u8, srid: i64, floats: &[u64]) -> Result<Value, AllocError>
-    ensures { IfOk result (λ w. tree w ≡ structure tag (tree_then (int srid) (trees_of (map float floats.now)))) }
+    ensures { IfOk result (λ w. tree w
+        ≡ structure tag (tree_then (int srid) (trees_of (map float floats.now)))) }
 {
     let mut fields = vec![in alloc; Value::Int(srid)]?;
     for bits in floats {
@@ -67,7 +68,9 @@ fn of_zoned(
     nanos: i64,
     zone: &String,
 ) -> Result<Value, AllocError>
-    ensures { IfOk result (λ w. tree w ≡ structure tag (tree_then (int seconds) (tree_then (int nanos) (tree_then (text_of zone.now) no_trees)))) }
+    ensures { IfOk result (λ w. tree w
+        ≡ structure tag (tree_then (int seconds)
+        (tree_then (int nanos) (tree_then (text_of zone.now) no_trees)))) }
 {
     let zone = Value::Text(zone.clone()?);
     Ok(Value::Struct(
@@ -85,7 +88,9 @@ fn of_named(
     third: Value,
     id: &Option<String>,
 ) -> Result<Value, AllocError>
-    ensures { IfOk result (λ w. tree w ≡ structure tag (tree_then (tree first) (tree_then (tree second) (tree_then (tree third) (element_of id.now))))) }
+    ensures { IfOk result (λ w. tree w
+        ≡ structure tag (tree_then (tree first)
+        (tree_then (tree second) (tree_then (tree third) (element_of id.now))))) }
 {
     match id {
         None => Ok(Value::Struct(tag, vec![in alloc; first, second, third]?)),
@@ -104,8 +109,12 @@ fn of_moment(
     nanos: i64,
     offset: i64,
 ) -> Result<Value, AllocError>
-    requires { unwritten version date_time_tag (tree_then (int utc) (tree_then (int nanos) (tree_then (int offset) no_trees))) ≡ None }
-    ensures { IfOk result (λ w. tree w ≡ form version (structure date_time_tag (tree_then (int utc) (tree_then (int nanos) (tree_then (int offset) no_trees))))) }
+    requires { fault_of_structure version date_time_tag
+        (tree_then (int utc) (tree_then (int nanos) (tree_then (int offset) no_trees))) ≡ None }
+    ensures { IfOk result (λ w. tree w
+        ≡ form version (structure date_time_tag
+        (tree_then (int utc) (tree_then (int nanos)
+        (tree_then (int offset) no_trees))))) }
 {
     if version.has_utc_times() {
         of_ints(alloc, tags::DATE_TIME, &[utc, nanos, offset])
@@ -120,7 +129,7 @@ fn of_moment(
 
 #[cycle(write)]
 pub(crate) fn value_of(alloc: Global, version: Version, cell: &Cell) -> Result<Value, AllocError>
-    requires { all_fine (unwritten version) (structures (shape cell.now)) ≡ true }
+    requires { all_fine (fault_of_structure version) (structures (shape cell.now)) ≡ true }
     ensures { IfOk result (λ w. tree w ≡ form version (shape cell.now)) }
 {
     match cell {
@@ -188,7 +197,8 @@ pub(crate) fn values_of(
     version: Version,
     members: &Vec<Cell>,
 ) -> Result<Vec<Value>, AllocError>
-    requires { all_fine (unwritten version) (structures_in (trees_of (shapes members.now.items))) ≡ true }
+    requires { all_fine (fault_of_structure version)
+        (structures_in (trees_of (shapes members.now.items))) ≡ true }
     ensures { IfOk result (λ v. trees v.items ≡ map (form version) (shapes members.now.items)) }
 {
     let mut values = Vec::with_capacity(alloc, members.len())?;
@@ -204,8 +214,10 @@ pub(crate) fn pair_values(
     version: Version,
     pairs: &Vec<(String, Cell)>,
 ) -> Result<Vec<(String, Value)>, AllocError>
-    requires { all_fine (unwritten version) (structures_under (entries_of (entries pairs.now.items))) ≡ true }
-    ensures { IfOk result (λ v. seen_entries v.items ≡ map (form_entry version) (entries pairs.now.items)) }
+    requires { all_fine (fault_of_structure version)
+        (structures_under (entries_of (entries pairs.now.items))) ≡ true }
+    ensures { IfOk result (λ v. seen_entries v.items
+        ≡ map (form_entry version) (entries pairs.now.items)) }
 {
     let mut values = Vec::with_capacity(alloc, pairs.len())?;
     for (key, cell) in pairs {
@@ -217,7 +229,7 @@ pub(crate) fn pair_values(
 
 #[cycle(write)]
 fn node_value(alloc: Global, version: Version, node: &Node) -> Result<Value, AllocError>
-    requires { all_fine (unwritten version) (structures (node_shape node.now)) ≡ true }
+    requires { all_fine (fault_of_structure version) (structures (node_shape node.now)) ≡ true }
     ensures { IfOk result (λ w. tree w ≡ form version (node_shape node.now)) }
 {
     let labels = list_of_texts(alloc, &node.labels)?;
@@ -238,7 +250,8 @@ fn unbound_value(
     version: Version,
     unbound: &UnboundRelationship,
 ) -> Result<Value, AllocError>
-    requires { all_fine (unwritten version) (structures (unbound_shape unbound.now)) ≡ true }
+    requires { all_fine (fault_of_structure version) (structures (unbound_shape unbound.now))
+        ≡ true }
     ensures { IfOk result (λ w. tree w ≡ form version (unbound_shape unbound.now)) }
 {
     let kind = Value::Text(unbound.kind.clone()?);
@@ -263,7 +276,11 @@ fn of_bound(
     properties: Value,
     ids: &Option<ElementIds>,
 ) -> Result<Value, AllocError>
-    ensures { IfOk result (λ w. tree w ≡ structure relationship_tag (tree_then (int id) (tree_then (int start) (tree_then (int end) (tree_then (tree kind) (tree_then (tree properties) (elements_of ids.now))))))) }
+    ensures { IfOk result (λ w. tree w
+        ≡ structure relationship_tag
+        (tree_then (int id) (tree_then (int start)
+        (tree_then (int end) (tree_then (tree kind)
+        (tree_then (tree properties) (elements_of ids.now))))))) }
 {
     match ids {
         None => Ok(Value::Struct(
@@ -303,7 +320,8 @@ fn relationship_value(
     version: Version,
     relationship: &Relationship,
 ) -> Result<Value, AllocError>
-    requires { all_fine (unwritten version) (structures (relationship_shape relationship.now)) ≡ true }
+    requires { all_fine (fault_of_structure version)
+        (structures (relationship_shape relationship.now)) ≡ true }
     ensures { IfOk result (λ w. tree w ≡ form version (relationship_shape relationship.now)) }
 {
     let kind = Value::Text(relationship.kind.clone()?);
@@ -325,15 +343,19 @@ fn of_path(
     relationships: Value,
     steps: Value,
 ) -> Result<Value, AllocError>
-    ensures { IfOk result (λ w. tree w ≡ structure path_tag (tree_then (tree nodes) (tree_then (tree relationships) (tree_then (tree steps) no_trees)))) }
+    ensures { IfOk result (λ w. tree w
+        ≡ structure path_tag (tree_then (tree nodes)
+        (tree_then (tree relationships) (tree_then (tree steps) no_trees)))) }
 {
     Ok(Value::Struct(tags::PATH, vec![in alloc; nodes, relationships, steps]?))
 }
 
 #[cycle(write)]
 fn node_values(alloc: Global, version: Version, nodes: &Vec<Node>) -> Result<Vec<Value>, AllocError>
-    requires { all_fine (unwritten version) (structures_in (trees_of (map node_shape nodes.now.items))) ≡ true }
-    ensures { IfOk result (λ v. trees v.items ≡ map (form version) (map node_shape nodes.now.items)) }
+    requires { all_fine (fault_of_structure version)
+        (structures_in (trees_of (map node_shape nodes.now.items))) ≡ true }
+    ensures { IfOk result (λ v. trees v.items
+        ≡ map (form version) (map node_shape nodes.now.items)) }
 {
     let mut values = Vec::with_capacity(alloc, nodes.len())?;
     for node in nodes {
@@ -348,8 +370,10 @@ fn unbound_values(
     version: Version,
     relationships: &Vec<UnboundRelationship>,
 ) -> Result<Vec<Value>, AllocError>
-    requires { all_fine (unwritten version) (structures_in (trees_of (map unbound_shape relationships.now.items))) ≡ true }
-    ensures { IfOk result (λ v. trees v.items ≡ map (form version) (map unbound_shape relationships.now.items)) }
+    requires { all_fine (fault_of_structure version)
+        (structures_in (trees_of (map unbound_shape relationships.now.items))) ≡ true }
+    ensures { IfOk result (λ v. trees v.items
+        ≡ map (form version) (map unbound_shape relationships.now.items)) }
 {
     let mut values = Vec::with_capacity(alloc, relationships.len())?;
     for unbound in relationships {

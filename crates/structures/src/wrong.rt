@@ -2,7 +2,7 @@
 ghost use Rattle.std.specs.Prelude.{◌≡◌, ◌∷◌, [], length, IsTrue, cond, ◌==◌, true};
 ghost use Rattle.packstream.specs.Tree.{int};
 ghost use Rattle.packstream.specs.View.{tree, trees, trees_of};
-ghost use Rattle.structures.specs.Faults.{fault, dated, are_kinds, are_in_range, to_utc, utc_fields, is_path};
+ghost use Rattle.structures.specs.Faults.{fault, moment_fields, are_kinds, are_in_range, to_utc, utc_fields, is_path};
 ghost use Rattle.structures.specs.Table.{path_tag, legacy_date_time_tag};
 
 use crate::fault::Reason;
@@ -15,7 +15,8 @@ use wire::Version;
 
 /// The ranges of UTC seconds, nanoseconds and offset.
 fn is_dated_at(utc: i64, nanos: &Value, offset: &Value) -> bool
-    ensures { result ≡ are_in_range dated (trees_of (int utc ∷ tree nanos.now ∷ tree offset.now ∷ [])) }
+    ensures { result ≡ are_in_range moment_fields
+        (trees_of (int utc ∷ tree nanos.now ∷ tree offset.now ∷ [])) }
 {
     if !is_within(Field::UtcSecond, &Value::Int(utc)) {
         return false;
@@ -28,8 +29,10 @@ fn is_dated_at(utc: i64, nanos: &Value, offset: &Value) -> bool
 
 /// The ranges of local seconds, nanoseconds and offset.
 fn is_dated(local: &Value, nanos: &Value, offset: &Value) -> bool
-    requires { IsTrue (are_kinds dated (trees_of (tree local.now ∷ tree nanos.now ∷ tree offset.now ∷ []))) }
-    ensures { result ≡ are_in_range dated (to_utc (trees_of (tree local.now ∷ tree nanos.now ∷ tree offset.now ∷ []))) }
+    requires { IsTrue (are_kinds moment_fields
+        (trees_of (tree local.now ∷ tree nanos.now ∷ tree offset.now ∷ []))) }
+    ensures { result ≡ are_in_range moment_fields
+        (to_utc (trees_of (tree local.now ∷ tree nanos.now ∷ tree offset.now ∷ []))) }
 {
     let (Value::Int(local), Value::Int(east)) = (local, offset) else {
         return true
@@ -44,7 +47,7 @@ fn is_dated(local: &Value, nanos: &Value, offset: &Value) -> bool
 fn in_ranges(kinds: &[Field], tag: u8, fields: &[Value]) -> bool
     requires same_length { length fields.now ≡ length kinds.now }
     requires kinds { IsTrue (are_kinds kinds.now (trees_of (trees fields.now))) }
-    requires dated { tag ≡ legacy_date_time_tag → kinds.now ≡ dated }
+    requires dated { tag ≡ legacy_date_time_tag → kinds.now ≡ moment_fields }
     ensures { result ≡ are_in_range kinds.now (utc_fields tag (trees_of (trees fields.now))) }
 {
     if tag == tags::LEGACY_DATE_TIME {

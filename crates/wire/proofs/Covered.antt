@@ -4,7 +4,7 @@ use Rattle.std.proofs.lemmas.Bool.Decides.{nat_tests}
 use Rattle.wire.specs.declared.versions.Version.{Version}
 use Rattle.wire.specs.declared.versions.Version.TheVariants.{V44, V51}
 use Rattle.wire.specs.Versions.{versions}
-use Rattle.wire.specs.Offers.{covered_by, or_else, chosen, Covers, IsFirstCovered, CoversNone, Chooses, ProposalsChoose}
+use Rattle.wire.specs.Offers.{covered_by, or_else, choice_of, Covers, IsFirstCovered, CoversNone, Chooses, ProposalsChoose}
 
 and_both : (a b : Bool) → (a && b) ≡ true → (a ≡ true) × (b ≡ true)
 and_both true b e = (refl, e)
@@ -105,7 +105,7 @@ covered_by_tests a b c d false false e f =
 covered : (a b c d : ℕ) → Covered a b c d (cond (covers a b c d V51) (Some V51) (cond (covers a b c d V44) (Some V44) None))
 covered a b c d = covered_by_tests a b c d (covers a b c d V51) (covers a b c d V44) refl refl
 
-first_by : (a b c d : ℕ) (more : List ℕ) (v : Version) (o : Option Version) → covered_by a b c d ≡ o → Covered a b c d o → (chosen more ≡ Some v) ↔ Chooses more v → (or_else o (chosen more) ≡ Some v) ↔ Chooses (a ∷ b ∷ c ∷ d ∷ more) v
+first_by : (a b c d : ℕ) (more : List ℕ) (v : Version) (o : Option Version) → covered_by a b c d ≡ o → Covered a b c d o → (choice_of more ≡ Some v) ↔ Chooses more v → (or_else o (choice_of more) ≡ Some v) ↔ Chooses (a ∷ b ∷ c ∷ d ∷ more) v
 first_by a b c d more v None e k rest = (
   (λ h. inr (k.none refl, rest.0 h)),
   (λ h. elim h [ inl x ↦ absurd (let w = k.only v x in cc) | inr x ↦ rest.1 x.1 ]),
@@ -122,6 +122,6 @@ proposals_choose (a ∷ b ∷ []) v = ((λ h. absurd cc), (λ h. absurd h))
 proposals_choose (a ∷ b ∷ c ∷ []) v = ((λ h. absurd cc), (λ h. absurd h))
 proposals_choose (a ∷ b ∷ c ∷ d ∷ more) v =
     let k = first_by a b c d more v (cond (covers a b c d V51) (Some V51) (cond (covers a b c d V44) (Some V44) None)) (covered_is a b c d) (covered a b c d) (proposals_choose more v) in (
-      (λ h. k.0 (ap (λ o. or_else o (chosen more)) (sym (covered_is a b c d)) ∙ h)),
-      (λ h. ap (λ o. or_else o (chosen more)) (covered_is a b c d) ∙ k.1 h),
+      (λ h. k.0 (ap (λ o. or_else o (choice_of more)) (sym (covered_is a b c d)) ∙ h)),
+      (λ h. ap (λ o. or_else o (choice_of more)) (covered_is a b c d) ∙ k.1 h),
     )

@@ -7,12 +7,12 @@ use Rattle.wire.specs.declared.items.Fed.{Fed}
 use Rattle.wire.specs.declared.faults.WireFault.{WireFault}
 use Rattle.wire.specs.declared.faults.WireFault.TheVariants as fault
 use Rattle.wire.specs.Unfinished.{Unfinished, fresh}
-use Rattle.wire.specs.Items.{Step, goes, ends, refused, gone, next, item_of, Answered, answer_to, answer_from, later, further}
+use Rattle.wire.specs.Items.{Step, goes, ends, refused, after_limit, next, item_of, Answered, answer_to, answer_from, later, further}
 use Rattle.wire.specs.Items as items
 use Rattle.wire.specs.Stream.{Seen, on_next, items_of, IsTold}
-use Rattle.wire.specs.Texts.{text_of}
+use Rattle.wire.specs.Texts.{written_run}
 use Rattle.wire.specs.Reader.{Took, state, outputs, one_more, ends_at, takes}
-use Rattle.wire.specs.Framing.{Item, Opening, Noop, Message, TooBig, ended, after_step, item_at, chunks, item_text, texts, within, CanCome, AllCome, item_in, took_by, arrivals, refusal, AnswersTake, ReadsItems}
+use Rattle.wire.specs.Framing.{Item, Opening, Noop, Message, TooBig, item_at_end, after_step, item_at, chunks, item_bytes, bytes_in_order, within, CanCome, AllCome, item_in, took_by, arrivals, refusal, AnswersTake, ReadsItems}
 use Rattle.wire.proofs.Limits.{IsOpen, next-open, open-goes}
 use Rattle.wire.proofs.Streams.{answer_from-facts}
 use Rattle.wire.proofs.Grammar.{reads_back}
@@ -20,11 +20,11 @@ use Rattle.wire.proofs.Fronts.{weight, weight-gone, weight-fresh, IsHeavy, next-
 use Rattle.wire.proofs.Readers.{outputs-append, state-append}
 
 -- nothing is read of a message that was refused
-state-gone : (body bytes : List ℕ) → state chunks (gone body) bytes ≡ gone body
+state-gone : (body bytes : List ℕ) → state chunks (after_limit body) bytes ≡ after_limit body
 state-gone body [] = refl
 state-gone body (b ∷ bytes) = state-gone body bytes
 
-outputs-gone : (body bytes : List ℕ) → outputs chunks (gone body) bytes ≡ []
+outputs-gone : (body bytes : List ℕ) → outputs chunks (after_limit body) bytes ≡ []
 outputs-gone body [] = refl
 outputs-gone body (b ∷ bytes) = outputs-gone body bytes
 
@@ -38,7 +38,7 @@ state-items s (b ∷ bytes) = go (next s b) (λ t. state-items t bytes)
     go (ends body) h = h fresh
     go (refused body) h = state-gone body bytes
 
-in-item_of : (body : List ℕ) → item_in (item_of body) ≡ Some (ended body)
+in-item_of : (body : List ℕ) → item_in (item_of body) ≡ Some (item_at_end body)
 in-item_of [] = refl
 in-item_of (x ∷ xs) = refl
 
@@ -53,7 +53,7 @@ outputs-items s (b ∷ bytes) e = ap (λ o. option_to_list o ++ outputs chunks (
     go : (n : Step) → IsOpen n → ((t : Unfinished) → t.too_big ≡ false → outputs chunks t bytes ≡ arrivals (items_of t bytes).items ++ refusal (items_of t bytes).rest)
         → option_to_list (item_at n) ++ outputs chunks (after_step n) bytes ≡ arrivals (on_next n (λ t. items_of t bytes)).items ++ refusal (on_next n (λ t. items_of t bytes)).rest
     go (goes t) o h = h t (open-goes t o)
-    go (ends body) o h = ap (λ l. ended body ∷ l) (h fresh refl) ∙ ap (λ i. option_to_list i ++ (arrivals (items_of fresh bytes).items ++ refusal (items_of fresh bytes).rest)) (sym (in-item_of body))
+    go (ends body) o h = ap (λ l. item_at_end body ∷ l) (h fresh refl) ∙ ap (λ i. option_to_list i ++ (arrivals (items_of fresh bytes).items ++ refusal (items_of fresh bytes).rest)) (sym (in-item_of body))
         ∙ sym (append_assoc (option_to_list (item_in (item_of body))) (arrivals (items_of fresh bytes).items) (refusal (items_of fresh bytes).rest))
     go (refused body) o h = ap (λ l. TooBig ∷ l) (outputs-gone body bytes)
 
@@ -107,7 +107,7 @@ only_last s (b ∷ bs) e f =
     let light : weight (state chunks s (b ∷ bs)) ≡ 0 = ap weight f ∙ weight-fresh in
     absurd (omega arith)
 
--- a text's item comes with its last byte
+-- an item comes with the last of its bytes
 pub front_quiet : (bytes : List ℕ) (x : Item) → outputs chunks fresh bytes ≡ x ∷ [] → state chunks fresh bytes ≡ fresh → (n : ℕ) → n < length bytes → outputs chunks fresh (take n bytes) ≡ []
 front_quiet bytes x one end n h = go (outputs chunks fresh (take n bytes)) refl
   where
@@ -133,43 +133,43 @@ front_quiet bytes x one end n h = go (outputs chunks fresh (take n bytes)) refl
         let none : length (drop n bytes) ≡ 0 = left (tail_none y ys (outputs chunks s (drop n bytes)) (ap (λ l. l ++ outputs chunks s (drop n bytes)) (sym e) ∙ whole)) in
         absurd (omega (arith, length-drop n bytes))
 
--- the text of what can come is read as it
-pub text_read : (x : Item) → CanCome x → (outputs chunks fresh (item_text x) ≡ x ∷ []) × (state chunks fresh (item_text x) ≡ fresh)
+-- the bytes of what can come are read as it
+pub text_read : (x : Item) → CanCome x → (outputs chunks fresh (item_bytes x) ≡ x ∷ []) × (state chunks fresh (item_bytes x) ≡ fresh)
 text_read (Opening bytes) h = absurd h
 text_read Noop h = (refl, refl)
 text_read (Message m) h =
     let e = reads_back m h.0 h.1 in
-    (outputs-items fresh (text_of m) refl ∙ ap (λ (x : Seen). arrivals x.items ++ refusal x.rest) e, state-items fresh (text_of m) ∙ ap (λ (x : Seen). x.rest) e)
+    (outputs-items fresh (written_run m) refl ∙ ap (λ (x : Seen). arrivals x.items ++ refusal x.rest) e, state-items fresh (written_run m) ∙ ap (λ (x : Seen). x.rest) e)
 text_read TooBig h = absurd h
 
-pub text_some : (x : Item) → CanCome x → 0 < length (item_text x)
-text_some x h = go (item_text x) (text_read x h).0
+pub text_some : (x : Item) → CanCome x → 0 < length (item_bytes x)
+text_some x h = go (item_bytes x) (text_read x h).0
   where
     go : (bytes : List ℕ) → outputs chunks fresh bytes ≡ x ∷ [] → 0 < length bytes
     go [] e = cc
     go (b ∷ bs) e = omega arith
 
--- the items of a front of texts
+-- the items of a front of items' bytes
 take_none : (n : ℕ) → take {A = ℕ} n [] ≡ []
 take_none zero = refl
 take_none (suc n) = refl
 
-pub fronts_within : (xs : List Item) (n : ℕ) → AllCome xs → outputs chunks fresh (take n (texts item_text xs)) ≡ within item_text n xs
+pub fronts_within : (xs : List Item) (n : ℕ) → AllCome xs → outputs chunks fresh (take n (bytes_in_order item_bytes xs)) ≡ within item_bytes n xs
 fronts_within [] n h = ap (outputs chunks fresh) (take_none n)
-fronts_within (x ∷ xs) n h = elim (leb (length (item_text x)) n) as (λ b. leb (length (item_text x)) n ≡ b → outputs chunks fresh (take n (item_text x ++ texts item_text xs)) ≡ cond b (x ∷ within item_text (n - length (item_text x)) xs) []) [
+fronts_within (x ∷ xs) n h = elim (leb (length (item_bytes x)) n) as (λ b. leb (length (item_bytes x)) n ≡ b → outputs chunks fresh (take n (item_bytes x ++ bytes_in_order item_bytes xs)) ≡ cond b (x ∷ within item_bytes (n - length (item_bytes x)) xs) []) [
   | true ↦ λ e.
-      let fits : length (item_text x) ≤ n = grind (arith, nat_tests, e) in
-      let is : n ≡ length (item_text x) + (n - length (item_text x)) = omega arith in
-      let rest : List ℕ = take (n - length (item_text x)) (texts item_text xs) in
+      let fits : length (item_bytes x) ≤ n = grind (arith, nat_tests, e) in
+      let is : n ≡ length (item_bytes x) + (n - length (item_bytes x)) = omega arith in
+      let rest : List ℕ = take (n - length (item_bytes x)) (bytes_in_order item_bytes xs) in
       let read = text_read x h.0 in
-      ap (λ k. outputs chunks fresh (take k (item_text x ++ texts item_text xs))) is
-      ∙ ap (outputs chunks fresh) (take-append-add (item_text x) (texts item_text xs) (n - length (item_text x)))
-      ∙ outputs-append Unfinished Item chunks fresh (item_text x) rest
-      ∙ ap (λ l. l ++ outputs chunks (state chunks fresh (item_text x)) rest) read.0
+      ap (λ k. outputs chunks fresh (take k (item_bytes x ++ bytes_in_order item_bytes xs))) is
+      ∙ ap (outputs chunks fresh) (take-append-add (item_bytes x) (bytes_in_order item_bytes xs) (n - length (item_bytes x)))
+      ∙ outputs-append Unfinished Item chunks fresh (item_bytes x) rest
+      ∙ ap (λ l. l ++ outputs chunks (state chunks fresh (item_bytes x)) rest) read.0
       ∙ ap (λ s. x ∷ outputs chunks s rest) read.1
-      ∙ ap (λ l. x ∷ l) (fronts_within xs (n - length (item_text x)) h.1)
+      ∙ ap (λ l. x ∷ l) (fronts_within xs (n - length (item_bytes x)) h.1)
   | false ↦ λ e.
-      let short : n < length (item_text x) = grind (arith, nat_tests, e) in
+      let short : n < length (item_bytes x) = grind (arith, nat_tests, e) in
       let read = text_read x h.0 in
-      ap (outputs chunks fresh) (take-append-le n (item_text x) (texts item_text xs) (omega arith)) ∙ front_quiet (item_text x) x read.0 read.1 n short
+      ap (outputs chunks fresh) (take-append-le n (item_bytes x) (bytes_in_order item_bytes xs) (omega arith)) ∙ front_quiet (item_bytes x) x read.0 read.1 n short
 ] refl

@@ -1,4 +1,4 @@
--- The whole messages of bytes are those of the longest front that texts cover.
+-- The whole messages of bytes are those of the longest front that no-ops and runs cover.
 use Rattle.std.proofs.Common.{◌≡◌, ℕ, ◌+◌, ◌-◌, ◌*◌, ◌<◌, ◌≤◌, List, [], ◌∷◌, ◌++◌, length, take, drop, min, cond, true, false, eqb, ltb, leb, Option, Some, None, refl, sym, ap, subst, ◌∙◌, append_assoc, append-nil, length-append, length-take, arith}
 use Rattle.std.proofs.lemmas.List.{take-append-drop, append_cancel_left}
 use Rattle.std.proofs.Math.Seq.{take-append_seam, take-append-add}
@@ -8,8 +8,8 @@ use Rattle.std.proofs.lemmas.Bool.Decides.{nat_tests}
 use Rattle.wire.specs.declared.items.Piece.{Piece}
 use Rattle.wire.specs.declared.items.Piece.TheVariants.{Message}
 use Rattle.wire.specs.Unfinished.{Unfinished, fresh}
-use Rattle.wire.specs.Items.{Step, goes, ends, refused, gone, open_at, on_length, on_header, next, item_of}
-use Rattle.wire.specs.Texts.{chunk_of, run_of, text_of}
+use Rattle.wire.specs.Items.{Step, goes, ends, refused, after_limit, open_at, on_length, on_header, next, item_of}
+use Rattle.wire.specs.Texts.{chunk_of, run_of, written_run}
 use Rattle.wire.specs.Runs.{AreChunks, body_of, AreRuns, messages_of, Texts, IsWhole}
 use Rattle.wire.specs.Stream.{Seen, before, on_next, items_of, Splits}
 use Rattle.wire.specs.Whole.{messages, whole, header_bytes, ReadsMessages, ReadsWhole, OneWhole, RefusesPast, BeginsNone}
@@ -54,7 +54,7 @@ pub weight-goes : (t : Unfinished) → IsHeavy (goes t) → 0 < weight t
 unfolding IsHeavy
 weight-goes t h = h
 
-pub weight-gone : (body : List ℕ) → 0 < weight (gone body)
+pub weight-gone : (body : List ℕ) → 0 < weight (after_limit body)
 unfolding weight
 weight-gone body = omega arith
 
@@ -189,14 +189,14 @@ refuses_past bytes h = (
       ∙ past_chunks p.chunks [] p.high p.low p.more p.good p.held p.past,
 )
 
--- texts of messages
+-- runs of messages
 same_message : (m other : List ℕ) (items : List Piece) → Message other ∷ [] ≡ Message m ∷ items → (m ≡ other) × (items ≡ [])
 same_message m other items e = (cc, cc)
 
 pub begins_none : BeginsNone
 begins_none m other more some fits some_other fits_other e =
-    let one : items_of fresh (text_of m ++ more) ≡ before (Message m ∷ []) (items_of fresh more) =
-    items_of-append fresh (text_of m) more ∙ ap (λ (x : Seen). before x.items (items_of x.rest more)) (reads_back m some fits) in
+    let one : items_of fresh (written_run m ++ more) ≡ before (Message m ∷ []) (items_of fresh more) =
+    items_of-append fresh (written_run m) more ∙ ap (λ (x : Seen). before x.items (items_of x.rest more)) (reads_back m some fits) in
     let both = sym (reads_back other some_other fits_other) ∙ ap (items_of fresh) e ∙ one in
     let same = same_message m other (items_of fresh more).items (ap (λ (x : Seen). x.items) both) in
     (same.0, only_nothing more same.1 (sym (ap (λ (x : Seen). x.rest) both)))

@@ -5,10 +5,10 @@ use Rattle.wire.specs.declared.versions.Version.{Version}
 use Rattle.wire.specs.declared.versions.Version.TheVariants.{V44, V51}
 use Rattle.wire.specs.declared.offers.Wish.{Wish}
 use Rattle.wire.specs.declared.offers.Wish.TheVariants.{Newest, Only}
-use Rattle.wire.specs.Offers.{chosen, covered_by, or_else, version_answer, Taken, OffersTaken}
+use Rattle.wire.specs.Offers.{choice_of, covered_by, or_else, version_answer, Taken, OffersTaken}
 
 -- the proposal at a place comes before those after it
-pub chosen-at : (xs : List ℕ) (k : ℕ) → k + 4 ≤ length xs → chosen (drop k xs) ≡ or_else (covered_by (get_or xs k 0) (get_or xs (k + 1) 0) (get_or xs (k + 2) 0) (get_or xs (k + 3) 0)) (chosen (drop (k + 4) xs))
+pub chosen-at : (xs : List ℕ) (k : ℕ) → k + 4 ≤ length xs → choice_of (drop k xs) ≡ or_else (covered_by (get_or xs k 0) (get_or xs (k + 1) 0) (get_or xs (k + 2) 0) (get_or xs (k + 3) 0)) (choice_of (drop (k + 4) xs))
 chosen-at [] k h = absurd (omega arith)
 chosen-at (a ∷ []) zero h = absurd (omega arith)
 chosen-at (a ∷ b ∷ []) zero h = absurd (omega arith)
@@ -22,8 +22,8 @@ chosen-at (x ∷ xs) (suc k) h =
     rw (one, two, three, four) (chosen-at xs k (omega arith))
 
 -- a proposal that covers nothing is passed over
-pub chosen-past : (xs : List ℕ) (k j : ℕ) (v : Option Version) → k + 4 ≤ length xs → j ≡ k + 4 → v ≡ covered_by (get_or xs k 0) (get_or xs (k + 1) 0) (get_or xs (k + 2) 0) (get_or xs (k + 3) 0) → is_some v ≡ false → chosen (drop k xs) ≡ chosen (drop j xs)
-chosen-past xs k j None fits e covered none = chosen-at xs k fits ∙ rw (← covered) (ap (λ i. chosen (drop i xs)) (sym e))
+pub chosen-past : (xs : List ℕ) (k j : ℕ) (v : Option Version) → k + 4 ≤ length xs → j ≡ k + 4 → v ≡ covered_by (get_or xs k 0) (get_or xs (k + 1) 0) (get_or xs (k + 2) 0) (get_or xs (k + 3) 0) → is_some v ≡ false → choice_of (drop k xs) ≡ choice_of (drop j xs)
+chosen-past xs k j None fits e covered none = chosen-at xs k fits ∙ rw (← covered) (ap (λ i. choice_of (drop i xs)) (sym e))
 chosen-past xs k j (Some v) fits e covered none = cc
 
 -- what is offered

@@ -2,7 +2,7 @@
 use Rattle.std.proofs.Common.{◌≡◌, refl, sym, ◌∙◌, ap, ℕ, zero, suc, ◌+◌, ◌<◌, ◌≤◌, Option, Some, None, option_to_list, List, [], ◌∷◌, ◌++◌, length, take, zero-add, arith, append_assoc}
 use Rattle.std.specs.Prelude.{map}
 use Rattle.std.specs.Option.{option_map}
-use Rattle.wire.specs.Reader.{Reader, Took, state, outputs, one_more, ends_at, takes, or_more, then_takes, ReadsPieces, mapped}
+use Rattle.wire.specs.Reader.{Reader, Took, state, outputs, one_more, ends_at, takes, or_more, then_takes, ReadsPieces, meaning_reader}
 
 module _ (R X : Type 0) (p : Reader R X) where
   pub outputs-append : (r : R) (a b : List ℕ) → outputs p r (a ++ b) ≡ outputs p r a ++ outputs p (state p r a) b
@@ -84,17 +84,17 @@ module _ (R X : Type 0) (p : Reader R X) where
 
 -- a reader whose items are what another's mean
 module _ (R X Y : Type 0) (f : X → Y) (p : Reader R X) where
-  outputs-mapped : (r : R) (bytes : List ℕ) → outputs (mapped f p) r bytes ≡ map f (outputs p r bytes)
+  outputs-mapped : (r : R) (bytes : List ℕ) → outputs (meaning_reader f p) r bytes ≡ map f (outputs p r bytes)
   outputs-mapped r [] = refl
   outputs-mapped r (b ∷ bs) = go (p.item r b) (outputs-mapped (p.byte r b) bs)
     where
-      go : (o : Option X) → outputs (mapped f p) (p.byte r b) bs ≡ map f (outputs p (p.byte r b) bs) → option_to_list (option_map f o) ++ outputs (mapped f p) (p.byte r b) bs ≡ map f (option_to_list o ++ outputs p (p.byte r b) bs)
+      go : (o : Option X) → outputs (meaning_reader f p) (p.byte r b) bs ≡ map f (outputs p (p.byte r b) bs) → option_to_list (option_map f o) ++ outputs (meaning_reader f p) (p.byte r b) bs ≡ map f (option_to_list o ++ outputs p (p.byte r b) bs)
       go None h = h
       go (Some x) h = ap (λ l. f x ∷ l) h
 
-  state-mapped : (r : R) (bytes : List ℕ) → state (mapped f p) r bytes ≡ state p r bytes
+  state-mapped : (r : R) (bytes : List ℕ) → state (meaning_reader f p) r bytes ≡ state p r bytes
   state-mapped r [] = refl
   state-mapped r (b ∷ bs) = state-mapped (p.byte r b) bs
 
-  pub reads_mapped : (r : R) (bytes : List ℕ) → (outputs (mapped f p) r bytes ≡ map f (outputs p r bytes)) × (state (mapped f p) r bytes ≡ state p r bytes)
+  pub reads_mapped : (r : R) (bytes : List ℕ) → (outputs (meaning_reader f p) r bytes ≡ map f (outputs p r bytes)) × (state (meaning_reader f p) r bytes ≡ state p r bytes)
   reads_mapped r bytes = (outputs-mapped r bytes, state-mapped r bytes)

@@ -10,7 +10,7 @@ use Rattle.wire.specs.declared.parts.Cut.{Cut}
 use Rattle.wire.specs.Place.{Place, start}
 use Rattle.wire.specs.Parts.{cut_at}
 use Rattle.wire.specs.Parts as parts
-use Rattle.wire.specs.Unfinished.{Unfinished, fresh, unfinished}
+use Rattle.wire.specs.Unfinished.{Unfinished, fresh, unfinished_at}
 use Rattle.wire.specs.Items.{Step, goes, ends, refused, open_at, on_header, next, item_of, later, Answered, further, after_step, answer_from, hands_out, wants_room}
 
 is_lt : (m n : ℕ) → m < n → nat_lt m n ≡ true
@@ -97,6 +97,6 @@ data_by p piece true b e f h = absurd cc
 data_by p piece false true e f h = absurd (header_cut p p.header piece h)
 data_by p piece false false e f h = let off : p.lacks ≡ 0 → ⊥ = eqb-false _ _ f in omega arith
 
-pub part_wants : (p : Place) (body piece : List ℕ) (c : Cut) → p.too_big ≡ false → 0 < length piece → c ≡ (cut_at p piece).cut → c.what ≡ part.Data → wants_room (length body) (answer_from (unfinished p body) piece) ≡ true
+pub part_wants : (p : Place) (body piece : List ℕ) (c : Cut) → p.too_big ≡ false → 0 < length piece → c ≡ (cut_at p piece).cut → c.what ≡ part.Data → wants_room (length body) (answer_from (unfinished_at p body) piece) ≡ true
 part_wants p body piece c e some is came =
-    data_wants (unfinished p body) piece e (data_by p piece p.too_big (p.lacks == 0) e refl (ap (λ (x : Cut). x.what) (sym is) ∙ came)) some
+    data_wants (unfinished_at p body) piece e (data_by p piece p.too_big (p.lacks == 0) e refl (ap (λ (x : Cut). x.what) (sym is) ∙ came)) some

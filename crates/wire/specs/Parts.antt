@@ -10,6 +10,7 @@ pub record Bite : Type 0 where
   pub cut : Cut
   pub place : Place
 
+-- an answer by the number of bytes used, what they are, and the place after them
 abbrev pub bite : ℕ → Part → Place → Bite
 bite used what place = record { cut = record { used = used; what = what }; place = place }
 
@@ -24,7 +25,8 @@ past sum = record { header = None; lacks = 0; sum = sum; too_big = true }
 -- a length is known: 0 ends a message, and is a no-op where none has begun
 abbrev pub on_length : ℕ → ℕ → ℕ → Bite
 on_length used sum n = if n == 0 then bite used (if sum == 0 then part.Noop else part.End) start
-    else (if nat_lt 65536 (sum + n) then bite used part.TooBig (past sum) else bite used part.Head (inside (sum + n) n))
+    else (if nat_lt 65536 (sum + n) then bite used part.TooBig (past sum)
+    else bite used part.Head (inside (sum + n) n))
 
 -- both bytes of a header, big-endian
 abbrev pub whole_header : ℕ → ℕ → ℕ → ℕ → Bite
@@ -40,7 +42,8 @@ on_header p None (high ∷ low ∷ more) = whole_header 2 p.sum high low
 -- the data of the chunk, as much as there is
 abbrev pub on_data : Place → List ℕ → Bite
 on_data p [] = bite 0 part.Head p
-on_data p (b ∷ bs) = bite (min p.lacks (length (b ∷ bs))) part.Data (record p { lacks = p.lacks - min p.lacks (length (b ∷ bs)) })
+on_data p (b ∷ bs) = bite (min p.lacks (length (b ∷ bs))) part.Data
+    (record p { lacks = p.lacks - min p.lacks (length (b ∷ bs)) })
 
 -- what is of one kind at the front of a piece
 abbrev pub cut_at : Place → List ℕ → Bite

@@ -13,9 +13,11 @@ abbrev pub AreChunks : List (List ℕ) → Type 0
 AreChunks [] = Unit {0}
 AreChunks (c ∷ cs) = (0 < length c) × (length c < 65536) × AreChunks cs
 
+-- the data of chunks, in order
 abbrev pub body_of : List (List ℕ) → List ℕ
 body_of chunks = flat_map (λ c. c) chunks
 
+-- runs and no-ops: each of chunks that may come, and of at most 65,536 bytes of data
 abbrev pub AreRuns : List (List (List ℕ)) → Type 0
 AreRuns [] = Unit {0}
 AreRuns (run ∷ runs) = AreChunks run × (length (body_of run) ≤ 65536) × AreRuns runs
@@ -52,7 +54,8 @@ pub record IsWhole (ms : List (List ℕ)) (bytes : List ℕ) : Type 0 where
   pub front : ℕ
   pub within : front ≤ length bytes
   pub texts : Texts ms (take front bytes)
-  pub longest : (n : ℕ) (others : List (List ℕ)) → n ≤ length bytes → Texts others (take n bytes) → n ≤ front
+  pub longest : (n : ℕ) (others : List (List ℕ)) → n ≤ length bytes → Texts others (take n bytes)
+      → n ≤ front
 
 -- After no-ops and runs, and chunks of one message more, comes a header that takes that message past 65,536 bytes.
 pub record IsPast (bytes : List ℕ) : Type 0 where

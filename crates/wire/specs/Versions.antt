@@ -13,6 +13,7 @@ abbrev pub major_of : Version → ℕ
 major_of V44 = 4
 major_of V51 = 5
 
+-- the minor number of a version in the handshake
 abbrev pub minor_of : Version → ℕ
 minor_of V44 = 4
 minor_of V51 = 1
@@ -42,5 +43,6 @@ has_logon V51 = true
 abbrev pub every_version : Version → Bool
 every_version v = true
 
+-- the versions that don't have what the test is for
 abbrev pub lacks : (Version → Bool) → Version → Bool
 lacks has v = not (has v)

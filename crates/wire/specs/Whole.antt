@@ -1,9 +1,9 @@
--- The whole messages of bytes, and what a message's text is among texts.
+-- The whole messages of bytes, and what a message's written run is among its runs.
 use Rattle.std.specs.Prelude.{◌≡◌, ℕ, ◌+◌, ◌<◌, ◌≤◌, List, [], ◌∷◌, ◌++◌, length, true, Option, Some, None, ◌↔◌}
 use Rattle.wire.specs.declared.items.Piece.{Piece}
 use Rattle.wire.specs.declared.items.Piece.TheVariants.{Nothing, Noop, Message}
 use Rattle.wire.specs.Unfinished.{Unfinished, fresh}
-use Rattle.wire.specs.Texts.{run_of, text_of}
+use Rattle.wire.specs.Texts.{run_of, written_run}
 use Rattle.wire.specs.Runs.{AreBytes, AreChunks, body_of, Texts, IsRun, IsWhole, IsPast}
 use Rattle.wire.specs.Stream.{items_of}
 
@@ -18,9 +18,10 @@ messages (Message m ∷ items) = m ∷ messages items
 abbrev pub whole : List ℕ → List (List ℕ)
 whole bytes = messages (items_of fresh bytes).items
 
--- Of bytes that are texts, the messages are read and nothing else, and nothing is unfinished after them.
+-- Of bytes that are no-ops and runs, the messages are read and nothing else, and nothing is unfinished after them.
 abbrev pub ReadsMessages : Type 0
-ReadsMessages = (ms : List (List ℕ)) (bytes : List ℕ) → Texts ms bytes → (whole bytes ≡ ms) × ((items_of fresh bytes).rest ≡ fresh)
+ReadsMessages = (ms : List (List ℕ)) (bytes : List ℕ) → Texts ms bytes
+    → (whole bytes ≡ ms) × ((items_of fresh bytes).rest ≡ fresh)
 
 -- Of any bytes, the messages of the longest front that some Texts covers are read.
 abbrev pub ReadsWhole : Type 0
@@ -28,33 +29,38 @@ ReadsWhole = (bytes : List ℕ) → AreBytes bytes → IsWhole (whole bytes) byt
 
 -- They are the only ones.
 abbrev pub OneWhole : Type 0
-OneWhole = (ms : List (List ℕ)) (bytes : List ℕ) → AreBytes bytes → IsWhole ms bytes → ms ≡ whole bytes
+OneWhole = (ms : List (List ℕ)) (bytes : List ℕ) → AreBytes bytes → IsWhole ms bytes
+    → ms ≡ whole bytes
 
 -- A message is refused exactly where a header takes it past the limit.
 abbrev pub RefusesPast : Type 0
-RefusesPast = (bytes : List ℕ) → AreBytes bytes → ((items_of fresh bytes).rest.too_big ≡ true) ↔ IsPast bytes
+RefusesPast = (bytes : List ℕ) → AreBytes bytes
+    → ((items_of fresh bytes).rest.too_big ≡ true) ↔ IsPast bytes
 
--- What is written of a message is its text.
+-- What is written of a message is its run.
 abbrev pub TextsOne : Type 0
-TextsOne = (m : List ℕ) → 0 < length m → length m ≤ 65536 → Texts (m ∷ []) (text_of m)
+TextsOne = (m : List ℕ) → 0 < length m → length m ≤ 65536 → Texts (m ∷ []) (written_run m)
 
 -- What is written of a message is one run, its chunks as long as they may be.
 abbrev pub WritesRun : Type 0
-WritesRun = (m : List ℕ) → 0 < length m → length m ≤ 65536 → IsRun 65535 m (text_of m)
+WritesRun = (m : List ℕ) → 0 < length m → length m ≤ 65536 → IsRun 65535 m (written_run m)
 
 -- No run of the message is shorter: its chunks are as long as they may be.
 abbrev pub NoShorter : Type 0
-NoShorter = (m : List ℕ) (run : List (List ℕ)) → 0 < length m → AreChunks run → body_of run ≡ m → length (text_of m) ≤ length (run_of run)
+NoShorter = (m : List ℕ) (run : List (List ℕ)) → 0 < length m → AreChunks run → body_of run ≡ m
+    → length (written_run m) ≤ length (run_of run)
 
--- No text of a message is a proper beginning of another's.
+-- No written run of a message is a proper beginning of another's.
 abbrev pub BeginsNone : Type 0
-BeginsNone = (m other more : List ℕ) → 0 < length m → length m ≤ 65536 → 0 < length other → length other ≤ 65536 → text_of other ≡ text_of m ++ more → (m ≡ other) × (more ≡ [])
+BeginsNone = (m other more : List ℕ) → 0 < length m → length m ≤ 65536 → 0 < length other
+    → length other ≤ 65536 → written_run other ≡ written_run m ++ more → (m ≡ other) × (more ≡ [])
 
 -- the bytes that are kept of an unfinished item: its data, and that of a header that isn't whole
 abbrev pub header_bytes : Option ℕ → ℕ
 header_bytes None = 0
 header_bytes (Some high) = 1
 
+-- the number of bytes that are kept of an unfinished item
 abbrev pub kept_bytes : Unfinished → ℕ
 kept_bytes s = length s.body + header_bytes s.header
 

@@ -1,7 +1,7 @@
 //! Whole messages and no-ops out of a stream of chunks ("Bolt message chunking").
 
 ghost use Rattle.std.specs.Prelude.{◌≡◌, ℕ, ◌+◌, ◌-◌, ◌<◌, ◌≤◌, List, [], ◌++◌, length, take, min, false, true, Option, IfOk, IsErr, IfErr, IsErrOf, OnOk, OnErr};
-ghost use Rattle.wire.specs.Unfinished.{Unfinished, fresh, unfinished};
+ghost use Rattle.wire.specs.Unfinished.{Unfinished, fresh, unfinished_at};
 ghost use Rattle.wire.specs.Items.{item_of, IsSized, Answers, wants_room, answer_from, answer_to};
 ghost use Rattle.wire.specs.Stream.{used_of};
 ghost use Rattle.wire.specs.Whole.{kept_bytes};
@@ -39,11 +39,11 @@ pub struct Dechunk {
 
 impl Model for Dechunk {
     ghost use Rattle.std.specs.Prelude.{◌≡◌, ◌+◌, ◌≤◌, length};
-    ghost use Rattle.wire.specs.Unfinished.{Unfinished, unfinished};
+    ghost use Rattle.wire.specs.Unfinished.{Unfinished, unfinished_at};
 
     ghost Value = { Unfinished };
 
-    ghost view = { λ d. unfinished d.chunks d.body.items };
+    ghost view = { λ d. unfinished_at d.chunks d.body.items };
 
     ghost invariant = { λ d. (d.chunks.sum ≡ length d.body.items + d.chunks.lacks) × (d.chunks.sum ≤ 65536) };
 }
@@ -86,7 +86,8 @@ impl Dechunk {
         ensures within { used_of result ≤ length piece.now }
         ensures sized { IfOk result (λ fed. IsSized fed.what) }
         ensures memory { IsErrOf result WireFault.Memory → self.old.too_big ≡ false }
-        ensures room { IsErrOf result WireFault.Memory → wants_room (length self.old.body) (answer_to self.old piece.now) ≡ true }
+        ensures room { IsErrOf result WireFault.Memory
+            → wants_room (length self.old.body) (answer_to self.old piece.now) ≡ true }
     {
         if self.chunks.is_too_big() {
             return Err(WireFault::TooBig { used: 0 });
@@ -128,10 +129,14 @@ enum Scan {
 fn scan_piece(body: &mut BytesMut, chunks: &mut Chunks, piece: &[u8]) -> Result<Scan, AllocError>
     requires holds { Holds body.old.items chunks.old }
     requires going { chunks.old.too_big ≡ false }
-    ensures scanned { IfOk result (λ scan. Scanned (unfinished chunks.old body.old.items) piece.now scan (unfinished chunks.new body.new.items)) }
+    ensures scanned { IfOk result
+        (λ scan. Scanned (unfinished_at chunks.old body.old.items) piece.now scan
+        (unfinished_at chunks.new body.new.items)) }
     ensures within { IfOk result (λ scan. used_by scan (length piece.now) ≤ length piece.now) }
     ensures holds { IfOk result (λ scan. Stops scan body.new.items chunks.new) }
-    ensures room { IsErr result → wants_room (length body.old.items) (answer_from (unfinished chunks.old body.old.items) piece.now) ≡ true }
+    ensures room { IsErr result
+        → wants_room (length body.old.items)
+        (answer_from (unfinished_at chunks.old body.old.items) piece.now) ≡ true }
     ensures kept { take (length body.old.items) body.new.items ≡ body.old.items }
 {
     let mut used = 0;
@@ -152,10 +157,14 @@ fn take_part(body: &mut BytesMut, chunks: &mut Chunks, piece: &[u8]) -> Result<C
     requires some { 0 < length piece.now }
     requires holds { Holds body.old.items chunks.old }
     requires going { chunks.old.too_big ≡ false }
-    ensures took { IfOk result (λ cut. Taken (unfinished chunks.old body.old.items) piece.now cut.used cut.what (unfinished chunks.new body.new.items)) }
+    ensures took { IfOk result
+        (λ cut. Taken (unfinished_at chunks.old body.old.items) piece.now cut.used cut.what
+        (unfinished_at chunks.new body.new.items)) }
     ensures within { IfOk result (λ cut. cut.used ≤ length piece.now) }
     ensures after { IfOk result (λ cut. After cut.what chunks.new body.new.items) }
-    ensures room { IsErr result → wants_room (length body.old.items) (answer_from (unfinished chunks.old body.old.items) piece.now) ≡ true }
+    ensures room { IsErr result
+        → wants_room (length body.old.items)
+        (answer_from (unfinished_at chunks.old body.old.items) piece.now) ≡ true }
     ensures kept { take (length body.old.items) body.new.items ≡ body.old.items }
 {
     let cut = chunks.next(piece);

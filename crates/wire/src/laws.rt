@@ -90,7 +90,7 @@ pub fn writes_run()
     ensures { WritesRun }
 {}
 
-/// No text of a message is a proper beginning of another's.
+/// No written run of a message is a proper beginning of another's.
 pub fn begins_none()
     ensures { BeginsNone }
 {}

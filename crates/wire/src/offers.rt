@@ -1,7 +1,7 @@
 //! What a client offers and what a server takes ("Bolt handshake").
 
 ghost use Rattle.std.specs.Prelude.{◌≡◌, ◌≢◌, ℕ, ◌+◌, List, take, drop, Option, Some, None, IfOk, IsErr, OnOk, ◌↔◌};
-ghost use Rattle.wire.specs.Offers.{magic, chosen, covered_by, offered};
+ghost use Rattle.wire.specs.Offers.{magic, choice_of, covered_by, offer_of};
 
 use crate::versions::Version;
 use thiserror::Error;
@@ -25,7 +25,7 @@ const MAGIC: [u8; 4] = [0x60, 0x60, 0xB0, 0x17];
 /// version and a major version ("Bolt handshake"). `Newest` proposes 5.1, then 4.4; `Only` its version alone. A proposal that is
 /// left is four zero bytes. It takes no memory.
 pub fn offer(wish: Wish) -> [u8; 20]
-    ensures { result ≡ offered wish }
+    ensures { result ≡ offer_of wish }
 {
     match wish {
         Wish::Newest => [
@@ -48,7 +48,7 @@ pub fn offer(wish: Wish) -> [u8; 20]
 pub fn choose(offer: &[u8; 20]) -> Result<Option<Version>, BadMagic>
     ensures bad { IsErr result ↔ (take 4 offer.now ≢ magic) }
     ensures good { OnOk result (take 4 offer.now ≡ magic) }
-    ensures chosen { IfOk result (λ v. v ≡ chosen (drop 4 offer.now)) }
+    ensures chosen { IfOk result (λ v. v ≡ choice_of (drop 4 offer.now)) }
 {
     if &offer[..4] != MAGIC.as_slice() {
         return Err(BadMagic);

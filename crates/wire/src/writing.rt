@@ -1,7 +1,7 @@
 //! Messages and no-ops as chunks ("Bolt message chunking").
 
 ghost use Rattle.std.specs.Prelude.{◌≡◌, ℕ, ◌+◌, ◌<◌, ◌≤◌, List, ◌++◌, length, IfErr, IsOk, OnOk, OnErr, ◌↔◌};
-ghost use Rattle.wire.specs.Texts.{chunk_of, split_text, text_of, noop, IsTooBig, UsesNothing};
+ghost use Rattle.wire.specs.Texts.{chunk_of, split_chunks, written_run, noop, IsTooBig, UsesNothing};
 
 use crate::MAX_MESSAGE;
 use crate::faults::WireFault;
@@ -15,7 +15,7 @@ const MAX_CHUNK: usize = 65535;
 /// X1, with 0 used, exactly where the message is past 65,536 bytes; X2 for want of memory. Nothing is appended then.
 pub fn put_message(message: &[u8], out: &mut BytesMut) -> Result<(), WireFault>
     requires { 0 < length message.now }
-    ensures ok { OnOk result (out.new.items ≡ out.old.items ++ text_of message.now) }
+    ensures ok { OnOk result (out.new.items ≡ out.old.items ++ written_run message.now) }
     ensures err { OnErr result (out.new.items ≡ out.old.items) }
     ensures too_big { IsTooBig result ↔ (65536 < length message.now) }
     ensures unused { IfErr result UsesNothing }
@@ -46,7 +46,7 @@ pub fn put_noop(out: &mut BytesMut) -> Result<(), WireFault>
 #[tactic(auto, using(crate::proofs::Runs::text_facts))]
 pub fn text_len(message: &[u8]) -> usize
     requires { length message.now ≤ 65536 }
-    ensures { result ≡ length (text_of message.now) }
+    ensures { result ≡ length (written_run message.now) }
 {
     if message.len() <= MAX_CHUNK {
         message.len() + 4
@@ -60,9 +60,9 @@ pub fn text_len(message: &[u8]) -> usize
 pub fn put_reserved(message: &[u8], out: &mut BytesMut)
     requires some { 0 < length message.now }
     requires fits { length message.now ≤ 65536 }
-    requires room { length (text_of message.now) ≤ out.old.spare }
-    ensures items { out.new.items ≡ out.old.items ++ text_of message.now }
-    ensures spare { out.new.spare + length (text_of message.now) ≡ out.old.spare }
+    requires room { length (written_run message.now) ≤ out.old.spare }
+    ensures items { out.new.items ≡ out.old.items ++ written_run message.now }
+    ensures spare { out.new.spare + length (written_run message.now) ≡ out.old.spare }
 {
     if message.len() <= MAX_CHUNK {
         put_chunk(message, out);
@@ -72,12 +72,12 @@ pub fn put_reserved(message: &[u8], out: &mut BytesMut)
     out.extend_reserved(&[0, 0]);
 }
 
-#[tactic(auto, using(crate::proofs::Runs::text_facts), unfolding(crate::specs::Texts::split_text))]
+#[tactic(auto, using(crate::proofs::Runs::text_facts), unfolding(crate::specs::Texts::split_chunks))]
 fn put_split(message: &[u8], at: usize, out: &mut BytesMut)
     requires first { (at < length message.now) × (at < 65536) }
     requires second { length message.now < at + 65536 }
     requires room { length message.now + 4 ≤ out.old.spare }
-    ensures items { out.new.items ≡ out.old.items ++ split_text at message.now }
+    ensures items { out.new.items ≡ out.old.items ++ split_chunks at message.now }
     ensures spare { out.new.spare + (length message.now + 4) ≡ out.old.spare }
 {
     put_chunk(&message[..at], out);

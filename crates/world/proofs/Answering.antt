@@ -2,8 +2,8 @@
 use Rattle.std.proofs.Common.{◌≡◌, refl, sym, ◌∙◌, ap, subst, ℕ, ◌+◌, ◌≤◌, Bool, true, false, not, ◌||◌, if◌then◌else◌, Option, Some, None, option_map, Result, Ok, Err, List, [], ◌∷◌, length, drop, slice_get, slice_set, ⊎_elim, arith, length-drop, zero, suc, is_some, true≢false}
 use Rattle.wire.specs.declared.Version.{Version}
 use Rattle.wire.specs.declared.Wish.{Wish}
-use Rattle.wire.specs.Offers.{wished}
-use Rattle.messages.specs.View.{Ask}
+use Rattle.wire.specs.Offers.{wish_version}
+use Rattle.messages.specs.View.{RequestView}
 use Rattle.messages.specs.Arrivals.{IsWritten, hears}
 use Rattle.engine.specs.declared.Mode.{Mode as QueryMode}
 use Rattle.engine.specs.Views.{EntryView, WriteView, ParameterView, AnswerView, QueryFault}
@@ -11,11 +11,11 @@ use Rattle.server.specs.Session.{Setting}
 use Rattle.server.specs.Serving as serving
 use Rattle.client.specs.declared.SubmitFault.{SubmitFault}
 use Rattle.client.specs.declared.SubmitFault.TheVariants as submit_fault
-use Rattle.client.specs.Client.{Reading, refused, may}
+use Rattle.client.specs.Client.{Reading, refusal_of, may}
 use Rattle.client.specs.Fits.{IsWrittenBy, IsAccepted}
 use Rattle.client.specs.Rest as asking
 use Rattle.client.proofs.Later.{reading_count}
-use Rattle.world.specs.World.{Peer, Ours, Connection, World, Event, Submit, Seen, Submitted, client, input, wish_of, delivered, step, IsCountedIn, WStep, Reached, goes_on, Opens, place}
+use Rattle.world.specs.World.{Peer, Ours, Connection, World, Event, Submit, Seen, Submitted, client, input, wish_of, bytes_delivered, step, IsCountedIn, WStep, Reached, goes_on, Opens, place}
 use Rattle.world.specs.Rests.{client_rest}
 use Rattle.world.specs.Fits.{Link, Rest, FitsClient, FitsLink, FitLinks, Fits, cause_seen}
 use Rattle.world.specs.Seeing.{IsOpens, IsWrong}
@@ -50,13 +50,13 @@ module _ (G : Type 0) (answer : List EntryView → List WriteView → List ℕ �
   S = serving.setting answer accepts r.server
 
   -- Submit of a request that the client accepts: the whole contract, from the client's answer.
-  pub submit_answers : (l : Link) → slice_get r.links c ≡ Some l → FitsLink l k → (wish : Wish) → k.peer ≡ Ours wish → (q : Ask) (x : asking.Rest) → l.client ≡ Some x → (ordinal : ℕ) → IsAccepted x q ordinal
-      → Answers S w (Submit c q) (Ok (Submitted (Ok ordinal))) (Fits (record { links = slice_set r.links c (record l { client = option_map (λ y. asking.submitted y q) l.client }); server = r.server }))
+  pub submit_answers : (l : Link) → slice_get r.links c ≡ Some l → FitsLink l k → (wish : Wish) → k.peer ≡ Ours wish → (q : RequestView) (x : asking.Rest) → l.client ≡ Some x → (ordinal : ℕ) → IsAccepted x q ordinal
+      → Answers S w (Submit c q) (Ok (Submitted (Ok ordinal))) (Fits (record { links = slice_set r.links c (record l { client = option_map (λ y. asking.after_submit y q) l.client }); server = r.server }))
   submit_answers l at f wish ours q x client_is ordinal accepted =
-      subst (λ n. Answers S w (Submit c q) (Ok (Submitted (Ok n))) (Fits (record { links = slice_set r.links c (record l { client = option_map (λ y. asking.submitted y q) l.client }); server = r.server }))) (sym (accepted.1 ∙ ordinal_is))
+      subst (λ n. Answers S w (Submit c q) (Ok (Submitted (Ok n))) (Fits (record { links = slice_set r.links c (record l { client = option_map (λ y. asking.after_submit y q) l.client }); server = r.server }))) (sym (accepted.1 ∙ ordinal_is))
       (answers S brought w reached (Submit c q) (Submitted (Ok (length k.sent))) _
       (submit_fits G answer accepts r w fits (reached_sound S brought reached) c k here l at wish ours q none open_now.1 open_now.0 version_is)
-      (λ w2 k2 g wish2 p no. subst (λ wi. IsWritten (wished wi) q) (same_wish k2 wish2 g p) (accepts_written S brought w reached c k wish here ours q written)) tt)
+      (λ w2 k2 g wish2 p no. subst (λ wi. IsWritten (wish_version wi) q) (same_wish k2 wish2 g p) (accepts_written S brought w reached c k wish here ours q written)) tt)
     where
       old : FitsClient (Ours wish) l.client l.up k
       old = subst (λ p. FitsClient p l.client l.up k) ours f.client
@@ -67,14 +67,14 @@ module _ (G : Type 0) (answer : List EntryView → List WriteView → List ℕ �
       few : old.0 ≤ length (input (wish_of k.peer) k.sent)
       few = subst (λ p. old.0 ≤ length (input (wish_of p) k.sent)) (sym ours) old.2
 
-      none : refused (client k) k.client_lost k.sent q ≡ None
+      none : refusal_of (client k) k.client_lost k.sent q ≡ None
       none = refused_same k old.0 q few ∙ ap (λ z. asking.refuses z.knows q) (sym is) ∙ accepted.0
 
       open_now : (k.client_lost ≡ false) × ((client k).bad ≡ false) × ((client k).version ≡ None → ⊥)
       open_now = accepting (client k) k.client_lost k.sent q none
 
-      version_is : (client k).version ≡ Some (wished (wish_of k.peer))
-      version_is = ⊎_elim (λ e. absurd (open_now.2 e)) (λ e. e ∙ ap (λ p. Some (wished (wish_of p))) (sym ours)) (knows_wished S brought w reached c k wish here ours)
+      version_is : (client k).version ≡ Some (wish_version (wish_of k.peer))
+      version_is = ⊎_elim (λ e. absurd (open_now.2 e)) (λ e. e ∙ ap (λ p. Some (wish_version (wish_of p))) (sym ours)) (knows_wished S brought w reached c k wish here ours)
 
       written : IsWrittenBy (client k).version q
       written = subst (λ z. IsWrittenBy z.knows.version q) is accepted.2
@@ -86,7 +86,7 @@ module _ (G : Type 0) (answer : List EntryView → List WriteView → List ℕ �
       ordinal_is = ap asking.next_ordinal is ∙ ap (λ b. (client k).count + length (if b then [] else drop (client k).count k.sent)) open_now.0 ∙ counted
         where
           counted : (client k).count + length (drop (client k).count k.sent) ≡ length k.sent
-          counted = let few : (client k).count ≤ length k.sent = reading_count (wish_of k.peer) k.sent (hears (delivered k)) in omega (arith, length-drop (client k).count k.sent)
+          counted = let few : (client k).count ≤ length k.sent = reading_count (wish_of k.peer) k.sent (hears (bytes_delivered k)) in omega (arith, length-drop (client k).count k.sent)
 
 -- what stands at a place of what is held, stands there in the model
 pub link_at : (ls : List Link) (ks : List Connection) (c : ℕ) (l : Link) → FitLinks ls ks → slice_get ls c ≡ Some l → (k : Connection) × (slice_get ks c ≡ Some k) × FitsLink l k

@@ -1,18 +1,18 @@
 -- What a client is asked, and its loss, at the link of its connection.
 use Rattle.std.proofs.Common.{◌≡◌, refl, sym, ◌∙◌, ap, subst, ℕ, Bool, true, false, Option, Some, None, option_map, Result, Ok, Err, List, slice_get, slice_set}
 use Rattle.wire.specs.declared.Wish.{Wish}
-use Rattle.messages.specs.View.{Ask}
+use Rattle.messages.specs.View.{RequestView}
 use Rattle.engine.specs.Views.{EntryView}
 use Rattle.server.specs.declared.Server.{Server}
 use Rattle.server.specs.Session.{Setting}
 use Rattle.server.specs.Serving as serving
 use Rattle.client.specs.declared.SubmitFault.{SubmitFault}
-use Rattle.client.specs.Client.{refused}
+use Rattle.client.specs.Client.{refusal_of}
 use Rattle.client.specs.Rest as asking
 use Rattle.world.specs.declared.kinds.Refused.{Refused}
 use Rattle.world.specs.declared.kinds.Refused.TheVariants.{NoSuchConnection, WrongPeer, SessionsFull, Memory}
 use Rattle.world.specs.declared.link.Link.{Link as LinkHeld}
-use Rattle.world.specs.World.{Peer, Ours, Foreign, Connection, World, Submit, ClientLost, Seen, Opened, Submitted, Fed, Gave, SawWork, SawNoop, SawNothing, step, client, submit, submitted}
+use Rattle.world.specs.World.{Peer, Ours, Foreign, Connection, World, Submit, ClientLost, Seen, Opened, Submitted, Fed, Gave, SawWork, SawNoop, SawNothing, step, client, submit, effect_of_submit}
 use Rattle.world.specs.Fits.{Link, Rest, FitsClient, FitsLink, Fits}
 use Rattle.world.specs.Contract.{Answers}
 use Rattle.world.specs.Seeing.{IsWrong}
@@ -47,7 +47,7 @@ module _ {E G : Type 0} (entries : E → List EntryView) (answer : Definition) (
   abbrev Now_ : LinkHeld → World → Type 0
   Now_ l2 = Now entries answer accepts r c l2 s
 
-  module _ (q : Ask) (b : Before entries answer accepts (Submit c q) l s r w) where
+  module _ (q : RequestView) (b : Before entries answer accepts (Submit c q) l s r w) where
     abbrev m : Link
     m = link_of l b.client
 
@@ -82,9 +82,9 @@ module _ {E G : Type 0} (entries : E → List EntryView) (answer : Definition) (
     accepts_turn n l2 x =
         let o = wish_is x.0 x.1 in
         let a = submit_answers G answer accepts r w b.fits b.brought b.reached c k here.1 m b.at here.2 o.0 o.1 q x.0 x.1 n x.2 in
-        let same : ◌≡◌ {A = Link} (record m { client = option_map (λ z. asking.submitted z q) m.client }) (record m { client = Some (asking.submitted x.0 q) }) =
-        ap (λ (z : Option asking.Rest). let m2 : Link = record m { client = option_map (λ v. asking.submitted v q) z } in m2) x.1 in
-        (a.0, a.1, a.2, holds_now l2 (record m { client = Some (asking.submitted x.0 q) }) a.0 x.3 (subst (λ z. Fits (record { links = slice_set r.links c z; server = r.server }) a.0) same a.3))
+        let same : ◌≡◌ {A = Link} (record m { client = option_map (λ z. asking.after_submit z q) m.client }) (record m { client = Some (asking.after_submit x.0 q) }) =
+        ap (λ (z : Option asking.Rest). let m2 : Link = record m { client = option_map (λ v. asking.after_submit v q) z } in m2) x.1 in
+        (a.0, a.1, a.2, holds_now l2 (record m { client = Some (asking.after_submit x.0 q) }) a.0 x.3 (subst (λ z. Fits (record { links = slice_set r.links c z; server = r.server }) a.0) same a.3))
 
     refuses_turn : (fault : SubmitFault) (l2 : LinkHeld) → Submits m q (Ok (Submitted (Err fault))) (Holds l2) → Answers T w (Submit c q) (Ok (Submitted (Err fault))) (Now_ l2)
     refuses_turn fault l2 x =
@@ -92,15 +92,15 @@ module _ {E G : Type 0} (entries : E → List EntryView) (answer : Definition) (
         let h = refused_fits G answer accepts r w b.fits sound c k here.1 m b.at o.0 o.1 q x.0 x.1 fault x.2 in
         done entries answer accepts (Submit c q) l s r w b (Submitted (Err fault)) l2 s x.3.0 r.server x.3.2 b.server refl
         (h.0, h.1, subst (λ z. Fits (record { links = slice_set r.links c z; server = r.server }) h.0) x.3.1 h.2)
-        (λ w2 k2 g wish p none. absurd (never h.0 h.1 o.0 o.1 (subst (λ z. refused (client z) z.client_lost z.sent q ≡ None) (one_conn k2 k (sym g ∙ here.1)) none))) tt
+        (λ w2 k2 g wish p none. absurd (never h.0 h.1 o.0 o.1 (subst (λ z. refusal_of (client z) z.client_lost z.sent q ≡ None) (one_conn k2 k (sym g ∙ here.1)) none))) tt
       where
         differ : (n : ℕ) → ◌≡◌ {A = Seen} (Submitted (Ok n)) (Submitted (Err fault)) → ⊥
         differ n e = cc
 
-        never : (w2 : World) → step T w (Submit c q) ≡ Ok (w2, Submitted (Err fault)) → (wish : Wish) → k.peer ≡ Ours wish → refused (client k) k.client_lost k.sent q ≡ None → ⊥
+        never : (w2 : World) → step T w (Submit c q) ≡ Ok (w2, Submitted (Err fault)) → (wish : Wish) → k.peer ≡ Ours wish → refusal_of (client k) k.client_lost k.sent q ≡ None → ⊥
         never w2 h wish ours none =
             let seen : (submit q k).seen ≡ Submitted (Err fault) = (ok_parts _ w2 _ (Submitted (Err fault)) (sym (submit_step T w c k here.1 wish q ours) ∙ h)).1 in
-            differ _ (ap (λ o. (submitted q k o).seen) (sym none) ∙ seen)
+            differ _ (ap (λ o. (effect_of_submit q k o).seen) (sym none) ∙ seen)
 
     pub submit_turns : (res : Result Seen Refused) (l2 : LinkHeld) → Submits m q res (Holds l2) → Answers T w (Submit c q) res (Now_ l2)
     submit_turns (Ok (Submitted (Ok n))) l2 x = accepts_turn n l2 x

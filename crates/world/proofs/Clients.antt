@@ -5,7 +5,7 @@ use Rattle.std.proofs.lemmas.List.{take-append-le}
 use Rattle.wire.specs.declared.Wish.{Wish}
 use Rattle.wire.specs.Reader.{reach, takes, state}
 use Rattle.wire.specs.Framing.{Opened, at_client}
-use Rattle.messages.specs.View.{Ask}
+use Rattle.messages.specs.View.{RequestView}
 use Rattle.messages.specs.Arrivals.{Arrival, Shook, NoMagic, Asked, Unread, TooLong, hears, heard_bytes}
 use Rattle.machine.specs.declared.State.{State}
 use Rattle.machine.specs.Following.{interruptible}
@@ -13,15 +13,15 @@ use Rattle.machine.specs.Asks.{kind_of}
 use Rattle.machine.specs.Rows.{row_at}
 use Rattle.engine.specs.Views.{EntryView}
 use Rattle.server.specs.declared.Cause.{Cause}
-use Rattle.server.specs.Session.{Setting, closed, no_tx, Reply, OneRow, Summary, Bye}
+use Rattle.server.specs.Session.{Setting, no_result, no_tx, Reply, OneRow, Summary, Bye}
 use Rattle.server.specs.Rest.{reset_among}
 use Rattle.client.specs.declared.SubmitFault.{SubmitFault}
-use Rattle.client.specs.Client.{read, refused}
+use Rattle.client.specs.Client.{reading_of, refusal_of}
 use Rattle.client.specs.Rest.{Knows, knows_of, refuses}
 use Rattle.client.specs.Moments.{Call, Submits, Feeds as FeedsCall, Loses, Run, starts, submits, used_of, call, calls, opened_bytes}
 use Rattle.client.proofs.Runs.{tells_by_bytes}
 use Rattle.client.proofs.Few.{keeps_few}
-use Rattle.world.specs.World.{Peer, Ours, Foreign, Connection, World, fresh, empty, Event, Opens, Submit, ToServer, ToClient, Work, PutsNoop, Cut, ClientLost, ServerLost, Feeds, Seen, Opened as SawOpened, Refusal, V3, Effect, Said, SaysNoop, SaysRow, SaysSummary, heard_as, quiet, answered, arrived, waiting, said_version, output, delivered, client, wish_of, submitted, feed, input, to_server, server_gone, given_to, to_client, give, drain, strike_if, summary, write, turn, work, noop, at_peer, after_effect, with_effect, at_conn, opened, live, ledger, step, taken_out, Reached, begins, goes_on, takes_out}
+use Rattle.world.specs.World.{Peer, Ours, Foreign, Connection, World, fresh, empty, Event, Opens, Submit, ToServer, ToClient, Work, PutsNoop, Cut, ClientLost, ServerLost, Feeds, Seen, Opened as SawOpened, Refusal, V3, Effect, Said, SaysNoop, SaysRow, SaysSummary, heard_as, quiet, answer_count, arrivals_at, waiting, said_version, output, bytes_delivered, client, wish_of, effect_of_submit, feed, input, to_server, server_gone, effect_at_peer, to_client, give, drain, strike_if, summary, write, turn, work, noop, at_peer, after_effect, with_effect, at_conn, result_of_open, live, ledger, step, taken_out, Reached, begins, goes_on, takes_out}
 use Rattle.world.specs.Rests.{client_rest}
 use Rattle.world.specs.Limits.{IsFew}
 use Rattle.world.proofs.Written.{ok_parts, get_set, get_more}
@@ -56,7 +56,7 @@ calls_more (d ∷ cs) c x = calls_more cs c (call x d)
 pub record Follows (wish : Wish) (k : Connection) : Type 0 where
   pub made : List Call
   pub sent : (calls (starts wish) made).sent ≡ k.sent
-  pub took : (calls (starts wish) made).took ≡ delivered k
+  pub took : (calls (starts wish) made).took ≡ bytes_delivered k
   pub lost : (calls (starts wish) made).lost ≡ k.client_lost
 
 abbrev pub Follow : Connection → Type 0
@@ -67,7 +67,7 @@ pub record Alike (k k2 : Connection) : Type 0 where
   pub peer : k2.peer ≡ k.peer
   pub sent : k2.sent ≡ k.sent
   pub lost : k2.client_lost ≡ k.client_lost
-  pub given : delivered k2 ≡ delivered k
+  pub given : bytes_delivered k2 ≡ bytes_delivered k
 
 alike_itself : (k : Connection) → Alike k k
 alike_itself k = record { peer = refl; sent = refl; lost = refl; given = refl }
@@ -83,11 +83,11 @@ module _ (wish : Wish) (k : Connection) (ours : k.peer ≡ Ours wish) (h : Follo
   knows_is : run.rest.knows ≡ knows_of (client k) k.sent k.client_lost
   knows_is =
       (tells_by_bytes wish h.made).knows
-      ∙ ap (λ b. knows_of (read wish run.sent run.took) run.sent b) h.lost
-      ∙ ap₂ (λ (qs : List Ask) (bs : List ℕ). knows_of (read wish qs bs) qs k.client_lost) h.sent h.took
-      ∙ ap (λ x. knows_of (read (wish_of x) k.sent (delivered k)) k.sent k.client_lost) (sym ours)
+      ∙ ap (λ b. knows_of (reading_of wish run.sent run.took) run.sent b) h.lost
+      ∙ ap₂ (λ (qs : List RequestView) (bs : List ℕ). knows_of (reading_of wish qs bs) qs k.client_lost) h.sent h.took
+      ∙ ap (λ x. knows_of (reading_of (wish_of x) k.sent (bytes_delivered k)) k.sent k.client_lost) (sym ours)
 
-  item_is : run.rest.item ≡ state at_client at_client.start (delivered k)
+  item_is : run.rest.item ≡ state at_client at_client.start (bytes_delivered k)
   item_is = (tells_by_bytes wish h.made).item ∙ ap (state at_client at_client.start) h.took
 
   pub few : (out : ℕ) → IsFew (client_rest out k)
@@ -95,7 +95,7 @@ module _ (wish : Wish) (k : Connection) (ours : k.peer ≡ Ours wish) (h : Follo
       let l = keeps_few wish h.made in
       record { waiting = subst (λ (y : Knows). length y.waiting ≤ 32) knows_is l.0; unfinished = subst (λ (o : Opened). opened_bytes o ≤ 65537) item_is l.1 }
 
-  accepts : (q : Ask) → refused (client k) k.client_lost k.sent q ≡ None → Follows wish (record k { sent = k.sent ++ q ∷ [] })
+  accepts : (q : RequestView) → refusal_of (client k) k.client_lost k.sent q ≡ None → Follows wish (record k { sent = k.sent ++ q ∷ [] })
   accepts q none =
       let e : refuses run.rest.knows q ≡ None = ap (λ y. refuses y q) knows_is ∙ sym (refused_same k 0 q (omega arith)) ∙ none in
       let is : calls (starts wish) (h.made ++ Submits q ∷ []) ≡ submits run q None = calls_more h.made (Submits q) (starts wish) ∙ ap (submits run q) e in
@@ -127,11 +127,11 @@ module _ (wish : Wish) (k : Connection) (ours : k.peer ≡ Ours wish) (h : Follo
       goes_on : run.rest.knows.over ≡ false
       goes_on = ap (λ (y : Knows). y.over) knows_is ∙ ap₂ (λ a b. a || b) lives (ap₂ (λ a b. a || b) on.0 on.1)
 
-      used : used_of run.rest piece ≡ reach hears (delivered k) piece
+      used : used_of run.rest piece ≡ reach hears (bytes_delivered k) piece
       used =
           ap (λ b. if b then 0 else (takes at_client run.rest.item piece).used) goes_on
           ∙ ap (λ (o : Opened). (takes at_client o piece).used) item_is
-          ∙ sym (used_same (wish_of k.peer) k.sent (delivered k) on piece)
+          ∙ sym (used_same (wish_of k.peer) k.sent (bytes_delivered k) on piece)
 
 -- a step of the session changes nothing to the client
 module _ (k : Connection) (s : Sound k) where
@@ -142,18 +142,18 @@ module _ (k : Connection) (s : Sound k) where
   within : Within k
   within = let a = s.counts in let b = s.below in omega arith
 
-  spoken : (k2 : Connection) (x : Said) → Within k2 → delivered (record k2 { says = x ∷ k2.says }) ≡ delivered k2
+  spoken : (k2 : Connection) (x : Said) → Within k2 → bytes_delivered (record k2 { says = x ∷ k2.says }) ≡ bytes_delivered k2
   spoken k2 x few = take-append-le k2.down (output k2) (heard_bytes (said_version k2) (heard_as x)) few
 
   struck_alike : (b : Bool) → Alike k (strike_if b k) × Within (strike_if b k)
   struck_alike false = (alike_itself k, within)
   struck_alike true = go (interruptible k.state)
     where
-      go : (b : Bool) → let k2 = if b then record k { state = State.Interrupted; result = closed; tx = no_tx } else k in Alike k k2 × Within k2
+      go : (b : Bool) → let k2 = if b then record k { state = State.Interrupted; result = no_result; tx = no_tx } else k in Alike k k2 × Within k2
       go true = (record { peer = refl; sent = refl; lost = refl; given = refl }, within)
       go false = (alike_itself k, within)
 
-  write_alike : (k2 : Connection) → Alike k k2 → Within k2 → (entries : List EntryView) (q : Ask) (r : Reply) → Alike k (write entries k2 q r).conn
+  write_alike : (k2 : Connection) → Alike k k2 → Within k2 → (entries : List EntryView) (q : RequestView) (r : Reply) → Alike k (write entries k2 q r).conn
   write_alike k2 a few entries q (OneRow row left) = record { peer = a.peer; sent = a.sent; lost = a.lost; given = spoken k2 (SaysRow row) few ∙ a.given }
   write_alike k2 a few entries q Bye = record { peer = a.peer; sent = a.sent; lost = a.lost; given = a.given }
   write_alike k2 a few entries q (Summary d said left tx entry) = record { peer = a.peer; sent = a.sent; lost = a.lost; given = spoken k2 (SaysSummary (summary entries k2 q d said (unwrap_or (row_at (said_version k2) k2.state (kind_of q) d) State.Defunct) entry)) few ∙ a.given }
@@ -169,7 +169,7 @@ module _ (k : Connection) (s : Sound k) where
 
   work_alike : (S : Setting) (c : ℕ) (entries : List EntryView) (o : Option Cause) → Alike k (work S c entries k o).conn
   work_alike S c entries (Some cause) = alike_itself k
-  work_alike S c entries None = if_case (λ e. Alike k e.conn) _ _ _ (alike_itself k) (λ _. turn_alike S c entries (slice_get (arrived k) (answered k.says)))
+  work_alike S c entries None = if_case (λ e. Alike k e.conn) _ _ _ (alike_itself k) (λ _. turn_alike S c entries (slice_get (arrivals_at k) (answer_count k.says)))
 
   noop_alike : Alike k (noop k).conn
   noop_alike = if_case (λ e. Alike k e.conn) _ _ _ (alike_itself k) (λ _. record { peer = refl; sent = refl; lost = refl; given = spoken k SaysNoop within })
@@ -184,7 +184,7 @@ module _ (k : Connection) (s : Sound k) where
     still : (k2 : Connection) → Alike k k2 → Follow k2
     still k2 a = alike_follows k k2 a f
 
-    submits_follow : (wish : Wish) → k.peer ≡ Ours wish → (q : Ask) (o : Option SubmitFault) → refused (client k) k.client_lost k.sent q ≡ o → F (submitted q k o)
+    submits_follow : (wish : Wish) → k.peer ≡ Ours wish → (q : RequestView) (o : Option SubmitFault) → refusal_of (client k) k.client_lost k.sent q ≡ o → F (effect_of_submit q k o)
     submits_follow wish p q (Some fault) e = f
     submits_follow wish p q None e = λ wish2 p2. accepts wish2 k p2 (f wish2 p2) q e
 
@@ -195,7 +195,7 @@ module _ (k : Connection) (s : Sound k) where
     drains_follow p n = if_case F _ _ _ f (λ _ wish p2. let bad : Foreign ≡ Ours wish = sym p ∙ p2 in absurd (cc))
 
     event_follows : (S : Setting) (c : ℕ) (all : List EntryView) (e : Event) (p : Peer) → k.peer ≡ p → (x : Effect) → at_peer S c all e p k ≡ Ok x → F x
-    event_follows S c all (Submit i q) (Ours wish) p x h = effect_of F _ x h (submits_follow wish p q (refused (client k) k.client_lost k.sent q) refl)
+    event_follows S c all (Submit i q) (Ours wish) p x h = effect_of F _ x h (submits_follow wish p q (refusal_of (client k) k.client_lost k.sent q) refl)
     event_follows S c all (ToServer i n) (Ours wish) p x h = effect_of F _ x h (still (to_server wish n k).conn (feed_alike (take n (drop (length k.up) (input wish k.sent)))))
     event_follows S c all (ToClient i n) (Ours wish) p x h = effect_of F _ x h (gives_follow n)
     event_follows S c all (ClientLost i) (Ours wish) p x h = effect_of F _ x h (λ wish2 p2. loses wish2 k p2 (f wish2 p2))
@@ -234,7 +234,7 @@ module _ (S : Setting) (w : World) (sound : (c : ℕ) (k : Connection) → slice
       go None g h = cc
       go (Some k) g h = made k g (at_peer S c (ledger w) e k.peer k) (event_follows k (sound c k g) (all c k g) S c (ledger w) e k.peer refl) h
 
-  opens_follow : (seen : Seen) (w2 : World) (peer : Peer) → opened w peer ≡ Ok (w2, seen) → AllFollow w2
+  opens_follow : (seen : Seen) (w2 : World) (peer : Peer) → result_of_open w peer ≡ Ok (w2, seen) → AllFollow w2
   opens_follow seen w2 peer h = go (nat_le 16 (live w) || nat_le (2 ^ 63) (length w.conns)) h
     where
       more : World
@@ -268,7 +268,7 @@ module _ (S : Setting) (w : World) (sound : (c : ℕ) (k : Connection) → slice
       go : (o : Option Connection) → slice_get w.conns c ≡ o → AllFollow (taken_out w c n o)
       go None g = all
       go (Some k) g =
-          let k2 : Connection = record k { taken = (given_to k.peer n k).conn.taken } in
+          let k2 : Connection = record k { taken = (effect_at_peer k.peer n k).conn.taken } in
           set_follows c k k2 g (alike_follows k k2 (record { peer = refl; sent = refl; lost = refl; given = refl }) (all c k g))
 
 reached_follow : (S : Setting) (brought : List EntryView) {w : World} → Reached S brought w → AllFollow w

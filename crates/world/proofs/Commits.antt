@@ -1,6 +1,6 @@
 -- That an entry comes by a row that commits, for a request that came whole.
 use Rattle.std.proofs.Common.{◌≡◌, refl, sym, ◌∙◌, ap, ap₂, subst, ℕ, suc, zero, Bool, true, false, true≢false, if◌then◌else◌, Option, Some, None, is_some, Result, Ok, Err, List, [], ◌∷◌, ◌++◌, length, drop, slice_get, ◌⊎◌, inl, inr, ⊎_elim, arith, append-nil}
-use Rattle.messages.specs.View.{Ask}
+use Rattle.messages.specs.View.{RequestView}
 use Rattle.messages.specs.Arrivals.{Arrival, Asked}
 use Rattle.machine.specs.States.{phase_of}
 use Rattle.machine.specs.Asks.{kind_of}
@@ -13,7 +13,7 @@ use Rattle.server.specs.Serving.{Live, find}
 use Rattle.server.specs.Running as running
 use Rattle.server.specs.Running.{after_call, after_event, Adds, Grows, nothing, one}
 use Rattle.server.proofs.Ledgers.{grows}
-use Rattle.world.specs.World.{Connection, World, Event, Work, Seen, SawWork, Refusal, V1, Effect, quiet, answered, arrived, waiting, work, after_effect, at_conn, ledger, step, Reached}
+use Rattle.world.specs.World.{Connection, World, Event, Work, Seen, SawWork, Refusal, V1, Effect, quiet, answer_count, arrivals_at, waiting, work, after_effect, at_conn, ledger, step, Reached}
 use Rattle.world.specs.Rests.{server_rest, live_of}
 use Rattle.world.specs.Turns.{Definition, setting_of}
 use Rattle.world.specs.Others.{Commits, GrowsByCommits}
@@ -77,7 +77,7 @@ module _ {G : Type 0} (answer : Definition) (accepts : G → List ℕ → List �
             writes = writes;
             works = refl;
             here = here;
-            first = first_of (answered k.says) (arrived k) later (Asked q) (ap (λ (z : Live). z.kept.waiting) (sym same) ∙ first);
+            first = first_of (answer_count k.says) (arrivals_at k) later (Asked q) (ap (λ (z : Live). z.kept.waiting) (sym same) ∙ first);
             row = ap (λ (z : Live). commits (phase_of z.kept.state) (kind_of q)) (sym same) ∙ row;
             entry = h ∙ ap (λ (z : Live). ledger w ++ record { conn = z.conn; ordinal = z.kept.first; writes = writes } ∷ []) same;
           })

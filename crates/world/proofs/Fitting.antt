@@ -3,8 +3,8 @@ use Rattle.std.proofs.Common.{◌≡◌, refl, sym, ◌∙◌, ap, ap₂, subst,
 use Rattle.std.proofs.lemmas.List.{take-append-le, drop-append-le, drop-drop, drop-take, take_min}
 use Rattle.std.proofs.Math.Seq.{take-add}
 use Rattle.wire.specs.declared.Wish.{Wish}
-use Rattle.wire.specs.Offers.{offered, wished}
-use Rattle.messages.specs.View.{Ask}
+use Rattle.wire.specs.Offers.{offer_of, wish_version}
+use Rattle.messages.specs.View.{RequestView}
 use Rattle.messages.specs.Arrivals.{Arrival, Shook, NoMagic, Asked, Unread, TooLong, request_bytes, heard_bytes, hears}
 use Rattle.machine.specs.declared.State.{State}
 use Rattle.machine.specs.declared.Phase.{Phase}
@@ -13,21 +13,21 @@ use Rattle.machine.specs.States.{phase_of}
 use Rattle.engine.specs.Views.{EntryView}
 use Rattle.server.specs.declared.Cause.{Cause}
 use Rattle.server.specs.declared.Worked.{Worked}
-use Rattle.server.specs.Session.{Setting, Open, Tx, closed, no_tx, Reply, OneRow, Summary, Bye}
+use Rattle.server.specs.Session.{Setting, Open, Tx, no_result, no_tx, Reply, OneRow, Summary, Bye}
 use Rattle.server.specs.Rest.{reset_among, cause_or, cause_of}
 use Rattle.client.specs.Client.{Reading, Told, GotRow, Got}
-use Rattle.client.specs.Moments.{told_in}
-use Rattle.client.specs.Client.{read as reader}
+use Rattle.client.specs.Moments.{tellings_in}
+use Rattle.client.specs.Client.{reading_of as reader}
 use Rattle.client.specs.Rest as asking
 use Rattle.client.specs.Rest.{knows_of, losses}
-use Rattle.world.specs.World.{Peer, Ours, Foreign, Connection, fresh, Effect, Seen, SawWork, SawNoop, Said, SaysVersion, SaysNoop, SaysRow, SaysSummary, heard_as, output, said_version, delivered, client, wish_of, input, answered, arrived, waiting, strike_if, quiet, write, turn, answer, work, noop, give, taken_for, server_gone}
+use Rattle.world.specs.World.{Peer, Ours, Foreign, Connection, fresh, Effect, Seen, SawWork, SawNoop, Said, SaysVersion, SaysNoop, SaysRow, SaysSummary, heard_as, output, said_version, bytes_delivered, client, wish_of, input, answer_count, arrivals_at, waiting, strike_if, quiet, write, turn, answer, work, noop, give, taken_for, server_gone}
 use Rattle.world.specs.World as world
 use Rattle.wire.specs.Reader.{state, reach}
 use Rattle.wire.specs.Framing.{at_client}
 use Rattle.machine.specs.Asks.{kind_of}
 use Rattle.machine.specs.Rows.{row_at}
 use Rattle.world.specs.Rests.{client_rest}
-use Rattle.world.specs.Reports.{wrote_by, wrote_after, read, read_after, by_peer}
+use Rattle.world.specs.Reports.{wrote_by, wrote_after, summaries_told, read_after, by_peer}
 use Rattle.world.specs.Fits.{Link, FitsClient, FitsLink, FitLinks, cause_seen}
 use Rattle.client.specs.declared.Outcome.{Outcome}
 use Rattle.client.proofs.Later.{reading_later}
@@ -116,7 +116,7 @@ module _ (l : Link) (k : Connection) (f : FitsLink l k) (s : Sound k) (lives : k
     abbrev k2 : Connection
     k2 = record k { says = x ∷ k.says; state = st; ended = en; result = re; tx = tr }
 
-    front : delivered k2 ≡ delivered k
+    front : bytes_delivered k2 ≡ bytes_delivered k
     front = take-append-le k.down (output k) (heard_bytes (said_version k) (heard_as x)) (let a = s.counts in let b = s.below in omega arith)
 
     client_same : client k2 ≡ client k
@@ -149,11 +149,11 @@ module _ (l : Link) (k : Connection) (f : FitsLink l k) (s : Sound k) (lives : k
           lost = f.lost ∙ ap (λ r. by_peer k.peer (if k.client_lost then losses (knows_of r k.sent false) else [])) (sym client_same);
         }
 
-strike_case : (P : Connection → Type 0) (b : Bool) (k : Connection) → P k → P (record k { state = State.Interrupted; result = closed; tx = no_tx }) → P (strike_if b k)
+strike_case : (P : Connection → Type 0) (b : Bool) (k : Connection) → P k → P (record k { state = State.Interrupted; result = no_result; tx = no_tx }) → P (strike_if b k)
 strike_case P false k x y = x
 strike_case P true k x y = go (interruptible k.state)
   where
-    go : (b : Bool) → P (if b then record k { state = State.Interrupted; result = closed; tx = no_tx } else k)
+    go : (b : Bool) → P (if b then record k { state = State.Interrupted; result = no_result; tx = no_tx } else k)
     go true = y
     go false = x
 
@@ -172,17 +172,17 @@ module _ (l : Link) (k : Connection) (f : FitsLink l k) (s : Sound k) (lives : k
   quiet_link : (k2 : Connection) (worked : Worked) → wrote_by worked ≡ [] → FitsLink l k2 → Links l (quiet k2 (SawWork worked))
   quiet_link k2 worked e g = subst (λ z. FitsLink (record l { wrote = l.wrote ++ z }) k2) (sym e) (nothing_written l k2 g)
 
-  write_link : (entries : List EntryView) (q : Ask) (r : Reply) → Links l (write entries k q r)
+  write_link : (entries : List EntryView) (q : RequestView) (r : Reply) → Links l (write entries k q r)
   write_link entries q (OneRow row left) = said_link l k f s lives (SaysRow row) k.state k.ended left k.tx
   write_link entries q Bye = quiet_link _ (Worked.Ended Cause.Goodbye) refl (same_link l k f s lives (world.end_with Cause.Goodbye k) refl)
   write_link entries q (Summary d a left tx entry) =
       let st = unwrap_or (row_at (said_version k) k.state (kind_of q) d) State.Defunct in
       said_link l k f s lives (SaysSummary (world.summary entries k q d a st entry)) st (cause_of d st) left tx
 
-struck_link : (l : Link) (k : Connection) → FitsLink l k → Sound k → k.server_lost ≡ false → FitsLink l (record k { state = State.Interrupted; result = closed; tx = no_tx })
-struck_link l k f s lives = same_link l k f s lives (record k { state = State.Interrupted; result = closed; tx = no_tx }) refl
+struck_link : (l : Link) (k : Connection) → FitsLink l k → Sound k → k.server_lost ≡ false → FitsLink l (record k { state = State.Interrupted; result = no_result; tx = no_tx })
+struck_link l k f s lives = same_link l k f s lives (record k { state = State.Interrupted; result = no_result; tx = no_tx }) refl
 
-struck_sound : (k : Connection) → Sound k → Sound (record k { state = State.Interrupted; result = closed; tx = no_tx })
+struck_sound : (k : Connection) → Sound k → Sound (record k { state = State.Interrupted; result = no_result; tx = no_tx })
 struck_sound k s = record { counts = s.counts; below = s.below; past = s.past; readable = s.readable; stage = s.stage; gone = s.gone }
 
 module _ (S : Setting) (c : ℕ) (entries : List EntryView) (l : Link) (k : Connection) (f : FitsLink l k) (s : Sound k) (lives : k.server_lost ≡ false) where
@@ -196,7 +196,7 @@ module _ (S : Setting) (c : ℕ) (entries : List EntryView) (l : Link) (k : Conn
   turn_link (Some (Asked q)) =
       strike_case (λ k2. Links l (answer S c entries k2 q)) (reset_among (waiting k)) k
       (write_link l k f s lives entries q _)
-      (write_link l (record k { state = State.Interrupted; result = closed; tx = no_tx }) (struck_link l k f s lives) (struck_sound k s) lives entries q _)
+      (write_link l (record k { state = State.Interrupted; result = no_result; tx = no_tx }) (struck_link l k f s lives) (struck_sound k s) lives entries q _)
 
   -- `work`
   pub work_link : Links l (work S c entries k k.ended)
@@ -204,7 +204,7 @@ module _ (S : Setting) (c : ℕ) (entries : List EntryView) (l : Link) (k : Conn
     where
       go : (o : Option Cause) → Links l (work S c entries k o)
       go (Some cause) = quiet_link l k f s lives k (Worked.Ended cause) refl f
-      go None = if_links (nat_le 65536 (length (output k) - k.taken)) _ _ (quiet_link l k f s lives k Worked.Full refl f) (turn_link (slice_get (arrived k) (answered k.says)))
+      go None = if_links (nat_le 65536 (length (output k) - k.taken)) _ _ (quiet_link l k f s lives k Worked.Full refl f) (turn_link (slice_get (arrivals_at k) (answer_count k.says)))
         where
           if_links : (b : Bool) (x y : Effect) → Links l x → Links l y → Links l (if b then x else y)
           if_links true x y a d = a
@@ -263,12 +263,12 @@ gone_link l k f s lives =
         ∙ sym (take_whole (length (output k) - k.down) (drop k.down (output k)) (let m = length-drop k.down (output k) in omega arith))
 
 -- `lost` of the client
-dropped_client : (p : Peer) (o : Option asking.Rest) (u : List ℕ) (k : Connection) → FitsClient p o u k → FitsClient p (option_map asking.dropped o) u (record k { client_lost = true })
-dropped_client (Ours wish) o u k h = (h.0, h.1, h.2, ap (option_map asking.dropped) h.3, h.4)
-dropped_client Foreign o u k h = (ap (option_map asking.dropped) h.0, h.1)
+dropped_client : (p : Peer) (o : Option asking.Rest) (u : List ℕ) (k : Connection) → FitsClient p o u k → FitsClient p (option_map asking.after_drop o) u (record k { client_lost = true })
+dropped_client (Ours wish) o u k h = (h.0, h.1, h.2, ap (option_map asking.after_drop) h.3, h.4)
+dropped_client Foreign o u k h = (ap (option_map asking.after_drop) h.0, h.1)
 
 pub lost_link : (l : Link) (k : Connection) (told : List (ℕ × Outcome)) → FitsLink l k → told ≡ by_peer k.peer (losses (knows_of (client k) k.sent false))
-    → FitsLink (record l { client = option_map asking.dropped l.client; client_lost = true; lost = told }) (record k { client_lost = true })
+    → FitsLink (record l { client = option_map asking.after_drop l.client; client_lost = true; lost = told }) (record k { client_lost = true })
 lost_link l k told f e =
     record {
       peer = f.peer;
@@ -287,7 +287,7 @@ pub lost_again : (l : Link) (k : Connection) → FitsLink l k → k.client_lost 
 lost_again l k f e =
     record {
       peer = f.peer;
-      client = same_client k.peer l.client l.up k (record k { client_lost = true }) refl refl (λ out. ap (λ b. record { wish = wish_of k.peer; knows = knows_of (client k) k.sent b; item = state at_client at_client.start (delivered k); unsent = drop out (input (wish_of k.peer) k.sent) }) (sym e)) f.client;
+      client = same_client k.peer l.client l.up k (record k { client_lost = true }) refl refl (λ out. ap (λ b. record { wish = wish_of k.peer; knows = knows_of (client k) k.sent b; item = state at_client at_client.start (bytes_delivered k); unsent = drop out (input (wish_of k.peer) k.sent) }) (sym e)) f.client;
       down = f.down;
       cut = f.cut;
       client_lost = f.client_lost ∙ e;
@@ -297,32 +297,32 @@ lost_again l k f e =
       lost = f.lost ∙ ap (λ b. by_peer k.peer (if b then losses (knows_of (client k) k.sent false) else [])) e;
     }
 
-not_lost : (p : Peer) (r : Reading) (sent : List Ask) (b : Bool) → b ≡ false → by_peer p (if b then losses (knows_of r sent false) else []) ≡ by_peer p []
+not_lost : (p : Peer) (r : Reading) (sent : List RequestView) (b : Bool) → b ≡ false → by_peer p (if b then losses (knows_of r sent false) else []) ≡ by_peer p []
 not_lost p r sent false e = refl
 not_lost p r sent true e = cc
 
 -- `submit` that is accepted
-submitted_client : (p : Peer) (o : Option asking.Rest) (u : List ℕ) (k : Connection) (q : Ask) → k.peer ≡ p → (client k).bad ≡ false → k.client_lost ≡ false → (client k).version ≡ Some (wished (wish_of k.peer))
-    → FitsClient p o u k → FitsClient p (option_map (λ r. asking.submitted r q) o) u (record k { sent = k.sent ++ q ∷ [] })
-submitted_client Foreign o u k q e good lives ver h = (ap (option_map (λ r. asking.submitted r q)) h.0, h.1)
+submitted_client : (p : Peer) (o : Option asking.Rest) (u : List ℕ) (k : Connection) (q : RequestView) → k.peer ≡ p → (client k).bad ≡ false → k.client_lost ≡ false → (client k).version ≡ Some (wish_version (wish_of k.peer))
+    → FitsClient p o u k → FitsClient p (option_map (λ r. asking.after_submit r q) o) u (record k { sent = k.sent ++ q ∷ [] })
+submitted_client Foreign o u k q e good lives ver h = (ap (option_map (λ r. asking.after_submit r q)) h.0, h.1)
 submitted_client (Ours wish) o u k q e good lives ver h =
     let is : wish_of k.peer ≡ wish = ap wish_of e in
     let few : h.0 ≤ length (input (wish_of k.peer) k.sent) = subst (λ z. h.0 ≤ length (input z k.sent)) (sym is) h.2 in
-    let long : input wish (k.sent ++ q ∷ []) ≡ input wish k.sent ++ request_bytes (wished wish) q = subst (λ z. input z (k.sent ++ q ∷ []) ≡ input z k.sent ++ request_bytes (wished z) q) is (longer k h.0 q few) in
+    let long : input wish (k.sent ++ q ∷ []) ≡ input wish k.sent ++ request_bytes (wish_version wish) q = subst (λ z. input z (k.sent ++ q ∷ []) ≡ input z k.sent ++ request_bytes (wish_version z) q) is (longer k h.0 q few) in
     let b = h.1 in let c = h.2 in (
       h.0,
       h.1,
-      subst (λ z. h.0 ≤ length z) (sym long) (omega (arith, length-append (input wish k.sent) (request_bytes (wished wish) q))),
-      ap (option_map (λ r. asking.submitted r q)) h.3 ∙ ap (λ z. Some z) (submitted_same k h.0 q few good lives ver),
+      subst (λ z. h.0 ≤ length z) (sym long) (omega (arith, length-append (input wish k.sent) (request_bytes (wish_version wish) q))),
+      ap (option_map (λ r. asking.after_submit r q)) h.3 ∙ ap (λ z. Some z) (submitted_same k h.0 q few good lives ver),
       h.4 ∙ sym (ap (λ z. take (h.0 - length k.up) (drop (length k.up) z)) long
-          ∙ ap (take (h.0 - length k.up)) (drop-append-le (length k.up) (input wish k.sent) (request_bytes (wished wish) q) (omega arith))
-          ∙ take-append-le (h.0 - length k.up) (drop (length k.up) (input wish k.sent)) (request_bytes (wished wish) q) (let m = length-drop (length k.up) (input wish k.sent) in omega arith)),
+          ∙ ap (take (h.0 - length k.up)) (drop-append-le (length k.up) (input wish k.sent) (request_bytes (wish_version wish) q) (omega arith))
+          ∙ take-append-le (h.0 - length k.up) (drop (length k.up) (input wish k.sent)) (request_bytes (wish_version wish) q) (let m = length-drop (length k.up) (input wish k.sent) in omega arith)),
     )
 
-pub submit_link : (l : Link) (k : Connection) (q : Ask) → FitsLink l k → (client k).bad ≡ false → k.client_lost ≡ false → (client k).version ≡ Some (wished (wish_of k.peer))
-    → FitsLink (record l { client = option_map (λ r. asking.submitted r q) l.client }) (record k { sent = k.sent ++ q ∷ [] })
+pub submit_link : (l : Link) (k : Connection) (q : RequestView) → FitsLink l k → (client k).bad ≡ false → k.client_lost ≡ false → (client k).version ≡ Some (wish_version (wish_of k.peer))
+    → FitsLink (record l { client = option_map (λ r. asking.after_submit r q) l.client }) (record k { sent = k.sent ++ q ∷ [] })
 submit_link l k q f good lives ver =
-    let same : client (record k { sent = k.sent ++ q ∷ [] }) ≡ client k = reading_later (wish_of k.peer) k.sent (q ∷ []) (hears (delivered k)) good in
+    let same : client (record k { sent = k.sent ++ q ∷ [] }) ≡ client k = reading_later (wish_of k.peer) k.sent (q ∷ []) (hears (bytes_delivered k)) good in
     record {
       peer = f.peer;
       client = submitted_client k.peer l.client l.up k q refl good lives ver f.client;
@@ -338,7 +338,7 @@ submit_link l k q f good lives ver =
 -- `open`
 pub fresh_link : (wish : Wish) → FitsLink (record { peer = Ours wish; client = Some (asking.begun wish); up = []; down = []; cut = false; client_lost = false; gone = None; wrote = []; read = []; lost = [] }) (fresh (Ours wish))
 fresh_link wish =
-    record { peer = refl; client = (0, omega arith, omega arith, ap (λ u. Some (record (asking.begun wish) { unsent = u })) (sym (append-nil (offered wish))), refl); down = refl; cut = refl; client_lost = refl; gone = refl; wrote = refl; read = refl; lost = refl }
+    record { peer = refl; client = (0, omega arith, omega arith, ap (λ u. Some (record (asking.begun wish) { unsent = u })) (sym (append-nil (offer_of wish))), refl); down = refl; cut = refl; client_lost = refl; gone = refl; wrote = refl; read = refl; lost = refl }
 
 pub foreign_link : FitsLink (record { peer = Foreign; client = None; up = []; down = []; cut = false; client_lost = false; gone = None; wrote = []; read = []; lost = [] }) (fresh Foreign)
 foreign_link = record { peer = refl; client = (refl, refl); down = refl; cut = refl; client_lost = refl; gone = refl; wrote = refl; read = refl; lost = refl }
@@ -437,7 +437,7 @@ module _ (l : Link) (k : Connection) (f : FitsLink l k) (s : Sound k) (wish : Wi
       same taken down len n m e a b = omega arith
 
   abbrev used : ℕ
-  used = reach hears (delivered k) (take n bytes)
+  used = reach hears (bytes_delivered k) (take n bytes)
 
   abbrev k3 : Connection
   k3 = (give n k).conn
@@ -446,7 +446,7 @@ module _ (l : Link) (k : Connection) (f : FitsLink l k) (s : Sound k) (wish : Wi
   down_is =
       let a = s.counts in let b = s.below in
       let m = length-drop k.down (output k) in
-      let u = reach_within hears (delivered k) (take n bytes) in
+      let u = reach_within hears (bytes_delivered k) (take n bytes) in
       let t = length-take n bytes in
       ap (drop used) held_is ∙ window_rest h n bytes few used (omega arith) (omega arith)
       ∙ ap₂ (λ i z. take i z) (same k.taken k.down (length (output k)) n used (length bytes) m a b) (drop-drop used k.down (output k))
@@ -454,17 +454,17 @@ module _ (l : Link) (k : Connection) (f : FitsLink l k) (s : Sound k) (wish : Wi
       same : (taken down len n used m : ℕ) → m ≡ len - down → taken ≤ len → down ≤ taken → min (max (taken - down) n) m - used ≡ max taken (min (down + n) len) - (down + used)
       same taken down len n used m e a b = omega arith
 
-  pub give_link : FitsLink (record l { client = Some (asking.fed r (take n held)).rest; down = drop used held; read = l.read ++ read_after (told_in (asking.fed r (take n held)).answer) [] }) k3
+  pub give_link : FitsLink (record l { client = Some (asking.feed_of r (take n held)).rest; down = drop used held; read = l.read ++ read_after (tellings_in (asking.feed_of r (take n held)).answer) [] }) k3
   give_link =
       record {
         peer = f.peer;
-        client = subst (λ p. FitsClient p (Some (asking.fed r (take n held)).rest) l.up k3) (sym ours) fits;
+        client = subst (λ p. FitsClient p (Some (asking.feed_of r (take n held)).rest) l.up k3) (sym ours) fits;
         down = down_is;
         cut = f.cut;
         client_lost = f.client_lost;
         gone = f.gone;
         wrote = f.wrote;
-        read = ap₂ (λ x (y : asking.Rest × List ℕ). x ++ read_after (told_in (asking.fed y.0 y.1).answer) []) f.read (ap₂ (λ (x : asking.Rest) (y : List ℕ). (x, y)) is front_is) ∙ told;
+        read = ap₂ (λ x (y : asking.Rest × List ℕ). x ++ read_after (tellings_in (asking.feed_of y.0 y.1).answer) []) f.read (ap₂ (λ (x : asking.Rest) (y : List ℕ). (x, y)) is front_is) ∙ told;
         lost = f.lost ∙ not_lost k.peer (client k) k.sent k.client_lost lives ∙ sym (not_lost k.peer (client k3) k.sent k.client_lost lives);
       }
     where
@@ -474,12 +474,12 @@ module _ (l : Link) (k : Connection) (f : FitsLink l k) (s : Sound k) (wish : Wi
       is : r ≡ client_rest old.0 k
       is = some_is r (client_rest old.0 k) (sym here ∙ old.3)
 
-      fits : FitsClient (Ours wish) (Some (asking.fed r (take n held)).rest) l.up k3
-      fits = (old.0, old.1, old.2, ap₂ (λ (x : asking.Rest) (y : List ℕ). Some (asking.fed x y).rest) is front_is ∙ ap (λ z. Some z) (give_same k old.0 n lives on).0, old.4)
+      fits : FitsClient (Ours wish) (Some (asking.feed_of r (take n held)).rest) l.up k3
+      fits = (old.0, old.1, old.2, ap₂ (λ (x : asking.Rest) (y : List ℕ). Some (asking.feed_of x y).rest) is front_is ∙ ap (λ z. Some z) (give_same k old.0 n lives on).0, old.4)
 
-      told : read k ++ read_after (told_in (asking.fed (client_rest old.0 k) (take n bytes)).answer) [] ≡ read k3
+      told : summaries_told k ++ read_after (tellings_in (asking.feed_of (client_rest old.0 k) (take n bytes)).answer) [] ≡ summaries_told k3
       told =
-          ap (λ p. by_peer p (read_after (client k).told []) ++ read_after (told_in (asking.fed (client_rest old.0 k) (take n bytes)).answer) []) ours
-          ∙ sym (read_more (told_in (asking.fed (client_rest old.0 k) (take n bytes)).answer) (client k).told)
+          ap (λ p. by_peer p (read_after (client k).told []) ++ read_after (tellings_in (asking.feed_of (client_rest old.0 k) (take n bytes)).answer) []) ours
+          ∙ sym (read_more (tellings_in (asking.feed_of (client_rest old.0 k) (take n bytes)).answer) (client k).told)
           ∙ ap (λ ts. read_after ts []) (sym (give_told k old.0 n lives on))
           ∙ sym (ap (λ p. by_peer p (read_after (client k3).told [])) ours)

@@ -13,12 +13,12 @@ use Rattle.server.specs.Serving as serving
 use Rattle.server.specs.Views as server
 use Rattle.client.specs.declared.ClientFault.{ClientFault}
 use Rattle.client.specs.declared.ClientFault.TheVariants as client_fault
-use Rattle.client.specs.Moments.{told_in}
+use Rattle.client.specs.Moments.{tellings_in}
 use Rattle.client.specs.Rest as asking
 use Rattle.client.specs.Rest.{Note, Nothing}
 use Rattle.world.specs.declared.kinds.Refused.TheVariants.{Memory}
 use Rattle.world.specs.declared.link.Link.{Link as LinkHeld}
-use Rattle.world.specs.World.{Peer, Ours, Foreign, Connection, World, Effect, ToClient, Seen, Gave, step, client, output, delivered, give, to_client, drain, taken_out}
+use Rattle.world.specs.World.{Peer, Ours, Foreign, Connection, World, Effect, ToClient, Seen, Gave, step, client, output, bytes_delivered, give, to_client, drain, taken_out}
 use Rattle.world.specs.Reports.{read_after}
 use Rattle.world.specs.Rests.{client_rest}
 use Rattle.world.specs.Fits.{Link, Rest, FitsClient, FitsLink, Fits}
@@ -152,7 +152,7 @@ module _ {E G : Type 0} (entries : E → List EntryView) (answer : Definition) (
           came_out l2 s2 is d.0 d.1 d.2 (same ∙ ap (λ x. let z : Link = record m { down = x } in z) d.3) ends d.4
 
       abbrev u : ℕ
-      u = reach hears (delivered k) (take n (drop k.down (output k)))
+      u = reach hears (bytes_delivered k) (take n (drop k.down (output k)))
 
       -- what the client took is what the model's did
       used_is : (used : ℕ) (note : Note) (a : Result (ℕ × Note) ClientFault) (w2 : World) → step T w (ToClient c n) ≡ Ok (w2, seen_as u a) → a ≡ Ok (used, note) → u ≡ used
@@ -171,8 +171,8 @@ module _ {E G : Type 0} (entries : E → List EntryView) (answer : Definition) (
       -- what is held after the draw, and what the model's step is over it
       module _ (gone : Option Cause) (is : l.gone ≡ gone) (bytes : List ℕ) (s2 : Server E G) (d : Draws gone c (n - length m.down) r.server m.down (Ok tt) bytes (server.Fits entries s2)) where
         abbrev pub Model : Type 0
-        Model = (server2 : serving.Rest G) × server.Fits entries s2 server2 × (server2.gate ≡ r.server.gate) × ((w2 : World) × (step T w (ToClient c n) ≡ Ok (w2, seen_as u (asking.fed y (take n bytes)).answer))
-            × Fits (record { links = slice_set r.links c (record m { client = Some (asking.fed y (take n bytes)).rest; down = drop u bytes; read = m.read ++ read_after (told_in (asking.fed y (take n bytes)).answer) [] }); server = server2 }) w2)
+        Model = (server2 : serving.Rest G) × server.Fits entries s2 server2 × (server2.gate ≡ r.server.gate) × ((w2 : World) × (step T w (ToClient c n) ≡ Ok (w2, seen_as u (asking.feed_of y (take n bytes)).answer))
+            × Fits (record { links = slice_set r.links c (record m { client = Some (asking.feed_of y (take n bytes)).rest; down = drop u bytes; read = m.read ++ read_after (tellings_in (asking.feed_of y (take n bytes)).answer) [] }); server = server2 }) w2)
 
       pub model : (gone : Option Cause) (is : l.gone ≡ gone) (bytes : List ℕ) (s2 : Server E G) (d : Draws gone c (n - length m.down) r.server m.down (Ok tt) bytes (server.Fits entries s2)) → Model gone is bytes s2 d
       model (Some cause) is bytes s2 d =
@@ -180,39 +180,39 @@ module _ {E G : Type 0} (entries : E → List EntryView) (answer : Definition) (
             r.server,
             d.1,
             refl,
-            subst (λ z. (w2 : World) × (step T w (ToClient c n) ≡ Ok (w2, seen_as u (asking.fed y (take n z)).answer))
-                × Fits (record { links = slice_set r.links c (record m { client = Some (asking.fed y (take n z)).rest; down = drop u z; read = m.read ++ read_after (told_in (asking.fed y (take n z)).answer) [] }); server = r.server }) w2) (sym d.0) h,
+            subst (λ z. (w2 : World) × (step T w (ToClient c n) ≡ Ok (w2, seen_as u (asking.feed_of y (take n z)).answer))
+                × Fits (record { links = slice_set r.links c (record m { client = Some (asking.feed_of y (take n z)).rest; down = drop u z; read = m.read ++ read_after (tellings_in (asking.feed_of y (take n z)).answer) [] }); server = r.server }) w2) (sym d.0) h,
           )
       model None is bytes s2 d =
           let h = client_fits G answer accepts r w b.fits sound c k here.1 m b.at wish peer_is (lives_is is) (joined_is joined) open_is.0 open_is.1 n y client_is d.0 d.1 d.2 in (
             d.1,
             d.4,
             gate_kept r.server.gate _ (λ x. refl) _ d.0 d.1 d.2,
-            subst (λ z. (w2 : World) × (step T w (ToClient c n) ≡ Ok (w2, seen_as u (asking.fed y (take n z)).answer))
-                × Fits (record { links = slice_set r.links c (record m { client = Some (asking.fed y (take n z)).rest; down = drop u z; read = m.read ++ read_after (told_in (asking.fed y (take n z)).answer) [] }); server = d.1 }) w2) (sym d.3) h,
+            subst (λ z. (w2 : World) × (step T w (ToClient c n) ≡ Ok (w2, seen_as u (asking.feed_of y (take n z)).answer))
+                × Fits (record { links = slice_set r.links c (record m { client = Some (asking.feed_of y (take n z)).rest; down = drop u z; read = m.read ++ read_after (tellings_in (asking.feed_of y (take n z)).answer) [] }); server = d.1 }) w2) (sym d.3) h,
           )
 
       pub given_done : (gone : Option Cause) (is : l.gone ≡ gone) (bytes : List ℕ) (s2 : Server E G) → Draws gone c (n - length m.down) r.server m.down (Ok tt) bytes (server.Fits entries s2)
-          → (used : ℕ) (note : Note) (l2 : LinkHeld) → let f = asking.fed y (take n bytes) in Ok (used, note) ≡ f.answer
-          → link_of l2 (Some f.rest) ≡ record m { client = Some f.rest; down = drop used bytes; read = m.read ++ read_after (told_in (Ok (used, note))) [] } → FitsEnd l2.end (Some f.rest)
+          → (used : ℕ) (note : Note) (l2 : LinkHeld) → let f = asking.feed_of y (take n bytes) in Ok (used, note) ≡ f.answer
+          → link_of l2 (Some f.rest) ≡ record m { client = Some f.rest; down = drop used bytes; read = m.read ++ read_after (tellings_in (Ok (used, note))) [] } → FitsEnd l2.end (Some f.rest)
           → Answers T w (ToClient c n) (Ok (Gave used (Ok note))) (Now_ l2 s2)
       given_done gone is bytes s2 d used note l2 told same ends =
-          let f = asking.fed y (take n bytes) in
+          let f = asking.feed_of y (take n bytes) in
           let x = model gone is bytes s2 d in
           let at : u ≡ used = used_is used note f.answer x.3.0 x.3.1 (sym told) in
-          let link_is : ◌≡◌ {A = Link} (record m { client = Some f.rest; down = drop u bytes; read = m.read ++ read_after (told_in f.answer) [] }) (link_of l2 (Some f.rest)) =
-          ap₂ (λ (i : ℕ) (a : Result (ℕ × Note) ClientFault). let z : Link = record m { client = Some f.rest; down = drop i bytes; read = m.read ++ read_after (told_in a) [] } in z) at (sym told) ∙ sym same in
+          let link_is : ◌≡◌ {A = Link} (record m { client = Some f.rest; down = drop u bytes; read = m.read ++ read_after (tellings_in f.answer) [] }) (link_of l2 (Some f.rest)) =
+          ap₂ (λ (i : ℕ) (a : Result (ℕ × Note) ClientFault). let z : Link = record m { client = Some f.rest; down = drop i bytes; read = m.read ++ read_after (tellings_in a) [] } in z) at (sym told) ∙ sym same in
           done entries answer accepts (ToClient c n) l s r w b (Gave used (Ok note)) l2 s2 (Some f.rest) x.0 ends x.1 x.2
           (x.3.0, x.3.1 ∙ ap (λ a. Ok (x.3.0, seen_as u a)) (sym told), subst (λ z. Fits (record { links = slice_set r.links c z; server = x.0 }) x.3.0) link_is x.3.2)
           (λ w2. tt) tt
 
       -- the client wants memory, and nothing else
       pub given_fails : (gone : Option Cause) (is : l.gone ≡ gone) (bytes : List ℕ) (s2 : Server E G) → Draws gone c (n - length m.down) r.server m.down (Ok tt) bytes (server.Fits entries s2)
-          → (fault : ClientFault) (l2 : LinkHeld) → ((fault ≡ client_fault.Memory → ⊥) → (asking.fed y (take n bytes)).answer ≡ Err fault)
+          → (fault : ClientFault) (l2 : LinkHeld) → ((fault ≡ client_fault.Memory → ⊥) → (asking.feed_of y (take n bytes)).answer ≡ Err fault)
           → link_of l2 b.client ≡ record m { down = bytes } → (fault ≡ client_fault.Memory → FitsEnd l2.end b.client) → Answers T w (ToClient c n) (Err Memory) (Now_ l2 s2)
       given_fails gone is bytes s2 d client_fault.Memory l2 told same ends = given_draws gone is (Ok tt) bytes l2 s2 d same (ends refl)
-      given_fails gone is bytes s2 d client_fault.Closed l2 told same ends = let x = model gone is bytes s2 d in absurd (well (asking.fed y (take n bytes)).answer x.3.0 x.3.1 client_fault.Closed (told (λ e. cc)))
-      given_fails gone is bytes s2 d client_fault.BadPeer l2 told same ends = let x = model gone is bytes s2 d in absurd (well (asking.fed y (take n bytes)).answer x.3.0 x.3.1 client_fault.BadPeer (told (λ e. cc)))
+      given_fails gone is bytes s2 d client_fault.Closed l2 told same ends = let x = model gone is bytes s2 d in absurd (well (asking.feed_of y (take n bytes)).answer x.3.0 x.3.1 client_fault.Closed (told (λ e. cc)))
+      given_fails gone is bytes s2 d client_fault.BadPeer l2 told same ends = let x = model gone is bytes s2 d in absurd (well (asking.feed_of y (take n bytes)).answer x.3.0 x.3.1 client_fault.BadPeer (told (λ e. cc)))
 
   -- a foreign peer
   module _ (foreign : end_peer l.end ≡ Foreign) (joined : l.is_cut ≡ false) where

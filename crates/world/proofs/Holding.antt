@@ -18,7 +18,7 @@ use Rattle.client.specs.declared.ClientFault.TheVariants as client_fault
 use Rattle.world.specs.World.{SawNothing}
 use Rattle.world.specs.Fits.{Link}
 use Rattle.world.specs.Views.{FitsEnd, link_of, flow_of, read_of}
-use Rattle.messages.specs.View.{Ask}
+use Rattle.messages.specs.View.{RequestView}
 use Rattle.client.specs.declared.SubmitFault.{SubmitFault}
 use Rattle.client.specs.declared.SubmitFault.TheVariants as submit_fault
 use Rattle.world.specs.Turns.{Holds, Submits, refusal_seen, LosesClient, after_loss}
@@ -52,7 +52,7 @@ module _ (wish : Wish) (c : Client) (lost : Option (List (ℕ × Outcome))) wher
   holds_still l m y c2 e f = (Some y, e, f)
 
 -- a request that the client refuses
-module _ (m : Link) (q : Ask) (Now : Link → Type 0) (y : asking.Rest) (is : m.client ≡ Some y) (now : Now m) where
+module _ (m : Link) (q : RequestView) (Now : Link → Type 0) (y : asking.Rest) (is : m.client ≡ Some y) (now : Now m) where
   pub refused_submits : (fault : SubmitFault) → ((fault ≡ submit_fault.Memory → ⊥) → asking.refuses y.knows q ≡ Some fault) → Submits m q (refusal_seen fault) Now
   refused_submits submit_fault.Memory h = (y, is, now)
   refused_submits submit_fault.NotAllowed h = (y, is, h (λ e. cc), now)
@@ -69,7 +69,7 @@ module _ (wish : Wish) (c : Client) (lost : Option (List (ℕ × Outcome))) (l :
       let was : m.client_lost ≡ true = ap (λ z. z.client_lost) r.3 ∙ b in
       (r.0, r.1, subst (λ z. Holds (with_end l (end.Ours wish c lost)) (after_loss z m r.0)) (sym was) (Some r.0, r.3, r.2))
 
-  pub loses_now : is_some lost ≡ false → (c2 : Client) (told : List (ℕ × Outcome)) → ((y : asking.Rest) → client.Fits c y → (told ≡ asking.losses y.knows) × client.Fits c2 (asking.dropped y))
+  pub loses_now : is_some lost ≡ false → (c2 : Client) (told : List (ℕ × Outcome)) → ((y : asking.Rest) → client.Fits c y → (told ≡ asking.losses y.knows) × client.Fits c2 (asking.after_drop y))
       → LosesClient m (Ok SawNothing) (Holds (with_end l (end.Ours wish c2 (Some told))))
   loses_now b c2 told a =
       let r = holds_client wish c lost l is m h in
@@ -79,9 +79,9 @@ module _ (wish : Wish) (c : Client) (lost : Option (List (ℕ × Outcome))) (l :
         r.0,
         r.1,
         subst (λ z. P (after_loss z m r.0)) (sym was) (
-          Some (asking.dropped r.0),
-          ap (λ (z : Link). let z2 : Link = record z { client = Some (asking.dropped r.0); client_lost = true; lost = asking.losses r.0.knows } in z2) r.3
-              ∙ ap (λ x. let z2 : Link = record (link_of (with_end l (end.Ours wish c2 (Some told))) (Some (asking.dropped r.0))) { lost = x } in z2) (sym d.0),
+          Some (asking.after_drop r.0),
+          ap (λ (z : Link). let z2 : Link = record z { client = Some (asking.after_drop r.0); client_lost = true; lost = asking.losses r.0.knows } in z2) r.3
+              ∙ ap (λ x. let z2 : Link = record (link_of (with_end l (end.Ours wish c2 (Some told))) (Some (asking.after_drop r.0))) { lost = x } in z2) (sym d.0),
           d.1,
         ),
       )

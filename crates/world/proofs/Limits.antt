@@ -1,10 +1,10 @@
 -- How much is kept of each connection: what a step does to a world is one call on the server, and one on the client, or none.
 use Rattle.std.proofs.Common.{◌≡◌, refl, sym, ◌∙◌, ap, ap₂, subst, ℕ, suc, zero, not, ◌+◌, ◌-◌, ◌≤◌, ◌^◌, Bool, true, false, ◌||◌, if◌then◌else◌, nat_le, min, max, true≢false, Option, Some, None, is_some, Result, Ok, Err, List, [], ◌∷◌, ◌++◌, length, take, drop, slice_get, slice_set, ◌⊎◌, inl, inr, ⊎_elim, arith, append-nil, length-set}
 use Rattle.std.proofs.lemmas.Bool.{or_left, or_right}
-use Rattle.messages.specs.View.{Ask}
+use Rattle.messages.specs.View.{RequestView}
 use Rattle.engine.specs.Views.{EntryView}
 use Rattle.client.specs.declared.SubmitFault.{SubmitFault}
-use Rattle.client.specs.Client.{refused}
+use Rattle.client.specs.Client.{refusal_of}
 use Rattle.client.specs.Rest.{Nothing}
 use Rattle.server.specs.declared.Cause.{Cause}
 use Rattle.server.specs.declared.What.{What}
@@ -14,7 +14,7 @@ use Rattle.server.specs.Serving as serving
 use Rattle.server.specs.Serving.{Live, is_full}
 use Rattle.server.specs.Running as running
 use Rattle.server.specs.Running.{after_call, after_event, after_events, Bounded, AllBounded, IsKept}
-use Rattle.world.specs.World.{Peer, Ours, Foreign, Connection, World, fresh, empty, Event, Opens, Submit, ToServer, ToClient, Work, PutsNoop, Cut, ClientLost, ServerLost, Feeds, Seen, Opened, Fed, SawWork, SawNoop, SawNothing, Refusal, V3, Effect, quiet, answered, output, delivered, client, input, submitted, Submitted, Gave, feed, to_server, to_client, give, drain, given_to, taken_for, work, noop, server_gone, at_ours, at_foreign, at_peer, after_effect, with_effect, at_conn, opened, live, ledger, step, WStep, taken_out, Reached, begins, goes_on, takes_out}
+use Rattle.world.specs.World.{Peer, Ours, Foreign, Connection, World, fresh, empty, Event, Opens, Submit, ToServer, ToClient, Work, PutsNoop, Cut, ClientLost, ServerLost, Feeds, Seen, Opened, Fed, SawWork, SawNoop, SawNothing, Refusal, V3, Effect, quiet, answer_count, output, bytes_delivered, client, input, effect_of_submit, Submitted, Gave, feed, to_server, to_client, give, drain, effect_at_peer, taken_for, work, noop, server_gone, at_ours, at_foreign, at_peer, after_effect, with_effect, at_conn, result_of_open, live, ledger, step, WStep, taken_out, Reached, begins, goes_on, takes_out}
 use Rattle.world.specs.Rests.{server_rest, sessions_from, live_of}
 use Rattle.world.specs.Turns.{Definition, setting_of}
 use Rattle.world.proofs.Written.{ok_parts}
@@ -173,12 +173,12 @@ module _ {G : Type 0} (answer : Definition) (accepts : G → List ℕ → List �
         go true e = inl (silent _ ∙ unseen (server_gone k).conn (sym e) (λ l. absurd (true≢false (sym e ∙ l))))
         go false e = let served = lost_served G gate w c k here e s in inr (running.loses c, sym (ap (λ x. x.1) served))
 
-    submits : (q : Ask) (o : Option SubmitFault) → P (submitted q k o)
+    submits : (q : RequestView) (o : Option SubmitFault) → P (effect_of_submit q k o)
     submits q (Some fault) = still (Submitted (Err fault))
     submits q None = inl (silent _ ∙ unseen (record k { sent = k.sent ++ q ∷ [] }) refl (λ _ j. refl))
 
     at_event : (e : Event) (p : Peer) (x : Effect) → at_peer S c (ledger w) e p k ≡ Ok x → P x
-    at_event (Submit i q) (Ours wish) x h = effect_of P _ x h (submits q (refused (client k) k.client_lost k.sent q))
+    at_event (Submit i q) (Ours wish) x h = effect_of P _ x h (submits q (refusal_of (client k) k.client_lost k.sent q))
     at_event (ToServer i n) (Ours wish) x h = effect_of P _ x h (feeds (take n (drop (length k.up) (input wish k.sent))))
     at_event (ToClient i n) (Ours wish) x h = effect_of P _ x h (gives n)
     at_event (ClientLost i) (Ours wish) x h = effect_of P _ x h (flagged k.cut true SawNothing)
@@ -199,7 +199,7 @@ module _ {G : Type 0} (answer : Definition) (accepts : G → List ℕ → List �
     at_event (ClientLost i) Foreign x h = cc
     at_event (Opens peer) Foreign x h = cc
 
-    taken_moves : (p : Peer) (n : ℕ) → Moves w (put (record k { taken = (given_to p n k).conn.taken }))
+    taken_moves : (p : Peer) (n : ℕ) → Moves w (put (record k { taken = (effect_at_peer p n k).conn.taken }))
     taken_moves (Ours wish) n = if_case (λ x. Moves w (put (record k { taken = x.conn.taken }))) _ _ _ (inl (unseen k refl (λ _ j. refl))) (takes n)
     taken_moves Foreign n = if_case (λ x. Moves w (put (record k { taken = x.conn.taken }))) _ _ _ (inl (unseen k refl (λ _ j. refl))) (takes n)
 
@@ -215,7 +215,7 @@ module _ {G : Type 0} (answer : Definition) (accepts : G → List ℕ → List �
         go None g h = cc
         go (Some k) g h = made k (at_peer S c (ledger w) e k.peer k) (at_event w c k g (sound c k g) e k.peer) h
 
-    opens_moves : (peer : Peer) → opened w peer ≡ Ok (w2, seen) → Moves w w2
+    opens_moves : (peer : Peer) → result_of_open w peer ≡ Ok (w2, seen) → Moves w w2
     opens_moves peer h = go (nat_le 16 (live w) || nat_le (2 ^ 63) (length w.conns)) refl h
       where
         more : World

@@ -4,21 +4,21 @@ use Rattle.std.proofs.lemmas.List.{drop-drop}
 use Rattle.wire.specs.declared.Version.{Version}
 use Rattle.wire.specs.declared.Wish.{Wish}
 use Rattle.wire.specs.Reader.{reach, state}
-use Rattle.wire.specs.Framing.{at_client, said_text}
+use Rattle.wire.specs.Framing.{at_client, bytes_newest_first}
 use Rattle.messages.specs.Arrivals.{Arrival, Shook, NoMagic, Asked, Unread, TooLong, arrivals, heard_bytes}
 use Rattle.machine.specs.declared.State.{State}
 use Rattle.machine.specs.Asks.{kind_of, is_reset}
 use Rattle.machine.specs.Following.{interruptible}
 use Rattle.server.specs.declared.Cause.{Cause}
-use Rattle.server.specs.Session.{Open, Tx, closed, no_tx}
+use Rattle.server.specs.Session.{Open, Tx, no_result, no_tx}
 use Rattle.server.specs.Rest.{unread_among}
-use Rattle.messages.specs.View.{Ask}
+use Rattle.messages.specs.View.{RequestView}
 use Rattle.client.specs.declared.Outcome.{Outcome}
 use Rattle.client.specs.Client.{Reading}
-use Rattle.client.specs.Client.{read as reader}
+use Rattle.client.specs.Client.{reading_of as reader}
 use Rattle.client.specs.Rest as asking
 use Rattle.client.specs.Rest.{knows_of, losses}
-use Rattle.world.specs.World.{Peer, Ours, Foreign, Connection, Effect, Seen, Fed, SaysVersion, heard_as, output, said_version, delivered, client, wish_of, input, arrived, waiting, last_item, take_item, feed, strike_if}
+use Rattle.world.specs.World.{Peer, Ours, Foreign, Connection, Effect, Seen, Fed, SaysVersion, heard_as, output, said_version, bytes_delivered, client, wish_of, input, arrivals_at, waiting, last_item, take_item, feed, strike_if}
 use Rattle.world.specs.Rests.{client_rest}
 use Rattle.world.specs.Reports.{wrote, read_after, by_peer}
 use Rattle.world.specs.Fits.{Link, FitsClient, FitsLink, cause_seen}
@@ -44,7 +44,7 @@ strike_up : (b : Bool) (k : Connection) → (strike_if b k).up ≡ k.up
 strike_up false k = refl
 strike_up true k = go (interruptible k.state)
   where
-    go : (b : Bool) → (if b then record k { state = State.Interrupted; result = closed; tx = no_tx } else k).up ≡ k.up
+    go : (b : Bool) → (if b then record k { state = State.Interrupted; result = no_result; tx = no_tx } else k).up ≡ k.up
     go true = refl
     go false = refl
 
@@ -60,8 +60,8 @@ item_takes k piece used l (Some (Asked q)) = (strike_up (is_reset (kind_of q)) (
 
 pub feed_takes : (k : Connection) (piece : List ℕ) → Takes k piece (feed piece k)
 feed_takes k piece =
-    takes_if k piece k.server_lost _ _ none (takes_if k piece k.cut _ _ none (takes_if k piece (is_some k.ended || unread_among (arrived k)) _ _ none
-    (takes_if k piece (nat_le 32 (length (waiting k)) || nat_le (2 ^ 63) (length (arrived k))) _ _ none (item_takes k piece (reach arrivals k.up piece) (reach_within arrivals k.up piece) _))))
+    takes_if k piece k.server_lost _ _ none (takes_if k piece k.cut _ _ none (takes_if k piece (is_some k.ended || unread_among (arrivals_at k)) _ _ none
+    (takes_if k piece (nat_le 32 (length (waiting k)) || nat_le (2 ^ 63) (length (arrivals_at k))) _ _ none (item_takes k piece (reach arrivals k.up piece) (reach_within arrivals k.up piece) _))))
   where
     none : (k.up ≡ k.up ++ []) × (0 ≤ length piece)
     none = (sym (append-nil k.up), omega arith)
@@ -73,7 +73,7 @@ pub record Leaves (k k3 : Connection) : Type 0 where
   pub cut : k3.cut ≡ k.cut
   pub client_lost : k3.client_lost ≡ k.client_lost
   pub server_lost : k3.server_lost ≡ k.server_lost
-  pub given : delivered k3 ≡ delivered k
+  pub given : bytes_delivered k3 ≡ bytes_delivered k
   pub falling : take (k3.taken - k3.down) (drop k3.down (output k3)) ≡ take (k.taken - k.down) (drop k.down (output k))
   pub wrote : wrote k3 ≡ wrote k
 
@@ -88,7 +88,7 @@ strike_leaves : (b : Bool) (k k2 : Connection) → Leaves k k2 → Leaves k (str
 strike_leaves false k k2 h = h
 strike_leaves true k k2 h = go (interruptible k2.state)
   where
-    go : (b : Bool) → Leaves k (if b then record k2 { state = State.Interrupted; result = closed; tx = no_tx } else k2)
+    go : (b : Bool) → Leaves k (if b then record k2 { state = State.Interrupted; result = no_result; tx = no_tx } else k2)
     go true = record { peer = h.peer; sent = h.sent; cut = h.cut; client_lost = h.client_lost; server_lost = h.server_lost; given = h.given; falling = h.falling; wrote = h.wrote }
     go false = h
 
@@ -96,7 +96,7 @@ module _ (k : Connection) (s : Sound k) where
   -- nothing was given where nothing was said
   none_given : k.says ≡ [] → (k.taken ≡ 0) × (k.down ≡ 0)
   none_given e =
-      let l : length (output k) ≡ 0 = ap (λ xs. length (said_text (heard_bytes (said_version k)) (map heard_as xs))) e in
+      let l : length (output k) ≡ 0 = ap (λ xs. length (bytes_newest_first (heard_bytes (said_version k)) (map heard_as xs))) e in
       let a = s.counts in let b = s.below in (omega arith, omega arith)
 
   version_leaves : (up : List ℕ) (o v : Option Version) (c : Option Cause) (st : State) (re : Open) (tr : Tx) → k.says ≡ []
@@ -121,7 +121,7 @@ module _ (k : Connection) (s : Sound k) where
       plain : Leaves k (record k { up = up })
       plain = record { peer = refl; sent = refl; cut = refl; client_lost = refl; server_lost = refl; given = refl; falling = refl; wrote = refl }
   item_leaves up used (Some (Shook (Some v))) f = version_leaves up (Some v) (Some v) k.ended k.state k.result k.tx (f (Some v) refl)
-  item_leaves up used (Some (Shook None)) f = version_leaves up None k.version (Some Cause.NoVersion) State.Defunct closed no_tx (f None refl)
+  item_leaves up used (Some (Shook None)) f = version_leaves up None k.version (Some Cause.NoVersion) State.Defunct no_result no_tx (f None refl)
   item_leaves up used (Some NoMagic) f = record { peer = refl; sent = refl; cut = refl; client_lost = refl; server_lost = refl; given = refl; falling = refl; wrote = refl }
   item_leaves up used (Some Arrival.Idle) f = record { peer = refl; sent = refl; cut = refl; client_lost = refl; server_lost = refl; given = refl; falling = refl; wrote = refl }
   item_leaves up used (Some (Unread e)) f = record { peer = refl; sent = refl; cut = refl; client_lost = refl; server_lost = refl; given = refl; falling = refl; wrote = refl }
@@ -131,13 +131,13 @@ module _ (k : Connection) (s : Sound k) where
 
   pub feed_leaves : (piece : List ℕ) → Leaves k (feed piece k).conn
   feed_leaves piece =
-      leaves_if k k.server_lost _ _ (leaves_all k) (λ _. leaves_if k k.cut _ _ (leaves_all k) (λ _. leaves_if k (is_some k.ended || unread_among (arrived k)) _ _ (leaves_all k)
-      (λ going. leaves_if k (nat_le 32 (length (waiting k)) || nat_le (2 ^ 63) (length (arrived k))) _ _ (leaves_all k)
-      (λ _. let g = none_left k.ended (unread_among (arrived k)) going in
+      leaves_if k k.server_lost _ _ (leaves_all k) (λ _. leaves_if k k.cut _ _ (leaves_all k) (λ _. leaves_if k (is_some k.ended || unread_among (arrivals_at k)) _ _ (leaves_all k)
+      (λ going. leaves_if k (nat_le 32 (length (waiting k)) || nat_le (2 ^ 63) (length (arrivals_at k))) _ _ (leaves_all k)
+      (λ _. let g = none_left k.ended (unread_among (arrivals_at k)) going in
       item_leaves (k.up ++ take (reach arrivals k.up piece) piece) (reach arrivals k.up piece) (last_item (arrivals k.up) (arrivals (k.up ++ take (reach arrivals k.up piece) piece)))
       (λ o e. (unsaid k.up k.version k.says (s.stage g.0) g.1 piece o (sym (last_same k.up k.version k.says (s.stage g.0) g.1 piece) ∙ e)).1)))))
 
-abbrev lost_by : Peer → Bool → Reading → List Ask → List (ℕ × Outcome)
+abbrev lost_by : Peer → Bool → Reading → List RequestView → List (ℕ × Outcome)
 lost_by p b r sent = by_peer p (if b then losses (knows_of r sent false) else [])
 
 module _ (l : Link) (k : Connection) (f : FitsLink l k) (s : Sound k) (lives : k.server_lost ≡ false) (piece : List ℕ) where
@@ -148,12 +148,12 @@ module _ (l : Link) (k : Connection) (f : FitsLink l k) (s : Sound k) (lives : k
   lv = feed_leaves k s piece
 
   client_same : client k3 ≡ client k
-  client_same = ap₂ (λ p (x : List Ask × List ℕ). reader (wish_of p) x.0 x.1) lv.peer (ap₂ (λ (x : List Ask) (y : List ℕ). (x, y)) lv.sent lv.given)
+  client_same = ap₂ (λ p (x : List RequestView × List ℕ). reader (wish_of p) x.0 x.1) lv.peer (ap₂ (λ (x : List RequestView) (y : List ℕ). (x, y)) lv.sent lv.given)
 
   pub rest_same : (out : ℕ) → client_rest out k3 ≡ client_rest out k
   rest_same out =
-      ap₂ (λ (x : Peer × List Ask) (y : Reading × (List ℕ × Bool)). record { wish = wish_of x.0; knows = knows_of y.0 x.1 y.1.1; item = state at_client at_client.start y.1.0; unsent = drop out (input (wish_of x.0) x.1) })
-      (ap₂ (λ (p : Peer) (q : List Ask). (p, q)) lv.peer lv.sent)
+      ap₂ (λ (x : Peer × List RequestView) (y : Reading × (List ℕ × Bool)). record { wish = wish_of x.0; knows = knows_of y.0 x.1 y.1.1; item = state at_client at_client.start y.1.0; unsent = drop out (input (wish_of x.0) x.1) })
+      (ap₂ (λ (p : Peer) (q : List RequestView). (p, q)) lv.peer lv.sent)
       (ap₂ (λ (r : Reading) (z : List ℕ × Bool). (r, z)) client_same (ap₂ (λ (d : List ℕ) (b : Bool). (d, b)) lv.given lv.client_lost))
 
   no_cause : (b : Bool) (o : Option Cause) → b ≡ false → cause_seen b o ≡ None
@@ -172,7 +172,7 @@ module _ (l : Link) (k : Connection) (f : FitsLink l k) (s : Sound k) (lives : k
         gone = f.gone ∙ no_cause k.server_lost k.ended lives ∙ sym (no_cause k3.server_lost k3.ended (lv.server_lost ∙ lives));
         wrote = f.wrote ∙ sym lv.wrote;
         read = f.read ∙ sym (ap₂ (λ p (r : Reading). by_peer p (read_after r.told [])) lv.peer client_same);
-        lost = f.lost ∙ sym (ap₂ (λ (x : Peer × Bool) (y : Reading × List Ask). lost_by x.0 x.1 y.0 y.1) (ap₂ (λ (p : Peer) (b : Bool). (p, b)) lv.peer lv.client_lost) (ap₂ (λ (r : Reading) (q : List Ask). (r, q)) client_same lv.sent));
+        lost = f.lost ∙ sym (ap₂ (λ (x : Peer × Bool) (y : Reading × List RequestView). lost_by x.0 x.1 y.0 y.1) (ap₂ (λ (p : Peer) (b : Bool). (p, b)) lv.peer lv.client_lost) (ap₂ (λ (r : Reading) (q : List RequestView). (r, q)) client_same lv.sent));
       }
 
 -- a feed of bytes of a foreign peer

@@ -3,7 +3,7 @@ use Rattle.std.proofs.Common.{◌≡◌, refl, sym, ◌∙◌, ap, ap₂, subst,
 use Rattle.std.proofs.lemmas.Bool.{eq-eqb, ne_eqb}
 use Rattle.std.proofs.lemmas.List.{drop-drop}
 use Rattle.std.proofs.lemmas.List.Recursion.{is_count_by}
-use Rattle.messages.specs.View.{Ask}
+use Rattle.messages.specs.View.{RequestView}
 use Rattle.messages.specs.Arrivals.{Arrival, Shook, NoMagic, Asked, Unread, TooLong, arrivals}
 use Rattle.wire.specs.Reader.{state, reach}
 use Rattle.wire.specs.Framing.{Opened, at_server}
@@ -14,13 +14,13 @@ use Rattle.engine.specs.declared.Mode.{Mode as QueryMode}
 use Rattle.engine.specs.Views.{EntryView, WriteView, ParameterView, AnswerView, QueryFault}
 use Rattle.server.specs.declared.Cause.{Cause}
 use Rattle.server.specs.declared.Worked.{Worked}
-use Rattle.server.specs.Session.{Setting, closed, no_tx, Reply, OneRow, Summary, Bye, serve}
+use Rattle.server.specs.Session.{Setting, no_result, no_tx, Reply, OneRow, Summary, Bye, serve}
 use Rattle.server.specs.declared.Took.{Took}
 use Rattle.server.specs.Rest as serving_rest
-use Rattle.server.specs.Rest.{reset_among, unread_among, told, Step, work_kept, feeding}
+use Rattle.server.specs.Rest.{reset_among, unread_among, worked_of, Step, work_kept, feeding}
 use Rattle.server.specs.Serving as serving
-use Rattle.server.specs.Serving.{Live, find, replace, without, committed}
-use Rattle.world.specs.World.{Peer, fresh, live, Connection, World, Effect, Fed, SawWork, SawNoop, SaysNoop, feed, take_item, noop, server_gone, ledger, quiet, output, said_version, arrived, waiting, answered, strike_if, write, turn, work, after_effect}
+use Rattle.server.specs.Serving.{Live, find, replace, without, commit_entries}
+use Rattle.world.specs.World.{Peer, fresh, live, Connection, World, Effect, Fed, SawWork, SawNoop, SaysNoop, feed, take_item, noop, server_gone, ledger, quiet, output, said_version, arrivals_at, waiting, answer_count, strike_if, write, turn, work, after_effect}
 use Rattle.world.specs.Rests.{kept_of, live_of, sessions_from, server_rest}
 use Rattle.world.proofs.Rests.{work_same, noop_same}
 use Rattle.world.proofs.Fed.{feed_same}
@@ -165,7 +165,7 @@ sessions-length ks = is_count_by (λ xs. length (sessions_from 0 xs)) (λ k. not
 abbrev Stays : Connection → Effect → Type 0
 Stays k e = (e.conn.up ≡ k.up) × (e.conn.server_lost ≡ k.server_lost)
 
-write_stays : (k : Connection) (entries : List EntryView) (q : Ask) (r : Reply) → Stays k (write entries k q r)
+write_stays : (k : Connection) (entries : List EntryView) (q : RequestView) (r : Reply) → Stays k (write entries k q r)
 write_stays k entries q (OneRow row left) = (refl, refl)
 write_stays k entries q Bye = (refl, refl)
 write_stays k entries q (Summary d a left tx entry) = (refl, refl)
@@ -174,7 +174,7 @@ strike_stays : (b : Bool) (k : Connection) → ((strike_if b k).up ≡ k.up) × 
 strike_stays false k = (refl, refl)
 strike_stays true k = go (interruptible k.state)
   where
-    go : (b : Bool) → ((if b then record k { state = State.Interrupted; result = closed; tx = no_tx } else k).up ≡ k.up) × ((if b then record k { state = State.Interrupted; result = closed; tx = no_tx } else k).server_lost ≡ k.server_lost)
+    go : (b : Bool) → ((if b then record k { state = State.Interrupted; result = no_result; tx = no_tx } else k).up ≡ k.up) × ((if b then record k { state = State.Interrupted; result = no_result; tx = no_tx } else k).server_lost ≡ k.server_lost)
     go true = (refl, refl)
     go false = (refl, refl)
 
@@ -193,16 +193,16 @@ turn_stays S c entries k (Some (Asked q)) =
 
 pub work_stays : (S : Setting) (c : ℕ) (entries : List EntryView) (k : Connection) (o : Option Cause) → Stays k (work S c entries k o)
 work_stays S c entries k (Some cause) = (refl, refl)
-work_stays S c entries k None = go (nat_le 65536 (length (output k) - k.taken)) (turn_stays S c entries k (slice_get (arrived k) (answered k.says)))
+work_stays S c entries k None = go (nat_le 65536 (length (output k) - k.taken)) (turn_stays S c entries k (slice_get (arrivals_at k) (answer_count k.says)))
   where
-    go : (b : Bool) → Stays k (turn S c entries k (slice_get (arrived k) (answered k.says))) → Stays k (if b then quiet k (SawWork Worked.Full) else turn S c entries k (slice_get (arrived k) (answered k.says)))
+    go : (b : Bool) → Stays k (turn S c entries k (slice_get (arrivals_at k) (answer_count k.says))) → Stays k (if b then quiet k (SawWork Worked.Full) else turn S c entries k (slice_get (arrivals_at k) (answer_count k.says)))
     go true h = (refl, refl)
     go false h = h
 
 pub feed_lives : (piece : List ℕ) (k : Connection) → (feed piece k).conn.server_lost ≡ k.server_lost
 feed_lives piece k =
-    lives_if k.server_lost _ _ refl (lives_if k.cut _ _ refl (lives_if (is_some k.ended || unread_among (arrived k)) _ _ refl
-    (lives_if (nat_le 32 (length (waiting k)) || nat_le (2 ^ 63) (length (arrived k))) _ _ refl (item_lives (record k { up = k.up ++ take (reach arrivals k.up piece) piece }) _ _))))
+    lives_if k.server_lost _ _ refl (lives_if k.cut _ _ refl (lives_if (is_some k.ended || unread_among (arrivals_at k)) _ _ refl
+    (lives_if (nat_le 32 (length (waiting k)) || nat_le (2 ^ 63) (length (arrivals_at k))) _ _ refl (item_lives (record k { up = k.up ++ take (reach arrivals k.up piece) piece }) _ _))))
   where
     lives_if : (b : Bool) (x y : Effect) → x.conn.server_lost ≡ k.server_lost → y.conn.server_lost ≡ k.server_lost → (if b then x else y).conn.server_lost ≡ k.server_lost
     lives_if true x y a d = a
@@ -261,7 +261,7 @@ module _ (G : Type 0) (gate : G) (w : World) (c : ℕ) (k : Connection) (here : 
   effect e = after_effect w c k e
 
   silent : (e : Effect) → e.commit ≡ None → effect e ≡ put e.conn
-  silent e h = ap (λ o. record { conns = slice_set w.conns c e.conn; brought = w.brought; since = w.since ++ committed c (answered k.says) o }) h ∙ ap (λ z. record { conns = slice_set w.conns c e.conn; brought = w.brought; since = z }) (append-nil w.since)
+  silent e h = ap (λ o. record { conns = slice_set w.conns c e.conn; brought = w.brought; since = w.since ++ commit_entries c (answer_count k.says) o }) h ∙ ap (λ z. record { conns = slice_set w.conns c e.conn; brought = w.brought; since = z }) (append-nil w.since)
 
   -- `work`: what the server answers and keeps is what the model sees and leaves
   pub work_served : (answer : List EntryView → List WriteView → List ℕ → List ParameterView → QueryMode → Result AnswerView QueryFault) (accepts : G → List ℕ → List ℕ → Bool)
@@ -271,21 +271,21 @@ module _ (G : Type 0) (gate : G) (w : World) (c : ℕ) (k : Connection) (here : 
       let S = serving.setting answer accepts r in
       let same = work_same S c (ledger w) k s.counts in
       let stays = work_stays S c (ledger w) k k.ended in (
-        told (work_kept S c (ledger w) (kept_of k) k.ended).answer,
+        worked_of (work_kept S c (ledger w) (kept_of k) k.ended).answer,
         ap (option_map (λ (l : Live). serving.after_step l (work_kept S l.conn r.ledger l.kept l.kept.ended) r)) found
-            ∙ ap (λ o. Some (told (work_kept S c (ledger w) (kept_of k) k.ended).answer, o))
+            ∙ ap (λ o. Some (worked_of (work_kept S c (ledger w) (kept_of k) k.ended).answer, o))
             (stepped (work S c (ledger w) k k.ended) (work_kept S c (ledger w) (kept_of k) k.ended) same.0 same.1 stays.0 (stays.1 ∙ lives)),
         same.2,
       )
     where
       stepped : (e : Effect) (d : Step) → kept_of e.conn ≡ d.kept → e.commit ≡ d.commit → e.conn.up ≡ k.up → e.conn.server_lost ≡ false
-          → ◌≡◌ {A = serving.Rest G} (record { sessions = replace c (record { conn = c; kept = d.kept; unfinished = state at_server at_server.start k.up }) r.sessions; next = length w.conns; ledger = ledger w ++ committed c (answered k.says) d.commit; gate = gate })
+          → ◌≡◌ {A = serving.Rest G} (record { sessions = replace c (record { conn = c; kept = d.kept; unfinished = state at_server at_server.start k.up }) r.sessions; next = length w.conns; ledger = ledger w ++ commit_entries c (answer_count k.says) d.commit; gate = gate })
           (server_rest gate (effect e))
       stepped e d ke co up lo =
           let l : ◌≡◌ {A = Live} (record { conn = c; kept = d.kept; unfinished = state at_server at_server.start k.up }) (live_of c e.conn) =
           ap₂ (λ (x : serving_rest.Kept) (y : List ℕ). record { conn = c; kept = x; unfinished = state at_server at_server.start y }) (sym ke) (sym up) in
-          ap₂ (λ (ss : List Live) (o : Option (List WriteView)). record { sessions = ss; next = length w.conns; ledger = ledger w ++ committed c (answered k.says) o; gate = gate }) (replace_at w.conns 0 c c k e.conn _ (omega arith) here lives lo l) (sym co)
-          ∙ ap₂ (λ (n : ℕ) (es : List EntryView). record { sessions = sessions_from 0 (slice_set w.conns c e.conn); next = n; ledger = es; gate = gate }) (sym (length-set w.conns c e.conn)) (append_assoc w.brought w.since (committed c (answered k.says) e.commit))
+          ap₂ (λ (ss : List Live) (o : Option (List WriteView)). record { sessions = ss; next = length w.conns; ledger = ledger w ++ commit_entries c (answer_count k.says) o; gate = gate }) (replace_at w.conns 0 c c k e.conn _ (omega arith) here lives lo l) (sym co)
+          ∙ ap₂ (λ (n : ℕ) (es : List EntryView). record { sessions = sessions_from 0 (slice_set w.conns c e.conn); next = n; ledger = es; gate = gate }) (sym (length-set w.conns c e.conn)) (append_assoc w.brought w.since (commit_entries c (answer_count k.says) e.commit))
 
   -- `feed`, where no cut stands between
   pub feed_served : k.cut ≡ false → (piece : List ℕ) → let e = feed piece k in

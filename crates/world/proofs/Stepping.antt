@@ -2,9 +2,9 @@
 use Rattle.std.proofs.Common.{◌≡◌, refl, sym, ◌∙◌, ap, ap₂, subst, ℕ, zero, suc, not, is_some, true≢false, ◌+◌, ◌-◌, ◌≤◌, Bool, true, false, ◌||◌, ◌^◌, nat_le, if◌then◌else◌, min, max, Option, Some, None, option_map, Result, Ok, Err, List, [], ◌∷◌, ◌++◌, length, take, drop, slice_get, slice_set, arith, append-nil, length-set, length-append, length-take, length-drop}
 use Rattle.std.proofs.lemmas.Bool.{or_left, or_right}
 use Rattle.wire.specs.declared.Wish.{Wish}
-use Rattle.wire.specs.Offers.{wished}
+use Rattle.wire.specs.Offers.{wish_version}
 use Rattle.wire.specs.Reader.{reach}
-use Rattle.messages.specs.View.{Ask}
+use Rattle.messages.specs.View.{RequestView}
 use Rattle.messages.specs.Arrivals.{hears}
 use Rattle.engine.specs.declared.Mode.{Mode as QueryMode}
 use Rattle.engine.specs.Views.{EntryView, WriteView, ParameterView, AnswerView, QueryFault}
@@ -16,12 +16,12 @@ use Rattle.server.specs.Session.{Setting}
 use Rattle.server.specs.Rest.{cause_or}
 use Rattle.server.specs.Serving as serving
 use Rattle.client.specs.declared.SubmitFault.{SubmitFault}
-use Rattle.client.specs.Client.{refused}
-use Rattle.client.specs.Moments.{told_in}
+use Rattle.client.specs.Client.{refusal_of}
+use Rattle.client.specs.Moments.{tellings_in}
 use Rattle.client.specs.Rest as asking
 use Rattle.client.specs.Rest.{Nothing, knows_of, losses}
-use Rattle.world.specs.World.{Peer, Ours, Foreign, Connection, fresh, World, ledger, live, Event, Opens, Submit, ToServer, ToClient, Work, PutsNoop, Cut, ClientLost, ServerLost, Feeds, Effect, Seen, quiet, Opened, Submitted, Fed, Gave, SawWork, SawNoop, SawNothing, V3, step, at_conn, at_peer, with_effect, after_effect, work, feed, to_server, give, to_client, taken_for, given_to, drain, taken_out, noop, server_gone, submit, submitted, client, wish_of, output, input, delivered}
-use Rattle.server.specs.Serving.{committed}
+use Rattle.world.specs.World.{Peer, Ours, Foreign, Connection, fresh, World, ledger, live, Event, Opens, Submit, ToServer, ToClient, Work, PutsNoop, Cut, ClientLost, ServerLost, Feeds, Effect, Seen, quiet, Opened, Submitted, Fed, Gave, SawWork, SawNoop, SawNothing, V3, step, at_conn, at_peer, with_effect, after_effect, work, feed, to_server, give, to_client, taken_for, effect_at_peer, drain, taken_out, noop, server_gone, submit, effect_of_submit, client, wish_of, output, input, bytes_delivered}
+use Rattle.server.specs.Serving.{commit_entries}
 use Rattle.world.specs.Rests.{server_rest, client_rest, live_of}
 use Rattle.world.specs.Reports.{wrote_by, by_peer, read_after}
 use Rattle.world.specs.Views.{opened_link}
@@ -72,7 +72,7 @@ module _ (S : Setting) (w : World) (c : ℕ) (k : Connection) (here : slice_get 
   pub client_step : (wish : Wish) (n : ℕ) → k.peer ≡ Ours wish → step S w (ToClient c n) ≡ Ok (after_effect w c k (to_client n k), (to_client n k).seen)
   client_step wish n p = steps_ours (ToClient c n) wish (to_client n k) p refl
 
-  pub submit_step : (wish : Wish) (q : Ask) → k.peer ≡ Ours wish → step S w (Submit c q) ≡ Ok (after_effect w c k (submit q k), (submit q k).seen)
+  pub submit_step : (wish : Wish) (q : RequestView) → k.peer ≡ Ours wish → step S w (Submit c q) ≡ Ok (after_effect w c k (submit q k), (submit q k).seen)
   submit_step wish q p = steps_ours (Submit c q) wish (submit q k) p refl
 
 if_so : {A : Type 0} (b : Bool) (x y : A) → b ≡ true → (if b then x else y) ≡ x
@@ -203,12 +203,12 @@ module _ (G : Type 0) (answer : List EntryView → List WriteView → List ℕ �
       )
 
   -- Submit that is accepted: `submit` of the client.
-  pub submit_fits : (l : Link) → slice_get r.links c ≡ Some l → (wish : Wish) → k.peer ≡ Ours wish → (q : Ask) → refused (client k) k.client_lost k.sent q ≡ None
-      → (client k).bad ≡ false → k.client_lost ≡ false → (client k).version ≡ Some (wished (wish_of k.peer))
-      → (w2 : World) × (step S w (Submit c q) ≡ Ok (w2, Submitted (Ok (length k.sent)))) × Fits (With (record l { client = option_map (λ x. asking.submitted x q) l.client }) r.server) w2
+  pub submit_fits : (l : Link) → slice_get r.links c ≡ Some l → (wish : Wish) → k.peer ≡ Ours wish → (q : RequestView) → refusal_of (client k) k.client_lost k.sent q ≡ None
+      → (client k).bad ≡ false → k.client_lost ≡ false → (client k).version ≡ Some (wish_version (wish_of k.peer))
+      → (w2 : World) × (step S w (Submit c q) ≡ Ok (w2, Submitted (Ok (length k.sent)))) × Fits (With (record l { client = option_map (λ x. asking.after_submit x q) l.client }) r.server) w2
   submit_fits l at wish ours q none good lives ver =
-      let e = submitted q k None in
-      let is : submit q k ≡ e = ap (submitted q k) none in (
+      let e = effect_of_submit q k None in
+      let is : submit q k ≡ e = ap (effect_of_submit q k) none in (
         after_effect w c k e,
         submit_step S w c k here wish q ours ∙ ap (λ (y : Effect). Ok (after_effect w c k y, y.seen)) is,
         fits_with e _ r.server (fits.server ∙ unseen (record k { sent = k.sent ++ q ∷ [] }) (Submitted (Ok (length k.sent))) refl (λ _ j. refl)) (submit_link l k q (at_link l at) good lives ver),
@@ -229,14 +229,14 @@ module _ (G : Type 0) (answer : List EntryView → List WriteView → List ℕ �
 
   -- ClientLost, of a client that wasn't lost: `lost` of the client.
   pub lost_fits : (l : Link) → slice_get r.links c ≡ Some l → (wish : Wish) → k.peer ≡ Ours wish → k.client_lost ≡ false → (x : asking.Rest) → l.client ≡ Some x
-      → (w2 : World) × (step S w (ClientLost c) ≡ Ok (w2, SawNothing)) × Fits (With (record l { client = Some (asking.dropped x); client_lost = true; lost = losses x.knows }) r.server) w2
+      → (w2 : World) × (step S w (ClientLost c) ≡ Ok (w2, SawNothing)) × Fits (With (record l { client = Some (asking.after_drop x); client_lost = true; lost = losses x.knows }) r.server) w2
   lost_fits l at wish ours lives x client_is =
       let e = quiet (record k { client_lost = true }) SawNothing in
       let f = at_link l at in (
         after_effect w c k e,
         steps_ours S w c k here (ClientLost c) wish e ours refl,
         fits_with e _ r.server (fits.server ∙ unseen (record k { client_lost = true }) SawNothing refl (λ _ j. refl))
-            (subst (λ o. FitsLink (record l { client = option_map asking.dropped o; client_lost = true; lost = losses x.knows }) (record k { client_lost = true })) client_is (lost_link l k (losses x.knows) f (told f))),
+            (subst (λ o. FitsLink (record l { client = option_map asking.after_drop o; client_lost = true; lost = losses x.knows }) (record k { client_lost = true })) client_is (lost_link l k (losses x.knows) f (told f))),
       )
     where
       told : FitsLink l k → losses x.knows ≡ by_peer k.peer (losses (knows_of (client k) k.sent false))
@@ -249,30 +249,30 @@ module _ (G : Type 0) (answer : List EntryView → List WriteView → List ℕ �
   -- ToClient, to a client that goes on over a session that lives: `take_out` of the server, `feed` of the client.
   pub client_fits : (l : Link) → slice_get r.links c ≡ Some l → (wish : Wish) → k.peer ≡ Ours wish → k.server_lost ≡ false → k.cut ≡ false → k.client_lost ≡ false → ((client k).ended ≡ false) × ((client k).bad ≡ false)
       → (n : ℕ) (x : asking.Rest) → l.client ≡ Some x → (taken : List ℕ) (server2 : serving.Rest G) → serving.take_out_at c (n - length l.down) r.server ≡ Some (taken, server2)
-      → let held = l.down ++ taken in let f = asking.fed x (take n held) in let u = reach hears (delivered k) (take n (drop k.down (output k))) in
+      → let held = l.down ++ taken in let f = asking.feed_of x (take n held) in let u = reach hears (bytes_delivered k) (take n (drop k.down (output k))) in
       (w2 : World) × (step S w (ToClient c n) ≡ Ok (w2, seen_as u f.answer))
-      × Fits (With (record l { client = Some f.rest; down = drop u held; read = l.read ++ read_after (told_in f.answer) [] }) server2) w2
+      × Fits (With (record l { client = Some f.rest; down = drop u held; read = l.read ++ read_after (tellings_in f.answer) [] }) server2) w2
   client_fits l at wish ours lives joined still on n x client_is taken server2 h =
       let f = at_link l at in
       let s = sound c k here in
       let e = give n k in
       let m = n - length l.down in
-      let u = reach hears (delivered k) (take n (drop k.down (output k))) in
+      let u = reach hears (bytes_delivered k) (take n (drop k.down (output k))) in
       let served = take_served G gate w c k here lives s m in
       let same = answer_is taken (take m (drop k.taken (output k))) server2 _ (sym h ∙ ap (serving.take_out_at c m) fits.server ∙ served) in
       let old : FitsClient (Ours wish) l.client l.up k = subst (λ p. FitsClient p l.client l.up k) ours f.client in
       let is : x ≡ client_rest old.0 k = some_is x (client_rest old.0 k) (sym client_is ∙ old.3) in
       let front : take n (l.down ++ taken) ≡ take n (drop k.down (output k)) = ap (λ z. take n (l.down ++ z)) same.0 ∙ front_is l k f s wish ours n still on x client_is in
       let given : to_client n k ≡ e = if_not (k.cut || (k.client_lost || ((client k).ended || (client k).bad))) _ _ (ap₂ (λ a b. a || b) joined (ap₂ (λ a b. a || b) still (ap₂ (λ a b. a || b) on.0 on.1))) in
-      let told : e.seen ≡ seen_as u (asking.fed x (take n (l.down ++ taken))).answer =
+      let told : e.seen ≡ seen_as u (asking.feed_of x (take n (l.down ++ taken))).answer =
       sym (give_same k old.0 n still on).1
-      ∙ ap (λ i. seen_as i (asking.fed (client_rest old.0 k) (take n (drop k.down (output k)))).answer) (again k.down u)
-      ∙ ap₂ (λ (y : asking.Rest) (z : List ℕ). seen_as u (asking.fed y z).answer) (sym is) (sym front) in
+      ∙ ap (λ i. seen_as i (asking.feed_of (client_rest old.0 k) (take n (drop k.down (output k)))).answer) (again k.down u)
+      ∙ ap₂ (λ (y : asking.Rest) (z : List ℕ). seen_as u (asking.feed_of y z).answer) (sym is) (sym front) in
       let length_down : length l.down ≡ k.taken - k.down = held_long l k f s wish ours n still on x client_is in (
         after_effect w c k e,
         client_step S w c k here wish n ours ∙ ap (λ (y : Effect). Ok (after_effect w c k y, y.seen)) given ∙ ap (λ y. Ok (after_effect w c k e, y)) told,
         fits_with e _ server2 (same.1 ∙ counted_rest e.conn (min (k.taken + m) (length (output k))) lives refl (ap (λ t. live_of c (record k { taken = t })) (counts k.taken k.down (length (output k)) n (length l.down) s.counts s.below length_down)))
-            (subst (λ z. FitsLink (record l { client = Some (asking.fed x (take n (l.down ++ z))).rest; down = drop u (l.down ++ z); read = l.read ++ read_after (told_in (asking.fed x (take n (l.down ++ z))).answer) [] }) e.conn) (sym same.0) (give_link l k f s wish ours n still on x client_is)),
+            (subst (λ z. FitsLink (record l { client = Some (asking.feed_of x (take n (l.down ++ z))).rest; down = drop u (l.down ++ z); read = l.read ++ read_after (tellings_in (asking.feed_of x (take n (l.down ++ z))).answer) [] }) e.conn) (sym same.0) (give_link l k f s wish ours n still on x client_is)),
       )
     where
       again : (a b : ℕ) → (a + b) - a ≡ b
@@ -344,15 +344,15 @@ module _ (G : Type 0) (answer : List EntryView → List WriteView → List ℕ �
       (after_effect w c k (quiet k (Fed 0 what)), steps_foreign S w c k here (Feeds c piece) (feed piece k) foreign refl ∙ ap (λ (y : Effect). Ok (after_effect w c k y, y.seen)) h, still_fits l at (Fed 0 what))
 
   -- Submit that the client refuses.
-  pub refused_fits : (l : Link) → slice_get r.links c ≡ Some l → (wish : Wish) → k.peer ≡ Ours wish → (q : Ask) (x : asking.Rest) → l.client ≡ Some x → (fault : SubmitFault) → asking.refuses x.knows q ≡ Some fault
+  pub refused_fits : (l : Link) → slice_get r.links c ≡ Some l → (wish : Wish) → k.peer ≡ Ours wish → (q : RequestView) (x : asking.Rest) → l.client ≡ Some x → (fault : SubmitFault) → asking.refuses x.knows q ≡ Some fault
       → (w2 : World) × (step S w (Submit c q) ≡ Ok (w2, Submitted (Err fault))) × Fits (With l r.server) w2
   refused_fits l at wish ours q x client_is fault h =
       let f = at_link l at in
       let old : FitsClient (Ours wish) l.client l.up k = subst (λ p. FitsClient p l.client l.up k) ours f.client in
       let is : x ≡ client_rest old.0 k = some_is x (client_rest old.0 k) (sym client_is ∙ old.3) in
       let few : old.0 ≤ length (input (wish_of k.peer) k.sent) = subst (λ p. old.0 ≤ length (input (wish_of p) k.sent)) (sym ours) old.2 in
-      let no : refused (client k) k.client_lost k.sent q ≡ Some fault = refused_same k old.0 q few ∙ ap (λ z. asking.refuses z.knows q) (sym is) ∙ h in
-      (after_effect w c k (quiet k (Submitted (Err fault))), submit_step S w c k here wish q ours ∙ ap (λ o. Ok (after_effect w c k (submitted q k o), (submitted q k o).seen)) no, still_fits l at (Submitted (Err fault)))
+      let no : refusal_of (client k) k.client_lost k.sent q ≡ Some fault = refused_same k old.0 q few ∙ ap (λ z. asking.refuses z.knows q) (sym is) ∙ h in
+      (after_effect w c k (quiet k (Submitted (Err fault))), submit_step S w c k here wish q ours ∙ ap (λ o. Ok (after_effect w c k (effect_of_submit q k o), (effect_of_submit q k o).seen)) no, still_fits l at (Submitted (Err fault)))
 
   -- ClientLost, of a client that was lost before: nothing changes.
   pub lost_once : (l : Link) → slice_get r.links c ≡ Some l → (wish : Wish) → k.peer ≡ Ours wish → k.client_lost ≡ true → (w2 : World) × (step S w (ClientLost c) ≡ Ok (w2, SawNothing)) × Fits (With l r.server) w2
@@ -363,28 +363,28 @@ module _ (G : Type 0) (answer : List EntryView → List WriteView → List ℕ �
   -- ToClient, to a client that goes on, where the session was given up: all that it said is held.
   pub client_gone : (l : Link) → slice_get r.links c ≡ Some l → (wish : Wish) → k.peer ≡ Ours wish → k.server_lost ≡ true → k.cut ≡ false → k.client_lost ≡ false → ((client k).ended ≡ false) × ((client k).bad ≡ false)
       → (n : ℕ) (x : asking.Rest) → l.client ≡ Some x
-      → let f = asking.fed x (take n l.down) in let u = reach hears (delivered k) (take n (drop k.down (output k))) in
+      → let f = asking.feed_of x (take n l.down) in let u = reach hears (bytes_delivered k) (take n (drop k.down (output k))) in
       (w2 : World) × (step S w (ToClient c n) ≡ Ok (w2, seen_as u f.answer))
-      × Fits (With (record l { client = Some f.rest; down = drop u l.down; read = l.read ++ read_after (told_in f.answer) [] }) r.server) w2
+      × Fits (With (record l { client = Some f.rest; down = drop u l.down; read = l.read ++ read_after (tellings_in f.answer) [] }) r.server) w2
   client_gone l at wish ours gone joined still on n x client_is =
       let f = at_link l at in
       let s = sound c k here in
       let e = give n k in
-      let u = reach hears (delivered k) (take n (drop k.down (output k))) in
+      let u = reach hears (bytes_delivered k) (take n (drop k.down (output k))) in
       let all : drop k.taken (output k) ≡ [] = ap (λ i. drop i (output k)) (s.gone gone).1 ∙ drop_whole (output k) in
       let held_is : l.down ++ take (n - length l.down) (drop k.taken (output k)) ≡ l.down = ap (λ z. l.down ++ take (n - length l.down) z) all ∙ ap (λ z. l.down ++ z) (take_none (n - length l.down)) ∙ append-nil l.down in
       let old : FitsClient (Ours wish) l.client l.up k = subst (λ p. FitsClient p l.client l.up k) ours f.client in
       let is : x ≡ client_rest old.0 k = some_is x (client_rest old.0 k) (sym client_is ∙ old.3) in
       let front : take n l.down ≡ take n (drop k.down (output k)) = ap (take n) (sym held_is) ∙ front_is l k f s wish ours n still on x client_is in
       let given : to_client n k ≡ e = if_not (k.cut || (k.client_lost || ((client k).ended || (client k).bad))) _ _ (ap₂ (λ a b. a || b) joined (ap₂ (λ a b. a || b) still (ap₂ (λ a b. a || b) on.0 on.1))) in
-      let told : e.seen ≡ seen_as u (asking.fed x (take n l.down)).answer =
+      let told : e.seen ≡ seen_as u (asking.feed_of x (take n l.down)).answer =
       sym (give_same k old.0 n still on).1
-      ∙ ap (λ i. seen_as i (asking.fed (client_rest old.0 k) (take n (drop k.down (output k)))).answer) (again k.down u)
-      ∙ ap₂ (λ (y : asking.Rest) (z : List ℕ). seen_as u (asking.fed y z).answer) (sym is) (sym front) in (
+      ∙ ap (λ i. seen_as i (asking.feed_of (client_rest old.0 k) (take n (drop k.down (output k)))).answer) (again k.down u)
+      ∙ ap₂ (λ (y : asking.Rest) (z : List ℕ). seen_as u (asking.feed_of y z).answer) (sym is) (sym front) in (
         after_effect w c k e,
         client_step S w c k here wish n ours ∙ ap (λ (y : Effect). Ok (after_effect w c k y, y.seen)) given ∙ ap (λ y. Ok (after_effect w c k e, y)) told,
         fits_with e _ r.server (fits.server ∙ unseen e.conn e.seen refl (λ lives j. absurd (true≢false (sym gone ∙ lives))))
-            (subst (λ z. FitsLink (record l { client = Some (asking.fed x (take n z)).rest; down = drop u z; read = l.read ++ read_after (told_in (asking.fed x (take n z)).answer) [] }) e.conn) held_is (give_link l k f s wish ours n still on x client_is)),
+            (subst (λ z. FitsLink (record l { client = Some (asking.feed_of x (take n z)).rest; down = drop u z; read = l.read ++ read_after (tellings_in (asking.feed_of x (take n z)).answer) [] }) e.conn) held_is (give_link l k f s wish ours n still on x client_is)),
       )
     where
       again : (a b : ℕ) → (a + b) - a ≡ b
@@ -433,7 +433,7 @@ module _ (G : Type 0) (answer : List EntryView → List WriteView → List ℕ �
       let served = take_served G gate w c k here lives s m in
       let same = answer_is taken (take m (drop k.taken (output k))) server2 _ (sym h ∙ ap (serving.take_out_at c m) fits.server ∙ served) in
       let given : to_client n k ≡ give n k = if_not (k.cut || (k.client_lost || ((client k).ended || (client k).bad))) _ _ (ap₂ (λ a b. a || b) joined (ap₂ (λ a b. a || b) still (ap₂ (λ a b. a || b) on.0 on.1))) in
-      let is : (given_to k.peer n k).conn.taken ≡ taken_for n k = ap (λ p. (given_to p n k).conn.taken) ours ∙ ap (λ (y : Effect). y.conn.taken) given in
+      let is : (effect_at_peer k.peer n k).conn.taken ≡ taken_for n k = ap (λ p. (effect_at_peer p n k).conn.taken) ours ∙ ap (λ (y : Effect). y.conn.taken) given in
       let length_down : length l.down ≡ k.taken - k.down = held_long l k f s wish ours n still on x client_is in
       let t : min (k.taken + m) (length (output k)) ≡ taken_for n k = counts_of k.taken k.down (length (output k)) n (length l.down) s.counts s.below length_down in
       subst (λ z. Fits (With (record l { down = l.down ++ taken }) server2) z) (sym (ap (taken_out w c n) here ∙ ap (λ y. record { conns = slice_set w.conns c (record k { taken = y }); brought = w.brought; since = w.since }) is))

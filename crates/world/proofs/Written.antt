@@ -3,12 +3,12 @@
 use Rattle.std.proofs.Common.{◌≡◌, refl, sym, ◌∙◌, ap, subst, ℕ, ◌^◌, ◌-◌, zero, suc, map, Bool, true, false, not, ◌||◌, ◌&&◌, nat_lt, arith, if◌then◌else◌, nat_le, Option, Some, None, is_some, unwrap_or, Result, Ok, Err, List, [], ◌∷◌, ◌++◌, ◌≢◌, length, take, drop, slice_get, slice_set, ◌⊎◌, inl, inr, ⊎_elim}
 use Rattle.wire.specs.declared.Version.{Version}
 use Rattle.wire.specs.declared.Wish.{Wish}
-use Rattle.wire.specs.Offers.{wished}
-use Rattle.wire.specs.Framing.{said_text}
+use Rattle.wire.specs.Offers.{wish_version}
+use Rattle.wire.specs.Framing.{bytes_newest_first}
 use Rattle.messages.specs.declared.MsgFault.{MsgFault}
 use Rattle.messages.specs.declared.MsgFault.TheVariants as msg_fault
-use Rattle.messages.specs.View.{Ask}
-use Rattle.messages.specs.Writing.{request_text}
+use Rattle.messages.specs.View.{RequestView}
+use Rattle.messages.specs.Writing.{request_spelling}
 use Rattle.messages.specs.Arrivals.{Arrival, Shook, NoMagic, Asked, Unread, TooLong, IsWritten, AreWritten, heard_bytes}
 use Rattle.messages.specs.Sound.{IsRequest}
 use Rattle.messages.proofs.Again.{request_reads_back}
@@ -20,16 +20,16 @@ use Rattle.engine.specs.Views.{EntryView}
 use Rattle.server.specs.declared.Cause.{Cause}
 use Rattle.server.specs.declared.What.{What}
 use Rattle.server.specs.declared.Worked.{Worked}
-use Rattle.server.specs.Session.{Setting, closed, no_tx, Reply, OneRow, Summary, Bye}
+use Rattle.server.specs.Session.{Setting, no_result, no_tx, Reply, OneRow, Summary, Bye}
 use Rattle.server.specs.Rest.{unread_among, reset_among}
 use Rattle.client.specs.declared.SubmitFault.{SubmitFault}
 use Rattle.client.specs.declared.SubmitFault.TheVariants as submit_fault
-use Rattle.client.specs.Client.{Reading, refused, read, may, unwritten, unwritten_by}
-use Rattle.world.specs.World.{Peer, Ours, Foreign, input, to_server, Connection, World, fresh, Event, Opens, Submit, ToServer, ToClient, Work, PutsNoop, Cut, ClientLost, ServerLost, Feeds, Seen, Opened, Submitted, Fed, Gave, SawWork, SawNoop, SawNothing, Refusal, V2, V3, Effect, quiet, wish_of, said_version, answered, waiting, arrived, output, client, heard_as, submitted, take_item, feed, take_item, to_client, drain, write, turn, work, noop, strike_if, at_ours, at_foreign, at_peer, after_effect, with_effect, at_conn, opened, live, ledger, step, IsMade}
+use Rattle.client.specs.Client.{Reading, refusal_of, reading_of, may, writing_fault, writing_fault_by}
+use Rattle.world.specs.World.{Peer, Ours, Foreign, input, to_server, Connection, World, fresh, Event, Opens, Submit, ToServer, ToClient, Work, PutsNoop, Cut, ClientLost, ServerLost, Feeds, Seen, Opened, Submitted, Fed, Gave, SawWork, SawNoop, SawNothing, Refusal, V2, V3, Effect, quiet, wish_of, said_version, answer_count, waiting, arrivals_at, output, client, heard_as, effect_of_submit, take_item, feed, take_item, to_client, drain, write, turn, work, noop, strike_if, at_ours, at_foreign, at_peer, after_effect, with_effect, at_conn, result_of_open, live, ledger, step, IsMade}
 use Rattle.world.proofs.Kept.{Inv, Talk, tells}
 
 abbrev pub AllWritten : World → Type 0
-AllWritten w = (c : ℕ) (k : Connection) → slice_get w.conns c ≡ Some k → AreWritten (wished (wish_of k.peer)) k.sent
+AllWritten w = (c : ℕ) (k : Connection) → slice_get w.conns c ≡ Some k → AreWritten (wish_version (wish_of k.peer)) k.sent
 
 -- lists of connections
 pub get_set : {A : Type 0} (xs : List A) (i j : ℕ) (x y z : A) → slice_get xs i ≡ Some x → slice_get (slice_set xs i y) j ≡ Some z → ((i ≡ j) × (y ≡ z)) ⊎ ((i ≢ j) × (slice_get xs j ≡ Some z))
@@ -69,7 +69,7 @@ strikes_same : (k k2 : Connection) (seen : Seen) (b : Bool) → Same k (quiet k2
 strikes_same k k2 seen false s = s
 strikes_same k k2 seen true s = go (interruptible k2.state)
   where
-    go : (b : Bool) → Same k (quiet (if b then record k2 { state = State.Interrupted; result = closed; tx = no_tx } else k2) seen)
+    go : (b : Bool) → Same k (quiet (if b then record k2 { state = State.Interrupted; result = no_result; tx = no_tx } else k2) seen)
     go true = s
     go false = s
 
@@ -87,11 +87,11 @@ feeds_same : (k : Connection) (piece : List ℕ) → Same k (feed piece k)
 feeds_same k piece =
     if_same k k.server_lost _ _ (refl, refl)
     (if_same k k.cut _ _ (refl, refl)
-    (if_same k (is_some k.ended || unread_among (arrived k)) _ _ (refl, refl)
-    (if_same k (nat_le 32 (length (waiting k)) || nat_le (2 ^ 63) (length (arrived k))) _ _ (refl, refl)
+    (if_same k (is_some k.ended || unread_among (arrivals_at k)) _ _ (refl, refl)
+    (if_same k (nat_le 32 (length (waiting k)) || nat_le (2 ^ 63) (length (arrivals_at k))) _ _ (refl, refl)
     (item_same k _ _ _ (refl, refl)))))
 
-write_same : (k k2 : Connection) (all : List EntryView) (q : Ask) (r : Reply) → Same k (quiet k2 (SawWork Worked.Idle)) → Same k (write all k2 q r)
+write_same : (k k2 : Connection) (all : List EntryView) (q : RequestView) (r : Reply) → Same k (quiet k2 (SawWork Worked.Idle)) → Same k (write all k2 q r)
 write_same k k2 all q (OneRow row left) s = s
 write_same k k2 all q Bye s = s
 write_same k k2 all q (Summary d a left tx entry) s = s
@@ -108,7 +108,7 @@ module _ (S : Setting) (c : ℕ) (all : List EntryView) (k : Connection) where
 
   works_same : (o : Option Cause) → Same k (work S c all k o)
   works_same (Some cause) = (refl, refl)
-  works_same None = if_same k (nat_le 65536 (length (output k) - k.taken)) _ _ (refl, refl) (turn_same (slice_get (arrived k) (answered k.says)))
+  works_same None = if_same k (nat_le 65536 (length (output k) - k.taken)) _ _ (refl, refl) (turn_same (slice_get (arrivals_at k) (answer_count k.says)))
 
   noops_same : Same k (noop k)
   noops_same = if_same k _ _ _ (refl, refl) (refl, refl)
@@ -121,22 +121,22 @@ module _ (S : Setting) (c : ℕ) (all : List EntryView) (k : Connection) where
 
   -- what the client's answer tells of a request that is accepted
   abbrev pub Tells_written : Event → Type 0
-  Tells_written (Submit i q) = (wish : Wish) → k.peer ≡ Ours wish → refused (client k) k.client_lost k.sent q ≡ None → IsWritten (wished wish) q
+  Tells_written (Submit i q) = (wish : Wish) → k.peer ≡ Ours wish → refusal_of (client k) k.client_lost k.sent q ≡ None → IsWritten (wish_version wish) q
   Tells_written e = Unit {0}
 
   abbrev Written : Connection → Type 0
-  Written x = AreWritten (wished (wish_of x.peer)) x.sent
+  Written x = AreWritten (wish_version (wish_of x.peer)) x.sent
 
   stays : (e : Effect) → Same k e → Written k → Written e.conn
-  stays e s h = subst (λ p. AreWritten (wished (wish_of p)) e.conn.sent) (sym s.0) (subst (λ ms. AreWritten (wished (wish_of k.peer)) ms) (sym s.1) h)
+  stays e s h = subst (λ p. AreWritten (wish_version (wish_of p)) e.conn.sent) (sym s.0) (subst (λ ms. AreWritten (wish_version (wish_of k.peer)) ms) (sym s.1) h)
 
-  both : (v : Version) (ms : List Ask) (q : Ask) → AreWritten v ms → IsWritten v q → AreWritten v (ms ++ q ∷ [])
+  both : (v : Version) (ms : List RequestView) (q : RequestView) → AreWritten v ms → IsWritten v q → AreWritten v (ms ++ q ∷ [])
   both v [] q h y = (y, tt)
   both v (m ∷ ms) q h y = (h.0, both v ms q h.1 y)
 
-  submits : (wish : Wish) → k.peer ≡ Ours wish → (q : Ask) (o : Option SubmitFault) → (o ≡ None → IsWritten (wished wish) q) → Written k → Written (submitted q k o).conn
+  submits : (wish : Wish) → k.peer ≡ Ours wish → (q : RequestView) (o : Option SubmitFault) → (o ≡ None → IsWritten (wish_version wish) q) → Written k → Written (effect_of_submit q k o).conn
   submits wish p q (Some fault) f h = h
-  submits wish p q None f h = both (wished (wish_of k.peer)) k.sent q h (subst (λ z. IsWritten (wished (wish_of z)) q) (sym p) (f refl))
+  submits wish p q None f h = both (wish_version (wish_of k.peer)) k.sent q h (subst (λ z. IsWritten (wish_version (wish_of z)) q) (sym p) (f refl))
 
   effect_of : (P : Effect → Type 0) (x y : Effect) → ◌≡◌ {A = Result Effect Refusal} (Ok x) (Ok y) → P x → P y
   effect_of P x y h p = subst P (ap (λ (r : Result Effect Refusal). or_else r) h) p
@@ -149,7 +149,7 @@ module _ (S : Setting) (c : ℕ) (all : List EntryView) (k : Connection) where
   IsW e = Written e.conn
 
   ours_written : (e : Event) (wish : Wish) → k.peer ≡ Ours wish → Tells_written e → Written k → (r : Effect) → at_ours S c all e wish k ≡ Ok r → IsW r
-  ours_written (Submit i q) wish p f h r g = effect_of IsW _ r g (submits wish p q (refused (client k) k.client_lost k.sent q) (f wish p) h)
+  ours_written (Submit i q) wish p f h r g = effect_of IsW _ r g (submits wish p q (refusal_of (client k) k.client_lost k.sent q) (f wish p) h)
   ours_written (ToServer i n) wish p f h r g = effect_of IsW _ r g (stays (to_server wish n k) (feeds_same k (take n (drop (length k.up) (input wish k.sent)))) h)
   ours_written (ToClient i n) wish p f h r g = effect_of IsW _ r g (stays (to_client n k) (gives_same n) h)
   ours_written (ClientLost i) wish p f h r g = effect_of IsW _ r g h
@@ -180,24 +180,24 @@ module _ (S : Setting) (w : World) (all : AllWritten w) (seen : Seen) (w2 : Worl
   at_written : (e : Event) (c : ℕ) → ((k : Connection) → slice_get w.conns c ≡ Some k → Tells_written S c (ledger w) k e) → at_conn S w e c (slice_get w.conns c) ≡ Ok (w2, seen) → AllWritten w2
   at_written e c f h = go (slice_get w.conns c) refl h
     where
-      made : (k : Connection) → slice_get w.conns c ≡ Some k → (r : Result Effect Refusal) → ((x : Effect) → r ≡ Ok x → AreWritten (wished (wish_of x.conn.peer)) x.conn.sent) → with_effect w c k r ≡ Ok (w2, seen) → AllWritten w2
+      made : (k : Connection) → slice_get w.conns c ≡ Some k → (r : Result Effect Refusal) → ((x : Effect) → r ≡ Ok x → AreWritten (wish_version (wish_of x.conn.peer)) x.conn.sent) → with_effect w c k r ≡ Ok (w2, seen) → AllWritten w2
       made k here (Err refusal) d h = cc
       made k here (Ok x) d h =
           subst AllWritten (ok_parts (after_effect w c k x) w2 x.seen seen h).0
-          (λ j k3 g. ⊎_elim (λ r. subst (λ z. AreWritten (wished (wish_of z.peer)) z.sent) r.1 (d x refl)) (λ r. all j k3 r.1) (get_set w.conns c j k x.conn k3 here g))
+          (λ j k3 g. ⊎_elim (λ r. subst (λ z. AreWritten (wish_version (wish_of z.peer)) z.sent) r.1 (d x refl)) (λ r. all j k3 r.1) (get_set w.conns c j k x.conn k3 here g))
 
       go : (o : Option Connection) → slice_get w.conns c ≡ o → at_conn S w e c o ≡ Ok (w2, seen) → AllWritten w2
       go None g h = cc
       go (Some k) g h = made k g (at_peer S c (ledger w) e k.peer k) (event_written S c (ledger w) k e (f k g) (all c k g) k.peer refl) h
 
-  opened_written : (peer : Peer) → opened w peer ≡ Ok (w2, seen) → AllWritten w2
+  opened_written : (peer : Peer) → result_of_open w peer ≡ Ok (w2, seen) → AllWritten w2
   opened_written peer h = go (nat_le 16 (live w) || nat_le (2 ^ 63) (length w.conns)) h
     where
       go : (b : Bool) → if◌then◌else◌ {A = Result (World × Seen) Refusal} b (Err V3) (Ok (record { conns = w.conns ++ fresh peer ∷ []; brought = w.brought; since = w.since }, Opened (length w.conns))) ≡ Ok (w2, seen) → AllWritten w2
       go true h = cc
       go false h =
           subst AllWritten (ok_parts (record { conns = w.conns ++ fresh peer ∷ []; brought = w.brought; since = w.since }) w2 (Opened (length w.conns)) seen h).0
-          (λ j k g. ⊎_elim (λ r. all j k r) (λ r. subst (λ z. AreWritten (wished (wish_of z.peer)) z.sent) r.1 tt) (get_more w.conns j (fresh peer) k g))
+          (λ j k g. ⊎_elim (λ r. all j k r) (λ r. subst (λ z. AreWritten (wish_version (wish_of z.peer)) z.sent) r.1 tt) (get_more w.conns j (fresh peer) k g))
 
   -- the client's answer to a submit, of the connection that it was for
   abbrev pub TellsWritten : Event → Type 0
@@ -217,13 +217,13 @@ module _ (S : Setting) (w : World) (all : AllWritten w) (seen : Seen) (w2 : Worl
   step_written (Feeds c bytes) f h = at_written (Feeds c bytes) c (λ k g. tt) h
 
 -- the version that a client of ours knows is the one that was wished
-pub knows_if : {Q R : Type 0} (S : Setting) (all : List EntryView) (wish : Wish) (k : Connection) → Talk S all wish k → ((client k).version ≡ None) ⊎ (Q × R × ((client k).version ≡ Some (said_version k))) → ((client k).version ≡ None) ⊎ ((client k).version ≡ Some (wished wish))
+pub knows_if : {Q R : Type 0} (S : Setting) (all : List EntryView) (wish : Wish) (k : Connection) → Talk S all wish k → ((client k).version ≡ None) ⊎ (Q × R × ((client k).version ≡ Some (said_version k))) → ((client k).version ≡ None) ⊎ ((client k).version ≡ Some (wish_version wish))
 knows_if S all wish k talk (inl e) = inl e
 knows_if S all wish k (inr s) (inr e) = inr (e.2 ∙ ap (λ o. Some (unwrap_or o Version.V51)) s.0)
-knows_if S all wish k (inl s) (inr e) = inl (ap (λ xs. version_of (take k.down (said_text (heard_bytes (said_version k)) (map heard_as xs)))) s.1 ∙ ap version_of (take_none k.down))
+knows_if S all wish k (inl s) (inr e) = inl (ap (λ xs. version_of (take k.down (bytes_newest_first (heard_bytes (said_version k)) (map heard_as xs)))) s.1 ∙ ap version_of (take_none k.down))
   where
     version_of : List ℕ → Option Version
-    version_of b = (read (wish_of k.peer) k.sent b).version
+    version_of b = (reading_of (wish_of k.peer) k.sent b).version
 
     take_none : (n : ℕ) → take {A = ℕ} n [] ≡ []
     take_none zero = refl
@@ -236,11 +236,11 @@ closed_not false true d o h = cc
 closed_not false false true o h = cc
 closed_not false false false o h = (refl, refl, h)
 
-version_known : (r : Reading) (sent : List Ask) (q : Ask) (v : Option Version) (o : Option SubmitFault) → (if not (may r sent q v) then Some submit_fault.NotAllowed else o) ≡ None → (v ≡ None → ⊥)
+version_known : (r : Reading) (sent : List RequestView) (q : RequestView) (v : Option Version) (o : Option SubmitFault) → (if not (may r sent q v) then Some submit_fault.NotAllowed else o) ≡ None → (v ≡ None → ⊥)
 version_known r sent q None o h e = cc
 version_known r sent q (Some v) o h e = cc
 
-pub accepting : (r : Reading) (lost : Bool) (sent : List Ask) (q : Ask) → refused r lost sent q ≡ None → (lost ≡ false) × (r.bad ≡ false) × (r.version ≡ None → ⊥)
+pub accepting : (r : Reading) (lost : Bool) (sent : List RequestView) (q : RequestView) → refusal_of r lost sent q ≡ None → (lost ≡ false) × (r.bad ≡ false) × (r.version ≡ None → ⊥)
 accepting r lost sent q h =
     let a = closed_not lost r.ended r.bad _ h in
     (a.0, a.1, version_known r sent q r.version _ a.2)
@@ -250,60 +250,60 @@ none_else : (b : Bool) (x : SubmitFault) (o : Option SubmitFault) → (if b then
 none_else true x o h = cc
 none_else false x o h = h
 
-written_by : (x : Result (List ℕ) MsgFault) → unwritten_by x ≡ None → (b : List ℕ) × (x ≡ Ok b)
+written_by : (x : Result (List ℕ) MsgFault) → writing_fault_by x ≡ None → (b : List ℕ) × (x ≡ Ok b)
 written_by (Ok b) h = (b, refl)
 written_by (Err msg_fault.Size) h = cc
 written_by (Err _) h = cc
 
-accepted_text : (r : Reading) (lost : Bool) (sent : List Ask) (q : Ask) (v : Version) → refused r lost sent q ≡ None → r.version ≡ Some v → (b : List ℕ) × (request_text v q ≡ Ok b)
+accepted_text : (r : Reading) (lost : Bool) (sent : List RequestView) (q : RequestView) (v : Version) → refusal_of r lost sent q ≡ None → r.version ≡ Some v → (b : List ℕ) × (request_spelling v q ≡ Ok b)
 accepted_text r lost sent q v h e =
     let a = closed_not lost r.ended r.bad _ h in
     let full : Bool = not (nat_lt (length (drop r.count sent)) 32 && nat_lt (length sent) (2 ^ 63)) in
-    let last : Option SubmitFault = if full then Some submit_fault.PipelineFull else unwritten q r.version in
+    let last : Option SubmitFault = if full then Some submit_fault.PipelineFull else writing_fault q r.version in
     let roomy : last ≡ None = none_else (not (may r sent q r.version)) submit_fault.NotAllowed last a.2 in
-    written_by (request_text v q) (ap (unwritten q) (sym e) ∙ none_else full submit_fault.PipelineFull (unwritten q r.version) roomy)
+    written_by (request_spelling v q) (ap (writing_fault q) (sym e) ∙ none_else full submit_fault.PipelineFull (writing_fault q r.version) roomy)
 
 -- the peer of a step that submits is a client of ours
-module _ (S : Setting) (w : World) (seen : Seen) (w2 : World) (c : ℕ) (q : Ask) (k : Connection) (here : slice_get w.conns c ≡ Some k) where
-  submit_goes : (wish : Wish) → k.peer ≡ Ours wish → (o : Option SubmitFault) → refused (client k) k.client_lost k.sent q ≡ o
-      → step S w (Submit c q) ≡ Ok (after_effect w c k (submitted q k o), (submitted q k o).seen)
+module _ (S : Setting) (w : World) (seen : Seen) (w2 : World) (c : ℕ) (q : RequestView) (k : Connection) (here : slice_get w.conns c ≡ Some k) where
+  submit_goes : (wish : Wish) → k.peer ≡ Ours wish → (o : Option SubmitFault) → refusal_of (client k) k.client_lost k.sent q ≡ o
+      → step S w (Submit c q) ≡ Ok (after_effect w c k (effect_of_submit q k o), (effect_of_submit q k o).seen)
   submit_goes wish p o e =
       ap (at_conn S w (Submit c q) c) here ∙ ap (λ y. with_effect w c k (at_peer S c (ledger w) (Submit c q) y k)) p
-      ∙ ap (λ (z : Option SubmitFault). with_effect w c k (Ok (submitted q k z))) e
+      ∙ ap (λ (z : Option SubmitFault). with_effect w c k (Ok (effect_of_submit q k z))) e
 
   -- A request that is made of texts, numbers and cells and that the client accepts has a text that stands for it.
-  made_written : (wish : Wish) → k.peer ≡ Ours wish → ((client k).version ≡ None) ⊎ ((client k).version ≡ Some (wished wish)) → IsMade w (Submit c q) seen → step S w (Submit c q) ≡ Ok (w2, seen)
-      → refused (client k) k.client_lost k.sent q ≡ None → IsWritten (wished wish) q
-  made_written wish p knows made h none = (text.0, text.1, (request_reads_back (wished wish) q text.0 ready text.1).0)
+  made_written : (wish : Wish) → k.peer ≡ Ours wish → ((client k).version ≡ None) ⊎ ((client k).version ≡ Some (wish_version wish)) → IsMade w (Submit c q) seen → step S w (Submit c q) ≡ Ok (w2, seen)
+      → refusal_of (client k) k.client_lost k.sent q ≡ None → IsWritten (wish_version wish) q
+  made_written wish p knows made h none = (text.0, text.1, (request_reads_back (wish_version wish) q text.0 ready text.1).0)
     where
       same : Submitted (Ok (length k.sent)) ≡ seen
-      same = (ok_parts (after_effect w c k (submitted q k None)) w2 (Submitted (Ok (length k.sent))) seen (sym (submit_goes wish p None none) ∙ h)).1
+      same = (ok_parts (after_effect w c k (effect_of_submit q k None)) w2 (Submitted (Ok (length k.sent))) seen (sym (submit_goes wish p None none) ∙ h)).1
 
       accepts : IsMade w (Submit c q) (Submitted (Ok (length k.sent)))
       accepts = subst (IsMade w (Submit c q)) (sym same) made
 
-      ready : IsRequest (wished wish) q
-      ready = subst (λ y. IsRequest (wished (wish_of y)) q) p (accepts k here)
+      ready : IsRequest (wish_version wish) q
+      ready = subst (λ y. IsRequest (wish_version (wish_of y)) q) p (accepts k here)
 
-      version : (client k).version ≡ Some (wished wish)
+      version : (client k).version ≡ Some (wish_version wish)
       version = ⊎_elim (λ e. absurd ((accepting (client k) k.client_lost k.sent q none).2 e)) (λ e. e) knows
 
-      text : (b : List ℕ) × (request_text (wished wish) q ≡ Ok b)
-      text = accepted_text (client k) k.client_lost k.sent q (wished wish) none version
+      text : (b : List ℕ) × (request_spelling (wish_version wish) q ≡ Ok b)
+      text = accepted_text (client k) k.client_lost k.sent q (wish_version wish) none version
 
   -- And the other way round: what has a text that stands for it is so made.
-  written_made : (n : ℕ) → ((wish : Wish) → k.peer ≡ Ours wish → refused (client k) k.client_lost k.sent q ≡ None → IsWritten (wished wish) q) → step S w (Submit c q) ≡ Ok (w2, Submitted (Ok n)) → IsRequest (wished (wish_of k.peer)) q
+  written_made : (n : ℕ) → ((wish : Wish) → k.peer ≡ Ours wish → refusal_of (client k) k.client_lost k.sent q ≡ None → IsWritten (wish_version wish) q) → step S w (Submit c q) ≡ Ok (w2, Submitted (Ok n)) → IsRequest (wish_version (wish_of k.peer)) q
   written_made n f h = go k.peer refl
     where
-      none : (wish : Wish) → k.peer ≡ Ours wish → (o : Option SubmitFault) → refused (client k) k.client_lost k.sent q ≡ o → refused (client k) k.client_lost k.sent q ≡ None
+      none : (wish : Wish) → k.peer ≡ Ours wish → (o : Option SubmitFault) → refusal_of (client k) k.client_lost k.sent q ≡ o → refusal_of (client k) k.client_lost k.sent q ≡ None
       none wish p None e = e
       none wish p (Some fault) e =
           let bad : Submitted (Err fault) ≡ Submitted (Ok n) = (ok_parts _ w2 (Submitted (Err fault)) (Submitted (Ok n)) (sym (submit_goes wish p (Some fault) e) ∙ h)).1 in cc
 
-      go : (y : Peer) → k.peer ≡ y → IsRequest (wished (wish_of k.peer)) q
+      go : (y : Peer) → k.peer ≡ y → IsRequest (wish_version (wish_of k.peer)) q
       go (Ours wish) p =
-          let t = f wish p (none wish p (refused (client k) k.client_lost k.sent q) refl) in
-          subst (λ y. IsRequest (wished (wish_of y)) q) (sym p) (requests_are_made (wished wish) q t.0 t.2)
+          let t = f wish p (none wish p (refusal_of (client k) k.client_lost k.sent q) refl) in
+          subst (λ y. IsRequest (wish_version (wish_of y)) q) (sym p) (requests_are_made (wish_version wish) q t.0 t.2)
       go Foreign p =
           let went : step S w (Submit c q) ≡ Err V2 = ap (at_conn S w (Submit c q) c) here ∙ ap (λ y. with_effect w c k (at_peer S c (ledger w) (Submit c q) y k)) p in
           let bad : ◌≡◌ {A = Result (World × Seen) Refusal} (Err V2) (Ok (w2, Submitted (Ok n))) = sym went ∙ h in cc
@@ -337,7 +337,7 @@ module _ (S : Setting) (w : World) (all : AllWritten w) (seen : Seen) (w2 : Worl
   made_tells ours (Submit c q) made h = λ k here wish p none. made_written S w seen w2 c q k here wish p (knows ours c k here wish p) made h none
     where
       knows : ((c : ℕ) (k : Connection) (wish : Wish) → slice_get w.conns c ≡ Some k → k.peer ≡ Ours wish → Inv S w.brought w.since c wish k)
-          → (c : ℕ) (k : Connection) → slice_get w.conns c ≡ Some k → (wish : Wish) → k.peer ≡ Ours wish → ((client k).version ≡ None) ⊎ ((client k).version ≡ Some (wished wish))
+          → (c : ℕ) (k : Connection) → slice_get w.conns c ≡ Some k → (wish : Wish) → k.peer ≡ Ours wish → ((client k).version ≡ None) ⊎ ((client k).version ≡ Some (wish_version wish))
       knows ours c k here wish p =
           let inv = ours c k wish here p in
           knows_if S (w.brought ++ w.since) wish k inv.talk (tells S w.brought w.since c wish k p inv.talk).version

@@ -27,13 +27,16 @@ Answers S w e (Err SessionsFull) Now = (step S w e ≡ Err V3) × Now w
 Answers S w e (Err Memory) Now = MayLack S w e × ((w2 : World) × Leaves w e w2 × Now w2)
 
 -- `step` of an object of which Fitted tells the worlds that it fits, before and after the call
-abbrev pub Steps : Setting → Event → Result Seen Refused → (World → Type 0) → (World → Type 0) → Type 0
-Steps S e result Before After = (brought : List EntryView) (w : World) → Reached S brought w → Before w → Answers S w e result After
+abbrev pub Steps : Setting → Event → Result Seen Refused → (World → Type 0) → (World → Type 0)
+    → Type 0
+Steps S e result Before After = (brought : List EntryView) (w : World) → Reached S brought w
+    → Before w → Answers S w e result After
 
--- The world after events in order, where those are left out that are refused.
+-- one event leads from one world to another, or is refused and left out
 abbrev pub Follows : Setting → World → Event → World → Type 0
 Follows S w e w2 = ((seen : Seen) × WStep S w e seen w2) ⊎ (IsErr (step S w e) × (w2 ≡ w))
 
+-- events in order, of which the refused are left out, lead from one world to another
 abbrev pub Replays : Setting → World → List Event → World → Type 0
 Replays S w [] w3 = w3 ≡ w
 Replays S w (e ∷ es) w3 = (w2 : World) × Follows S w e w2 × Replays S w2 es w3

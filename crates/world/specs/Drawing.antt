@@ -7,10 +7,13 @@ use Rattle.server.specs.Serving.{Rest, take_out_at}
 module _ {G : Type 0} where
   -- so many bytes came out, and are held behind the others
   abbrev pub Takes : ℕ → ℕ → Rest G → List ℕ → List ℕ → (Rest G → Type 0) → Type 0
-  Takes c n r old new Now = (taken : List ℕ) × (after : Rest G) × (take_out_at c n r ≡ Some (taken, after)) × (new ≡ old ++ taken) × Now after
+  Takes c n r old new Now =
+      (taken : List ℕ) × (after : Rest G) × (take_out_at c n r ≡ Some (taken, after))
+      × (new ≡ old ++ taken) × Now after
 
   -- of a session that was given up none; where there is no room for them, they came out or didn't
-  abbrev pub Draws : Option Cause → ℕ → ℕ → Rest G → List ℕ → Result (Unit {0}) AllocError → List ℕ → (Rest G → Type 0) → Type 0
+  abbrev pub Draws : Option Cause → ℕ → ℕ → Rest G → List ℕ → Result (Unit {0}) AllocError → List ℕ
+      → (Rest G → Type 0) → Type 0
   Draws (Some cause) c n r old result new Now = (new ≡ old) × Now r
   Draws None c n r old (Ok u) new Now = Takes c n r old new Now
   Draws None c n r old (Err e) new Now = ((new ≡ old) × Now r) ⊎ Takes c n r old new Now

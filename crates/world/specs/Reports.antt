@@ -16,6 +16,7 @@ wrote_after [] later = later
 wrote_after (SaysSummary x ∷ xs) later = wrote_after xs ((x.ordinal, phase_of x.state) ∷ later)
 wrote_after (_ ∷ xs) later = wrote_after xs later
 
+-- all summaries that the session of a connection wrote, the oldest first
 abbrev pub wrote : Connection → List (ℕ × Phase)
 wrote k = wrote_after k.says []
 
@@ -35,12 +36,14 @@ abbrev pub by_peer : {A : Type 0} → Peer → List A → List A
 by_peer (Ours wish) xs = xs
 by_peer Foreign xs = []
 
-abbrev pub read : Connection → List (ℕ × Phase × Outcome)
-read k = by_peer k.peer (read_after (client k).told [])
+-- the summaries that the client of a connection read, the oldest first
+abbrev pub summaries_told : Connection → List (ℕ × Phase × Outcome)
+summaries_told k = by_peer k.peer (read_after (client k).told [])
 
 -- the outcomes that the client gave when it was lost
-abbrev pub lost : Connection → List (ℕ × Outcome)
-lost k = by_peer k.peer (if k.client_lost then losses (knows_of (client k) k.sent false) else [])
+abbrev pub outcomes_at_loss : Connection → List (ℕ × Outcome)
+outcomes_at_loss k = by_peer k.peer
+    (if k.client_lost then losses (knows_of (client k) k.sent false) else [])
 
 -- the ordinals from one on, so many
 abbrev pub ordinals : ℕ → ℕ → List ℕ
@@ -49,16 +52,19 @@ ordinals i (suc n) = i ∷ ordinals (suc i) n
 
 -- the requests that still wait for a summary
 abbrev pub waits : Connection → List ℕ
-waits k = let knows = knows_of (client k) k.sent k.client_lost in by_peer k.peer (ordinals knows.first (length knows.waiting))
+waits k = let knows = knows_of (client k) k.sent k.client_lost in by_peer k.peer
+    (ordinals knows.first (length knows.waiting))
 
 -- the session's state, or why it has ended
 pub data Standing : Type 0 where
   stands : State → Standing
   has_ended : Cause → Standing
 
+-- a session's state, or the cause of its end if it has ended
 abbrev pub standing_of : State → Option Cause → Standing
 standing_of s None = stands s
 standing_of s (Some cause) = has_ended cause
 
+-- where the session of a connection stands
 abbrev pub standing : Connection → Standing
 standing k = standing_of k.state k.ended

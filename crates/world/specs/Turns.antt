@@ -6,7 +6,7 @@ use Rattle.server.specs.declared.Server.{Server}
 use Rattle.server.specs.Serving as serving
 use Rattle.server.specs.Session.{Setting}
 use Rattle.server.specs.Views as server
-use Rattle.messages.specs.View.{Ask}
+use Rattle.messages.specs.View.{RequestView}
 use Rattle.client.specs.Fits.{IsAccepted}
 use Rattle.client.specs.declared.SubmitFault.{SubmitFault}
 use Rattle.client.specs.declared.SubmitFault.TheVariants as submit_fault
@@ -23,11 +23,14 @@ use Rattle.world.specs.Contract.{Answers, Replays}
 
 -- an engine's definition and a gate's
 abbrev pub Definition : Type 0
-Definition = List EntryView → List WriteView → List ℕ → List ParameterView → QueryMode → Result AnswerView QueryFault
+Definition = List EntryView → List WriteView → List ℕ → List ParameterView → QueryMode
+    → Result AnswerView QueryFault
 
+-- the setting by an engine's definition and a gate's, at what this gate is
 abbrev pub setting_of : {G : Type 0} → Definition → (G → List ℕ → List ℕ → Bool) → G → Setting
 setting_of answer accepts gate = record { run = answer; check = accepts gate }
 
+-- what a step answers, as contracts see it: what is seen, or the refusal as it is
 abbrev pub seen_in : Result SeenTold Refused → Result Seen Refused
 seen_in (Ok seen) = Ok (seen_of seen)
 seen_in (Err refused) = Err refused
@@ -37,9 +40,12 @@ abbrev pub Holds : LinkHeld → Link → Type 0
 Holds l m = (x : Option asking.Rest) × (m ≡ link_of l x) × FitsEnd l.end x
 
 -- what a client is asked at a link; and what is held then
-abbrev pub Submits : Link → Ask → Result Seen Refused → (Link → Type 0) → Type 0
-Submits m q (Ok (Submitted (Ok n))) Now = (y : asking.Rest) × (m.client ≡ Some y) × IsAccepted y q n × Now (record m { client = Some (asking.submitted y q) })
-Submits m q (Ok (Submitted (Err fault))) Now = (y : asking.Rest) × (m.client ≡ Some y) × (asking.refuses y.knows q ≡ Some fault) × Now m
+abbrev pub Submits : Link → RequestView → Result Seen Refused → (Link → Type 0) → Type 0
+Submits m q (Ok (Submitted (Ok n))) Now =
+    (y : asking.Rest) × (m.client ≡ Some y) × IsAccepted y q n
+    × Now (record m { client = Some (asking.after_submit y q) })
+Submits m q (Ok (Submitted (Err fault))) Now =
+    (y : asking.Rest) × (m.client ≡ Some y) × (asking.refuses y.knows q ≡ Some fault) × Now m
 Submits m q (Err Memory) Now = (y : asking.Rest) × (m.client ≡ Some y) × Now m
 Submits m q (Err WrongPeer) Now = (m.peer ≡ Foreign) × Now m
 Submits m q result Now = ⊥
@@ -52,10 +58,16 @@ refusal_seen fault = Ok (Submitted (Err fault))
 -- the client's loss, unless it was lost before
 abbrev pub after_loss : Bool → Link → asking.Rest → Link
 after_loss true m y = m
-after_loss false m y = record m { client = Some (asking.dropped y); client_lost = true; lost = asking.losses y.knows }
+after_loss false m y = record m {
+  client = Some (asking.after_drop y);
+  client_lost = true;
+  lost = asking.losses y.knows;
+}
 
+-- what ClientLost answers at a link, refused of a foreign peer; and what is held then
 abbrev pub LosesClient : Link → Result Seen Refused → (Link → Type 0) → Type 0
-LosesClient m (Ok SawNothing) Now = (y : asking.Rest) × (m.client ≡ Some y) × Now (after_loss m.client_lost m y)
+LosesClient m (Ok SawNothing) Now =
+    (y : asking.Rest) × (m.client ≡ Some y) × Now (after_loss m.client_lost m y)
 LosesClient m (Err WrongPeer) Now = (m.peer ≡ Foreign) × Now m
 LosesClient m result Now = ⊥
 
@@ -66,17 +78,21 @@ HoldLinks (l ∷ ls) (m ∷ ms) = Holds l m × HoldLinks ls ms
 HoldLinks ls ms = ⊥
 
 -- that what a world holds, over this gate, stands for a world of the model
-pub record IsWorld {E G : Type 0} (entries : E → List EntryView) (s : WorldHeld E G) (gate : G) (w : World) : Type 0 where
+pub record IsWorld {E G : Type 0} (entries : E → List EntryView) (s : WorldHeld E G) (gate : G)
+    (w : World) : Type 0 where
   pub rest : Rest G
   pub links : HoldLinks s.links.items rest.links
   pub server : server.Fits entries s.server rest.server
   pub gated : rest.server.gate ≡ gate
   pub fits : Fits rest w
 
-unfoldable pub FitsWorld : {E G : Type 0} → (E → List EntryView) → WorldHeld E G → G → World → Type 0
+-- that what a world holds, over this gate, stands for this world of the model
+unfoldable pub FitsWorld : {E G : Type 0} → (E → List EntryView) → WorldHeld E G → G → World
+    → Type 0
 FitsWorld entries s gate w = IsWorld entries s gate w
 
-module _ {E G : Type 0} (entries : E → List EntryView) (answer : Definition) (accepts : G → List ℕ → List ℕ → Bool) where
+module _ {E G : Type 0} (entries : E → List EntryView) (answer : Definition)
+    (accepts : G → List ℕ → List ℕ → Bool) where
   -- a link in its place, and the server beside it, stand for the world then
   pub record Now (r : Rest G) (c : ℕ) (l : LinkHeld) (s : Server E G) (w : World) : Type 0 where
     pub client : Option asking.Rest
@@ -87,7 +103,8 @@ module _ {E G : Type 0} (entries : E → List EntryView) (answer : Definition) (
     pub fits : Fits (record { links = slice_set r.links c (link_of l client); server = rest }) w
 
   -- what is known where an event comes to its connection
-  pub record Before (e : Event) (l : LinkHeld) (s : Server E G) (r : Rest G) (w : World) : Type 0 where
+  pub record Before (e : Event) (l : LinkHeld) (s : Server E G) (r : Rest G) (w : World)
+      : Type 0 where
     pub brought : List EntryView
     pub reached : Reached (serving.setting answer accepts r.server) brought w
     pub client : Option asking.Rest
@@ -97,12 +114,16 @@ module _ {E G : Type 0} (entries : E → List EntryView) (answer : Definition) (
     pub fits : Fits r w
 
   -- what an event does at its connection, of which the link is at hand
-  abbrev pub Turns : Event → LinkHeld → Server E G → Result SeenTold Refused → LinkHeld → Server E G → Type 0
+  abbrev pub Turns : Event → LinkHeld → Server E G → Result SeenTold Refused → LinkHeld → Server E G
+      → Type 0
   Turns e l s result l2 s2 =
-      (r : Rest G) (w : World) → Before e l s r w → Answers (serving.setting answer accepts r.server) w e (seen_in result) (Now r (place e) l2 s2)
+      (r : Rest G) (w : World) → Before e l s r w
+      → Answers (serving.setting answer accepts r.server) w e (seen_in result)
+      (Now r (place e) l2 s2)
 
 -- A world that fits what events lead to from a world, in order, those left out that are refused.
-pub record Goes {E G : Type 0} (entries : E → List EntryView) (S : Setting) (gate : G) (brought : List EntryView) (w : World) (es : List Event) (s : WorldHeld E G) : Type 0 where
+pub record Goes {E G : Type 0} (entries : E → List EntryView) (S : Setting) (gate : G)
+    (brought : List EntryView) (w : World) (es : List Event) (s : WorldHeld E G) : Type 0 where
   pub after : World
   pub replays : Replays S w es after
   pub reached : Reached S brought after

@@ -1,7 +1,7 @@
 -- What the code holds, as contracts see it.
 use Rattle.std.specs.Prelude.{◌≡◌, ℕ, Option, Some, None, is_some, Ok, List, [], ◌++◌, map, length, false}
 use Rattle.machine.specs.declared.Phase.{Phase}
-use Rattle.messages.specs.View.{ask}
+use Rattle.messages.specs.View.{request_view}
 use Rattle.client.specs.declared.Outcome.{Outcome}
 use Rattle.client.specs.Fits as client
 use Rattle.client.specs.Notes.{note}
@@ -21,16 +21,19 @@ use Rattle.world.specs.declared.link.Wrote.{Wrote}
 use Rattle.world.specs.World.{Peer, Ours, Foreign, Event, Opens, Submit, ToServer, ToClient, Work, PutsNoop, Cut, ClientLost, ServerLost, Feeds, Seen, Opened, Submitted, Fed, Gave, SawWork, SawNoop, SawNothing}
 use Rattle.world.specs.Fits.{Link}
 
+-- bytes on their way, in order: those that are joined, then those that lie apart
 abbrev pub flow_of : Flow → List ℕ
 flow_of f = f.first.items ++ f.more
 
+-- a peer, as contracts see it
 abbrev pub peer_of : PeerTold → Peer
 peer_of (peer.Ours wish) = Ours wish
 peer_of peer.Foreign = Foreign
 
+-- an event, as contracts see it: a request by its view
 abbrev pub event_of : EventTold → Event
 event_of (event.Open p) = Opens (peer_of p)
-event_of (event.Submit conn request) = Submit conn (ask request)
+event_of (event.Submit conn request) = Submit conn (request_view request)
 event_of (event.ToServer conn max) = ToServer conn max
 event_of (event.ToClient conn max) = ToClient conn max
 event_of (event.Work conn) = Work conn
@@ -40,6 +43,7 @@ event_of (event.ClientLost conn) = ClientLost conn
 event_of (event.ServerLost conn) = ServerLost conn
 event_of (event.Foreign conn bytes) = Feeds conn bytes.items
 
+-- what is seen of an event, as contracts see it
 abbrev pub seen_of : SeenTold → Seen
 seen_of (seen.Opened conn) = Opened conn
 seen_of (seen.Submitted answer) = Submitted answer
@@ -49,12 +53,15 @@ seen_of (seen.Worked worked) = SawWork worked
 seen_of (seen.Noop put) = SawNoop put
 seen_of seen.Nothing = SawNothing
 
+-- a summary that a session wrote: its request's ordinal, and the phase that it leads to
 abbrev pub wrote_of : Wrote → ℕ × Phase
 wrote_of x = (x.ordinal, x.phase)
 
+-- a summary that a client read: its request's ordinal, its phase, and the outcome
 abbrev pub read_of : Read → ℕ × Phase × Outcome
 read_of x = (x.ordinal, x.phase, x.outcome)
 
+-- the outcomes at a client's loss, none where it wasn't lost
 abbrev pub losses_of : Option (List (ℕ × Outcome)) → List (ℕ × Outcome)
 losses_of None = []
 losses_of (Some losses) = losses
@@ -64,6 +71,7 @@ abbrev pub end_peer : End → Peer
 end_peer (end.Ours wish c lost) = Ours wish
 end_peer end.Foreign = Foreign
 
+-- the outcomes that the client of an end gave at its loss, where there is one and it was lost
 abbrev pub end_lost : End → Option (List (ℕ × Outcome))
 end_lost (end.Ours wish c lost) = lost
 end_lost end.Foreign = None
@@ -100,11 +108,26 @@ abbrev pub client_of : Peer → Option asking.Rest
 client_of (Ours wish) = Some (asking.begun wish)
 client_of Foreign = None
 
+-- the link of a connection that is opened: no byte is on its way, and nothing is to be reported
 abbrev pub opened_link : Peer → Link
-opened_link p = record { peer = p; client = client_of p; up = []; down = []; cut = false; client_lost = false; gone = None; wrote = []; read = []; lost = [] }
+opened_link p = record {
+  peer = p;
+  client = client_of p;
+  up = [];
+  down = [];
+  cut = false;
+  client_lost = false;
+  gone = None;
+  wrote = [];
+  read = [];
+  lost = [];
+}
 
+-- an end of a connection that is opened: of this peer, its client at the beginning and not lost
 abbrev pub Begins : PeerTold → End → Type 0
 Begins p e = (end_peer e ≡ peer_of p) × (end_lost e ≡ None) × FitsEnd e (client_of (peer_of p))
 
+-- what is held of a connection that is opened with this peer
 abbrev pub IsOpened : PeerTold → LinkHeld → Type 0
-IsOpened p l = (link_of l (client_of (peer_of p)) ≡ opened_link (peer_of p)) × FitsEnd l.end (client_of (peer_of p))
+IsOpened p l = (link_of l (client_of (peer_of p)) ≡ opened_link (peer_of p))
+    × FitsEnd l.end (client_of (peer_of p))

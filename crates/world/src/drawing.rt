@@ -15,8 +15,12 @@ use std::alloc::AllocError;
 
 /// Takes out of a client what is missing to so many bytes. Where there is no room, the bytes that came out are held all the same.
 pub(crate) fn draw_up(client: &mut Client, up: &mut Flow, max: usize) -> Result<(), AllocError>
-    ensures ok { (x : Asking) → FitsClient client.old x → OnOk result (FitsClient client.new (taken_out x (max - length (flow_of up.old))) × (flow_of up.new ≡ flow_of up.old ++ take (max - length (flow_of up.old)) x.unsent)) }
-    ensures err { (x : Asking) → FitsClient client.old x → OnErr result ((n : ℕ) × FitsClient client.new (taken_out x n) × (flow_of up.new ≡ flow_of up.old ++ take n x.unsent)) }
+    ensures ok { (x : Asking) → FitsClient client.old x
+        → OnOk result (FitsClient client.new (taken_out x (max - length (flow_of up.old)))
+        × (flow_of up.new ≡ flow_of up.old ++ take (max - length (flow_of up.old)) x.unsent)) }
+    ensures err { (x : Asking) → FitsClient client.old x
+        → OnErr result ((n : ℕ) × FitsClient client.new (taken_out x n)
+        × (flow_of up.new ≡ flow_of up.old ++ take n x.unsent)) }
     ensures joined { OnOk result (up.new.more ≡ []) }
 {
     up.join()?;
@@ -36,7 +40,9 @@ pub(crate) fn draw_down<E: Engine, G: Gate>(
     conn: u64,
     max: usize,
 ) -> Result<(), AllocError>
-    ensures draws { (r : Serving G) → FitsServer E.entries server.old r → Draws gone conn (max - length (flow_of down.old)) r (flow_of down.old) result (flow_of down.new) (FitsServer E.entries server.new) }
+    ensures draws { (r : Serving G) → FitsServer E.entries server.old r
+        → Draws gone conn (max - length (flow_of down.old)) r (flow_of down.old) result
+        (flow_of down.new) (FitsServer E.entries server.new) }
     ensures joined { OnOk result (down.new.more ≡ []) }
 {
     down.join()?;

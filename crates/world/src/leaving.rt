@@ -17,7 +17,8 @@ pub(crate) fn lose_server<E: Engine, G: Gate>(
     server: &mut Server<E, G>,
     conn: u64,
 ) -> Result<Seen, Refused>
-    ensures { Turns E.entries E.answer G.accepts (ServerLost conn) link.old server.old result link.new server.new }
+    ensures { Turns E.entries E.answer G.accepts (ServerLost conn) link.old server.old result
+        link.new server.new }
 {
     if let Some(_) = link.gone {
         return Ok(Seen::Nothing);
@@ -35,7 +36,8 @@ pub(crate) fn lose_server<E: Engine, G: Gate>(
 
 /// The session is the server's no more; why it has ended.
 fn give_up<E: Engine, G: Gate>(server: &mut Server<E, G>, conn: u64) -> Option<Cause>
-    ensures { (r : Serving G) → FitsServer E.entries server.old r → (result ≡ (lost_at conn r).0) × FitsServer E.entries server.new (lost_at conn r).1 }
+    ensures { (r : Serving G) → FitsServer E.entries server.old r
+        → (result ≡ (lost_at conn r).0) × FitsServer E.entries server.new (lost_at conn r).1 }
 {
     server.lost(conn)
 }

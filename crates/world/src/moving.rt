@@ -33,7 +33,8 @@ pub(crate) fn to_server<E: Engine, G: Gate>(
     conn: u64,
     max: usize,
 ) -> Result<Seen, Refused>
-    ensures { Turns E.entries E.answer G.accepts (ToServer conn max) link.old server.old result link.new server.new }
+    ensures { Turns E.entries E.answer G.accepts (ToServer conn max) link.old server.old result
+        link.new server.new }
 {
     let End::Ours { client, .. } = &mut link.end else {
         return Err(Refused::WrongPeer);
@@ -61,7 +62,8 @@ pub(crate) fn foreign<E: Engine, G: Gate>(
     conn: u64,
     bytes: &[u8],
 ) -> Result<Seen, Refused>
-    ensures { Turns E.entries E.answer G.accepts (Feeds conn bytes.now) link.old server.old result link.new server.new }
+    ensures { Turns E.entries E.answer G.accepts (Feeds conn bytes.now) link.old server.old result
+        link.new server.new }
 {
     let End::Foreign = &link.end else {
         return Err(Refused::WrongPeer);
@@ -85,7 +87,8 @@ pub(crate) fn to_client<E: Engine, G: Gate>(
     conn: u64,
     max: usize,
 ) -> Result<Seen, Refused>
-    ensures { Turns E.entries E.answer G.accepts (ToClient conn max) link.old server.old result link.new server.new }
+    ensures { Turns E.entries E.answer G.accepts (ToClient conn max) link.old server.old result
+        link.new server.new }
 {
     if link.is_cut {
         return Ok(Seen::Gave {
@@ -108,7 +111,8 @@ fn hear<E: Engine, G: Gate>(
 ) -> Result<Seen, Refused>
     requires joined { link.old.is_cut ≡ false }
     requires ours { end_peer link.old.end ≡ ForeignPeer → ⊥ }
-    ensures { Turns E.entries E.answer G.accepts (ToClient conn max) link.old server.old result link.new server.new }
+    ensures { Turns E.entries E.answer G.accepts (ToClient conn max) link.old server.old result
+        link.new server.new }
 {
     let End::Ours { client, .. } = &mut link.end else {
         unreachable!();
@@ -137,7 +141,8 @@ fn hear<E: Engine, G: Gate>(
 /// A summary that was read goes into the report.
 fn note_heard(read: &mut Vec<Read>, heard: &Heard)
     requires { vec_len read.old < vec_capacity read.old }
-    ensures { map read_of read.new.items ≡ map read_of read.old.items ++ read_after (tellings (note heard.now)) [] }
+    ensures { map read_of read.new.items
+        ≡ map read_of read.old.items ++ read_after (tellings (note heard.now)) [] }
 {
     if let Heard::Summary {
         ordinal,
@@ -163,7 +168,8 @@ fn drain<E: Engine, G: Gate>(
 ) -> Result<Seen, Refused>
     requires joined { link.old.is_cut ≡ false }
     requires foreign { end_peer link.old.end ≡ ForeignPeer }
-    ensures { Turns E.entries E.answer G.accepts (ToClient conn max) link.old server.old result link.new server.new }
+    ensures { Turns E.entries E.answer G.accepts (ToClient conn max) link.old server.old result
+        link.new server.new }
 {
     if link.down.join().is_err() {
         return Err(Refused::Memory);

@@ -16,7 +16,11 @@ use std::alloc::{AllocError, Global};
 /// The world after one step for each event in order, over an empty `FixedTable` and the gate of `user` with `pass`. Events that V1
 /// to V3 refuse are left out, and no others; V4 where a step, or making the gate, finds no memory.
 pub fn replay(alloc: Global, events: &[Event]) -> Result<World<FixedTable, OneUser>, Refused>
-    ensures ok { IfOk result (λ world. (gate : OneUser) × (principal_of gate ≡ codes "user") × (credentials_of gate ≡ codes "pass") × Goes ledger_of (setting_of fixed_answer is_user gate) gate [] (empty []) (map event_of events.now) world) }
+    ensures ok { IfOk result
+        (λ world. (gate : OneUser) × (principal_of gate ≡ codes "user")
+        × (credentials_of gate ≡ codes "pass")
+        × Goes ledger_of (setting_of fixed_answer is_user gate) gate [] (empty [])
+        (map event_of events.now) world) }
     ensures fault { IfErr result (λ e. e ≡ Refused.Memory) }
 {
     let Ok(gate) = OneUser::new(alloc, "user", "pass") else {
@@ -34,7 +38,10 @@ fn follow_all<E: Engine, G: Gate>(
     world: &mut World<E, G>,
     events: &[Event],
 ) -> Result<(), AllocError>
-    ensures { (gate : G) (brought : List EntryView) (w : WorldSeen) → Goes E.entries (setting_of E.answer G.accepts gate) gate brought w [] world.old → OnOk result (Goes E.entries (setting_of E.answer G.accepts gate) gate brought w (map event_of events.now) world.new) }
+    ensures { (gate : G) (brought : List EntryView) (w : WorldSeen)
+        → Goes E.entries (setting_of E.answer G.accepts gate) gate brought w [] world.old
+        → OnOk result (Goes E.entries (setting_of E.answer G.accepts gate) gate brought w
+        (map event_of events.now) world.new) }
 {
     for event in events {
         follow(world, event)?;
@@ -44,7 +51,9 @@ fn follow_all<E: Engine, G: Gate>(
 
 /// One event, which V1 to V3 may refuse.
 fn follow<E: Engine, G: Gate>(world: &mut World<E, G>, event: &Event) -> Result<(), AllocError>
-    ensures { (gate : G) (brought : List EntryView) (w : WorldSeen) → Reached (setting_of E.answer G.accepts gate) brought w → FitsWorld E.entries world.old gate w
+    ensures { (gate : G) (brought : List EntryView) (w : WorldSeen)
+        → Reached (setting_of E.answer G.accepts gate) brought w
+        → FitsWorld E.entries world.old gate w
         → OnOk result ((w2 : WorldSeen) × Follows (setting_of E.answer G.accepts gate) w (event_of event.now) w2 × Reached (setting_of E.answer G.accepts gate) brought w2 × FitsWorld E.entries world.new gate w2) }
 {
     let event = event.clone()?;

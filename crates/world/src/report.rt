@@ -52,21 +52,25 @@ impl<'a, E: Engine, G: Gate> Report<'a, E, G> {
 
     /// How many connections were opened; their numbers begin at 0. Takes no memory.
     pub fn connections(&self) -> u64
-        ensures { (gate : G) (w : WorldSeen) → Lends E.entries self.now gate w → result ≡ length w.conns }
+        ensures { (gate : G) (w : WorldSeen) → Lends E.entries self.now gate w
+            → result ≡ length w.conns }
     {
         self.world.connections()
     }
 
     /// What is reported of a connection; None where no such was opened. Takes no memory.
     pub fn connection(&self, conn: u64) -> Option<Connection<'a>>
-        ensures { (gate : G) (brought : List EntryView) (w : WorldSeen) → Reached (setting_of E.answer G.accepts gate) brought w → Lends E.entries self.now gate w → Reports w conn result }
+        ensures { (gate : G) (brought : List EntryView) (w : WorldSeen)
+            → Reached (setting_of E.answer G.accepts gate) brought w
+            → Lends E.entries self.now gate w → Reports w conn result }
     {
         self.world.connection(conn)
     }
 
     /// The ledger: the entries that the engine brought, and those since. Takes no memory.
     pub fn ledger(&self) -> &'a [Entry]
-        ensures { (gate : G) (w : WorldSeen) → Lends E.entries self.now gate w → entries_view result.now ≡ ledger w }
+        ensures { (gate : G) (w : WorldSeen) → Lends E.entries self.now gate w
+            → entries_view result.now ≡ ledger w }
     {
         self.world.ledger()
     }

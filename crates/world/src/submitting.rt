@@ -1,8 +1,8 @@
 //! What a client of a connection is asked, and its loss.
 ghost use Rattle.std.specs.Prelude.{◌≡◌};
 ghost use Rattle.client.specs.Fits.{Fits as FitsClient};
-ghost use Rattle.client.specs.Rest.{Rest as Asking, dropped, losses};
-ghost use Rattle.messages.specs.View.{ask};
+ghost use Rattle.client.specs.Rest.{Rest as Asking, after_drop, losses};
+ghost use Rattle.messages.specs.View.{request_view};
 ghost use Rattle.world.specs.Fits.{Link as LinkSeen};
 ghost use Rattle.world.specs.Turns.{Holds, Submits, LosesClient, seen_in, refusal_seen};
 
@@ -13,7 +13,8 @@ use messages::Request;
 
 /// The client is asked to send a request.
 pub(crate) fn submit(link: &mut Link, request: Request) -> Result<Seen, Refused>
-    ensures { (m : LinkSeen) → Holds link.old m → Submits m (ask request) (seen_in result) (Holds link.new) }
+    ensures { (m : LinkSeen) → Holds link.old m
+        → Submits m (request_view request) (seen_in result) (Holds link.new) }
 {
     let End::Ours { client, .. } = &mut link.end else {
         return Err(Refused::WrongPeer);
@@ -50,7 +51,8 @@ pub(crate) fn lose_client(link: &mut Link) -> Result<Seen, Refused>
 
 /// A client hears nothing more; the outcomes that it gives then.
 fn leave(client: &mut Client) -> Losses
-    ensures { (y : Asking) → FitsClient client.old y → (result ≡ losses y.knows) × FitsClient client.new (dropped y) }
+    ensures { (y : Asking) → FitsClient client.old y
+        → (result ≡ losses y.knows) × FitsClient client.new (after_drop y) }
 {
     client.lost()
 }

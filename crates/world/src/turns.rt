@@ -22,7 +22,8 @@ pub(crate) fn turn<E: Engine, G: Gate>(
     event: Event,
 ) -> Result<Seen, Refused>
     requires { IsOpens (event_of event) → ⊥ }
-    ensures { Turns E.entries E.answer G.accepts (event_of event) link.old server.old result link.new server.new }
+    ensures { Turns E.entries E.answer G.accepts (event_of event) link.old server.old result
+        link.new server.new }
 {
     match event {
         Event::Open(_) => unreachable!(),
@@ -47,7 +48,8 @@ fn work<E: Engine, G: Gate>(
     server: &mut Server<E, G>,
     conn: u64,
 ) -> Result<Seen, Refused>
-    ensures { Turns E.entries E.answer G.accepts (Work conn) link.old server.old result link.new server.new }
+    ensures { Turns E.entries E.answer G.accepts (Work conn) link.old server.old result link.new
+        server.new }
 {
     if let Some(cause) = link.gone {
         return Ok(Seen::Worked(Worked::Ended(cause)));
@@ -81,7 +83,8 @@ fn noop<E: Engine, G: Gate>(
     server: &mut Server<E, G>,
     conn: u64,
 ) -> Result<Seen, Refused>
-    ensures { Turns E.entries E.answer G.accepts (PutsNoop conn) link.old server.old result link.new server.new }
+    ensures { Turns E.entries E.answer G.accepts (PutsNoop conn) link.old server.old result link.new
+        server.new }
 {
     if let Some(_) = link.gone {
         return Ok(Seen::Noop(false));

@@ -41,7 +41,9 @@ impl<E: Engine, G: Gate> World<E, G> {
 
     /// One event; or V1 to V3 where it can't be, or V4, and nothing has changed but that a `ToClient` may have taken bytes out.
     pub fn step(&mut self, event: Event) -> Result<Seen, Refused>
-        ensures { (gate : G) → Steps (setting_of E.answer G.accepts gate) (event_of event) (seen_in result) (FitsWorld E.entries self.old gate) (FitsWorld E.entries self.new gate) }
+        ensures { (gate : G) → Steps (setting_of E.answer G.accepts gate) (event_of event)
+            (seen_in result) (FitsWorld E.entries self.old gate)
+            (FitsWorld E.entries self.new gate) }
     {
         match event {
             Event::Open(peer) => self.open(peer),
@@ -51,28 +53,33 @@ impl<E: Engine, G: Gate> World<E, G> {
 
     /// What is reported: it lends all that it tells. Takes no memory.
     pub fn report(&self) -> Report<'_, E, G>
-        ensures { (gate : G) (w : WorldSeen) → FitsWorld E.entries self.now gate w → Lends E.entries result gate w }
+        ensures { (gate : G) (w : WorldSeen) → FitsWorld E.entries self.now gate w
+            → Lends E.entries result gate w }
     {
         Report { world: self }
     }
 
     /// The ledger: the entries that the engine brought, and those since. Takes no memory.
     pub fn ledger(&self) -> &[Entry]
-        ensures { (gate : G) (w : WorldSeen) → FitsWorld E.entries self.now gate w → entries_view result.now ≡ ledger w }
+        ensures { (gate : G) (w : WorldSeen) → FitsWorld E.entries self.now gate w
+            → entries_view result.now ≡ ledger w }
     {
         self.server.engine().ledger()
     }
 
     /// How many connections were opened.
     pub(crate) fn connections(&self) -> u64
-        ensures { (gate : G) (w : WorldSeen) → FitsWorld E.entries self.now gate w → result ≡ length w.conns }
+        ensures { (gate : G) (w : WorldSeen) → FitsWorld E.entries self.now gate w
+            → result ≡ length w.conns }
     {
         self.links.len() as u64
     }
 
     /// What is reported of a connection; None where no such was opened.
     pub(crate) fn connection(&self, conn: u64) -> Option<Connection<'_>>
-        ensures { (gate : G) (brought : List EntryView) (w : WorldSeen) → Reached (setting_of E.answer G.accepts gate) brought w → FitsWorld E.entries self.now gate w → Reports w conn result }
+        ensures { (gate : G) (brought : List EntryView) (w : WorldSeen)
+            → Reached (setting_of E.answer G.accepts gate) brought w
+            → FitsWorld E.entries self.now gate w → Reports w conn result }
     {
         if conn >= self.links.len() as u64 {
             return None;
@@ -90,7 +97,9 @@ impl<E: Engine, G: Gate> World<E, G> {
 
     /// Opens a connection.
     fn open(&mut self, peer: Peer) -> Result<Seen, Refused>
-        ensures { (gate : G) → Steps (setting_of E.answer G.accepts gate) (Opens (peer_of peer)) (seen_in result) (FitsWorld E.entries self.old gate) (FitsWorld E.entries self.new gate) }
+        ensures { (gate : G) → Steps (setting_of E.answer G.accepts gate) (Opens (peer_of peer))
+            (seen_in result) (FitsWorld E.entries self.old gate)
+            (FitsWorld E.entries self.new gate) }
     {
         if self.server.is_full() {
             return Err(Refused::SessionsFull);
@@ -111,7 +120,9 @@ impl<E: Engine, G: Gate> World<E, G> {
     /// An event of a connection.
     fn turn(&mut self, event: Event) -> Result<Seen, Refused>
         requires { IsOpens (event_of event) → ⊥ }
-        ensures { (gate : G) → Steps (setting_of E.answer G.accepts gate) (event_of event) (seen_in result) (FitsWorld E.entries self.old gate) (FitsWorld E.entries self.new gate) }
+        ensures { (gate : G) → Steps (setting_of E.answer G.accepts gate) (event_of event)
+            (seen_in result) (FitsWorld E.entries self.old gate)
+            (FitsWorld E.entries self.new gate) }
     {
         let conn = event.place();
         if conn >= self.links.len() as u64 {

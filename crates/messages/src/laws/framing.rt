@@ -2,12 +2,12 @@
 
 ghost use Rattle.messages.specs.Arrivals.{RequestsArrive, ArrivesWhole, SaysArrive, SoFarArrives, NoVersionArrives, ArrivalsGoOn, NothingFollows, HearsGoOn, NothingMoreHeard};
 
-/// Of every front of an offer and requests' texts, a server takes the version that was wished and the requests that lie whole in it.
+/// Of every front of an offer and requests' runs, a server takes the version that was wished and the requests that lie whole in it.
 pub fn requests_arrive()
     ensures { RequestsArrive }
 {}
 
-/// Of every front of a version answer, no-ops and responses' texts, a client hears what lies whole in it.
+/// Of every front of a version answer, no-ops and responses' runs, a client hears what lies whole in it.
 pub fn says_arrive()
     ensures { SaysArrive }
 {}

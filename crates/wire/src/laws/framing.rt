@@ -33,17 +33,17 @@ pub fn answers_take()
     ensures { AnswersTake }
 {}
 
-/// Of every front of the bytes that open a stream and the texts that follow, the items are those whose texts lie whole in it.
+/// Of every front of the bytes that open a stream and of items that follow, the items are those whose bytes lie whole in it.
 pub fn frames_fronts()
     ensures { FramesFronts }
 {}
 
-/// Of every front of an offer and messages' texts, a server receives the offer and the messages that lie whole in it.
+/// Of every front of an offer and messages' runs, a server receives the offer and the messages that lie whole in it.
 pub fn ours_arrives()
     ensures { OursArrives }
 {}
 
-/// Of every front of a version answer, no-ops and messages' texts, a client hears those that lie whole in it.
+/// Of every front of a version answer, no-ops and messages' runs, a client hears those that lie whole in it.
 pub fn said_arrives()
     ensures { SaidArrives }
 {}

@@ -1,5 +1,5 @@
 use Rattle.std.proofs.Common.{◌≡◌}
-use Rattle.messages.specs.View.{ask}
+use Rattle.messages.specs.View.{request_view}
 use Rattle.machine.specs.Asks.{kind_of, in_part}
 use Rattle.machine.specs.Following.{table}
 use Rattle.machine.proofs.Gathered.{gathered}
@@ -8,4 +8,4 @@ use Rattle.machine.proofs.following.after.Given as goal
 -- what may follow the phases gone through
 abbrev pub invariant-loop-phase : goal.invariant-loop-phase
 invariant-loop-phase l =
-    l.following ≡ gathered (λ p. table l.version p (kind_of (ask l.request)) (in_part (ask l.request))) l.set l.phase-index
+    l.following ≡ gathered (λ p. table l.version p (kind_of (request_view l.request)) (in_part (request_view l.request))) l.set l.phase-index

@@ -1,17 +1,17 @@
 use Rattle.packstream.proofs.Ranges.{bytes_from_each}
 use Rattle.messages.specs.Table.{responses}
-use Rattle.messages.specs.View.{say}
-use Rattle.messages.specs.Reading.{says}
-use Rattle.messages.specs.Messages.{answered, response_of}
+use Rattle.messages.specs.View.{response_view}
+use Rattle.messages.specs.Reading.{response_contents}
+use Rattle.messages.specs.Messages.{response_held, response_of}
 use Rattle.messages.proofs.Meanings.{gives_message, gives_fault, gives_same, answered_back}
 use Rattle.messages.proofs.codec.read_response.Goals as goal
 
 pub returns-clause-response : goal.returns-clause-response
-returns-clause-response c = gives_message say says answered answered_back c.args.version responses c.args.bytes.now (bytes_from_each c.args.bytes.now c.type_inv.bytes) c.response_in.result c.response_in.ensures
+returns-clause-response c = gives_message response_view response_contents response_held answered_back c.args.version responses c.args.bytes.now (bytes_from_each c.args.bytes.now c.type_inv.bytes) c.response_in.result c.response_in.ensures
 
 pub returns-clause-fault : goal.returns-clause-fault
-returns-clause-fault c = gives_fault (λ r. says (say r)) c.args.version responses c.args.bytes.now (bytes_from_each c.args.bytes.now c.type_inv.bytes) c.response_in.result c.response_in.ensures
+returns-clause-fault c = gives_fault (λ r. response_contents (response_view r)) c.args.version responses c.args.bytes.now (bytes_from_each c.args.bytes.now c.type_inv.bytes) c.response_in.result c.response_in.ensures
 
 pub returns-clause-same : goal.returns-clause-same
 unfolding response_of
-returns-clause-same c = gives_same say says answered answered_back c.response_in.result _ c.response_in.ensures
+returns-clause-same c = gives_same response_view response_contents response_held answered_back c.response_in.result _ c.response_in.ensures

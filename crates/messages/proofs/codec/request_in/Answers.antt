@@ -2,14 +2,14 @@ use Rattle.packstream.proofs.Ranges.{bytes_from_each}
 use Rattle.std.proofs.Common.{refl, ap}
 use Rattle.packstream.proofs.Deciding.{whole_value}
 use Rattle.messages.specs.Table.{requests}
-use Rattle.messages.specs.View.{ask}
-use Rattle.messages.specs.Reading.{asks}
-use Rattle.messages.specs.Messages.{said_by}
+use Rattle.messages.specs.View.{request_view}
+use Rattle.messages.specs.Reading.{request_contents}
+use Rattle.messages.specs.Messages.{contents_by}
 use Rattle.messages.proofs.Meanings.{bad_answers, err_is}
 use Rattle.messages.proofs.codec.request_in.Goals as goal
 
 pub returns-in_err-packed : goal.returns-in_err-packed
-returns-in_err-packed c = bad_answers (λ r. asks (ask r)) c.args.version requests c.args.bytes.now (bytes_from_each c.args.bytes.now c.type_inv.bytes) c.in_err-packed.field-0.0 _ c.in_err-packed.ensures.fault (err_is _ _ c.from_residual.ensures.1)
+returns-in_err-packed c = bad_answers (λ r. request_contents (request_view r)) c.args.version requests c.args.bytes.now (bytes_from_each c.args.bytes.now c.type_inv.bytes) c.in_err-packed.field-0.0 _ c.in_err-packed.ensures.fault (err_is _ _ c.from_residual.ensures.1)
 
 pub returns : goal.returns
-returns c = rw (ap (said_by c.args.version requests) ((whole_value c.args.bytes.now (bytes_from_each c.args.bytes.now c.type_inv.bytes) c.in_ok-packed.packed).1 ((c.in_ok-packed.ensures.value c.in_ok-packed.packed).0 refl))) c.request_of.ensures.told
+returns c = rw (ap (contents_by c.args.version requests) ((whole_value c.args.bytes.now (bytes_from_each c.args.bytes.now c.type_inv.bytes) c.in_ok-packed.packed).1 ((c.in_ok-packed.ensures.value c.in_ok-packed.packed).0 refl))) c.request_of.ensures.told

@@ -1,20 +1,20 @@
 use Rattle.std.proofs.Common.{◌≡◌, ap, sym, ◌∙◌}
 use Rattle.packstream.specs.View.{tree}
 use Rattle.packstream.specs.Canon.{canon}
-use Rattle.messages.specs.View.{say}
+use Rattle.messages.specs.View.{response_view}
 use Rattle.messages.specs.Reading.{◌>>=◌}
-use Rattle.messages.specs.Writing.{response_text, text_put_of}
+use Rattle.messages.specs.Writing.{response_spelling, spelling_of_tree}
 use Rattle.messages.proofs.Texts.{on_ok, canon_is}
 use Rattle.messages.proofs.Rounds.{answered_back_told, response_back}
 use Rattle.messages.proofs.codec.write_response.Goals as goal
 
 pub returns-clause-read_back : goal.returns-clause-read_back
-unfolding response_text
+unfolding response_spelling
 returns-clause-read_back c =
     let v = c.args.version in
-    let m = say c.args.response.now in
+    let m = response_view c.args.response.now in
     let t = tree c.in_ok-value.value in
     on_ok c.put.result _ _ (λ g b e.
-    let same : b ≡ canon t = canon_is t b (sym (ap (λ r. r >>= text_put_of) c.in_ok-value.ensures) ∙ e) in
+    let same : b ≡ canon t = canon_is t b (sym (ap (λ r. r >>= spelling_of_tree) c.in_ok-value.ensures) ∙ e) in
     rw same (t, g.0, g.1, answered_back_told v m t (response_back v c.args.response.now) c.in_ok-value.ensures))
     c.put.ensures.spells

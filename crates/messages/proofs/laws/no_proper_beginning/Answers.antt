@@ -1,5 +1,5 @@
 use Rattle.packstream.proofs.Deciding.{no_proper_beginning_is}
-use Rattle.messages.specs.Reading.{asks, says}
+use Rattle.messages.specs.Reading.{request_contents, response_contents}
 use Rattle.messages.proofs.Apart.{request_apart, response_apart}
 use Rattle.messages.proofs.laws.no_proper_beginning.Goals as goal
 
@@ -10,7 +10,7 @@ pub returns-clause-responses : goal.returns-clause-responses
 returns-clause-responses c = λ v w m n b more p q. (no_proper_beginning_is p.0 q.0 b more p.1 q.1 p.2 q.2).0
 
 pub returns-clause-request_first : goal.returns-clause-request_first
-returns-clause-request_first c = λ v w m n b more p q. request_apart v w (asks m) (says n) b more p q
+returns-clause-request_first c = λ v w m n b more p q. request_apart v w (request_contents m) (response_contents n) b more p q
 
 pub returns-clause-response_first : goal.returns-clause-response_first
-returns-clause-response_first c = λ v w m n b more p q. response_apart v w (says m) (asks n) b more p q
+returns-clause-response_first c = λ v w m n b more p q. response_apart v w (response_contents m) (request_contents n) b more p q

@@ -1,26 +1,26 @@
 use Rattle.std.proofs.Common.{Ok, refl, ap, sym, ◌∙◌}
 use Rattle.messages.specs.Table.{requests}
-use Rattle.messages.specs.Reading.{◌>>=◌, asks}
-use Rattle.messages.specs.Messages.{said_in, asked, request_of}
+use Rattle.messages.specs.Reading.{◌>>=◌, request_contents}
+use Rattle.messages.specs.Messages.{contents_in, request_held, request_of}
 use Rattle.messages.proofs.Meanings.{means_one, none_said, said_none, asked_back, kept_fault}
 use Rattle.messages.proofs.Sayings.{means_told, told_asks}
 use Rattle.messages.proofs.Sent.{request_is}
 use Rattle.messages.proofs.laws.one_request.Goals as goal
 
 pub returns-clause-one : goal.returns-clause-one
-returns-clause-one c = λ v b m n p q. sym (asked_back m) ∙ ap asked (means_one v requests (asks m) (asks n) b p q) ∙ asked_back n
+returns-clause-one c = λ v b m n p q. sym (asked_back m) ∙ ap request_held (means_one v requests (request_contents m) (request_contents n) b p q) ∙ asked_back n
 
 pub returns-clause-request : goal.returns-clause-request
 returns-clause-request c = λ v b m p. request_is v m b p
 
 pub returns-clause-fault : goal.returns-clause-fault
 unfolding request_of
-returns-clause-fault c = λ v b e bytes p. ap (λ r. r >>= λ s. Ok (asked s)) (none_said v requests e b bytes p)
+returns-clause-fault c = λ v b e bytes p. ap (λ r. r >>= λ s. Ok (request_held s)) (none_said v requests e b bytes p)
 
 pub returns-clause-told : goal.returns-clause-told
 unfolding request_of
-returns-clause-told c = λ v b e bytes p. said_none v requests e b bytes (kept_fault asked _ e p)
+returns-clause-told c = λ v b e bytes p. said_none v requests e b bytes (kept_fault request_held _ e p)
 
 pub returns-clause-back : goal.returns-clause-back
 unfolding request_of
-returns-clause-back c = λ v b m bytes p. means_told asks asked v requests (told_asks v) b bytes m (said_in v requests b) refl p
+returns-clause-back c = λ v b m bytes p. means_told request_contents request_held v requests (told_asks v) b bytes m (contents_in v requests b) refl p

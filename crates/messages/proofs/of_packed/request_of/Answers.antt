@@ -1,20 +1,20 @@
 use Rattle.messages.specs.Table.{requests}
-use Rattle.messages.specs.View.{ask}
-use Rattle.messages.specs.Reading.{asks}
-use Rattle.messages.specs.Messages.{asked, request_of}
+use Rattle.messages.specs.View.{request_view}
+use Rattle.messages.specs.Reading.{request_contents}
+use Rattle.messages.specs.Messages.{request_held, request_of}
 use Rattle.messages.proofs.Meanings.{gives_message, gives_fault, gives_same, asked_back}
 use Rattle.messages.proofs.Valued.{spelled_answers}
 use Rattle.messages.proofs.of_packed.request_of.Goals as goal
 
 pub returns-clause-request : goal.returns-clause-request
-returns-clause-request c = λ b m spells. gives_message ask asks asked asked_back c.args.version requests b spells.0 c.request_of_value.result
-    (spelled_answers (λ r. asks (ask r)) c.args.version requests _ c.args.packed.now b c.request_of_value.result c.value.ensures.same c.value.ensures.good spells c.request_of_value.ensures) m
+returns-clause-request c = λ b m spells. gives_message request_view request_contents request_held asked_back c.args.version requests b spells.0 c.request_of_value.result
+    (spelled_answers (λ r. request_contents (request_view r)) c.args.version requests _ c.args.packed.now b c.request_of_value.result c.value.ensures.same c.value.ensures.good spells c.request_of_value.ensures) m
 
 pub returns-clause-fault : goal.returns-clause-fault
-returns-clause-fault c = λ b e spells. gives_fault (λ r. asks (ask r)) c.args.version requests b spells.0 c.request_of_value.result
-    (spelled_answers (λ r. asks (ask r)) c.args.version requests _ c.args.packed.now b c.request_of_value.result c.value.ensures.same c.value.ensures.good spells c.request_of_value.ensures) e
+returns-clause-fault c = λ b e spells. gives_fault (λ r. request_contents (request_view r)) c.args.version requests b spells.0 c.request_of_value.result
+    (spelled_answers (λ r. request_contents (request_view r)) c.args.version requests _ c.args.packed.now b c.request_of_value.result c.value.ensures.same c.value.ensures.good spells c.request_of_value.ensures) e
 
 pub returns-clause-same : goal.returns-clause-same
 unfolding request_of
-returns-clause-same c = λ b spells. gives_same ask asks asked asked_back c.request_of_value.result _
-    (spelled_answers (λ r. asks (ask r)) c.args.version requests _ c.args.packed.now b c.request_of_value.result c.value.ensures.same c.value.ensures.good spells c.request_of_value.ensures)
+returns-clause-same c = λ b spells. gives_same request_view request_contents request_held asked_back c.request_of_value.result _
+    (spelled_answers (λ r. request_contents (request_view r)) c.args.version requests _ c.args.packed.now b c.request_of_value.result c.value.ensures.same c.value.ensures.good spells c.request_of_value.ensures)

@@ -1,20 +1,20 @@
 use Rattle.messages.specs.Table.{responses}
-use Rattle.messages.specs.View.{say}
-use Rattle.messages.specs.Reading.{says}
-use Rattle.messages.specs.Messages.{answered, response_of}
+use Rattle.messages.specs.View.{response_view}
+use Rattle.messages.specs.Reading.{response_contents}
+use Rattle.messages.specs.Messages.{response_held, response_of}
 use Rattle.messages.proofs.Meanings.{gives_message, gives_fault, gives_same, answered_back}
 use Rattle.messages.proofs.Valued.{spelled_answers}
 use Rattle.messages.proofs.of_packed.response_of.Goals as goal
 
 pub returns-clause-response : goal.returns-clause-response
-returns-clause-response c = λ b m spells. gives_message say says answered answered_back c.args.version responses b spells.0 c.response_of_value.result
-    (spelled_answers (λ r. says (say r)) c.args.version responses _ c.args.packed.now b c.response_of_value.result c.value.ensures.same c.value.ensures.good spells c.response_of_value.ensures) m
+returns-clause-response c = λ b m spells. gives_message response_view response_contents response_held answered_back c.args.version responses b spells.0 c.response_of_value.result
+    (spelled_answers (λ r. response_contents (response_view r)) c.args.version responses _ c.args.packed.now b c.response_of_value.result c.value.ensures.same c.value.ensures.good spells c.response_of_value.ensures) m
 
 pub returns-clause-fault : goal.returns-clause-fault
-returns-clause-fault c = λ b e spells. gives_fault (λ r. says (say r)) c.args.version responses b spells.0 c.response_of_value.result
-    (spelled_answers (λ r. says (say r)) c.args.version responses _ c.args.packed.now b c.response_of_value.result c.value.ensures.same c.value.ensures.good spells c.response_of_value.ensures) e
+returns-clause-fault c = λ b e spells. gives_fault (λ r. response_contents (response_view r)) c.args.version responses b spells.0 c.response_of_value.result
+    (spelled_answers (λ r. response_contents (response_view r)) c.args.version responses _ c.args.packed.now b c.response_of_value.result c.value.ensures.same c.value.ensures.good spells c.response_of_value.ensures) e
 
 pub returns-clause-same : goal.returns-clause-same
 unfolding response_of
-returns-clause-same c = λ b spells. gives_same say says answered answered_back c.response_of_value.result _
-    (spelled_answers (λ r. says (say r)) c.args.version responses _ c.args.packed.now b c.response_of_value.result c.value.ensures.same c.value.ensures.good spells c.response_of_value.ensures)
+returns-clause-same c = λ b spells. gives_same response_view response_contents response_held answered_back c.response_of_value.result _
+    (spelled_answers (λ r. response_contents (response_view r)) c.args.version responses _ c.args.packed.now b c.response_of_value.result c.value.ensures.same c.value.ensures.good spells c.response_of_value.ensures)

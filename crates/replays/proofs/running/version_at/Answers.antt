@@ -1,5 +1,5 @@
 use Rattle.std.proofs.Common.{sym, ap, ◌∙◌}
-use Rattle.wire.specs.Offers.{wished}
+use Rattle.wire.specs.Offers.{wish_version}
 use Rattle.world.specs.World.{wish_of}
 use Rattle.replays.specs.Events.{version_of}
 use Rattle.replays.proofs.running.version_at.Goals as goal
@@ -10,4 +10,4 @@ returns-in-None g c = λ gate brought w reached fits. sym (ap version_of (c.in-N
 pub returns-in-Some : goal.returns-in-Some
 returns-in-Some g c = λ gate brought w reached fits.
     let h = c.in-Some.ensures gate brought w reached fits in
-    c.wished.ensures ∙ ap (λ p. wished (wish_of p)) h.2.peer ∙ sym (ap version_of h.1)
+    c.wished.ensures ∙ ap (λ p. wish_version (wish_of p)) h.2.peer ∙ sym (ap version_of h.1)

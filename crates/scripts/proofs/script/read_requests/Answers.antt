@@ -1,6 +1,6 @@
 use Rattle.std.proofs.Common.{[], sym, ◌∙◌, ◌+◌, subst, drop}
 use Rattle.scripts.specs.Rows.{request_line_of}
-use Rattle.scripts.specs.Views.{request_view}
+use Rattle.scripts.specs.Views.{script_request_view}
 use Rattle.scripts.specs.Script.{said_requests}
 use Rattle.scripts.proofs.Lines.{HasRead, texts, skips_line, reads_line, stops_line, pushed}
 use Rattle.scripts.proofs.script.read_requests.Goals as goal
@@ -15,5 +15,5 @@ returns-in-Err c =
 
 pub loop-before-preserved : goal.loop-before-preserved
 loop-before-preserved c =
-    subst (λ out. HasRead request_line_of c.args.bytes.now out (c.loop-before.before + 1 + 1) (drop (c.loop-before.before + 1) (texts c.deref-line-items.result.now))) (pushed (λ l. (l.number, request_view l.said)) c.loop-before.said.items c.push.new.self.items _ c.in-Ok-push.ensures.items)
-    (reads_line request_line_of c.args.bytes.now (said_requests c.loop-before.said.items) c.deref-line-items.result.now c.loop-before.before (record { ref_ptr = (0, 0); now = [] }) (request_view c.in-Ok-read_request.here) c.loop-before-test.true c.loop-before.invariant (sym c.is_empty.ensures ∙ c.if-is_empty.false) c.in-Ok-read_request.ensures)
+    subst (λ out. HasRead request_line_of c.args.bytes.now out (c.loop-before.before + 1 + 1) (drop (c.loop-before.before + 1) (texts c.deref-line-items.result.now))) (pushed (λ l. (l.number, script_request_view l.said)) c.loop-before.said.items c.push.new.self.items _ c.in-Ok-push.ensures.items)
+    (reads_line request_line_of c.args.bytes.now (said_requests c.loop-before.said.items) c.deref-line-items.result.now c.loop-before.before (record { ref_ptr = (0, 0); now = [] }) (script_request_view c.in-Ok-read_request.here) c.loop-before-test.true c.loop-before.invariant (sym c.is_empty.ensures ∙ c.if-is_empty.false) c.in-Ok-read_request.ensures)

@@ -1,7 +1,7 @@
 use Rattle.std.proofs.Common.{subst, Option, Ok}
 use Rattle.server.specs.Serving.{setting}
 use Rattle.server.specs.Views.{Fits}
-use Rattle.streams.specs.Conversing.{settled}
+use Rattle.streams.specs.Conversing.{talk_of_due}
 use Rattle.streams.specs.Settling.{Steps}
 use Rattle.streams.specs.declared.fault.Standing.{Standing}
 use Rattle.streams.proofs.Going.{goes_first, goes_not, goes_further, goes_whole, goes_wrong, goes_no_further}
@@ -31,13 +31,13 @@ returns-in-Ok-Some-clause-settles g c = λ r u ledger k i p f.
     let new = g.O.Sink.taken c.work_once.new.sink in
     let o = c.loop.invariant.goes r u ledger k i p f in
     let h = subst (λ (x : Option Standing). Steps r c.args.conn u o.1 o.2 S o.0 Then old new (Ok x)) c.in-Ok-Some.field-0-is (c.in-Ok-Some.ensures.steps r u o.1 o.2 o.0 i o.5 o.6 o.7 o.8) in
-    goes_whole r c.args.conn u S (settled S c.args.conn ledger k) (g.O.Sink.taken c.args.sink.now) Now Then old new o c.in-Ok-Some.standing h
+    goes_whole r c.args.conn u S (talk_of_due S c.args.conn ledger k) (g.O.Sink.taken c.args.sink.now) Now Then old new o c.in-Ok-Some.standing h
 
 pub returns-in-Err-work_once-clause-settles : goal.returns-in-Err-work_once-clause-settles
 returns-in-Err-work_once-clause-settles g c = λ r u ledger k i p f.
     let S = setting g.E.Engine.answer g.G.Gate.accepts r in
     let o = c.loop.invariant.goes r u ledger k i p f in
-    goes_wrong r c.args.conn u S (settled S c.args.conn ledger k) (g.O.Sink.taken c.args.sink.now) (Fits g.E.Engine.entries c.loop.server) (Fits g.E.Engine.entries c.work_once.new.server) (g.O.Sink.taken c.loop.sink) (g.O.Sink.taken c.work_once.new.sink) o
+    goes_wrong r c.args.conn u S (talk_of_due S c.args.conn ledger k) (g.O.Sink.taken c.args.sink.now) (Fits g.E.Engine.entries c.loop.server) (Fits g.E.Engine.entries c.work_once.new.server) (g.O.Sink.taken c.loop.sink) (g.O.Sink.taken c.work_once.new.sink) o
     c.in-Err-work_once.fault (c.in-Err-work_once.ensures.steps r u o.1 o.2 o.0 i o.5 o.6 o.7 o.8)
 
 pub loop-preserved : goal.loop-preserved
@@ -51,7 +51,7 @@ loop-preserved g c = record {
       let new = g.O.Sink.taken c.work_once.new.sink in
       let o = c.loop.invariant.goes r u ledger k i p f in
       let h = subst (λ (x : Option Standing). Steps r c.args.conn u o.1 o.2 S o.0 Then old new (Ok x)) c.in-Ok-None.field-0-is (c.in-Ok-None.ensures.steps r u o.1 o.2 o.0 i o.5 o.6 o.7 o.8) in
-      goes_further r c.args.conn u S (settled S c.args.conn ledger k) (g.O.Sink.taken c.args.sink.now) (Fits g.E.Engine.entries c.loop.server) Then old new o h;
+      goes_further r c.args.conn u S (talk_of_due S c.args.conn ledger k) (g.O.Sink.taken c.args.sink.now) (Fits g.E.Engine.entries c.loop.server) Then old new o h;
 }
 
 pub returns-clause-live : goal.returns-clause-live
@@ -59,7 +59,7 @@ returns-clause-live g c = c.loop.invariant.live
 
 pub returns-clause-settles : goal.returns-clause-settles
 returns-clause-settles g c = λ r u ledger k i p f.
-    goes_no_further r c.args.conn u (setting g.E.Engine.answer g.G.Gate.accepts r) (settled (setting g.E.Engine.answer g.G.Gate.accepts r) c.args.conn ledger k) (g.O.Sink.taken c.args.sink.now)
+    goes_no_further r c.args.conn u (setting g.E.Engine.answer g.G.Gate.accepts r) (talk_of_due (setting g.E.Engine.answer g.G.Gate.accepts r) c.args.conn ledger k) (g.O.Sink.taken c.args.sink.now)
     (Fits g.E.Engine.entries c.loop.server) (Fits g.E.Engine.entries c.loop.server) (g.O.Sink.taken c.loop.sink) (g.O.Sink.taken c.loop.sink) (c.loop.invariant.goes r u ledger k i p f)
 
 pub returns-in-Ok-Some-clause-grows : goal.returns-in-Ok-Some-clause-grows

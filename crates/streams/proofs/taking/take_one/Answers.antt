@@ -1,4 +1,4 @@
-use Rattle.server.specs.Rest.{fed, arrival}
+use Rattle.server.specs.Rest.{after_item, arrival}
 use Rattle.server.specs.Serving.{setting}
 use Rattle.server.specs.Views.{Fits}
 use Rattle.wire.specs.Reader.{state, takes}
@@ -22,7 +22,7 @@ returns-in-Ok-settle-clause-takes g c = λ r before up i e s.
     let u = takes at_server (state at_server at_server.start up) c.args.piece.now in
     let f = c.in-Ok.ensures.feeds r (state at_server at_server.start up) t.ledger t.kept i (open_not_shut r c.args.conn S up e) s.0 in
     one_taken r c.args.conn S up c.args.piece.now e (Fits g.E.Engine.entries c.settle.new.server) before (g.O.Sink.taken c.args.sink.now) (g.O.Sink.taken c.settle.new.sink) s.1 c.in-Ok.used c.in-Ok-settle.standing f.0
-    (c.in-Ok-settle.ensures.settles r u.rest t.ledger (fed t.kept (arrival t.kept u.item)) i (next_placed r c.args.conn S up c.args.piece.now e) f.1)
+    (c.in-Ok-settle.ensures.settles r u.rest t.ledger (after_item t.kept (arrival t.kept u.item)) i (next_placed r c.args.conn S up c.args.piece.now e) f.1)
 
 pub returns-in-Err-settle-clause-takes : goal.returns-in-Err-settle-clause-takes
 returns-in-Err-settle-clause-takes g c = λ r before up i e s.
@@ -31,7 +31,7 @@ returns-in-Err-settle-clause-takes g c = λ r before up i e s.
     let u = takes at_server (state at_server at_server.start up) c.args.piece.now in
     let f = c.in-Ok.ensures.feeds r (state at_server at_server.start up) t.ledger t.kept i (open_not_shut r c.args.conn S up e) s.0 in
     one_broken r c.args.conn S up c.args.piece.now e (Fits g.E.Engine.entries c.settle.new.server) before (g.O.Sink.taken c.args.sink.now) (g.O.Sink.taken c.settle.new.sink) s.1 c.in-Err-settle.fault
-    (c.in-Err-settle.ensures.settles r u.rest t.ledger (fed t.kept (arrival t.kept u.item)) i (next_placed r c.args.conn S up c.args.piece.now e) f.1)
+    (c.in-Err-settle.ensures.settles r u.rest t.ledger (after_item t.kept (arrival t.kept u.item)) i (next_placed r c.args.conn S up c.args.piece.now e) f.1)
 
 pub returns-in-Ok-settle-clause-grows : goal.returns-in-Ok-settle-clause-grows
 returns-in-Ok-settle-clause-grows g c = lives_then c.args.conn (Fits g.E.Engine.entries c.args.server.now) (Fits g.E.Engine.entries c.feed_one.new.server) (Fits g.E.Engine.entries c.settle.new.server) c.feed_one.ensures.grows c.settle.ensures.grows

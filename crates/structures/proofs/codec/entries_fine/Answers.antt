@@ -3,7 +3,7 @@ use Rattle.packstream.specs.Tree.{dict}
 use Rattle.packstream.specs.View.{entries_of}
 use Rattle.structures.specs.Faults.{structures}
 use Rattle.structures.specs.Shape.{entries}
-use Rattle.structures.specs.Writing.{unwritten}
+use Rattle.structures.specs.Writing.{fault_of_structure}
 use Rattle.structures.proofs.Scanning.{tree-Dict}
 use Rattle.structures.proofs.Fine.{fine_scan}
 use Rattle.structures.proofs.Packing.{packed_is}
@@ -12,7 +12,7 @@ use Rattle.structures.proofs.Written.{form_pairs}
 use Rattle.structures.proofs.codec.entries_fine.Goals as goal
 
 pub pair_values-requires : goal.pair_values-requires
-pair_values-requires c = fine_scan (unwritten c.args.version) 0 c.requires.0 (structures (dict (entries_of (entries c.args.pairs.now.items)))) c.requires.1
+pair_values-requires c = fine_scan (fault_of_structure c.args.version) 0 c.requires.0 (structures (dict (entries_of (entries c.args.pairs.now.items)))) c.requires.1
 
 pub returns : goal.returns
 returns c =

@@ -3,7 +3,7 @@ use Rattle.packstream.specs.Tree.{Tree, list}
 use Rattle.packstream.specs.View.{trees_of}
 use Rattle.structures.specs.Faults.{structures}
 use Rattle.structures.specs.Shape.{shapes}
-use Rattle.structures.specs.Writing.{unwritten}
+use Rattle.structures.specs.Writing.{fault_of_structure}
 use Rattle.structures.proofs.Faulty.{tree-List}
 use Rattle.structures.proofs.Fine.{fine_scan}
 use Rattle.structures.proofs.Packing.{packed_is}
@@ -12,7 +12,7 @@ use Rattle.structures.proofs.Written.{form_list}
 use Rattle.structures.proofs.codec.members_fine.Goals as goal
 
 pub values_of-requires : goal.values_of-requires
-values_of-requires c = fine_scan (unwritten c.args.version) 0 c.requires.0 (structures (list (trees_of (shapes c.args.members.now.items)))) c.requires.1
+values_of-requires c = fine_scan (fault_of_structure c.args.version) 0 c.requires.0 (structures (list (trees_of (shapes c.args.members.now.items)))) c.requires.1
 
 pub returns : goal.returns
 returns c =

@@ -1,5 +1,11 @@
-use Rattle.std.proofs.Common.{sym}
+use Rattle.packstream.specs.Tree.{dict}
+use Rattle.packstream.specs.View.{entries_of}
+use Rattle.structures.specs.Shape.{entries}
+use Rattle.structures.proofs.Clauses.{writes_value, writes_pack}
 use Rattle.structures.proofs.codec.write_entries.Goals as goal
 
-pub entries_fine-requires : goal.entries_fine-requires
-entries_fine-requires c = (c.in-Ok.field-0, sym c.in-Ok.ensures)
+pub returns-clause-value : goal.returns-clause-value
+returns-clause-value c = writes_value c.args.version (dict (entries_of (entries c.args.pairs.now.items))) c.write_dict.result c.write_dict.ensures
+
+pub returns-clause-pack : goal.returns-clause-pack
+returns-clause-pack c = writes_pack c.args.version (dict (entries_of (entries c.args.pairs.now.items))) c.write_dict.result c.write_dict.ensures

@@ -1,5 +1,11 @@
-use Rattle.std.proofs.Common.{sym}
+use Rattle.packstream.specs.Tree.{list}
+use Rattle.packstream.specs.View.{trees_of}
+use Rattle.structures.specs.Shape.{shapes}
+use Rattle.structures.proofs.Clauses.{writes_value, writes_pack}
 use Rattle.structures.proofs.codec.write_members.Goals as goal
 
-pub members_fine-requires : goal.members_fine-requires
-members_fine-requires c = (c.in-Ok.field-0, sym c.in-Ok.ensures)
+pub returns-clause-value : goal.returns-clause-value
+returns-clause-value c = writes_value c.args.version (list (trees_of (shapes c.args.members.now.items))) c.write_list.result c.write_list.ensures
+
+pub returns-clause-pack : goal.returns-clause-pack
+returns-clause-pack c = writes_pack c.args.version (list (trees_of (shapes c.args.members.now.items))) c.write_list.result c.write_list.ensures

@@ -1,6 +1,6 @@
 use Rattle.structures.specs.Faults.{structures}
 use Rattle.structures.specs.Shape.{shape}
-use Rattle.structures.specs.Writing.{unwritten}
+use Rattle.structures.specs.Writing.{fault_of_structure}
 use Rattle.structures.proofs.Back.{back}
 use Rattle.structures.proofs.Fine.{fine_scan}
 use Rattle.structures.proofs.Formed.{form_is}
@@ -11,4 +11,4 @@ pub returns-clause-back : goal.returns-clause-back
 returns-clause-back c = λ v x. back v (shape x) (typed_shape x)
 
 pub returns-clause-form : goal.returns-clause-form
-returns-clause-form c = λ v x w. form_is v x (fine_scan (unwritten v) 0 w.0 (structures (shape x)) w.1)
+returns-clause-form c = λ v x w. form_is v x (fine_scan (fault_of_structure v) 0 w.0 (structures (shape x)) w.1)

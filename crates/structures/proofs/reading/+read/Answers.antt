@@ -3,7 +3,7 @@ use Rattle.std.proofs.lemmas.List.Elements.{same_from_all_zip}
 use Rattle.packstream.specs.Tree.{Tree, Trees, int, list, dict, structure, no_trees, tree_then}
 use Rattle.packstream.specs.View.{tree, entry, trees, trees_of, entries_of, entries as seen_entries}
 use Rattle.packstream.specs.declared.value.Value.{the_lemmas as value_lemmas}
-use Rattle.structures.specs.declared.table.Field.TheVariants.{Whole, Text, Labels, Properties, Nodes, Relationships, Indices}
+use Rattle.structures.specs.declared.table.Field.TheVariants.{Integer, Text, Labels, Properties, Nodes, Relationships, Indices}
 use Rattle.structures.specs.Faults.{structures, fault, is_list_of, has_tag}
 use Rattle.structures.specs.Form.{typed}
 use Rattle.structures.specs.Steps.{all_fine}
@@ -70,7 +70,7 @@ node_of-returns t c =
     let a1 = rw c.deref-2.ensures.value at c.in_ok-labels.ensures in
     let a3 = rw c.deref-3.ensures.value at c.in_ok-element_id.ensures.absent in
     let a4 = rw c.deref-3.ensures.value at c.in_ok-element_id.ensures.there in
-    let e = named_by c.args.version 0x4E (trees_of (trees xs)) Whole Labels Properties (int c.int_at-id.result) (texts_of c.in_ok-labels.labels.items) (dict (entries_of (entries c.in_ok-properties.properties.items))) (element_of c.in_ok-element_id.element_id) refl refl c.requires.fine (a0, (a1, (c.in_ok-properties.ensures, tt)))
+    let e = named_by c.args.version 0x4E (trees_of (trees xs)) Integer Labels Properties (int c.int_at-id.result) (texts_of c.in_ok-labels.labels.items) (dict (entries_of (entries c.in_ok-properties.properties.items))) (element_of c.in_ok-element_id.element_id) refl refl c.requires.fine (a0, (a1, (c.in_ok-properties.ensures, tt)))
     (λ n. a3 (sym (count_seen xs) ∙ n)) (λ n. a4 (omega (arith, count_seen xs))) in
     node-roll _ ∙ ap (λ (n : ℤ). structure 0x4E (tree_then (int n) (tree_then (texts_of c.in_ok-labels.labels.items) (tree_then (dict (entries_of (entries c.in_ok-properties.properties.items))) (element_of c.in_ok-element_id.element_id))))) z ∙ ap (λ (x : Trees). structure 0x4E x) e
 
@@ -82,7 +82,7 @@ unbound_of-returns t c =
     let a1 = rw c.deref-2.ensures.value at c.in_ok-kind.ensures in
     let a3 = rw c.deref-3.ensures.value at c.in_ok-element_id.ensures.absent in
     let a4 = rw c.deref-3.ensures.value at c.in_ok-element_id.ensures.there in
-    let e = named_by c.args.version 0x72 (trees_of (trees xs)) Whole Text Properties (int c.int_at-id.result) (text_of c.in_ok-kind.kind) (dict (entries_of (entries c.in_ok-properties.properties.items))) (element_of c.in_ok-element_id.element_id) refl refl c.requires.fine (a0, (a1, (c.in_ok-properties.ensures, tt)))
+    let e = named_by c.args.version 0x72 (trees_of (trees xs)) Integer Text Properties (int c.int_at-id.result) (text_of c.in_ok-kind.kind) (dict (entries_of (entries c.in_ok-properties.properties.items))) (element_of c.in_ok-element_id.element_id) refl refl c.requires.fine (a0, (a1, (c.in_ok-properties.ensures, tt)))
     (λ n. a3 (sym (count_seen xs) ∙ n)) (λ n. a4 (omega (arith, count_seen xs))) in
     unbound-roll _ ∙ ap (λ (n : ℤ). structure 0x72 (tree_then (int n) (tree_then (text_of c.in_ok-kind.kind) (tree_then (dict (entries_of (entries c.in_ok-properties.properties.items))) (element_of c.in_ok-element_id.element_id))))) z ∙ ap (λ (x : Trees). structure 0x72 x) e
 

@@ -6,7 +6,7 @@ use Rattle.packstream.specs.declared.value.Value.{the_lemmas as value_lemmas}
 use Rattle.structures.specs.Faults.{structures}
 use Rattle.structures.specs.Form.{form}
 use Rattle.structures.specs.Steps.{all_fine}
-use Rattle.structures.specs.Writing.{unwritten}
+use Rattle.structures.specs.Writing.{fault_of_structure}
 use Rattle.structures.proofs.Fine.{fine_member, fine_pair}
 use Rattle.structures.proofs.Judged.{node_fine, unbound_fine, relationship_fine, path_nodes_fine, path_unbounds_fine}
 use Rattle.structures.specs.Shape.{shape, shapes, entry, entries, node_shape, unbound_shape}
@@ -54,43 +54,43 @@ value_of-returns-in_ok-of_path-in-Path t c =
     c.in_ok-of_path-in-Path.ensures ∙ path_written c.args.version (map node_shape w.nodes.items) (map unbound_shape w.relationships.items) w.indices.items _ _ (tree c.in_ok-steps-in-Path.steps) (tree-List _ ∙ ap (λ (ts : List Tree). list (trees_of ts)) c.in_ok-node_values-in-Path.ensures) (tree-List _ ∙ ap (λ (ts : List Tree). list (trees_of ts)) c.in_ok-unbound_values-in-Path.ensures) (search rules) ∙ ap (form c.args.version) (sym (ap shape w.is ∙ shape-Path w.nodes w.relationships w.indices))
 
 pub value_of-pair_values-requires : goal.value_of-pair_values-requires
-value_of-pair_values-requires t c = (search (rules, the_lemmas), sym (ap (λ (u : Tree). all_fine (unwritten c.args.version) (structures u)) (ap shape c.in-Dict.is ∙ shape-Dict c.in-Dict.pairs)) ∙ c.requires)
+value_of-pair_values-requires t c = (search (rules, the_lemmas), sym (ap (λ (u : Tree). all_fine (fault_of_structure c.args.version) (structures u)) (ap shape c.in-Dict.is ∙ shape-Dict c.in-Dict.pairs)) ∙ c.requires)
 
 pub value_of-node_values-requires : goal.value_of-node_values-requires
 value_of-node_values-requires t c =
     let w = c.in-Path in
-    let h = sym (ap (λ (u : Tree). all_fine (unwritten c.args.version) (structures u)) (ap shape w.is ∙ shape-Path w.nodes w.relationships w.indices)) ∙ c.requires in
-    (search (rules, the_lemmas), path_nodes_fine (unwritten c.args.version) (map node_shape w.nodes.items) (map unbound_shape w.relationships.items) w.indices.items h)
+    let h = sym (ap (λ (u : Tree). all_fine (fault_of_structure c.args.version) (structures u)) (ap shape w.is ∙ shape-Path w.nodes w.relationships w.indices)) ∙ c.requires in
+    (search (rules, the_lemmas), path_nodes_fine (fault_of_structure c.args.version) (map node_shape w.nodes.items) (map unbound_shape w.relationships.items) w.indices.items h)
 
 pub value_of-unbound_values-requires : goal.value_of-unbound_values-requires
 value_of-unbound_values-requires t c =
     let w = c.in-Path in
-    let h = sym (ap (λ (u : Tree). all_fine (unwritten c.args.version) (structures u)) (ap shape w.is ∙ shape-Path w.nodes w.relationships w.indices)) ∙ c.requires in
-    (search (rules, the_lemmas), path_unbounds_fine (unwritten c.args.version) (map node_shape w.nodes.items) (map unbound_shape w.relationships.items) w.indices.items h)
+    let h = sym (ap (λ (u : Tree). all_fine (fault_of_structure c.args.version) (structures u)) (ap shape w.is ∙ shape-Path w.nodes w.relationships w.indices)) ∙ c.requires in
+    (search (rules, the_lemmas), path_unbounds_fine (fault_of_structure c.args.version) (map node_shape w.nodes.items) (map unbound_shape w.relationships.items) w.indices.items h)
 
 pub values_of-value_of-requires : goal.values_of-value_of-requires
-values_of-value_of-requires t c = (search (rules, the_lemmas), fine_member shape (unwritten c.args.version) c.args.members.now.items c.loop-member.member-index c.member-item.result (search rules) (search rules) c.requires)
+values_of-value_of-requires t c = (search (rules, the_lemmas), fine_member shape (fault_of_structure c.args.version) c.args.members.now.items c.loop-member.member-index c.member-item.result (search rules) (search rules) c.requires)
 
 pub pair_values-value_of-requires : goal.pair_values-value_of-requires
-pair_values-value_of-requires t c = (search (rules, the_lemmas), fine_pair entry (unwritten c.args.version) c.args.pairs.now.items c.loop-key.key-index c.loop-key-item.result (search rules) (search rules) c.requires)
+pair_values-value_of-requires t c = (search (rules, the_lemmas), fine_pair entry (fault_of_structure c.args.version) c.args.pairs.now.items c.loop-key.key-index c.loop-key-item.result (search rules) (search rules) c.requires)
 
 pub node_values-node_value-requires : goal.node_values-node_value-requires
-node_values-node_value-requires t c = (search (rules, the_lemmas), fine_member node_shape (unwritten c.args.version) c.args.nodes.now.items c.loop-node.node-index c.node-item.result (search rules) (search rules) c.requires)
+node_values-node_value-requires t c = (search (rules, the_lemmas), fine_member node_shape (fault_of_structure c.args.version) c.args.nodes.now.items c.loop-node.node-index c.node-item.result (search rules) (search rules) c.requires)
 
 pub unbound_values-unbound_value-requires : goal.unbound_values-unbound_value-requires
-unbound_values-unbound_value-requires t c = (search (rules, the_lemmas), fine_member unbound_shape (unwritten c.args.version) c.args.relationships.now.items c.loop-unbound.unbound-index c.unbound-item.result (search rules) (search rules) c.requires)
+unbound_values-unbound_value-requires t c = (search (rules, the_lemmas), fine_member unbound_shape (fault_of_structure c.args.version) c.args.relationships.now.items c.loop-unbound.unbound-index c.unbound-item.result (search rules) (search rules) c.requires)
 
 pub node_value-pair_values-requires : goal.node_value-pair_values-requires
 node_value-pair_values-requires t c =
     let n = c.args.node.now in
-    (search (rules, the_lemmas), node_fine (unwritten c.args.version) n.id n.labels.items n.properties.items n.element_id (sym (ap (λ (u : Tree). all_fine (unwritten c.args.version) (structures u)) (node-out n)) ∙ c.requires))
+    (search (rules, the_lemmas), node_fine (fault_of_structure c.args.version) n.id n.labels.items n.properties.items n.element_id (sym (ap (λ (u : Tree). all_fine (fault_of_structure c.args.version) (structures u)) (node-out n)) ∙ c.requires))
 
 pub unbound_value-pair_values-requires : goal.unbound_value-pair_values-requires
 unbound_value-pair_values-requires t c =
     let n = c.args.unbound.now in
-    (search (rules, the_lemmas), unbound_fine (unwritten c.args.version) n.id n.kind n.properties.items n.element_id (sym (ap (λ (u : Tree). all_fine (unwritten c.args.version) (structures u)) (unbound-out n)) ∙ c.requires))
+    (search (rules, the_lemmas), unbound_fine (fault_of_structure c.args.version) n.id n.kind n.properties.items n.element_id (sym (ap (λ (u : Tree). all_fine (fault_of_structure c.args.version) (structures u)) (unbound-out n)) ∙ c.requires))
 
 pub relationship_value-pair_values-requires : goal.relationship_value-pair_values-requires
 relationship_value-pair_values-requires t c =
     let n = c.args.relationship.now in
-    (search (rules, the_lemmas), relationship_fine (unwritten c.args.version) n.id n.start n.end n.kind n.properties.items n.element_ids (sym (ap (λ (u : Tree). all_fine (unwritten c.args.version) (structures u)) (relationship-out n)) ∙ c.requires))
+    (search (rules, the_lemmas), relationship_fine (fault_of_structure c.args.version) n.id n.start n.end n.kind n.properties.items n.element_ids (sym (ap (λ (u : Tree). all_fine (fault_of_structure c.args.version) (structures u)) (relationship-out n)) ∙ c.requires))

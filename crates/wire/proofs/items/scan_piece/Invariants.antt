@@ -1,6 +1,6 @@
 use Rattle.std.proofs.Common.{◌≡◌, ◌-◌, ◌≤◌, false, length, take, drop}
 use Rattle.wire.specs.Items.{answer_from, further}
-use Rattle.wire.specs.Unfinished.{unfinished}
+use Rattle.wire.specs.Unfinished.{unfinished_at}
 use Rattle.wire.specs.Scanning.{Holds}
 use Rattle.wire.proofs.items.scan_piece.Given as goal
 
@@ -10,7 +10,7 @@ invariant-loop-used l = record {
   holds : Holds l.body.items l.chunks;
   going : l.chunks.too_big ≡ false;
   kept : take (length l.fn.body.items) l.body.items ≡ l.fn.body.items;
-  ahead : answer_from (unfinished l.fn.chunks l.fn.body.items) l.piece ≡ further l.used (answer_from (unfinished l.chunks l.body.items) (drop l.used l.piece));
+  ahead : answer_from (unfinished_at l.fn.chunks l.fn.body.items) l.piece ≡ further l.used (answer_from (unfinished_at l.chunks l.body.items) (drop l.used l.piece));
 }
 
 abbrev pub decreases-loop-used : goal.decreases-loop-used

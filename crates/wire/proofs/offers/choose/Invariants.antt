@@ -1,6 +1,6 @@
 use Rattle.std.proofs.Common.{◌≡◌, ◌+◌, ◌*◌, drop}
-use Rattle.wire.specs.Offers.{chosen}
+use Rattle.wire.specs.Offers.{choice_of}
 use Rattle.wire.proofs.offers.choose.Given as goal
 
 abbrev pub invariant-loop-at : goal.invariant-loop-at
-invariant-loop-at l = chosen (drop 4 l.offer) ≡ chosen (drop (4 + 4 * l.at) l.offer)
+invariant-loop-at l = choice_of (drop 4 l.offer) ≡ choice_of (drop (4 + 4 * l.at) l.offer)

@@ -54,7 +54,7 @@ returns-in_default-feed g c = λ r w b.
     (sym (c.has_ended.ensures y.0 y.2) ∙ c.if-has_ended.false) c.requires.joined l.gone refl (flow_of c.draw_down.new.down) c.draw_down.new.server
     (c.in-Ok.ensures.draws r.server b.server) e.field-0
     (record l { end = end.Ours o.wish c.feed.new.self o.lost; down = c.draw_down.new.down; read = c.reserve.new.self })
-    (λ differs. ap (λ z. (asking.fed y.0 z).answer) (sym c.front.ensures) ∙ sym (unless (ℕ × Heard) e.field-0 _ (e.ensures.told y.0 y.2) differs).0)
+    (λ differs. ap (λ z. (asking.feed_of y.0 z).answer) (sym c.front.ensures) ∙ sym (unless (ℕ × Heard) e.field-0 _ (e.ensures.told y.0 y.2) differs).0)
     (down_changed o.wish o.client o.lost l o.is b.client b.client c.feed.new.self c.draw_down.new.down c.reserve.new.self _ _ refl (ap (λ z. map read_of z) c.reserve.ensures.items))
     (λ is. subst (FitsEnd (end.Ours o.wish c.feed.new.self o.lost)) (sym y.1) (e.ensures.memory y.0 y.2 (ap (λ z. Err z) is)).0)
 
@@ -65,13 +65,13 @@ returns g c = λ r w b.
     let y = held_client o.wish o.client o.lost l o.is b.client b.ends in
     let e = c.in-Ok-feed in
     let bytes = flow_of c.draw_down.new.down in
-    let Told : List ℕ → Type 0 = λ z. (Ok (e.used, note e.heard) ≡ (asking.fed y.0 z).answer) × client.Fits c.feed.new.self (asking.fed y.0 z).rest in
+    let Told : List ℕ → Type 0 = λ z. (Ok (e.used, note e.heard) ≡ (asking.feed_of y.0 z).answer) × client.Fits c.feed.new.self (asking.feed_of y.0 z).rest in
     let told = subst Told c.front.ensures (e.ensures.told y.0 y.2) in
     given_done g.E.Engine.entries g.E.Engine.answer g.G.Gate.accepts c.args.conn c.args.max l c.args.server.now r w b o.wish (ap end_peer o.is) y.0 y.1
     (sym (c.has_ended.ensures y.0 y.2) ∙ c.if-has_ended.false) c.requires.joined l.gone refl bytes c.draw_down.new.server
     (c.in-Ok.ensures.draws r.server b.server) e.used (note e.heard)
     (record l { end = end.Ours o.wish c.feed.new.self o.lost; down = c.advance.new.self; read = c.note_heard.new.read })
     told.0
-    (down_changed o.wish o.client o.lost l o.is b.client (Some (asking.fed y.0 (take c.args.max bytes)).rest) c.feed.new.self c.advance.new.self c.note_heard.new.read _ _ c.advance.ensures
+    (down_changed o.wish o.client o.lost l o.is b.client (Some (asking.feed_of y.0 (take c.args.max bytes)).rest) c.feed.new.self c.advance.new.self c.note_heard.new.read _ _ c.advance.ensures
     (c.note_heard.ensures ∙ ap (λ z. map read_of z ++ read_after (tellings (note e.heard)) []) c.reserve.ensures.items))
     told.1

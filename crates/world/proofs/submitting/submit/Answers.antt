@@ -3,7 +3,7 @@ use Rattle.world.specs.declared.kinds.Refused.{Refused}
 use Rattle.world.specs.declared.link.End.TheVariants as end
 use Rattle.world.specs.World.{Seen}
 use Rattle.world.specs.Turns.{Holds, Submits}
-use Rattle.messages.specs.View.{ask}
+use Rattle.messages.specs.View.{request_view}
 use Rattle.world.proofs.Holding.{holds_client, holds_then, holds_still, with_end, refused_submits}
 use Rattle.world.proofs.submitting.submit.Goals as goal
 
@@ -21,5 +21,5 @@ returns-in-Err c = λ m h.
     let l = c.args.link.now in
     let r = holds_client o.wish o.client o.lost l o.is m h in
     let now = holds_still o.wish o.client o.lost l m r.0 c.submit.new.self r.3 (c.in-Err.ensures.err r.0 r.2) in
-    let P : Result Seen Refused → Type 0 = λ z. Submits m (ask c.args.request) z (Holds (with_end l (end.Ours o.wish c.submit.new.self o.lost))) in
-    subst P (sym c.refused.ensures) (refused_submits m (ask c.args.request) _ r.0 r.1 now c.in-Err.fault (c.in-Err.ensures.fault r.0 r.2))
+    let P : Result Seen Refused → Type 0 = λ z. Submits m (request_view c.args.request) z (Holds (with_end l (end.Ours o.wish c.submit.new.self o.lost))) in
+    subst P (sym c.refused.ensures) (refused_submits m (request_view c.args.request) _ r.0 r.1 now c.in-Err.fault (c.in-Err.ensures.fault r.0 r.2))

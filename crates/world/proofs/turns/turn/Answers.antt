@@ -1,5 +1,5 @@
 use Rattle.std.proofs.Common.{refl, Ok, true}
-use Rattle.messages.specs.View.{ask}
+use Rattle.messages.specs.View.{request_view}
 use Rattle.world.specs.declared.kinds.Seen.TheVariants as seen
 use Rattle.world.specs.Turns.{seen_in}
 use Rattle.world.specs.Views.{link_of}
@@ -12,7 +12,7 @@ returns-in-Submit g c =
     let l = c.args.link.now in
     let s = c.args.server.now in
     event_is g.E.Engine.entries g.E.Engine.answer g.G.Gate.accepts c.args.event _ l s c.submit.result c.submit.new.link s c.in-Submit.is
-    (λ r w b. submit_turns g.E.Engine.entries g.E.Engine.answer g.G.Gate.accepts c.in-Submit.field-0 l s r w (ask c.in-Submit.request) b (seen_in c.submit.result) c.submit.new.link
+    (λ r w b. submit_turns g.E.Engine.entries g.E.Engine.answer g.G.Gate.accepts c.in-Submit.field-0 l s r w (request_view c.in-Submit.request) b (seen_in c.submit.result) c.submit.new.link
     (c.submit.ensures (link_of l b.client) (b.client, refl, b.ends)))
 
 pub returns-in-ClientLost : goal.returns-in-ClientLost
