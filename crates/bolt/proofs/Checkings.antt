@@ -14,7 +14,9 @@ use Rattle.packstream.specs.Faults.{Bad}
 use Rattle.packstream.specs.Answers.{UnlessMemory}
 use Rattle.packstream.proofs.Checking.{bad_when}
 use Rattle.wire.specs.declared.Version.{Version}
+use Rattle.structures.specs.declared.fault.CellFault.{CellFault}
 use Rattle.structures.specs.declared.fault.CellFault.TheVariants as cell_fault
+use Rattle.structures.specs.Answers.{Reads, Writes}
 use Rattle.structures.specs.Faults.{fault, structures}
 use Rattle.structures.specs.Form.{Form, form}
 use Rattle.structures.proofs.Back.{again}
@@ -22,7 +24,7 @@ use Rattle.structures.proofs.Fine.{fine_scan}
 use Rattle.structures.proofs.Writable.{never_unwritable}
 use Rattle.bolt.specs.declared.checking.Checked.{Checked}
 use Rattle.bolt.specs.declared.checking.Checked.TheVariants.{Fine, Refused, Unfit}
-use Rattle.bolt.specs.Checks.{Checks, ChecksFault, IsSpelled, IsWrittenBack}
+use Rattle.bolt.specs.Checks.{Checks, ChecksFault, IsSpelled, IsUnfit, IsWrittenBack}
 
 -- what the decoder refused
 pub refused_checks : (b : List ℕ) (f : PackFault) (r : Result Tree PackFault) → r ≡ Err f → ((q : Reason) (o : ℕ) → UnlessMemory r ((r ≡ Err (pack.Refused q o)) ↔ Bad b o q)) → ChecksFault b f
@@ -57,3 +59,18 @@ written_checks v b t s c good spells f (inr (cell_fault.Memory, w, is)) = absurd
 pub written_ok : {E : Type 0} (v : Version) (b : List ℕ) (t s : Tree) (r : Result Checked E) → IsGood t → Spells t b → Form v s t → IfOk r (λ c. IsWrittenBack v s c) → IfOk r (λ c. Checks v b c)
 written_ok v b t s (Ok c) good spells f h = written_checks v b t s c good spells f h
 written_ok v b t s (Err e) good spells f h = tt
+
+-- a cell that can't be written is told by its fault
+pub unfit_written : {E : Type 0} (v : Version) (s : Tree) (e : CellFault) (r : Result Checked E) → Writes v s (Err e) → IfOk r (λ c. IsUnfit e c) → IfOk r (λ c. IsWrittenBack v s c)
+unfit_written v s e (Ok c) w h = inr (e, w, h)
+unfit_written v s e (Err x) w h = tt
+
+unfit_is : (v : Version) (b : List ℕ) (t : Tree) (e : CellFault) (c : Checked) → IsGood t → Spells t b → Reads v t (Err e) → IsUnfit e c → Checks v b c
+unfit_is v b t (cell_fault.Refused r k) c good spells w h = subst (λ x. Checks v b x) (sym h) (t, good, spells, w)
+unfit_is v b t (cell_fault.Pack r o) c good spells w h = absurd w
+unfit_is v b t cell_fault.Memory c good spells w h = absurd h
+
+-- a value that is no cell is told by its fault
+pub unfit_checks : {E : Type 0} (v : Version) (b : List ℕ) (t : Tree) (e : CellFault) (r : Result Checked E) → IsGood t → Spells t b → Reads v t (Err e) → IfOk r (λ c. IsUnfit e c) → IfOk r (λ c. Checks v b c)
+unfit_checks v b t e (Ok c) good spells w h = unfit_is v b t e c good spells w h
+unfit_checks v b t e (Err x) good spells w h = tt

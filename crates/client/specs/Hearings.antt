@@ -71,7 +71,7 @@ pub record TakesPiece (v : Option Version) (m : Took Opened Item) (t : Taken) (o
   pub came : came_as t.came ≡ came_in v m.item
   pub goes_on : place.too_big ≡ true → came_as t.came ≡ AnyHeard.Strange
 
--- The answer of a feed, and that the client may stand at the rest after it, told by Now; want of memory changes nothing.
+-- what a feed answers, and that the client stands at the rest after it; not for want of memory
 abbrev pub Feeds : (Rest → Type 0) → Rest → Fed → Result (ℕ × Heard) ClientFault → Type 0
 Feeds Now old f (Ok used) = (note_result (Ok used) ≡ f.answer) × Now f.rest
 Feeds Now old f (Err client_fault.Closed) = (Err client_fault.Closed ≡ f.answer) × Now f.rest

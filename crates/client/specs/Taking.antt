@@ -17,7 +17,7 @@ pub record TakesPart (old : Place) (body bytes : List ℕ) (cut : Cut) (new : Pl
   pub took : TookPart (unfinished_at old body) body bytes (record { cut = cut; place = new })
   pub reads : Reads p (with_data cut.what cut.used bytes body)
 
--- what is answered to a piece with which nothing ends, or this; body is the data that had come by then
+-- what is answered to a piece with whose last byte used this ends; body is the data come by then
 abbrev pub EndsAs : Unfinished → List ℕ → ℕ → List ℕ → Place → End → Type 0
 EndsAs s bytes used body place end.Nothing =
     (answer_from s bytes ≡ record { answer = Ok (record { used = used; what = piece.Nothing }); rest = unfinished_at place body }) × Holds body place × (place.too_big ≡ false)
@@ -26,7 +26,7 @@ EndsAs s bytes used body place end.Noop =
 EndsAs s bytes used body place end.Message = (answer_from s bytes ≡ record { answer = Ok (record { used = used; what = piece.Message body }); rest = fresh }) × (place ≡ start)
 EndsAs s bytes used body place end.TooBig = (answer_from s bytes ≡ record { answer = Err (fault.TooBig used); rest = unfinished_at place body }) × Holds body place
 
--- A piece was taken to the end of the item begun, else all of it, and the data was read.
+-- A piece was taken to the end of the item begun, else all of it, and its data was read.
 pub record TakesItem (s : Unfinished) (bytes : List ℕ) (bite : Bite) (place : Place) (p : Point) : Type 0 where
   pub body : List ℕ
   pub reads : Reads p body

@@ -47,8 +47,8 @@ fn take_part(chunks: &mut Chunks, reader: &mut Reader, piece: &[u8]) -> Result<C
     Ok(cut)
 }
 
-/// Takes a piece to the end of the item begun, else all of it, and reads the data. The reader's held point stays, and for want of
-/// memory it is all that is certain of the reader.
+/// Takes a piece to the end of the item begun, else all of it, and reads its data. For want of memory it is taken in part; the
+/// reader's held point stays.
 pub(crate) fn take_item(
     chunks: &mut Chunks,
     reader: &mut Reader,
