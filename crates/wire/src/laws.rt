@@ -6,7 +6,7 @@ ghost use Rattle.wire.specs.Unfinished.{Unfinished};
 ghost use Rattle.wire.specs.Items.{answer_to};
 ghost use Rattle.wire.specs.Scanning.{CutsAgree};
 ghost use Rattle.wire.specs.Whole.{ReadsMessages, ReadsWhole, OneWhole, RefusesPast, TextsOne, WritesRun, NoShorter, BeginsNone, KeepsFew};
-ghost use Rattle.wire.specs.Stream.{HandsOutItems, ReadsBack, KeepsWithin, ItemsOfParts, SplitsIntoRuns, TellsTooBig, TextIsShort, ReadsTexts, AnswerFacts};
+ghost use Rattle.wire.specs.Stream.{HandsOutItems, ReadsBack, KeepsWithin, ItemsOfParts, SplitsIntoRuns, TellsTooBig, TextIsShort, ReadsTexts, AnswerFacts, TakesFirst};
 
 pub mod framing;
 
@@ -28,6 +28,11 @@ pub fn answers_items()
 /// What `put_message` writes is read as that message.
 pub fn reads_back()
     ensures { ReadsBack }
+{}
+
+/// Of a piece that begins with a message in one chunk, that message is what the piece ends first.
+pub fn takes_first()
+    ensures { TakesFirst }
 {}
 
 /// The unfinished item stays within the limit of a message.

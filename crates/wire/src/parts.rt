@@ -1,8 +1,10 @@
 //! The parts of a stream of chunks, told without keeping any data ("Bolt message chunking").
 
-ghost use Rattle.std.specs.Prelude.{◌≡◌, ℕ, ◌≤◌, ◌+◌, length};
+ghost use Rattle.std.specs.Prelude.{◌≡◌, ◌↔◌, ℕ, ◌≤◌, ◌+◌, IsTrue, List, Some, length};
+ghost use Rattle.std.specs.Option.{option_map};
 ghost use Rattle.wire.specs.Place.{start};
 ghost use Rattle.wire.specs.Parts.{cut_at, whole_header};
+ghost use Rattle.wire.specs.Texts.{BeginsWith};
 
 use crate::MAX_MESSAGE;
 use std::marker::Model;
@@ -136,6 +138,40 @@ impl Chunks {
             used,
             what: Part::Head,
         }
+    }
+
+    /// The message that the piece begins with, lent, where none is begun and it is there whole, in one chunk; else none. The place
+    /// stays: behind the message, which took four bytes more than it has, it is the same. It takes no memory.
+    pub fn message_in<'a>(&self, piece: &'a [u8]) -> Option<&'a [u8]>
+        ensures { (m : List ℕ) → (option_map (λ d. d.now) result ≡ Some m)
+            ↔ ((self.now ≡ start) × BeginsWith m piece.now) }
+    {
+        if !self.is_start() {
+            return None;
+        }
+        let [high, low, rest @ ..] = piece else {
+            return None;
+        };
+        let len = *high as usize * 256 + *low as usize;
+        if len == 0 || rest.len() < len {
+            return None;
+        }
+        let (message, after) = rest.split_at(len);
+        let [first, second, ..] = after else {
+            return None;
+        };
+        if *first == 0 && *second == 0 {
+            Some(message)
+        } else {
+            None
+        }
+    }
+
+    /// Whether no message is begun.
+    fn is_start(&self) -> bool
+        ensures { IsTrue result ↔ (self.now ≡ start) }
+    {
+        self.header.is_none() && self.lacks == 0 && self.sum == 0 && !self.too_big
     }
 
     /// Whether a header has taken the message past its limit.
