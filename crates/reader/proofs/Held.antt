@@ -1,5 +1,5 @@
 -- Points that a reader leaves and returns to.
-use Rattle.std.proofs.Common.{◌≡◌, ◌≤◌, ℕ, List, [], ◌++◌, length, take, None, refl, sym, ap, subst, ◌∙◌, append_assoc, arith, inl, inr}
+use Rattle.std.proofs.Common.{◌≡◌, ◌≤◌, Bool, ℕ, List, [], ◌++◌, length, take, None, refl, sym, ap, subst, ◌∙◌, append_assoc, arith, inl, inr}
 use Rattle.std.proofs.lemmas.List.{take-take, take_at, length-take-le, append-nil, length-append}
 use Rattle.std.proofs.Math.Seq.{take-length}
 use Rattle.std.specs.Prelude.{true, false, Result, Ok, Err}
@@ -20,8 +20,8 @@ use Rattle.reader.specs.declared.reading.Part.TheVariants as part
 use Rattle.reader.specs.declared.reading.Mark.{Mark}
 use Rattle.reader.specs.Items.{bytes_of_items, part_head, bodies, AreItems}
 use Rattle.reader.specs.Naming.{ArePlaced}
-use Rattle.reader.specs.Piecewise.{Point, IsBeginning, Takes, MayGoOn}
-use Rattle.reader.specs.Holding.{Holds, bytes_of, point, mark_of, at_mark, with_fault, points, Goes, IsLacking, IsDone, IsStanding, IsKeeping, HasGrown, IsKept}
+use Rattle.reader.specs.Piecewise.{Point, Points, IsBeginning, Takes, MayGoOn}
+use Rattle.reader.specs.Holding.{Holds, bytes_of, point, mark_of, at_mark, with_fault, points, points_at, mark_at, IsKeptAt, Goes, IsLacking, IsDone, IsStanding, IsKeeping, HasGrown, IsKept}
 use Rattle.reader.proofs.Opening.{bad_behind}
 use Rattle.reader.proofs.Faulting.{part_is_short}
 use Rattle.reader.proofs.Standing.{bytes_behind}
@@ -123,6 +123,65 @@ kept_on old new m piece kept grown keeps bytes =
 pub held_on : (old new : Holds) (m : Mark) → IsKept old m → HasGrown old new → point (at_mark m new) ≡ point (at_mark m old)
 held_on old new m kept grown = ap point (cut_on old new m grown kept.items kept.store kept.names)
 
+-- ---- a point that is held here, or at a mark
+
+true_not_false : true ≡ false → ⊥
+true_not_false e = cc
+
+pub kept_at : (still : Bool) (h : Holds) (m : Mark) → IsKeptAt still h m → IsKept h (mark_at still m (mark_of h))
+kept_at true h m keeps = kept_here h keeps
+kept_at false h m kept = kept
+
+pub keeps_at : (still : Bool) (h : Holds) (m : Mark) → IsKeptAt still h m → IsKeeping h
+keeps_at true h m keeps = keeps
+keeps_at false h m kept = kept.here
+
+-- what was taken leaves it
+pub kept_within : (still : Bool) (old new : Holds) (m : Mark) (piece : List ℕ) → IsKeptAt still old m → HasGrown old new → IsKeeping new → bytes_of new ≡ bytes_of old ++ piece → IsKeptAt still new m
+kept_within true old new m piece kept grown keeps bytes = keeps
+kept_within false old new m piece kept grown keeps bytes = kept_on old new m piece kept grown keeps bytes
+
+pub points_are : (still : Bool) (h : Holds) (m : Mark) → points_at still h m ≡ points h (mark_at still m (mark_of h))
+points_are true h m = sym (points_here h)
+points_are false h m = refl
+
+pub here_at : (still : Bool) (h : Holds) (m : Mark) → (points_at still h m).here ≡ point h
+here_at true h m = refl
+here_at false h m = refl
+
+pub begins_at : (still : Bool) (h : Holds) (m : Mark) → IsKeptAt still h m → IsBeginning (points_at still h m).held.bytes (points_at still h m).here.bytes
+begins_at true h m keeps = begins_itself (bytes_of h)
+begins_at false h m kept = kept.held
+
+-- what has grown is cut back to where it stood
+pub keeps_cut : (old new : Holds) (m : Mark) → m ≡ mark_of old → HasGrown old new → IsKeeping old → IsKeeping (at_mark m new)
+keeps_cut old new m e grown keeps = subst IsKeeping (sym (ap (λ (k : Mark). at_mark k new) e ∙ cut_grown old new grown)) keeps
+
+-- the way back to a mark
+
+pub behind_at : (still : Bool) (h : Holds) (m : Mark) → still ≡ false → IsKeptAt still h m → IsKeeping (at_mark m h)
+behind_at true h m e kept = absurd (true_not_false e)
+behind_at false h m e kept = kept.behind
+
+pub back_at : (still : Bool) (h back : Holds) (m : Mark) → still ≡ false → back ≡ at_mark m h → IsKeptAt still h m → IsKeptAt still back m
+back_at true h back m e b kept = absurd (true_not_false e)
+back_at false h back m e b kept = subst (λ (x : Holds). IsKept x m) (sym b) (kept_back h m kept)
+
+pub points_back_at : (still : Bool) (h back : Holds) (m : Mark) → still ≡ false → back ≡ at_mark m h → ((points_at still back m).here ≡ (points_at still h m).held) × ((points_at still back m).held ≡ (points_at still h m).held)
+points_back_at true h back m e b = absurd (true_not_false e)
+points_back_at false h back m e b = (ap point b, ap (λ (x : Holds). point (at_mark m x)) b ∙ ap point (cut_cut m m h (omega arith) (omega arith) (omega arith)))
+
+pub still_points : (still : Bool) (h : Holds) (m : Mark) → still ≡ true → (points_at still h m).here ≡ (points_at still h m).held
+still_points true h m e = refl
+still_points false h m e = absurd (true_not_false (sym e))
+
+-- what was taken, or turned bad, leaves the held point
+pub held_after : (still : Bool) (old new : Holds) (m k : Mark) (value : Points) → points_at still old m ≡ value → IsKeptAt still old m → HasGrown old new → k ≡ mark_at still m (mark_of old) → point (at_mark k new) ≡ value.held
+held_after still old new m k value is kept grown e =
+    ap (λ (x : Mark). point (at_mark x new)) e
+    ∙ held_on old new (mark_at still m (mark_of old)) (kept_at still old m kept) grown
+    ∙ ap (λ (p : Points). p.held) (sym (points_are still old m) ∙ is)
+
 -- ---- what the bytes have
 
 whole_not_bad : (b : List ℕ) (t : Tree) (r : Reason) (o : ℕ) → whole_of b ≡ Ok t → whole_of b ≡ Err (r, o) → ⊥
@@ -151,9 +210,6 @@ may_go_on h keeps = λ r o bad.
       | inl d ↦ (let t = done_tree h d keeps.bytes in absurd (whole_not_bad (bytes_of h) d.tree r o ((whole_value (bytes_of h) keeps.bytes d.tree).1 t) ((whole_fault (bytes_of h) keeps.bytes r o).1 bad)))
       | inr u ↦ one_reason (bytes_of h) r reason.Short o h.standing.read ((whole_fault (bytes_of h) keeps.bytes r o).1 bad) ((whole_fault (bytes_of h) keeps.bytes reason.Short h.standing.read).1 (goes_short h u.0 u.1))
     ]
-
-true_not_false : true ≡ false → ⊥
-true_not_false e = cc
 
 -- where the value is whole, its items spell it
 pub done_of : (h : Holds) → IsKeeping h → h.standing.«open».is_whole ≡ true → IsDone h

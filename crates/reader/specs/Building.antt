@@ -9,6 +9,7 @@ use Rattle.reader.specs.Items.{bytes_of_items, bodies, AreItems}
 abbrev pub bytes_in : Left → List ℕ
 bytes_in l = bytes_of_items l.items.now [] l.store.now
 
+-- There are as many bytes as the texts and byte strings of the items have, and each number fits its bytes.
 abbrev pub IsRest : Left → Type 0
 IsRest l = (length l.store.now ≡ bodies l.items.now) × AreItems l.items.now
 

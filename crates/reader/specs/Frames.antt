@@ -21,6 +21,7 @@ pub record Frame : Type 0 where
   pub lacks : ℕ
   pub first : ℕ
 
+-- a frame by its parts
 abbrev pub waits : Opened → ℕ → ℕ → Frame
 waits f n first = record { opened = f; lacks = n; first = first }
 
@@ -29,16 +30,22 @@ waits f n first = record { opened = f; lacks = n; first = first }
 abbrev pub IsFrame : ℕ → Opened → ℕ → List ℕ → Type 0
 IsFrame heads (in_list ts) lacks b =
     (size : Size) × (field : List ℕ) × (body : List ℕ) × IsSize size (count ts + lacks) field
-    × SpellsAll ts body × AreSound ts × (trees_depth ts + heads ≤ 32) × Begins (announces.List size) (field ++ body) b
+    × SpellsAll ts body × AreSound ts × (trees_depth ts + heads ≤ 32)
+    × Begins (announces.List size) (field ++ body) b
 IsFrame heads (in_struct tag ts) lacks b =
-    (body : List ℕ) × SpellsAll ts body × AreSound ts × (trees_depth ts + heads ≤ 32) × Begins (announces.Struct (count ts + lacks)) (tag ∷ body) b
+    (body : List ℕ) × SpellsAll ts body × AreSound ts × (trees_depth ts + heads ≤ 32)
+    × Begins (announces.Struct (count ts + lacks)) (tag ∷ body) b
 IsFrame heads (at_key es) lacks b =
     (size : Size) × (field : List ℕ) × (body : List ℕ) × IsSize size (entry_count es + lacks) field
-    × SpellsEntries es body × AreNewKeys [] es × HaveSoundValues es × (entries_depth es + heads ≤ 32) × Begins (announces.Dict size) (field ++ body) b
+    × SpellsEntries es body × AreNewKeys [] es × HaveSoundValues es
+    × (entries_depth es + heads ≤ 32) × Begins (announces.Dict size) (field ++ body) b
 IsFrame heads (at_value es k) lacks b =
-    (size : Size) × (field : List ℕ) × (body : List ℕ) × (key : List ℕ) × IsSize size (entry_count es + lacks) field
-    × SpellsEntries es body × AreNewKeys [] es × HaveSoundValues es × (entries_depth es + heads ≤ 32)
-    × SpellsText k key × (is_among k (keys_of es) ≡ false) × Begins (announces.Dict size) (field ++ (body ++ key)) b
+    (size : Size) × (field : List ℕ) × (body : List ℕ) × (key : List ℕ)
+    × IsSize size (entry_count es + lacks) field
+    × SpellsEntries es body × AreNewKeys [] es × HaveSoundValues es
+    × (entries_depth es + heads ≤ 32)
+    × SpellsText k key × (is_among k (keys_of es) ≡ false)
+    × Begins (announces.Dict size) (field ++ (body ++ key)) b
 
 -- where the next byte stands
 abbrev pub place : List Frame → Place
@@ -49,15 +56,18 @@ place (f ∷ fs) = record { heads = length fs + 1; key = key_there f.opened }
 abbrev pub AreFrames : List Frame → List ℕ → Type 0
 AreFrames [] b = b ≡ []
 AreFrames (f ∷ fs) b =
-    (front : List ℕ) × (rest : List ℕ) × AreFrames fs front × ((place fs).key ≡ None) × (length fs < 32) × (0 < f.lacks)
+    (front : List ℕ) × (rest : List ℕ) × AreFrames fs front × ((place fs).key ≡ None)
+    × (length fs < 32) × (0 < f.lacks)
     × IsFrame (length fs + 1) f.opened f.lacks rest × (b ≡ front ++ rest)
 
+-- what is read next of what is open
 abbrev pub next_of : Opened → Inside
 next_of (in_list ts) = inside.Member
 next_of (in_struct tag ts) = inside.Member
 next_of (at_key es) = inside.Key
 next_of (at_value es k) = inside.ValueOfKey
 
+-- a frame, as the array holds it
 abbrev pub level : Frame → Level
 level f = record { next = next_of f.opened; lacks = f.lacks; keys = f.first }
 
@@ -70,17 +80,21 @@ after_value inside.ValueOfKey = inside.Key
 -- so many levels of the array are these frames, the innermost of them last
 abbrev pub AreLevels : List Frame → ℕ → List Level → Type 0
 AreLevels [] depth around = depth ≡ 0
-AreLevels (f ∷ fs) depth around = (below : ℕ) × (depth ≡ suc below) × (slice_get around below ≡ Some (level f)) × AreLevels fs below around
+AreLevels (f ∷ fs) depth around =
+    (below : ℕ) × (depth ≡ suc below) × (slice_get around below ≡ Some (level f))
+    × AreLevels fs below around
 
 -- the names that begin there are these keys and no others
 abbrev pub AreNames : List Name → List ℕ → ℕ → List (List ℕ) → Type 0
-AreNames names store first keys = (s : List ℕ) → (is_among s keys ≡ true) ↔ IsNamed names store first s
+AreNames names store first keys = (s : List ℕ)
+    → (is_among s keys ≡ true) ↔ IsNamed names store first s
 
 -- an open dictionary's keys are its names, that of a waiting value too; where it has none, they begin behind all
 abbrev pub HasNames : Opened → ℕ → List Name → List ℕ → Type 0
 HasNames (in_list ts) first names store = Unit {0}
 HasNames (in_struct tag ts) first names store = Unit {0}
-HasNames (at_key es) first names store = AreNames names store first (keys_of es) × (keys_of es ≡ [] → first ≡ length names)
+HasNames (at_key es) first names store =
+    AreNames names store first (keys_of es) × (keys_of es ≡ [] → first ≡ length names)
 HasNames (at_value es k) first names store = AreNames names store first (keys_of es ++ k ∷ [])
 
 -- the keys of an open dictionary begin before those of one inside it
@@ -90,26 +104,32 @@ BeginsBefore (in_struct tag ts) first inner = Unit {0}
 BeginsBefore (at_key es) first inner = first < inner
 BeginsBefore (at_value es k) first inner = first < inner
 
+-- the keys of each open dictionary among these begin before those of one inside them
 abbrev pub BeginBefore : List Frame → ℕ → Type 0
 BeginBefore [] inner = Unit {0}
 BeginBefore (f ∷ fs) inner = BeginsBefore f.opened f.first inner × BeginBefore fs inner
 
+-- the keys of an open dictionary begin behind those of each open one around it
 abbrev pub IsApart : Opened → ℕ → List Frame → Type 0
 IsApart (in_list ts) first fs = Unit {0}
 IsApart (in_struct tag ts) first fs = Unit {0}
 IsApart (at_key es) first fs = BeginBefore fs first
 IsApart (at_value es k) first fs = BeginBefore fs first
 
+-- each open dictionary has its names, and its keys begin behind those of the ones around it
 abbrev pub HaveNames : List Frame → List Name → List ℕ → Type 0
 HaveNames [] names store = Unit {0}
-HaveNames (f ∷ fs) names store = HasNames f.opened f.first names store × IsApart f.opened f.first fs × HaveNames fs names store
+HaveNames (f ∷ fs) names store =
+    HasNames f.opened f.first names store × IsApart f.opened f.first fs × HaveNames fs names store
 
 -- ---- a value behind what is open
 
+-- members with one more behind them
 abbrev pub push_tree : Trees → Tree → Trees
 push_tree no_trees t = tree_then t no_trees
 push_tree (tree_then x ts) t = tree_then x (push_tree ts t)
 
+-- entries with one more behind them
 abbrev pub push_entry : Entries → List ℕ → Tree → Entries
 push_entry no_entries k t = entry_then k t no_entries
 push_entry (entry_then j x es) k t = entry_then j x (push_entry es k t)
@@ -137,12 +157,17 @@ pub data Left : Type 0 where
 abbrev pub ends : List Frame → Tree → Left
 ends [] t = whole t
 ends (f ∷ fs) t =
-    cond (nat_lt 1 f.lacks) (still (record { opened = with_member f.opened t; lacks = f.lacks - 1; first = f.first } ∷ fs)) (ends fs (tree_so_far (with_member f.opened t)))
+    cond (nat_lt 1 f.lacks)
+    (still
+    (record { opened = with_member f.opened t; lacks = f.lacks - 1; first = f.first } ∷ fs))
+    (ends fs (tree_so_far (with_member f.opened t)))
 
+-- The bytes spell the whole value, which is sound and not too deep; or they are what is still open.
 abbrev pub Stands : Left → List ℕ → Type 0
 Stands (whole t) b = SpellsTree t b × IsSound t × (depth t ≤ 32)
 Stands (still fs) b = AreFrames fs b
 
+-- It is held so: that the value is whole; or that it isn't, with what is still open in the array.
 abbrev pub IsLeft : Left → Open → Type 0
 IsLeft (whole t) o = o.is_whole ≡ true
 IsLeft (still fs) o = (o.is_whole ≡ false) × AreLevels fs o.depth o.around

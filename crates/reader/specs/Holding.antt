@@ -1,5 +1,5 @@
 -- What a reader holds, and what it stands for. Proofs alone need it.
-use Rattle.std.specs.Prelude.{◌≡◌, ◌⊎◌, ◌≤◌, ◌<◌, ◌+◌, ◌^◌, ℕ, List, [], ◌∷◌, ◌++◌, length, take, Some, None, Result, Ok, Err, true, false}
+use Rattle.std.specs.Prelude.{◌≡◌, ◌⊎◌, ◌≤◌, ◌<◌, ◌+◌, ◌^◌, ℕ, List, [], ◌∷◌, ◌++◌, length, take, Some, None, Result, Ok, Err, Bool, true, false}
 use Rattle.packstream.specs.declared.fault.Reason.{Reason}
 use Rattle.packstream.specs.declared.fault.Reason.TheVariants as reason
 use Rattle.packstream.specs.declared.marker.Marker.{Marker}
@@ -30,25 +30,46 @@ pub record Holds : Type 0 where
   pub names : List Name
   pub standing : Standing
 
+-- what a reading holds, as contracts see it
 abbrev pub holds : Reading → Holds
-holds r = record { items = r.items.items; store = r.texts.bytes; names = r.texts.names; standing = r.standing }
+holds r = record {
+  items = r.items.items;
+  store = r.texts.bytes;
+  names = r.texts.names;
+  standing = r.standing;
+}
 
 -- its bytes, if this were the part of an item that isn't whole
 abbrev pub bytes_with : Holds → Part → List ℕ
 bytes_with h p = bytes_of_items h.items (part_head p) h.store
 
+-- its bytes
 abbrev pub bytes_of : Holds → List ℕ
 bytes_of h = bytes_with h h.standing.part
 
+-- the point where it stands
 abbrev pub point : Holds → Point
 point h = record { bytes = bytes_of h; bad = h.standing.bad }
 
+-- the mark of where it stands
 abbrev pub mark_of : Holds → Mark
-mark_of h = record { items = length h.items; store = length h.store; keys = length h.names; standing = h.standing }
+mark_of h = record {
+  items = length h.items;
+  store = length h.store;
+  keys = length h.names;
+  standing = h.standing;
+}
 
+-- what it holds once it has returned to a mark
 abbrev pub at_mark : Mark → Holds → Holds
-at_mark m h = record { items = take m.items h.items; store = take m.store h.store; names = take m.keys h.names; standing = m.standing }
+at_mark m h = record {
+  items = take m.items h.items;
+  store = take m.store h.store;
+  names = take m.keys h.names;
+  standing = m.standing;
+}
 
+-- the same, turned bad by this fault at this place
 abbrev pub with_fault : Reason → ℕ → Holds → Holds
 with_fault r o h = record h { standing = record h.standing { bad = Some (r, o) } }
 
@@ -58,7 +79,10 @@ with_item announced m number h = record {
   items = h.items ++ (record { marker = m; number = number }) ∷ [];
   store = h.store;
   names = h.names;
-  standing = record h.standing { part = part.Nothing; read = h.standing.read + (1 + field (Some announced)) + body (Some announced) number };
+  standing = record h.standing {
+    part = part.Nothing;
+    read = h.standing.read + (1 + field (Some announced)) + body (Some announced) number;
+  };
 }
 
 -- the byte announces something that may stand there
@@ -68,8 +92,11 @@ IsAdmitted p m = (what : Marker) × (marker m ≡ Some what) × (head_fault p wh
 -- a part of an item, or all of it, of which tail is what came of its text or byte string
 abbrev pub IsPart : Place → Part → List ℕ → Type 0
 IsPart p part.Nothing tail = tail ≡ []
-IsPart p (part.Head m number has) tail = (tail ≡ []) × IsAdmitted p m × (has ≤ field (marker m)) × (number < 256 ^ has)
-IsPart p (part.Body m number lacks) tail = IsAdmitted p m × (number < 256 ^ field (marker m)) × (length tail + lacks ≡ body (marker m) number)
+IsPart p (part.Head m number has) tail =
+    (tail ≡ []) × IsAdmitted p m × (has ≤ field (marker m)) × (number < 256 ^ has)
+IsPart p (part.Body m number lacks) tail =
+    IsAdmitted p m × (number < 256 ^ field (marker m))
+    × (length tail + lacks ≡ body (marker m) number)
 
 -- bytes are missing to the part
 abbrev pub IsLacking : Part → Type 0
@@ -102,7 +129,9 @@ IsListOf m number count = ⊥
 -- Where all of the item is there, it spells a value that may stand where h stands.
 abbrev pub IsValue : Holds → ℕ → ℕ → Type 0
 IsValue h m number =
-    (g : Goes h (part.Body m number 0)) → (t : Tree) × IsSound t × (depth t + length g.frames ≤ 32) × SpellsTree t (head_bytes m number ++ g.tail) × ((place g.frames).key ≡ None)
+    (g : Goes h (part.Body m number 0))
+    → (t : Tree) × IsSound t × (depth t + length g.frames ≤ 32)
+    × SpellsTree t (head_bytes m number ++ g.tail) × ((place g.frames).key ≡ None)
 
 -- The value is whole.
 pub record IsDone (h : Holds) : Type 0 where
@@ -117,6 +146,7 @@ pub record IsDone (h : Holds) : Type 0 where
   pub read : h.standing.read ≡ length (bytes_of_items h.items [] h.store)
   pub placed : ArePlaced h.names (length h.store)
 
+-- The value is whole; or it isn't, and a part that was begun lacks bytes.
 abbrev pub IsStanding : Holds → Type 0
 IsStanding h = IsDone h ⊎ (Goes h h.standing.part × IsLacking h.standing.part)
 
@@ -143,10 +173,12 @@ abbrev pub IsFaultOf : Stop → List ℕ → Type 0
 IsFaultOf stop.Memory b = Unit {0}
 IsFaultOf (stop.Fault r o) b = Bad b o r × (r ≡ reason.Short → ⊥)
 
+-- what is answered to these bytes: those that rest, by `view`, where it took the others; or their fault
 abbrev pub Answers : {X : Type 0} → (X → List ℕ) → Result X Stop → List ℕ → Holds → Type 0
 Answers view (Ok x) b new = HasTaken b new (view x)
 Answers view (Err e) b new = IsFaultOf e b
 
+-- the point where it stands, and the one to which a mark returns
 abbrev pub points : Holds → Mark → Points
 points h m = record { here = point h; held = point (at_mark m h) }
 
@@ -158,3 +190,18 @@ pub record IsKept (h : Holds) (m : Mark) : Type 0 where
   pub here : IsKeeping h
   pub behind : IsKeeping (at_mark m h)
   pub held : IsBeginning (bytes_of (at_mark m h)) (bytes_of h)
+
+-- the mark of the point that is held: it is here, or at a mark
+abbrev pub mark_at : Bool → Mark → Mark → Mark
+mark_at true held here = here
+mark_at false held here = held
+
+-- where it stands, and the point that is held
+abbrev pub points_at : Bool → Holds → Mark → Points
+points_at true h m = record { here = point h; held = point h }
+points_at false h m = points h m
+
+-- The point that is held is here, or one where the reader stood.
+abbrev pub IsKeptAt : Bool → Holds → Mark → Type 0
+IsKeptAt true h m = IsKeeping h
+IsKeptAt false h m = IsKept h m

@@ -37,6 +37,7 @@ abbrev pub number_from : ℕ → List ℕ → ℕ
 number_from number [] = number
 number_from number (b ∷ bs) = number_from (number * 256 + b) bs
 
+-- a marker, and the bytes of the number after it
 abbrev pub head_bytes : ℕ → ℕ → List ℕ
 head_bytes m number = m ∷ big_bytes (field (marker m)) number
 
@@ -61,4 +62,6 @@ AreItems (i ∷ is) = (i.number < 256 ^ field (marker i.marker)) × AreItems is
 abbrev pub bytes_of_items : List Item → List ℕ → List ℕ → List ℕ
 bytes_of_items [] last store = last ++ store
 bytes_of_items (i ∷ is) last store =
-    head_bytes i.marker i.number ++ (take (body (marker i.marker) i.number) store ++ bytes_of_items is last (drop (body (marker i.marker) i.number) store))
+    head_bytes i.marker i.number
+    ++ (take (body (marker i.marker) i.number) store
+    ++ bytes_of_items is last (drop (body (marker i.marker) i.number) store))

@@ -15,45 +15,60 @@ pub record Kept : Type 0 where
   pub bytes : List ℕ
   pub names : List Name
 
+-- what contracts see of a key
 abbrev pub name : Key → Name
 name k = record { start = k.start; len = k.len; first = k.first }
 
+-- what contracts see of keys, in their order
 abbrev pub names_of : List Key → List Name
 names_of keys = map name keys
 
+-- the bytes of a name
 abbrev pub text_of : List ℕ → Name → List ℕ
 text_of bytes n = take n.len (drop n.start bytes)
 
 -- The key s is one of the dictionary whose keys begin there.
 abbrev pub IsNamed : List Name → List ℕ → ℕ → List ℕ → Type 0
-IsNamed names bytes first s = (i : ℕ) × (n : Name) × (slice_get names i ≡ Some n) × (n.first ≡ first) × (text_of bytes n ≡ s)
+IsNamed names bytes first s =
+    (i : ℕ) × (n : Name) × (slice_get names i ≡ Some n) × (n.first ≡ first) × (text_of bytes n ≡ s)
 
 -- A name lies in so many bytes, and its dictionary's keys don't begin behind it.
 abbrev pub ArePlaced : List Name → ℕ → Type 0
-ArePlaced names len = (i : ℕ) (n : Name) → slice_get names i ≡ Some n → (n.first ≤ i) × (n.start + n.len ≤ len)
+ArePlaced names len = (i : ℕ) (n : Name) → slice_get names i ≡ Some n
+    → (n.first ≤ i) × (n.start + n.len ≤ len)
 
 -- The next key is the first of its dictionary, or another key begins there.
 abbrev pub IsRoot : List Name → ℕ → Type 0
-IsRoot names first = (first ≡ length names) ⊎ ((i : ℕ) × (n : Name) × (slice_get names i ≡ Some n) × (n.first ≡ first))
+IsRoot names first = (first ≡ length names)
+    ⊎ ((i : ℕ) × (n : Name) × (slice_get names i ≡ Some n) × (n.first ≡ first))
 
 -- ---- the tree, which proofs alone need
 
+-- the digest of bytes, going on from that of the bytes before them
 unfoldable pub digest_from : ℕ → List ℕ → ℕ
 digest_from digest [] = digest
-digest_from digest (b ∷ bs) = digest_from (((digest + (b + 1)) % 2 ^ 64 * 0x9E3779B97F4A7C15) % 2 ^ 64) bs
+digest_from digest (b ∷ bs) =
+    digest_from (((digest + (b + 1)) % 2 ^ 64 * 0x9E3779B97F4A7C15) % 2 ^ 64) bs
 
+-- the digest of bytes, a number of 64 bits
 unfoldable pub digest_of : List ℕ → ℕ
 digest_of s = digest_from 0 s
 
+-- a bit of a number is 1; the lowest is that at 0
 abbrev pub bit_in : ℕ → ℕ → Bool
 bit_in n i = bit_at n i == 1
 
+-- a bit of a number is 1, where there is a number
 abbrev pub bit_of : Option ℕ → ℕ → Bool
 bit_of None i = false
 bit_of (Some b) i = bit_in b i
 
+-- the side of a key that has so many above it: a bit of its digest, the highest first, and then of its bytes;
+-- true is right
 unfoldable pub side_of : ℕ → List ℕ → ℕ → Bool
-side_of digest s above = cond (nat_lt above 64) (bit_in digest (63 - above)) (bit_of (slice_get s ((above - 64) / 8)) ((above - 64) % 8))
+side_of digest s above =
+    cond (nat_lt above 64) (bit_in digest (63 - above))
+    (bit_of (slice_get s ((above - 64) / 8)) ((above - 64) % 8))
 
 -- the key at `next` hangs on this side of the key at `at`, both of one dictionary
 pub record HangsOn (keys : List Key) (first at : ℕ) (side : Bool) (next : ℕ) : Type 0 where
@@ -71,7 +86,8 @@ pub record HangsOn (keys : List Key) (first at : ℕ) (side : Bool) (next : ℕ)
 abbrev pub Leads : List Key → ℕ → List ℕ → ℕ → ℕ → ℕ → ℕ → Type 0
 Leads keys first s above at zero to = at ≡ to
 Leads keys first s above at (suc steps) to =
-    (next : ℕ) × HangsOn keys first at (side_of (digest_of s) s above) next × Leads keys first s (suc above) next steps to
+    (next : ℕ) × HangsOn keys first at (side_of (digest_of s) s above) next
+    × Leads keys first s (suc above) next steps to
 
 -- the key at i is in its place: the first of its dictionary, or where its own sides lead
 pub record IsInPlace (keys : List Key) (bytes : List ℕ) (i : ℕ) (k : Key) : Type 0 where
@@ -84,6 +100,7 @@ pub record IsInPlace (keys : List Key) (bytes : List ℕ) (i : ℕ) (k : Key) : 
   pub steps : ℕ
   pub leads : Leads keys k.first (text_of bytes (name k)) 0 k.first steps i
 
+-- Each key is in its place.
 abbrev pub IsTree : List Key → List ℕ → Type 0
 IsTree keys bytes = (i : ℕ) (k : Key) → slice_get keys i ≡ Some k → IsInPlace keys bytes i k
 
@@ -95,7 +112,9 @@ HangsNone keys first at side = (next : ℕ) → HangsOn keys first at side next 
 abbrev pub IsFree : List Key → ℕ → List ℕ → Option Link → Type 0
 IsFree keys first s None = first ≡ length keys
 IsFree keys first s (Some link) =
-    (steps : ℕ) × Leads keys first s 0 first steps link.key × (link.is_right ≡ side_of (digest_of s) s steps) × HangsNone keys first link.key link.is_right
+    (steps : ℕ) × Leads keys first s 0 first steps link.key
+    × (link.is_right ≡ side_of (digest_of s) s steps)
+    × HangsNone keys first link.key link.is_right
     × ((upper : Key) × (slice_get keys link.key ≡ Some upper) × (upper.first ≡ first))
     × ((root : Key) × (slice_get keys first ≡ Some root) × (root.first ≡ first))
 
@@ -106,13 +125,16 @@ HasLink keys (Some link) = link.key < length keys
 
 -- the key with this number hung on a side of a key
 abbrev pub with_below : Bool → ℕ → Key → Key
-with_below side number k = record k { left = cond side k.left number; right = cond side number k.right }
+with_below side number k =
+    record k { left = cond side k.left number; right = cond side number k.right }
 
+-- the keys, with the key of this number hung on a side of the one at a place
 abbrev pub hung_at : ℕ → Bool → ℕ → List Key → List Key
 hung_at at side number [] = []
 hung_at zero side number (k ∷ keys) = with_below side number k ∷ keys
 hung_at (suc at) side number (k ∷ keys) = k ∷ hung_at at side number keys
 
+-- the keys, with the key of this number hung where a link says; without a link they stay as they are
 abbrev pub hung : Option Link → ℕ → List Key → List Key
 hung None number keys = keys
 hung (Some link) number keys = hung_at link.key link.is_right number keys

@@ -21,12 +21,15 @@ pub record Points : Type 0 where
   pub here : Point
   pub held : Point
 
+-- before any byte was read
 abbrev pub nothing_read : Point
 nothing_read = record { bytes = []; bad = None }
 
+-- a reader that has read nothing, and would return to that
 abbrev pub fresh : Points
 fresh = record { here = nothing_read; held = nothing_read }
 
+-- The bytes begin with these.
 abbrev pub IsBeginning : List ℕ → List ℕ → Type 0
 IsBeginning front b = (more : List ℕ) × (b ≡ front ++ more)
 
@@ -44,6 +47,7 @@ TurnsBad old piece new =
     (r : Reason) × (o : ℕ) × (new.bad ≡ Some (r, o)) × IsBadAlways (old.bytes ++ piece) r o
     × (r ≡ reason.Short → ⊥) × IsBeginning old.bytes new.bytes
 
+-- a piece is joined to the bytes, or makes them bad; once they are bad nothing changes
 abbrev pub Takes : Point → List ℕ → Point → Type 0
 Takes old piece new = MatchOption old.bad (Joins old piece new ⊎ TurnsBad old piece new)
     (λ f. new ≡ old)
@@ -52,10 +56,11 @@ Takes old piece new = MatchOption old.bad (Joins old piece new ⊎ TurnsBad old 
 abbrev pub Reads : Point → List ℕ → Type 0
 Reads p b = AreBytes b × MatchOption p.bad (p.bytes ≡ b) (λ f. IsBadAlways b f.0 f.1)
 
--- apart from memory, the good value that the bytes spell, where they spell one, and the fault at its place, where they have one
+-- apart from memory, the good value that the bytes spell, where they spell one
 abbrev pub TellsValue : List ℕ → Result Tree PackFault → Type 0
 TellsValue b told = (t : Tree) → UnlessMemory told ((told ≡ Ok t) ↔ (IsGood t × Spells t b))
 
+-- apart from memory, the fault at its place, where the bytes have one
 abbrev pub TellsFault : List ℕ → Result Tree PackFault → Type 0
 TellsFault b told = (r : Reason) (o : ℕ)
     → UnlessMemory told ((told ≡ Err (fault.Refused r o)) ↔ Bad b o r)

@@ -108,7 +108,8 @@ fn members_of<'a>(
 ) -> Result<(Vec<Value>, Left<'a>), AllocError>
     requires rest { IsRest left }
     requires spells { IsRead (items_at (layer (inner room)) count [] (bytes_in left)) }
-    ensures { Builds (λ v. trees v.items) result (items_at (layer (inner room)) count [] (bytes_in left.entry)) }
+    ensures { Builds (λ v. trees v.items) result
+        (items_at (layer (inner room)) count [] (bytes_in left.entry)) }
 {
     let mut members = Vec::with_capacity(alloc, count as usize)?;
     let mut rest = left;
@@ -125,7 +126,8 @@ fn key_of<'a>(left: Left<'a>) -> (&'a str, Left<'a>)
     requires rest { IsRest left }
     requires spells { (before : List (List ℕ)) × IsRead (key_at before (bytes_in left)) }
     ensures rest { IsRest result.1 }
-    ensures key { (before : List (List ℕ)) → IsRead (key_at before (bytes_in left.entry)) → key_at before (bytes_in left.entry) ≡ Ok (result.0.now, bytes_in result.1) }
+    ensures key { (before : List (List ℕ)) → IsRead (key_at before (bytes_in left.entry))
+        → key_at before (bytes_in left.entry) ≡ Ok (result.0.now, bytes_in result.1) }
 {
     let Some((item, items)) = left.items.split_first() else {
         unreachable!()
@@ -154,7 +156,8 @@ fn pairs_of<'a>(
 ) -> Result<(Vec<(String, Value)>, Left<'a>), AllocError>
     requires rest { IsRest left }
     requires spells { IsRead (entries_at (layer (inner room)) count [] (bytes_in left)) }
-    ensures { Builds (λ v. entries v.items) result (entries_at (layer (inner room)) count [] (bytes_in left.entry)) }
+    ensures { Builds (λ v. entries v.items) result
+        (entries_at (layer (inner room)) count [] (bytes_in left.entry)) }
 {
     let mut pairs = Vec::with_capacity(alloc, count as usize)?;
     let mut rest = left;

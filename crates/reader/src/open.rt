@@ -66,7 +66,8 @@ impl Open {
     /// Whether a key stands next.
     #[inline]
     pub(crate) fn waits_for_key(&self) -> bool
-        ensures { (fs : List Frame) → AreLevels fs self.now.depth self.now.around → result ≡ is_some (place fs).key }
+        ensures { (fs : List Frame) → AreLevels fs self.now.depth self.now.around
+            → result ≡ is_some (place fs).key }
     {
         if self.depth == 0 {
             return false;
@@ -81,7 +82,8 @@ impl Open {
     /// What a head that announces this breaks here.
     #[inline]
     pub(crate) fn refuses(&self, announced: Marker) -> Option<Reason>
-        ensures { (fs : List Frame) → AreLevels fs self.now.depth self.now.around → result ≡ head_fault (place fs) announced }
+        ensures { (fs : List Frame) → AreLevels fs self.now.depth self.now.around
+            → result ≡ head_fault (place fs) announced }
     {
         if let Marker::Text(_) = announced {
             return None;
@@ -101,7 +103,8 @@ impl Open {
     /// Where the keys of the innermost dictionary begin.
     #[inline]
     pub(crate) fn keys(&self) -> usize
-        ensures { (f : Frame) (fs : List Frame) → AreLevels (f ∷ fs) self.now.depth self.now.around → result ≡ f.first }
+        ensures { (f : Frame) (fs : List Frame) → AreLevels (f ∷ fs) self.now.depth self.now.around
+            → result ≡ f.first }
     {
         if self.depth == 0 {
             return 0;
@@ -113,7 +116,9 @@ impl Open {
     #[inline]
     pub(crate) fn open(&mut self, members: u64)
         requires { self.old.depth < 32 }
-        ensures frames { (fs : List Frame) (f : Opened) → AreLevels fs self.old.depth self.old.around → next_of f ≡ inside.Member → AreLevels (waits f members 0 ∷ fs) self.new.depth self.new.around }
+        ensures frames { (fs : List Frame) (f : Opened)
+            → AreLevels fs self.old.depth self.old.around → next_of f ≡ inside.Member
+            → AreLevels (waits f members 0 ∷ fs) self.new.depth self.new.around }
         ensures is_whole { self.new.is_whole ≡ self.old.is_whole }
     {
         self.enter(Inside::Member, members, 0);
@@ -123,7 +128,9 @@ impl Open {
     #[inline]
     pub(crate) fn open_dict(&mut self, pairs: u64, keys: usize)
         requires { self.old.depth < 32 }
-        ensures frames { (fs : List Frame) (f : Opened) → AreLevels fs self.old.depth self.old.around → next_of f ≡ inside.Key → AreLevels (waits f pairs keys ∷ fs) self.new.depth self.new.around }
+        ensures frames { (fs : List Frame) (f : Opened)
+            → AreLevels fs self.old.depth self.old.around → next_of f ≡ inside.Key
+            → AreLevels (waits f pairs keys ∷ fs) self.new.depth self.new.around }
         ensures is_whole { self.new.is_whole ≡ self.old.is_whole }
     {
         self.enter(Inside::Key, pairs, keys);
@@ -132,7 +139,9 @@ impl Open {
     #[inline]
     fn enter(&mut self, next: Inside, lacks: u64, keys: usize)
         requires { self.old.depth < 32 }
-        ensures frames { (fs : List Frame) (f : Opened) → AreLevels fs self.old.depth self.old.around → next_of f ≡ next → AreLevels (waits f lacks keys ∷ fs) self.new.depth self.new.around }
+        ensures frames { (fs : List Frame) (f : Opened)
+            → AreLevels fs self.old.depth self.old.around → next_of f ≡ next
+            → AreLevels (waits f lacks keys ∷ fs) self.new.depth self.new.around }
         ensures is_whole { self.new.is_whole ≡ self.old.is_whole }
     {
         let level = Level { next, lacks, keys };
@@ -144,8 +153,9 @@ impl Open {
     #[inline]
     pub(crate) fn key_ends(&mut self)
         requires { 0 < self.old.depth }
-        ensures frames { (fs : List Frame) (es : Entries) (k : List ℕ) (n first : ℕ) → AreLevels (waits (at_key es) n first ∷ fs) self.old.depth self.old.around →
-            AreLevels (waits (at_value es k) n first ∷ fs) self.new.depth self.new.around }
+        ensures frames { (fs : List Frame) (es : Entries) (k : List ℕ) (n first : ℕ)
+            → AreLevels (waits (at_key es) n first ∷ fs) self.old.depth self.old.around
+            → AreLevels (waits (at_value es k) n first ∷ fs) self.new.depth self.new.around }
         ensures is_whole { self.new.is_whole ≡ self.old.is_whole }
     {
         let at = self.depth - 1;
@@ -160,7 +170,8 @@ impl Open {
     /// A value is whole, and with it each that was waiting for it alone.
     #[inline]
     pub(crate) fn value_ends(&mut self)
-        ensures { (fs : List Frame) (t : Tree) → AreLevels fs self.old.depth self.old.around → self.old.is_whole ≡ false → IsLeft (ends fs t) self.new }
+        ensures { (fs : List Frame) (t : Tree) → AreLevels fs self.old.depth self.old.around
+            → self.old.is_whole ≡ false → IsLeft (ends fs t) self.new }
     {
         while self.depth > 0 {
             let at = self.depth - 1;

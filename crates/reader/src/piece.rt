@@ -16,10 +16,12 @@ use std::alloc::Global;
 /// follows from what a reader's calls ensure.
 pub fn read_piece(alloc: Global, bytes: &[u8]) -> Result<Packed, PackFault>
     // Apart from memory, it is the good value that the bytes spell, where they spell one ..
-    ensures value { (t : Tree) → UnlessMemory result ((result ≡ Ok t) ↔ (IsGood t × Spells t bytes.now)) }
+    ensures value { (t : Tree)
+        → UnlessMemory result ((result ≡ Ok t) ↔ (IsGood t × Spells t bytes.now)) }
 
     // .. and the fault at its place, where they have one.
-    ensures fault { (r : Reason) (o : ℕ) → UnlessMemory result ((result ≡ Err (fault.Refused r o)) ↔ Bad bytes.now o r) }
+    ensures fault { (r : Reason) (o : ℕ)
+        → UnlessMemory result ((result ≡ Err (fault.Refused r o)) ↔ Bad bytes.now o r) }
 {
     let mut reader = Reader::new(alloc);
     let Ok(()) = reader.feed(bytes) else {

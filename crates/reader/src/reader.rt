@@ -7,6 +7,7 @@ ghost use Rattle.packstream.specs.Faults.{Bad};
 ghost use Rattle.packstream.specs.Answers.{UnlessMemory};
 ghost use Rattle.packstream.specs.declared.fault.Reason.{Reason};
 ghost use Rattle.packstream.specs.declared.fault.PackFault.TheVariants as fault;
+ghost use Rattle.reader.specs.Holding.{mark_at};
 ghost use Rattle.reader.specs.Piecewise.{fresh, Takes, IsBeginning};
 
 use crate::reading::{Mark, Reading};
@@ -21,28 +22,33 @@ use std::marker::Model;
 pub struct Reader {
     reading: Reading,
     held: Mark,
+    /// The point that is held is here, and not at the mark.
+    is_still: bool,
 }
 
 impl Model for Reader {
     ghost use Rattle.reader.specs.Piecewise.{Points};
-    ghost use Rattle.reader.specs.Holding.{holds, points, IsKept};
+    ghost use Rattle.reader.specs.Holding.{holds, points_at, IsKeptAt};
 
     ghost Value = { Points };
 
-    ghost view = { λ a. points (holds a.reading) a.held };
+    ghost view = { λ a. points_at a.is_still (holds a.reading) a.held };
 
-    ghost invariant = { λ a. IsKept (holds a.reading) a.held };
+    ghost invariant = { λ a. IsKeptAt a.is_still (holds a.reading) a.held };
 }
 
 impl Reader {
     /// No bytes; that is the held point too. It takes no memory.
-    #[tactic(auto, using(crate::proofs::Held::kept_here, crate::proofs::Held::points_here))]
     pub fn new(alloc: Global) -> Reader
         ensures { result ≡ fresh }
     {
         let reading = Reading::new(alloc);
         let held = reading.mark();
-        Reader { reading, held }
+        Reader {
+            reading,
+            held,
+            is_still: true,
+        }
     }
 
     /// Joins the piece to the bytes, where they then have no fault but missing bytes. Else each continuation of them has
@@ -57,8 +63,13 @@ impl Reader {
             return Ok(());
         }
         let before = self.reading.mark();
+        let held = held_mark(self.is_still, self.held, before);
         match self.reading.take(piece) {
-            Ok(()) => Ok(()),
+            Ok(()) => {
+                self.held = held;
+                self.is_still = false;
+                Ok(())
+            }
             Err(Stop::Memory) => {
                 self.reading.cut(before);
                 Err(AllocError)
@@ -66,19 +77,41 @@ impl Reader {
             Err(Stop::Fault(reason, place)) => {
                 self.reading.cut(before);
                 self.reading.turn_bad(reason, place);
+                self.held = held;
+                self.is_still = false;
                 Ok(())
             }
         }
     }
 
+    /// Joins the piece as `feed` does, and makes the point behind it the held one; in a text or a byte string that goes on
+    /// behind the piece, at the cost of its bytes alone. For want of memory nothing changes.
+    pub fn advance(&mut self, piece: &[u8]) -> Result<(), AllocError>
+        ensures here { OnOk result (Takes self.old.here piece.now self.new.here) }
+        ensures held { OnOk result (self.new.held ≡ self.new.here) }
+        ensures err { OnErr result (self.new ≡ self.old) }
+    {
+        if self.reading.take_within(piece)? {
+            self.hold();
+            return Ok(());
+        }
+        self.feed(piece)?;
+        self.hold();
+        Ok(())
+    }
+
     /// What `decode` tells of the bytes; or the fault, where the reader is bad.
     pub fn finish(&self) -> Result<Packed, PackFault>
         // Apart from memory, it is the good value that the bytes spell, where they spell one ..
-        ensures value { self.now.here.bad ≡ None → (t : Tree) → UnlessMemory result ((result ≡ Ok t) ↔ (IsGood t × Spells t self.now.here.bytes)) }
+        ensures value { self.now.here.bad ≡ None → (t : Tree)
+            → UnlessMemory result ((result ≡ Ok t) ↔ (IsGood t × Spells t self.now.here.bytes)) }
 
         // .. and the fault at its place, where they have one.
-        ensures fault { self.now.here.bad ≡ None → (r : Reason) (o : ℕ) → UnlessMemory result ((result ≡ Err (fault.Refused r o)) ↔ Bad self.now.here.bytes o r) }
-        ensures bad { (r : Reason) (o : ℕ) → self.now.here.bad ≡ Some (r, o) → result ≡ Err (fault.Refused r o) }
+        ensures fault { self.now.here.bad ≡ None → (r : Reason) (o : ℕ)
+            → UnlessMemory result ((result ≡ Err (fault.Refused r o))
+            ↔ Bad self.now.here.bytes o r) }
+        ensures bad { (r : Reason) (o : ℕ) → self.now.here.bad ≡ Some (r, o)
+            → result ≡ Err (fault.Refused r o) }
 
         // The bytes of the held point are a beginning of the reader's.
         ensures held { IsBeginning self.now.held.bytes self.now.here.bytes }
@@ -90,12 +123,12 @@ impl Reader {
     }
 
     /// Makes this point the held one. It takes no memory.
-    #[tactic(auto, using(crate::proofs::Held::kept_here, crate::proofs::Held::points_here))]
+    #[tactic(auto, using(crate::proofs::Held::keeps_at, crate::proofs::Held::here_at))]
     pub fn hold(&mut self)
         ensures here { self.new.here ≡ self.old.here }
         ensures held { self.new.held ≡ self.old.here }
     {
-        self.held = self.reading.mark();
+        self.is_still = true;
     }
 
     /// Returns to the held point. It takes no memory.
@@ -103,7 +136,16 @@ impl Reader {
         ensures here { self.new.here ≡ self.old.held }
         ensures held { self.new.held ≡ self.old.held }
     {
-        let held = self.held;
-        self.reading.cut(held);
+        if !self.is_still {
+            let held = self.held;
+            self.reading.cut(held);
+        }
     }
+}
+
+/// The mark of the point that is held, where it is here or at a mark.
+fn held_mark(is_still: bool, held: Mark, here: Mark) -> Mark
+    ensures { result ≡ mark_at is_still held here }
+{
+    if is_still { here } else { held }
 }

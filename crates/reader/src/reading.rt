@@ -1,5 +1,5 @@
 //! What is read of a value whose bytes come in pieces.
-ghost use Rattle.std.specs.Prelude.{◌≡◌, ◌+◌, ◌++◌, ◌∷◌, List, [], length, drop, is_some, true, OnOk, IfOk, IfErr, ◌≤◌};
+ghost use Rattle.std.specs.Prelude.{◌≡◌, ◌+◌, ◌++◌, ◌∷◌, List, [], length, drop, is_some, true, false, Ok, OnOk, OnErr, IfOk, IfErr, ◌≤◌};
 ghost use Rattle.std.specs.Str.{IsUtf8};
 ghost use Rattle.packstream.specs.Markers.{marker as marker_at};
 ghost use Rattle.packstream.specs.Plain.{AreBytes};
@@ -10,7 +10,7 @@ ghost use Rattle.reader.specs.declared.reading.Part.TheVariants as part;
 ghost use Rattle.reader.specs.Items.{size_with};
 ghost use Rattle.reader.specs.Frames.{Frame, AreLevels, place};
 ghost use Rattle.reader.specs.Piecewise.{nothing_read};
-ghost use Rattle.reader.specs.Holding.{holds, point, bytes_of, bytes_with, at_mark, mark_of, with_fault, with_item, Goes, IsStanding, IsKeeping, IsValue, IsListOf, HasGrown, Answers};
+ghost use Rattle.reader.specs.Holding.{holds, point, bytes_of, bytes_with, at_mark, mark_of, with_fault, with_item, Goes, IsStanding, IsKeeping, IsValue, IsListOf, HasGrown, HasTaken, Answers};
 
 use crate::building::build;
 use crate::item::{Item, body_len, field_len, join, size_in};
@@ -20,7 +20,7 @@ use crate::texts::Texts;
 use packstream::marker::{Marker, Size, marker_of};
 use packstream::{PackFault, Packed, Reason};
 use simdutf8::basic::from_utf8;
-use std::alloc::Global;
+use std::alloc::{AllocError, Global};
 
 /// The part of a value or a key that isn't whole.
 #[derive(Clone, Copy)]
@@ -129,11 +129,46 @@ impl Reading {
         Err(PackFault::Refused(Reason::Short, self.standing.read))
     }
 
+    /// Takes a piece of the text or the byte string that isn't whole, where bytes of it are missing behind the piece too; and
+    /// answers whether it did. Else nothing changes.
+    pub(crate) fn take_within(&mut self, piece: &[u8]) -> Result<bool, AllocError>
+        requires { IsStanding (holds self.old) }
+        ensures taken { result ≡ Ok true
+            → ((holds self.old).standing.bad ≡ None)
+            × HasTaken (bytes_of (holds self.old) ++ piece.now) (holds self.new) [] }
+        ensures grown { HasGrown (holds self.old) (holds self.new) }
+        ensures other { result ≡ Ok false → self.new ≡ self.old }
+        ensures err { OnErr result (self.new ≡ self.old) }
+    {
+        if self.standing.bad.is_some() {
+            return Ok(false);
+        }
+        let Part::Body {
+            marker,
+            number,
+            lacks,
+        } = self.standing.part
+        else {
+            return Ok(false);
+        };
+        if piece.len() as u64 >= lacks {
+            return Ok(false);
+        }
+        self.texts.extend(piece)?;
+        self.standing.part = Part::Body {
+            marker,
+            number,
+            lacks: lacks - piece.len() as u64,
+        };
+        Ok(true)
+    }
+
     /// Takes the piece, item by item. Its lists only grow.
     pub(crate) fn take(&mut self, piece: &[u8]) -> Result<(), Stop>
         requires keeping { IsKeeping (holds self.old) }
         requires good { (holds self.old).standing.bad ≡ None }
-        ensures told { Answers (λ x. []) result (bytes_of (holds self.old) ++ piece.now) (holds self.new) }
+        ensures told { Answers (λ x. []) result (bytes_of (holds self.old) ++ piece.now)
+            (holds self.new) }
         ensures grown { HasGrown (holds self.old) (holds self.new) }
     {
         let mut rest = self.take_part(piece)?;
@@ -147,7 +182,8 @@ impl Reading {
     fn take_part<'a>(&mut self, piece: &'a [u8]) -> Result<&'a [u8], Stop>
         requires stands { IsStanding (holds self.old) }
         requires good { (holds self.old).standing.bad ≡ None }
-        ensures told { Answers (λ x. x.now) result (bytes_of (holds self.old) ++ piece.now) (holds self.new) }
+        ensures told { Answers (λ x. x.now) result (bytes_of (holds self.old) ++ piece.now)
+            (holds self.new) }
         ensures grown { HasGrown (holds self.old) (holds self.new) }
     {
         match self.standing.part {
@@ -182,7 +218,8 @@ impl Reading {
         requires good { (holds self.old).standing.bad ≡ None }
         requires none { (holds self.old).standing.part ≡ part.Nothing }
         requires bytes { AreBytes (bytes_of (holds self.old)) }
-        ensures told { Answers (λ x. x.now) result (bytes_of (holds self.old) ++ marker ∷ bytes.now) (holds self.new) }
+        ensures told { Answers (λ x. x.now) result (bytes_of (holds self.old) ++ marker ∷ bytes.now)
+            (holds self.new) }
         ensures shorter { IfOk result (λ x. length x.now ≤ length bytes.now) }
         ensures grown { HasGrown (holds self.old) (holds self.new) }
     {
@@ -212,7 +249,9 @@ impl Reading {
         requires announced { marker_at marker ≡ Some announced }
         requires goes { Goes (holds self.old) (part.Head marker number has) }
         requires good { (holds self.old).standing.bad ≡ None }
-        ensures told { Answers (λ x. x.now) result (bytes_with (holds self.old) (part.Head marker number has) ++ bytes.now) (holds self.new) }
+        ensures told { Answers (λ x. x.now) result
+            (bytes_with (holds self.old) (part.Head marker number has) ++ bytes.now)
+            (holds self.new) }
         ensures shorter { IfOk result (λ x. length x.now ≤ length bytes.now) }
         ensures grown { HasGrown (holds self.old) (holds self.new) }
     {
@@ -243,7 +282,9 @@ impl Reading {
         requires announced { marker_at marker ≡ Some announced }
         requires goes { Goes (holds self.old) (part.Body marker number lacks) }
         requires good { (holds self.old).standing.bad ≡ None }
-        ensures told { Answers (λ x. x.now) result (bytes_with (holds self.old) (part.Body marker number lacks) ++ bytes.now) (holds self.new) }
+        ensures told { Answers (λ x. x.now) result
+            (bytes_with (holds self.old) (part.Body marker number lacks) ++ bytes.now)
+            (holds self.new) }
         ensures shorter { IfOk result (λ x. length x.now ≤ length bytes.now) }
         ensures grown { HasGrown (holds self.old) (holds self.new) }
     {
@@ -273,7 +314,9 @@ impl Reading {
         requires announced { marker_at marker ≡ Some announced }
         requires goes { Goes (holds self.old) (part.Body marker number 0) }
         requires good { (holds self.old).standing.bad ≡ None }
-        ensures told { Answers (λ x. x.now) result (bytes_with (holds self.old) (part.Body marker number 0) ++ rest.now) (holds self.new) }
+        ensures told { Answers (λ x. x.now) result
+            (bytes_with (holds self.old) (part.Body marker number 0) ++ rest.now)
+            (holds self.new) }
         ensures after { IfOk result (λ x. x.now ≡ rest.now) }
         ensures grown { HasGrown (holds self.old) (holds self.new) }
     {
@@ -303,7 +346,9 @@ impl Reading {
         requires announced { marker_at marker ≡ Some (announces.Text size) }
         requires goes { Goes (holds self.old) (part.Body marker number 0) }
         requires good { (holds self.old).standing.bad ≡ None }
-        ensures told { Answers (λ x. x.now) result (bytes_with (holds self.old) (part.Body marker number 0) ++ rest.now) (holds self.new) }
+        ensures told { Answers (λ x. x.now) result
+            (bytes_with (holds self.old) (part.Body marker number 0) ++ rest.now)
+            (holds self.new) }
         ensures after { IfOk result (λ x. x.now ≡ rest.now) }
         ensures grown { HasGrown (holds self.old) (holds self.new) }
     {
@@ -331,9 +376,13 @@ impl Reading {
         requires goes { Goes (holds self.old) (part.Body marker number 0) }
         requires start { start + size_with size number ≡ length (holds self.old).store }
         requires text { IsUtf8 (drop start (holds self.old).store) }
-        requires key { (fs : List Frame) → AreLevels fs (holds self.old).standing.«open».depth (holds self.old).standing.«open».around → is_some (place fs).key ≡ true }
+        requires key { (fs : List Frame)
+            → AreLevels fs (holds self.old).standing.«open».depth
+            (holds self.old).standing.«open».around → is_some (place fs).key ≡ true }
         requires good { (holds self.old).standing.bad ≡ None }
-        ensures told { Answers (λ x. x.now) result (bytes_with (holds self.old) (part.Body marker number 0) ++ rest.now) (holds self.new) }
+        ensures told { Answers (λ x. x.now) result
+            (bytes_with (holds self.old) (part.Body marker number 0) ++ rest.now)
+            (holds self.new) }
         ensures after { IfOk result (λ x. x.now ≡ rest.now) }
         ensures grown { HasGrown (holds self.old) (holds self.new) }
     {
@@ -359,7 +408,9 @@ impl Reading {
         requires goes { Goes (holds self.old) (part.Body marker number 0) }
         requires value { IsValue (holds self.old) marker number }
         requires good { (holds self.old).standing.bad ≡ None }
-        ensures told { Answers (λ x. x.now) result (bytes_with (holds self.old) (part.Body marker number 0) ++ rest.now) (holds self.new) }
+        ensures told { Answers (λ x. x.now) result
+            (bytes_with (holds self.old) (part.Body marker number 0) ++ rest.now)
+            (holds self.new) }
         ensures after { IfOk result (λ x. x.now ≡ rest.now) }
         ensures grown { HasGrown (holds self.old) (holds self.new) }
     {
@@ -381,7 +432,9 @@ impl Reading {
         requires list { IsListOf announced number count }
         requires goes { Goes (holds self.old) (part.Body marker number 0) }
         requires good { (holds self.old).standing.bad ≡ None }
-        ensures told { Answers (λ x. x.now) result (bytes_with (holds self.old) (part.Body marker number 0) ++ rest.now) (holds self.new) }
+        ensures told { Answers (λ x. x.now) result
+            (bytes_with (holds self.old) (part.Body marker number 0) ++ rest.now)
+            (holds self.new) }
         ensures after { IfOk result (λ x. x.now ≡ rest.now) }
         ensures grown { HasGrown (holds self.old) (holds self.new) }
     {
@@ -404,7 +457,9 @@ impl Reading {
         requires announced { marker_at marker ≡ Some (announces.Dict size) }
         requires goes { Goes (holds self.old) (part.Body marker number 0) }
         requires good { (holds self.old).standing.bad ≡ None }
-        ensures told { Answers (λ x. x.now) result (bytes_with (holds self.old) (part.Body marker number 0) ++ rest.now) (holds self.new) }
+        ensures told { Answers (λ x. x.now) result
+            (bytes_with (holds self.old) (part.Body marker number 0) ++ rest.now)
+            (holds self.new) }
         ensures after { IfOk result (λ x. x.now ≡ rest.now) }
         ensures grown { HasGrown (holds self.old) (holds self.new) }
     {
@@ -421,7 +476,8 @@ impl Reading {
     /// Keeps an item, and that its bytes are read.
     #[inline]
     fn push(&mut self, announced: Marker, marker: u8, number: u64) -> Result<(), Stop>
-        ensures ok { OnOk result (holds self.new ≡ with_item announced marker number (holds self.old)) }
+        ensures ok { OnOk result
+            (holds self.new ≡ with_item announced marker number (holds self.old)) }
         ensures fault { IfErr result (λ e. e ≡ stop.Memory) }
         ensures grown { HasGrown (holds self.old) (holds self.new) }
         ensures opened { self.new.standing.«open» ≡ self.old.standing.«open» }

@@ -103,9 +103,15 @@ impl Texts {
     pub(crate) fn join(&mut self, first: usize, start: usize) -> Result<bool, AllocError>
         requires start { start ≤ length self.old.bytes }
         requires root { IsRoot self.old.names first }
-        ensures fresh { result ≡ Ok true → (IsNamed self.old.names self.old.bytes first (drop start self.old.bytes) → ⊥)
-            × (self.new.names ≡ self.old.names ++ (record { start = start; len = length self.old.bytes - start; first = first }) ∷ []) }
-        ensures again { result ≡ Ok false → IsNamed self.old.names self.old.bytes first (drop start self.old.bytes)
+        ensures fresh { result ≡ Ok true
+            → (IsNamed self.old.names self.old.bytes first (drop start self.old.bytes) → ⊥)
+            × (self.new.names ≡ self.old.names ++ (record {
+              start = start;
+              len = length self.old.bytes - start;
+              first = first;
+            }) ∷ []) }
+        ensures again { result ≡ Ok false
+            → IsNamed self.old.names self.old.bytes first (drop start self.old.bytes)
             × (self.new.names ≡ self.old.names) }
         ensures err { OnErr result (self.new.names ≡ self.old.names) }
         ensures bytes { self.new.bytes ≡ self.old.bytes }
@@ -175,7 +181,9 @@ fn find(keys: &[Key], bytes: &[u8], first: usize, digest: u64, text: &[u8]) -> F
     requires root { IsRoot (names_of keys.now) first }
     requires digest { digest ≡ digest_of text.now }
     ensures again { result ≡ found.Again → IsNamed (names_of keys.now) bytes.now first text.now }
-    ensures free { (l : Option OfKey) → result ≡ found.Free l → (IsNamed (names_of keys.now) bytes.now first text.now → ⊥) × IsFree keys.now first text.now l }
+    ensures free { (l : Option OfKey) → result ≡ found.Free l
+        → (IsNamed (names_of keys.now) bytes.now first text.now → ⊥)
+        × IsFree keys.now first text.now l }
 {
     if first >= keys.len() {
         return Found::Free(None);
@@ -241,7 +249,8 @@ fn below(keys: &[Key], first: usize, at: usize, is_right: bool) -> Option<usize>
 /// Hangs a key on its link.
 fn hang(keys: &mut Vec<Key>, key: Key) -> Result<(), AllocError>
     requires { HasLink keys.old.items key.above }
-    ensures ok { OnOk result (keys.new.items ≡ hung key.above (length keys.old.items) keys.old.items ++ key ∷ []) }
+    ensures ok { OnOk result
+        (keys.new.items ≡ hung key.above (length keys.old.items) keys.old.items ++ key ∷ []) }
     ensures err { OnErr result (keys.new.items ≡ keys.old.items) }
 {
     let number = keys.len();
