@@ -2,6 +2,7 @@ pub mod Judging
 pub mod Waiting
 pub mod Parts
 pub mod Taking
+pub mod Fronts
 pub mod Values
 pub mod Pieces
 pub mod Steps

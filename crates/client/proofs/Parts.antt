@@ -63,7 +63,7 @@ Goes s bytes used n place p part.TooBig = TakesItem s bytes (record { used = use
 pub reached_start : (place : Place) (body bytes : List ℕ) (p : Point) → Holds body place → place.too_big ≡ false → Reads p body → Reached (unfinished_at place body) bytes 0 place p
 reached_start place body bytes p counts going reads = record { body = body; counts = counts; going = going; reads = reads; ahead = sym (further-zero _) }
 
-is_none : (body : List ℕ) → length body ≡ 0 → body ≡ []
+pub is_none : (body : List ℕ) → length body ≡ 0 → body ≡ []
 is_none [] h = refl
 is_none (b ∷ body) h = absurd (omega arith)
 

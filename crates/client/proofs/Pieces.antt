@@ -7,6 +7,7 @@ use Rattle.wire.specs.Reader.{Took, ends_at, takes}
 use Rattle.wire.proofs.Readers.{reads_pieces}
 use Rattle.messages.specs.Arrivals.{Heard as AnyHeard}
 use Rattle.client.specs.declared.heard.Heard.{Heard}
+use Rattle.client.specs.declared.heard.Heard.TheVariants.{Nothing}
 use Rattle.client.specs.declared.faults.ClientFault.{ClientFault}
 use Rattle.client.specs.declared.faults.ClientFault.TheVariants as client_fault
 use Rattle.client.specs.Rest.{Rest, Knows, Hearing, Note, note_of, heard_as, hears_item, Fed, fed_heard, fed_item, fed_open, feed_of}
@@ -55,6 +56,11 @@ module _ (r : Rest) (m : Took Opened Item) (x : AnyHeard) (came : x ≡ came_in 
   refused_feeds e k =
       let bad = err_note m.used e (note_of x heard) heard.bad k.0 in
       subst (λ z. Feeds Now r (fed_open r m) (Err z)) (sym bad.0) (bad.1 ∙ sym (ap (λ f. f.answer) by_heard), there k.1)
+
+-- a piece with which nothing ends
+pub quiet_feeds : (r : Rest) (m : Took Opened Item) (Now : Rest → Type 0) (used : ℕ) → AnyHeard.Quiet ≡ came_in r.knows.version m.item → Now (record r { item = m.rest }) → used ≡ m.used → Feeds Now r (fed_open r m) (Ok (used, Nothing))
+quiet_feeds r m Now used came there u =
+    heard_feeds r m AnyHeard.Quiet came Now r.knows (λ k e. subst (λ (z : Knows). Now (record r { item = m.rest; knows = z })) e there) used Nothing u (refl, refl)
 
 -- what is heard, by what a rest has of the client
 pub hears_by : (wish other : Wish) (k l : Knows) (x : AnyHeard) (result : Result Heard ClientFault) (knows : Knows) → wish ≡ other → k ≡ l → Hears (hears_item wish k x) x result knows → Hears (hears_item other l x) x result knows

@@ -126,7 +126,7 @@ held_then old new place p part (opening bytes) is = elim (cases_lt new.len 4) as
 held_then old new place p part (reading u) is = absurd (omega arith)
 
 -- what is taken of chunks, by what is answered to the piece
-taken_by : (u : Unfinished) (piece : List ℕ) (a : Answered) → u.too_big ≡ false → answer_from u piece ≡ a → takes at_client (reading u) piece ≡ lifted (took_by a.answer a.rest)
+pub taken_by : (u : Unfinished) (piece : List ℕ) (a : Answered) → u.too_big ≡ false → answer_from u piece ≡ a → takes at_client (reading u) piece ≡ lifted (took_by a.answer a.rest)
 taken_by u piece a going e =
     let same : answer_to u piece ≡ a = ap (λ (b : Bool). if b then record { answer = Err (fault.TooBig 0); rest = u } else answer_from u piece) going ∙ e in
     reading_takes u piece ∙ ap lifted (answers_take u piece going ∙ ap (λ (x : Answered). took_by x.answer x.rest) same)

@@ -12,19 +12,28 @@ use Rattle.client.specs.Rest.{Knows, Rest, refuses, next_ordinal}
 
 -- what the fields of a pipeline say
 abbrev pub knowledge_of : Pipeline → Knows
-knowledge_of p = record { version = p.version; over = p.over; first = p.first; phase = p.phase; waiting = map request_view p.waiting.items }
+knowledge_of p = record {
+  version = p.version;
+  over = p.over;
+  first = p.first;
+  phase = p.phase;
+  waiting = map request_view p.waiting.items;
+}
 
 -- The client may stand at this rest of a run.
 abbrev pub Fits : Client → Rest → Type 0
-Fits c r = (c.wish ≡ r.wish) × (knowledge_of c.pipeline ≡ r.knows) × IsItem c.stream.opening c.stream.chunks c.stream.reader.here r.item × (c.out.items ≡ r.unsent)
+Fits c r = (c.wish ≡ r.wish) × (knowledge_of c.pipeline ≡ r.knows)
+    × IsItem c.stream.opening c.stream.chunks c.stream.reader.here r.item × (c.out.items ≡ r.unsent)
 
--- The request is accepted with this ordinal, and it has a spelling that stands for it.
+-- The request has a spelling at this version that stands for it.
 abbrev pub IsWrittenBy : Option Version → RequestView → Type 0
 IsWrittenBy None q = ⊥
 IsWrittenBy (Some v) q = IsWritten v q
 
+-- The request is accepted with this ordinal, and it has a spelling that stands for it.
 abbrev pub IsAccepted : Rest → RequestView → ℕ → Type 0
-IsAccepted r q ordinal = (refuses r.knows q ≡ None) × (ordinal ≡ next_ordinal r) × IsWrittenBy r.knows.version q
+IsAccepted r q ordinal =
+    (refuses r.knows q ≡ None) × (ordinal ≡ next_ordinal r) × IsWrittenBy r.knows.version q
 
 -- what holds unless memory ran out
 abbrev pub UnlessMemory : {A : Type 0} → Result A ClientFault → Type 0 → Type 0

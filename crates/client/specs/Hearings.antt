@@ -27,20 +27,26 @@ use Rattle.client.specs.Held.{IsItem}
 -- the phase that a summary of a request leads to, and what became of the request, if it is accepted
 abbrev pub judgement_by : Version → Phase → Kind → Bool → Option Verdict → Option (Phase × Outcome)
 judgement_by v p k behind None = None
-judgement_by v p k behind (Some d) = option_map (λ next. (next, outcome_of p k d)) (phase_accepted v p k behind d)
+judgement_by v p k behind (Some d) =
+    option_map (λ next. (next, outcome_of p k d)) (phase_accepted v p k behind d)
 
-abbrev pub judgement_of : Knows → ResponseView → Option Version → List RequestView → Option (Phase × Outcome)
-judgement_of k a (Some v) (q ∷ later) = judgement_by v k.phase (kind_of q) (resets later) (verdict_of (in_part q) a)
+-- the same of the first of the requests; none before a version is known, or where no request waits
+abbrev pub judgement_of : Knows → ResponseView → Option Version → List RequestView
+    → Option (Phase × Outcome)
+judgement_of k a (Some v) (q ∷ later) =
+    judgement_by v k.phase (kind_of q) (resets later) (verdict_of (in_part q) a)
 judgement_of k a o qs = None
 
 -- what is told of an item, or that it is bad
 abbrev pub note_or : AnyHeard → Hearing → Result Note ClientFault
 note_or x h = if h.bad then Err client_fault.BadPeer else Ok (note_of x h)
 
+-- what is told, or the fault, as contracts see it
 abbrev pub note_in : Result Heard ClientFault → Result Note ClientFault
 note_in (Ok heard) = Ok (note heard)
 note_in (Err e) = Err e
 
+-- what is told of an item that was heard, and what is known then, are those of the model
 abbrev pub Hears : Hearing → AnyHeard → Result Heard ClientFault → Knows → Type 0
 Hears h x result knows = (note_in result ≡ note_or x h) × (knows ≡ h.knows)
 
@@ -58,6 +64,7 @@ abbrev pub came_in : Option Version → Option Item → AnyHeard
 came_in v None = AnyHeard.Quiet
 came_in v (Some x) = plain (heard_as v x)
 
+-- what came of a piece, as what is heard: nothing as a no-op, and what is bad as a strange answer
 abbrev pub came_as : Came → AnyHeard
 came_as came.Nothing = AnyHeard.Quiet
 came_as came.Bad = AnyHeard.Strange
@@ -65,7 +72,8 @@ came_as (came.Version o) = AnyHeard.Chosen o
 came_as (came.Response response) = AnyHeard.Told (response_view response)
 
 -- what came of a piece, and what is held of the stream after it
-pub record TakesPiece (v : Option Version) (m : Took Opened Item) (t : Taken) (o : Opening) (place : Place) (p : Point) : Type 0 where
+pub record TakesPiece (v : Option Version) (m : Took Opened Item) (t : Taken) (o : Opening)
+    (place : Place) (p : Point) : Type 0 where
   pub used : t.used ≡ m.used
   pub rest : IsItem o place p m.rest
   pub came : came_as t.came ≡ came_in v m.item

@@ -66,10 +66,15 @@ impl Client {
     ///
     /// Else the first of C4, C1, C2, C7 and C3 that holds, or C5; C4, C1 and C2 take no memory. Nothing has changed then.
     pub fn submit(&mut self, request: Request) -> Result<u64, SubmitFault>
-        ensures ok { (r : Rest) → Fits self.old r → IfOk result (λ n. IsAccepted r (request_view request) n × Fits self.new (after_submit r (request_view request))) }
+        ensures ok { (r : Rest) → Fits self.old r
+            → IfOk result (λ n. IsAccepted r (request_view request) n
+            × Fits self.new (after_submit r (request_view request))) }
         ensures err { (r : Rest) → Fits self.old r → OnErr result (Fits self.new r) }
-        ensures fault { (r : Rest) → Fits self.old r → IfErr result (λ e. (e ≡ SubmitFault.Memory → ⊥) → refuses r.knows (request_view request) ≡ Some e) }
-        ensures memory { (r : Rest) → Fits self.old r → IsErrOf result SubmitFault.Memory → refuses_at_once r.knows (request_view request) ≡ None }
+        ensures fault { (r : Rest) → Fits self.old r
+            → IfErr result (λ e. (e ≡ SubmitFault.Memory → ⊥)
+            → refuses r.knows (request_view request) ≡ Some e) }
+        ensures memory { (r : Rest) → Fits self.old r → IsErrOf result SubmitFault.Memory
+            → refuses_at_once r.knows (request_view request) ≡ None }
     {
         let version = self.pipeline.admit(&request)?;
         let text = text_of(self.alloc, version, &request)?;
@@ -83,7 +88,8 @@ impl Client {
     /// The next bytes that aren't taken out, the smaller of `max` and what waits, after the client's end too; or C5, and nothing
     /// has changed.
     pub fn take_out(&mut self, max: usize) -> Result<Bytes, ClientFault>
-        ensures ok { (r : Rest) → Fits self.old r → IfOk result (λ bytes. (bytes ≡ take max r.unsent) × Fits self.new (taken_out r max)) }
+        ensures ok { (r : Rest) → Fits self.old r
+            → IfOk result (λ bytes. (bytes ≡ take max r.unsent) × Fits self.new (taken_out r max)) }
         ensures err { (r : Rest) → Fits self.old r → OnErr result (Fits self.new r) }
         ensures fault { IfErr result (λ e. e ≡ ClientFault.Memory) }
         ensures short { IfOk result (λ bytes. length bytes < 2 ^ 63) }
@@ -102,8 +108,11 @@ impl Client {
     /// row where the first waiting request is no PULL, a summary that isn't accepted, a version that wasn't offered. C5 for want
     /// of memory: nothing was used, nothing has changed.
     pub fn feed(&mut self, piece: &[u8]) -> Result<(usize, Heard), ClientFault>
-        ensures told { (r : Rest) → Fits self.old r → UnlessMemory result ((note_result result ≡ (feed_of r piece.now).answer) × Fits self.new (feed_of r piece.now).rest) }
-        ensures memory { (r : Rest) → Fits self.old r → IsErrOf result ClientFault.Memory → Fits self.new r × (r.knows.over ≡ false) }
+        ensures told { (r : Rest) → Fits self.old r
+            → UnlessMemory result ((note_result result ≡ (feed_of r piece.now).answer)
+            × Fits self.new (feed_of r piece.now).rest) }
+        ensures memory { (r : Rest) → Fits self.old r → IsErrOf result ClientFault.Memory
+            → Fits self.new r × (r.knows.over ≡ false) }
         ensures within { IfOk result (λ t. t.0 ≤ length piece.now) }
         ensures goes_on { 0 < length piece.now → IfOk result (λ t. 0 < t.0) }
     {
@@ -113,9 +122,24 @@ impl Client {
         self.feed_open(piece)
     }
 
+    /// Of data alone nothing is told but that it was used.
     fn feed_open(&mut self, piece: &[u8]) -> Result<(usize, Heard), ClientFault>
         requires { self.old.pipeline.over ≡ false }
-        ensures { (r : Rest) → Fits self.old r → Feeds (Fits self.new) r (fed_open r (takes at_client r.item piece.now)) result }
+        ensures { (r : Rest) → Fits self.old r
+            → Feeds (Fits self.new) r (fed_open r (takes at_client r.item piece.now)) result }
+    {
+        match self.stream.take_data(piece) {
+            Ok(true) => Ok((piece.len(), Heard::Nothing)),
+            Ok(false) => self.feed_item(piece),
+            Err(fault) => Err(fault),
+        }
+    }
+
+    /// Tells what ends with the last byte that is used.
+    fn feed_item(&mut self, piece: &[u8]) -> Result<(usize, Heard), ClientFault>
+        requires { self.old.pipeline.over ≡ false }
+        ensures { (r : Rest) → Fits self.old r
+            → Feeds (Fits self.new) r (fed_open r (takes at_client r.item piece.now)) result }
     {
         let taken = self.stream.take(self.alloc, self.pipeline.version, piece)?;
         let Taken { used, came } = taken;
@@ -136,7 +160,8 @@ impl Client {
 
     /// The client is lost: no byte comes any more, and the outcome of each request that waited is known. It takes no memory.
     pub fn lost(&mut self) -> Losses
-        ensures { (r : Rest) → Fits self.old r → (result ≡ losses r.knows) × Fits self.new (after_drop r) }
+        ensures { (r : Rest) → Fits self.old r
+            → (result ≡ losses r.knows) × Fits self.new (after_drop r) }
     {
         self.pipeline.lose()
     }

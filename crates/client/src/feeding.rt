@@ -1,6 +1,6 @@
 //! What comes of the pieces of a server's bytes.
 
-ghost use Rattle.std.specs.Prelude.{◌≡◌, ℕ, List, ◌<◌, ◌≤◌, true, false, Option, IfOk, IfErr, OnErr};
+ghost use Rattle.std.specs.Prelude.{◌≡◌, ℕ, List, length, ◌+◌, ◌<◌, ◌≤◌, true, false, Option, IfOk, IfErr, OnErr};
 ghost use Rattle.packstream.specs.Spelling.{Spells};
 ghost use Rattle.wire.specs.Framing.{Opened, at_client};
 ghost use Rattle.wire.specs.Reader.{takes};
@@ -15,13 +15,13 @@ ghost use Rattle.client.specs.Hearings.{plain, came_as, TakesPiece};
 ghost use Rattle.client.specs.Held.{IsItem};
 
 use crate::faults::ClientFault;
-use crate::items::{Bite, End, take_item};
+use crate::items::{Bite, End, behind_data, take_item};
 use crate::opening::{LENGTH, Opening};
 use crate::stream::Stream;
-use messages::{MsgFault, Response, response_of};
+use messages::{MsgFault, Response, read_response, response_of};
 use packstream::{PackFault, Packed};
 use reader::Reader;
-use reader::laws::finish_reads;
+use reader::laws::{finish_reads, reads_more};
 use std::alloc::Global;
 use wire::{Chunks, Version};
 
@@ -45,7 +45,8 @@ pub(crate) struct Taken {
 
 /// What a value says, by the table of responses.
 fn came_of_value(alloc: Global, version: Version, packed: &Packed) -> Result<Came, ClientFault>
-    ensures ok { (b : List ℕ) → Spells packed.now b → IfOk result (λ came. came_as came ≡ plain (heard_response (response_by version b))) }
+    ensures ok { (b : List ℕ) → Spells packed.now b
+        → IfOk result (λ came. came_as came ≡ plain (heard_response (response_by version b))) }
     ensures err { IfErr result (λ e. e ≡ ClientFault.Memory) }
 {
     match response_of(alloc, version, packed) {
@@ -57,7 +58,8 @@ fn came_of_value(alloc: Global, version: Version, packed: &Packed) -> Result<Cam
 
 /// What a message says, by the version that is known. All of its data was read.
 fn came_of(alloc: Global, version: Option<Version>, reader: &Reader) -> Result<Came, ClientFault>
-    ensures ok { (b : List ℕ) → Reads reader.now.here b → IfOk result (λ came. came_as came ≡ plain (heard_message version b)) }
+    ensures ok { (b : List ℕ) → Reads reader.now.here b
+        → IfOk result (λ came. came_as came ≡ plain (heard_message version b)) }
     ensures err { IfErr result (λ e. e ≡ ClientFault.Memory) }
 {
     finish_reads();
@@ -68,6 +70,54 @@ fn came_of(alloc: Global, version: Option<Version>, reader: &Reader) -> Result<C
         Ok(packed) => came_of_value(alloc, version, &packed),
         Err(PackFault::Memory) => Err(ClientFault::Memory),
         Err(PackFault::Refused(_, _)) => Ok(Came::Bad),
+    }
+}
+
+/// What the bytes of a message say, by the table of responses.
+fn came_of_bytes(alloc: Global, version: Version, message: &[u8]) -> Result<Came, ClientFault>
+    ensures ok { IfOk result
+        (λ came. came_as came ≡ plain (heard_response (response_by version message.now))) }
+    ensures err { IfErr result (λ e. e ≡ ClientFault.Memory) }
+{
+    match read_response(alloc, version, message) {
+        Ok(response) => Ok(Came::Response(response)),
+        Err(MsgFault::Memory) => Err(ClientFault::Memory),
+        Err(_) => Ok(Came::Bad),
+    }
+}
+
+/// What the bytes of a message say, by the version that is known.
+fn came_of_message(
+    alloc: Global,
+    version: Option<Version>,
+    message: &[u8],
+) -> Result<Came, ClientFault>
+    ensures ok { IfOk result (λ came. came_as came ≡ plain (heard_message version message.now)) }
+    ensures err { IfErr result (λ e. e ≡ ClientFault.Memory) }
+{
+    match version {
+        Some(version) => came_of_bytes(alloc, version, message),
+        None => Ok(Came::Bad),
+    }
+}
+
+/// Takes a message that is whole, in one chunk: its two lengths stand around it.
+fn take_message(
+    alloc: Global,
+    version: Option<Version>,
+    message: &[u8],
+) -> Result<Taken, ClientFault>
+    requires { length message.now < 65536 }
+    ensures used { IfOk result (λ t. t.used ≡ length message.now + 4) }
+    ensures came { IfOk result (λ t. came_as t.came ≡ plain (heard_message version message.now)) }
+    ensures err { IfErr result (λ e. e ≡ ClientFault.Memory) }
+{
+    match came_of_message(alloc, version, message) {
+        Ok(came) => Ok(Taken {
+            used: message.len() + 4,
+            came,
+        }),
+        Err(fault) => Err(fault),
     }
 }
 
@@ -82,8 +132,10 @@ fn read_chunks(
 ) -> Result<Taken, ClientFault>
     requires going { chunks.old.too_big ≡ false }
     requires begun { ∥ ((body : List ℕ) × Holds body chunks.old × Reads reader.old.here body) ∥₁ }
-    ensures ok { (o : AnyOpening) (item : Opened) → 4 ≤ o.len → IsItem o chunks.old reader.old.here item
-        → IfOk result (λ t. TakesPiece version (takes at_client item piece.now) t o chunks.new reader.new.here) }
+    ensures ok { (o : AnyOpening) (item : Opened) → 4 ≤ o.len
+        → IsItem o chunks.old reader.old.here item
+        → IfOk result (λ t. TakesPiece version (takes at_client item piece.now) t o chunks.new
+        reader.new.here) }
     ensures err { IfErr result (λ e. e ≡ ClientFault.Memory) }
     ensures held { OnErr result (reader.new.held ≡ reader.old.held) }
 {
@@ -122,6 +174,37 @@ fn answer_of(opening: Opening) -> Came
 }
 
 impl Stream {
+    /// Takes a piece that is data alone, and answers whether it is; else, and for want of memory, nothing changes.
+    pub fn take_data(&mut self, piece: &[u8]) -> Result<bool, ClientFault>
+        requires { self.old.chunks.too_big ≡ false }
+        ensures data { result ≡ Ok true → (version : Option Version) (item : Opened)
+            → IsItem self.old.opening self.old.chunks self.old.reader.here item
+            → TakesPiece version (takes at_client item piece.now)
+            (record { used = length piece.now; came = Came.Nothing })
+            self.new.opening self.new.chunks self.new.reader.here }
+        ensures going { self.new.chunks.too_big ≡ false }
+        ensures other { result ≡ Ok false
+            → (self.new.opening ≡ self.old.opening) × (self.new.chunks ≡ self.old.chunks)
+            × (self.new.reader ≡ self.old.reader) }
+        ensures err { IfErr result (λ e. e ≡ ClientFault.Memory) }
+        ensures same { OnErr result
+            ((self.new.opening ≡ self.old.opening) × (self.new.chunks ≡ self.old.chunks)
+            × (self.new.reader ≡ self.old.reader)) }
+    {
+        reads_more();
+        if self.opening.len < LENGTH {
+            return Ok(false);
+        }
+        let Some(behind) = behind_data(self.chunks, piece) else {
+            return Ok(false);
+        };
+        let Ok(()) = self.reader.advance(piece) else {
+            return Err(ClientFault::Memory);
+        };
+        self.chunks = behind;
+        Ok(true)
+    }
+
     /// Takes the piece to the end of the item begun, else all of it; or nothing, for want of memory.
     pub fn take(
         &mut self,
@@ -130,10 +213,14 @@ impl Stream {
         piece: &[u8],
     ) -> Result<Taken, ClientFault>
         requires { self.old.chunks.too_big ≡ false }
-        ensures ok { (item : Opened) → IsItem self.old.opening self.old.chunks self.old.reader.here item
-            → IfOk result (λ t. TakesPiece version (takes at_client item piece.now) t self.new.opening self.new.chunks self.new.reader.here) }
+        ensures ok { (item : Opened)
+            → IsItem self.old.opening self.old.chunks self.old.reader.here item
+            → IfOk result (λ t. TakesPiece version (takes at_client item piece.now) t
+            self.new.opening self.new.chunks self.new.reader.here) }
         ensures err { IfErr result (λ e. e ≡ ClientFault.Memory) }
-        ensures same { OnErr result ((self.new.opening ≡ self.old.opening) × (self.new.chunks ≡ self.old.chunks) × (self.new.reader ≡ self.old.reader)) }
+        ensures same { OnErr result
+            ((self.new.opening ≡ self.old.opening) × (self.new.chunks ≡ self.old.chunks)
+            × (self.new.reader ≡ self.old.reader)) }
     {
         if self.opening.len < LENGTH {
             Ok(self.take_answer(piece))
@@ -145,8 +232,10 @@ impl Stream {
     /// The answer to the offer comes first.
     fn take_answer(&mut self, piece: &[u8]) -> Taken
         requires { self.old.opening.len < 4 }
-        ensures { (version : Option Version) (item : Opened) → IsItem self.old.opening self.old.chunks self.old.reader.here item
-            → TakesPiece version (takes at_client item piece.now) result self.new.opening self.new.chunks self.new.reader.here }
+        ensures { (version : Option Version) (item : Opened)
+            → IsItem self.old.opening self.old.chunks self.old.reader.here item
+            → TakesPiece version (takes at_client item piece.now) result self.new.opening
+            self.new.chunks self.new.reader.here }
     {
         let (opening, used) = self.opening.with(piece);
         self.opening = opening;
@@ -162,7 +251,7 @@ impl Stream {
         }
     }
 
-    /// Then come chunks.
+    /// Then come chunks: a message that the piece begins with, where it is there whole, else part by part.
     fn take_chunks(
         &mut self,
         alloc: Global,
@@ -170,10 +259,37 @@ impl Stream {
         piece: &[u8],
     ) -> Result<Taken, ClientFault>
         requires { (4 ≤ self.old.opening.len) × (self.old.chunks.too_big ≡ false) }
-        ensures ok { (item : Opened) → IsItem self.old.opening self.old.chunks self.old.reader.here item
-            → IfOk result (λ t. TakesPiece version (takes at_client item piece.now) t self.new.opening self.new.chunks self.new.reader.here) }
+        ensures ok { (item : Opened)
+            → IsItem self.old.opening self.old.chunks self.old.reader.here item
+            → IfOk result (λ t. TakesPiece version (takes at_client item piece.now) t
+            self.new.opening self.new.chunks self.new.reader.here) }
         ensures err { IfErr result (λ e. e ≡ ClientFault.Memory) }
-        ensures same { OnErr result ((self.new.opening ≡ self.old.opening) × (self.new.chunks ≡ self.old.chunks) × (self.new.reader ≡ self.old.reader)) }
+        ensures same { OnErr result
+            ((self.new.opening ≡ self.old.opening) × (self.new.chunks ≡ self.old.chunks)
+            × (self.new.reader ≡ self.old.reader)) }
+    {
+        match self.chunks.message_in(piece) {
+            Some(message) => take_message(alloc, version, message),
+            None => self.take_parts(alloc, version, piece),
+        }
+    }
+
+    /// Takes chunks part by part. For want of memory the place is put back, and the reader returns to the point that it holds.
+    fn take_parts(
+        &mut self,
+        alloc: Global,
+        version: Option<Version>,
+        piece: &[u8],
+    ) -> Result<Taken, ClientFault>
+        requires { (4 ≤ self.old.opening.len) × (self.old.chunks.too_big ≡ false) }
+        ensures ok { (item : Opened)
+            → IsItem self.old.opening self.old.chunks self.old.reader.here item
+            → IfOk result (λ t. TakesPiece version (takes at_client item piece.now) t
+            self.new.opening self.new.chunks self.new.reader.here) }
+        ensures err { IfErr result (λ e. e ≡ ClientFault.Memory) }
+        ensures same { OnErr result
+            ((self.new.opening ≡ self.old.opening) × (self.new.chunks ≡ self.old.chunks)
+            × (self.new.reader ≡ self.old.reader)) }
     {
         let before = self.chunks;
         match read_chunks(alloc, version, &mut self.chunks, &mut self.reader, piece) {

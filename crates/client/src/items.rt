@@ -1,10 +1,10 @@
 //! Takes the parts of a piece, and reads the data among them.
 
-ghost use Rattle.std.specs.Prelude.{◌≡◌, ℕ, ◌<◌, ◌≤◌, List, length, false, IfOk};
+ghost use Rattle.std.specs.Prelude.{◌≡◌, ℕ, ◌<◌, ◌≤◌, List, length, false, IfSome, IfOk};
 ghost use Rattle.wire.specs.Unfinished.{unfinished_at};
 ghost use Rattle.wire.specs.Scanning.{Holds};
 ghost use Rattle.reader.specs.Piecewise.{Reads};
-ghost use Rattle.client.specs.Taking.{TakesPart, TakesItem};
+ghost use Rattle.client.specs.Taking.{IsData, TakesPart, TakesItem};
 
 use reader::Reader;
 use reader::laws::reads_more;
@@ -30,11 +30,29 @@ pub(crate) struct Bite {
     pub end: End,
 }
 
+/// The place behind a piece, where that is data of the chunk alone.
+pub(crate) fn behind_data(mut chunks: Chunks, piece: &[u8]) -> Option<Chunks>
+    ensures { IfSome result (λ behind. IsData chunks piece.now behind) }
+{
+    if piece.is_empty() {
+        return None;
+    }
+    let cut = chunks.next(piece);
+    if cut.used < piece.len() {
+        return None;
+    }
+    match cut.what {
+        Part::Data => Some(chunks),
+        _ => None,
+    }
+}
+
 /// Takes one part, and reads its data. For want of memory the reader stays as it was.
 fn take_part(chunks: &mut Chunks, reader: &mut Reader, piece: &[u8]) -> Result<Cut, AllocError>
     requires some { 0 < length piece.now }
     requires going { chunks.old.too_big ≡ false }
-    ensures part { (body : List ℕ) → Holds body chunks.old → Reads reader.old.here body → IfOk result (λ cut. TakesPart chunks.old body piece.now cut chunks.new reader.new.here) }
+    ensures part { (body : List ℕ) → Holds body chunks.old → Reads reader.old.here body
+        → IfOk result (λ cut. TakesPart chunks.old body piece.now cut chunks.new reader.new.here) }
     ensures held { reader.new.held ≡ reader.old.held }
     ensures within { IfOk result (λ cut. cut.used ≤ length piece.now) }
 {
@@ -56,7 +74,9 @@ pub(crate) fn take_item(
 ) -> Result<Bite, AllocError>
     requires going { chunks.old.too_big ≡ false }
     requires begun { ∥ ((body : List ℕ) × Holds body chunks.old × Reads reader.old.here body) ∥₁ }
-    ensures item { (body : List ℕ) → Holds body chunks.old → Reads reader.old.here body → IfOk result (λ bite. TakesItem (unfinished_at chunks.old body) piece.now bite chunks.new reader.new.here) }
+    ensures item { (body : List ℕ) → Holds body chunks.old → Reads reader.old.here body
+        → IfOk result (λ bite. TakesItem (unfinished_at chunks.old body) piece.now bite chunks.new
+        reader.new.here) }
     ensures held { reader.new.held ≡ reader.old.held }
 {
     let mut used = 0;

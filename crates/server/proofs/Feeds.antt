@@ -23,7 +23,7 @@ use Rattle.server.specs.Incoming.{IsAt, HasCome, IsOpened, IsFedAt, Scans}
 use Rattle.server.specs.Views.{data_of}
 use Rattle.server.proofs.Readings.{takes_gone, TakesAll, offer_short, offer_whole}
 
-empty_is : (b : List ℕ) → length b ≡ 0 → b ≡ []
+pub empty_is : (b : List ℕ) → length b ≡ 0 → b ≡ []
 empty_is [] e = refl
 empty_is (x ∷ b) e = absurd (omega arith)
 
@@ -44,7 +44,7 @@ module _ (k : Kept) (u : Unfinished) (piece : List ℕ) where
   fed = takes_item k (takes at_server (reading u) piece)
 
   -- what it makes where the item is this
-  by_taken : (t : TookOf Opened Item) (took : Took) (new : Kept) (s : Stream) → takes at_server (reading u) piece ≡ t → IsFedAt (takes_item k t) took new s → IsFedAt fed took new s
+  pub by_taken : (t : TookOf Opened Item) (took : Took) (new : Kept) (s : Stream) → takes at_server (reading u) piece ≡ t → IsFedAt (takes_item k t) took new s → IsFedAt fed took new s
   by_taken t took new s e f = subst (λ x. IsFedAt (takes_item k x) took new s) (sym e) f
 
   -- after a refusal

@@ -2,6 +2,7 @@ pub mod Readings
 pub mod Requests
 pub mod Coming
 pub mod Feeds
+pub mod Fronts
 pub mod Queues
 pub mod Placed
 pub mod Calls

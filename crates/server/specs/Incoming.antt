@@ -4,7 +4,9 @@ use Rattle.reader.specs.Piecewise.{Point, Reads}
 use Rattle.wire.specs.declared.parts.Cut.{Cut}
 use Rattle.wire.specs.declared.parts.Part.{Part}
 use Rattle.wire.specs.declared.parts.Part.TheVariants as part
-use Rattle.wire.specs.Place.{Place}
+use Rattle.wire.specs.Place.{Place, start}
+use Rattle.wire.specs.Parts.{cut_at}
+use Rattle.wire.specs.Texts.{BeginsWith}
 use Rattle.wire.specs.Unfinished.{Unfinished, fresh, unfinished_at}
 use Rattle.wire.specs.Items.{answer_from, further}
 use Rattle.wire.specs.Scanning.{Holds, After}
@@ -28,6 +30,7 @@ HasCome offer s (opening bytes) =
     (offer.len < 20) × (bytes ≡ take offer.len offer.bytes) × IsAt s fresh
 HasCome offer s (reading u) = (offer.len ≡ 20) × IsAt s u
 
+-- what is held of a session's bytes stands for this item that isn't whole
 abbrev pub IsOpened : Incoming → Opened → Type 0
 IsOpened i u = HasCome i.offer i.stream u
 
@@ -81,3 +84,17 @@ pub record Comes (u : Unfinished) (piece : List ℕ) (used : ℕ) (place : Place
   pub going : place.too_big ≡ false
   pub ahead : answer_from u piece
       ≡ further used (answer_from (unfinished_at place body) (drop used piece))
+
+-- The piece is data of the chunk alone, and this is the place behind it.
+pub record IsData (s : Stream) (piece : List ℕ) (behind : Place) : Type 0 where
+  pub going : s.is_over ≡ false
+  pub some : 0 < length piece
+  pub used : (cut_at s.chunks piece).cut.used ≡ length piece
+  pub what : (cut_at s.chunks piece).cut.what ≡ part.Data
+  pub place : behind ≡ (cut_at s.chunks piece).place
+
+-- No message is begun, and the piece begins with this one, in one chunk.
+pub record IsFirst (s : Stream) (piece message : List ℕ) : Type 0 where
+  pub going : s.is_over ≡ false
+  pub place : s.chunks ≡ start
+  pub begins : BeginsWith message piece

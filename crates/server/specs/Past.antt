@@ -32,10 +32,13 @@ abbrev pub took_by : {G : Type 0} → ℕ → Event → Rest G → List ℕ
 took_by conn (feeds c piece) r = if c == conn then used_of piece (feed_at c piece r) else []
 took_by conn _ r = []
 
-module _ {G : Type 0} (answer : List EntryView → List WriteView → List ℕ → List ParameterView → QueryMode → Result AnswerView QueryFault) (accepts : G → List ℕ → List ℕ → Bool) where
+module _ {G : Type 0} (answer : List EntryView → List WriteView → List ℕ → List ParameterView
+    → QueryMode → Result AnswerView QueryFault) (accepts : G → List ℕ → List ℕ → Bool) where
+  -- the request that a step of the session answers by a summary; none where no session lives
   abbrev pub step_answered : Option Live → Rest G → List RequestView
   step_answered None r = []
-  step_answered (Some s) r = answers_by (work_kept (setting answer accepts r) s.conn r.ledger s.kept s.kept.ended).answer
+  step_answered (Some s) r =
+      answers_by (work_kept (setting answer accepts r) s.conn r.ledger s.kept s.kept.ended).answer
 
   -- the request of a session that a call answered
   abbrev pub call_answered : ℕ → Event → Rest G → List RequestView
@@ -45,12 +48,14 @@ module _ {G : Type 0} (answer : List EntryView → List WriteView → List ℕ �
   -- over a list of calls, in order: the bytes that a session took
   abbrev pub bytes_taken : ℕ → List Event → Rest G → List ℕ
   bytes_taken conn [] r = []
-  bytes_taken conn (e ∷ es) r = took_by conn e r ++ bytes_taken conn es (after_event answer accepts e r)
+  bytes_taken conn (e ∷ es) r =
+      took_by conn e r ++ bytes_taken conn es (after_event answer accepts e r)
 
   -- and the requests that it answered
   abbrev pub requests_answered : ℕ → List Event → Rest G → List RequestView
   requests_answered conn [] r = []
-  requests_answered conn (e ∷ es) r = call_answered conn e r ++ requests_answered conn es (after_event answer accepts e r)
+  requests_answered conn (e ∷ es) r =
+      call_answered conn e r ++ requests_answered conn es (after_event answer accepts e r)
 
 -- what takes a place among arrivals: requests, and at last what stands for none
 abbrev pub places_of : List Arrival → List Arrival
@@ -85,5 +90,7 @@ pub record Follows (bytes : List ℕ) (answered : List RequestView) (s : Live) :
 -- The same where the bytes are an offer of which a version is taken and then any bytes, by the grammar of chunks alone.
 abbrev pub Asks : List ℕ → List RequestView → Live → Type 0
 Asks bytes answered s =
-    (offer more : List ℕ) (v : Version) → length offer ≡ 20 → arrival_of_offer offer ≡ Shook (Some v) → bytes ≡ offer ++ more
-    → map Asked answered ++ s.kept.waiting ≡ requests_of v (whole more) (items_of unread more).rest.too_big
+    (offer more : List ℕ) (v : Version) → length offer ≡ 20
+    → arrival_of_offer offer ≡ Shook (Some v) → bytes ≡ offer ++ more
+    → map Asked answered ++ s.kept.waiting
+    ≡ requests_of v (whole more) (items_of unread more).rest.too_big

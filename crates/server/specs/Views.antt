@@ -26,16 +26,19 @@ arrival_of (waiting.Asked request) = Asked (request_view request)
 arrival_of (waiting.Unread e) = Unread e
 arrival_of waiting.TooLong = TooLong
 
+-- what waits stands for no request
 abbrev pub is_unread : Waiting → Bool
 is_unread (waiting.Asked request) = false
 is_unread (waiting.Unread e) = true
 is_unread waiting.TooLong = true
 
+-- what waits is a RESET
 abbrev pub is_reset_in : Waiting → Bool
 is_reset_in (waiting.Asked request) = is_reset (kind_of (request_view request))
 is_reset_in (waiting.Unread e) = false
 is_reset_in waiting.TooLong = false
 
+-- all that waits, in its order
 abbrev pub waiting_in : List Waiting → List Arrival
 waiting_in ws = map arrival_of ws
 
@@ -44,6 +47,7 @@ abbrev pub first_of : {A : Type 0} → List A → Option A
 first_of [] = None
 first_of (x ∷ xs) = Some x
 
+-- the open result, by what is held of it
 abbrev pub open_of : OpenResult → Open
 open_of r = record {
   rows = r.rows.items;
@@ -52,9 +56,11 @@ open_of r = record {
   written = r.written;
 }
 
+-- the open transaction, by what is held of it
 abbrev pub tx_of : Transaction → Tx
 tx_of t = record { mode = t.mode; writes = writes_view t.writes.items }
 
+-- what a session keeps, by what is held of it
 abbrev pub kept_of : Exchange → Kept
 kept_of x =
     record {

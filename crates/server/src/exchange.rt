@@ -13,7 +13,7 @@ use crate::result::{OpenResult, Transaction};
 use crate::words::{answer_of, is_interruptible};
 use bytes::{Bytes, BytesMut};
 use machine::{State, is_reset};
-use messages::{MsgFault, Request, request_of};
+use messages::{MsgFault, Request, read_request, request_of};
 use reader::Reader;
 use std::alloc::{AllocError, Global};
 use std::collections::VecDeque;
@@ -193,7 +193,34 @@ impl Exchange {
             (arrival_by (request_by (version_of (kept_of self.old)) b))) }
         ensures err { OnErr result (kept_of self.new ≡ kept_of self.old) }
     {
-        match request_in(self.alloc, self.version(), reader) {
+        let asked = request_in(self.alloc, self.version(), reader);
+        self.receive(asked)
+    }
+
+    /// Takes the message of these bytes, all of them. A request takes a place, and a RESET strikes.
+    pub(crate) fn ask_bytes(&mut self, message: &[u8]) -> Result<What, AllocError>
+        requires place { length self.old.queue.items < 32 }
+        requires ordinal { self.old.first + length self.old.queue.items < 2 ^ 63 }
+        ensures ok { IfOk result
+            (λ what. Receives what (kept_of self.old) (kept_of self.new)
+            (arrival_by (request_by (version_of (kept_of self.old)) message.now))) }
+        ensures err { OnErr result (kept_of self.new ≡ kept_of self.old) }
+    {
+        let asked = read_request(self.alloc, self.version(), message);
+        self.receive(asked)
+    }
+
+    /// Takes what was asked: a request takes a place, and a RESET strikes; what stands for no request takes a place too.
+    fn receive(&mut self, asked: Result<Request, MsgFault>) -> Result<What, AllocError>
+        requires place { length self.old.queue.items < 32 }
+        requires ordinal { self.old.first + length self.old.queue.items < 2 ^ 63 }
+        ensures ok { (b : List ℕ)
+            → Answers request_view asked (request_by (version_of (kept_of self.old)) b)
+            → IfOk result (λ what. Receives what (kept_of self.old) (kept_of self.new)
+            (arrival_by (request_by (version_of (kept_of self.old)) b))) }
+        ensures err { OnErr result (kept_of self.new ≡ kept_of self.old) }
+    {
+        match asked {
             Ok(request) => {
                 let strikes = is_reset(&request) && is_interruptible(self.state);
                 self.queue.push_back_reserved(Waiting::Asked(request));

@@ -110,8 +110,40 @@ impl Incoming {
         Ok(Took { used, what })
     }
 
-    /// Takes bytes of chunks. For want of memory the place is put back, and the reader returns to the point that it holds.
+    /// Takes bytes of chunks: data alone, else a message whole, else part by part.
     fn take_chunks(&mut self, exchange: &mut Exchange, piece: &[u8]) -> Result<Took, AllocError>
+        requires place { length exchange.old.queue.items < 32 }
+        requires ordinal { exchange.old.first + length exchange.old.queue.items < 2 ^ 63 }
+        requires whole { self.old.offer.len ≡ 20 }
+        ensures ok { (u : Opened) → IsOpened self.old u
+            → IfOk result (λ took. IsFed
+            (takes_item (kept_of exchange.old) (takes at_server u piece.now)) took
+            (kept_of exchange.new) self.new) }
+        ensures err { OnErr result
+            (IsSame self.old self.new × (kept_of exchange.new ≡ kept_of exchange.old)) }
+    {
+        reader::laws::reads_more();
+        if let Some(behind) = self.stream.behind_data(piece) {
+            self.stream.reader.advance(piece)?;
+            self.stream.chunks = behind;
+            return Ok(Took {
+                used: piece.len(),
+                what: What::Part,
+            });
+        }
+        if let Some(message) = self.stream.message_in(piece) {
+            let what = exchange.ask_bytes(message)?;
+            return Ok(Took {
+                used: message.len() + 4,
+                what,
+            });
+        }
+        self.take_parts(exchange, piece)
+    }
+
+    /// Takes bytes of chunks part by part. For want of memory the place is put back, and the reader returns to the point that it
+    /// holds.
+    fn take_parts(&mut self, exchange: &mut Exchange, piece: &[u8]) -> Result<Took, AllocError>
         requires place { length exchange.old.queue.items < 32 }
         requires ordinal { exchange.old.first + length exchange.old.queue.items < 2 ^ 63 }
         requires whole { self.old.offer.len ≡ 20 }
@@ -158,7 +190,7 @@ impl Offer {
 }
 
 impl Stream {
-    ghost use Rattle.std.specs.Prelude.{ℕ, List, ◌+◌, ◌<◌, ◌^◌, false, length, take, IfOk, OnErr};
+    ghost use Rattle.std.specs.Prelude.{ℕ, List, ◌+◌, ◌<◌, ◌^◌, false, length, take, IfOk, IfSome, OnErr};
     ghost use Rattle.wire.specs.Unfinished.{Unfinished};
     ghost use Rattle.wire.specs.Framing.{at_server, reading};
     ghost use Rattle.wire.specs.Reader.{takes};
@@ -167,7 +199,35 @@ impl Stream {
     ghost use Rattle.reader.specs.Piecewise.{Reads};
     ghost use Rattle.server.specs.Rest.{takes_item};
     ghost use Rattle.server.specs.Views.{kept_of};
-    ghost use Rattle.server.specs.Incoming.{IsAt, IsFedAt, Scans};
+    ghost use Rattle.server.specs.Incoming.{IsAt, IsFedAt, IsData, IsFirst, Scans};
+
+    /// The place behind a piece, where that is data alone.
+    fn behind_data(&self, piece: &[u8]) -> Option<Chunks>
+        ensures { IfSome result (λ behind. IsData self.now piece.now behind) }
+    {
+        if self.is_over || piece.is_empty() {
+            return None;
+        }
+        let mut chunks = self.chunks;
+        let cut = chunks.next(piece);
+        if cut.used < piece.len() {
+            return None;
+        }
+        match cut.what {
+            Part::Data => Some(chunks),
+            _ => None,
+        }
+    }
+
+    /// The message that a piece begins with, whole and in one chunk, where none is begun.
+    fn message_in<'a>(&self, piece: &'a [u8]) -> Option<&'a [u8]>
+        ensures { IfSome result (λ message. IsFirst self.now piece.now message.now) }
+    {
+        if self.is_over {
+            return None;
+        }
+        self.chunks.message_in(piece)
+    }
 
     /// Takes a piece to the end of the item begun, else whole, and the exchange receives the item. After an `Err` the held point
     /// and the exchange are as before.

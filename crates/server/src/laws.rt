@@ -10,25 +10,32 @@ use engine::{Engine, Gate};
 
 /// A call on one session leaves every other as it was.
 pub fn leaves_others<E: Engine, G: Gate>()
-    ensures { (event : Event) (r : Rest G) (other : ℕ) → conn_of event r ≢ other → find other (after_event E.answer G.accepts event r).sessions ≡ find other r.sessions }
+    ensures { (event : Event) (r : Rest G) (other : ℕ) → conn_of event r ≢ other
+        → find other (after_event E.answer G.accepts event r).sessions ≡ find other r.sessions }
 {}
 
 /// Over every list of calls, at most 16 sessions live, each number once, and what each keeps is within its limits: 32 places, 65,537
 /// bytes of an unfinished item, 131,077 bytes to go, 1,024 writes and 1,024 rows.
 pub fn keeps_limits<E: Engine, G: Gate>()
-    ensures { (ledger : List EntryView) (gate : G) (events : List Event) → IsKept (after_events E.answer G.accepts events (empty ledger gate)) }
+    ensures { (ledger : List EntryView) (gate : G) (events : List Event)
+        → IsKept (after_events E.answer G.accepts events (empty ledger gate)) }
 {}
 
 /// The ledger grows by a work step alone, by one entry, that of the first request that waits there whole, by a row that commits.
 pub fn grows_by_commits<E: Engine, G: Gate>()
-    ensures { (event : Event) (r : Rest G) → Grows event r (after_event E.answer G.accepts event r) }
+    ensures { (event : Event) (r : Rest G)
+        → Grows event r (after_event E.answer G.accepts event r) }
 {}
 
 /// What a session has placed is what its bytes ask: over every list of calls, however the bytes were cut, what it has answered and
 /// what waits is, in order, what arrives by the bytes that its feeds took; version, handshake and the unfinished item are theirs too.
 /// After an offer of which a version is taken, these are the requests of the whole messages of any bytes, by the grammar of chunks.
 pub fn places_follow_bytes<E: Engine, G: Gate>()
-    ensures follows { (ledger : List EntryView) (gate : G) (events : List Event) (conn : ℕ) (s : Live) → find conn (after_events E.answer G.accepts events (empty ledger gate)).sessions ≡ Some s
-        → Follows (bytes_taken E.answer G.accepts conn events (empty ledger gate)) (requests_answered E.answer G.accepts conn events (empty ledger gate)) s }
-    ensures asks { (bytes : List ℕ) (answered : List RequestView) (s : Live) → Follows bytes answered s → Asks bytes answered s }
+    ensures follows { (ledger : List EntryView) (gate : G) (events : List Event)
+        (conn : ℕ) (s : Live)
+        → find conn (after_events E.answer G.accepts events (empty ledger gate)).sessions ≡ Some s
+        → Follows (bytes_taken E.answer G.accepts conn events (empty ledger gate))
+        (requests_answered E.answer G.accepts conn events (empty ledger gate)) s }
+    ensures asks { (bytes : List ℕ) (answered : List RequestView) (s : Live)
+        → Follows bytes answered s → Asks bytes answered s }
 {}

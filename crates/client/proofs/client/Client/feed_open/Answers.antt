@@ -1,59 +1,36 @@
-use Rattle.std.proofs.Common.{◌≡◌, ℕ, Result, Ok, Err, rules, sym, ◌∙◌, ap, subst}
-use Rattle.std.proofs.Math.Logic.{∥∥₁_elim}
-use Rattle.std.proofs.Props.{props}
+use Rattle.std.proofs.Common.{◌≡◌, Bool, Ok, Err, sym, ap, subst}
 use Rattle.wire.specs.Framing.{at_client}
 use Rattle.wire.specs.Reader.{takes}
-use Rattle.client.specs.declared.heard.Heard.{Heard}
 use Rattle.client.specs.declared.faults.ClientFault.{ClientFault}
 use Rattle.client.specs.Held.{IsItem}
-use Rattle.client.specs.Rest.{Knows, Rest, fed_open}
-use Rattle.client.specs.Hearings.{came_as, came_in, Feeds}
+use Rattle.client.specs.Rest.{Rest, fed_open}
+use Rattle.client.specs.Hearings.{Feeds}
 use Rattle.client.specs.Fits.{knowledge_of}
 use Rattle.client.proofs.Taking.{same_item}
-use Rattle.client.proofs.Pieces.{heard_feeds, refused_feeds, hears_by, spoils_going}
+use Rattle.client.proofs.Pieces.{quiet_feeds}
 use Rattle.client.proofs.client.Client.feed_open.Goals as goal
 
-pub invariant_of-self-2 : goal.invariant_of-self-2
-invariant_of-self-2 c =
+pub returns-in-Ok-true : goal.returns-in-Ok-true
+returns-in-Ok-true c = λ r f.
     let s = c.args.self.now in
-    let n = c.take.new.self in
-    let x = came_as c.in_ok-taken.taken.came in
-    record {
-      going = λ o. ∥∥₁_elim s.stream.stands (hlevel props) (λ h.
-          spoils_going s.wish (knowledge_of s.pipeline) x n.chunks.too_big (c.in_ok-taken.ensures.ok h.0 h.1).goes_on (sym (ap (λ (k : Knows). k.over) c.hear.ensures.1) ∙ o));
-    }
-
-pub returns-in_err-taken : goal.returns-in_err-taken
-returns-in_err-taken c = λ r f.
-    let s = c.args.self.now in
-    let n = c.take.new.self in
-    let fault = c.in_err-taken.field-0.0 in
-    let e = c.in_err-taken.ensures in
-    let Now : Rest → Type 0 = λ z. (s.wish ≡ z.wish) × (knowledge_of s.pipeline ≡ z.knows) × IsItem n.opening n.chunks n.reader.here z.item × (s.out.items ≡ z.unsent) in
-    let is : c.from_residual.result ≡ Err fault = search rules in
-    subst (λ (z : Result (ℕ × Heard) ClientFault). Feeds Now r (fed_open r (takes at_client r.item c.args.piece.now)) z) (sym (is ∙ ap (λ (z : ClientFault). Err z) e.err))
-    (f.0, f.1, same_item s.stream.opening n.opening s.stream.chunks n.chunks s.stream.reader n.reader r.item e.same.0 e.same.1 e.same.2 f.2, f.3)
-
-pub returns-in-Ok : goal.returns-in-Ok
-returns-in-Ok c = λ r f.
-    let s = c.args.self.now in
-    let n = c.take.new.self in
-    let t = c.in_ok-taken.taken in
+    let n = c.take_data.new.self in
     let m = takes at_client r.item c.args.piece.now in
-    let took = c.in_ok-taken.ensures.ok r.item f.2 in
-    let knows = knowledge_of c.hear.new.self in
-    let Now : Rest → Type 0 = λ z. (s.wish ≡ z.wish) × (knows ≡ z.knows) × IsItem n.opening n.chunks n.reader.here z.item × (s.out.items ≡ z.unsent) in
-    heard_feeds r m (came_as t.came) (took.came ∙ ap (λ (k : Knows). came_in k.version m.item) f.1) Now knows (λ k e. (f.0, e, took.rest, f.3)) t.used c.in-Ok.heard took.used
-    (hears_by s.wish r.wish (knowledge_of s.pipeline) r.knows (came_as t.came) (Ok c.in-Ok.heard) knows f.0 f.1 c.in-Ok.ensures)
+    let took = c.in-Ok-true.ensures.data (ap (λ (b : Bool). Ok b) c.in-Ok-true.field-0-test) r.knows.version r.item f.2 in
+    let Now : Rest → Type 0 = λ z. (s.wish ≡ z.wish) × (knowledge_of s.pipeline ≡ z.knows) × IsItem n.opening n.chunks n.reader.here z.item × (s.out.items ≡ z.unsent) in
+    quiet_feeds r m Now _ took.came (f.0, f.1, took.rest, f.3) took.used
+
+pub returns-in-Ok-false : goal.returns-in-Ok-false
+returns-in-Ok-false c = λ r f.
+    let s = c.args.self.now in
+    let n = c.take_data.new.self in
+    let same = c.in-Ok-false.ensures.other (ap (λ (b : Bool). Ok b) c.in-Ok-false.field-0-test) in
+    c.feed_item.ensures r (f.0, f.1, same_item s.stream.opening n.opening s.stream.chunks n.chunks s.stream.reader n.reader r.item same.0 same.1 same.2 f.2, f.3)
 
 pub returns-in-Err : goal.returns-in-Err
 returns-in-Err c = λ r f.
     let s = c.args.self.now in
-    let n = c.take.new.self in
-    let t = c.in_ok-taken.taken in
-    let m = takes at_client r.item c.args.piece.now in
-    let took = c.in_ok-taken.ensures.ok r.item f.2 in
-    let knows = knowledge_of c.hear.new.self in
-    let Now : Rest → Type 0 = λ z. (s.wish ≡ z.wish) × (knows ≡ z.knows) × IsItem n.opening n.chunks n.reader.here z.item × (s.out.items ≡ z.unsent) in
-    refused_feeds r m (came_as t.came) (took.came ∙ ap (λ (k : Knows). came_in k.version m.item) f.1) Now knows (λ k e. (f.0, e, took.rest, f.3)) c.in-Err.fault
-    (hears_by s.wish r.wish (knowledge_of s.pipeline) r.knows (came_as t.came) (Err c.in-Err.fault) knows f.0 f.1 c.in-Err.ensures)
+    let n = c.take_data.new.self in
+    let e = c.in-Err.ensures in
+    let Now : Rest → Type 0 = λ z. (s.wish ≡ z.wish) × (knowledge_of s.pipeline ≡ z.knows) × IsItem n.opening n.chunks n.reader.here z.item × (s.out.items ≡ z.unsent) in
+    subst (λ (z : ClientFault). Feeds Now r (fed_open r (takes at_client r.item c.args.piece.now)) (Err z)) (sym e.err)
+    (f.0, f.1, same_item s.stream.opening n.opening s.stream.chunks n.chunks s.stream.reader n.reader r.item e.same.0 e.same.1 e.same.2 f.2, f.3)

@@ -1,18 +1,29 @@
-use Rattle.std.proofs.Common.{refl}
-use Rattle.wire.specs.Reader.{takes}
-use Rattle.wire.specs.Framing.{at_server, reading}
+use Rattle.std.proofs.Common.{◌+◌, length, refl}
+use Rattle.packstream.proofs.Ranges.{bytes_from_each}
 use Rattle.server.specs.declared.incoming.Stream.{Stream}
-use Rattle.server.specs.Rest.{takes_item}
+use Rattle.server.specs.declared.kinds.What.{What}
 use Rattle.server.specs.Views.{kept_of}
-use Rattle.server.proofs.Feeds.{stream_fed, fed_held}
+use Rattle.server.proofs.Feeds.{stream_fed}
+use Rattle.server.proofs.Fronts.{fed_data, fed_whole}
 use Rattle.server.proofs.incoming.Incoming.take_chunks.Goals as goal
 
-pub returns-clause-ok : goal.returns-clause-ok
-returns-clause-ok c =
+pub returns-in-Some-clause-ok : goal.returns-in-Some-clause-ok
+returns-in-Some-clause-ok c =
     let i = c.args.self.now in
     let k = kept_of c.args.exchange.now in
-    let after = kept_of c.take.new.exchange in
     let piece = c.args.piece.now in
-    let t : Stream = record { chunks = c.take.new.self.chunks; reader = c.hold.new.self; is_over = c.take.new.self.is_over } in
-    stream_fed i.offer i.stream t k after piece c.in-Ok.took c.requires.whole
-    (λ v at. fed_held (takes_item k (takes at_server (reading v) piece)) c.in-Ok.took after c.take.new.self t refl refl c.hold.ensures.here (c.in-Ok.ensures.ok v at))
+    let t : Stream = record { chunks = c.in-Some.behind; reader = c.advance.new.self; is_over = i.stream.is_over } in
+    stream_fed i.offer i.stream t k k piece (record { used = length piece; what = What.Part }) c.requires.whole
+    (λ v at. fed_data k v piece i.stream t at c.in-Some.ensures refl
+    (λ b reads. c.reads_more.ensures i.stream.reader.here c.advance.new.self.here b piece reads (bytes_from_each piece c.type_inv.piece) c.in_ok-advance.ensures.here))
+
+pub returns-in-Some-message_in-clause-ok : goal.returns-in-Some-message_in-clause-ok
+returns-in-Some-message_in-clause-ok c =
+    let i = c.args.self.now in
+    let k = kept_of c.args.exchange.now in
+    let after = kept_of c.ask_bytes.new.self in
+    let piece = c.args.piece.now in
+    let m = c.in-Some-message_in.message.now in
+    let what = c.in_ok-what.what in
+    stream_fed i.offer i.stream i.stream k after piece (record { used = length m + 4; what = what }) c.requires.whole
+    (λ v at. fed_whole k v piece m what after i.stream at c.in-Some-message_in.ensures c.in_ok-what.ensures.ok)
