@@ -36,12 +36,12 @@ pub struct Cut {
 pub struct Chunks {
     /// The first byte of a header that isn't whole.
     header: Option<u8>,
+    /// A header has taken the message past its limit.
+    too_big: bool,
     /// The bytes that the chunk lacks.
     lacks: usize,
     /// The lengths of the message's chunks, the present one too.
     sum: usize,
-    /// A header has taken the message past its limit.
-    too_big: bool,
 }
 
 impl Model for Chunks {
