@@ -35,7 +35,14 @@ pub fn decode_and_read(
     alloc: Global,
     bytes: &[u8],
 ) -> (Result<Packed, PackFault>, Result<Packed, PackFault>)
-    ensures { UnlessMemory result.0 (UnlessMemory result.1 (result.0 ≡ result.1)) }
+    // The first is what `decode` tells ..
+    ensures value { (t : Tree)
+        → UnlessMemory result.0 ((result.0 ≡ Ok t) ↔ (IsGood t × Spells t bytes.now)) }
+    ensures fault { (r : Reason) (o : ℕ)
+        → UnlessMemory result.0 ((result.0 ≡ Err (fault.Refused r o)) ↔ Bad bytes.now o r) }
+
+    // .. and the second is the first.
+    ensures same { UnlessMemory result.0 (UnlessMemory result.1 (result.0 ≡ result.1)) }
 {
     let decoded = decode(alloc, bytes);
     let read = read_piece(alloc, bytes);
