@@ -3,11 +3,13 @@
 use crate::talking::{
     BAD_LOGON, BEGIN, COMMIT, DISCARD_ALL, FIELDS, GOODBYE, GREETING, HELLO, INVALID, LOGON, NOPE,
     OFFER, OLD_HELLO, OLD_OFFER, PULL_ALL, PULL_THREE, PULL_TWO, PUT, RESET, ROWS, Step, Table,
-    UNAUTHORIZED, begins, goes_on, server,
+    UNAUTHORIZED, begins, goes_on, server, work_all,
 };
 use machine::{Kind, State};
 use packstream::{PackFault, Reason};
 use server::{Cause, What, Worked};
+use std::alloc::Global;
+use std::process::Abort;
 use std::test::Fail;
 use wire::Version;
 
@@ -65,6 +67,52 @@ const GREETS_OLD: &[Step<'static>] = &[
 #[test]
 fn greets_at_the_older_version(rt: HostRuntime) -> Result<(), Fail> {
     begins(&rt, rt.alloc(), GREETS_OLD)
+}
+
+/// HELLO of the older version in its chunk, and the end of its message.
+const WHOLE_HELLO: [u8; 67] = [
+    0, 0x3F, 0xB1, 1, 0xA4, 0x8A, 0x75, 0x73, 0x65, 0x72, 0x5F, 0x61, 0x67, 0x65, 0x6E, 0x74, 0x83,
+    0x74, 0x2F, 0x31, 0x86, 0x73, 0x63, 0x68, 0x65, 0x6D, 0x65, 0x85, 0x62, 0x61, 0x73, 0x69, 0x63,
+    0x89, 0x70, 0x72, 0x69, 0x6E, 0x63, 0x69, 0x70, 0x61, 0x6C, 0x84, 0x75, 0x73, 0x65, 0x72, 0x8B,
+    0x63, 0x72, 0x65, 0x64, 0x65, 0x6E, 0x74, 0x69, 0x61, 0x6C, 0x73, 0x84, 0x70, 0x61, 0x73, 0x73,
+    0, 0,
+];
+
+/// The session that is fed these pieces greets at the end of the last.
+fn greets_at_the_last(
+    rt: &impl Abort,
+    alloc: Global,
+    first: &[u8],
+    second: &[u8],
+    last: &[u8],
+) -> Result<(), Fail> {
+    let mut server = server(alloc)?;
+    let conn = server.open()?;
+    server.feed(conn, OLD_OFFER)?;
+    let version = server.take_out(conn, 1000)?;
+    assert_eq!(rt; version.as_slice(), [0, 0, 4, 4].as_slice());
+    server.feed(conn, first)?;
+    server.feed(conn, second)?;
+    let took = server.feed(conn, last)?;
+    assert_eq!(rt; took.used, last.len());
+    assert_eq!(rt; took.what, What::Message);
+    assert_eq!(rt; work_all(&mut server, conn)?, Worked::Idle);
+    assert_eq!(rt; server.state(conn), Some(State::Ready));
+    let greeting = server.take_out(conn, 1000)?;
+    assert_eq!(rt; greeting.as_slice(), GREETING);
+    Ok(())
+}
+
+#[test]
+fn greets_however_hello_is_cut(rt: HostRuntime) -> Result<(), Fail> {
+    for (one, _) in WHOLE_HELLO.iter().enumerate() {
+        let (first, rest) = WHOLE_HELLO.split_at(one);
+        for (two, _) in rest.iter().enumerate() {
+            let (second, last) = rest.split_at(two);
+            greets_at_the_last(&rt, rt.alloc(), first, second, last)?;
+        }
+    }
+    Ok(())
 }
 
 #[test]
