@@ -81,13 +81,30 @@ fault_at_more p (x ∷ rest) more r e other = fault_of_more p (marker x) rest mo
 
 front_more : (b more : List ℕ) (r : Reason) (o : ℕ) → BadFront b o r → (r ≡ reason.Short → ⊥) → BadFront (b ++ more) o r
 front_more b more r o h other =
-    let whole : b ++ more ≡ h.1 ++ (h.2 ++ more) = ap (λ (x : List ℕ). x ++ more) h.4 ∙ append_assoc h.1 h.2 more in
-    (h.0, h.1, h.2 ++ more, h.3, whole, h.5, fault_at_more (innermost outside h.0) h.2 more r h.6 other)
+    let whole : b ++ more ≡ h.before ++ (h.after ++ more) = ap (λ (x : List ℕ). x ++ more) h.whole ∙ append_assoc h.before h.after more in
+    record {
+      opened = h.opened;
+      before = h.before;
+      after = h.after ++ more;
+      are = h.are;
+      whole = whole;
+      place = h.place;
+      broken = fault_at_more (innermost outside h.opened) h.after more r h.broken other;
+    }
 
 trails_more : (b more : List ℕ) (o : ℕ) → Trails b o → Trails (b ++ more) o
 trails_more b more o h =
-    let whole : b ++ more ≡ h.1 ++ (h.2 ++ more) = ap (λ (x : List ℕ). x ++ more) h.5 ∙ append_assoc h.1 h.2 more in
-    (h.0, h.1, h.2 ++ more, h.3, h.4, whole, omega (arith, h.6, length-append h.2 more), h.7)
+    let whole : b ++ more ≡ h.front ++ (h.more ++ more) = ap (λ (x : List ℕ). x ++ more) h.whole ∙ append_assoc h.front h.more more in
+    record {
+      tree = h.tree;
+      front = h.front;
+      more = h.more ++ more;
+      good = h.good;
+      spelled = h.spelled;
+      whole = whole;
+      some = omega (arith, h.some, length-append h.more more);
+      place = h.place;
+    }
 
 pub stays : (b : List ℕ) (r : Reason) (o : ℕ) → Bad b o r → (r ≡ reason.Short → ⊥) → IsBadAlways b r o
 stays b r o (inl h) other = λ more bytes. inl (front_more b more r o h other)

@@ -86,19 +86,19 @@ nothing_there p = refl
 pub part_is_short : (p : Place) (q : Part) (tail : List ℕ) → IsPart p q tail → IsLacking q → fault_at p (part_head q ++ tail) ≡ Some reason.Short
 part_is_short p part.Nothing tail is lacks = ap (fault_at p) is ∙ nothing_there p
 part_is_short p (part.Head b number has) tail is lacks =
-    let a = is.1 in
+    let a = is.admitted in
     let few : field (marker b) ≡ field (Some a.0) = ap field a.1 in
-    let len : length (big_bytes has number ++ tail) ≡ has = length-append (big_bytes has number) tail ∙ omega (arith, length-bytes_high_first has number, ap length is.0) in
+    let len : length (big_bytes has number ++ tail) ≡ has = length-append (big_bytes has number) tail ∙ omega (arith, length-bytes_high_first has number, ap length is.bare) in
     missing p b a.0 (big_bytes has number ++ tail) a.1 a.2 (omega (arith, needs_more a.0 (big_bytes has number ++ tail), len, few, lacks))
 part_is_short p (part.Body b number lack) tail is lacks =
-    let a = is.0 in
+    let a = is.admitted in
     let f : field (marker b) ≡ field (Some a.0) = ap field a.1 in
     let c : body (marker b) number ≡ body (Some a.0) number = ap (λ (o : Option Marker). body o number) a.1 in
-    let small : number < 256 ^ field (Some a.0) = subst (λ (o : Option Marker). number < 256 ^ field o) a.1 is.1 in
+    let small : number < 256 ^ field (Some a.0) = subst (λ (o : Option Marker). number < 256 ^ field o) a.1 is.small in
     let need : needs a.0 (big_bytes (field (marker b)) number ++ tail) ≡ field (Some a.0) + body (Some a.0) number =
     ap (λ (n : ℕ). needs a.0 (big_bytes n number ++ tail)) f ∙ needs_are a.0 number tail small in
     let len : length (big_bytes (field (marker b)) number ++ tail) ≡ field (marker b) + length tail = length-append (big_bytes (field (marker b)) number) tail ∙ omega (arith, length-bytes_high_first (field (marker b)) number) in
-    missing p b a.0 (big_bytes (field (marker b)) number ++ tail) a.1 a.2 (omega (arith, need, len, f, c, is.2, lacks))
+    missing p b a.0 (big_bytes (field (marker b)) number ++ tail) a.1 a.2 (omega (arith, need, len, f, c, is.long, lacks))
 
 -- ---- a text that is whole
 

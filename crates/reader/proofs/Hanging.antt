@@ -205,36 +205,35 @@ hung_in_place : (keys : List Key) (bytes : List ℕ) (first : ℕ) (s : List ℕ
     → IsInPlace (hung (Some link) (length keys) keys ++ key ∷ []) bytes (length keys) key
 hung_in_place keys bytes first s key link new free on =
     let more : List Key = hung (Some link) (length keys) keys ++ key ∷ [] in
-    let u = free.4 in
-    let within : link.key < length keys = slice_get_within keys link.key u.0 u.1 in
-    let hangs = hangs_after keys first link.key link.is_right (length keys) key u.0 free.3 u.1 u.2 in
-    let down : Leads more first s 0 first free.0 link.key = leads_after keys more hangs first s 0 first free.0 link.key free.1 in
+    let within : link.key < length keys = slice_get_within keys link.key free.upper free.upper_is in
+    let hangs = hangs_after keys first link.key link.is_right (length keys) key free.upper free.none free.upper_is free.upper_first in
+    let down : Leads more first s 0 first free.steps link.key = leads_after keys more hangs first s 0 first free.steps link.key free.leads in
     let last : slice_get more (length keys) ≡ Some key =
     subst (λ (n : ℕ). slice_get more n ≡ Some key) (length_hung (Some link) (length keys) keys) (get_last (hung (Some link) (length keys) keys) key) in
     let hang : HangsOn more first link.key link.is_right (length keys) = record {
-      upper = with_below link.is_right (length keys) u.0;
+      upper = with_below link.is_right (length keys) free.upper;
       lower = key;
-      upper_is = get_front (hung (Some link) (length keys) keys) (key ∷ []) link.key (with_below link.is_right (length keys) u.0) (hung_here link.key link.is_right (length keys) keys u.0 u.1);
-      upper_first = u.2;
-      linked = this_side link.is_right (length keys) u.0;
+      upper_is = get_front (hung (Some link) (length keys) keys) (key ∷ []) link.key (with_below link.is_right (length keys) free.upper) (hung_here link.key link.is_right (length keys) keys free.upper free.upper_is);
+      upper_first = free.upper_first;
+      linked = this_side link.is_right (length keys) free.upper;
       later = within;
       lower_is = last;
       lower_first = new.of_first;
       above = on;
     } in
-    let led : Leads more first s 0 first (suc free.0) (length keys) =
-    leads_on more first s 0 first free.0 link.key free.0 (length keys) down (omega arith) (subst (λ (b : Bool). HangsOn more first link.key b (length keys)) free.2 hang) in
-    let r = keeps_hung keys link.key link.is_right (length keys) key first (free.5).0 (free.5).1 in
+    let led : Leads more first s 0 first (suc free.steps) (length keys) =
+    leads_on more first s 0 first free.steps link.key free.steps (length keys) down (omega arith) (subst (λ (b : Bool). HangsOn more first link.key b (length keys)) free.side hang) in
+    let r = keeps_hung keys link.key link.is_right (length keys) key first free.root free.root_is in
     let firsts : key.first ≡ first = new.of_first in
     record {
       root = r.0;
       root_is = subst (λ (x : ℕ). slice_get more x ≡ Some r.0) (sym firsts) r.1;
-      root_first = ap (λ (x : Name). x.first) (r.2).names ∙ (free.5).2 ∙ sym firsts;
-      behind = omega (arith, firsts, leads_up keys first s 0 first free.0 link.key free.1);
+      root_first = ap (λ (x : Name). x.first) (r.2).names ∙ free.root_first ∙ sym firsts;
+      behind = omega (arith, firsts, leads_up keys first s 0 first free.steps link.key free.leads);
       within = new.within;
       digest = new.digest ∙ ap digest_of (sym new.text);
-      steps = suc free.0;
-      leads = subst (λ (x : List ℕ). Leads more key.first x 0 key.first (suc free.0) (length keys)) (sym new.text) (subst (λ (x : ℕ). Leads more x s 0 x (suc free.0) (length keys)) (sym firsts) led);
+      steps = suc free.steps;
+      leads = subst (λ (x : List ℕ). Leads more key.first x 0 key.first (suc free.steps) (length keys)) (sym new.text) (subst (λ (x : ℕ). Leads more x s 0 x (suc free.steps) (length keys)) (sym firsts) led);
     }
 
 tree_with : (keys more : List Key) (bytes : List ℕ) (key : Key) → IsTree keys bytes → IsInPlace (more ++ key ∷ []) bytes (length more) key
@@ -255,14 +254,13 @@ tree_hangs_at keys bytes first s key None tree new on =
 tree_hangs_at keys bytes first s key (Some link) tree new on =
     let free : IsFree keys first s (Some link) = subst (λ (l : Option Link). IsFree keys first s l) on new.free in
     let more : List Key = hung_at link.key link.is_right (length keys) keys in
-    let u = free.4 in
     tree_with keys more bytes key tree
     (subst (λ (n : ℕ). IsInPlace (more ++ key ∷ []) bytes n key) (sym (length_hung (Some link) (length keys) keys)) (hung_in_place keys bytes first s key link new free on))
     (hung_from link.key link.is_right (length keys) keys) (keeps_hung keys link.key link.is_right (length keys) key)
-    (hangs_after keys first link.key link.is_right (length keys) key u.0 free.3 u.1 u.2)
+    (hangs_after keys first link.key link.is_right (length keys) key free.upper free.none free.upper_is free.upper_first)
 
 pub has_link : (keys : List Key) (first : ℕ) (s : List ℕ) (link : Link) → IsFree keys first s (Some link) → link.key < length keys
-has_link keys first s link free = slice_get_within keys link.key (free.4).0 (free.4).1
+has_link keys first s link free = slice_get_within keys link.key free.upper free.upper_is
 
 -- ---- as the code writes it
 

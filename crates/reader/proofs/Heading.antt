@@ -15,25 +15,50 @@ sized_from size n field is = subst (λ (k : ℕ). IsSize size k field) (sym (zer
 -- a head, and something to come
 opens : (f : Opened) (n first : ℕ) (fs : List Frame) (front b : List ℕ) → AreFrames fs front → (place fs).key ≡ None → length fs < 32 → 0 < n → IsFrame (length fs + 1) f n b
     → AreFrames (record { opened = f; lacks = n; first = first } ∷ fs) (front ++ b)
-opens f n first fs front b h none room lt is = (front, b, h, none, room, lt, is, refl)
+opens f n first fs front b h none room lt is = record { front = front; rest = b; around = h; keyless = none; room = room; waiting = lt; frame = is; whole = refl }
 
 pub list_opens : (size : Size) (n first : ℕ) (field : List ℕ) (fs : List Frame) (front b : List ℕ) → AreFrames fs front → (place fs).key ≡ None → length fs < 32 → 0 < n
     → IsSize size n field → Begins (announces.List size) field b → AreFrames (record { opened = in_list no_trees; lacks = n; first = first } ∷ fs) (front ++ b)
 list_opens size n first field fs front b h none room lt is begins =
     opens (in_list no_trees) n first fs front b h none room lt
-    (size, field, [], sized_from size n field is, refl, tt, omega arith, subst (λ (x : List ℕ). Begins (announces.List size) x b) (sym (append-nil field)) begins)
+    (record {
+      size = size;
+      field = field;
+      body = [];
+      sized = sized_from size n field is;
+      spelled = refl;
+      sound = tt;
+      deep = omega arith;
+      begins = subst (λ (x : List ℕ). Begins (announces.List size) x b) (sym (append-nil field)) begins;
+    })
 
 pub dict_opens : (size : Size) (n first : ℕ) (field : List ℕ) (fs : List Frame) (front b : List ℕ) → AreFrames fs front → (place fs).key ≡ None → length fs < 32 → 0 < n
     → IsSize size n field → Begins (announces.Dict size) field b → AreFrames (record { opened = at_key no_entries; lacks = n; first = first } ∷ fs) (front ++ b)
 dict_opens size n first field fs front b h none room lt is begins =
     opens (at_key no_entries) n first fs front b h none room lt
-    (size, field, [], sized_from size n field is, refl, tt, tt, omega arith, subst (λ (x : List ℕ). Begins (announces.Dict size) x b) (sym (append-nil field)) begins)
+    (record {
+      size = size;
+      field = field;
+      body = [];
+      sized = sized_from size n field is;
+      spelled = refl;
+      fresh = tt;
+      sound = tt;
+      deep = omega arith;
+      begins = subst (λ (x : List ℕ). Begins (announces.Dict size) x b) (sym (append-nil field)) begins;
+    })
 
 pub struct_opens : (tag n first : ℕ) (fs : List Frame) (front b : List ℕ) → AreFrames fs front → (place fs).key ≡ None → length fs < 32 → 0 < n
     → Begins (announces.Struct n) (tag ∷ []) b → AreFrames (record { opened = in_struct tag no_trees; lacks = n; first = first } ∷ fs) (front ++ b)
 struct_opens tag n first fs front b h none room lt begins =
     opens (in_struct tag no_trees) n first fs front b h none room lt
-    ([], refl, tt, omega arith, subst (λ (k : ℕ). Begins (announces.Struct k) (tag ∷ []) b) (sym (zero-add n)) begins)
+    (record {
+      body = [];
+      spelled = refl;
+      sound = tt;
+      deep = omega arith;
+      begins = subst (λ (k : ℕ). Begins (announces.Struct k) (tag ∷ []) b) (sym (zero-add n)) begins;
+    })
 
 -- a head, and nothing to come
 pub list_is_empty : (size : Size) (field b : List ℕ) → IsSize size 0 field → Begins (announces.List size) field b → SpellsTree (list no_trees) b
@@ -48,15 +73,30 @@ struct_is_empty tag b begins = ([], refl, begins)
 -- a key that its dictionary didn't have
 pub key_waits : (es : Entries) (k : List ℕ) (n first : ℕ) (fs : List Frame) (front key : List ℕ) → AreFrames (record { opened = at_key es; lacks = n; first = first } ∷ fs) front
     → SpellsText k key → is_among k (keys_of es) ≡ false → AreFrames (record { opened = at_value es k; lacks = n; first = first } ∷ fs) (front ++ key)
-key_waits es k n first fs front key h name fresh =
-    let is = h.6 in
-    let whole : (is.1 ++ is.2) ++ key ≡ is.1 ++ (is.2 ++ key) = append_assoc is.1 is.2 key in (
-      h.0,
-      h.1 ++ key,
-      h.2,
-      h.3,
-      h.4,
-      h.5,
-      (is.0, is.1, is.2, key, is.3, is.4, is.5, is.6, is.7, name, fresh, (is.8.0, is.8.1, ap (λ (x : List ℕ). x ++ key) is.8.2 ∙ ap (λ (x : List ℕ). is.8.0 ∷ x) whole)),
-      ap (λ (x : List ℕ). x ++ key) h.7 ∙ append_assoc h.0 h.1 key,
-    )
+key_waits es k n first fs front key h name new =
+    let is = h.frame in
+    let begins = is.begins in
+    let whole : (is.field ++ is.body) ++ key ≡ is.field ++ (is.body ++ key) = append_assoc is.field is.body key in
+    record {
+      front = h.front;
+      rest = h.rest ++ key;
+      around = h.around;
+      keyless = h.keyless;
+      room = h.room;
+      waiting = h.waiting;
+      frame = record {
+        size = is.size;
+        field = is.field;
+        body = is.body;
+        key = key;
+        sized = is.sized;
+        spelled = is.spelled;
+        fresh = is.fresh;
+        sound = is.sound;
+        deep = is.deep;
+        spelled_key = name;
+        new_key = new;
+        begins = (begins.0, begins.1, ap (λ (x : List ℕ). x ++ key) begins.2 ∙ ap (λ (x : List ℕ). begins.0 ∷ x) whole);
+      };
+      whole = ap (λ (x : List ℕ). x ++ key) h.whole ∙ append_assoc h.front h.rest key;
+    }

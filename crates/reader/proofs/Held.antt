@@ -253,7 +253,14 @@ pub turns : (old new : Holds) (before : Point) (piece : List ℕ) (r : Reason) (
 turns old new before piece r o is good turn bad =
     subst (λ (p : Point). Takes p piece (point new)) is
     (subst (λ (x : Holds). Takes (point old) piece (point x)) (sym turn)
-    (rw good (inr (r, o, refl, stays (bytes_of old ++ piece) r o bad.0 bad.1, bad.1, begins_itself (bytes_of old)))))
+    (rw good (inr (record {
+      why = r;
+      place = o;
+      told = refl;
+      always = stays (bytes_of old ++ piece) r o bad.0 bad.1;
+      certain = bad.1;
+      kept = begins_itself (bytes_of old);
+    }))))
 
 -- ---- a fault changes neither lists nor places
 

@@ -29,18 +29,18 @@ get_set_same xs i a d lt = slice_get-get_or (slice_set xs i a) i d (omega (arith
 -- what is below a level that is written stays
 levels_set : (fs : List Frame) (n i : ℕ) (xs : List Level) (a d : Level) → n ≤ i → AreLevels fs n xs → AreLevels fs n (slice_set xs i a)
 levels_set [] n i xs a d le h = h
-levels_set (f ∷ fs) n i xs a d le h = (h.0, h.1, get_set_other xs i h.0 a (level f) d (omega (arith, h.1)) h.2, levels_set fs h.0 i xs a d (omega (arith, h.1)) h.3)
+levels_set (f ∷ fs) n i xs a d le h = record { below = h.below; counted = h.counted; there = get_set_other xs i h.below a (level f) d (omega (arith, h.counted)) h.there; others = levels_set fs h.below i xs a d (omega (arith, h.counted)) h.others }
 
 -- the innermost level lacks no more: it is a member of what is around it
 pub step_out : (d : Level) (fs : List Frame) (t : Tree) (n : ℕ) (xs : List Level) → 0 < n → AreLevels fs n xs → (get_or xs (n - 1) d).lacks ≤ 1
     → (gs : List Frame) × (u : Tree) × AreLevels gs (n - 1) xs × (ends gs u ≡ ends fs t)
 step_out d [] t n xs lt h le = absurd (omega (arith, h))
 step_out d (f ∷ fs) t n xs lt h le =
-    let k : h.0 ≡ n - 1 = omega (arith, h.1) in
-    let is : get_or xs (n - 1) d ≡ level f = ap (λ (m : ℕ). get_or xs m d) (sym k) ∙ get_or_from_slice_get xs h.0 (level f) d h.2 in
+    let k : h.below ≡ n - 1 = omega (arith, h.counted) in
+    let is : get_or xs (n - 1) d ≡ level f = ap (λ (m : ℕ). get_or xs m d) (sym k) ∙ get_or_from_slice_get xs h.below (level f) d h.there in
     let lacks : (get_or xs (n - 1) d).lacks ≡ f.lacks = ap (λ (l : Level). l.lacks) is in
     let last : nat_lt 1 f.lacks ≡ false = le-ltb _ _ (omega arith) in
-    (fs, tree_so_far (with_member f.opened t), subst (λ (m : ℕ). AreLevels fs m xs) k h.3, rw last refl)
+    (fs, tree_so_far (with_member f.opened t), subst (λ (m : ℕ). AreLevels fs m xs) k h.others, rw last refl)
 
 -- the innermost level has one member more, and lacks others
 pub stay_in : (d : Level) (fs : List Frame) (t : Tree) (n : ℕ) (xs : List Level) → 0 < n → AreLevels fs n xs → 1 < (get_or xs (n - 1) d).lacks
@@ -48,8 +48,8 @@ pub stay_in : (d : Level) (fs : List Frame) (t : Tree) (n : ℕ) (xs : List Leve
     × AreLevels gs n (slice_set xs (n - 1) (record { next = after_value (get_or xs (n - 1) d).next; lacks = (get_or xs (n - 1) d).lacks - 1; keys = (get_or xs (n - 1) d).keys }))
 stay_in d [] t n xs lt h more = absurd (omega (arith, h))
 stay_in d (f ∷ fs) t n xs lt h more =
-    let k : h.0 ≡ n - 1 = omega (arith, h.1) in
-    let is : get_or xs (n - 1) d ≡ level f = ap (λ (m : ℕ). get_or xs m d) (sym k) ∙ get_or_from_slice_get xs h.0 (level f) d h.2 in
+    let k : h.below ≡ n - 1 = omega (arith, h.counted) in
+    let is : get_or xs (n - 1) d ≡ level f = ap (λ (m : ℕ). get_or xs m d) (sym k) ∙ get_or_from_slice_get xs h.below (level f) d h.there in
     let lacks : (get_or xs (n - 1) d).lacks ≡ f.lacks = ap (λ (l : Level). l.lacks) is in
     let some : nat_lt 1 f.lacks ≡ true = lt-ltb _ _ (omega arith) in
     let g : Frame = record { opened = with_member f.opened t; lacks = f.lacks - 1; first = f.first } in
@@ -57,37 +57,47 @@ stay_in d (f ∷ fs) t n xs lt h more =
     let new_is : new ≡ level g =
     ap (λ (l : Level). record { next = after_value l.next; lacks = l.lacks - 1; keys = l.keys }) is
     ∙ ap (λ (i : Inside). record { next = i; lacks = f.lacks - 1; keys = f.first }) (sym (next_put f.opened t)) in
-    let within : h.0 < length xs = slice_get_within xs h.0 (level f) h.2 in
-    let written : slice_get (slice_set xs h.0 new) h.0 ≡ Some (level g) = get_set_same xs h.0 new d within ∙ ap (λ (l : Level). Some l) new_is in (
+    let within : h.below < length xs = slice_get_within xs h.below (level f) h.there in
+    let written : slice_get (slice_set xs h.below new) h.below ≡ Some (level g) = get_set_same xs h.below new d within ∙ ap (λ (l : Level). Some l) new_is in (
       g ∷ fs,
       rw some refl,
-      (
-        h.0,
-        h.1,
-        subst (λ (m : ℕ). slice_get (slice_set xs m new) h.0 ≡ Some (level g)) k written,
-        levels_set fs h.0 (n - 1) xs new d (omega arith) h.3,
-      ),
+      record {
+        below = h.below;
+        counted = h.counted;
+        there = subst (λ (m : ℕ). slice_get (slice_set xs m new) h.below ≡ Some (level g)) k written;
+        others = levels_set fs h.below (n - 1) xs new d (omega arith) h.others;
+      },
     )
 
 pub all_ended : (fs : List Frame) (t : Tree) (n : ℕ) (xs : List Level) → n ≤ 0 → AreLevels fs n xs → ends fs t ≡ whole t
 all_ended [] t n xs le h = refl
-all_ended (f ∷ fs) t n xs le h = absurd (omega (arith, h.1))
+all_ended (f ∷ fs) t n xs le h = absurd (omega (arith, h.counted))
 
 -- a key stands at the innermost level, and its value is read next
 pub key_stands : (d : Level) (fs : List Frame) (es : Entries) (k : List ℕ) (n first m : ℕ) (xs : List Level) → AreLevels (waits (at_key es) n first ∷ fs) m xs
     → AreLevels (waits (at_value es k) n first ∷ fs) m (slice_set xs (m - 1) (record { next = inside.ValueOfKey; lacks = (get_or xs (m - 1) d).lacks; keys = (get_or xs (m - 1) d).keys }))
 key_stands d fs es k n first m xs h =
-    let at : h.0 ≡ m - 1 = omega (arith, h.1) in
-    let is : get_or xs (m - 1) d ≡ level (waits (at_key es) n first) = ap (λ (i : ℕ). get_or xs i d) (sym at) ∙ get_or_from_slice_get xs h.0 (level (waits (at_key es) n first)) d h.2 in
+    let at : h.below ≡ m - 1 = omega (arith, h.counted) in
+    let is : get_or xs (m - 1) d ≡ level (waits (at_key es) n first) = ap (λ (i : ℕ). get_or xs i d) (sym at) ∙ get_or_from_slice_get xs h.below (level (waits (at_key es) n first)) d h.there in
     let new : Level = record { next = inside.ValueOfKey; lacks = (get_or xs (m - 1) d).lacks; keys = (get_or xs (m - 1) d).keys } in
     let new_is : new ≡ level (waits (at_value es k) n first) = ap (λ (l : Level). record { next = inside.ValueOfKey; lacks = l.lacks; keys = l.keys }) is in
-    let within : h.0 < length xs = slice_get_within xs h.0 (level (waits (at_key es) n first)) h.2 in
-    let written : slice_get (slice_set xs h.0 new) h.0 ≡ Some (level (waits (at_value es k) n first)) = get_set_same xs h.0 new d within ∙ ap (λ (l : Level). Some l) new_is in
-    (h.0, h.1, subst (λ (i : ℕ). slice_get (slice_set xs i new) h.0 ≡ Some (level (waits (at_value es k) n first))) at written, levels_set fs h.0 (m - 1) xs new d (omega arith) h.3)
+    let within : h.below < length xs = slice_get_within xs h.below (level (waits (at_key es) n first)) h.there in
+    let written : slice_get (slice_set xs h.below new) h.below ≡ Some (level (waits (at_value es k) n first)) = get_set_same xs h.below new d within ∙ ap (λ (l : Level). Some l) new_is in
+    record {
+      below = h.below;
+      counted = h.counted;
+      there = subst (λ (i : ℕ). slice_get (slice_set xs i new) h.below ≡ Some (level (waits (at_value es k) n first))) at written;
+      others = levels_set fs h.below (m - 1) xs new d (omega arith) h.others;
+    }
 
 pub level_opens : (d : Level) (fs : List Frame) (f : Opened) (next : Inside) (lacks keys n : ℕ) (xs : List Level) → n < length xs → AreLevels fs n xs → next_of f ≡ next
     → AreLevels (waits f lacks keys ∷ fs) (n + 1) (slice_set xs n (record { next = next; lacks = lacks; keys = keys }))
 level_opens d fs f next lacks keys n xs lt h e =
     let l : Level = record { next = next; lacks = lacks; keys = keys } in
     let is : l ≡ level (waits f lacks keys) = ap (λ (i : Inside). record { next = i; lacks = lacks; keys = keys }) (sym e) in
-    (n, omega arith, get_set_same xs n l d lt ∙ ap (λ (x : Level). Some x) is, levels_set fs n n xs l d (omega arith) h)
+    record {
+      below = n;
+      counted = omega arith;
+      there = get_set_same xs n l d lt ∙ ap (λ (x : Level). Some x) is;
+      others = levels_set fs n n xs l d (omega arith) h;
+    }

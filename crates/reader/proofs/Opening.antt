@@ -27,27 +27,43 @@ innermost_is (f ∷ fs) =
 
 opened_push : (p : Place) (xs : List Opened) (f : Opened) (front rest : List ℕ) → AreOpened p xs front → (innermost p xs).key ≡ None → (innermost p xs).heads < 32
     → IsOpened ((innermost p xs).heads + 1) f rest → AreOpened p (xs ++ f ∷ []) (front ++ rest)
-opened_push p [] f front rest h none lt is = (rest, [], none, lt, is, refl, ap (λ (x : List ℕ). x ++ rest) h ∙ sym (append-nil rest))
+opened_push p [] f front rest h none lt is = record { front = rest; rest = []; keyless = none; room = lt; opened = is; inside = refl; whole = ap (λ (x : List ℕ). x ++ rest) h ∙ sym (append-nil rest) }
 opened_push p (x ∷ xs) f front rest h none lt is =
-    (h.0, h.1 ++ rest, h.2, h.3, h.4, opened_push (within p x) xs f h.1 rest h.5 none lt is, ap (λ (y : List ℕ). y ++ rest) h.6 ∙ append_assoc h.0 h.1 rest)
+    record {
+      front = h.front;
+      rest = h.rest ++ rest;
+      keyless = h.keyless;
+      room = h.room;
+      opened = h.opened;
+      inside = opened_push (within p x) xs f h.rest rest h.inside none lt is;
+      whole = ap (λ (y : List ℕ). y ++ rest) h.whole ∙ append_assoc h.front h.rest rest;
+    }
 
 pub frame_is_opened : (heads : ℕ) (f : Opened) (lacks : ℕ) (b : List ℕ) → 0 < lacks → IsFrame heads f lacks b → IsOpened heads f b
-frame_is_opened heads (in_list ts) lacks b lt h = (h.0, count ts + lacks, h.1, h.2, h.3, omega arith, h.4, h.5, h.6, h.7)
-frame_is_opened heads (in_struct tag ts) lacks b lt h = (count ts + lacks, h.0, omega arith, h.1, h.2, h.3, h.4)
-frame_is_opened heads (at_key es) lacks b lt h = (h.0, entry_count es + lacks, h.1, h.2, h.3, omega arith, h.4, h.5, h.6, h.7, h.8)
-frame_is_opened heads (at_value es k) lacks b lt h = (h.0, entry_count es + lacks, h.1, h.2, h.3, h.4, omega arith, h.5, h.6, h.7, h.8, h.9, h.10, h.11)
+frame_is_opened heads (in_list ts) lacks b lt h = record { size = h.size; total = count ts + lacks; field = h.field; body = h.body; sized = h.sized; fewer = omega arith; spelled = h.spelled; sound = h.sound; deep = h.deep; begins = h.begins }
+frame_is_opened heads (in_struct tag ts) lacks b lt h = record { total = count ts + lacks; body = h.body; fewer = omega arith; spelled = h.spelled; sound = h.sound; deep = h.deep; begins = h.begins }
+frame_is_opened heads (at_key es) lacks b lt h = record { size = h.size; total = entry_count es + lacks; field = h.field; body = h.body; sized = h.sized; fewer = omega arith; spelled = h.spelled; fresh = h.fresh; sound = h.sound; deep = h.deep; begins = h.begins }
+frame_is_opened heads (at_value es k) lacks b lt h = record { size = h.size; total = entry_count es + lacks; field = h.field; body = h.body; key = h.key; sized = h.sized; fewer = omega arith; spelled = h.spelled; fresh = h.fresh; sound = h.sound; deep = h.deep; spelled_key = h.spelled_key; new_key = h.new_key; begins = h.begins }
 
 pub frames_are_opened : (fs : List Frame) (b : List ℕ) → AreFrames fs b → AreOpened outside (outer_first fs) b
 frames_are_opened [] b h = h
 frames_are_opened (f ∷ fs) b h =
     let inner = innermost_is fs in
-    let none : (innermost outside (outer_first fs)).key ≡ None = ap (λ (p : Place). p.key) inner ∙ h.3 in
+    let none : (innermost outside (outer_first fs)).key ≡ None = ap (λ (p : Place). p.key) inner ∙ h.keyless in
     let heads : (innermost outside (outer_first fs)).heads ≡ length fs = ap (λ (p : Place). p.heads) inner ∙ heads_are fs in
-    let is : IsOpened (length fs + 1) f.opened h.1 = frame_is_opened (length fs + 1) f.opened f.lacks h.1 h.5 h.6 in
-    subst (λ (x : List ℕ). AreOpened outside (outer_first (f ∷ fs)) x) (sym h.7)
-    (opened_push outside (outer_first fs) f.opened h.0 h.1 (frames_are_opened fs h.0 h.2) none (omega (arith, heads, h.4)) (subst (λ (n : ℕ). IsOpened (n + 1) f.opened h.1) (sym heads) is))
+    let is : IsOpened (length fs + 1) f.opened h.rest = frame_is_opened (length fs + 1) f.opened f.lacks h.rest h.waiting h.frame in
+    subst (λ (x : List ℕ). AreOpened outside (outer_first (f ∷ fs)) x) (sym h.whole)
+    (opened_push outside (outer_first fs) f.opened h.front h.rest (frames_are_opened fs h.front h.around) none (omega (arith, heads, h.room)) (subst (λ (n : ℕ). IsOpened (n + 1) f.opened h.rest) (sym heads) is))
 
 -- a rule that is broken behind what is open is the fault of the bytes
 pub bad_behind : (fs : List Frame) (front rest : List ℕ) (r : Reason) → AreFrames fs front → fault_at (place fs) rest ≡ Some r → Bad (front ++ rest) (length front) r
 bad_behind fs front rest r h fault =
-    inl (outer_first fs, front, rest, frames_are_opened fs front h, refl, refl, ap (λ (p : Place). fault_at p rest) (innermost_is fs) ∙ fault)
+    inl (record {
+      opened = outer_first fs;
+      before = front;
+      after = rest;
+      are = frames_are_opened fs front h;
+      whole = refl;
+      place = refl;
+      broken = ap (λ (p : Place). fault_at p rest) (innermost_is fs) ∙ fault;
+    })

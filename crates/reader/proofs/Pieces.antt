@@ -37,8 +37,8 @@ joined_keeps bytes b c new e j =
 turned_keeps : (bytes b c : List ℕ) (new : Point) → bytes ≡ b
     → TurnsBad (record { bytes = bytes; bad = None }) c new → Keeps new.bytes new.bad (b ++ c)
 turned_keeps bytes b c new e t =
-    subst (λ (x : Option (Reason × ℕ)). Keeps new.bytes x (b ++ c)) (sym t.2)
-    (subst (λ (x : List ℕ). IsBadAlways (x ++ c) t.0 t.1) e t.3)
+    subst (λ (x : Option (Reason × ℕ)). Keeps new.bytes x (b ++ c)) (sym t.told)
+    (subst (λ (x : List ℕ). IsBadAlways (x ++ c) t.why t.place) e t.always)
 
 keeps_more : (bytes : List ℕ) (bad : Option (Reason × ℕ)) (b c : List ℕ) (new : Point) → AreBytes c
     → Keeps bytes bad b → Takes (record { bytes = bytes; bad = bad }) c new

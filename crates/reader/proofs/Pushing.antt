@@ -70,52 +70,54 @@ sized size n m field e is = subst (λ (k : ℕ). IsSize size k field) e is
 
 frame_put : (heads : ℕ) (f : Opened) (lacks : ℕ) (t : Tree) (b c : List ℕ) → IsFrame heads f lacks b → key_there f ≡ None → 0 < lacks → SpellsTree t c → IsSound t → depth t + heads ≤ 32
     → IsFrame heads (with_member f t) (lacks - 1) (b ++ c)
-frame_put heads (in_list ts) lacks t b c h none lt one sound deep = (
-  h.0,
-  h.1,
-  h.2 ++ c,
-  sized h.0 (count ts + lacks) (count (push_tree ts t) + (lacks - 1)) h.1 (omega (arith, count_push ts t)) h.3,
-  spells_push ts t h.2 c h.4 one,
-  sound_push ts t h.5 sound,
-  omega (arith, depth_push ts t (32 - heads) (omega (arith, h.6)) (omega arith), h.6),
-  begins_more _ _ _ b c h.7 (append_assoc h.1 h.2 c),
-)
-frame_put heads (in_struct tag ts) lacks t b c h none lt one sound deep = (
-  h.0 ++ c,
-  spells_push ts t h.0 c h.1 one,
-  sound_push ts t h.2 sound,
-  omega (arith, depth_push ts t (32 - heads) (omega (arith, h.3)) (omega arith), h.3),
-  (let n : count ts + lacks ≡ count (push_tree ts t) + (lacks - 1) = omega (arith, count_push ts t) in
-      subst (λ (k : ℕ). Begins (announces.Struct k) (tag ∷ (h.0 ++ c)) (b ++ c)) n (begins_more _ _ _ b c h.4 refl)),
-)
+frame_put heads (in_list ts) lacks t b c h none lt one sound deep = record {
+  size = h.size;
+  field = h.field;
+  body = h.body ++ c;
+  sized = sized h.size (count ts + lacks) (count (push_tree ts t) + (lacks - 1)) h.field (omega (arith, count_push ts t)) h.sized;
+  spelled = spells_push ts t h.body c h.spelled one;
+  sound = sound_push ts t h.sound sound;
+  deep = omega (arith, depth_push ts t (32 - heads) (omega (arith, h.deep)) (omega arith), h.deep);
+  begins = begins_more (announces.List h.size) (h.field ++ h.body) (h.field ++ (h.body ++ c)) b c h.begins (append_assoc h.field h.body c);
+}
+frame_put heads (in_struct tag ts) lacks t b c h none lt one sound deep =
+    let n : count ts + lacks ≡ count (push_tree ts t) + (lacks - 1) = omega (arith, count_push ts t) in
+    record {
+      body = h.body ++ c;
+      spelled = spells_push ts t h.body c h.spelled one;
+      sound = sound_push ts t h.sound sound;
+      deep = omega (arith, depth_push ts t (32 - heads) (omega (arith, h.deep)) (omega arith), h.deep);
+      begins = subst (λ (k : ℕ). Begins (announces.Struct k) (tag ∷ (h.body ++ c)) (b ++ c)) n (begins_more (announces.Struct (count ts + lacks)) (tag ∷ h.body) (tag ∷ (h.body ++ c)) b c h.begins refl);
+    }
 frame_put heads (at_key es) lacks t b c h none lt one sound deep = absurd cc
-frame_put heads (at_value es k) lacks t b c h none lt one sound deep = (
-  h.0,
-  h.1,
-  h.2 ++ (h.3 ++ c),
-  sized h.0 (entry_count es + lacks) (entry_count (push_entry es k t) + (lacks - 1)) h.1 (omega (arith, pairs_push es k t)) h.4,
-  spells_pair es k t h.2 h.3 c h.5 h.9 one,
-  new_pair [] es k t h.6 h.10,
-  values_push es k t h.7 sound,
-  omega (arith, depth_pair es k t (32 - heads) (omega (arith, h.8)) (omega arith), h.8),
-  begins_more _ _ _ b c h.11 (append_assoc h.1 (h.2 ++ h.3) c ∙ ap (λ (x : List ℕ). h.1 ++ x) (append_assoc h.2 h.3 c)),
-)
+frame_put heads (at_value es k) lacks t b c h none lt one sound deep = record {
+  size = h.size;
+  field = h.field;
+  body = h.body ++ (h.key ++ c);
+  sized = sized h.size (entry_count es + lacks) (entry_count (push_entry es k t) + (lacks - 1)) h.field (omega (arith, pairs_push es k t)) h.sized;
+  spelled = spells_pair es k t h.body h.key c h.spelled h.spelled_key one;
+  fresh = new_pair [] es k t h.fresh h.new_key;
+  sound = values_push es k t h.sound sound;
+  deep = omega (arith, depth_pair es k t (32 - heads) (omega (arith, h.deep)) (omega arith), h.deep);
+  begins = begins_more (announces.Dict h.size) (h.field ++ (h.body ++ h.key)) (h.field ++ (h.body ++ (h.key ++ c))) b c h.begins
+      (append_assoc h.field (h.body ++ h.key) c ∙ ap (λ (x : List ℕ). h.field ++ x) (append_assoc h.body h.key c));
+}
 
 -- it is a value, where it lacks no more
 abbrev IsValue : ℕ → Tree → List ℕ → Type 0
 IsValue heads t b = SpellsTree t b × IsSound t × (depth t + heads ≤ 33)
 
 list_closes : (heads : ℕ) (ts : Trees) (b : List ℕ) → IsFrame heads (in_list ts) 0 b → IsValue heads (list ts) b
-list_closes heads ts b h = ((h.0, h.1, h.2, sized h.0 (count ts + 0) (count ts) h.1 (omega arith) h.3, h.4, h.7), h.5, omega (arith, h.6))
+list_closes heads ts b h = ((h.size, h.field, h.body, sized h.size (count ts + 0) (count ts) h.field (omega arith) h.sized, h.spelled, h.begins), h.sound, omega (arith, h.deep))
 
 struct_closes : (heads tag : ℕ) (ts : Trees) (b : List ℕ) → IsFrame heads (in_struct tag ts) 0 b → IsValue heads (structure tag ts) b
 struct_closes heads tag ts b h =
     let n : count ts + 0 ≡ count ts = omega arith in
-    let begins : Begins (announces.Struct (count ts)) (tag ∷ h.0) b = subst (λ (k : ℕ). Begins (announces.Struct k) (tag ∷ h.0) b) n h.4 in
-    ((h.0, h.1, begins), (few_fields begins.0 (count ts) begins.1, h.2), omega (arith, h.3))
+    let begins : Begins (announces.Struct (count ts)) (tag ∷ h.body) b = subst (λ (k : ℕ). Begins (announces.Struct k) (tag ∷ h.body) b) n h.begins in
+    ((h.body, h.spelled, begins), (few_fields begins.0 (count ts) begins.1, h.sound), omega (arith, h.deep))
 
 dict_closes : (heads : ℕ) (es : Entries) (b : List ℕ) → IsFrame heads (at_key es) 0 b → IsValue heads (dict es) b
-dict_closes heads es b h = ((h.0, h.1, h.2, sized h.0 (entry_count es + 0) (entry_count es) h.1 (omega arith) h.3, h.4, h.8), (h.5, h.6), omega (arith, h.7))
+dict_closes heads es b h = ((h.size, h.field, h.body, sized h.size (entry_count es + 0) (entry_count es) h.field (omega arith) h.sized, h.spelled, h.begins), (h.fresh, h.sound), omega (arith, h.deep))
 
 put_closes : (heads : ℕ) (f : Opened) (t : Tree) (b : List ℕ) → IsFrame heads (with_member f t) 0 b → IsValue heads (tree_so_far (with_member f t)) b
 put_closes heads (in_list ts) t b h = list_closes heads (push_tree ts t) b h
@@ -125,23 +127,23 @@ put_closes heads (at_value es k) t b h = dict_closes heads (push_entry es k t) b
 
 stays_open : (f : Frame) (fs : List Frame) (front : List ℕ) (t : Tree) (c : List ℕ) → AreFrames (f ∷ fs) front → (place (f ∷ fs)).key ≡ None → SpellsTree t c → IsSound t → depth t + length (f ∷ fs) ≤ 32 → 1 < f.lacks
     → AreFrames (record { opened = with_member f.opened t; lacks = f.lacks - 1; first = f.first } ∷ fs) (front ++ c)
-stays_open f fs front t c h none one sound deep lt = (
-  h.0,
-  h.1 ++ c,
-  h.2,
-  h.3,
-  h.4,
-  omega arith,
-  frame_put (length fs + 1) f.opened f.lacks t h.1 c h.6 none h.5 one sound (omega arith),
-  ap (λ (x : List ℕ). x ++ c) h.7 ∙ append_assoc h.0 h.1 c,
-)
+stays_open f fs front t c h none one sound deep lt = record {
+  front = h.front;
+  rest = h.rest ++ c;
+  around = h.around;
+  keyless = h.keyless;
+  room = h.room;
+  waiting = omega arith;
+  frame = frame_put (length fs + 1) f.opened f.lacks t h.rest c h.frame none h.waiting one sound (omega arith);
+  whole = ap (λ (x : List ℕ). x ++ c) h.whole ∙ append_assoc h.front h.rest c;
+}
 
 last_closes : (f : Frame) (fs : List Frame) (front : List ℕ) (t : Tree) (c : List ℕ) → (h : AreFrames (f ∷ fs) front) → (place (f ∷ fs)).key ≡ None → SpellsTree t c → IsSound t → depth t + length (f ∷ fs) ≤ 32 → f.lacks ≤ 1
-    → IsValue (length fs + 1) (tree_so_far (with_member f.opened t)) (h.1 ++ c)
+    → IsValue (length fs + 1) (tree_so_far (with_member f.opened t)) (h.rest ++ c)
 last_closes f fs front t c h none one sound deep le =
     let zero : f.lacks - 1 ≡ 0 = omega arith in
-    put_closes (length fs + 1) f.opened t (h.1 ++ c)
-    (subst (λ (n : ℕ). IsFrame (length fs + 1) (with_member f.opened t) n (h.1 ++ c)) zero (frame_put (length fs + 1) f.opened f.lacks t h.1 c h.6 none h.5 one sound (omega arith)))
+    put_closes (length fs + 1) f.opened t (h.rest ++ c)
+    (subst (λ (n : ℕ). IsFrame (length fs + 1) (with_member f.opened t) n (h.rest ++ c)) zero (frame_put (length fs + 1) f.opened f.lacks t h.rest c h.frame none h.waiting one sound (omega arith)))
 
 -- A value behind what is open leaves what the definition says.
 pub ends_stand : (fs : List Frame) (front : List ℕ) (t : Tree) (c : List ℕ) → AreFrames fs front → (place fs).key ≡ None → SpellsTree t c → IsSound t → depth t + length fs ≤ 32 → Stands (ends fs t) (front ++ c)
@@ -151,6 +153,6 @@ ends_stand (f ∷ fs) front t c h none one sound deep =
       | inl lt ↦ (let e : nat_lt 1 f.lacks ≡ true = lt-ltb _ _ lt in rw e (stays_open f fs front t c h none one sound deep lt))
       | inr le ↦ (let e : nat_lt 1 f.lacks ≡ false = le-ltb _ _ le in
           let v = last_closes f fs front t c h none one sound deep le in
-          let whole : front ++ c ≡ h.0 ++ (h.1 ++ c) = ap (λ (x : List ℕ). x ++ c) h.7 ∙ append_assoc h.0 h.1 c in
-          rw (e, whole) (ends_stand fs h.0 (tree_so_far (with_member f.opened t)) (h.1 ++ c) h.2 h.3 v.0 v.1 (omega (arith, v.2))))
+          let whole : front ++ c ≡ h.front ++ (h.rest ++ c) = ap (λ (x : List ℕ). x ++ c) h.whole ∙ append_assoc h.front h.rest c in
+          rw (e, whole) (ends_stand fs h.front (tree_so_far (with_member f.opened t)) (h.rest ++ c) h.around h.keyless v.0 v.1 (omega (arith, v.2))))
     ]

@@ -31,11 +31,11 @@ use Rattle.reader.proofs.Treeing.{get_front, get_last, get_pushed, text_more}
 
 pub levels_depth : (fs : List Frame) (n : ℕ) (around : List Level) → AreLevels fs n around → n ≡ length fs
 levels_depth [] n around h = h
-levels_depth (f ∷ fs) n around h = h.1 ∙ ap (λ (x : ℕ). suc x) (levels_depth fs h.0 around h.3)
+levels_depth (f ∷ fs) n around h = h.counted ∙ ap (λ (x : ℕ). suc x) (levels_depth fs h.below around h.others)
 
 pub few_frames : (fs : List Frame) (b : List ℕ) → AreFrames fs b → length fs ≤ 32
 few_frames [] b h = omega arith
-few_frames (f ∷ fs) b h = omega (arith, h.4)
+few_frames (f ∷ fs) b h = omega (arith, h.room)
 
 bodies_push : (is : List Item) (i : Item) → bodies (is ++ i ∷ []) ≡ bodies is + body (marker i.marker) i.number
 bodies_push [] i = omega arith
@@ -87,14 +87,14 @@ names_end (f ∷ fs) t b names store gs are none h e =
           subst (λ (x : List Frame). HaveNames x names store) g (names_put f.opened t f.first names store h.0 (no_key f fs none), apart_put f.opened t f.first fs h.1, h.2))
       | inr le ↦ (let l : nat_lt 1 f.lacks ≡ false = le-ltb _ _ le in
           let same : ends fs (tree_so_far (with_member f.opened t)) ≡ still gs = rw l at e in
-          names_end fs (tree_so_far (with_member f.opened t)) are.0 names store gs are.2 are.3 h.2 same)
+          names_end fs (tree_so_far (with_member f.opened t)) are.front names store gs are.around are.keyless h.2 same)
     ]
 
 -- more bytes change no name
 named_more : (names : List Name) (store s : List ℕ) (first : ℕ) (x : List ℕ) → ArePlaced names (length store) → (IsNamed names store first x → IsNamed names (store ++ s) first x) × (IsNamed names (store ++ s) first x → IsNamed names store first x)
 named_more names store s first x placed = (
-  (λ (n : IsNamed names store first x). (n.0, n.1, n.2, n.3, text_more store s (n.1).start (n.1).len (placed n.0 n.1 n.2).1 ∙ n.4)),
-  (λ (n : IsNamed names (store ++ s) first x). (n.0, n.1, n.2, n.3, sym (text_more store s (n.1).start (n.1).len (placed n.0 n.1 n.2).1) ∙ n.4)),
+  (λ (n : IsNamed names store first x). record { index = n.index; found = n.found; there = n.there; begins = n.begins; text = text_more store s (n.found).start (n.found).len (placed n.index n.found n.there).1 ∙ n.text }),
+  (λ (n : IsNamed names (store ++ s) first x). record { index = n.index; found = n.found; there = n.there; begins = n.begins; text = sym (text_more store s (n.found).start (n.found).len (placed n.index n.found n.there).1) ∙ n.text }),
 )
 
 are_more : (names : List Name) (store s : List ℕ) (first : ℕ) (keys : List (List ℕ)) → ArePlaced names (length store) → AreNames names store first keys → AreNames names (store ++ s) first keys
@@ -119,11 +119,11 @@ placed_more names store s placed = λ i n e. (let p = placed i n e in (p.0, omeg
 -- a name of another dictionary
 named_push : (names : List Name) (n : Name) (store : List ℕ) (first : ℕ) (x : List ℕ) → first < n.first → (IsNamed names store first x → IsNamed (names ++ n ∷ []) store first x) × (IsNamed (names ++ n ∷ []) store first x → IsNamed names store first x)
 named_push names n store first x lt = (
-  (λ (h : IsNamed names store first x). (h.0, h.1, get_front names (n ∷ []) h.0 h.1 h.2, h.3, h.4)),
+  (λ (h : IsNamed names store first x). record { index = h.index; found = h.found; there = get_front names (n ∷ []) h.index h.found h.there; begins = h.begins; text = h.text }),
   (λ (h : IsNamed (names ++ n ∷ []) store first x).
-      elim (get_pushed names n h.0 h.1 h.2) as (λ _. IsNamed names store first x) [
-        | inl e ↦ (h.0, h.1, e, h.3, h.4)
-        | inr e ↦ absurd (omega (arith, h.3, ap (λ (m : Name). m.first) e.1))
+      elim (get_pushed names n h.index h.found h.there) as (λ _. IsNamed names store first x) [
+        | inl e ↦ record { index = h.index; found = h.found; there = e; begins = h.begins; text = h.text }
+        | inr e ↦ absurd (omega (arith, h.begins, ap (λ (m : Name). m.first) e.1))
       ]),
 )
 
@@ -143,7 +143,7 @@ has_push (at_value es k) names n store first other lt h = are_push names n store
 pub names_push : (fs : List Frame) (b : List ℕ) (names : List Name) (n : Name) (store : List ℕ) → AreFrames fs b → (place fs).key ≡ None → BeginBefore fs n.first → HaveNames fs names store → HaveNames fs (names ++ n ∷ []) store
 names_push [] b names n store are none lt h = tt
 names_push (f ∷ fs) b names n store are none lt h =
-    (has_push f.opened names n store f.first (no_key f fs none) lt.0 h.0, h.1, names_push fs are.0 names n store are.2 are.3 lt.1 h.2)
+    (has_push f.opened names n store f.first (no_key f fs none) lt.0 h.0, h.1, names_push fs are.front names n store are.around are.keyless lt.1 h.2)
 
 -- ---- keys among keys
 
@@ -187,13 +187,13 @@ pub key_named : (names : List Name) (n : Name) (store : List ℕ) (keys : List (
 key_named names n store keys k h t = λ x. (
   (λ (e : is_among x (keys ++ k ∷ []) ≡ true).
       elim (among_push x keys k e) as (λ _. IsNamed (names ++ n ∷ []) store n.first x) [
-        | inl a ↦ (let w = (h x).0 a in (w.0, w.1, get_front names (n ∷ []) w.0 w.1 w.2, w.3, w.4))
-        | inr e ↦ (length names, n, get_last names n, refl, t ∙ sym e)
+        | inl a ↦ (let w = (h x).0 a in record { index = w.index; found = w.found; there = get_front names (n ∷ []) w.index w.found w.there; begins = w.begins; text = w.text })
+        | inr e ↦ record { index = length names; found = n; there = get_last names n; begins = refl; text = t ∙ sym e }
       ]),
   (λ (w : IsNamed (names ++ n ∷ []) store n.first x).
-      elim (get_pushed names n w.0 w.1 w.2) as (λ _. is_among x (keys ++ k ∷ []) ≡ true) [
-        | inl e ↦ among_front x keys k ((h x).1 (w.0, w.1, e, w.3, w.4))
-        | inr e ↦ (let same : k ≡ x = sym t ∙ ap (λ (m : Name). text_of store m) e.1 ∙ w.4 in subst (λ (y : List ℕ). is_among y (keys ++ k ∷ []) ≡ true) same (among_itself keys k))
+      elim (get_pushed names n w.index w.found w.there) as (λ _. is_among x (keys ++ k ∷ []) ≡ true) [
+        | inl e ↦ among_front x keys k ((h x).1 (record { index = w.index; found = w.found; there = e; begins = w.begins; text = w.text }))
+        | inr e ↦ (let same : k ≡ x = sym t ∙ ap (λ (m : Name). text_of store m) e.1 ∙ w.text in subst (λ (y : List ℕ). is_among y (keys ++ k ∷ []) ≡ true) same (among_itself keys k))
       ]),
 )
 
@@ -201,11 +201,11 @@ key_named names n store keys k h t = λ x. (
 pub no_names : (names : List Name) (store : List ℕ) → ArePlaced names (length store) → AreNames names store (length names) []
 no_names names store placed = λ x. (
   (λ (e : is_among x [] ≡ true). absurd cc),
-  (λ (w : IsNamed names store (length names) x). absurd (omega (arith, (placed w.0 w.1 w.2).0, slice_get_within names w.0 w.1 w.2, w.3))),
+  (λ (w : IsNamed names store (length names) x). absurd (omega (arith, (placed w.index w.found w.there).0, slice_get_within names w.index w.found w.there, w.begins))),
 )
 
 named_before : (names : List Name) (store : List ℕ) (first : ℕ) (x : List ℕ) → ArePlaced names (length store) → IsNamed names store first x → first < length names
-named_before names store first x placed w = omega (arith, (placed w.0 w.1 w.2).0, slice_get_within names w.0 w.1 w.2, w.3)
+named_before names store first x placed w = omega (arith, (placed w.index w.found w.there).0, slice_get_within names w.index w.found w.there, w.begins)
 
 opened_before : (f : Opened) (names : List Name) (store : List ℕ) (first : ℕ) → ArePlaced names (length store) → ((es : Entries) → f ≡ at_key es → ⊥) → HasNames f first names store → BeginsBefore f first (length names)
 opened_before (in_list ts) names store first placed other h = tt
@@ -216,12 +216,12 @@ opened_before (at_value es k) names store first placed other h = named_before na
 pub all_before : (fs : List Frame) (b : List ℕ) (names : List Name) (store : List ℕ) → AreFrames fs b → (place fs).key ≡ None → ArePlaced names (length store) → HaveNames fs names store → BeginBefore fs (length names)
 all_before [] b names store are none placed h = tt
 all_before (f ∷ fs) b names store are none placed h =
-    (opened_before f.opened names store f.first placed (no_key f fs none) h.0, all_before fs are.0 names store are.2 are.3 placed h.2)
+    (opened_before f.opened names store f.first placed (no_key f fs none) h.0, all_before fs are.front names store are.around are.keyless placed h.2)
 
 -- the next key of a dictionary is its first, or another stands where its keys begin
 pub root_of : (names : List Name) (store : List ℕ) (first : ℕ) (keys : List (List ℕ)) → AreNames names store first keys → (keys ≡ [] → first ≡ length names) → IsRoot names first
 root_of names store first [] h none = inl (none refl)
-root_of names store first (k ∷ keys) h none = let w = (h k).0 (among_head k keys) in inr (w.0, w.1, w.2, w.3)
+root_of names store first (k ∷ keys) h none = let w = (h k).0 (among_head k keys) in inr (record { index = w.index; found = w.found; there = w.there; begins = w.begins })
 
 -- ---- what stands behind an item
 
@@ -251,8 +251,8 @@ ready h m number g = record {
   store = g.store;
   sized = g.sized;
   fit = g.fit;
-  small = g.isa.1;
-  long = omega (arith, g.isa.2);
+  small = g.isa.small;
+  long = omega (arith, g.isa.long);
   read = g.read;
   placed = g.placed;
 }
@@ -317,10 +317,10 @@ pub value_stands : (h : Holds) (m number : ℕ) (what : Marker) (o : Open) → m
     → ((fs : List Frame) (t : Tree) → AreLevels fs h.standing.«open».depth h.standing.«open».around → h.standing.«open».is_whole ≡ false → IsLeft (ends fs t) o) → IsStanding (after o (with_item what m number h))
 value_stands h m number what o is g value left =
     let v = value g in
-    left_stands h m number what o (ends g.frames v.0) is (ready h m number g)
-    (ends_stand g.frames (bytes_of_items h.items [] g.full) v.0 (head_bytes m number ++ g.tail) g.are v.4 v.3 v.1 v.2)
-    (left g.frames v.0 g.levels g.unread)
-    (λ gs e. names_end g.frames v.0 (bytes_of_items h.items [] g.full) h.names h.store gs g.are v.4 g.named e)
+    left_stands h m number what o (ends g.frames v.tree) is (ready h m number g)
+    (ends_stand g.frames (bytes_of_items h.items [] g.full) v.tree (head_bytes m number ++ g.tail) g.are v.keyless v.spells v.sound v.deep)
+    (left g.frames v.tree g.levels g.unread)
+    (λ gs e. names_end g.frames v.tree (bytes_of_items h.items [] g.full) h.names h.store gs g.are v.keyless g.named e)
 
 -- what was taken with an item that ends
 pub has_taken : (h : Holds) (m number : ℕ) (what : Marker) (o : Open) (rest : List ℕ) → (r : IsReady h m number) → h.standing.bad ≡ None → IsStanding (after o (with_item what m number h))

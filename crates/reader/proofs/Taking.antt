@@ -63,7 +63,7 @@ fault_behind h p rest r g fault other =
 -- ---- a head
 
 pub admitted_by : (h : Holds) (m number has : ℕ) → (g : Goes h (part.Head m number has)) → IsAdmitted (place g.frames) m
-admitted_by h m number has g = g.isa.1
+admitted_by h m number has g = g.isa.admitted
 
 -- more bytes of the number
 pub head_longer : (h : Holds) (m number has : ℕ) (bytes : List ℕ) → AreBytes bytes → (g : Goes h (part.Head m number has)) → has + length bytes ≤ field (marker m) → Goes h (part.Head m (number_from number bytes) (has + length bytes))
@@ -80,7 +80,7 @@ head_longer h m number has bytes are g le = record {
   levels = g.levels;
   named = g.named;
   placed = g.placed;
-  isa = (g.isa.0, g.isa.1, le, joined_fits has number bytes are g.isa.3);
+  isa = record { bare = g.isa.bare; admitted = g.isa.admitted; few = le; small = joined_fits has number bytes are g.isa.small };
 }
 
 spelled_head : (h : Holds) (p : Part) (last : List ℕ) → (g : Goes h p) → g.tail ≡ [] → bytes_of_items h.items last h.store ≡ bytes_of_items h.items [] g.full ++ last
@@ -93,10 +93,10 @@ spelled_head h p last g none =
 pub bytes_longer : (h : Holds) (m number has : ℕ) (bytes : List ℕ) → AreBytes bytes → (g : Goes h (part.Head m number has)) → bytes_with h (part.Head m (number_from number bytes) (has + length bytes)) ≡ bytes_with h (part.Head m number has) ++ bytes
 bytes_longer h m number has bytes are g =
     let front : List ℕ = bytes_of_items h.items [] g.full in
-    spelled_head h (part.Head m number has) (m ∷ big_bytes (has + length bytes) (number_from number bytes)) g g.isa.0
+    spelled_head h (part.Head m number has) (m ∷ big_bytes (has + length bytes) (number_from number bytes)) g g.isa.bare
     ∙ ap (λ (x : List ℕ). front ++ (m ∷ x)) (joined_bytes has number bytes are)
     ∙ sym (append_assoc front (m ∷ big_bytes has number) bytes)
-    ∙ ap (λ (b : List ℕ). b ++ bytes) (sym (spelled_head h (part.Head m number has) (m ∷ big_bytes has number) g g.isa.0))
+    ∙ ap (λ (b : List ℕ). b ++ bytes) (sym (spelled_head h (part.Head m number has) (m ∷ big_bytes has number) g g.isa.bare))
 
 -- all bytes of the number
 pub head_whole : (h : Holds) (m number has : ℕ) (bytes : List ℕ) → AreBytes bytes → (g : Goes h (part.Head m number has)) → has + length bytes ≡ field (marker m)
@@ -114,7 +114,7 @@ head_whole h m number has bytes are g e = record {
   levels = g.levels;
   named = g.named;
   placed = g.placed;
-  isa = (g.isa.1, subst (λ (k : ℕ). number_from number bytes < 256 ^ k) e (joined_fits has number bytes are g.isa.3), omega (arith, ap length g.isa.0));
+  isa = record { admitted = g.isa.admitted; small = subst (λ (k : ℕ). number_from number bytes < 256 ^ k) e (joined_fits has number bytes are g.isa.small); long = omega (arith, ap length g.isa.bare) };
 }
 
 pub bytes_whole : (h : Holds) (m number has lacks : ℕ) (bytes : List ℕ) → AreBytes bytes → (g : Goes h (part.Head m number has)) → has + length bytes ≡ field (marker m)
@@ -137,7 +137,7 @@ head_starts h m g a = record {
   levels = g.levels;
   named = g.named;
   placed = g.placed;
-  isa = (g.isa, a, omega arith, omega arith);
+  isa = record { bare = g.isa; admitted = a; few = omega arith; small = omega arith };
 }
 
 pub bytes_start : (h : Holds) (m : ℕ) → (g : Goes h part.Nothing) → bytes_with h (part.Head m 0 0) ≡ bytes_with h part.Nothing ++ m ∷ []
@@ -160,7 +160,7 @@ body_longer h m number lacks left s g e = record {
   levels = g.levels;
   named = names_more g.frames h.names h.store s g.placed g.named;
   placed = placed_more h.names h.store s g.placed;
-  isa = (g.isa.0, g.isa.1, omega (arith, g.isa.2, length-append g.tail s));
+  isa = record { admitted = g.isa.admitted; small = g.isa.small; long = omega (arith, g.isa.long, length-append g.tail s) };
 }
 
 pub bytes_stored : (h : Holds) (m number lacks left : ℕ) (s : List ℕ) → (g : Goes h (part.Body m number lacks)) → bytes_with (stored s h) (part.Body m number left) ≡ bytes_with h (part.Body m number lacks) ++ s
@@ -181,7 +181,7 @@ grown_stored h s = record { items = ([], sym (append-nil h.items)); store = (s, 
 pub tail_at : (h : Holds) (m number start : ℕ) (size : Size) → marker m ≡ Some (announces.Text size) → (g : Goes h (part.Body m number 0)) → start + size_with size number ≡ length h.store → drop start h.store ≡ g.tail
 tail_at h m number start size is g e =
     let n : body (marker m) number ≡ size_with size number = ap (λ (o : Option Marker). body o number) is in
-    let at : length g.full ≡ start = omega (arith, e, n, g.isa.2, ap length g.store, length-append g.full g.tail) in
+    let at : length g.full ≡ start = omega (arith, e, n, g.isa.long, ap length g.store, length-append g.full g.tail) in
     ap (λ (s : List ℕ). drop start s) g.store ∙ drop_at g.full g.tail start at
 
 -- ---- a piece that ends in a part
@@ -217,7 +217,19 @@ pub trails : (h : Holds) (x : ℕ) (rest : List ℕ) → (d : IsDone h) → AreB
 trails h x rest d bytes =
     let all : bytes_of h ≡ bytes_of_items h.items [] h.store = ap (λ (p : Part). bytes_of_items h.items (part_head p) h.store) d.none in
     let good = good_spelled d.tree (bytes_of_items h.items [] h.store) (subst AreBytes all bytes) d.deep d.sound d.spells in (
-      inr (refl, (d.tree, bytes_of_items h.items [] h.store, x ∷ rest, good.0, good.1, ap (λ (b : List ℕ). b ++ x ∷ rest) all, omega arith, d.read)),
+      inr (
+        refl,
+        record {
+          tree = d.tree;
+          front = bytes_of_items h.items [] h.store;
+          more = x ∷ rest;
+          good = good.0;
+          spelled = good.1;
+          whole = ap (λ (b : List ℕ). b ++ x ∷ rest) all;
+          some = omega arith;
+          place = d.read;
+        },
+      ),
       λ (e : reason.Trailing ≡ reason.Short). cc,
     )
 
@@ -226,8 +238,8 @@ trails h x rest d bytes =
 pub text_bad : (h : Holds) (m number : ℕ) (size : Size) (rest : List ℕ) → marker m ≡ Some (announces.Text size) → (g : Goes h (part.Body m number 0)) → is_utf8 g.tail ≡ false
     → Bad (bytes_with h (part.Body m number 0) ++ rest) h.standing.read reason.Utf8 × (reason.Utf8 ≡ reason.Short → ⊥)
 text_bad h m number size rest is g bad =
-    let n : length g.tail ≡ size_with size number = omega (arith, g.isa.2) ∙ ap (λ (o : Option Marker). body o number) is in
-    let small : number < 256 ^ size_len size = subst (λ (o : Option Marker). number < 256 ^ field o) is g.isa.1 in
+    let n : length g.tail ≡ size_with size number = omega (arith, g.isa.long) ∙ ap (λ (o : Option Marker). body o number) is in
+    let small : number < 256 ^ size_len size = subst (λ (o : Option Marker). number < 256 ^ field o) is g.isa.small in
     fault_behind h (part.Body m number 0) rest reason.Utf8 g
     (ap (fault_at (place g.frames)) (append_assoc (head_bytes m number) g.tail rest) ∙ not_text (place g.frames) m number size g.tail rest is small n bad)
     (λ (e : reason.Utf8 ≡ reason.Short). cc)
@@ -236,8 +248,8 @@ pub key_twice : (h : Holds) (m number start : ℕ) (size : Size) (rest : List �
     → IsUtf8 g.tail → IsNamed h.names h.store k.first (drop start h.store)
     → Bad (bytes_with h (part.Body m number 0) ++ rest) h.standing.read reason.KeyTwice × (reason.KeyTwice ≡ reason.Short → ⊥)
 key_twice h m number start size rest is g k there utf8 named =
-    let n : length g.tail ≡ size_with size number = omega (arith, g.isa.2) ∙ ap (λ (o : Option Marker). body o number) is in
-    let small : number < 256 ^ size_len size = subst (λ (o : Option Marker). number < 256 ^ field o) is g.isa.1 in
+    let n : length g.tail ≡ size_with size number = omega (arith, g.isa.long) ∙ ap (λ (o : Option Marker). body o number) is in
+    let small : number < 256 ^ size_len size = subst (λ (o : Option Marker). number < 256 ^ field o) is g.isa.small in
     let names = subst (λ (fs : List Frame). HaveNames fs h.names h.store) k.is g.named in
     let among : is_among g.tail (keys_of k.es) ≡ true = (names.0.0 g.tail).1 (subst (λ (s : List ℕ). IsNamed h.names h.store k.first s) there named) in
     let key : (place g.frames).key ≡ Some (keys_of k.es) = ap (λ (fs : List Frame). (place fs).key) k.is in
@@ -326,4 +338,4 @@ pub text_starts : (h : Holds) (m number start all len : ℕ) (size : Size) → m
     → start + size_with size number ≡ length h.store
 text_starts h m number start all len size is g a l e =
     let n : body (marker m) number ≡ size_with size number = ap (λ (o : Option Marker). body o number) is in
-    omega (arith, n, g.isa.2, ap length g.store, length-append g.full g.tail)
+    omega (arith, n, g.isa.long, ap length g.store, length-append g.full g.tail)

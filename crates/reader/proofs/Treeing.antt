@@ -154,9 +154,9 @@ pub record Searched (keys : List Key) (bytes : List ℕ) (first : ℕ) (s : List
 pub search_starts : (keys : List Key) (bytes : List ℕ) (first : ℕ) (s : List ℕ) → IsTree keys bytes → IsRoot (names_of keys) first → first < length keys → Searched keys bytes first s 0 first
 search_starts keys bytes first s tree (inl e) lt = absurd (omega (arith, count_names keys))
 search_starts keys bytes first s tree (inr h) lt =
-    let k = named_key keys h.0 h.1 h.2 in
-    let first_is : (k.0).first ≡ first = ap (λ (n : Name). n.first) k.2 ∙ h.3 in
-    let p = tree h.0 k.0 k.1 in
+    let k = named_key keys h.index h.found h.there in
+    let first_is : (k.0).first ≡ first = ap (λ (n : Name). n.first) k.2 ∙ h.begins in
+    let p = tree h.index k.0 k.1 in
     record {
       upper = p.root;
       upper_is = subst (λ (n : ℕ). slice_get keys n ≡ Some p.root) first_is p.root_is;
@@ -198,7 +198,7 @@ pub search_finds : (keys : List Key) (bytes : List ℕ) (first : ℕ) (s : List 
     → IsNamed (names_of keys) bytes first s
 search_finds keys bytes first s above at k h e t =
     let same : h.upper ≡ k = one_element keys at h.upper k h.upper_is e in
-    (at, name k, name_at keys at k e, ap (λ (x : Key). x.first) (sym same) ∙ h.upper_first, t)
+    record { index = at; found = name k; there = name_at keys at k e; begins = ap (λ (x : Key). x.first) (sym same) ∙ h.upper_first; text = t }
 
 not_below : (keys : List Key) (bytes : List ℕ) (first : ℕ) (s : List ℕ) (above at : ℕ) → ((k : Key) → slice_get keys at ≡ Some k → text_of bytes (name k) ≡ s → ⊥) → HangsNone keys first at (side_of (digest_of s) s above)
     → (i : ℕ) (k : Key) → slice_get keys i ≡ Some k → text_of bytes (name k) ≡ s → (steps : ℕ) × Leads keys first s above at steps i → ⊥
@@ -211,30 +211,41 @@ pub search_ends : (keys : List Key) (bytes : List ℕ) (first : ℕ) (s : List �
     → (IsNamed (names_of keys) bytes first s → ⊥) × IsFree keys first s (Some (record { key = at; is_right = side }))
 search_ends keys bytes first s above at side h other is none = (
   (λ (n : IsNamed (names_of keys) bytes first s).
-      let k = named_key keys n.0 n.1 n.2 in
-      let of_first : (k.0).first ≡ first = ap (λ (x : Name). x.first) k.2 ∙ n.3 in
-      let text : text_of bytes (name k.0) ≡ s = ap (λ (x : Name). text_of bytes x) k.2 ∙ n.4 in
-      not_below keys bytes first s above at other (subst (λ (b : Bool). HangsNone keys first at b) is none) n.0 k.0 k.1 text (h.below n.0 k.0 k.1 of_first text)),
-  (above, h.led, is, none, (h.upper, h.upper_is, h.upper_first), (h.root, h.root_is, h.root_first)),
+      let k = named_key keys n.index n.found n.there in
+      let of_first : (k.0).first ≡ first = ap (λ (x : Name). x.first) k.2 ∙ n.begins in
+      let text : text_of bytes (name k.0) ≡ s = ap (λ (x : Name). text_of bytes x) k.2 ∙ n.text in
+      not_below keys bytes first s above at other (subst (λ (b : Bool). HangsNone keys first at b) is none) n.index k.0 k.1 text (h.below n.index k.0 k.1 of_first text)),
+  record {
+    steps = above;
+    leads = h.led;
+    side = is;
+    none = none;
+    upper = h.upper;
+    upper_is = h.upper_is;
+    upper_first = h.upper_first;
+    root = h.root;
+    root_is = h.root_is;
+    root_first = h.root_first;
+  },
 )
 
 is_first : (keys : List Key) (bytes : List ℕ) (first : ℕ) → IsTree keys bytes → IsRoot (names_of keys) first → length keys ≤ first → first ≡ length keys
 is_first keys bytes first tree (inl e) le = e ∙ count_names keys
 is_first keys bytes first tree (inr h) le =
-    let k = named_key keys h.0 h.1 h.2 in
-    let of_first : (k.0).first ≡ first = ap (λ (x : Name). x.first) k.2 ∙ h.3 in
-    let within : h.0 < length keys = slice_get_within keys h.0 k.0 k.1 in
-    absurd (omega (arith, (tree h.0 k.0 k.1).behind, of_first, within))
+    let k = named_key keys h.index h.found h.there in
+    let of_first : (k.0).first ≡ first = ap (λ (x : Name). x.first) k.2 ∙ h.begins in
+    let within : h.index < length keys = slice_get_within keys h.index k.0 k.1 in
+    absurd (omega (arith, (tree h.index k.0 k.1).behind, of_first, within))
 
 -- the dictionary has no key
 pub search_is_over : (keys : List Key) (bytes : List ℕ) (first : ℕ) (s : List ℕ) → IsTree keys bytes → IsRoot (names_of keys) first → length keys ≤ first
     → (IsNamed (names_of keys) bytes first s → ⊥) × IsFree keys first s None
 search_is_over keys bytes first s tree root le = (
   (λ (n : IsNamed (names_of keys) bytes first s).
-      let k = named_key keys n.0 n.1 n.2 in
-      let of_first : (k.0).first ≡ first = ap (λ (x : Name). x.first) k.2 ∙ n.3 in
-      let within : n.0 < length keys = slice_get_within keys n.0 k.0 k.1 in
-      absurd (omega (arith, (tree n.0 k.0 k.1).behind, of_first, within))),
+      let k = named_key keys n.index n.found n.there in
+      let of_first : (k.0).first ≡ first = ap (λ (x : Name). x.first) k.2 ∙ n.begins in
+      let within : n.index < length keys = slice_get_within keys n.index k.0 k.1 in
+      absurd (omega (arith, (tree n.index k.0 k.1).behind, of_first, within))),
   is_first keys bytes first tree root le,
 )
 

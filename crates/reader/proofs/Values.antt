@@ -76,14 +76,15 @@ few_around h m number g = omega (arith, few_frames g.frames (bytes_of_items h.it
 headed : (h : Holds) (m number : ℕ) (what : Marker) (t : Tree) → marker m ≡ Some what → is_text what ≡ false → IsSound t → depth t ≡ 0 → body (Some what) number ≡ 0
     → SpellsTree t (m ∷ big_bytes (field (Some what)) number) → IsValue h m number
 headed h m number what t is not sound flat none spells = λ g.
-    (let tail : g.tail ≡ [] = no_tail g.tail (body (marker m) number) g.isa.2 (ap (λ (o : Option Marker). body o number) is ∙ none) in
-    let all : m ∷ big_bytes (field (Some what)) number ≡ head_bytes m number ++ g.tail = sym (head_is m number what is) ∙ sym (append-nil (head_bytes m number)) ∙ ap (λ (x : List ℕ). head_bytes m number ++ x) (sym tail) in (
-      t,
-      sound,
-      omega (arith, flat, few_around h m number g),
-      subst (λ (b : List ℕ). SpellsTree t b) all spells,
-      no_key_at (place g.frames) what not (head_ok (place g.frames) m what is g.isa.0),
-    ))
+    (let tail : g.tail ≡ [] = no_tail g.tail (body (marker m) number) g.isa.long (ap (λ (o : Option Marker). body o number) is ∙ none) in
+    let all : m ∷ big_bytes (field (Some what)) number ≡ head_bytes m number ++ g.tail = sym (head_is m number what is) ∙ sym (append-nil (head_bytes m number)) ∙ ap (λ (x : List ℕ). head_bytes m number ++ x) (sym tail) in
+    record {
+      tree = t;
+      sound = sound;
+      deep = omega (arith, flat, few_around h m number g);
+      spells = subst (λ (b : List ℕ). SpellsTree t b) all spells;
+      keyless = no_key_at (place g.frames) what not (head_ok (place g.frames) m what is g.isa.admitted);
+    })
 
 small_by : (m number : ℕ) (what : Marker) → marker m ≡ Some what → number < 256 ^ field (marker m) → number < 256 ^ field (Some what)
 small_by m number what is lt = subst (λ (o : Option Marker). number < 256 ^ field o) is lt
@@ -91,15 +92,16 @@ small_by m number what is lt = subst (λ (o : Option Marker). number < 256 ^ fie
 byte_value : (h : Holds) (m number : ℕ) (size : Size) → marker m ≡ Some (announces.Bytes size) → IsValue h m number
 byte_value h m number size is = λ g.
     (let what : Marker = announces.Bytes size in
-    let small : number < 256 ^ size_len size = small_by m number what is g.isa.1 in
-    let long : size_with size number ≡ length g.tail = ap (λ (o : Option Marker). body o number) (sym is) ∙ omega (arith, g.isa.2) in
-    let all : m ∷ (big_bytes (size_len size) number ++ g.tail) ≡ head_bytes m number ++ g.tail = ap (λ (b : List ℕ). b ++ g.tail) (sym (head_is m number what is)) in (
-      byte_string g.tail,
-      tt,
-      few_around h m number g,
-      subst (λ (b : List ℕ). SpellsTree (byte_string g.tail) b) all (size, big_bytes (size_len size) number, sized_by size number (length g.tail) small long, (m, is, refl)),
-      no_key_at (place g.frames) what refl (head_ok (place g.frames) m what is g.isa.0),
-    ))
+    let small : number < 256 ^ size_len size = small_by m number what is g.isa.small in
+    let long : size_with size number ≡ length g.tail = ap (λ (o : Option Marker). body o number) (sym is) ∙ omega (arith, g.isa.long) in
+    let all : m ∷ (big_bytes (size_len size) number ++ g.tail) ≡ head_bytes m number ++ g.tail = ap (λ (b : List ℕ). b ++ g.tail) (sym (head_is m number what is)) in
+    record {
+      tree = byte_string g.tail;
+      sound = tt;
+      deep = few_around h m number g;
+      spells = subst (λ (b : List ℕ). SpellsTree (byte_string g.tail) b) all (size, big_bytes (size_len size) number, sized_by size number (length g.tail) small long, (m, is, refl));
+      keyless = no_key_at (place g.frames) what refl (head_ok (place g.frames) m what is g.isa.admitted);
+    })
 
 text_spelled : (m number : ℕ) (size : Size) (s : List ℕ) → marker m ≡ Some (announces.Text size) → number < 256 ^ field (marker m) → length s + 0 ≡ body (marker m) number → IsUtf8 s → SpellsText s (head_bytes m number ++ s)
 text_spelled m number size s is lt len utf8 =
@@ -107,11 +109,18 @@ text_spelled m number size s is lt len utf8 =
     let small : number < 256 ^ size_len size = small_by m number what is lt in
     let long : size_with size number ≡ length s = ap (λ (o : Option Marker). body o number) (sym is) ∙ omega (arith, len) in
     let all : m ∷ (big_bytes (size_len size) number ++ s) ≡ head_bytes m number ++ s = ap (λ (b : List ℕ). b ++ s) (sym (head_is m number what is)) in
-    subst (λ (b : List ℕ). SpellsText s b) all (size, big_bytes (size_len size) number, sized_by size number (length s) small long, utf8, (m, is, refl))
+    subst (λ (b : List ℕ). SpellsText s b) all
+    (record { size = size; field = big_bytes (size_len size) number; sized = sized_by size number (length s) small long; utf8 = utf8; begins = (m, is, refl) })
 
 pub text_value : (h : Holds) (m number : ℕ) (size : Size) → marker m ≡ Some (announces.Text size) → ((g : Goes h (part.Body m number 0)) → IsUtf8 g.tail) → ((g : Goes h (part.Body m number 0)) → is_some (place g.frames).key ≡ false) → IsValue h m number
 text_value h m number size is utf8 free = λ g.
-    (text g.tail, tt, few_around h m number g, text_spelled m number size g.tail is g.isa.1 g.isa.2 (utf8 g), no_key_there (place g.frames).key (free g))
+    record {
+      tree = text g.tail;
+      sound = tt;
+      deep = few_around h m number g;
+      spells = text_spelled m number size g.tail is g.isa.small g.isa.long (utf8 g);
+      keyless = no_key_there (place g.frames).key (free g);
+    }
 
 pub plain_value : (h : Holds) (m number : ℕ) (what : Marker) → marker m ≡ Some what → ((size : Size) → what ≡ announces.Text size → ⊥) → ((size : Size) → what ≡ announces.List size → ⊥)
     → ((size : Size) → what ≡ announces.Dict size → ⊥) → ((n : ℕ) → what ≡ announces.Struct n → ⊥) → number < 256 ^ field (marker m) → IsValue h m number
@@ -120,7 +129,7 @@ plain_value h m number (announces.Bool b) is nt nl nd ns lt = headed h m number 
 plain_value h m number (announces.Tiny z) is nt nl nd ns lt = headed h m number (announces.Tiny z) (int z) is refl tt refl refl (inl (m, is, refl))
 plain_value h m number (announces.Int w) is nt nl nd ns lt =
     headed h m number (announces.Int w) (int (twos_complement (width w) number)) is refl tt refl refl
-    (inr (w, number, big_bytes (width w) number, number_of (width w) number (small_by m number (announces.Int w) is lt), refl, (m, is, refl)))
+    (inr (record { wide = w; number = number; field = big_bytes (width w) number; stands = number_of (width w) number (small_by m number (announces.Int w) is lt); value = refl; begins = (m, is, refl) }))
 plain_value h m number announces.Float is nt nl nd ns lt =
     headed h m number announces.Float (float number) is refl tt refl refl (big_bytes 8 number, number_of 8 number (small_by m number announces.Float is lt), (m, is, refl))
 plain_value h m number (announces.Bytes size) is nt nl nd ns lt = byte_value h m number size is
@@ -132,7 +141,7 @@ plain_value h m number (announces.Struct n) is nt nl nd ns lt = absurd (ns n ref
 -- ---- what nests
 
 room : (h : Holds) (m number : ℕ) (what : Marker) → marker m ≡ Some what → is_text what ≡ false → nests what ≡ true → (g : Goes h (part.Body m number 0)) → length g.frames < 32
-room h m number what is not nest g = omega (arith, not_deep (place g.frames) what not nest (head_ok (place g.frames) m what is g.isa.0), heads_are g.frames)
+room h m number what is not nest g = omega (arith, not_deep (place g.frames) what not nest (head_ok (place g.frames) m what is g.isa.admitted), heads_are g.frames)
 
 pub list_has_room : (h : Holds) (m number count : ℕ) (what : Marker) → marker m ≡ Some what → IsListOf what number count → (g : Goes h (part.Body m number 0)) → h.standing.«open».depth < 32
 list_has_room h m number count announces.Null is l g = absurd l
@@ -152,14 +161,15 @@ dict_has_room h m number size is g = omega (arith, room h m number (announces.Di
 nested : (h : Holds) (m number : ℕ) (what : Marker) (t : Tree) → marker m ≡ Some what → is_text what ≡ false → nests what ≡ true → IsSound t → depth t ≡ 1 → body (Some what) number ≡ 0
     → SpellsTree t (m ∷ big_bytes (field (Some what)) number) → IsValue h m number
 nested h m number what t is not nest sound flat none spells = λ g.
-    (let tail : g.tail ≡ [] = no_tail g.tail (body (marker m) number) g.isa.2 (ap (λ (o : Option Marker). body o number) is ∙ none) in
-    let all : m ∷ big_bytes (field (Some what)) number ≡ head_bytes m number ++ g.tail = sym (head_is m number what is) ∙ sym (append-nil (head_bytes m number)) ∙ ap (λ (x : List ℕ). head_bytes m number ++ x) (sym tail) in (
-      t,
-      sound,
-      omega (arith, flat, room h m number what is not nest g),
-      subst (λ (b : List ℕ). SpellsTree t b) all spells,
-      no_key_at (place g.frames) what not (head_ok (place g.frames) m what is g.isa.0),
-    ))
+    (let tail : g.tail ≡ [] = no_tail g.tail (body (marker m) number) g.isa.long (ap (λ (o : Option Marker). body o number) is ∙ none) in
+    let all : m ∷ big_bytes (field (Some what)) number ≡ head_bytes m number ++ g.tail = sym (head_is m number what is) ∙ sym (append-nil (head_bytes m number)) ∙ ap (λ (x : List ℕ). head_bytes m number ++ x) (sym tail) in
+    record {
+      tree = t;
+      sound = sound;
+      deep = omega (arith, flat, room h m number what is not nest g);
+      spells = subst (λ (b : List ℕ). SpellsTree t b) all spells;
+      keyless = no_key_at (place g.frames) what not (head_ok (place g.frames) m what is g.isa.admitted);
+    })
 
 pub list_value : (h : Holds) (m number count : ℕ) (what : Marker) → marker m ≡ Some what → IsListOf what number count → count ≡ 0 → number < 256 ^ field (marker m) → IsValue h m number
 list_value h m number count announces.Null is l e lt = absurd l
@@ -186,7 +196,7 @@ dict_value h m number size is e lt =
 opened : (h : Holds) (m number : ℕ) (what : Marker) (gs : List Frame) → marker m ≡ Some what → body (Some what) number ≡ 0 → (g : Goes h (part.Body m number 0))
     → AreFrames gs (bytes_of_items h.items [] g.full ++ (m ∷ big_bytes (field (Some what)) number)) → AreFrames gs (bytes_of_items h.items [] g.full ++ (head_bytes m number ++ g.tail))
 opened h m number what gs is none g are =
-    let tail : g.tail ≡ [] = no_tail g.tail (body (marker m) number) g.isa.2 (ap (λ (o : Option Marker). body o number) is ∙ none) in
+    let tail : g.tail ≡ [] = no_tail g.tail (body (marker m) number) g.isa.long (ap (λ (o : Option Marker). body o number) is ∙ none) in
     let all : m ∷ big_bytes (field (Some what)) number ≡ head_bytes m number ++ g.tail = sym (head_is m number what is) ∙ sym (append-nil (head_bytes m number)) ∙ ap (λ (x : List ℕ). head_bytes m number ++ x) (sym tail) in
     subst (λ (b : List ℕ). AreFrames gs (bytes_of_items h.items [] g.full ++ b)) all are
 
@@ -202,15 +212,15 @@ list_stands h m number count (announces.Bytes size) o is l some g levels whole =
 list_stands h m number count (announces.Text size) o is l some g levels whole = absurd l
 list_stands h m number count (announces.List size) o is l some g levels whole =
     let what : Marker = announces.List size in
-    let none = no_key_at (place g.frames) what refl (head_ok (place g.frames) m what is g.isa.0) in
-    let field_is = sized_by size number count (small_by m number what is g.isa.1) l in
+    let none = no_key_at (place g.frames) what refl (head_ok (place g.frames) m what is g.isa.admitted) in
+    let field_is = sized_by size number count (small_by m number what is g.isa.small) l in
     let are = list_opens size count 0 (big_bytes (size_len size) number) g.frames (bytes_of_items h.items [] g.full) (m ∷ big_bytes (size_len size) number) g.are none (room h m number what is refl refl g) (omega arith) field_is (m, is, refl) in
     goes_on h m number what o (waits (in_list no_trees) count 0 ∷ g.frames) is (ready h m number g) (whole ∙ g.unread)
     (opened h m number what (waits (in_list no_trees) count 0 ∷ g.frames) is refl g are) (levels g.frames (in_list no_trees) g.levels refl) (tt, tt, g.named)
 list_stands h m number count (announces.Dict size) o is l some g levels whole = absurd l
 list_stands h m number count (announces.Struct n) o is l some g levels whole =
     let what : Marker = announces.Struct n in
-    let none = no_key_at (place g.frames) what refl (head_ok (place g.frames) m what is g.isa.0) in
+    let none = no_key_at (place g.frames) what refl (head_ok (place g.frames) m what is g.isa.admitted) in
     let counted : marker m ≡ Some (announces.Struct count) = is ∙ ap (λ (k : ℕ). Some (announces.Struct k)) l in
     let are = struct_opens (number % 256) count 0 g.frames (bytes_of_items h.items [] g.full) (m ∷ big_bytes 1 number) g.are none (room h m number what is refl refl g) (omega arith) (m, counted, refl) in
     goes_on h m number what o (waits (in_struct (number % 256) no_trees) count 0 ∷ g.frames) is (ready h m number g) (whole ∙ g.unread)
@@ -221,8 +231,8 @@ pub dict_stands : (h : Holds) (m number count : ℕ) (size : Size) (o : Open) �
     → IsStanding (after o (with_item (announces.Dict size) m number h))
 dict_stands h m number count size o is l some g levels whole =
     let what : Marker = announces.Dict size in
-    let none = no_key_at (place g.frames) what refl (head_ok (place g.frames) m what is g.isa.0) in
-    let field_is = sized_by size number count (small_by m number what is g.isa.1) l in
+    let none = no_key_at (place g.frames) what refl (head_ok (place g.frames) m what is g.isa.admitted) in
+    let field_is = sized_by size number count (small_by m number what is g.isa.small) l in
     let first : ℕ = length h.names in
     let are = dict_opens size count first (big_bytes (size_len size) number) g.frames (bytes_of_items h.items [] g.full) (m ∷ big_bytes (size_len size) number) g.are none (room h m number what is refl refl g) (omega arith) field_is (m, is, refl) in
     let before = all_before g.frames (bytes_of_items h.items [] g.full) h.names h.store g.are none g.placed g.named in
@@ -268,7 +278,7 @@ placed_push names n len placed le within = λ i x e.
 
 pub root_low : (names : List Name) (first len : ℕ) → ArePlaced names len → IsRoot names first → first ≤ length names
 root_low names first len placed (inl e) = omega arith
-root_low names first len placed (inr h) = omega (arith, (placed h.0 h.1 h.2).0, slice_get_within names h.0 h.1 h.2, h.3)
+root_low names first len placed (inr h) = omega (arith, (placed h.index h.found h.there).0, slice_get_within names h.index h.found h.there, h.begins)
 
 -- with one name more
 abbrev pub named_with : Name → Holds → Holds
@@ -312,10 +322,10 @@ key_stands h m number start size o is g k from there utf8 other levels same =
     let around = subst (λ (fs : List Frame). AreLevels fs h.standing.«open».depth h.standing.«open».around) k.is g.levels in
     let named = subst (λ (fs : List Frame). HaveNames fs h.names h.store) k.is g.named in
     let fresh : is_among g.tail (keys_of k.es) ≡ false = fresh_key h.names h.store k.first (keys_of k.es) g.tail named.0.0 (subst (λ (s : List ℕ). IsNamed h.names h.store k.first s → ⊥) there other) in
-    let are = key_waits k.es g.tail k.lacks k.first k.around (bytes_of_items h.items [] g.full) (head_bytes m number ++ g.tail) here (text_spelled m number size g.tail is g.isa.1 g.isa.2 utf8) fresh in
+    let are = key_waits k.es g.tail k.lacks k.first k.around (bytes_of_items h.items [] g.full) (head_bytes m number ++ g.tail) here (text_spelled m number size g.tail is g.isa.small g.isa.long utf8) fresh in
     let len : n.len ≡ length g.tail = omega arith in
     let has : text_of h.store n ≡ g.tail = ap (λ (x : ℕ). take x (drop start h.store)) len ∙ ap (λ (x : List ℕ). take (length g.tail) x) there ∙ take-length g.tail in
     goes_on (named_with n h) m number (announces.Text size) o (waits (at_value k.es g.tail) k.lacks k.first ∷ k.around) is
     (key_ready h m number start g k (omega arith))
     (same ∙ g.unread) are (levels k.around k.es g.tail k.lacks k.first around)
-    (key_named h.names n h.store (keys_of k.es) g.tail named.0.0 has, named.1, names_push k.around here.0 h.names n h.store here.2 here.3 named.1 named.2)
+    (key_named h.names n h.store (keys_of k.es) g.tail named.0.0 has, named.1, names_push k.around here.front h.names n h.store here.around here.keyless named.1 named.2)

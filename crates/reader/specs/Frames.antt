@@ -1,5 +1,5 @@
 -- What is open where a reader stands, and which of its keys are whose.
-use Rattle.std.specs.Prelude.{◌≡◌, ◌≤◌, ◌<◌, ◌+◌, ◌-◌, ◌↔◌, ◌&&◌, cond, if◌then◌else◌, nat_lt, nat_le, ℕ, suc, true, false, List, [], ◌∷◌, ◌++◌, length, slice_get, Option, Some, None, is_some}
+use Rattle.std.specs.Prelude.{◌≡◌, ◌≤◌, ◌<◌, ◌+◌, ◌-◌, ◌↔◌, ◌&&◌, if◌then◌else◌, nat_lt, nat_le, ℕ, suc, true, false, List, [], ◌∷◌, ◌++◌, length, slice_get, Option, Some, None, is_some}
 use Rattle.packstream.specs.declared.marker.Size.{Size}
 use Rattle.packstream.specs.declared.fault.Reason.{Reason}
 use Rattle.packstream.specs.declared.fault.Reason.TheVariants as reason
@@ -25,40 +25,83 @@ pub record Frame : Type 0 where
 abbrev pub waits : Opened → ℕ → ℕ → Frame
 waits f n first = record { opened = f; lacks = n; first = first }
 
+-- b is the head of a list, and the members so far: good ones where so many heads are open. The head announces as many as
+-- there are and as are lacking.
+pub record IsListFrame (heads : ℕ) (ts : Trees) (lacks : ℕ) (b : List ℕ) : Type 0 where
+  pub size : Size
+  pub field : List ℕ
+  pub body : List ℕ
+  pub sized : IsSize size (count ts + lacks) field
+  pub spelled : SpellsAll ts body
+  pub sound : AreSound ts
+  pub deep : trees_depth ts + heads ≤ 32
+  pub begins : Begins (announces.List size) (field ++ body) b
+
+-- b is the head of a structure, and the members so far, likewise.
+pub record IsStructFrame (heads tag : ℕ) (ts : Trees) (lacks : ℕ) (b : List ℕ) : Type 0 where
+  pub body : List ℕ
+  pub spelled : SpellsAll ts body
+  pub sound : AreSound ts
+  pub deep : trees_depth ts + heads ≤ 32
+  pub begins : Begins (announces.Struct (count ts + lacks)) (tag ∷ body) b
+
+-- b is the head of a dictionary, and the entries so far, likewise.
+pub record IsDictFrame (heads : ℕ) (es : Entries) (lacks : ℕ) (b : List ℕ) : Type 0 where
+  pub size : Size
+  pub field : List ℕ
+  pub body : List ℕ
+  pub sized : IsSize size (entry_count es + lacks) field
+  pub spelled : SpellsEntries es body
+  pub fresh : AreNewKeys [] es
+  pub sound : HaveSoundValues es
+  pub deep : entries_depth es + heads ≤ 32
+  pub begins : Begins (announces.Dict size) (field ++ body) b
+
+-- b is the head of a dictionary, the entries so far, likewise, and one key more.
+pub record IsPairFrame (heads : ℕ) (es : Entries) (k : List ℕ) (lacks : ℕ) (b : List ℕ)
+    : Type 0 where
+  pub size : Size
+  pub field : List ℕ
+  pub body : List ℕ
+  pub key : List ℕ
+  pub sized : IsSize size (entry_count es + lacks) field
+  pub spelled : SpellsEntries es body
+  pub fresh : AreNewKeys [] es
+  pub sound : HaveSoundValues es
+  pub deep : entries_depth es + heads ≤ 32
+  pub spelled_key : SpellsText k key
+  pub new_key : is_among k (keys_of es) ≡ false
+  pub begins : Begins (announces.Dict size) (field ++ (body ++ key)) b
+
 -- b is the head, and the members so far: good ones, where so many heads are open; it announces as many as there are and
 -- as are lacking.
 abbrev pub IsFrame : ℕ → Opened → ℕ → List ℕ → Type 0
-IsFrame heads (in_list ts) lacks b =
-    (size : Size) × (field : List ℕ) × (body : List ℕ) × IsSize size (count ts + lacks) field
-    × SpellsAll ts body × AreSound ts × (trees_depth ts + heads ≤ 32)
-    × Begins (announces.List size) (field ++ body) b
-IsFrame heads (in_struct tag ts) lacks b =
-    (body : List ℕ) × SpellsAll ts body × AreSound ts × (trees_depth ts + heads ≤ 32)
-    × Begins (announces.Struct (count ts + lacks)) (tag ∷ body) b
-IsFrame heads (at_key es) lacks b =
-    (size : Size) × (field : List ℕ) × (body : List ℕ) × IsSize size (entry_count es + lacks) field
-    × SpellsEntries es body × AreNewKeys [] es × HaveSoundValues es
-    × (entries_depth es + heads ≤ 32) × Begins (announces.Dict size) (field ++ body) b
-IsFrame heads (at_value es k) lacks b =
-    (size : Size) × (field : List ℕ) × (body : List ℕ) × (key : List ℕ)
-    × IsSize size (entry_count es + lacks) field
-    × SpellsEntries es body × AreNewKeys [] es × HaveSoundValues es
-    × (entries_depth es + heads ≤ 32)
-    × SpellsText k key × (is_among k (keys_of es) ≡ false)
-    × Begins (announces.Dict size) (field ++ (body ++ key)) b
+IsFrame heads (in_list ts) lacks b = IsListFrame heads ts lacks b
+IsFrame heads (in_struct tag ts) lacks b = IsStructFrame heads tag ts lacks b
+IsFrame heads (at_key es) lacks b = IsDictFrame heads es lacks b
+IsFrame heads (at_value es k) lacks b = IsPairFrame heads es k lacks b
 
 -- where the next byte stands
 abbrev pub place : List Frame → Place
 place [] = outside
 place (f ∷ fs) = record { heads = length fs + 1; key = key_there f.opened }
 
+-- b ends with f, which may be open inside of fs, and of the bytes before it holds what is said of what is around.
+pub record IsInnermost (f : Frame) (fs : List Frame) (Around : List ℕ → Type 0) (b : List ℕ)
+    : Type 0 where
+  pub front : List ℕ
+  pub rest : List ℕ
+  pub around : Around front
+  pub keyless : (place fs).key ≡ None
+  pub room : length fs < 32
+  pub waiting : 0 < f.lacks
+  pub frame : IsFrame (length fs + 1) f.opened f.lacks rest
+  pub whole : b ≡ front ++ rest
+
 -- b is what is open, the innermost first
 abbrev pub AreFrames : List Frame → List ℕ → Type 0
 AreFrames [] b = b ≡ []
-AreFrames (f ∷ fs) b =
-    (front : List ℕ) × (rest : List ℕ) × AreFrames fs front × ((place fs).key ≡ None)
-    × (length fs < 32) × (0 < f.lacks)
-    × IsFrame (length fs + 1) f.opened f.lacks rest × (b ≡ front ++ rest)
+AreFrames (f ∷ fs) b = IsInnermost f fs (λ front. AreFrames fs front) b
 
 -- what is read next of what is open
 abbrev pub next_of : Opened → Inside
@@ -77,12 +120,18 @@ after_value inside.Member = inside.Member
 after_value inside.Key = inside.Key
 after_value inside.ValueOfKey = inside.Key
 
+-- The last of so many levels of the array is f, and of their number below it holds what is said of the others.
+pub record IsLastLevel (f : Frame) (Others : ℕ → Type 0) (depth : ℕ) (around : List Level)
+    : Type 0 where
+  pub below : ℕ
+  pub counted : depth ≡ suc below
+  pub there : slice_get around below ≡ Some (level f)
+  pub others : Others below
+
 -- so many levels of the array are these frames, the innermost of them last
 abbrev pub AreLevels : List Frame → ℕ → List Level → Type 0
 AreLevels [] depth around = depth ≡ 0
-AreLevels (f ∷ fs) depth around =
-    (below : ℕ) × (depth ≡ suc below) × (slice_get around below ≡ Some (level f))
-    × AreLevels fs below around
+AreLevels (f ∷ fs) depth around = IsLastLevel f (λ below. AreLevels fs below around) depth around
 
 -- the names that begin there are these keys and no others
 abbrev pub AreNames : List Name → List ℕ → ℕ → List (List ℕ) → Type 0
@@ -157,10 +206,8 @@ pub data Left : Type 0 where
 abbrev pub ends : List Frame → Tree → Left
 ends [] t = whole t
 ends (f ∷ fs) t =
-    cond (nat_lt 1 f.lacks)
-    (still
-    (record { opened = with_member f.opened t; lacks = f.lacks - 1; first = f.first } ∷ fs))
-    (ends fs (tree_so_far (with_member f.opened t)))
+    if nat_lt 1 f.lacks then still (waits (with_member f.opened t) (f.lacks - 1) f.first ∷ fs)
+    else ends fs (tree_so_far (with_member f.opened t))
 
 -- The bytes spell the whole value, which is sound and not too deep; or they are what is still open.
 abbrev pub Stands : Left → List ℕ → Type 0

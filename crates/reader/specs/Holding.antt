@@ -89,14 +89,24 @@ with_item announced m number h = record {
 abbrev pub IsAdmitted : Place → ℕ → Type 0
 IsAdmitted p m = (what : Marker) × (marker m ≡ Some what) × (head_fault p what ≡ None)
 
+-- There is a marker, and so many bytes of the number after it.
+pub record IsHeadPart (p : Place) (m number has : ℕ) (tail : List ℕ) : Type 0 where
+  pub bare : tail ≡ []
+  pub admitted : IsAdmitted p m
+  pub few : has ≤ field (marker m)
+  pub small : number < 256 ^ has
+
+-- There is a marker with its number, and all but so many bytes of the text or byte string.
+pub record IsBodyPart (p : Place) (m number lacks : ℕ) (tail : List ℕ) : Type 0 where
+  pub admitted : IsAdmitted p m
+  pub small : number < 256 ^ field (marker m)
+  pub long : length tail + lacks ≡ body (marker m) number
+
 -- a part of an item, or all of it, of which tail is what came of its text or byte string
 abbrev pub IsPart : Place → Part → List ℕ → Type 0
 IsPart p part.Nothing tail = tail ≡ []
-IsPart p (part.Head m number has) tail =
-    (tail ≡ []) × IsAdmitted p m × (has ≤ field (marker m)) × (number < 256 ^ has)
-IsPart p (part.Body m number lacks) tail =
-    IsAdmitted p m × (number < 256 ^ field (marker m))
-    × (length tail + lacks ≡ body (marker m) number)
+IsPart p (part.Head m number has) tail = IsHeadPart p m number has tail
+IsPart p (part.Body m number lacks) tail = IsBodyPart p m number lacks tail
 
 -- bytes are missing to the part
 abbrev pub IsLacking : Part → Type 0
@@ -126,12 +136,18 @@ IsListOf (announces.List size) number count = size_with size number ≡ count
 IsListOf (announces.Struct n) number count = n ≡ count
 IsListOf m number count = ⊥
 
+-- All of the item is there: it spells a value that may stand behind what is open.
+pub record IsValueBehind (h : Holds) (m number : ℕ) (g : Goes h (part.Body m number 0))
+    : Type 0 where
+  pub tree : Tree
+  pub sound : IsSound tree
+  pub deep : depth tree + length g.frames ≤ 32
+  pub spells : SpellsTree tree (head_bytes m number ++ g.tail)
+  pub keyless : (place g.frames).key ≡ None
+
 -- Where all of the item is there, it spells a value that may stand where h stands.
 abbrev pub IsValue : Holds → ℕ → ℕ → Type 0
-IsValue h m number =
-    (g : Goes h (part.Body m number 0))
-    → (t : Tree) × IsSound t × (depth t + length g.frames ≤ 32)
-    × SpellsTree t (head_bytes m number ++ g.tail) × ((place g.frames).key ≡ None)
+IsValue h m number = (g : Goes h (part.Body m number 0)) → IsValueBehind h m number g
 
 -- The value is whole.
 pub record IsDone (h : Holds) : Type 0 where

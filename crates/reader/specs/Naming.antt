@@ -1,5 +1,5 @@
 -- Which texts are keys of which dictionary, and the tree of a dictionary's keys.
-use Rattle.std.specs.Prelude.{◌≡◌, ◌⊎◌, ◌≤◌, ◌<◌, ◌+◌, ◌*◌, ◌-◌, ◌/◌, ◌%◌, ◌^◌, ◌==◌, ℕ, zero, suc, Bool, false, cond, nat_lt, List, [], ◌∷◌, length, take, drop, map, slice_get, Option, Some, None}
+use Rattle.std.specs.Prelude.{◌≡◌, ◌⊎◌, ◌≤◌, ◌<◌, ◌+◌, ◌*◌, ◌-◌, ◌/◌, ◌%◌, ◌^◌, ◌==◌, ℕ, zero, suc, Bool, false, if◌then◌else◌, nat_lt, List, [], ◌∷◌, length, take, drop, map, slice_get, Option, Some, None}
 use Rattle.std.specs.Int.{bit_at}
 use Rattle.reader.specs.declared.texts.Key.{Key}
 use Rattle.reader.specs.declared.texts.Link.{Link}
@@ -28,19 +28,28 @@ abbrev pub text_of : List ℕ → Name → List ℕ
 text_of bytes n = take n.len (drop n.start bytes)
 
 -- The key s is one of the dictionary whose keys begin there.
-abbrev pub IsNamed : List Name → List ℕ → ℕ → List ℕ → Type 0
-IsNamed names bytes first s =
-    (i : ℕ) × (n : Name) × (slice_get names i ≡ Some n) × (n.first ≡ first) × (text_of bytes n ≡ s)
+pub record IsNamed (names : List Name) (bytes : List ℕ) (first : ℕ) (s : List ℕ) : Type 0 where
+  pub index : ℕ
+  pub found : Name
+  pub there : slice_get names index ≡ Some found
+  pub begins : found.first ≡ first
+  pub text : text_of bytes found ≡ s
 
 -- A name lies in so many bytes, and its dictionary's keys don't begin behind it.
 abbrev pub ArePlaced : List Name → ℕ → Type 0
 ArePlaced names len = (i : ℕ) (n : Name) → slice_get names i ≡ Some n
     → (n.first ≤ i) × (n.start + n.len ≤ len)
 
+-- There is a key of the dictionary whose keys begin there.
+pub record HasName (names : List Name) (first : ℕ) : Type 0 where
+  pub index : ℕ
+  pub found : Name
+  pub there : slice_get names index ≡ Some found
+  pub begins : found.first ≡ first
+
 -- The next key is the first of its dictionary, or another key begins there.
 abbrev pub IsRoot : List Name → ℕ → Type 0
-IsRoot names first = (first ≡ length names)
-    ⊎ ((i : ℕ) × (n : Name) × (slice_get names i ≡ Some n) × (n.first ≡ first))
+IsRoot names first = (first ≡ length names) ⊎ HasName names first
 
 -- ---- the tree, which proofs alone need
 
@@ -67,8 +76,8 @@ bit_of (Some b) i = bit_in b i
 -- true is right
 unfoldable pub side_of : ℕ → List ℕ → ℕ → Bool
 side_of digest s above =
-    cond (nat_lt above 64) (bit_in digest (63 - above))
-    (bit_of (slice_get s ((above - 64) / 8)) ((above - 64) % 8))
+    if nat_lt above 64 then bit_in digest (63 - above)
+    else bit_of (slice_get s ((above - 64) / 8)) ((above - 64) % 8)
 
 -- the key at `next` hangs on this side of the key at `at`, both of one dictionary
 pub record HangsOn (keys : List Key) (first at : ℕ) (side : Bool) (next : ℕ) : Type 0 where
@@ -76,7 +85,7 @@ pub record HangsOn (keys : List Key) (first at : ℕ) (side : Bool) (next : ℕ)
   pub lower : Key
   pub upper_is : slice_get keys at ≡ Some upper
   pub upper_first : upper.first ≡ first
-  pub linked : cond side upper.right upper.left ≡ next
+  pub linked : (if side then upper.right else upper.left) ≡ next
   pub later : at < next
   pub lower_is : slice_get keys next ≡ Some lower
   pub lower_first : lower.first ≡ first
@@ -108,15 +117,23 @@ IsTree keys bytes = (i : ℕ) (k : Key) → slice_get keys i ≡ Some k → IsIn
 abbrev pub HangsNone : List Key → ℕ → ℕ → Bool → Type 0
 HangsNone keys first at side = (next : ℕ) → HangsOn keys first at side next → ⊥
 
+-- The sides of s lead from the root of its dictionary to the key of the link, and nothing hangs on its next side there.
+pub record IsFreeAt (keys : List Key) (first : ℕ) (s : List ℕ) (link : Link) : Type 0 where
+  pub steps : ℕ
+  pub leads : Leads keys first s 0 first steps link.key
+  pub side : link.is_right ≡ side_of (digest_of s) s steps
+  pub none : HangsNone keys first link.key link.is_right
+  pub upper : Key
+  pub upper_is : slice_get keys link.key ≡ Some upper
+  pub upper_first : upper.first ≡ first
+  pub root : Key
+  pub root_is : slice_get keys first ≡ Some root
+  pub root_first : root.first ≡ first
+
 -- where a key with this text is to hang: below the key to which its sides lead, or as the first
 abbrev pub IsFree : List Key → ℕ → List ℕ → Option Link → Type 0
 IsFree keys first s None = first ≡ length keys
-IsFree keys first s (Some link) =
-    (steps : ℕ) × Leads keys first s 0 first steps link.key
-    × (link.is_right ≡ side_of (digest_of s) s steps)
-    × HangsNone keys first link.key link.is_right
-    × ((upper : Key) × (slice_get keys link.key ≡ Some upper) × (upper.first ≡ first))
-    × ((root : Key) × (slice_get keys first ≡ Some root) × (root.first ≡ first))
+IsFree keys first s (Some link) = IsFreeAt keys first s link
 
 -- there is the key that the link is of
 abbrev pub HasLink : List Key → Option Link → Type 0
@@ -126,7 +143,7 @@ HasLink keys (Some link) = link.key < length keys
 -- the key with this number hung on a side of a key
 abbrev pub with_below : Bool → ℕ → Key → Key
 with_below side number k =
-    record k { left = cond side k.left number; right = cond side number k.right }
+    record k { left = if side then k.left else number; right = if side then number else k.right }
 
 -- the keys, with the key of this number hung on a side of the one at a place
 abbrev pub hung_at : ℕ → Bool → ℕ → List Key → List Key

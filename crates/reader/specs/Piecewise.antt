@@ -42,10 +42,14 @@ abbrev pub Joins : Point → List ℕ → Point → Type 0
 Joins old piece new = (new.bytes ≡ old.bytes ++ piece) × (new.bad ≡ None) × MayGoOn new.bytes
 
 -- with the piece each continuation of the bytes is bad, and the bytes that there were are kept
-abbrev pub TurnsBad : Point → List ℕ → Point → Type 0
-TurnsBad old piece new =
-    (r : Reason) × (o : ℕ) × (new.bad ≡ Some (r, o)) × IsBadAlways (old.bytes ++ piece) r o
-    × (r ≡ reason.Short → ⊥) × IsBeginning old.bytes new.bytes
+pub record TurnsBad (old : Point) (piece : List ℕ) (new : Point) : Type 0 where
+  pub why : Reason
+  pub place : ℕ
+  pub told : new.bad ≡ Some (why, place)
+  pub always : IsBadAlways (old.bytes ++ piece) why place
+  -- it isn't that bytes are missing
+  pub certain : why ≡ reason.Short → ⊥
+  pub kept : IsBeginning old.bytes new.bytes
 
 -- a piece is joined to the bytes, or makes them bad; once they are bad nothing changes
 abbrev pub Takes : Point → List ℕ → Point → Type 0

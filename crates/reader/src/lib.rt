@@ -15,6 +15,3 @@ mod texts;
 
 pub use piece::{decode_and_read, read_piece};
 pub use reader::Reader;
-
-#[cfg(test)]
-mod tests;

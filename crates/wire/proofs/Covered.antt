@@ -1,10 +1,11 @@
 -- The version that is chosen, by the rule of the handshake.
 use Rattle.std.proofs.Common.{◌≡◌, ◌≤◌, ◌-◌, ◌↔◌, ◌==◌, ℕ, List, [], ◌∷◌, Bool, true, false, cond, not, ◌&&◌, nat_le, Option, Some, None, inl, inr, refl, sym, ap, ◌∙◌, arith, eqb-true, eq-eqb, leb-true}
+use Rattle.std.specs.Option.{option_or}
 use Rattle.std.proofs.lemmas.Bool.Decides.{nat_tests}
 use Rattle.wire.specs.declared.versions.Version.{Version}
 use Rattle.wire.specs.declared.versions.Version.TheVariants.{V44, V51}
 use Rattle.wire.specs.Versions.{versions}
-use Rattle.wire.specs.Offers.{covered_by, or_else, choice_of, Covers, IsFirstCovered, CoversNone, Chooses, ProposalsChoose}
+use Rattle.wire.specs.Offers.{covered_by, choice_of, Covers, IsFirstCovered, CoversNone, Chooses, ProposalsChoose}
 
 and_both : (a b : Bool) → (a && b) ≡ true → (a ≡ true) × (b ≡ true)
 and_both true b e = (refl, e)
@@ -30,18 +31,18 @@ covers_is a b c d V44 e =
     let p = and_both (a == 0) _ e in
     let q = and_both ((d == 4) && nat_le (c - b) 4) (nat_le 4 c) p.1 in
     let r = and_both (d == 4) (nat_le (c - b) 4) q.0 in
-    (eqb-true _ _ p.0, eqb-true _ _ r.0, leb-true _ _ r.1, leb-true _ _ q.1)
+    record { zero_first = eqb-true _ _ p.0; same_major = eqb-true _ _ r.0; from_least = leb-true _ _ r.1; to_most = leb-true _ _ q.1 }
 covers_is a b c d V51 e =
     let p = and_both (a == 0) _ e in
     let q = and_both ((d == 5) && nat_le (c - b) 1) (nat_le 1 c) p.1 in
     let r = and_both (d == 5) (nat_le (c - b) 1) q.0 in
-    (eqb-true _ _ p.0, eqb-true _ _ r.0, leb-true _ _ r.1, leb-true _ _ q.1)
+    record { zero_first = eqb-true _ _ p.0; same_major = eqb-true _ _ r.0; from_least = leb-true _ _ r.1; to_most = leb-true _ _ q.1 }
 
 is_covers : (a b c d : ℕ) (v : Version) → Covers a b c d v → covers a b c d v ≡ true
 is_covers a b c d V44 h =
-    both_and (a == 0) _ (eq-eqb _ _ h.0) (both_and ((d == 4) && nat_le (c - b) 4) (nat_le 4 c) (both_and (d == 4) (nat_le (c - b) 4) (eq-eqb _ _ h.1) (is_le _ _ h.2)) (is_le _ _ h.3))
+    both_and (a == 0) _ (eq-eqb _ _ h.zero_first) (both_and ((d == 4) && nat_le (c - b) 4) (nat_le 4 c) (both_and (d == 4) (nat_le (c - b) 4) (eq-eqb _ _ h.same_major) (is_le _ _ h.from_least)) (is_le _ _ h.to_most))
 is_covers a b c d V51 h =
-    both_and (a == 0) _ (eq-eqb _ _ h.0) (both_and ((d == 5) && nat_le (c - b) 1) (nat_le 1 c) (both_and (d == 5) (nat_le (c - b) 1) (eq-eqb _ _ h.1) (is_le _ _ h.2)) (is_le _ _ h.3))
+    both_and (a == 0) _ (eq-eqb _ _ h.zero_first) (both_and ((d == 5) && nat_le (c - b) 1) (nat_le 1 c) (both_and (d == 5) (nat_le (c - b) 1) (eq-eqb _ _ h.same_major) (is_le _ _ h.from_least)) (is_le _ _ h.to_most))
 
 not_covers : (a b c d : ℕ) (v : Version) → covers a b c d v ≡ false → Covers a b c d v → ⊥
 not_covers a b c d v e h = let k : true ≡ false = sym (is_covers a b c d v h) ∙ e in cc
@@ -105,7 +106,7 @@ covered_by_tests a b c d false false e f =
 covered : (a b c d : ℕ) → Covered a b c d (cond (covers a b c d V51) (Some V51) (cond (covers a b c d V44) (Some V44) None))
 covered a b c d = covered_by_tests a b c d (covers a b c d V51) (covers a b c d V44) refl refl
 
-first_by : (a b c d : ℕ) (more : List ℕ) (v : Version) (o : Option Version) → covered_by a b c d ≡ o → Covered a b c d o → (choice_of more ≡ Some v) ↔ Chooses more v → (or_else o (choice_of more) ≡ Some v) ↔ Chooses (a ∷ b ∷ c ∷ d ∷ more) v
+first_by : (a b c d : ℕ) (more : List ℕ) (v : Version) (o : Option Version) → covered_by a b c d ≡ o → Covered a b c d o → (choice_of more ≡ Some v) ↔ Chooses more v → (option_or o (choice_of more) ≡ Some v) ↔ Chooses (a ∷ b ∷ c ∷ d ∷ more) v
 first_by a b c d more v None e k rest = (
   (λ h. inr (k.none refl, rest.0 h)),
   (λ h. elim h [ inl x ↦ absurd (let w = k.only v x in cc) | inr x ↦ rest.1 x.1 ]),
@@ -122,6 +123,6 @@ proposals_choose (a ∷ b ∷ []) v = ((λ h. absurd cc), (λ h. absurd h))
 proposals_choose (a ∷ b ∷ c ∷ []) v = ((λ h. absurd cc), (λ h. absurd h))
 proposals_choose (a ∷ b ∷ c ∷ d ∷ more) v =
     let k = first_by a b c d more v (cond (covers a b c d V51) (Some V51) (cond (covers a b c d V44) (Some V44) None)) (covered_is a b c d) (covered a b c d) (proposals_choose more v) in (
-      (λ h. k.0 (ap (λ o. or_else o (choice_of more)) (sym (covered_is a b c d)) ∙ h)),
-      (λ h. ap (λ o. or_else o (choice_of more)) (covered_is a b c d) ∙ k.1 h),
+      (λ h. k.0 (ap (λ (o : Option Version). option_or o (choice_of more)) (sym (covered_is a b c d)) ∙ h)),
+      (λ h. ap (λ (o : Option Version). option_or o (choice_of more)) (covered_is a b c d) ∙ k.1 h),
     )

@@ -1,10 +1,10 @@
 -- A message in one chunk, at the front of a piece.
-use Rattle.std.proofs.Common.{◌≡◌, ◌↔◌, ℕ, suc, ◌+◌, ◌-◌, ◌*◌, ◌/◌, ◌%◌, ◌<◌, ◌≤◌, List, [], ◌∷◌, ◌++◌, length, Option, Some, None, Ok, true, false, eqb, ltb, refl, sym, ap, subst, ◌∙◌, append_assoc, append-nil, length-append, slice_index_or, Fits, w8, take, drop, arith}
+use Rattle.std.proofs.Common.{◌≡◌, ◌↔◌, ℕ, suc, ◌+◌, ◌-◌, ◌*◌, ◌/◌, ◌%◌, ◌<◌, ◌≤◌, List, [], ◌∷◌, ◌++◌, length, Option, Some, None, Ok, false, eqb, ltb, refl, sym, ap, subst, ◌∙◌, append_assoc, append-nil, slice_index_or, Fits, w8, take, drop, arith}
 use Rattle.std.proofs.lemmas.List.{take_at, take_all}
 use Rattle.std.proofs.lemmas.Bool.Decides.{nat_tests}
 use Rattle.wire.specs.declared.items.Piece.TheVariants.{Message}
 use Rattle.wire.specs.Place.{Place, start}
-use Rattle.wire.specs.Unfinished.{Unfinished, fresh}
+use Rattle.wire.specs.Unfinished.{fresh}
 use Rattle.wire.specs.Items.{open_at, item_of, Answered, answer_from, further}
 use Rattle.wire.specs.Texts.{chunk_of, run_of, BeginsWith}
 use Rattle.wire.specs.Stream.{TakesFirst}
@@ -46,10 +46,10 @@ as_message n k m e f = rw (e, f) refl
 
 pub takes_first : TakesFirst
 takes_first m piece h =
-    ap (answer_from fresh) (h.3 ∙ front m h.2)
-    ∙ chunk_from m [] (0 ∷ 0 ∷ h.2) h.0 h.1 (omega (arith, h.1))
-    ∙ ap (further (length m + 2)) (ended m h.2)
-    ∙ as_message ((length m + 2) + 2) (length m + 4) m (omega arith) (item_of-some m h.0)
+    ap (answer_from fresh) (h.whole ∙ front m h.more)
+    ∙ chunk_from m [] (0 ∷ 0 ∷ h.more) h.some h.fits (omega (arith, h.fits))
+    ∙ ap (further (length m + 2)) (ended m h.more)
+    ∙ as_message ((length m + 2) + 2) (length m + 4) m (omega arith) (item_of-some m h.some)
 
 -- ---- what the first bytes tell
 
@@ -61,12 +61,14 @@ pub found : (high low : ℕ) (m more : List ℕ) → high < 256 → low < 256 �
 found high low m more h l e some =
     let first : high ≡ (length m / 256) % 256 = omega (arith, e) in
     let second : low ≡ length m % 256 = omega (arith, e) in
-    let rest : List ℕ = m ++ 0 ∷ 0 ∷ more in (
-      some,
-      omega (arith, e),
-      more,
-      ap (λ x. x ∷ low ∷ rest) first ∙ ap (λ x. ((length m / 256) % 256) ∷ x ∷ rest) second ∙ sym (two_bytes m more),
-    )
+    let rest : List ℕ = m ++ 0 ∷ 0 ∷ more in
+    let fits : length m < 65536 = omega (arith, e) in
+    record {
+      some = some;
+      fits = fits;
+      more = more;
+      whole = ap (λ x. x ∷ low ∷ rest) first ∙ ap (λ x. ((length m / 256) % 256) ∷ x ∷ rest) second ∙ sym (two_bytes m more);
+    }
 
 -- and only so
 pub record Found (high low : ℕ) (rest m : List ℕ) : Type 0 where
@@ -79,15 +81,15 @@ head_is a b xs ys e = (cc, cc)
 
 pub found_only : (high low : ℕ) (rest m : List ℕ) → BeginsWith m (high ∷ low ∷ rest) → Found high low rest m
 found_only high low rest m h =
-    let all = head_is _ _ _ _ (h.3 ∙ two_bytes m h.2) in
+    let all = head_is _ _ _ _ (h.whole ∙ two_bytes m h.more) in
     let behind = head_is _ _ _ _ all.1 in
-    record { len = ap (λ x. x * 256 + low) all.0 ∙ ap (λ x. ((length m / 256) % 256) * 256 + x) behind.0 ∙ header-number (length m) h.1; more = h.2; rest_is = behind.1 }
+    record { len = ap (λ x. x * 256 + low) all.0 ∙ ap (λ x. ((length m / 256) % 256) * 256 + x) behind.0 ∙ header-number (length m) h.fits; more = h.more; rest_is = behind.1 }
 
 pub not_in_none : (m : List ℕ) → BeginsWith m [] → ⊥
-not_in_none m h = let e = h.3 ∙ two_bytes m h.2 in cc
+not_in_none m h = let e = h.whole ∙ two_bytes m h.more in cc
 
 pub not_in_one : (x : ℕ) (m : List ℕ) → BeginsWith m (x ∷ []) → ⊥
-not_in_one x m h = let e = (head_is _ _ _ _ (h.3 ∙ two_bytes m h.2)).1 in cc
+not_in_one x m h = let e = (head_is _ _ _ _ (h.whole ∙ two_bytes m h.more)).1 in cc
 
 -- ---- for the answers
 

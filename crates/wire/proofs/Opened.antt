@@ -74,7 +74,7 @@ reading_state k s [] = refl
 reading_state k s (b ∷ xs) = reading_state k (chunks.byte s b) xs
 
 -- what opens a stream, and bytes after it
-past_opening : (k : ℕ) (start more : List ℕ) → 0 < k → length start ≡ k → outputs (opening_reader k) (opening []) (start ++ more) ≡ Opening start ∷ outputs chunks fresh more
+pub past_opening : (k : ℕ) (start more : List ℕ) → 0 < k → length start ≡ k → outputs (opening_reader k) (opening []) (start ++ more) ≡ Opening start ∷ outputs chunks fresh more
 past_opening k start more some len =
     let read = opening_read k [] start (omega arith) (omega arith) in
     outputs-append Opened Item (opening_reader k) (opening []) start more

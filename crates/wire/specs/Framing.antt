@@ -78,9 +78,9 @@ at_client = opening_reader 4
 abbrev pub items_received : List ℕ → List Item
 items_received bytes = outputs at_server at_server.start bytes
 
--- the newest first
+-- the items that a server's bytes complete at a client, the oldest first
 abbrev pub items_heard : List ℕ → List Item
-items_heard bytes = reverse (outputs at_client at_client.start bytes)
+items_heard bytes = outputs at_client at_client.start bytes
 
 -- the bytes of an item
 abbrev pub item_bytes : Item → List ℕ
@@ -153,10 +153,12 @@ OursArrives = (wish : Wish) (ms : List (List ℕ)) (n : ℕ) → AreMessages ms
     Opening (offer_of wish) ∷ map Message
     (within written_run (n - length (offer_of wish)) ms) else [])
 
--- what a server of this product says, the newest first
+-- what a server of this product says is told with the newest first: so reversed, the items of every front of its bytes are those that
+-- lie whole in it
 abbrev pub SaidArrives : Type 0
 SaidArrives = (xs : List Item) (n : ℕ) → Spoken 4 xs
-    → items_heard (take n (bytes_newest_first item_bytes xs)) ≡ within_newest_first item_bytes n xs
+    → reverse (items_heard (take n (bytes_newest_first item_bytes xs)))
+    ≡ within_newest_first item_bytes n xs
 
 -- a piece's answer as what a reader takes
 abbrev pub item_in : Piece → Option Item

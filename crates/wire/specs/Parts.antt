@@ -1,5 +1,5 @@
 -- What the bytes at the front of a piece are, from a place in a stream of chunks ("Bolt message chunking").
-use Rattle.std.specs.Prelude.{ℕ, ◌+◌, ◌-◌, ◌*◌, ◌==◌, nat_lt, min, if◌then◌else◌, List, [], ◌∷◌, length, true, false, Option, Some, None}
+use Rattle.std.specs.Prelude.{◌≡◌, ℕ, ◌+◌, ◌-◌, ◌*◌, ◌<◌, ◌==◌, nat_lt, min, if◌then◌else◌, List, [], ◌∷◌, length, true, false, Option, Some, None}
 use Rattle.wire.specs.declared.parts.Cut.{Cut}
 use Rattle.wire.specs.declared.parts.Part.{Part}
 use Rattle.wire.specs.declared.parts.Part.TheVariants as part
@@ -49,3 +49,9 @@ on_data p (b ∷ bs) = bite (min p.lacks (length (b ∷ bs))) part.Data
 abbrev pub cut_at : Place → List ℕ → Bite
 cut_at p piece = if p.too_big then bite 0 part.TooBig p
     else (if p.lacks == 0 then on_header p p.header piece else on_data p piece)
+
+-- The piece is data of the chunk alone, and this is the place behind it.
+pub record IsData (old : Place) (piece : List ℕ) (new : Place) : Type 0 where
+  pub some : 0 < length piece
+  pub cut : (cut_at old piece).cut ≡ record { used = length piece; what = part.Data }
+  pub place : new ≡ (cut_at old piece).place

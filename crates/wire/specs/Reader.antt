@@ -1,4 +1,5 @@
--- Items of bytes, read one byte at a time: what is kept between two pieces, and what a piece completes.
+-- Items of bytes, read one byte at a time: what is kept between two pieces, and what a piece completes. Every reading of a stream is
+-- one walk over its bytes.
 use Rattle.std.specs.Prelude.{◌≡◌, ℕ, suc, ◌+◌, Option, Some, None, option_to_list, List, [], ◌∷◌, ◌++◌, length, take, ◌<◌, ◌≤◌, if◌then◌else◌, nat_lt, slice_get, map}
 use Rattle.std.specs.Option.{option_map}
 
@@ -9,15 +10,23 @@ pub record Reader (R X : Type 0) : Type 0 where
   -- the item that the byte completes
   pub item : R → ℕ → Option X
 
+-- The walk, by what a byte does to what is kept, by what is made of that and of the bytes after it, and by what is made where no
+-- bytes are left. What is made may stop at the first item, or go on; it may be the items, or what is kept.
+abbrev pub walk : {R D A : Type 0} → (R → ℕ → D) → (D → (R → A) → A) → (R → A) → R → List ℕ → A
+walk does made ended r [] = ended r
+walk does made ended r (b ∷ bs) = made (does r b) (λ s. walk does made ended s bs)
+
+-- what a byte does to a reader: what is kept then, and the item that it completes
+abbrev pub after_byte : {R X : Type 0} → Reader R X → R → ℕ → R × Option X
+after_byte p r b = (p.byte r b, p.item r b)
+
 -- what is kept after bytes
 abbrev pub state : {R X : Type 0} → Reader R X → R → List ℕ → R
-state p r [] = r
-state p r (b ∷ bs) = state p (p.byte r b) bs
+state p r bytes = walk (after_byte p) (λ d more. more d.0) (λ s. s) r bytes
 
--- the items that bytes complete
+-- the items that bytes complete, the oldest first
 abbrev pub outputs : {R X : Type 0} → Reader R X → R → List ℕ → List X
-outputs p r [] = []
-outputs p r (b ∷ bs) = option_to_list (p.item r b) ++ outputs p (p.byte r b) bs
+outputs p r bytes = walk (after_byte p) (λ d more. option_to_list d.1 ++ more d.0) (λ s. []) r bytes
 
 -- A piece is used up to the end of the item begun, else all of it.
 pub record Took (R X : Type 0) : Type 0 where
@@ -34,10 +43,14 @@ abbrev pub ends_at : {R X : Type 0} → R → Option X → Took R X → Took R X
 ends_at r (Some x) t = record { used = 1; item = Some x; rest = r }
 ends_at r None t = one_more t
 
--- what a reader takes of a piece, after what it has kept
+-- of no bytes nothing is taken
+abbrev pub nothing_taken : {R X : Type 0} → R → Took R X
+nothing_taken r = record { used = 0; item = None; rest = r }
+
+-- what a reader takes of a piece, after what it has kept: it stops at the first item
 abbrev pub takes : {R X : Type 0} → Reader R X → R → List ℕ → Took R X
-takes p r [] = record { used = 0; item = None; rest = r }
-takes p r (b ∷ bs) = ends_at (p.byte r b) (p.item r b) (takes p (p.byte r b) bs)
+takes p r bytes =
+    walk (after_byte p) (λ d more. ends_at d.0 d.1 (more d.0)) nothing_taken r bytes
 
 -- where n bytes completed nothing, what comes after them
 abbrev pub or_more : {R X : Type 0} → Took R X → Option X → Took R X → Took R X

@@ -2,8 +2,8 @@
 
 ghost use Rattle.std.specs.Prelude.{◌≡◌, ◌↔◌, ℕ, ◌≤◌, ◌+◌, IsTrue, List, Some, length};
 ghost use Rattle.std.specs.Option.{option_map};
-ghost use Rattle.wire.specs.Place.{start};
-ghost use Rattle.wire.specs.Parts.{cut_at, whole_header};
+ghost use Rattle.wire.specs.Place.{Place, start};
+ghost use Rattle.wire.specs.Parts.{cut_at, whole_header, IsData};
 ghost use Rattle.wire.specs.Texts.{BeginsWith};
 
 use crate::MAX_MESSAGE;
@@ -137,6 +137,23 @@ impl Chunks {
         Cut {
             used,
             what: Part::Head,
+        }
+    }
+
+    /// The place behind a piece that is data of the chunk alone; none for any other piece. It takes no memory.
+    pub fn behind_data(mut self, piece: &[u8]) -> Option<Chunks>
+        ensures { (behind : Place) → (result ≡ Some behind) ↔ IsData self piece.now behind }
+    {
+        if piece.is_empty() {
+            return None;
+        }
+        let cut = self.next(piece);
+        if cut.used < piece.len() {
+            return None;
+        }
+        match cut.what {
+            Part::Data => Some(self),
+            _ => None,
         }
     }
 

@@ -10,7 +10,7 @@ use Rattle.reader.proofs.reading.Reading.end_dict.Goals as goal
 
 pub end_value-requires-clause-value : goal.end_value-requires-clause-value
 end_value-requires-clause-value c =
-    dict_value (holds c.args.self.now) c.args.marker c.args.number c.args.size c.requires.announced (sym c.size_in-count.ensures ∙ c.if-count-eq0.true) (c.requires.goes).isa.1
+    dict_value (holds c.args.self.now) c.args.marker c.args.number c.args.size c.requires.announced (sym c.size_in-count.ensures ∙ c.if-count-eq0.true) (c.requires.goes).isa.small
 
 pub open_dict-requires : goal.open_dict-requires
 open_dict-requires c =

@@ -47,7 +47,7 @@ returns-clause-told c =
     let name : Name = record { start = c.args.start; len = length h.store - c.args.start; first = k.first } in
     let read = named_is h c.join.new.self.bytes c.join.new.self.names c.args.start (length h.store - c.args.start) k.first c.keys-first.result c.join.ensures.bytes fresh.1 first in
     let same = ap (λ (x : Holds). after o x) (c.in_ok-push.ensures.ok ∙ ap (λ (x : Holds). with_item (announces.Text c.args.size) m n x) read) in
-    let len : length g.tail ≡ size_with c.args.size n = omega (arith, g.isa.2) ∙ ap (λ (x : Option Marker). body x n) c.requires.announced in
+    let len : length g.tail ≡ size_with c.args.size n = omega (arith, g.isa.long) ∙ ap (λ (x : Option Marker). body x n) c.requires.announced in
     subst (λ (x : Holds). HasTaken (bytes_with h (part.Body m n 0) ++ c.args.rest.now) x c.args.rest.now) (sym same)
     (has_taken (named_with name h) m n (announces.Text c.args.size) o c.args.rest.now (key_ready h m n c.args.start g k (omega (arith, c.requires.start))) c.requires.good
     (key_stands h m n c.args.start c.args.size o c.requires.announced g k (omega (arith, c.requires.start, len)) there (subst (λ (s : List ℕ). IsUtf8 s) there c.requires.text)

@@ -9,7 +9,7 @@ use Rattle.reader.proofs.reading.Reading.end_list.Goals as goal
 
 pub end_value-requires-clause-value : goal.end_value-requires-clause-value
 end_value-requires-clause-value c =
-    list_value (holds c.args.self.now) c.args.marker c.args.number c.args.count c.args.announced c.requires.announced c.requires.list c.if-count-eq0.true (c.requires.goes).isa.1
+    list_value (holds c.args.self.now) c.args.marker c.args.number c.args.count c.args.announced c.requires.announced c.requires.list c.if-count-eq0.true (c.requires.goes).isa.small
 
 pub open-requires : goal.open-requires
 open-requires c =

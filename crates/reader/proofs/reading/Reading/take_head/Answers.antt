@@ -15,7 +15,7 @@ pub join-requires : goal.join-requires
 join-requires c =
     let g = c.requires.goes in
     let bytes = c.args.bytes.now in
-    fits_word (c.args.has + length bytes) (number_from c.args.number bytes) (omega (arith, c.field_len.ensures.few)) (joined_fits c.args.has c.args.number bytes (bytes_from_each bytes c.type_inv.bytes) g.isa.3)
+    fits_word (c.args.has + length bytes) (number_from c.args.number bytes) (omega (arith, c.field_len.ensures.few)) (joined_fits c.args.has c.args.number bytes (bytes_from_each bytes c.type_inv.bytes) g.isa.small)
 
 pub returns-then-bytes-lacks-clause-told : goal.returns-then-bytes-lacks-clause-told
 returns-then-bytes-lacks-clause-told c =
@@ -40,7 +40,7 @@ join-number-requires c =
     let front = c.split_at.result.0.now in
     let are = split_front c.args.bytes.now front c.split_at.result.1.now (bytes_from_each c.args.bytes.now c.type_inv.bytes) c.split_at.ensures.by_index.0 in
     let wide : c.field_len.result ≡ field (marker c.args.marker) = c.field_len.ensures.value ∙ ap field (sym c.requires.announced) in
-    fits_word (c.args.has + length front) (number_from c.args.number front) (omega (arith, c.field_len.ensures.few, c.split_at.ensures.front_len, wide, g.isa.2)) (joined_fits c.args.has c.args.number front are g.isa.3)
+    fits_word (c.args.has + length front) (number_from c.args.number front) (omega (arith, c.field_len.ensures.few, c.split_at.ensures.front_len, wide, g.isa.few)) (joined_fits c.args.has c.args.number front are g.isa.small)
 
 pub take_body-requires-clause-goes : goal.take_body-requires-clause-goes
 take_body-requires-clause-goes c =
@@ -50,7 +50,7 @@ take_body-requires-clause-goes c =
     let front = c.split_at.result.0.now in
     let are = split_front c.args.bytes.now front c.split_at.result.1.now (bytes_from_each c.args.bytes.now c.type_inv.bytes) c.split_at.ensures.by_index.0 in
     let wide : c.field_len.result ≡ field (marker m) = c.field_len.ensures.value ∙ ap field (sym c.requires.announced) in
-    let len : c.args.has + length front ≡ field (marker m) = omega (arith, c.split_at.ensures.front_len, wide, g.isa.2) in
+    let len : c.args.has + length front ≡ field (marker m) = omega (arith, c.split_at.ensures.front_len, wide, g.isa.few) in
     let body_is : c.body_len.result ≡ body (marker m) (number_from c.args.number front) = c.body_len.ensures ∙ ap (λ (o : Option Marker). body o c.join-number.result) (sym c.requires.announced) ∙ ap (λ (n : ℕ). body (marker m) n) c.join-number.ensures in
     subst (λ (n : ℕ). Goes h (part.Body m c.join-number.result n)) (sym body_is)
     (subst (λ (n : ℕ). Goes h (part.Body m n (body (marker m) (number_from c.args.number front)))) (sym c.join-number.ensures) (head_whole h m c.args.number c.args.has front are g len))
@@ -64,7 +64,7 @@ returns-clause-told c =
     let rest = c.split_at.result.1.now in
     let are = split_front c.args.bytes.now front rest (bytes_from_each c.args.bytes.now c.type_inv.bytes) c.split_at.ensures.by_index.0 in
     let wide : c.field_len.result ≡ field (marker m) = c.field_len.ensures.value ∙ ap field (sym c.requires.announced) in
-    let len : c.args.has + length front ≡ field (marker m) = omega (arith, c.split_at.ensures.front_len, wide, g.isa.2) in
+    let len : c.args.has + length front ≡ field (marker m) = omega (arith, c.split_at.ensures.front_len, wide, g.isa.few) in
     let all = ap (λ (n : ℕ). bytes_with h (part.Body m n c.body_len.result) ++ rest) c.join-number.ensures
     ∙ ap (λ (b : List ℕ). b ++ rest) (bytes_whole h m c.args.number c.args.has c.body_len.result front are g len)
     ∙ append_assoc (bytes_with h (part.Head m c.args.number c.args.has)) front rest

@@ -1,4 +1,3 @@
-use Rattle.std.proofs.Common.{◌∙◌}
 use Rattle.wire.proofs.First.{whole_found}
 use Rattle.wire.proofs.parts.Chunks.message_in.Goals as goal
 
