@@ -1,9 +1,9 @@
 -- Each answer of the fixed table is made of cells, for a ledger, own writes and parameters that are.
-use Rattle.std.specs.Prelude.{◌≡◌, ◌≤◌, ◌<◌, ◌^◌, ◌+◌, ℕ, Bool, true, false, List, [], ◌∷◌, ◌++◌, length, map, filter, All, nat_lt, pos, codes, Option, Some, None, option_map, Ok, Err, IfOk, IfSome, FitsSigned, get_or, refl}
+use Rattle.std.specs.Prelude.{◌≡◌, ◌≤◌, ◌<◌, ◌^◌, ◌+◌, ℕ, Bool, true, false, List, [], ◌∷◌, ◌++◌, length, map, filter, All, nat_lt, pos, codes, if◌then◌else◌, Option, Some, None, option_map, Ok, Err, IfOk, IfSome, FitsSigned, get_or, refl}
 use Rattle.std.specs.Int.{w64}
 use Rattle.std.specs.List.{find, range_with_len}
 use Rattle.std.specs.Str.{IsUtf8}
-use Rattle.std.proofs.Common.{subst, sym, ◌∙◌, cond, arith, lit≤}
+use Rattle.std.proofs.Common.{subst, sym, ◌∙◌, arith, lit≤}
 use Rattle.std.proofs.lemmas.Bool.{ltb-false}
 use Rattle.std.proofs.lemmas.List.{length-map}
 use Rattle.std.proofs.lemmas.List.Elements.{All-nil, All-cons, All-head, All-tail, All-append, All-filter, All-map}
@@ -11,7 +11,7 @@ use Rattle.std.proofs.lemmas.List.FromFn.{length-range_with_len, get_or-range_wi
 use Rattle.packstream.proofs.Ranges.{fits_pos}
 use Rattle.packstream.specs.Tree.{Tree, null, boolean, int, float, byte_string, text, list, dict, structure}
 use Rattle.packstream.specs.Plain.{IsPlain}
-use Rattle.structures.specs.Cells.{IsCellTree}
+use Rattle.cells.specs.Cells.{IsCellTree}
 use Rattle.engine.specs.Cells.{IsCellPair, AreCellPairs, AreCellEntries, IsOfCells}
 use Rattle.engine.specs.Queries.{Defined, column, reads, writes, with, answer_for, query_of, fixed_answer, count_in, text_in, parameter, numbers, cells_found, node, unbound, walk}
 use Rattle.engine.specs.Table.{table, last_of, is_of, is_not_of, writes_of, value_of}
@@ -27,7 +27,7 @@ OfCells d = IfOk d IsOfCells
 -- The table.
 last_by : (key : List ℕ) (before : Tree) (w : WriteView) (ws : List WriteView) (b : Bool)
     → IsCellTree (last_of key w.1 ws) → IsCellTree (last_of key before ws)
-    → IsCellTree (last_of key (cond b w.1 before) ws)
+    → IsCellTree (last_of key (if b then w.1 else before) ws)
 last_by key before w ws true h k = h
 last_by key before w ws false h k = k
 
@@ -57,8 +57,8 @@ writes_cells (e ∷ es) hs =
 
 value_by : (key : List ℕ) (w : WriteView) (ws : List WriteView) (b : Bool) → IsCellTree w.1
     → IfSome (value_of key ws) IsCellTree
-    → IfSome (option_map (λ (e : WriteView). e.1) (cond b (Some w) (find (is_of key) ws)))
-    IsCellTree
+    → IfSome
+    (option_map (λ (e : WriteView). e.1) (if b then Some w else find (is_of key) ws)) IsCellTree
 value_by key w ws true h k = h
 value_by key w ws false h k = k
 
@@ -84,7 +84,7 @@ column_cells name cells u hs = record {
 
 reads_by : (name : List ℕ) (cells : List Tree) (many : Bool) → nat_lt 1024 (length cells) ≡ many
     → IsUtf8 name → (length cells ≤ 1024 → All IsCellTree cells)
-    → OfCells (cond many (Err too_many_rows) (Ok (column name cells)))
+    → OfCells (if many then Err too_many_rows else Ok (column name cells))
 reads_by name cells true e u hs = tt
 reads_by name cells false e u hs = column_cells name cells u (hs (ltb-false 1024 (length cells) e))
 

@@ -1,6 +1,7 @@
 -- The table of states: which states a request leads to, by its verdict.
 use Rattle.std.specs.Prelude.{Bool, true, false, not, ◌&&◌, is_some, if◌then◌else◌, Option, Some, None, option_map, option_and_then, option_to_list, flat_map, ◌++◌, List, [], ◌∷◌, find}
 use Rattle.std.specs.List.{list_any}
+use Rattle.std.specs.Option.{option_or}
 use Rattle.wire.specs.declared.Version.{Version}
 use Rattle.wire.specs.Versions.{every_version, hello_has_login, has_logon}
 use Rattle.machine.specs.declared.states.State.{State}
@@ -136,14 +137,9 @@ column More x = x.more
 column Failure x = x.failure
 column _ x = Nowhere
 
--- the first that is there
-abbrev pub or_else : Option State → Option State → Option State
-or_else None o = o
-or_else (Some s) o = Some s
-
 -- the rows, also for a kind that isn't of the version
 abbrev pub row_of : Version → State → Kind → Verdict → Option State
-row_of v s k d = or_else (option_and_then (λ x. goal v (column d x)) (line_of v s k))
+row_of v s k d = option_or (option_and_then (λ x. goal v (column d x)) (line_of v s k))
     (option_map (λ x. x.next) (other_of v s k d))
 
 -- all the places of the tables where a request has a next state at a verdict

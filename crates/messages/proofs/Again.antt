@@ -4,7 +4,7 @@ use Rattle.packstream.specs.declared.fault.Reason.{Reason}
 use Rattle.packstream.specs.Tree.{Tree, null, boolean, int, float, byte_string, text, dict, list, structure, Trees, no_trees, tree_then, Entries, no_entries, entry_then}
 use Rattle.packstream.specs.View.{entries_of, trees_of}
 use Rattle.packstream.specs.Good.{IsGood}
-use Rattle.packstream.specs.Plain.{IsPlain}
+use Rattle.packstream.specs.Plain.{IsPlain, HavePlain}
 use Rattle.packstream.specs.Canon.{canon}
 use Rattle.packstream.specs.Spelling.{Spells}
 use Rattle.packstream.specs.Making.{first_fault, faults_in}
@@ -12,23 +12,23 @@ use Rattle.packstream.proofs.Checking.{good_when}
 use Rattle.packstream.proofs.Only.{canon_spells}
 use Rattle.packstream.proofs.Ranges.{fits_neg}
 use Rattle.wire.specs.declared.Version.{Version}
-use Rattle.structures.specs.declared.cell.Cell.{Cell}
-use Rattle.structures.specs.Shape.{shape}
-use Rattle.structures.specs.Faults.{scan, fault as structure_fault, structures, structures_in, structures_under}
+use Rattle.cells.specs.declared.cell.Cell.{Cell}
+use Rattle.cells.specs.Shape.{shape}
+use Rattle.cells.specs.Faults.{scan, fault as structure_fault, structures, structures_in, structures_under}
+use Rattle.cells.specs.Writing.{fault_of_structure, IsWritable}
+use Rattle.cells.proofs.Fine.{fine_scan}
 use Rattle.structures.specs.Form.{form, typed, typed_all, typed_under}
-use Rattle.structures.specs.Writing.{fault_of_structure, IsWritable}
-use Rattle.structures.proofs.Fine.{fine_scan}
 use Rattle.structures.proofs.Formed.{form_is}
 use Rattle.wire.specs.declared.Version.TheVariants.{V44, V51}
 use Rattle.messages.specs.declared.request.Mode.TheVariants.{Read, Write}
 use Rattle.messages.specs.declared.request.Count.TheVariants.{All, Of}
 use Rattle.messages.specs.declared.fault.MsgFault.{MsgFault}
-use Rattle.messages.specs.View.{RequestView, Hello, Logon, Logoff, Goodbye, Reset, Run, Begin, Commit, Rollback, Discard, Pull, ResponseView, Success, Record, Ignored, Failure}
+use Rattle.messages.specs.View.{AuthView, RequestView, Hello, Logon, Logoff, Goodbye, Reset, Run, Begin, Commit, Rollback, Discard, Pull, ResponseView, Success, Record, Ignored, Failure}
 use Rattle.messages.specs.Reading.{◌>>=◌, cell_of_field, cell_by, request_contents, response_contents}
 use Rattle.messages.specs.Messages.{Req, Resp}
 use Rattle.messages.specs.Cells.{cell_put}
 use Rattle.messages.specs.Writing.{form_put, packed_by, spelling_within, spelling_of_tree, request_spelling, response_spelling}
-use Rattle.messages.specs.Sound.{IsCell, IsRequest, IsResponse, RequestsReadBack, ResponsesReadBack}
+use Rattle.messages.specs.Sound.{IsCell, HasTexts, IsRequest, IsResponse, RequestsReadBack, ResponsesReadBack}
 use Rattle.messages.proofs.Forms.{form_again}
 use Rattle.messages.proofs.Rounds.{IsBack, AreBack, AreAnsweredBack, put_is, told_back, answered_back_told}
 use Rattle.messages.proofs.Sent.{short_packed, request_is, response_is}
@@ -87,14 +87,34 @@ write_plain : (v : Version) (s : List ℕ) (ps : List (List ℕ × Tree)) (r : R
 write_plain v s ps (Ok u) t e p h = plain_from _ t (rw e at h) (omega arith, (p.0, (cell_plain v _ u p.1 e, (tt, tt))))
 write_plain v s ps (Err x) t e p h = let k = rw e at h in absurd cc
 
+-- the entries of a login
+abbrev login_entries : AuthView → Entries
+login_entries l =
+    entry_then (codes "scheme") (text l.scheme)
+    (entry_then (codes "principal") (text l.principal)
+    (entry_then (codes "credentials") (text l.credentials) no_entries))
+
+texts_plain : (l : AuthView) → HasTexts l → HavePlain (login_entries l)
+unfolding lib.Utf8.encode
+texts_plain l p = (
+  (codes "scheme", (refl, refl)),
+  p.scheme,
+  (
+    (codes "principal", (refl, refl)),
+    p.principal,
+    ((codes "credentials", (refl, refl)), p.credentials, tt),
+  ),
+)
+
 asked_plain : (v : Version) (m : RequestView) (t : Tree) → IsRequest v m → form_put v (request_contents m) ≡ Ok t → IsPlain t
 unfolding lib.Utf8.encode
 asked_plain V44 (Hello a None) t p h = absurd cc
 asked_plain V51 (Hello a None) t p h = plain_from _ t h (omega arith, (((codes "user_agent", (refl, refl)), p.0, tt), tt))
-asked_plain V44 (Hello a (Some l)) t p h = plain_from _ t h (omega arith, (((codes "user_agent", (refl, refl)), p.0, ((codes "scheme", (refl, refl)), p.1.0, ((codes "principal", (refl, refl)), p.1.1, ((codes "credentials", (refl, refl)), p.1.2, tt)))), tt))
+asked_plain V44 (Hello a (Some l)) t p h =
+    plain_from _ t h (omega arith, (((codes "user_agent", (refl, refl)), p.0, texts_plain l p.1), tt))
 asked_plain V51 (Hello a (Some l)) t p h = absurd cc
 asked_plain V44 (Logon l) t p h = absurd cc
-asked_plain V51 (Logon l) t p h = plain_from _ t h (omega arith, (((codes "scheme", (refl, refl)), p.0, ((codes "principal", (refl, refl)), p.1, ((codes "credentials", (refl, refl)), p.2, tt))), tt))
+asked_plain V51 (Logon l) t p h = plain_from _ t h (omega arith, (texts_plain l p, tt))
 asked_plain V44 Logoff t p h = absurd cc
 asked_plain V51 Logoff t p h = plain_from _ t h (omega arith, tt)
 asked_plain v Goodbye t p h = plain_from _ t h (omega arith, tt)
@@ -142,11 +162,17 @@ spelled : (t : Tree) (b : List ℕ) → spelling_of_tree t ≡ Ok b → IsPlain 
 spelled t b h p = spelled_by t b (first_fault (faults_in 0 false t) 0) refl h p (canon_is t b h)
 
 request_means : (v : Version) (m : RequestView) (b : List ℕ) (r : Result Tree MsgFault) → IsRequest v m → form_put v (request_contents m) ≡ r → (r >>= spelling_of_tree) ≡ Ok b → Req v m b
-request_means v m b (Ok t) q w h = let s = spelled t b h (asked_plain v m t q w) in (t, s.good, s.spells, told_back v m t (asked_again v m q) w)
+request_means v m b (Ok t) q w h =
+    let s = spelled t b h (asked_plain v m t q w) in
+    let says = told_back v m t (asked_again v m q) w in
+    record { value = t; good = s.good; spelled = s.spells; says = says }
 request_means v m b (Err e) q w h = absurd cc
 
 response_means : (v : Version) (m : ResponseView) (b : List ℕ) (r : Result Tree MsgFault) → IsResponse v m → form_put v (response_contents m) ≡ r → (r >>= spelling_of_tree) ≡ Ok b → Resp v m b
-response_means v m b (Ok t) q w h = let s = spelled t b h (said_plain v m t q w) in (t, s.good, s.spells, answered_back_told v m t (said_again v m q) w)
+response_means v m b (Ok t) q w h =
+    let s = spelled t b h (said_plain v m t q w) in
+    let says = answered_back_told v m t (said_again v m q) w in
+    record { value = t; good = s.good; spelled = s.spells; says = says }
 response_means v m b (Err e) q w h = absurd cc
 
 pub request_reads_back : RequestsReadBack

@@ -38,10 +38,12 @@ not_both v w t s u h k = cc
 
 pub request_apart : (v w : Version) (s u : Contents) (b more : List ℕ) → Means v requests s b → Means w responses u (b ++ more) → ⊥
 request_apart v w s u b more p q =
-    let same : p.0 ≡ q.0 = (no_proper_beginning_is p.0 q.0 b more p.1 q.1 p.2 q.2).1 in
-    not_both v w q.0 s u (ap (contents_of_message v requests) (sym same) ∙ p.3) q.3
+    let same : p.value ≡ q.value =
+    (no_proper_beginning_is p.value q.value b more p.good q.good p.spelled q.spelled).1 in
+    not_both v w q.value s u (ap (contents_of_message v requests) (sym same) ∙ p.says) q.says
 
 pub response_apart : (v w : Version) (s u : Contents) (b more : List ℕ) → Means v responses s b → Means w requests u (b ++ more) → ⊥
 response_apart v w s u b more p q =
-    let same : p.0 ≡ q.0 = (no_proper_beginning_is p.0 q.0 b more p.1 q.1 p.2 q.2).1 in
-    not_both w v q.0 u s q.3 (ap (contents_of_message v responses) (sym same) ∙ p.3)
+    let same : p.value ≡ q.value =
+    (no_proper_beginning_is p.value q.value b more p.good q.good p.spelled q.spelled).1 in
+    not_both w v q.value u s q.says (ap (contents_of_message v responses) (sym same) ∙ p.says)

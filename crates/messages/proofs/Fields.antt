@@ -5,7 +5,7 @@ use Rattle.packstream.specs.Good.{count}
 use Rattle.packstream.specs.View.{tree, trees, trees_of, entries, entries_of}
 use Rattle.packstream.proofs.Views.{Pair, tree-Dict}
 use Rattle.packstream.specs.declared.value.Value.{Value, Dict as DictCase, Text as TextCase, the_lemmas}
-use Rattle.structures.specs.Shape.{text_of}
+use Rattle.cells.specs.Shape.{text_of}
 use Rattle.messages.specs.declared.fault.MsgFault.TheVariants as fault
 use Rattle.messages.specs.Parts.{no_field, one_field, run_parts}
 

@@ -204,5 +204,13 @@ plain_form Passed h u = (omega arith, tt)
 pub reads_back : (v : Version) (s : Summary) → IsShort s → HasTexts s → ReadsBack v s
 reads_back v s h u =
     let good : IsGood (form_of s) = good_when (form_of s) (faultless s).0 (faultless s).1 (plain_form s h u) in
-    let fits : length (canon (form_of s)) ≤ 65536 = omega (arith, form_le s h, room_le s h) in
-    (canon (form_of s), text_is v s h, (form_of s, good, canon_spells (form_of s) good fits, told v s))
+    let fits : length (canon (form_of s)) ≤ 65536 = omega (arith, form_le s h, room_le s h) in (
+      canon (form_of s),
+      text_is v s h,
+      record {
+        value = form_of s;
+        good = good;
+        spelled = canon_spells (form_of s) good fits;
+        says = told v s;
+      },
+    )

@@ -6,18 +6,18 @@ use Rattle.packstream.specs.Good.{IsGood}
 use Rattle.packstream.specs.Making.{first_fault, faults_in}
 use Rattle.packstream.proofs.Checking.{bad_when}
 use Rattle.wire.specs.declared.Version.{Version}
+use Rattle.cells.specs.Faults.{fault as structure_fault, structures}
+use Rattle.cells.proofs.Fine.{fine_scan}
 use Rattle.structures.specs.declared.fault.CellFault.{CellFault}
 use Rattle.structures.specs.declared.fault.CellFault.TheVariants as cell_fault
-use Rattle.structures.specs.Faults.{fault as structure_fault, structures}
 use Rattle.structures.specs.Form.{Form, form}
 use Rattle.structures.specs.Answers.{Reads, Writes}
 use Rattle.structures.proofs.Back.{again}
-use Rattle.structures.proofs.Fine.{fine_scan}
 use Rattle.messages.specs.declared.fault.MsgFault.{MsgFault}
 use Rattle.messages.specs.declared.fault.MsgFault.TheVariants as fault
 use Rattle.messages.specs.Faults.{of_cell}
-use Rattle.structures.specs.declared.cell.Cell.{Cell}
-use Rattle.structures.specs.Shape.{shape}
+use Rattle.cells.specs.declared.cell.Cell.{Cell}
+use Rattle.cells.specs.Shape.{shape}
 use Rattle.messages.specs.Reading.{Answers, cell_by, cell_of_field}
 use Rattle.messages.specs.Cells.{value_by, form_by, cell_put}
 
@@ -39,16 +39,16 @@ read_fault_is v t cell_fault.Memory h n = absurd (n refl)
 
 pub put_value : (v : Version) (s t : Tree) → Writes v s (Ok t) → cell_put v s ≡ Ok t
 put_value v s t h =
-    ap (λ r. form_by r (form v s)) h.0.1
-    ∙ ap (λ u. value_by (first_fault (faults_in 0 false u) 0) u) (form_again v s t h.1)
-    ∙ good_value t (first_fault (faults_in 0 false t) 0) refl h.2
+    ap (λ r. form_by r (form v s)) h.writable.1
+    ∙ ap (λ u. value_by (first_fault (faults_in 0 false u) 0) u) (form_again v s t h.formed)
+    ∙ good_value t (first_fault (faults_in 0 false t) 0) refl h.good
 
 pub put_fault : (v : Version) (s : Tree) (e : CellFault) → Writes v s (Err e) → (of_cell e ≡ fault.Memory → ⊥) → cell_put v s ≡ Err (of_cell e)
 put_fault v s (cell_fault.Refused r k) h n = ap (λ x. form_by x (form v s)) h
 put_fault v s (cell_fault.Pack r o) h n =
-    ap (λ x. form_by x (form v s)) h.0.1
-    ∙ ap (λ u. value_by (first_fault (faults_in 0 false u) 0) u) (form_again v s h.1.0 h.1.1)
-    ∙ ap (λ x. value_by x h.1.0) h.1.2
+    ap (λ x. form_by x (form v s)) h.writable.1
+    ∙ ap (λ u. value_by (first_fault (faults_in 0 false u) 0) u) (form_again v s h.value h.formed)
+    ∙ ap (λ x. value_by x h.value) h.unpacked
 put_fault v s cell_fault.Memory h n = absurd (n refl)
 
 pub told_fault : {X Y : Type 0} (view : X → Y) (r : Result X MsgFault) (s : Result Y MsgFault) (e : MsgFault) → r ≡ Err e → ((e ≡ fault.Memory → ⊥) → s ≡ Err e) → Answers view r s

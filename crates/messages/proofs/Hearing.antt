@@ -6,7 +6,7 @@ use Rattle.std.proofs.lemmas.List.{reverse-append, reverse-reverse}
 use Rattle.wire.specs.declared.Version.{Version}
 use Rattle.wire.specs.declared.Version.TheVariants.{V44, V51}
 use Rattle.wire.specs.Offers.{version_answer}
-use Rattle.wire.specs.Framing.{Item, Opening, Noop, Message, item_bytes, bytes_newest_first, within_newest_first, Spoken}
+use Rattle.wire.specs.Framing.{Item, Opening, Noop, Message, items_heard, item_bytes, bytes_newest_first, within_newest_first, Spoken}
 use Rattle.wire.proofs.Opened.{said_text-map, said_within-map, said_arrives}
 use Rattle.messages.specs.Writing.{response_spelling}
 use Rattle.messages.specs.Arrivals.{Heard, Chosen, Strange, Quiet, Told, Unheard, Over, heard_version, then_response, heard_in, after_version, heard_of, hears, heard_bytes, IsSaid, IsSpoken, SaysArrive, SoFarArrives, NoVersionArrives}
@@ -113,9 +113,14 @@ front_spoken v text n (Told m ∷ xs) h = whole_or v (nat_le (length (bytes_newe
 front_spoken v text n (Unheard e ∷ xs) h = absurd h
 front_spoken v text n (Over ∷ xs) h = absurd h
 
+-- by the items with the newest first
+hears_reversed : (bytes : List ℕ) → hears bytes ≡ reverse (heard_of (reverse (reverse (items_heard bytes))))
+hears_reversed bytes = ap (λ l. reverse (heard_of l)) (sym (reverse-reverse (items_heard bytes)))
+
 pub says_arrive : SaysArrive
 says_arrive v xs n h =
     ap (λ t. hears (take n t)) (sym (said_text-map Heard (heard_bytes v) (item_of v) (same_text v) xs))
+    ∙ hears_reversed (take n (bytes_newest_first item_bytes (map (item_of v) xs)))
     ∙ ap (λ l. reverse (heard_of (reverse l))) (said_arrives (map (item_of v) xs) n (spoken v xs h) ∙ said_within-map Heard (heard_bytes v) (item_of v) (same_text v) n xs)
     ∙ heard_back v (within_newest_first (heard_bytes v) n xs) (front_spoken v (heard_bytes v) n xs h)
 
@@ -124,7 +129,7 @@ so_far_arrives v xs n (inl e) = subst (λ (l : List Heard). hears (take n (bytes
 so_far_arrives v xs n (inr h) = says_arrive v xs n h
 
 pub no_version_arrives : NoVersionArrives
-no_version_arrives n = ap (λ l. reverse (heard_of (reverse l))) (said_arrives (Opening (version_answer None) ∷ []) n (refl, refl)) ∙ go (nat_le 4 n)
+no_version_arrives n = hears_reversed (take n (version_answer None)) ∙ ap (λ l. reverse (heard_of (reverse l))) (said_arrives (Opening (version_answer None) ∷ []) n (refl, refl)) ∙ go (nat_le 4 n)
   where
     go : (b : Bool) → reverse (heard_of (reverse (cond b (Opening (version_answer None) ∷ []) []))) ≡ cond b (Chosen None ∷ []) []
     go true = refl

@@ -11,8 +11,8 @@ use Rattle.std.proofs.lemmas.Bool.Decides.{Decides-eqb, Decides-int_eq}
 use Rattle.packstream.specs.Tree.{Tree, null, int, text, list, dict, structure, Trees, no_trees, tree_then, Entries, no_entries, entry_then}
 use Rattle.packstream.specs.Faults.{keys_of}
 use Rattle.wire.specs.declared.Version.{Version}
-use Rattle.structures.specs.declared.fault.Reason.{Reason as CellReason}
-use Rattle.structures.specs.Faults.{scan, fault as structure_fault, structures}
+use Rattle.cells.specs.declared.fault.Reason.{Reason as CellReason}
+use Rattle.cells.specs.Faults.{scan, fault as structure_fault, structures}
 use Rattle.structures.specs.Form.{Form, typed}
 use Rattle.messages.specs.declared.fault.MsgFault.{MsgFault}
 use Rattle.messages.specs.declared.fault.MsgFault.TheVariants as fault
@@ -298,6 +298,18 @@ told_by_rows v table t s l = (
 -- so the bytes stand for what a row says of the value that they spell
 pub spelled_by_rows : (v : Version) (table : List Row) (s : Contents) (b : List ℕ) → AreLaid table table → Means v table s b ↔ IsSpelled v table s b
 spelled_by_rows v table s b l = (
-  (λ (m : Means v table s b). (m.0, m.1, m.2, (told_by_rows v table m.0 s l).0 m.3)),
-  (λ (m : IsSpelled v table s b). (m.0, m.1, m.2, (told_by_rows v table m.0 s l).1 m.3)),
+  (λ (m : Means v table s b).
+      record {
+        value = m.value;
+        good = m.good;
+        spelled = m.spelled;
+        says = (told_by_rows v table m.value s l).0 m.says;
+      }),
+  (λ (m : IsSpelled v table s b).
+      record {
+        value = m.value;
+        good = m.good;
+        spelled = m.spelled;
+        says = (told_by_rows v table m.value s l).1 m.says;
+      }),
 )

@@ -7,6 +7,7 @@ pub mod Rounds
 pub mod Telling
 pub mod Sayings
 pub mod Sent
+pub mod Taken
 pub mod Arriving
 pub mod Hearing
 pub mod Following

@@ -5,15 +5,15 @@ use Rattle.std.specs.Str.{bytes_eq}
 use Rattle.packstream.specs.Plain.{IsPlain, ArePlain, HavePlain}
 use Rattle.packstream.specs.Tree.{Tree, null, int, text, dict, structure, Trees, no_trees, tree_then, Entries, no_entries, entry_then}
 use Rattle.wire.specs.declared.Version.{Version}
-use Rattle.structures.specs.declared.fault.Reason.{Reason as CellReason}
-use Rattle.structures.specs.Faults.{scan, fault as structure_fault, structures}
+use Rattle.cells.specs.declared.fault.Reason.{Reason as CellReason}
+use Rattle.cells.specs.Faults.{scan, fault as structure_fault, structures}
 use Rattle.messages.specs.declared.request.Count.TheVariants.{All, Of}
 use Rattle.messages.specs.declared.fault.MsgFault.{MsgFault}
 use Rattle.messages.specs.declared.fault.MsgFault.TheVariants as fault
 use Rattle.messages.specs.Table.{Holds, a_text, a_mode, a_count, last_query, Named, Field, text_field, cells, cell_list, extra, Name, Row, layout, requests, responses, row_in, HELLO, LOGON, LOGOFF, GOODBYE, RESET, RUN, BEGIN, COMMIT, ROLLBACK, DISCARD, PULL, SUCCESS, RECORD, IGNORED, FAILURE}
-use Rattle.messages.specs.View.{RequestView, Hello, Logon, Logoff, Goodbye, Reset, Run, Begin, Commit, Rollback, Discard, Pull, ResponseView, Success, Record, Ignored, Failure}
-use Rattle.messages.specs.Reading.{◌>>=◌, Contents, contents, is_mode, lookup, contents_of_entry, contents_of_text, contents_of_mode, contents_of_count, contents_of_query, contents_of_named, contents_of_entries, cell_by, cell_of_field, contents_of_fields, are_kinds, contents_of_row, row_at, contents_by_row, contents_of_message, request_contents, response_contents}
-use Rattle.messages.specs.Sound.{IsCell, IsRequest, IsResponse, RequestsAreMade, ResponsesAreMade}
+use Rattle.messages.specs.View.{AuthView, RequestView, Hello, Logon, Logoff, Goodbye, Reset, Run, Begin, Commit, Rollback, Discard, Pull, ResponseView, Success, Record, Ignored, Failure}
+use Rattle.messages.specs.Reading.{◌>>=◌, Contents, contents, is_mode, lookup, contents_of_entry, contents_of_text, contents_of_mode, contents_of_count, contents_of_query, contents_of_named, contents_of_entries, cell_by, cell_of_field, contents_of_fields, are_kinds, contents_of_row, row_at, contents_by_row, contents_of_message, login_trees, request_contents, response_contents}
+use Rattle.messages.specs.Sound.{IsCell, HasTexts, IsRequest, IsResponse, RequestsAreMade, ResponsesAreMade}
 use Rattle.messages.proofs.Telling.{if_bind, extra_said}
 
 -- Fields.
@@ -187,10 +187,13 @@ said_made v t h = tt
 made : (v : Version) (r : Result Contents MsgFault) (s : Contents) → IfOk r (IsMade v) → r ≡ Ok s → IsMade v s
 made v r s h e = subst (λ (x : Result Contents MsgFault). IfOk x (IsMade v)) e h
 
+login_made : (l : AuthView) → AllPlain (login_trees l) → HasTexts l
+login_made l h = record { scheme = h.0; principal = h.1.0; credentials = h.1.1.0 }
+
 request_made : (v : Version) (m : RequestView) → IsMade v (request_contents m) → IsRequest v m
 request_made v (Hello a None) h = (h.1.0, tt)
-request_made v (Hello a (Some l)) h = (h.1.0, (h.1.1.0, h.1.1.1.0, h.1.1.1.1.0))
-request_made v (Logon l) h = (h.1.0, h.1.1.0, h.1.1.1.0)
+request_made v (Hello a (Some l)) h = (h.1.0, login_made l h.1.1)
+request_made v (Logon l) h = login_made l h.1
 request_made v Logoff h = tt
 request_made v Goodbye h = tt
 request_made v Reset h = tt
@@ -210,7 +213,11 @@ response_made v Ignored h = tt
 response_made v (Failure c m) h = (h.1.0, h.1.1.0)
 
 pub requests_are_made : RequestsAreMade
-requests_are_made v m b r = request_made v m (made v (contents_of_message v requests r.0) (request_contents m) (asked_made v r.0 r.1.2) r.3)
+requests_are_made v m b r =
+    request_made v m (made v (contents_of_message v requests r.value) (request_contents m)
+    (asked_made v r.value r.good.2) r.says)
 
 pub responses_are_made : ResponsesAreMade
-responses_are_made v m b r = response_made v m (made v (contents_of_message v responses r.0) (response_contents m) (said_made v r.0 r.1.2) r.3)
+responses_are_made v m b r =
+    response_made v m (made v (contents_of_message v responses r.value) (response_contents m)
+    (said_made v r.value r.good.2) r.says)

@@ -23,19 +23,25 @@ use Rattle.messages.specs.Reading.{◌>>=◌, Contents, contents_of_message, Ans
 use Rattle.messages.specs.Messages.{Means, IsNone, Gave, UnlessMemory, contents_by, contents_in, request_held, response_held, pairs_of, list_of}
 
 pub means_said : (v : Version) (table : List Row) (s : Contents) (b : List ℕ) (bytes : AreBytes b) → Means v table s b → contents_in v table b ≡ Ok s
-means_said v table s b bytes h = ap (contents_by v table) ((whole_value b bytes h.0).1 (h.1, h.2)) ∙ h.3
+means_said v table s b bytes h =
+    ap (contents_by v table) ((whole_value b bytes h.value).1 (h.good, h.spelled)) ∙ h.says
 
 pub none_said : (v : Version) (table : List Row) (e : MsgFault) (b : List ℕ) (bytes : AreBytes b) → IsNone v table e b → contents_in v table b ≡ Err e
 none_said v table e b bytes (inl h) = ap (contents_by v table) ((whole_fault b bytes h.0 h.1).1 h.3) ∙ ap Err (sym h.2)
-none_said v table e b bytes (inr h) = ap (contents_by v table) ((whole_value b bytes h.0).1 (h.1, h.2)) ∙ h.3
+none_said v table e b bytes (inr h) =
+    ap (contents_by v table) ((whole_value b bytes h.value).1 (h.good, h.spelled)) ∙ h.says
 
 told_means : (v : Version) (table : List Row) (s : Contents) (b : List ℕ) (bytes : AreBytes b) (r : Result Tree (Reason × ℕ)) → whole_of b ≡ r → contents_by v table r ≡ Ok s → Means v table s b
-told_means v table s b bytes (Ok t) w h = let g : IsGood t × Spells t b = (whole_value b bytes t).0 w in (t, g.0, g.1, h)
+told_means v table s b bytes (Ok t) w h =
+    let g : IsGood t × Spells t b = (whole_value b bytes t).0 w in
+    record { value = t; good = g.0; spelled = g.1; says = h }
 told_means v table s b bytes (Err e) w h = absurd cc
 
 told_none : (v : Version) (table : List Row) (e : MsgFault) (b : List ℕ) (bytes : AreBytes b) (r : Result Tree (Reason × ℕ)) → whole_of b ≡ r → contents_by v table r ≡ Err e → IsNone v table e b
-told_none v table e b bytes (Ok t) w h = let g : IsGood t × Spells t b = (whole_value b bytes t).0 w in inr (t, g.0, g.1, h)
-told_none v table e b bytes (Err p) w h = let same : fault.Pack (pack.Refused p.0 p.1) ≡ e = cc in inl (p.0, p.1, sym same, (whole_fault b bytes p.0 p.1).0 w)
+told_none v table e b bytes (Ok t) w h =
+    let g : IsGood t × Spells t b = (whole_value b bytes t).0 w in
+    inr (record { value = t; good = g.0; spelled = g.1; says = h })
+told_none v table e b bytes (Err p) w h = let same : fault.Pack p.0 p.1 ≡ e = cc in inl (p.0, p.1, sym same, (whole_fault b bytes p.0 p.1).0 w)
 
 pub said_means : (v : Version) (table : List Row) (s : Contents) (b : List ℕ) (bytes : AreBytes b) → contents_in v table b ≡ Ok s → Means v table s b
 said_means v table s b bytes h = told_means v table s b bytes (whole_of b) refl h
@@ -51,7 +57,7 @@ err_is (Err e) x h = ap Err h
 pub bad_answers : {X : Type 0} (view : X → Contents) (v : Version) (table : List Row) (b : List ℕ) (bytes : AreBytes b) (p : PackFault) (r : Result X MsgFault)
     → ((q : Reason) (o : ℕ) → PackUnless {A = Tree} (Err p) (◌≡◌ {A = Result Tree PackFault} (Err p) (Err (pack.Refused q o)) ↔ Bad b o q)) → r ≡ Err (of_pack p) → Answers view r (contents_in v table b)
 bad_answers view v table b bytes (pack.Refused q o) r h e =
-    let w : contents_in v table b ≡ Err (fault.Pack (pack.Refused q o)) = ap (contents_by v table) ((whole_fault b bytes q o).1 ((h q o).0 refl)) in
+    let w : contents_in v table b ≡ Err (fault.Pack q o) = ap (contents_by v table) ((whole_fault b bytes q o).1 ((h q o).0 refl)) in
     rw e (λ n. w)
 bad_answers view v table b bytes pack.Memory r h e = rw e (λ n. absurd (n refl))
 
@@ -123,8 +129,9 @@ gives_same see holds back tells (Err e) s h = λ n. ap (λ r. r >>= λ y. Ok (ba
 -- bytes say one thing at most
 pub means_one : (v : Version) (table : List Row) (s u : Contents) (b : List ℕ) → Means v table s b → Means v table u b → s ≡ u
 means_one v table s u b p q =
-    let again : Spells q.0 (b ++ []) = rw append-nil q.2 in
-    let k : p.0 ≡ q.0 = (no_proper_beginning_is p.0 q.0 b [] p.1 q.1 p.2 again).1 in
-    let told : contents_of_message v table q.0 ≡ Ok s = rw k at p.3 in
-    let other : contents_of_message v table q.0 ≡ Ok u = q.3 in
+    let again : Spells q.value (b ++ []) = rw append-nil q.spelled in
+    let k : p.value ≡ q.value =
+    (no_proper_beginning_is p.value q.value b [] p.good q.good p.spelled again).1 in
+    let told : contents_of_message v table q.value ≡ Ok s = rw k at p.says in
+    let other : contents_of_message v table q.value ≡ Ok u = q.says in
     cc

@@ -6,15 +6,15 @@ use Rattle.packstream.specs.View.{entries_of, trees_of}
 use Rattle.packstream.specs.Making.{first_fault, faults_in}
 use Rattle.wire.specs.declared.Version.{Version}
 use Rattle.wire.specs.declared.Version.TheVariants.{V44, V51}
-use Rattle.structures.specs.declared.fault.Reason.{Reason as CellReason}
-use Rattle.structures.specs.Faults.{scan, structures}
-use Rattle.structures.specs.Writing.{fault_of_structure}
+use Rattle.cells.specs.declared.fault.Reason.{Reason as CellReason}
+use Rattle.cells.specs.Faults.{scan, structures}
+use Rattle.cells.specs.Writing.{fault_of_structure}
 use Rattle.std.specs.Ordering.{int_eq}
+use Rattle.cells.specs.Shape.{shape}
+use Rattle.cells.specs.declared.cell.Cell.{Cell, Dict as DictCell, List as ListCell}
+use Rattle.cells.proofs.Views.{shape-Dict, shape-List}
+use Rattle.cells.proofs.Fine.{fine_scan}
 use Rattle.structures.specs.Form.{form, form_under, form_all}
-use Rattle.structures.specs.Shape.{shape}
-use Rattle.structures.specs.declared.cell.Cell.{Cell, Dict as DictCell, List as ListCell}
-use Rattle.structures.proofs.Views.{shape-Dict, shape-List}
-use Rattle.structures.proofs.Fine.{fine_scan}
 use Rattle.structures.proofs.Formed.{form_is as formed_is}
 use Rattle.messages.specs.declared.request.Request.{Request}
 use Rattle.messages.specs.declared.request.Request.TheVariants as request

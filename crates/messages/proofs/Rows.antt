@@ -8,8 +8,8 @@ use Rattle.messages.specs.Table.{Name, Others, Named, ignored, extra, text_field
 use Rattle.structures.specs.Form.{typed_under}
 use Rattle.messages.specs.Reading.{◌>>=◌, Contents, contents, contents_of_named, contents_of_text, contents_of_row, contents_of_extra, cell_of_field, contents_of_mode, lookup, cell_by}
 use Rattle.messages.specs.Parts.{no_field, one_field, entries_of_dict, members_of_list, only_dict, contents_of_login, run_parts, contents_of_run, as_dict, as_list}
-use Rattle.structures.specs.declared.fault.Reason.{Reason as CellReason}
-use Rattle.structures.specs.Faults.{scan, fault as structure_fault, structures}
+use Rattle.cells.specs.declared.fault.Reason.{Reason as CellReason}
+use Rattle.cells.specs.Faults.{scan, fault as structure_fault, structures}
 
 pub none_row : (v : Version) (n : Name) (ts : Trees) → contents_of_row v n [] ts ≡ (no_field ts >>= λ x. Ok (contents n [] []))
 none_row v n no_trees = refl
@@ -76,6 +76,7 @@ text_and_dict n t es (Ok a) (Err b) = refl
 text_and_dict n t es (Err a) b = refl
 
 pub run_row : (v : Version) (ts : Trees)
-    → contents_of_row v RUN (text_field ∷ cells ∷ extra ignored mode_alone ∷ []) ts ≡ (run_parts ts >>= λ p. contents_of_run v p.0 p.1 p.2)
+    → contents_of_row v RUN (text_field ∷ cells ∷ extra ignored mode_alone ∷ []) ts
+    ≡ (run_parts ts >>= λ p. contents_of_run v p.text p.parameters p.entries)
 run_row v (tree_then (text s) (tree_then (dict ps) (tree_then (dict es) no_trees))) = text_and_dict RUN (text s) ps (contents_of_mode (lookup (codes "mode") es)) (scan (structure_fault v) 0 (structures (dict ps)))
 run_row v ts = refl

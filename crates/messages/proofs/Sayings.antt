@@ -12,7 +12,7 @@ use Rattle.messages.specs.declared.fault.MsgFault.{MsgFault}
 use Rattle.wire.specs.Versions.{every_version, hello_has_login}
 use Rattle.messages.specs.Table.{ignored, refused, credentials, mode_alone, how_many, of_error, hello, Row, requests, responses, HELLO, LOGON, LOGOFF, GOODBYE, RESET, RUN, BEGIN, COMMIT, ROLLBACK, DISCARD, PULL, SUCCESS, RECORD, IGNORED, FAILURE, layout}
 use Rattle.messages.specs.Reading.{◌>>=◌, Contents, contents, lookup, contents_of_mode, contents_of_named, cell_of_field, contents_of_message, mode_tree, count_tree, request_contents, response_contents}
-use Rattle.messages.specs.Parts.{one_field, entries_of_dict, members_of_list, run_parts, contents_of_run, as_dict, as_list, dict_of_cells}
+use Rattle.messages.specs.Parts.{one_field, entries_of_dict, members_of_list, RunParts, run_parts, contents_of_run, as_dict, as_list, dict_of_cells}
 use Rattle.packstream.specs.Plain.{AreBytes}
 use Rattle.messages.specs.Messages.{Means, contents_in, request_held, response_held, pairs_of, list_of}
 use Rattle.messages.proofs.Meanings.{said_means}
@@ -62,11 +62,20 @@ run_asks s c xs d p = rw (d.1, p.1) (go p.0)
 run_tells : (v : Version) → Tells IsAsk v (layout RUN)
 run_tells v ts =
     subst (λ r. IfOk r IsAsk) (sym (run_row v ts))
-    (if_bind (run_parts ts) (λ p. contents_of_run v p.0 p.1 p.2) (λ x. Unit {0}) IsAsk (if_any (run_parts ts)) (λ p u.
-    if_bind (contents_of_mode (lookup (codes "mode") p.2)) (λ m. dict_of_cells v p.1 >>= λ c. Ok (contents RUN (text p.0 ∷ c ∷ []) m)) IsMode IsAsk (mode_said (lookup (codes "mode") p.2)) (λ m q.
-    if_bind (dict_of_cells v p.1) (λ c. Ok (contents RUN (text p.0 ∷ c ∷ []) m)) IsDict IsAsk
-    (if_bind (cell_of_field v p.1) as_dict (λ x. Unit {0}) IsDict (if_any (cell_of_field v p.1)) (λ c w. dict_said c))
-    (λ c d. run_asks p.0 c m d q))))
+    (if_bind (run_parts ts) (λ p. contents_of_run v p.text p.parameters p.entries) (λ x. Unit {0})
+    IsAsk (if_any (run_parts ts)) (λ p u. asks p))
+  where
+    asks : (p : RunParts) → IfOk (contents_of_run v p.text p.parameters p.entries) IsAsk
+    asks p =
+        let mode = lookup (codes "mode") p.entries in
+        let cell = cell_of_field v p.parameters in
+        if_bind (contents_of_mode mode)
+        (λ m. dict_of_cells v p.parameters >>= λ c. Ok (contents RUN (text p.text ∷ c ∷ []) m))
+        IsMode IsAsk (mode_said mode) (λ m q.
+        if_bind (dict_of_cells v p.parameters) (λ c. Ok (contents RUN (text p.text ∷ c ∷ []) m))
+        IsDict IsAsk
+        (if_bind cell as_dict (λ x. Unit {0}) IsDict (if_any cell) (λ c w. dict_said c))
+        (λ c d. run_asks p.text c m d q))
 
 requests_tell : (v : Version) → AllTell IsAsk v requests
 requests_tell v = (
@@ -161,5 +170,10 @@ pub means_told : {Y : Type 0} (holds : Y → Contents) (back : Contents → Y) (
 means_told holds back v table again b bytes m (Ok s) e h =
     let same : back s ≡ m = cc in
     let w = said_means v table s b bytes e in
-    (w.0, w.1, w.2, w.3 ∙ ap Ok (sym (again w.0 s w.3) ∙ ap holds same))
+    record {
+      value = w.value;
+      good = w.good;
+      spelled = w.spelled;
+      says = w.says ∙ ap Ok (sym (again w.value s w.says) ∙ ap holds same);
+    }
 means_told holds back v table again b bytes m (Err x) e h = absurd cc

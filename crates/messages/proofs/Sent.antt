@@ -40,7 +40,7 @@ some_told v table (structure tag ts) s b h e = some_begins h.2.0 (tag ∷ h.0) b
 some_told v table t s b h e = absurd cc
 
 some_means : (v : Version) (table : List Row) (s : Contents) (b : List ℕ) → Means v table s b → 0 < length b
-some_means v table s b h = some_told v table h.0 s b h.2.1 h.3
+some_means v table s b h = some_told v table h.value s b h.spelled.1 h.says
 
 -- a spelling that a message of the wire may be
 abbrev pub Fits : List ℕ → Type 0
@@ -56,11 +56,17 @@ response_fits v m b e h = (some_means v responses (response_contents m) b h, sho
 
 pub request_is : (v : Version) (m : RequestView) (b : List ℕ) → Req v m b → request_of v b ≡ Ok m
 unfolding request_of
-request_is v m b h = ap (λ r. r >>= λ s. Ok (request_held s)) (means_said v requests (request_contents m) b h.2.0 h) ∙ ap Ok (asked_back m)
+request_is v m b h =
+    ap (λ r. r >>= λ s. Ok (request_held s))
+    (means_said v requests (request_contents m) b h.spelled.0 h)
+    ∙ ap Ok (asked_back m)
 
 pub response_is : (v : Version) (m : ResponseView) (b : List ℕ) → Resp v m b → response_of v b ≡ Ok m
 unfolding response_of
-response_is v m b h = ap (λ r. r >>= λ s. Ok (response_held s)) (means_said v responses (response_contents m) b h.2.0 h) ∙ ap Ok (answered_back m)
+response_is v m b h =
+    ap (λ r. r >>= λ s. Ok (response_held s))
+    (means_said v responses (response_contents m) b h.spelled.0 h)
+    ∙ ap Ok (answered_back m)
 
 -- the item of a spelling, or one of no bytes
 abbrev pub sent : Result (List ℕ) MsgFault → Item

@@ -1,43 +1,19 @@
 -- What arrives of any bytes, by the whole messages that the grammar of chunks has of them.
-use Rattle.std.proofs.Common.{◌≡◌, option_to_list, refl, ◌∙◌, ap, ℕ, ◌+◌, ◌<◌, Bool, true, false, eqb, List, [], ◌∷◌, ◌++◌, length, arith, append_assoc, length-append, Some, Result, Ok, Err}
-use Rattle.std.proofs.lemmas.Bool.Decides.{nat_tests}
+use Rattle.std.proofs.Common.{◌≡◌, refl, ◌∙◌, ap, Bool, true, false, List, [], ◌∷◌, ◌++◌, arith, Some, Result, Ok, Err}
 use Rattle.wire.specs.declared.Version.{Version}
 use Rattle.wire.specs.declared.items.Piece.{Piece}
 use Rattle.wire.specs.declared.items.Piece.TheVariants as piece
 use Rattle.wire.specs.Unfinished.{Unfinished, fresh}
-use Rattle.wire.specs.Reader.{state, outputs}
+use Rattle.wire.specs.Reader.{outputs}
 use Rattle.wire.specs.Stream.{items_of}
-use Rattle.wire.specs.Framing.{Item, Opening, chunks, Opened, opening, reading, opening_reader, arrivals as arrived, refusal}
+use Rattle.wire.specs.Framing.{chunks, arrivals as arrived, refusal}
 use Rattle.wire.specs.Whole.{messages}
-use Rattle.wire.proofs.Readers.{outputs-append}
 use Rattle.wire.proofs.Framed.{reads_items}
+use Rattle.wire.proofs.Opened.{past_opening}
 use Rattle.messages.specs.declared.fault.MsgFault.{MsgFault}
 use Rattle.messages.specs.View.{RequestView}
 use Rattle.messages.specs.Messages.{request_of}
 use Rattle.messages.specs.Arrivals.{Shook, Asked, then_request, requests_in, after_shake, arrivals_of, without_idle, too_long, requests_of, ArrivesWhole}
-
--- the bytes that open a stream
-opening_read : (k : ℕ) (bs xs : List ℕ) → length bs + length xs ≡ k → 0 < length xs → (outputs (opening_reader k) (opening bs) xs ≡ Opening (bs ++ xs) ∷ []) × (state (opening_reader k) (opening bs) xs ≡ reading fresh)
-opening_read k bs [] h some = absurd (omega arith)
-opening_read k bs (b ∷ []) h some =
-    let yes : eqb (length bs + 1) k ≡ true = grind (arith, nat_tests) in
-    rw yes (refl, refl)
-opening_read k bs (b ∷ c ∷ xs) h some =
-    let no : eqb (length bs + 1) k ≡ false = grind (arith, nat_tests) in
-    let more = opening_read k (bs ++ b ∷ []) (c ∷ xs) (omega (arith, length-append bs (b ∷ []))) (omega arith) in
-    rw no (more.0 ∙ ap (λ l. Opening l ∷ []) (append_assoc bs (b ∷ []) (c ∷ xs)), more.1)
-
-reading_outputs : (k : ℕ) (s : Unfinished) (xs : List ℕ) → outputs (opening_reader k) (reading s) xs ≡ outputs chunks s xs
-reading_outputs k s [] = refl
-reading_outputs k s (b ∷ xs) = ap (λ l. option_to_list (chunks.item s b) ++ l) (reading_outputs k (chunks.byte s b) xs)
-
-past_opening : (k : ℕ) (start more : List ℕ) → 0 < k → length start ≡ k → outputs (opening_reader k) (opening []) (start ++ more) ≡ Opening start ∷ outputs chunks fresh more
-past_opening k start more some len =
-    let read = opening_read k [] start (omega arith) (omega arith) in
-    outputs-append Opened Item (opening_reader k) (opening []) start more
-    ∙ ap (λ l. l ++ outputs (opening_reader k) (state (opening_reader k) (opening []) start) more) read.0
-    ∙ ap (λ s. Opening start ∷ outputs (opening_reader k) s more) read.1
-    ∙ ap (λ l. Opening start ∷ l) (reading_outputs k fresh more)
 
 -- the refusal comes last
 refusal_asked : (v : Version) (s : Unfinished) (past : Bool) → s.too_big ≡ past → without_idle (requests_in v (refusal s)) ≡ too_long past

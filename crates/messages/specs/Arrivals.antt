@@ -16,6 +16,43 @@ use Rattle.messages.specs.View.{RequestView, ResponseView}
 use Rattle.messages.specs.Messages.{Req, Resp, request_of, response_of}
 use Rattle.messages.specs.Writing.{request_spelling, response_spelling}
 
+-- How an end takes the whole items of its stream: M is a message that it reads, A what it takes an item as.
+pub record End (M A : Type 0) : Type 0 where
+  -- the bytes that open the stream, and the version by which messages are read after them, where any is
+  pub opening : List ℕ → A
+  pub version : A → Option Version
+  -- a no-op
+  pub idle : A
+  -- the reader of a message, a message that was read, and bytes that stand for none
+  pub read : Version → List ℕ → Result M MsgFault
+  pub message : M → A
+  pub unread : MsgFault → A
+  -- the header that takes a message past its limit
+  pub past : A
+
+-- after bytes that stand for no message nothing is read
+abbrev pub then_read : {M A : Type 0} → End M A → Result M MsgFault → List A → List A
+then_read e (Ok m) rest = e.message m ∷ rest
+then_read e (Err f) rest = e.unread f ∷ []
+
+-- what an end takes the items after what opens its stream as, up to the first after which nothing is read
+abbrev pub taken_in : {M A : Type 0} → End M A → Version → List Item → List A
+taken_in e v [] = []
+taken_in e v (Opening bytes ∷ xs) = []
+taken_in e v (Noop ∷ xs) = e.idle ∷ taken_in e v xs
+taken_in e v (Message b ∷ xs) = then_read e (e.read v b) (taken_in e v xs)
+taken_in e v (TooBig ∷ xs) = e.past ∷ []
+
+-- messages are read by the version, and where there is none, nothing is
+abbrev pub taken_by : {M A : Type 0} → End M A → Option Version → List Item → List A
+taken_by e (Some v) xs = taken_in e v xs
+taken_by e None xs = []
+
+-- what an end takes the items of its stream as, the oldest first: what opens it, and what follows
+abbrev pub taken : {M A : Type 0} → End M A → List Item → List A
+taken e (Opening bytes ∷ xs) = e.opening bytes ∷ taken_by e (e.version (e.opening bytes)) xs
+taken e xs = []
+
 -- What a server takes a whole item of the bytes as: an offer, with the version taken of it, or none; an offer that doesn't begin
 -- with the magic; a no-op; a request; bytes that stand for no request; the header that takes a message past its limit.
 pub data Arrival : Type 0 where
@@ -31,28 +68,38 @@ abbrev pub arrival_of_offer : List ℕ → Arrival
 arrival_of_offer bytes =
     if bytes_eq (take 4 bytes) magic then Shook (version_taken (drop 4 bytes)) else NoMagic
 
+-- the version that was taken of an offer
+abbrev pub version_shaken : Arrival → Option Version
+version_shaken (Shook o) = o
+version_shaken a = None
+
+-- how a server takes the items of its stream: an offer opens it, and then it reads requests
+abbrev pub server_end : End RequestView Arrival
+server_end = record {
+  opening = arrival_of_offer;
+  version = version_shaken;
+  idle = Idle;
+  read = request_of;
+  message = Asked;
+  unread = Unread;
+  past = TooLong;
+}
+
 -- after bytes that stand for no request nothing is read
 abbrev pub then_request : Result RequestView MsgFault → List Arrival → List Arrival
-then_request (Ok m) rest = Asked m ∷ rest
-then_request (Err e) rest = Unread e ∷ []
+then_request r rest = then_read server_end r rest
 
 -- what a server takes the items after an offer as, up to the first after which nothing is read
 abbrev pub requests_in : Version → List Item → List Arrival
-requests_in v [] = []
-requests_in v (Opening bytes ∷ xs) = []
-requests_in v (Noop ∷ xs) = Idle ∷ requests_in v xs
-requests_in v (Message b ∷ xs) = then_request (request_of v b) (requests_in v xs)
-requests_in v (TooBig ∷ xs) = TooLong ∷ []
+requests_in v xs = taken_in server_end v xs
 
 -- requests are read by the version that was taken, and where none was, nothing is
 abbrev pub after_shake : Arrival → List Item → List Arrival
-after_shake (Shook (Some v)) xs = requests_in v xs
-after_shake a xs = []
+after_shake a xs = taken_by server_end (version_shaken a) xs
 
 -- what a server takes the items of a stream as: the offer, and what follows it
 abbrev pub arrivals_of : List Item → List Arrival
-arrivals_of (Opening bytes ∷ xs) = arrival_of_offer bytes ∷ after_shake (arrival_of_offer bytes) xs
-arrivals_of xs = []
+arrivals_of xs = taken server_end xs
 
 -- what arrives at a server, the oldest first
 abbrev pub arrivals : List ℕ → List Arrival
@@ -152,32 +199,42 @@ heard_among (v ∷ vs) bytes =
 abbrev pub heard_version : List ℕ → Heard
 heard_version bytes = heard_among versions bytes
 
+-- the version that was answered
+abbrev pub version_chosen : Heard → Option Version
+version_chosen (Chosen o) = o
+version_chosen h = None
+
+-- how a client takes the items of its stream: a version answer opens it, and then it reads responses
+abbrev pub client_end : End ResponseView Heard
+client_end = record {
+  opening = heard_version;
+  version = version_chosen;
+  idle = Quiet;
+  read = response_of;
+  message = Told;
+  unread = Unheard;
+  past = Over;
+}
+
 -- after bytes that stand for no response nothing is read
 abbrev pub then_response : Result ResponseView MsgFault → List Heard → List Heard
-then_response (Ok m) rest = Told m ∷ rest
-then_response (Err e) rest = Unheard e ∷ []
+then_response r rest = then_read client_end r rest
 
 -- what a client takes the items after its version as, up to the first after which nothing is heard
 abbrev pub heard_in : Version → List Item → List Heard
-heard_in v [] = []
-heard_in v (Opening bytes ∷ xs) = []
-heard_in v (Noop ∷ xs) = Quiet ∷ heard_in v xs
-heard_in v (Message b ∷ xs) = then_response (response_of v b) (heard_in v xs)
-heard_in v (TooBig ∷ xs) = Over ∷ []
+heard_in v xs = taken_in client_end v xs
 
 -- responses are read by the version that was answered, and where none was, nothing is
 abbrev pub after_version : Heard → List Item → List Heard
-after_version (Chosen (Some v)) xs = heard_in v xs
-after_version h xs = []
+after_version h xs = taken_by client_end (version_chosen h) xs
 
 -- what a client takes the items of a stream as: the version answer, and what follows it
 abbrev pub heard_of : List Item → List Heard
-heard_of (Opening bytes ∷ xs) = heard_version bytes ∷ after_version (heard_version bytes) xs
-heard_of xs = []
+heard_of xs = taken client_end xs
 
--- what a client hears, the newest first
+-- what a client hears, with the newest first, as what a server says is told
 abbrev pub hears : List ℕ → List Heard
-hears bytes = reverse (heard_of (reverse (items_heard bytes)))
+hears bytes = reverse (heard_of (items_heard bytes))
 
 -- the bytes with which a server says it, empty where it can't be said
 abbrev pub heard_bytes : Version → Heard → List ℕ

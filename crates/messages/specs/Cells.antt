@@ -4,10 +4,9 @@ use Rattle.packstream.specs.declared.fault.Reason.{Reason as PackReason}
 use Rattle.packstream.specs.Tree.{Tree}
 use Rattle.packstream.specs.Making.{first_fault, faults_in}
 use Rattle.wire.specs.declared.Version.{Version}
-use Rattle.structures.specs.declared.fault.Reason.{Reason as CellReason}
-use Rattle.structures.specs.declared.fault.CellFault.TheVariants as cell_fault
-use Rattle.structures.specs.Faults.{scan, structures}
-use Rattle.structures.specs.Writing.{fault_of_structure}
+use Rattle.cells.specs.declared.fault.Reason.{Reason as CellReason}
+use Rattle.cells.specs.Faults.{scan, structures}
+use Rattle.cells.specs.Writing.{fault_of_structure}
 use Rattle.structures.specs.Form.{form}
 use Rattle.messages.specs.declared.fault.MsgFault.{MsgFault}
 use Rattle.messages.specs.declared.fault.MsgFault.TheVariants as fault
@@ -15,12 +14,12 @@ use Rattle.messages.specs.declared.fault.MsgFault.TheVariants as fault
 -- a value after a search for its faults: itself, or the first fault with its preorder number
 abbrev pub value_by : Result ℕ (PackReason × ℕ) → Tree → Result Tree MsgFault
 value_by (Ok n) t = Ok t
-value_by (Err e) t = Err (fault.Cell (cell_fault.Pack e.0 e.1))
+value_by (Err e) t = Err (fault.CellPack e.0 e.1)
 
 -- a form after a search of its cell's structures: their first fault, else its own, else itself
 abbrev pub form_by : Result ℕ (CellReason × ℕ) → Tree → Result Tree MsgFault
 form_by (Ok n) t = value_by (first_fault (faults_in 0 false t) 0) t
-form_by (Err e) t = Err (fault.Cell (cell_fault.Refused e.0 e.1))
+form_by (Err e) t = Err (fault.Cell e.0 e.1)
 
 -- the form of a cell, seen as its tree; or its first fault, numbered within the field
 abbrev pub cell_put : Version → Tree → Result Tree MsgFault

@@ -2,7 +2,6 @@
 use Rattle.std.specs.Prelude.{if◌then◌else◌, ◌≡◌, ◌⊎◌, ℕ, List, [], ◌∷◌, codes, None, Some, Result, Ok, Err}
 use Rattle.std.specs.Str.{bytes_eq}
 use Rattle.packstream.specs.declared.fault.Reason.{Reason}
-use Rattle.packstream.specs.declared.fault.PackFault.TheVariants as pack
 use Rattle.packstream.specs.Tree.{Tree, null, int, text, list, dict, Trees, no_trees, tree_then, Entries, no_entries, entry_then}
 use Rattle.packstream.specs.Good.{IsGood}
 use Rattle.packstream.specs.Spelling.{Spells}
@@ -19,15 +18,22 @@ use Rattle.messages.specs.Table.{Row, requests, responses, HELLO, LOGON, LOGOFF,
 use Rattle.messages.specs.View.{AuthView, RequestView, Hello, Logon, Logoff, Goodbye, Reset, Run, Begin, Commit, Rollback, Discard, Pull, ResponseView, Success, Record, Ignored, Failure}
 use Rattle.messages.specs.Reading.{◌>>=◌, Contents, contents, contents_of_message, request_contents, response_contents}
 
+-- the bytes spell a good value of which this is said
+pub record SpellsWhere (b : List ℕ) (Says : Tree → Type 0) : Type 0 where
+  pub value : Tree
+  pub good : IsGood value
+  pub spelled : Spells value b
+  pub says : Says value
+
 -- the bytes spell a value that says this by the table
 abbrev pub Means : Version → List Row → Contents → List ℕ → Type 0
-Means v table s b = (t : Tree) × IsGood t × Spells t b × (contents_of_message v table t ≡ Ok s)
+Means v table s b = SpellsWhere b (λ t. contents_of_message v table t ≡ Ok s)
 
 -- the bytes spell no value, or one with this fault by the table
 abbrev pub IsNone : Version → List Row → MsgFault → List ℕ → Type 0
 IsNone v table e b =
-    ((r : Reason) × (o : ℕ) × (e ≡ fault.Pack (pack.Refused r o)) × Bad b o r)
-    ⊎ ((t : Tree) × IsGood t × Spells t b × (contents_of_message v table t ≡ Err e))
+    ((r : Reason) × (o : ℕ) × (e ≡ fault.Pack r o) × Bad b o r)
+    ⊎ SpellsWhere b (λ t. contents_of_message v table t ≡ Err e)
 
 -- the bytes stand for this request, or this response; or they have this fault
 abbrev pub Req : Version → RequestView → List ℕ → Type 0
@@ -60,7 +66,7 @@ UnlessMemory (Err e) p = (e ≡ fault.Memory → ⊥) → p
 -- what bytes say by the table, from what the decoder tells of them
 abbrev pub contents_by : Version → List Row → Result Tree (Reason × ℕ) → Result Contents MsgFault
 contents_by v table (Ok t) = contents_of_message v table t
-contents_by v table (Err e) = Err (fault.Pack (pack.Refused e.0 e.1))
+contents_by v table (Err e) = Err (fault.Pack e.0 e.1)
 
 -- what the bytes of a message say by the table, or their fault
 abbrev pub contents_in : Version → List Row → List ℕ → Result Contents MsgFault

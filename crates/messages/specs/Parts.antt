@@ -40,14 +40,22 @@ abbrev pub members_of_list : Tree → Result Trees MsgFault
 members_of_list (list ts) = Ok ts
 members_of_list t = Err fault.Fields
 
--- the members of the only field, a list; other fields are a fault
-abbrev pub only_list : Trees → Result Trees MsgFault
-only_list ts = one_field ts >>= members_of_list
+-- what the fields of a RUN are
+pub record RunParts : Type 0 where
+  pub text : List ℕ
+  -- a dictionary of cells as it stands
+  pub parameters : Tree
+  -- the entries of the last field
+  pub entries : Entries
 
--- a text, a dictionary of cells as it stands, and the entries of the last field
-abbrev pub run_parts : Trees → Result (List ℕ × Tree × Entries) MsgFault
+-- the parts of a RUN
+abbrev pub parts : List ℕ → Tree → Entries → RunParts
+parts s t es = record { text = s; parameters = t; entries = es }
+
+-- the parts of three fields: a text and two dictionaries; other fields are a fault
+abbrev pub run_parts : Trees → Result RunParts MsgFault
 run_parts (tree_then (text s) (tree_then (dict ps) (tree_then (dict es) no_trees))) =
-    Ok (s, dict ps, es)
+    Ok (parts s (dict ps) es)
 run_parts ts = Err fault.Fields
 
 -- who a client is

@@ -5,9 +5,8 @@ use Rattle.std.specs.Ordering.{int_eq}
 use Rattle.std.specs.Str.{bytes_eq}
 use Rattle.packstream.specs.Tree.{Tree, null, int, text, list, dict, structure, Trees, no_trees, tree_then, Entries, no_entries, entry_then}
 use Rattle.wire.specs.declared.Version.{Version}
-use Rattle.structures.specs.declared.fault.Reason.{Reason as CellReason}
-use Rattle.structures.specs.declared.fault.CellFault.TheVariants as cell_fault
-use Rattle.structures.specs.Faults.{scan, fault as structure_fault, structures}
+use Rattle.cells.specs.declared.fault.Reason.{Reason as CellReason}
+use Rattle.cells.specs.Faults.{scan, fault as structure_fault, structures}
 use Rattle.structures.specs.Form.{typed}
 use Rattle.messages.specs.declared.fault.MsgFault.{MsgFault}
 use Rattle.messages.specs.declared.fault.MsgFault.TheVariants as fault
@@ -123,7 +122,7 @@ contents_of_entries v ks ts = Ok []
 -- A field as a cell of the version, or the fault of its first structure with one, numbered within the field.
 abbrev pub cell_by : Result ℕ (CellReason × ℕ) → Tree → Result Tree MsgFault
 cell_by (Ok n) t = Ok (typed t)
-cell_by (Err e) t = Err (fault.Cell (cell_fault.Refused e.0 e.1))
+cell_by (Err e) t = Err (fault.Cell e.0 e.1)
 
 -- a field as a cell of the version, or the fault of its first structure with one
 abbrev pub cell_of_field : Version → Tree → Result Tree MsgFault

@@ -2,12 +2,11 @@
 use Rattle.std.specs.Prelude.{◌≡◌, ◌≢◌, ◌≤◌, ℕ, pos, negsuc, List, [], ◌∷◌, ◌++◌, true, false, Option, None, Some, All, Any, Contains, codes}
 use Rattle.packstream.specs.Tree.{Tree, null, int, text, list, dict, structure, Trees, no_trees, tree_then, Entries, no_entries, entry_then}
 use Rattle.packstream.specs.Faults.{keys_of}
-use Rattle.packstream.specs.Good.{IsGood}
-use Rattle.packstream.specs.Spelling.{Spells}
 use Rattle.wire.specs.declared.Version.{Version}
 use Rattle.structures.specs.Form.{Form}
 use Rattle.messages.specs.Table.{Holds, a_text, a_mode, a_count, last_query, Named, Others, ignored, refused, Field, text_field, cells, cell_list, extra, Name, Row, layout}
 use Rattle.messages.specs.Reading.{Contents, contents}
+use Rattle.messages.specs.Messages.{SpellsWhere}
 
 -- the entry with a name, or that there is none; the keys of a good dictionary differ, so no other has that name
 pub data IsEntry (name : List ℕ) : Entries → Option Tree → Type 0 where
@@ -69,4 +68,4 @@ SaysMessage v table t s = (n : Name) × Contains table (layout n) × SaysRow v (
 
 -- the bytes spell a value of which a row of the table says it
 abbrev pub IsSpelled : Version → List Row → Contents → List ℕ → Type 0
-IsSpelled v table s b = (t : Tree) × IsGood t × Spells t b × SaysMessage v table t s
+IsSpelled v table s b = SpellsWhere b (λ t. SaysMessage v table t s)

@@ -19,8 +19,10 @@ abbrev pub IsCell : Version → Tree → Type 0
 IsCell v s = (t : Tree) × IsPlain t × Form v s t
 
 -- scheme, principal and credentials are UTF-8
-abbrev pub HasTexts : AuthView → Type 0
-HasTexts l = IsUtf8 l.scheme × IsUtf8 l.principal × IsUtf8 l.credentials
+pub record HasTexts (l : AuthView) : Type 0 where
+  pub scheme : IsUtf8 l.scheme
+  pub principal : IsUtf8 l.principal
+  pub credentials : IsUtf8 l.credentials
 
 -- where it is said who a client is, it is in UTF-8
 abbrev pub HasLogin : Option AuthView → Type 0

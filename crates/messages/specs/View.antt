@@ -1,7 +1,7 @@
 -- Requests and responses as plain data: texts by their bytes, cells by their trees.
 use Rattle.std.specs.Prelude.{ℕ, List, string_bytes, Option, None, Some}
 use Rattle.packstream.specs.Tree.{Tree}
-use Rattle.structures.specs.Shape.{shapes, entries}
+use Rattle.cells.specs.Shape.{shapes, entries}
 use Rattle.messages.specs.declared.request.Mode.{Mode}
 use Rattle.messages.specs.declared.request.Count.{Count}
 use Rattle.messages.specs.declared.request.Auth.{Auth}

@@ -3,7 +3,6 @@
 use Rattle.std.specs.Prelude.{if◌then◌else◌, ◌≡◌, ℕ, pos, negsuc, int_le, nat_lt, List, [], ◌∷◌, ◌++◌, length, false, codes, Result, Ok, Err}
 use Rattle.std.specs.Str.{bytes_eq}
 use Rattle.packstream.specs.declared.fault.Reason.{Reason as PackReason}
-use Rattle.packstream.specs.declared.fault.PackFault.TheVariants as pack
 use Rattle.packstream.specs.Tree.{Tree, null, int, text, dict, structure, Trees, no_trees, tree_then, Entries, no_entries, entry_then}
 use Rattle.packstream.specs.Canon.{canon}
 use Rattle.packstream.specs.Making.{first_fault, faults_in}
@@ -92,7 +91,7 @@ form_put v (contents n fs xs) = row_put v (layout n) fs xs
 -- The spelling of a structure.
 abbrev pub packed_by : Result ℕ (PackReason × ℕ) → Tree → Result Tree MsgFault
 packed_by (Ok n) t = Ok t
-packed_by (Err e) t = Err (fault.Pack (pack.Refused e.0 e.1))
+packed_by (Err e) t = Err (fault.Pack e.0 e.1)
 
 -- the shortest spelling of a value, or that it has more than 65,536 bytes
 abbrev pub spelling_within : Tree → Result (List ℕ) MsgFault

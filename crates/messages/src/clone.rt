@@ -1,6 +1,6 @@
 //! `clone` of requests, written out since a derived one says nothing of types that hold cells.
 ghost use Rattle.std.specs.Prelude.{◌≡◌, IfOk};
-ghost use Rattle.structures.specs.Shape.{entries};
+ghost use Rattle.cells.specs.Shape.{entries};
 ghost use Rattle.messages.specs.View.{request_view, auth_view, auth_in};
 
 use crate::request::{Auth, Request};

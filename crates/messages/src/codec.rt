@@ -89,7 +89,7 @@ fn put(value: Value, out: &mut BytesMut) -> Result<(), MsgFault>
 }
 
 /// Appends the one spelling that is written of a request, the shortest (PackStream version 1), or nothing: the fault is the
-/// first of `UnknownTag`, `Extra`, `Cell`, `Pack` and `Size`, unless memory ran out.
+/// first of `UnknownTag`, `Extra`, `Cell`, `CellPack`, `Pack` and `Size`, unless memory ran out.
 /// What is written reads back as the request.
 #[tactic(auto, unfolding(crate::specs::Writing::request_spelling))]
 pub fn write_request(
@@ -108,7 +108,7 @@ pub fn write_request(
 }
 
 /// Appends the one spelling that is written of a response, the shortest (PackStream version 1), or nothing: the fault is
-/// the first of `Cell`, `Pack` and `Size`, unless memory ran out.
+/// the first of `Cell`, `CellPack`, `Pack` and `Size`, unless memory ran out.
 /// What is written reads back as the response.
 #[tactic(auto, unfolding(crate::specs::Writing::response_spelling))]
 pub fn write_response(

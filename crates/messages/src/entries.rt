@@ -2,7 +2,7 @@
 ghost use Rattle.std.specs.Prelude.{◌≡◌, codes, MatchOption, IsNone, Some, None, ◌∷◌, []};
 ghost use Rattle.packstream.specs.View.{tree, entries, entries_of};
 ghost use Rattle.packstream.specs.Tree.{text};
-ghost use Rattle.structures.specs.Shape.{text_of};
+ghost use Rattle.cells.specs.Shape.{text_of};
 ghost use Rattle.messages.specs.Reading.{Answers, lookup, contents_of_text, contents_of_mode, contents_of_count, contents_of_query, mode_tree, count_tree, login_trees, all_named, contents_of_extra};
 ghost use Rattle.messages.specs.Parts.{contents_of_login, Seen};
 ghost use Rattle.messages.specs.Table.{refused, how_many};

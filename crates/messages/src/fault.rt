@@ -8,12 +8,12 @@ use structures::CellFault;
 use thiserror::Error;
 
 /// Why bytes are no message of a version, or a message can't be written at it. The texts are the codes that programs
-/// print; a fault of a value or of cells prints as itself.
+/// print; what is wrong with a value or with cells prints as it does alone, with its place.
 #[derive(Debug, Drop, Error)]
 pub enum MsgFault {
-    /// M1: the bytes spell no value, or the message is too deep to be one; never for want of memory.
-    #[error("{0}")]
-    Pack(PackFault),
+    /// M1: the bytes spell no value, or the message is too deep to be one: what is wrong, and its place.
+    #[error("{0} at {1}")]
+    Pack(packstream::Reason, usize),
     /// M2: the value is no structure.
     #[error("M2")]
     NotAMessage,
@@ -26,10 +26,13 @@ pub enum MsgFault {
     /// M5: a named entry is missing, of another kind or out of range, or an entry isn't allowed there.
     #[error("M5")]
     Extra,
-    /// M6: the fault of the cells in parameters, metadata or a record, numbered within that field; never for want of
-    /// memory.
-    #[error("{0}")]
-    Cell(CellFault),
+    /// M6: a structure in parameters, metadata or a record: S1 to S6, and its number within that field.
+    #[error("{0} at {1}")]
+    Cell(structures::Reason, usize),
+    /// M6: the written value of parameters, metadata or a record has a key twice or is too deep: P5 or P6, with its
+    /// place within that field.
+    #[error("{0} at {1}")]
+    CellPack(packstream::Reason, usize),
     /// M7: memory ran out.
     #[error("out of memory")]
     Memory,
@@ -62,7 +65,7 @@ impl From<PackFault> for MsgFault {
     fn from(fault: PackFault) -> MsgFault {
         match fault {
             PackFault::Memory => MsgFault::Memory,
-            PackFault::Refused(reason, place) => MsgFault::Pack(PackFault::Refused(reason, place)),
+            PackFault::Refused(reason, place) => MsgFault::Pack(reason, place),
         }
     }
 }
@@ -75,10 +78,8 @@ impl From<CellFault> for MsgFault {
     fn from(fault: CellFault) -> MsgFault {
         match fault {
             CellFault::Memory => MsgFault::Memory,
-            CellFault::Refused(reason, number) => MsgFault::Cell(CellFault::Refused(
-                reason, number,
-            )),
-            CellFault::Pack(reason, place) => MsgFault::Cell(CellFault::Pack(reason, place)),
+            CellFault::Refused(reason, number) => MsgFault::Cell(reason, number),
+            CellFault::Pack(reason, place) => MsgFault::CellPack(reason, place),
         }
     }
 }

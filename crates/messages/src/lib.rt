@@ -5,12 +5,12 @@
 #![tactic(auto)]
 
 mod building;
-mod cells;
 mod clone;
 mod codec;
 mod entries;
 mod fault;
 pub mod laws;
+mod of_fields;
 mod of_packed;
 mod reading;
 mod request;

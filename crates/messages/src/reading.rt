@@ -2,17 +2,17 @@
 ghost use Rattle.std.specs.Prelude.{◌≡◌, ◌∷◌, [], Ok, IfOk};
 ghost use Rattle.packstream.specs.Tree.{Tree, text, list, dict, Trees, Entries};
 ghost use Rattle.packstream.specs.View.{tree, trees, trees_of, entries as value_entries, entries_of};
-ghost use Rattle.structures.specs.Shape.{shape, shapes, entries};
+ghost use Rattle.cells.specs.Shape.{shape, shapes, entries};
 ghost use Rattle.wire.specs.declared.Version.{Version as AnyVersion};
 ghost use Rattle.wire.specs.Versions.{every_version};
 ghost use Rattle.messages.specs.Table.{ignored, refused, extra, text_field, cells, cell_list, hello, credentials, mode_alone, how_many, of_error, Name, HELLO, LOGON, LOGOFF, GOODBYE, RESET, RUN, BEGIN, COMMIT, ROLLBACK, DISCARD, PULL, SUCCESS, RECORD, IGNORED, FAILURE, requests, responses};
 ghost use Rattle.messages.specs.View.{request_view, response_view};
 ghost use Rattle.messages.specs.Reading.{contents, Answers, contents_of_row, cell_of_field, contents_at_tag, request_contents, response_contents, count_tree};
-ghost use Rattle.messages.specs.Parts.{contents_of_plain, contents_of_run, entries_of_dict, members_of_list, only_dict, only_list, run_parts, field_text, no_field, one_field};
+ghost use Rattle.messages.specs.Parts.{contents_of_plain, contents_of_run, entries_of_dict, members_of_list, only_dict, parts, run_parts, field_text, no_field, one_field};
 
-use crate::cells::{cells_in, row_in};
 use crate::entries::{auth_of, count_in, mode_in, text_in};
 use crate::fault::MsgFault;
+use crate::of_fields::{cells_in, row_in};
 use crate::request::Request;
 use crate::response::Response;
 use crate::tags;
@@ -195,8 +195,9 @@ fn text_in_field(field: &Value) -> Result<&str, MsgFault>
 
 /// The text, the parameters and the other entries of a RUN.
 fn run_fields(fields: &[Value]) -> Result<(&str, &Value, &[(String, Value)]), MsgFault>
-    ensures { Answers (λ x. (x.0.now, tree x.1.now, entries_of (value_entries x.2.now))) result
-        (run_parts (trees_of (trees fields.now))) }
+    ensures { Answers
+        (λ x. parts x.0.now (tree x.1.now) (entries_of (value_entries x.2.now)))
+        result (run_parts (trees_of (trees fields.now))) }
 {
     if fields.len() != 3 {
         return Err(MsgFault::Fields);

@@ -5,13 +5,15 @@ use Rattle.packstream.specs.Tree.{Tree, null, boolean, int, float, byte_string, 
 use Rattle.packstream.specs.Good.{count}
 use Rattle.wire.specs.declared.Version.{Version}
 use Rattle.wire.specs.declared.Version.TheVariants.{V44, V51}
-use Rattle.structures.specs.Table.{row_in, table}
-use Rattle.structures.specs.Faults.{moment_fields, is_int, are_kinds, to_utc, fault, structures, structures_in, structures_under}
+use Rattle.cells.specs.Table.{row_in, table}
+use Rattle.cells.specs.Faults.{moment_fields, is_int, are_kinds, to_utc, fault, structures, structures_in, structures_under}
+use Rattle.cells.specs.Steps.{all_fine}
+use Rattle.cells.specs.Cells.{is_typed, are_typed, have_typed, is_row}
+use Rattle.cells.proofs.Both.{and_left, and_right}
+use Rattle.cells.proofs.Fine.{fine_itself, fine_within, fine_left, fine_right}
 use Rattle.structures.specs.Form.{typed, typed_all, typed_under, form, form_all, form_under, moment, to_local}
-use Rattle.structures.specs.Steps.{all_fine}
-use Rattle.structures.specs.Cells.{is_typed, are_typed, have_typed, is_row}
-use Rattle.structures.proofs.Got.{and_left, and_right, passed}
-use Rattle.structures.proofs.Fine.{fine_itself, fine_within, fine_left, fine_right}
+use Rattle.structures.specs.Laying.{date_time_fields as three}
+use Rattle.structures.proofs.Got.{passed}
 
 pub there_and_back : (u o : ℤ) → (u +ℤ o) -ℤ o ≡ u
 there_and_back u o = omega (arith, ints)
@@ -65,9 +67,6 @@ an_int (text s) h = absurd cc
 an_int (list ts) h = absurd cc
 an_int (dict es) h = absurd cc
 an_int (structure tag ts) h = absurd cc
-
-abbrev pub three : ℤ → ℤ → ℤ → Trees
-three a b d = tree_then (int a) (tree_then (int b) (tree_then (int d) no_trees))
 
 -- the three numbers of a DateTime
 pub record Three (ts : Trees) : Type 0 where

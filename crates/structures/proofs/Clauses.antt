@@ -5,25 +5,25 @@ use Rattle.packstream.specs.Good.{IsGood}
 use Rattle.packstream.specs.Tree.{Tree}
 use Rattle.packstream.proofs.Checking.{bad_when}
 use Rattle.wire.specs.declared.Version.{Version}
-use Rattle.structures.specs.declared.cell.Cell.{Cell}
-use Rattle.structures.specs.declared.fault.Reason.{Reason}
+use Rattle.cells.specs.declared.cell.Cell.{Cell}
+use Rattle.cells.specs.declared.fault.Reason.{Reason}
+use Rattle.cells.specs.Faults.{IsBad, IsFine}
+use Rattle.cells.specs.Shape.{shape}
+use Rattle.cells.specs.Writing.{IsWritable, IsUnwritable}
+use Rattle.cells.proofs.Scanning.{Found}
 use Rattle.structures.specs.declared.fault.CellFault.{CellFault}
 use Rattle.structures.specs.declared.fault.CellFault.TheVariants as fault
-use Rattle.structures.specs.Answers.{Reads, Writes, Gave, UnlessMemory, IsUnpacked, HasOneReading}
-use Rattle.structures.specs.Faults.{IsBad, IsFine}
+use Rattle.structures.specs.Answers.{Reads, Writes, HasGoodForm, HasBadForm, Gave, UnlessMemory, IsUnpacked, HasOneReading}
 use Rattle.structures.specs.Form.{Form}
-use Rattle.structures.specs.Shape.{shape}
-use Rattle.structures.specs.Writing.{IsWritable, IsUnwritable}
-use Rattle.structures.proofs.Fine.{one_reading_is}
+use Rattle.structures.proofs.OneReading.{one_reading_is}
 use Rattle.structures.proofs.OneWriting.{same_form}
-use Rattle.structures.proofs.Scanning.{Found}
 
 module _ (v : Version) (t : Tree) where
   no_pack : (q : PackReason) (o : ℕ) → HasOneReading v t
       → ((s : Tree) → ⊥ ↔ Form v s t)
       → ((r : Reason) (k : ℕ) → (◌≡◌ {A = Result Cell CellFault} (Err (fault.Pack q o)) (Err (fault.Refused r k))) ↔ IsBad v t k r) → ⊥
-  no_pack q o (inl h) cell bad = (cell h.0).1 h.1
-  no_pack q o (inr h) cell bad = let e = (bad h.1 h.0).1 h.2 in cc
+  no_pack q o (inl h) cell bad = (cell h.cell).1 h.formed
+  no_pack q o (inr h) cell bad = let e = (bad h.why h.number).1 h.bad in cc
 
   -- the clauses are all
   pub reads_by : (r : Result Cell CellFault) → ((s : Tree) → UnlessMemory r (Gave r s ↔ Form v s t))
@@ -47,36 +47,53 @@ one_unpacked : (t : Tree) (q r : PackReason) (o p : ℕ) → IsUnpacked t q o �
 one_unpacked t q r o p a b = let both : ◌≡◌ {A = Result ℕ (PackReason × ℕ)} (Err (q, o)) (Err (r, p)) = sym a ∙ b in let same : (q, o) ≡ (r, p) = cc in ap (λ (x : PackReason × ℕ). Err (fault.Pack x.0 x.1)) same
 
 module _ (v : Version) (s : Tree) where
-  pub writes_value : (r : Result Tree CellFault) → Writes v s r → (t : Tree) → UnlessMemory r ((r ≡ Ok t) ↔ (IsWritable v s × Form v s t × IsGood t))
-  writes_value (Ok u) w t = ((λ e. subst (λ r. Writes v s r) e w), (λ h. ap (λ x. Ok x) (same_form v s u t w.1 h.1)))
-  writes_value (Err (fault.Refused q k)) w t = ((λ e. absurd cc), (λ h. absurd (never_both v s k q h.0 w)))
+  -- the fault of the cell's form
+  unpacked_of : (t : Tree) → Form v s t → (q : PackReason) (o : ℕ) → HasBadForm v s q o
+      → IsUnpacked t q o
+  unpacked_of t f q o h =
+      subst (λ x. IsUnpacked x q o) (same_form v s h.value t h.formed f) h.unpacked
+
+  both_forms : (t : Tree) → HasGoodForm v s t → (q : PackReason) (o : ℕ) → HasBadForm v s q o → ⊥
+  both_forms t g q o h = good_or_not t q o g.good (unpacked_of t g.formed q o h)
+
+  pub writes_value : (r : Result Tree CellFault) → Writes v s r → (t : Tree)
+      → UnlessMemory r ((r ≡ Ok t) ↔ HasGoodForm v s t)
+  writes_value (Ok u) w t = (
+    (λ e. subst (λ r. Writes v s r) e w),
+    (λ h. ap (λ x. Ok x) (same_form v s u t w.formed h.formed)),
+  )
+  writes_value (Err (fault.Refused q k)) w t =
+      ((λ e. absurd cc), (λ h. absurd (never_both v s k q h.writable w)))
   writes_value (Err fault.Memory) w t = tt
-  writes_value (Err (fault.Pack q o)) w t =
-      ((λ e. absurd cc), (λ h. absurd (good_or_not t q o h.2 (subst (λ x. IsUnpacked x q o) (same_form v s w.1.0 t w.1.1 h.1) w.1.2))))
+  writes_value (Err (fault.Pack q o)) w t = ((λ e. absurd cc), (λ h. absurd (both_forms t h q o w)))
 
   pub writes_fault : (r : Result Tree CellFault) → Writes v s r → (q : Reason) (k : ℕ) → UnlessMemory r ((r ≡ Err (fault.Refused q k)) ↔ IsUnwritable v s k q)
-  writes_fault (Ok u) w q k = ((λ e. absurd cc), (λ h. absurd (never_both v s k q w.0 h)))
+  writes_fault (Ok u) w q k = ((λ e. absurd cc), (λ h. absurd (never_both v s k q w.writable h)))
   writes_fault (Err (fault.Refused p j)) w q k = ((λ e. subst (λ r. Writes v s r) e w), (λ h. one_unwritable v s j k p q w h))
   writes_fault (Err fault.Memory) w q k = tt
-  writes_fault (Err (fault.Pack p o)) w q k = ((λ e. absurd cc), (λ h. absurd (never_both v s k q w.0 h)))
+  writes_fault (Err (fault.Pack p o)) w q k =
+      ((λ e. absurd cc), (λ h. absurd (never_both v s k q w.writable h)))
 
   pub writes_pack : (r : Result Tree CellFault) → Writes v s r → (q : PackReason) (o : ℕ)
-      → UnlessMemory r ((r ≡ Err (fault.Pack q o)) ↔ (IsWritable v s × ((t : Tree) × Form v s t × IsUnpacked t q o)))
-  writes_pack (Ok u) w q o =
-      ((λ e. absurd cc), (λ h. absurd (good_or_not u q o w.2 (subst (λ x. IsUnpacked x q o) (same_form v s h.1.0 u h.1.1 w.1) h.1.2))))
-  writes_pack (Err (fault.Refused p j)) w q o = ((λ e. absurd cc), (λ h. absurd (never_both v s j p h.0 w)))
+      → UnlessMemory r ((r ≡ Err (fault.Pack q o)) ↔ HasBadForm v s q o)
+  writes_pack (Ok u) w q o = ((λ e. absurd cc), (λ h. absurd (both_forms u w q o h)))
+  writes_pack (Err (fault.Refused p j)) w q o =
+      ((λ e. absurd cc), (λ h. absurd (never_both v s j p h.writable w)))
   writes_pack (Err fault.Memory) w q o = tt
-  writes_pack (Err (fault.Pack p i)) w q o =
-      ((λ e. subst (λ r. Writes v s r) e w), (λ h. one_unpacked w.1.0 p q i o w.1.2 (subst (λ x. IsUnpacked x q o) (same_form v s h.1.0 w.1.0 h.1.1 w.1.1) h.1.2)))
+  writes_pack (Err (fault.Pack p i)) w q o = (
+    (λ e. subst (λ r. Writes v s r) e w),
+    (λ h. one_unpacked w.value p q i o w.unpacked (unpacked_of w.value w.formed q o h)),
+  )
 
   pub writes_memory : (r : Result Tree CellFault) → Writes v s r → r ≡ Err fault.Memory → IsWritable v s
   writes_memory r w e = subst (λ r. Writes v s r) e w
 
   -- the clauses are all
   pub writes_by : (r : Result Tree CellFault)
-      → ((t : Tree) → UnlessMemory r ((r ≡ Ok t) ↔ (IsWritable v s × Form v s t × IsGood t)))
+      → ((t : Tree) → UnlessMemory r ((r ≡ Ok t) ↔ HasGoodForm v s t))
       → ((q : Reason) (k : ℕ) → UnlessMemory r ((r ≡ Err (fault.Refused q k)) ↔ IsUnwritable v s k q))
-      → ((q : PackReason) (o : ℕ) → UnlessMemory r ((r ≡ Err (fault.Pack q o)) ↔ (IsWritable v s × ((t : Tree) × Form v s t × IsUnpacked t q o))))
+      → ((q : PackReason) (o : ℕ)
+      → UnlessMemory r ((r ≡ Err (fault.Pack q o)) ↔ HasBadForm v s q o))
       → (r ≡ Err fault.Memory → IsWritable v s) → Writes v s r
   writes_by (Ok u) value bad pack memory = (value u).0 refl
   writes_by (Err (fault.Refused q k)) value bad pack memory = (bad q k).0 refl

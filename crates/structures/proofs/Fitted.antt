@@ -4,16 +4,15 @@ use Rattle.packstream.specs.Tree.{Tree, int, list, dict, structure, tree_then, e
 use Rattle.packstream.specs.View.{trees_of, entries_of}
 use Rattle.wire.specs.declared.Version.{Version}
 use Rattle.wire.specs.declared.Version.TheVariants.{V44, V51}
-use Rattle.structures.specs.declared.cell.Cell.{Cell, Path, List as ListCase, Dict as DictCase}
-use Rattle.structures.specs.declared.cell.Cell.TheOpen.{Node-F, UnboundRelationship-F, Relationship-F}
-use Rattle.structures.specs.declared.cell.Cell.TheViews.{roll-Node, roll-UnboundRelationship, roll-Relationship}
-use Rattle.structures.specs.declared.cell.ElementIds.{ElementIds}
-use Rattle.structures.specs.declared.cell.Node.{Node}
-use Rattle.structures.specs.declared.cell.Relationship.{Relationship}
-use Rattle.structures.specs.declared.cell.UnboundRelationship.{UnboundRelationship}
+use Rattle.cells.specs.declared.cell.Cell.{Cell, Path, List as ListCase, Dict as DictCase}
+use Rattle.cells.specs.declared.cell.Cell.TheOpen.{Node-F, UnboundRelationship-F, Relationship-F}
+use Rattle.cells.specs.declared.cell.ElementIds.{ElementIds}
+use Rattle.cells.specs.declared.cell.Node.{Node, roll-Node}
+use Rattle.cells.specs.declared.cell.Relationship.{Relationship, roll-Relationship}
+use Rattle.cells.specs.declared.cell.UnboundRelationship.{UnboundRelationship, roll-UnboundRelationship}
+use Rattle.cells.specs.Shape.{shape, shapes, node_shape, unbound_shape, relationship_shape, text_of, texts_of, element_of, elements_of, entries, path_of}
+use Rattle.cells.proofs.Views.{Pair, node_parts, unbound_parts, relationship_parts, node-out, node-roll, unbound-out, unbound-roll, relationship-out, relationship-roll, shape-List, shape-Dict, shape-Path}
 use Rattle.structures.specs.Fitting.{fitted, fitted_all, fitted_under, fitted_entry, element_at, elements_at}
-use Rattle.structures.specs.Shape.{shape, shapes, node_shape, unbound_shape, relationship_shape, text_of, texts_of, element_of, elements_of, entries, path_of}
-use Rattle.structures.proofs.Views.{Pair, node_parts, unbound_parts, relationship_parts, node-out, node-roll, unbound-out, unbound-roll, relationship-out, relationship-roll, shape-List, shape-Dict, shape-Path}
 
 pub fitted_list : (v : Version) (ts : List Tree) → fitted_all v (trees_of ts) ≡ trees_of (map (fitted v) ts)
 fitted_list v [] = refl

@@ -5,30 +5,28 @@ use Rattle.packstream.specs.Tree.{Tree, null, boolean, int, float, byte_string, 
 use Rattle.packstream.specs.Good.{count}
 use Rattle.wire.specs.declared.Version.{Version}
 use Rattle.wire.specs.declared.Version.TheVariants.{V44, V51}
-use Rattle.structures.specs.declared.table.Field.{Field}
-use Rattle.structures.specs.declared.table.Field.TheVariants.{Integer, Nanosecond, DayNanosecond, Offset, UtcSecond, Float, Text, Labels, Properties, Nodes, Relationships, Indices}
-use Rattle.structures.specs.declared.fault.Reason.{Reason}
-use Rattle.structures.specs.declared.fault.Reason.TheVariants.{FieldCount, FieldKind, Range, PathShape}
-use Rattle.structures.specs.declared.cell.Cell.{Cell}
-use Rattle.structures.specs.Shape.{shape}
-use Rattle.structures.proofs.Typed.{typed_shape}
-use Rattle.structures.proofs.Faulty.{fault_is, wrong_is}
+use Rattle.cells.specs.declared.table.Field.{Field}
+use Rattle.cells.specs.declared.table.Field.TheVariants.{Integer, Nanosecond, DayNanosecond, Offset, UtcSecond, Float, Text, Labels, Properties, Nodes, Relationships, Indices}
+use Rattle.cells.specs.declared.fault.Reason.{Reason}
+use Rattle.cells.specs.declared.fault.Reason.TheVariants.{FieldCount, FieldKind, Range, PathShape}
+use Rattle.cells.specs.declared.cell.Cell.{Cell}
+use Rattle.cells.specs.Shape.{shape}
+use Rattle.cells.proofs.Typed.{typed_shape}
+use Rattle.cells.proofs.Faulty.{fault_is, wrong_is}
 use Rattle.wire.specs.Versions.{has_element_ids}
-use Rattle.structures.specs.Table.{Row, fields_at, fields_of, kinds, row_in, table}
+use Rattle.cells.specs.Table.{Row, fields_at, fields_of, kinds, row_in, table}
+use Rattle.cells.specs.Faults.{first_failed, to_utc, moment_fields, is_int, is_float, is_text, is_dict, has_tag, each, is_list_of, is_kind, are_kinds, in_range, are_in_range, is_path, fault, structures, structures_in, structures_under}
+use Rattle.cells.specs.Steps.{all_fine}
+use Rattle.cells.specs.Writing.{moment_tag, fault_of_structure, fault_of_structure_by}
+use Rattle.cells.specs.Cells.{has_count, is_row, is_typed, are_typed, have_typed}
+use Rattle.cells.proofs.Both.{and_left, and_right, both_true}
+use Rattle.cells.proofs.Fine.{scan_fine, fine_append, fine_itself, fine_within, fine_left, fine_right}
 use Rattle.structures.proofs.Standing.{stood}
-use Rattle.structures.specs.Faults.{first_failed, to_utc, moment_fields, is_int, is_float, is_text, is_dict, has_tag, each, is_list_of, is_kind, are_kinds, in_range, are_in_range, is_path, fault, structures, structures_in, structures_under}
 use Rattle.structures.specs.Form.{Form, form, form_all, form_under, moment}
-use Rattle.structures.specs.Steps.{all_fine}
-use Rattle.structures.specs.Writing.{moment_tag, fault_of_structure, fault_of_structure_by}
-use Rattle.structures.specs.Cells.{has_count, is_row, is_typed, are_typed, have_typed}
 use Rattle.structures.specs.Steps.{has_kinds}
-use Rattle.structures.proofs.Got.{and_left, and_right, le_true}
-use Rattle.structures.proofs.Back.{back, an_int, Three, three, three_ints, there_and_back}
-use Rattle.structures.proofs.Fine.{scan_fine, fine_append, fine_itself, fine_within, fine_left, fine_right}
-
-pub both_true : (a b : Bool) → a ≡ true → b ≡ true → (a && b) ≡ true
-both_true true b e f = f
-both_true false b e f = e
+use Rattle.structures.specs.Laying.{date_time_fields as three}
+use Rattle.structures.proofs.Got.{le_true}
+use Rattle.structures.proofs.Back.{back, an_int, Three, three_ints, there_and_back}
 
 int_same : (v : Version) (t : Tree) → is_int t ≡ true → form v t ≡ t
 int_same v t h = let x = an_int t h in subst (λ u. form v u ≡ u) (sym x.1) refl

@@ -1,20 +1,21 @@
 -- The fields of a structure.
-use Rattle.std.proofs.Common.{◌≡◌, ◌++◌, take, Result, IfOk, add-one, ℤ, pos, neg_ℤ, ◌-ℤ◌, ◌≤ℤ◌, int_le, ℕ, suc, zero, ◌+◌, ◌<◌, ◌≤◌, List, [], ◌∷◌, map, length, get_or, Bool, true, false, ◌&&◌, ◌==◌, cond, Option, Some, None, Ok, Err, refl, sym, ap, ◌∙◌, arith, eqb-true}
+use Rattle.std.proofs.Common.{◌≡◌, ◌++◌, take, Result, IfOk, add-one, ℤ, pos, neg_ℤ, ◌-ℤ◌, ◌≤ℤ◌, int_le, ℕ, suc, zero, ◌+◌, ◌<◌, ◌≤◌, List, [], ◌∷◌, map, length, get_or, Bool, true, false, ◌&&◌, ◌==◌, cond, Option, Some, None, Ok, Err, refl, sym, ap, ◌∙◌, arith, eqb-true, subst}
 use Rattle.std.proofs.lemmas.Int.{ints}
-use Rattle.packstream.specs.Tree.{Tree, null, int, Trees, no_trees, tree_then}
+use Rattle.packstream.specs.Tree.{Tree, null, int, structure, Trees, no_trees, tree_then, entry_then}
 use Rattle.packstream.specs.Good.{count}
-use Rattle.packstream.specs.View.{tree, trees, trees_of}
+use Rattle.packstream.specs.View.{tree, trees, trees_of, entries_of}
 use Rattle.packstream.specs.declared.value.Value.{Value}
-use Rattle.structures.specs.declared.table.Field.{Field}
 use Rattle.wire.specs.declared.Version.{Version}
 use Rattle.wire.specs.declared.Version.TheVariants.{V44, V51}
-use Rattle.structures.specs.declared.table.Field.TheVariants.{Integer, Text, Properties, Nodes, Relationships, Indices}
-use Rattle.structures.specs.declared.fault.Reason.{Reason}
-use Rattle.structures.specs.Table.{kinds}
-use Rattle.structures.specs.Faults.{moment_fields, to_utc, each, is_kind, are_kinds, are_in_range, utc_fields, is_path, wrong, fault, fault_by}
-use Rattle.structures.specs.Form.{typed, typed_all}
-use Rattle.structures.specs.Steps.{tree_at, ReadElements}
-use Rattle.structures.proofs.Faulty.{count_seen}
+use Rattle.cells.specs.declared.table.Field.{Field}
+use Rattle.cells.specs.declared.table.Field.TheVariants.{Integer, Text, Properties, Nodes, Relationships, Indices}
+use Rattle.cells.specs.declared.fault.Reason.{Reason}
+use Rattle.cells.specs.Table.{kinds}
+use Rattle.cells.specs.Faults.{moment_fields, to_utc, each, is_kind, are_kinds, are_in_range, utc_fields, is_path, wrong, fault, fault_by}
+use Rattle.cells.proofs.Both.{and_left, and_right}
+use Rattle.cells.proofs.Faulty.{count_seen}
+use Rattle.structures.specs.Form.{typed, typed_all, typed_under}
+use Rattle.structures.specs.Steps.{tree_at, ReadElements, typed_entry}
 
 pub at_some : (xs : List Value) (i : ℕ) (d : Value) → i < length xs → d ≡ get_or xs i d → tree_at i (trees_of (trees xs)) ≡ tree d
 at_some [] i d h e = absurd (omega arith)
@@ -36,14 +37,6 @@ got_tail : (i : ℕ) (ks : List Field) (us : Trees) (t : Tree) (ts : Trees) → 
 got_tail i [] us t ts h = h
 got_tail i (k ∷ ks) no_trees t ts h = h
 got_tail i (k ∷ ks) (tree_then u us) t ts h = (h.0, got_tail (suc i) ks us t ts h.1)
-
-pub and_left : (a b : Bool) → (a && b) ≡ true → a ≡ true
-and_left true b h = refl
-and_left false b h = h
-
-pub and_right : (a b : Bool) → (a && b) ≡ true → b ≡ true
-and_right true b h = h
-and_right false b h = absurd cc
 
 -- fields read by a list of kinds are the structure's fields
 pub fields_are : (ks : List Field) (us ts : Trees) → count ts ≡ length ks → count us ≡ length ks → are_kinds ks ts ≡ true → Got 0 ks us ts → us ≡ typed_all ts
@@ -79,6 +72,10 @@ passed v tag ts ks e h =
 pub at_both : (v : Version) (tag : ℕ) (ks : List Field) → kinds V44 tag ≡ Ok ks → kinds V51 tag ≡ Ok ks → kinds v tag ≡ Ok ks
 at_both V44 tag ks a b = a
 at_both V51 tag ks a b = b
+
+-- no fault, at the tag by another name
+pub fine_at : (v : Version) (tag k : ℕ) (ts : Trees) → tag ≡ k → fault v tag ts ≡ None → fault v k ts ≡ None
+fine_at v tag k ts is h = subst (λ m. fault v m ts ≡ None) is h
 
 -- a tag that stands at one version alone
 pub at_old : (v : Version) (tag : ℕ) (ks : List Field) (r : Reason) (ts : Trees) → kinds V44 tag ≡ Ok ks → kinds V51 tag ≡ Err r → fault v tag ts ≡ None → kinds v tag ≡ Ok ks
@@ -120,9 +117,27 @@ dated_by v ts s n o h g =
     let same = us ∙ same_dated ts p.counted p.kinded in
     (sym us, dated_range s n o (ap (λ (x : Trees). are_in_range moment_fields (to_utc x)) same ∙ p.ranged))
 
+-- a structure without local seconds, by its fields
+pub plain_is : (v : Version) (tag k : ℕ) (ts us : Trees) (ks : List Field) → tag ≡ k → kinds v k ≡ Ok ks → (k == 0x46) ≡ false → fault v tag ts ≡ None → count us ≡ length ks → Got 0 ks us ts → structure k us ≡ typed (structure tag ts)
+plain_is v tag k ts us ks is e other h n g =
+    let same : structure k (typed_all ts) ≡ typed (structure k ts) = rw other refl in
+    ap (λ (x : Trees). structure k x) (read_by v k ts us ks e (fine_at v tag k ts is h) n g) ∙ same ∙ ap (λ (m : ℕ). typed (structure m ts)) (sym is)
+
+-- local seconds, nanoseconds and offset, by the fields
+pub local_is : (v : Version) (tag : ℕ) (ts : Trees) (s n o : ℤ) → tag ≡ 0x46 → fault v tag ts ≡ None → Got 0 moment_fields (tree_then (int s) (tree_then (int n) (tree_then (int o) no_trees))) ts
+    → (structure 0x49 (tree_then (int (s -ℤ o)) (tree_then (int n) (tree_then (int o) no_trees))) ≡ typed (structure tag ts)) × Utc s n o
+local_is v tag ts s n o is h g =
+    let d = dated_by v ts s n o (fine_at v tag 0x46 ts is h) g in
+    let e : to_utc (tree_then (int s) (tree_then (int n) (tree_then (int o) no_trees))) ≡ to_utc (typed_all ts) = ap to_utc (sym d.0) in
+    (ap (λ (x : Trees). structure 0x49 x) e ∙ ap (λ (m : ℕ). typed (structure m ts)) (sym is), d.1)
+
 pub typed_list : (ts : List Tree) → typed_all (trees_of ts) ≡ trees_of (map typed ts)
 typed_list [] = refl
 typed_list (t ∷ ts) = ap (λ x. tree_then (typed t) x) (typed_list ts)
+
+pub typed_pairs : (es : List (List ℕ × Tree)) → typed_under (entries_of es) ≡ entries_of (map typed_entry es)
+typed_pairs [] = refl
+typed_pairs (e ∷ es) = ap (λ r. entry_then e.0 (typed e.1) r) (typed_pairs es)
 
 -- a test of each member, at one of them
 pub each_at : (p : Tree → Bool) (xs : List Value) (i : ℕ) (d : Value) → i < length xs → d ≡ get_or xs i d → each p (trees_of (trees xs)) ≡ true → p (tree d) ≡ true

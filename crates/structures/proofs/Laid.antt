@@ -6,17 +6,18 @@ use Rattle.std.proofs.lemmas.Bool.{leb-true, le-leb, ltb-true, lt-ltb}
 use Rattle.packstream.specs.Tree.{Tree, int, float, text, list, dict, structure, Trees, no_trees, tree_then}
 use Rattle.packstream.specs.Good.{count}
 use Rattle.wire.specs.declared.Version.{Version}
-use Rattle.structures.specs.declared.table.Field.{Field}
-use Rattle.structures.specs.declared.table.Field.TheVariants.{Integer, Nanosecond, DayNanosecond, Offset, UtcSecond, Float, Text, Labels, Properties, Nodes, Relationships, Indices}
-use Rattle.structures.specs.declared.fault.Reason.{Reason}
+use Rattle.cells.specs.declared.table.Field.{Field}
+use Rattle.cells.specs.declared.table.Field.TheVariants.{Integer, Nanosecond, DayNanosecond, Offset, UtcSecond, Float, Text, Labels, Properties, Nodes, Relationships, Indices}
+use Rattle.cells.specs.declared.fault.Reason.{Reason}
 use Rattle.wire.specs.Versions.{has_element_ids}
-use Rattle.structures.specs.Table.{Row, table, row_in, fields_at, fields_of, kinds}
+use Rattle.cells.specs.Table.{Row, table, row_in, fields_at, fields_of, kinds}
+use Rattle.cells.specs.Faults.{is_int, is_text, has_tag, each, is_list_of, is_kind, are_kinds, in_range, are_in_range, is_relationship, is_place, is_walk, is_path}
+use Rattle.cells.proofs.Both.{and_left, and_right, both_true}
 use Rattle.structures.proofs.Standing.{stood, stands_is}
-use Rattle.structures.specs.Faults.{is_int, is_text, has_tag, each, is_list_of, is_kind, are_kinds, in_range, are_in_range, is_relationship, is_place, is_walk, is_path}
 use Rattle.structures.specs.Laying.{AreMade, none_made, then_made, OfKind, any_whole, within_second, within_day, within_offset, within_utc, any_number, any_text, any_labels, any_properties, any_nodes, any_relationships, any_indices, OfKinds, no_kinds, then_kind, Walks, no_steps, then_step, IsShaped, no_path, a_path, HasRow, row_alone, row_with_ids}
-use Rattle.structures.proofs.Got.{and_left, and_right, le_true}
+use Rattle.structures.proofs.Got.{le_true}
 use Rattle.structures.proofs.Back.{an_int}
-use Rattle.structures.proofs.Formed.{both_true, a_list}
+use Rattle.structures.proofs.Formed.{a_list}
 
 true_le : (x y : ℤ) → x ≤ℤ y → int_le x y ≡ true
 true_le x y h = grind (arith, ints)

@@ -1,12 +1,7 @@
-pub mod Views
-pub mod Faulty
-pub mod Scanning
 pub mod Got
-pub mod Fine
+pub mod OneReading
 pub mod Back
 pub mod Written
-pub mod Judged
-pub mod Typed
 pub mod Formed
 pub mod Packing
 pub mod Fitted

@@ -8,17 +8,17 @@ use Rattle.packstream.specs.Tree.{Tree, null, boolean, int, float, byte_string, 
 use Rattle.packstream.specs.Good.{count, is_among}
 use Rattle.packstream.specs.Making.{own_fault, faults_in, faults_in_all, faults_in_entries, first_fault}
 use Rattle.wire.specs.declared.Version.{Version}
-use Rattle.structures.specs.declared.table.Field.{Field}
-use Rattle.structures.specs.declared.fault.Reason.{Reason}
+use Rattle.cells.specs.declared.table.Field.{Field}
+use Rattle.cells.specs.declared.fault.Reason.{Reason}
 use Rattle.wire.specs.Versions.{has_element_ids}
-use Rattle.structures.specs.Table.{Row, table, row_in, fields_at, fields_of, kinds}
+use Rattle.cells.specs.Table.{Row, table, row_in, fields_at, fields_of, kinds}
+use Rattle.cells.specs.Faults.{fault, fault_by, structures, structures_in, structures_under}
+use Rattle.cells.specs.Steps.{all_fine}
+use Rattle.cells.proofs.Fine.{fine_scan, fine_itself, fine_within, fine_left, fine_right}
 use Rattle.structures.proofs.Standing.{stood}
-use Rattle.structures.specs.Faults.{fault, fault_by, structures, structures_in, structures_under}
 use Rattle.structures.specs.Form.{Form}
-use Rattle.structures.specs.Steps.{all_fine}
 use Rattle.structures.specs.Answers.{IsUnpacked, IsOfPacking}
 use Rattle.structures.proofs.Got.{passed}
-use Rattle.structures.proofs.Fine.{fine_scan, fine_itself, fine_within, fine_left, fine_right}
 
 -- The rows have at most fifteen fields.
 abbrev IsShort : Row → Type 0

@@ -3,19 +3,19 @@ use Rattle.std.proofs.Common.{◌≡◌, ◌≢◌, ◌↔◌, ℕ, ℤ, ◌+ℤ
 use Rattle.packstream.specs.Tree.{Tree, null, boolean, int, float, byte_string, text, list, dict, structure, Trees, no_trees, tree_then, Entries, no_entries, entry_then}
 use Rattle.wire.specs.declared.Version.{Version}
 use Rattle.wire.specs.declared.Version.TheVariants.{V44, V51}
-use Rattle.structures.specs.declared.table.Field.{Field}
-use Rattle.structures.specs.declared.table.Field.TheVariants.{Nodes, Relationships, Indices}
-use Rattle.structures.specs.declared.fault.Reason.{Reason}
-use Rattle.structures.specs.Table.{kinds}
-use Rattle.structures.specs.Faults.{moment_fields, to_utc, are_in_range, fault, fault_by, structures, structures_in, structures_under}
+use Rattle.cells.specs.declared.table.Field.{Field}
+use Rattle.cells.specs.declared.table.Field.TheVariants.{Nodes, Relationships, Indices}
+use Rattle.cells.specs.declared.fault.Reason.{Reason}
+use Rattle.cells.specs.Table.{kinds}
+use Rattle.cells.specs.Faults.{moment_fields, to_utc, are_in_range, fault, fault_by, structures, structures_in, structures_under}
+use Rattle.cells.specs.Steps.{all_fine}
+use Rattle.cells.proofs.Faulty.{fault_is, wrong_is}
+use Rattle.cells.proofs.Fine.{fine_scan, scan_fine, fine_append, fine_itself, fine_within, fine_left, fine_right}
+use Rattle.cells.proofs.Both.{both_true}
 use Rattle.structures.specs.Form.{Form, typed, typed_all, typed_under}
-use Rattle.structures.specs.Steps.{all_fine}
-use Rattle.structures.specs.Laying.{IsShaped, no_path, IsForm, of_null, of_boolean, of_int, of_float, of_bytes, of_text, of_list, of_dict, of_structure, of_local_seconds, AreForms, no_forms, then_form, HaveForms, no_entry_forms, then_entry_form}
-use Rattle.structures.proofs.Faulty.{fault_is, wrong_is}
+use Rattle.structures.specs.Laying.{date_time_fields as three, IsShaped, no_path, IsForm, of_null, of_boolean, of_int, of_float, of_bytes, of_text, of_list, of_dict, of_structure, of_local_seconds, AreForms, no_forms, then_form, HaveForms, no_entry_forms, then_entry_form}
 use Rattle.structures.proofs.Got.{passed, at_both}
-use Rattle.structures.proofs.Back.{there_and_back, back_and_there, Three, three, three_ints}
-use Rattle.structures.proofs.Fine.{fine_scan, scan_fine, fine_append, fine_itself, fine_within, fine_left, fine_right}
-use Rattle.structures.proofs.Formed.{both_true}
+use Rattle.structures.proofs.Back.{there_and_back, back_and_there, Three, three_ints}
 use Rattle.structures.proofs.Laid.{kinds_laid, AreOf, kinds_are, path_laid, shaped_is, row_is, row_laid}
 
 -- Local seconds.

@@ -1,10 +1,10 @@
 -- A row that stands at a version, and its fields there.
 use Rattle.std.proofs.Common.{◌≡◌, List, Bool, true, false, cond, Result, Ok, Err, refl, sym, ap}
 use Rattle.wire.specs.declared.Version.{Version}
-use Rattle.structures.specs.declared.table.Field.{Field}
-use Rattle.structures.specs.declared.fault.Reason.{Reason}
-use Rattle.structures.specs.declared.fault.Reason.TheVariants.{NotInVersion}
-use Rattle.structures.specs.Table.{fields_in, fields_at}
+use Rattle.cells.specs.declared.table.Field.{Field}
+use Rattle.cells.specs.declared.fault.Reason.{Reason}
+use Rattle.cells.specs.declared.fault.Reason.TheVariants.{NotInVersion}
+use Rattle.cells.specs.Table.{fields_in, fields_at}
 
 stood_by : (b : Bool) (fs ks : List Field) → ◌≡◌ {A = Result (List Field) Reason} (cond b (Ok fs) (Err NotInVersion)) (Ok ks) → (b ≡ true) × (ks ≡ fs)
 stood_by true fs ks e = let same : fs ≡ ks = cc in (refl, sym same)

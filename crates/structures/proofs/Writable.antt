@@ -4,20 +4,22 @@ use Rattle.packstream.specs.Tree.{Tree, null, boolean, int, float, byte_string, 
 use Rattle.packstream.specs.Good.{count}
 use Rattle.wire.specs.declared.Version.{Version}
 use Rattle.wire.specs.declared.Version.TheVariants.{V44, V51}
-use Rattle.structures.specs.declared.table.Field.{Field}
-use Rattle.structures.specs.declared.table.Field.TheVariants.{Nanosecond, DayNanosecond, Offset, UtcSecond, Nodes, Relationships, Indices}
-use Rattle.structures.specs.declared.fault.Reason.{Reason}
-use Rattle.structures.specs.declared.fault.Reason.TheVariants.{NotInVersion, Range, PathShape}
-use Rattle.structures.specs.Table.{kinds}
-use Rattle.structures.specs.Faults.{first_failed, to_utc, moment_fields, is_int, has_tag, each, is_list_of, is_kind, are_kinds, in_range, are_in_range, is_path, fault, fault_by, structures, structures_in, structures_under}
+use Rattle.cells.specs.declared.table.Field.{Field}
+use Rattle.cells.specs.declared.table.Field.TheVariants.{Nanosecond, DayNanosecond, Offset, UtcSecond, Nodes, Relationships, Indices}
+use Rattle.cells.specs.declared.fault.Reason.{Reason}
+use Rattle.cells.specs.declared.fault.Reason.TheVariants.{NotInVersion, Range, PathShape}
+use Rattle.cells.specs.Table.{kinds}
+use Rattle.cells.specs.Faults.{first_failed, to_utc, moment_fields, is_int, has_tag, each, is_list_of, is_kind, are_kinds, in_range, are_in_range, is_path, fault, fault_by, structures, structures_in, structures_under}
+use Rattle.cells.specs.Steps.{all_fine}
+use Rattle.cells.specs.Writing.{moment_tag, fault_of_structure, fault_of_structure_by, IsWritable, IsUnwritable}
+use Rattle.cells.proofs.Scanning.{Found}
+use Rattle.cells.proofs.Both.{and_left, and_right, both_true}
+use Rattle.cells.proofs.Fine.{scan_fine, fine_scan, fine_append, fine_itself, fine_within, fine_left, fine_right}
 use Rattle.structures.specs.Form.{Form, typed, typed_all, typed_under}
-use Rattle.structures.specs.Steps.{all_fine}
-use Rattle.structures.specs.Writing.{moment_tag, fault_of_structure, fault_of_structure_by, IsWritable, IsUnwritable}
-use Rattle.structures.proofs.Scanning.{Found}
-use Rattle.structures.proofs.Got.{and_left, and_right, passed}
-use Rattle.structures.proofs.Back.{an_int, Three, three, three_ints}
-use Rattle.structures.proofs.Fine.{scan_fine, fine_scan, fine_append, fine_itself, fine_within, fine_left, fine_right}
-use Rattle.structures.proofs.Formed.{both_true, a_list}
+use Rattle.structures.specs.Laying.{date_time_fields as three}
+use Rattle.structures.proofs.Got.{passed}
+use Rattle.structures.proofs.Back.{an_int, Three, three_ints}
+use Rattle.structures.proofs.Formed.{a_list}
 
 -- Reading changes no number among the fields but the seconds of a DateTime, and no number of fields.
 int_same : (t : Tree) → is_int t ≡ true → typed t ≡ t

@@ -4,11 +4,11 @@ use Rattle.packstream.specs.Tree.{Tree, int, list, dict, structure, no_trees, tr
 use Rattle.packstream.specs.View.{tree, trees_of, entries_of}
 use Rattle.packstream.specs.declared.value.Value.{Int as IntCase, the_lemmas}
 use Rattle.wire.specs.declared.Version.{Version}
-use Rattle.structures.specs.declared.cell.ElementIds.{ElementIds}
+use Rattle.cells.specs.declared.cell.ElementIds.{ElementIds}
+use Rattle.cells.specs.Shape.{text_of, texts_of, element_of, elements_of, numbers_of, entries}
+use Rattle.cells.proofs.Views.{Pair, node_parts, unbound_parts, relationship_parts}
 use Rattle.structures.specs.Form.{form, form_all, form_under}
 use Rattle.structures.specs.Steps.{form_entry}
-use Rattle.structures.specs.Shape.{text_of, texts_of, element_of, elements_of, numbers_of, entries}
-use Rattle.structures.proofs.Views.{Pair, node_parts, unbound_parts, relationship_parts}
 
 pub tree-Int : (z : ℤ) → tree (IntCase z) ≡ int z
 tree-Int z = search (rules, the_lemmas)

@@ -4,15 +4,15 @@ use Rattle.packstream.specs.declared.fault.Reason.{Reason as PackReason}
 use Rattle.packstream.specs.declared.fault.Reason.TheVariants as pack
 use Rattle.packstream.specs.Good.{IsGood}
 use Rattle.packstream.specs.Making.{first_fault, faults_in}
-use Rattle.structures.specs.Writing.{IsWritable, IsUnwritable}
+use Rattle.cells.specs.Writing.{IsWritable, IsUnwritable}
 use Rattle.packstream.specs.Tree.{Tree}
 use Rattle.wire.specs.declared.Version.{Version}
-use Rattle.structures.specs.declared.cell.Cell.{Cell}
-use Rattle.structures.specs.declared.fault.Reason.{Reason}
+use Rattle.cells.specs.declared.cell.Cell.{Cell}
+use Rattle.cells.specs.declared.fault.Reason.{Reason}
+use Rattle.cells.specs.Shape.{shape}
+use Rattle.cells.specs.Faults.{IsBad, IsFine}
 use Rattle.structures.specs.declared.fault.CellFault.{CellFault}
 use Rattle.structures.specs.declared.fault.CellFault.TheVariants as fault
-use Rattle.structures.specs.Shape.{shape}
-use Rattle.structures.specs.Faults.{IsBad, IsFine}
 use Rattle.structures.specs.Form.{Form}
 
 -- what is said of an answer other than want of memory
@@ -38,12 +38,25 @@ Reads v t (Err (fault.Pack r o)) = ⊥
 abbrev pub IsUnpacked : Tree → PackReason → ℕ → Type 0
 IsUnpacked t r o = first_fault (faults_in 0 false t) 0 ≡ Err (r, o)
 
+-- A cell without a fault is written as this value, which is good.
+pub record HasGoodForm (v : Version) (s t : Tree) : Type 0 where
+  pub writable : IsWritable v s
+  pub formed : Form v s t
+  pub good : IsGood t
+
+-- A cell without a fault has a form, which has this fault as a value.
+pub record HasBadForm (v : Version) (s : Tree) (r : PackReason) (o : ℕ) : Type 0 where
+  pub value : Tree
+  pub writable : IsWritable v s
+  pub formed : Form v s value
+  pub unpacked : IsUnpacked value r o
+
 -- The cell's form, or its first fault; where it has none and its form isn't good, the form's fault; memory runs out only where it has none.
 abbrev pub Writes : Version → Tree → Result Tree CellFault → Type 0
-Writes v s (Ok t) = IsWritable v s × Form v s t × IsGood t
+Writes v s (Ok t) = HasGoodForm v s t
 Writes v s (Err (fault.Refused r k)) = IsUnwritable v s k r
 Writes v s (Err fault.Memory) = IsWritable v s
-Writes v s (Err (fault.Pack r o)) = IsWritable v s × ((t : Tree) × Form v s t × IsUnpacked t r o)
+Writes v s (Err (fault.Pack r o)) = HasBadForm v s r o
 
 -- the value itself, or its fault
 abbrev pub Packs : Tree → Result Tree CellFault → Type 0
@@ -53,29 +66,40 @@ Packs t (Err fault.Memory) = ⊥
 Packs t (Err (fault.Pack r o)) = IsUnpacked t r o
 
 -- at the version the value is the form of one cell alone, and has no fault
-abbrev pub StandsForOne : Version → Tree → Type 0
-StandsForOne v t = (s : Tree) × Form v s t × ((u : Tree) → Form v u t → s ≡ u)
-    × ((k : ℕ) (r : Reason) → IsBad v t k r → ⊥)
+pub record StandsForOne (v : Version) (t : Tree) : Type 0 where
+  pub cell : Tree
+  pub formed : Form v cell t
+  pub only : (s : Tree) → Form v s t → cell ≡ s
+  pub never_bad : (k : ℕ) (r : Reason) → IsBad v t k r → ⊥
 
 -- at the version the value has one first fault, and is the form of no cell
-abbrev pub IsBadOnce : Version → Tree → Type 0
-IsBadOnce v t = (k : ℕ) × (r : Reason) × IsBad v t k r
-    × ((j : ℕ) (q : Reason) → IsBad v t j q → (k ≡ j) × (r ≡ q)) × ((s : Tree) → Form v s t → ⊥)
+pub record IsBadOnce (v : Version) (t : Tree) : Type 0 where
+  pub number : ℕ
+  pub why : Reason
+  pub bad : IsBad v t number why
+  pub only : (k : ℕ) (r : Reason) → IsBad v t k r → (number ≡ k) × (why ≡ r)
+  pub forms_none : (s : Tree) → Form v s t → ⊥
 
 -- at the version the value is the form of one cell, or has one first fault, and never both
 abbrev pub HasOneReading : Version → Tree → Type 0
 HasOneReading v t = StandsForOne v t ⊎ IsBadOnce v t
 
 -- at the version the cell has one form, and no fault
-abbrev pub HasOneForm : Version → Tree → Type 0
-HasOneForm v s = (t : Tree) × IsWritable v s × Form v s t × ((u : Tree) → Form v s u → t ≡ u)
-    × ((k : ℕ) (r : Reason) → IsUnwritable v s k r → ⊥)
+pub record HasOneForm (v : Version) (s : Tree) : Type 0 where
+  pub value : Tree
+  pub writable : IsWritable v s
+  pub formed : Form v s value
+  pub only : (t : Tree) → Form v s t → value ≡ t
+  pub never_unwritable : (k : ℕ) (r : Reason) → IsUnwritable v s k r → ⊥
 
 -- at the version the cell has one first fault, and no form
-abbrev pub IsUnwritableOnce : Version → Tree → Type 0
-IsUnwritableOnce v s = (k : ℕ) × (r : Reason) × IsUnwritable v s k r
-    × ((j : ℕ) (q : Reason) → IsUnwritable v s j q → (k ≡ j) × (r ≡ q)) × (IsWritable v s → ⊥)
-    × ((t : Tree) → Form v s t → ⊥)
+pub record IsUnwritableOnce (v : Version) (s : Tree) : Type 0 where
+  pub number : ℕ
+  pub why : Reason
+  pub unwritable : IsUnwritable v s number why
+  pub only : (k : ℕ) (r : Reason) → IsUnwritable v s k r → (number ≡ k) × (why ≡ r)
+  pub never_writable : IsWritable v s → ⊥
+  pub has_none : (t : Tree) → Form v s t → ⊥
 
 -- at the version the cell has one form, or one first fault, and never both
 abbrev pub HasOneWriting : Version → Tree → Type 0

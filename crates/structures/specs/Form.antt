@@ -3,8 +3,8 @@ use Rattle.std.specs.Prelude.{◌≡◌, ℕ, ◌+ℤ◌, if◌then◌else◌, �
 use Rattle.packstream.specs.Tree.{Tree, null, boolean, int, float, byte_string, text, list, dict, structure, Trees, no_trees, tree_then, Entries, no_entries, entry_then}
 use Rattle.wire.specs.declared.Version.{Version}
 use Rattle.wire.specs.Versions.{has_utc_times}
-use Rattle.structures.specs.Table.{date_time_tag, legacy_date_time_tag}
-use Rattle.structures.specs.Faults.{utc_fields, IsFine}
+use Rattle.cells.specs.Table.{date_time_tag, legacy_date_time_tag}
+use Rattle.cells.specs.Faults.{utc_fields, IsFine}
 
 -- Read: the same tree, but local seconds are brought to UTC.
 abbrev pub typed_tag : ℕ → ℕ

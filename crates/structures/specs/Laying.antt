@@ -4,9 +4,9 @@ use Rattle.packstream.specs.Tree.{Tree, null, boolean, int, float, byte_string, 
 use Rattle.packstream.specs.Good.{count}
 use Rattle.wire.specs.declared.Version.{Version}
 use Rattle.wire.specs.Versions.{has_element_ids}
-use Rattle.structures.specs.declared.table.Field.{Field}
-use Rattle.structures.specs.declared.table.Field.TheVariants.{Integer, Nanosecond, DayNanosecond, Offset, UtcSecond, Float, Text, Labels, Properties, Nodes, Relationships, Indices}
-use Rattle.structures.specs.Table.{Row, table, node_tag, unbound_tag, path_tag, date_time_tag, legacy_date_time_tag}
+use Rattle.cells.specs.declared.table.Field.{Field}
+use Rattle.cells.specs.declared.table.Field.TheVariants.{Integer, Nanosecond, DayNanosecond, Offset, UtcSecond, Float, Text, Labels, Properties, Nodes, Relationships, Indices}
+use Rattle.cells.specs.Table.{Row, table, node_tag, unbound_tag, path_tag, date_time_tag, legacy_date_time_tag}
 
 -- these values are all made in one way: all texts, all integers, or all structures of one tag
 pub data AreMade (A : Type 0) (make : A → Tree) : Trees → Type 0 where
@@ -60,8 +60,8 @@ pub data HasRow (v : Version) : ℕ → List Field → Type 0 where
       → HasRow v r.tag (r.fields ++ r.added)
 
 -- a DateTime's three fields
-abbrev pub moment_fields : ℤ → ℤ → ℤ → Trees
-moment_fields seconds nanoseconds offset =
+abbrev pub date_time_fields : ℤ → ℤ → ℤ → Trees
+date_time_fields seconds nanoseconds offset =
     tree_then (int seconds) (tree_then (int nanoseconds) (tree_then (int offset) no_trees))
 
 -- A cell, seen as its tree, and the value that stands for it: the same, member by member, but for the seconds of a
@@ -80,9 +80,9 @@ mutual
         → HasRow v tag ks → OfKinds ks ts → IsShaped tag ts
         → AreForms v cs ts → IsForm v (structure tag cs) (structure tag ts)
     of_local_seconds : (ks : List Field) (utc nanoseconds offset : ℤ)
-        → HasRow v legacy_date_time_tag ks → OfKinds ks (moment_fields utc nanoseconds offset)
-        → IsForm v (structure date_time_tag (moment_fields utc nanoseconds offset))
-        (structure legacy_date_time_tag (moment_fields (utc +ℤ offset) nanoseconds offset))
+        → HasRow v legacy_date_time_tag ks → OfKinds ks (date_time_fields utc nanoseconds offset)
+        → IsForm v (structure date_time_tag (date_time_fields utc nanoseconds offset))
+        (structure legacy_date_time_tag (date_time_fields (utc +ℤ offset) nanoseconds offset))
 
   pub data AreForms (v : Version) : Trees → Trees → Type 0 where
     no_forms : AreForms v no_trees no_trees

@@ -1,10 +1,5 @@
-pub mod Table
-pub mod Shape
-pub mod Faults
 pub mod Form
 pub mod Answers
-pub mod Writing
 pub mod Fitting
 pub mod Laying
-pub mod Cells
 pub mod Steps

@@ -1,23 +1,20 @@
 //! Cells of values, and values of cells.
 ghost use Rattle.std.specs.Prelude.{◌≡◌, ℕ, Ok, Err, ◌↔◌};
 ghost use Rattle.packstream.specs.declared.fault.Reason.{Reason as PackReason};
-ghost use Rattle.packstream.specs.Good.{IsGood};
 ghost use Rattle.packstream.specs.Tree.{Tree, dict, list};
 ghost use Rattle.packstream.specs.View.{tree, trees_of, entries_of};
+ghost use Rattle.cells.specs.declared.fault.Reason.{Reason};
+ghost use Rattle.cells.specs.Faults.{IsBad, IsFine};
+ghost use Rattle.cells.specs.Shape.{shape, shapes, entries};
+ghost use Rattle.cells.specs.Writing.{IsWritable, IsUnwritable};
 ghost use Rattle.structures.specs.declared.fault.CellFault.TheVariants as fault;
-ghost use Rattle.structures.specs.declared.fault.Reason.{Reason};
-ghost use Rattle.structures.specs.Answers.{Reads, Writes, Packs, Gave, UnlessMemory, IsUnpacked};
-ghost use Rattle.structures.specs.Faults.{IsBad, IsFine};
+ghost use Rattle.structures.specs.Answers.{Reads, Writes, HasGoodForm, HasBadForm, Packs, Gave, UnlessMemory};
 ghost use Rattle.structures.specs.Form.{Form};
-ghost use Rattle.structures.specs.Shape.{shape, shapes, entries};
-ghost use Rattle.structures.specs.Writing.{IsWritable, IsUnwritable};
 
-use crate::cell::Cell;
-use crate::check::check;
 use crate::fault::CellFault;
-use crate::judging::{check_cell, check_cells, check_entries};
 use crate::reading::cell_of;
 use crate::writing::{pair_values, value_of, values_of};
+use cells::{Cell, check_cell, check_cells, check_entries, check_value};
 use packstream::{PackFault, Packed, Value};
 use std::alloc::Global;
 use wire::Version;
@@ -25,7 +22,7 @@ use wire::Version;
 fn read_cell(alloc: Global, version: Version, value: &Value) -> Result<Cell, CellFault>
     ensures { Reads version (tree value.now) result }
 {
-    match check(version, value, 0) {
+    match check_value(version, value, 0) {
         Err((reason, number)) => Err(CellFault::Refused(reason, number)),
         Ok(_) => match cell_of(alloc, version, value) {
             Ok(cell) => Ok(cell),
@@ -99,14 +96,14 @@ fn write_cell(alloc: Global, version: Version, cell: &Cell) -> Result<Packed, Ce
 pub fn write(alloc: Global, version: Version, cell: &Cell) -> Result<Packed, CellFault>
     // Apart from memory, it is the cell's form, where the cell has one and that is good ..
     ensures value { (t : Tree)
-        → UnlessMemory result ((result ≡ Ok t) ↔ (IsWritable version (shape cell.now) × Form version (shape cell.now) t × IsGood t)) }
+        → UnlessMemory result ((result ≡ Ok t) ↔ HasGoodForm version (shape cell.now) t) }
 
     // .. and the first fault of a cell, or else that of the form.
     ensures fault { (r : Reason) (k : ℕ)
         → UnlessMemory result ((result ≡ Err (fault.Refused r k)) ↔ IsUnwritable version (shape cell.now) k r) }
     ensures pack { (r : PackReason) (o : ℕ)
         → UnlessMemory result ((result ≡ Err (fault.Pack r o))
-        ↔ (IsWritable version (shape cell.now) × ((t : Tree) × Form version (shape cell.now) t × IsUnpacked t r o))) }
+        ↔ HasBadForm version (shape cell.now) r o) }
     ensures memory { result ≡ Err fault.Memory → IsWritable version (shape cell.now) }
 {
     write_cell(alloc, version, cell)
@@ -137,14 +134,15 @@ pub fn write_members(
 ) -> Result<Packed, CellFault>
     // Apart from memory, it is the cell's form, where the cell has one and that is good ..
     ensures value { (t : Tree)
-        → UnlessMemory result ((result ≡ Ok t) ↔ (IsWritable version (list (trees_of (shapes members.now.items))) × Form version (list (trees_of (shapes members.now.items))) t × IsGood t)) }
+        → UnlessMemory result ((result ≡ Ok t)
+        ↔ HasGoodForm version (list (trees_of (shapes members.now.items))) t) }
 
     // .. and the first fault of a cell, or else that of the form.
     ensures fault { (r : Reason) (k : ℕ)
         → UnlessMemory result ((result ≡ Err (fault.Refused r k)) ↔ IsUnwritable version (list (trees_of (shapes members.now.items))) k r) }
     ensures pack { (r : PackReason) (o : ℕ)
         → UnlessMemory result ((result ≡ Err (fault.Pack r o))
-        ↔ (IsWritable version (list (trees_of (shapes members.now.items))) × ((t : Tree) × Form version (list (trees_of (shapes members.now.items))) t × IsUnpacked t r o))) }
+        ↔ HasBadForm version (list (trees_of (shapes members.now.items))) r o) }
     ensures memory { result ≡ Err fault.Memory → IsWritable version (list (trees_of (shapes members.now.items))) }
 {
     write_list(alloc, version, members)
@@ -183,14 +181,15 @@ pub fn write_entries(
 ) -> Result<Packed, CellFault>
     // Apart from memory, it is the cell's form, where the cell has one and that is good ..
     ensures value { (t : Tree)
-        → UnlessMemory result ((result ≡ Ok t) ↔ (IsWritable version (dict (entries_of (entries pairs.now.items))) × Form version (dict (entries_of (entries pairs.now.items))) t × IsGood t)) }
+        → UnlessMemory result ((result ≡ Ok t)
+        ↔ HasGoodForm version (dict (entries_of (entries pairs.now.items))) t) }
 
     // .. and the first fault of a cell, or else that of the form.
     ensures fault { (r : Reason) (k : ℕ)
         → UnlessMemory result ((result ≡ Err (fault.Refused r k)) ↔ IsUnwritable version (dict (entries_of (entries pairs.now.items))) k r) }
     ensures pack { (r : PackReason) (o : ℕ)
         → UnlessMemory result ((result ≡ Err (fault.Pack r o))
-        ↔ (IsWritable version (dict (entries_of (entries pairs.now.items))) × ((t : Tree) × Form version (dict (entries_of (entries pairs.now.items))) t × IsUnpacked t r o))) }
+        ↔ HasBadForm version (dict (entries_of (entries pairs.now.items))) r o) }
     ensures memory { result ≡ Err fault.Memory → IsWritable version (dict (entries_of (entries pairs.now.items))) }
 {
     write_dict(alloc, version, pairs)

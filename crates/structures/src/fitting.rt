@@ -1,10 +1,10 @@
 //! Cells in the form of a version.
 ghost use Rattle.std.specs.Prelude.{◌≡◌, IfOk, map};
+ghost use Rattle.cells.specs.Shape.{shape, node_shape, unbound_shape, relationship_shape, element_of, elements_of, entries, shapes};
 ghost use Rattle.structures.specs.Fitting.{fitted, fitted_entry, element_at, elements_at, Fits};
-ghost use Rattle.structures.specs.Shape.{shape, node_shape, unbound_shape, relationship_shape, element_of, elements_of, entries, shapes};
 
-use crate::cell::{Cell, ElementIds, Node, Relationship, UnboundRelationship};
 use crate::fault::CellFault;
+use cells::{Cell, ElementIds, Node, Relationship, UnboundRelationship};
 use std::alloc::{AllocError, Global};
 use wire::Version;
 

@@ -2,20 +2,16 @@
 ghost use Rattle.std.specs.Prelude.{◌≡◌, IfOk, None, true, map};
 ghost use Rattle.packstream.specs.Tree.{structure, dict, list};
 ghost use Rattle.packstream.specs.View.{tree, trees, trees_of, entries_of, entries as seen_entries};
-ghost use Rattle.structures.specs.Faults.{fault, structures, structures_in, structures_under, is_kind, each, has_tag};
+ghost use Rattle.cells.specs.Faults.{fault, structures, structures_in, structures_under, is_kind, each, has_tag};
+ghost use Rattle.cells.specs.Steps.{all_fine};
+ghost use Rattle.cells.specs.Shape.{shape, shapes, node_shape, unbound_shape, relationship_shape, entries};
+ghost use Rattle.cells.specs.Table.{node_tag, relationship_tag, unbound_tag, path_tag};
 ghost use Rattle.structures.specs.Form.{typed};
-ghost use Rattle.structures.specs.Steps.{typed_entry, all_fine, tree_at};
-ghost use Rattle.structures.specs.Shape.{shape, shapes, node_shape, unbound_shape, relationship_shape, entries};
-ghost use Rattle.structures.specs.Table.{node_tag, relationship_tag, unbound_tag, path_tag};
+ghost use Rattle.structures.specs.Steps.{typed_entry, tree_at};
 
-use crate::cell::{Cell, Node, Relationship, UnboundRelationship};
 use crate::fields::{element_at, elements_at, int_at, ints_of, text_at, texts_at};
-use crate::plain::{
-    date, date_time, duration, local_date_time, local_moment, local_time, point_2d, point_3d, time,
-    zoned_local, zoned_utc,
-};
-use crate::table::Field;
-use crate::tags;
+use crate::plain::plain_of;
+use cells::{Cell, Field, Node, Relationship, UnboundRelationship, tags};
 use packstream::Value;
 use std::alloc::{AllocError, Global};
 use wire::Version;
@@ -89,18 +85,7 @@ fn structure_of(
         )?)),
         tags::RELATIONSHIP => Ok(Cell::Relationship(relationship_of(alloc, version, fields)?)),
         tags::PATH => path_of(alloc, version, fields),
-        tags::DATE => Ok(date(version, fields)),
-        tags::TIME => Ok(time(version, fields)),
-        tags::LOCAL_TIME => Ok(local_time(version, fields)),
-        tags::LOCAL_DATE_TIME => Ok(local_date_time(version, fields)),
-        tags::LEGACY_DATE_TIME => Ok(local_moment(version, fields)),
-        tags::DATE_TIME => Ok(date_time(version, fields)),
-        tags::LEGACY_ZONED => zoned_local(alloc, version, fields),
-        tags::ZONED => zoned_utc(alloc, version, fields),
-        tags::DURATION => Ok(duration(version, fields)),
-        tags::POINT_2D => Ok(point_2d(version, fields)),
-        tags::POINT_3D => Ok(point_3d(version, fields)),
-        _ => unreachable!(),
+        _ => plain_of(alloc, version, tag, fields),
     }
 }
 

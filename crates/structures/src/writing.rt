@@ -2,15 +2,15 @@
 ghost use Rattle.std.specs.Prelude.{◌≡◌, IfOk, map, None, true};
 ghost use Rattle.packstream.specs.Tree.{Tree, int, float, structure, no_trees, tree_then};
 ghost use Rattle.packstream.specs.View.{tree, trees, trees_of, entries_of, entries as seen_entries};
-ghost use Rattle.structures.specs.Faults.{structures, structures_in, structures_under};
+ghost use Rattle.cells.specs.Faults.{structures, structures_in, structures_under};
+ghost use Rattle.cells.specs.Steps.{all_fine};
+ghost use Rattle.cells.specs.Writing.{fault_of_structure};
+ghost use Rattle.cells.specs.Shape.{shape, shapes, entries, node_shape, unbound_shape, relationship_shape, text_of, texts_of, numbers_of, element_of, elements_of};
+ghost use Rattle.cells.specs.Table.{relationship_tag, path_tag, date_time_tag};
 ghost use Rattle.structures.specs.Form.{form};
-ghost use Rattle.structures.specs.Steps.{form_entry, all_fine};
-ghost use Rattle.structures.specs.Writing.{fault_of_structure};
-ghost use Rattle.structures.specs.Shape.{shape, shapes, entries, node_shape, unbound_shape, relationship_shape, text_of, texts_of, numbers_of, element_of, elements_of};
-ghost use Rattle.structures.specs.Table.{relationship_tag, path_tag, date_time_tag};
+ghost use Rattle.structures.specs.Steps.{form_entry};
 
-use crate::cell::{Cell, ElementIds, Node, Relationship, UnboundRelationship};
-use crate::tags;
+use cells::{Cell, ElementIds, Node, Relationship, UnboundRelationship, tags};
 use packstream::Value;
 use std::alloc::{AllocError, Global};
 use wire::Version;

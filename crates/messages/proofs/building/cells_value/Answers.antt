@@ -1,7 +1,7 @@
 use Rattle.std.proofs.Common.{◌∙◌, Ok, Err, ap, sym}
 use Rattle.packstream.specs.Tree.{dict}
 use Rattle.packstream.specs.View.{entries_of}
-use Rattle.structures.specs.Shape.{entries}
+use Rattle.cells.specs.Shape.{entries}
 use Rattle.structures.proofs.Clauses.{writes_by}
 use Rattle.messages.proofs.Meanings.{err_is}
 use Rattle.messages.proofs.Forms.{put_value, put_fault, told_fault}

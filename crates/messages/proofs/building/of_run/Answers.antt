@@ -1,5 +1,5 @@
 use Rattle.std.proofs.Common.{◌≡◌, ◌∙◌, rules}
-use Rattle.structures.specs.Shape.{text_of}
+use Rattle.cells.specs.Shape.{text_of}
 use Rattle.messages.proofs.Fields.{tree_of_text, tree_of_dict}
 use Rattle.messages.proofs.building.of_run.Goals as goal
 

@@ -16,5 +16,10 @@ returns-clause-read_back c =
     let t = tree c.in_ok-value.value in
     on_ok c.put.result _ _ (λ g b e.
     let same : b ≡ canon t = canon_is t b (sym (ap (λ r. r >>= spelling_of_tree) c.in_ok-value.ensures) ∙ e) in
-    rw same (t, g.0, g.1, answered_back_told v m t (response_back v c.args.response.now) c.in_ok-value.ensures))
+    rw same (record {
+      value = t;
+      good = g.0;
+      spelled = g.1;
+      says = answered_back_told v m t (response_back v c.args.response.now) c.in_ok-value.ensures;
+    }))
     c.put.ensures.spells

@@ -4,10 +4,12 @@ use Rattle.messages.proofs.Apart.{request_apart, response_apart}
 use Rattle.messages.proofs.laws.no_proper_beginning.Goals as goal
 
 pub returns-clause-requests : goal.returns-clause-requests
-returns-clause-requests c = λ v w m n b more p q. (no_proper_beginning_is p.0 q.0 b more p.1 q.1 p.2 q.2).0
+returns-clause-requests c = λ v w m n b more p q.
+    (no_proper_beginning_is p.value q.value b more p.good q.good p.spelled q.spelled).0
 
 pub returns-clause-responses : goal.returns-clause-responses
-returns-clause-responses c = λ v w m n b more p q. (no_proper_beginning_is p.0 q.0 b more p.1 q.1 p.2 q.2).0
+returns-clause-responses c = λ v w m n b more p q.
+    (no_proper_beginning_is p.value q.value b more p.good q.good p.spelled q.spelled).0
 
 pub returns-clause-request_first : goal.returns-clause-request_first
 returns-clause-request_first c = λ v w m n b more p q. request_apart v w (request_contents m) (response_contents n) b more p q

@@ -1,13 +1,13 @@
 use Rattle.std.proofs.Common.{ap, sym, ◌∙◌}
 use Rattle.packstream.specs.Tree.{dict}
 use Rattle.packstream.specs.View.{entries_of}
-use Rattle.structures.specs.Faults.{structures}
-use Rattle.structures.specs.Shape.{entries}
-use Rattle.structures.specs.Writing.{fault_of_structure}
-use Rattle.structures.proofs.Scanning.{tree-Dict}
-use Rattle.structures.proofs.Fine.{fine_scan}
+use Rattle.cells.specs.Faults.{structures}
+use Rattle.cells.specs.Shape.{entries}
+use Rattle.cells.specs.Writing.{fault_of_structure}
+use Rattle.cells.proofs.Scanning.{tree-Dict}
+use Rattle.cells.proofs.Fine.{fine_scan}
+use Rattle.cells.proofs.Typed.{pairs_typed}
 use Rattle.structures.proofs.Packing.{packed_is}
-use Rattle.structures.proofs.Typed.{pairs_typed}
 use Rattle.structures.proofs.Written.{form_pairs}
 use Rattle.structures.proofs.codec.entries_fine.Goals as goal
 

@@ -1,13 +1,13 @@
 use Rattle.std.proofs.Common.{List, ap, sym, ◌∙◌}
 use Rattle.packstream.specs.Tree.{Tree, list}
 use Rattle.packstream.specs.View.{trees_of}
-use Rattle.structures.specs.Faults.{structures}
-use Rattle.structures.specs.Shape.{shapes}
-use Rattle.structures.specs.Writing.{fault_of_structure}
-use Rattle.structures.proofs.Faulty.{tree-List}
-use Rattle.structures.proofs.Fine.{fine_scan}
+use Rattle.cells.specs.Faults.{structures}
+use Rattle.cells.specs.Shape.{shapes}
+use Rattle.cells.specs.Writing.{fault_of_structure}
+use Rattle.cells.proofs.Faulty.{tree-List}
+use Rattle.cells.proofs.Fine.{fine_scan}
+use Rattle.cells.proofs.Typed.{shapes_typed}
 use Rattle.structures.proofs.Packing.{packed_is}
-use Rattle.structures.proofs.Typed.{shapes_typed}
 use Rattle.structures.proofs.Written.{form_list}
 use Rattle.structures.proofs.codec.members_fine.Goals as goal
 

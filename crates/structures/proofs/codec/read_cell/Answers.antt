@@ -1,7 +1,7 @@
 use Rattle.std.proofs.Common.{sym}
 use Rattle.packstream.specs.View.{tree}
-use Rattle.structures.specs.Faults.{fault, structures}
-use Rattle.structures.proofs.Fine.{fine_scan}
+use Rattle.cells.specs.Faults.{fault, structures}
+use Rattle.cells.proofs.Fine.{fine_scan}
 use Rattle.structures.proofs.codec.read_cell.Goals as goal
 
 pub cell_of-requires : goal.cell_of-requires

@@ -1,4 +1,4 @@
-use Rattle.structures.specs.Shape.{shape}
+use Rattle.cells.specs.Shape.{shape}
 use Rattle.structures.proofs.Clauses.{writes_value, writes_pack}
 use Rattle.structures.proofs.codec.write.Goals as goal
 

@@ -1,6 +1,6 @@
 use Rattle.packstream.specs.Tree.{dict}
 use Rattle.packstream.specs.View.{entries_of}
-use Rattle.structures.specs.Shape.{entries}
+use Rattle.cells.specs.Shape.{entries}
 use Rattle.structures.proofs.Clauses.{writes_value, writes_pack}
 use Rattle.structures.proofs.codec.write_entries.Goals as goal
 

@@ -1,9 +1,9 @@
-use Rattle.structures.specs.Faults.{structures}
-use Rattle.structures.specs.Shape.{shape}
-use Rattle.structures.specs.Writing.{fault_of_structure}
-use Rattle.structures.proofs.Fine.{fine_scan}
+use Rattle.cells.specs.Faults.{structures}
+use Rattle.cells.specs.Shape.{shape}
+use Rattle.cells.specs.Writing.{fault_of_structure}
+use Rattle.cells.proofs.Fine.{fine_scan}
+use Rattle.cells.proofs.Typed.{typed_shape}
 use Rattle.structures.proofs.Packing.{packed_is}
-use Rattle.structures.proofs.Typed.{typed_shape}
 use Rattle.structures.proofs.codec.write_fine.Goals as goal
 
 pub value_of-requires : goal.value_of-requires

@@ -1,6 +1,6 @@
 use Rattle.packstream.specs.Tree.{list}
 use Rattle.packstream.specs.View.{trees_of}
-use Rattle.structures.specs.Shape.{shapes}
+use Rattle.cells.specs.Shape.{shapes}
 use Rattle.structures.proofs.Clauses.{writes_value, writes_pack}
 use Rattle.structures.proofs.codec.write_members.Goals as goal
 

@@ -1,6 +1,6 @@
 use Rattle.std.proofs.Common.{◌≡◌, ◌++◌, ◌∷◌, [], ap, ◌∙◌, map, rules, to_z, of_z, w64}
 use Rattle.std.proofs.lemmas.List.{map_push}
-use Rattle.structures.specs.Faults.{is_int}
+use Rattle.cells.specs.Faults.{is_int}
 use Rattle.packstream.specs.Tree.{int}
 use Rattle.structures.proofs.Got.{each_at, typed_next}
 use Rattle.structures.proofs.fields.ints_in.Goals as goal

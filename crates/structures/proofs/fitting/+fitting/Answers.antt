@@ -1,6 +1,6 @@
 use Rattle.std.proofs.Common.{◌≡◌, IfOk, Result, Ok, Err, to_z, of_z, w64, rules, refl, ap, sym, ◌∙◌}
+use Rattle.cells.specs.Shape.{shape}
 use Rattle.structures.specs.Fitting.{fitted}
-use Rattle.structures.specs.Shape.{shape}
 use Rattle.structures.proofs.Fitted.{fit_node_is, fit_unbound_is, fit_relationship_is, fit_list_is, fit_dict_is, fit_path_is}
 use Rattle.structures.proofs.fitting.+fitting.Goals as goal
 

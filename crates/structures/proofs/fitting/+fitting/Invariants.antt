@@ -1,5 +1,5 @@
 use Rattle.std.proofs.Common.{◌≡◌, take, map}
-use Rattle.structures.specs.Shape.{shapes, entries, node_shape, unbound_shape}
+use Rattle.cells.specs.Shape.{shapes, entries, node_shape, unbound_shape}
 use Rattle.structures.specs.Fitting.{fitted, fitted_entry}
 use Rattle.structures.proofs.fitting.+fitting.Given as goal
 

@@ -1,4 +1,4 @@
-use Rattle.structures.proofs.Typed.{typed_shape}
+use Rattle.cells.proofs.Typed.{typed_shape}
 use Rattle.structures.proofs.laws.cells_are_typed.Goals as goal
 
 pub returns : goal.returns

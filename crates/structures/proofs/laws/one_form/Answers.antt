@@ -1,8 +1,8 @@
 use Rattle.std.proofs.Common.{sym, ap, ◌∙◌}
-use Rattle.structures.specs.Faults.{fault, structures}
+use Rattle.cells.specs.Faults.{fault, structures}
+use Rattle.cells.proofs.Fine.{fine_scan}
 use Rattle.structures.specs.Form.{form}
 use Rattle.structures.proofs.Back.{again}
-use Rattle.structures.proofs.Fine.{fine_scan}
 use Rattle.structures.proofs.laws.one_form.Goals as goal
 
 pub returns : goal.returns

@@ -1,10 +1,10 @@
-use Rattle.structures.specs.Faults.{structures}
-use Rattle.structures.specs.Shape.{shape}
-use Rattle.structures.specs.Writing.{fault_of_structure}
+use Rattle.cells.specs.Faults.{structures}
+use Rattle.cells.specs.Shape.{shape}
+use Rattle.cells.specs.Writing.{fault_of_structure}
+use Rattle.cells.proofs.Fine.{fine_scan}
+use Rattle.cells.proofs.Typed.{typed_shape}
 use Rattle.structures.proofs.Back.{back}
-use Rattle.structures.proofs.Fine.{fine_scan}
 use Rattle.structures.proofs.Formed.{form_is}
-use Rattle.structures.proofs.Typed.{typed_shape}
 use Rattle.structures.proofs.laws.written_is_read_back.Goals as goal
 
 pub returns-clause-back : goal.returns-clause-back

@@ -3,17 +3,17 @@ use Rattle.std.proofs.lemmas.List.Elements.{same_from_all_zip}
 use Rattle.packstream.specs.Tree.{Tree, Trees, int, list, dict, structure, no_trees, tree_then}
 use Rattle.packstream.specs.View.{tree, entry, trees, trees_of, entries_of, entries as seen_entries}
 use Rattle.packstream.specs.declared.value.Value.{the_lemmas as value_lemmas}
-use Rattle.structures.specs.declared.table.Field.TheVariants.{Integer, Text, Labels, Properties, Nodes, Relationships, Indices}
-use Rattle.structures.specs.Faults.{structures, fault, is_list_of, has_tag}
+use Rattle.cells.specs.declared.table.Field.TheVariants.{Integer, Text, Labels, Properties, Nodes, Relationships, Indices}
+use Rattle.cells.specs.Faults.{structures, fault, is_list_of, has_tag}
+use Rattle.cells.specs.Steps.{all_fine}
+use Rattle.cells.specs.Shape.{entries, text_of, texts_of, numbers_of, element_of, elements_of, node_shape, unbound_shape}
+use Rattle.cells.specs.declared.cell.Cell.{the_lemmas}
+use Rattle.cells.proofs.Scanning.{tree-Dict}
+use Rattle.cells.proofs.Faulty.{tree-List, count_seen}
+use Rattle.cells.proofs.Views.{shape-List, shape-Dict, shape-Path, node-roll, unbound-roll, relationship-roll, relationship_parts}
+use Rattle.cells.proofs.Fine.{tree-Struct, fine_itself, fine_within, fine_member, fine_pair}
 use Rattle.structures.specs.Form.{typed}
-use Rattle.structures.specs.Steps.{all_fine}
-use Rattle.structures.specs.Shape.{entries, text_of, texts_of, numbers_of, element_of, elements_of, node_shape, unbound_shape}
-use Rattle.structures.specs.declared.cell.Cell.{the_lemmas}
-use Rattle.structures.proofs.Scanning.{tree-Dict}
-use Rattle.structures.proofs.Faulty.{tree-List, count_seen}
-use Rattle.structures.proofs.Views.{shape-List, shape-Dict, shape-Path, node-roll, unbound-roll, relationship-roll, relationship_parts}
-use Rattle.structures.proofs.Fine.{tree-Struct, fine_itself, fine_within, fine_member, fine_pair, typed_pairs}
-use Rattle.structures.proofs.Got.{at_some, at_none, if_ok, typed_list, named_by, bound_by, each_at, path_length, path_field, read_by, at_both}
+use Rattle.structures.proofs.Got.{typed_pairs, at_some, at_none, if_ok, typed_list, named_by, bound_by, each_at, path_length, path_field, read_by, at_both}
 use Rattle.structures.proofs.reading.+read.Goals as goal
 
 pub cell_of-pairs_of-requires : goal.cell_of-pairs_of-requires

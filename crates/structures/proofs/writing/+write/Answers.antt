@@ -3,17 +3,17 @@ use Rattle.std.proofs.lemmas.List.Elements.{same_from_all_zip}
 use Rattle.packstream.specs.Tree.{Tree, int, list, dict}
 use Rattle.packstream.specs.View.{tree, trees_of, entries_of}
 use Rattle.packstream.specs.declared.value.Value.{the_lemmas as value_lemmas}
-use Rattle.structures.specs.Faults.{structures}
+use Rattle.cells.specs.Faults.{structures}
+use Rattle.cells.specs.Steps.{all_fine}
+use Rattle.cells.specs.Writing.{fault_of_structure}
+use Rattle.cells.proofs.Fine.{fine_member, fine_pair}
+use Rattle.cells.proofs.Judged.{node_fine, unbound_fine, relationship_fine, path_nodes_fine, path_unbounds_fine}
+use Rattle.cells.specs.Shape.{shape, shapes, entry, entries, node_shape, unbound_shape}
+use Rattle.cells.specs.declared.cell.Cell.{the_lemmas}
+use Rattle.cells.proofs.Faulty.{tree-List}
+use Rattle.cells.proofs.Scanning.{tree-Dict}
+use Rattle.cells.proofs.Views.{shape-List, shape-Dict, node-out, unbound-out, relationship-out, shape-Path}
 use Rattle.structures.specs.Form.{form}
-use Rattle.structures.specs.Steps.{all_fine}
-use Rattle.structures.specs.Writing.{fault_of_structure}
-use Rattle.structures.proofs.Fine.{fine_member, fine_pair}
-use Rattle.structures.proofs.Judged.{node_fine, unbound_fine, relationship_fine, path_nodes_fine, path_unbounds_fine}
-use Rattle.structures.specs.Shape.{shape, shapes, entry, entries, node_shape, unbound_shape}
-use Rattle.structures.specs.declared.cell.Cell.{the_lemmas}
-use Rattle.structures.proofs.Faulty.{tree-List}
-use Rattle.structures.proofs.Scanning.{tree-Dict}
-use Rattle.structures.proofs.Views.{shape-List, shape-Dict, node-out, unbound-out, relationship-out, shape-Path}
 use Rattle.structures.proofs.Written.{tree-Int, form_list, form_pairs, node_written, unbound_written, relationship_written, path_written}
 use Rattle.structures.proofs.writing.+write.Goals as goal
 

@@ -1,8 +1,8 @@
 use Rattle.std.proofs.Common.{◌≡◌, take, map}
 use Rattle.packstream.specs.View.{trees, entries as seen_entries}
+use Rattle.cells.specs.Shape.{shapes, entries, node_shape, unbound_shape}
 use Rattle.structures.specs.Form.{form}
 use Rattle.structures.specs.Steps.{form_entry}
-use Rattle.structures.specs.Shape.{shapes, entries, node_shape, unbound_shape}
 use Rattle.structures.proofs.writing.+write.Given as goal
 
 abbrev pub invariant-values_of-loop-member : goal.invariant-values_of-loop-member

@@ -1,0 +1,6 @@
+use Rattle.std.proofs.Common.{◌≡◌, take, map}
+use Rattle.cells.specs.Shape.{text_of}
+use Rattle.cells.proofs.parts.copy_texts.Given as goal
+
+abbrev pub invariant-loop-text : goal.invariant-loop-text
+invariant-loop-text l = map text_of l.copies.items ≡ map text_of (take l.text-index l.text-items)

@@ -1,0 +1,7 @@
+use Rattle.std.proofs.Common.{◌≡◌, drop, true}
+use Rattle.packstream.specs.View.{trees, trees_of}
+use Rattle.cells.specs.Faults.{is_walk}
+use Rattle.cells.proofs.path.walks.Given as goal
+
+abbrev pub invariant-loop-step : goal.invariant-loop-step
+invariant-loop-step l = is_walk l.nodes l.relationships l.even (trees_of (trees (drop l.step-index l.steps))) ≡ is_walk l.nodes l.relationships true (trees_of (trees l.steps))

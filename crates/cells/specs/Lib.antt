@@ -1,0 +1,6 @@
+pub mod Table
+pub mod Shape
+pub mod Faults
+pub mod Writing
+pub mod Cells
+pub mod Steps

@@ -1,0 +1,195 @@
+//! `clone`, written out since a derived one says nothing of types that hold each other.
+ghost use Rattle.std.specs.Prelude.{◌≡◌, IfOk, map};
+ghost use Rattle.cells.specs.Shape.{shape, node_shape, unbound_shape, relationship_shape, element_of, elements_of, entries, shapes};
+
+use crate::cell::{Cell, Node, Relationship, UnboundRelationship};
+use crate::parts::{copy_element, copy_elements, copy_texts};
+use std::alloc::AllocError;
+
+impl Clone for Cell {
+    ghost is_clone = { λ c d. shape d ≡ shape c };
+
+    fn clone(&self) -> Result<Cell, AllocError> {
+        copy(self)
+    }
+}
+
+#[cycle(copy)]
+fn copy(cell: &Cell) -> Result<Cell, AllocError>
+    ensures { IfOk result (λ c. shape c ≡ shape cell.now) }
+{
+    match cell {
+        Cell::Null => Ok(Cell::Null),
+        Cell::Bool(b) => Ok(Cell::Bool(*b)),
+        Cell::Int(n) => Ok(Cell::Int(*n)),
+        Cell::Float(bits) => Ok(Cell::Float(*bits)),
+        Cell::Bytes(bytes) => Ok(Cell::Bytes(bytes.clone()?)),
+        Cell::Text(text) => Ok(Cell::Text(text.clone()?)),
+        Cell::List(members) => Ok(Cell::List(copy_members(members)?)),
+        Cell::Dict(pairs) => Ok(Cell::Dict(copy_pairs(pairs)?)),
+        Cell::Node(node) => Ok(Cell::Node(copy_node(node)?)),
+        Cell::Relationship(relationship) => Ok(Cell::Relationship(copy_relationship(
+            relationship,
+        )?)),
+        Cell::UnboundRelationship(unbound) => Ok(Cell::UnboundRelationship(copy_unbound(unbound)?)),
+        Cell::Path {
+            nodes,
+            relationships,
+            indices,
+        } => Ok(Cell::Path {
+            nodes: copy_nodes(nodes)?,
+            relationships: copy_unbounds(relationships)?,
+            indices: indices.clone()?,
+        }),
+        Cell::Date { days } => Ok(Cell::Date { days: *days }),
+        Cell::Time { nanos, offset } => Ok(Cell::Time {
+            nanos: *nanos,
+            offset: *offset,
+        }),
+        Cell::LocalTime { nanos } => Ok(Cell::LocalTime { nanos: *nanos }),
+        Cell::LocalDateTime { seconds, nanos } => Ok(Cell::LocalDateTime {
+            seconds: *seconds,
+            nanos: *nanos,
+        }),
+        Cell::DateTime { utc, nanos, offset } => Ok(Cell::DateTime {
+            utc: *utc,
+            nanos: *nanos,
+            offset: *offset,
+        }),
+        Cell::ZonedLocal {
+            seconds,
+            nanos,
+            zone,
+        } => Ok(Cell::ZonedLocal {
+            seconds: *seconds,
+            nanos: *nanos,
+            zone: zone.clone()?,
+        }),
+        Cell::ZonedUtc {
+            seconds,
+            nanos,
+            zone,
+        } => Ok(Cell::ZonedUtc {
+            seconds: *seconds,
+            nanos: *nanos,
+            zone: zone.clone()?,
+        }),
+        Cell::Duration {
+            months,
+            days,
+            seconds,
+            nanos,
+        } => Ok(Cell::Duration {
+            months: *months,
+            days: *days,
+            seconds: *seconds,
+            nanos: *nanos,
+        }),
+        Cell::Point2D { srid, x, y } => Ok(Cell::Point2D {
+            srid: *srid,
+            x: *x,
+            y: *y,
+        }),
+        Cell::Point3D { srid, x, y, z } => Ok(Cell::Point3D {
+            srid: *srid,
+            x: *x,
+            y: *y,
+            z: *z,
+        }),
+    }
+}
+
+#[cycle(copy)]
+fn copy_members(members: &Vec<Cell>) -> Result<Vec<Cell>, AllocError>
+    ensures { IfOk result (λ v. shapes v.items ≡ shapes members.now.items) }
+{
+    let mut copies = Vec::with_capacity(*members.allocator(), members.len())?;
+    for member in members {
+        copies.push(copy(member)?)?;
+    }
+    Ok(copies)
+}
+
+#[cycle(copy)]
+fn copy_pairs(pairs: &Vec<(String, Cell)>) -> Result<Vec<(String, Cell)>, AllocError>
+    ensures { IfOk result (λ v. entries v.items ≡ entries pairs.now.items) }
+{
+    let mut copies = Vec::with_capacity(*pairs.allocator(), pairs.len())?;
+    for (key, cell) in pairs {
+        let name = key.clone()?;
+        copies.push((name, copy(cell)?))?;
+    }
+    Ok(copies)
+}
+
+#[cycle(copy)]
+fn copy_nodes(nodes: &Vec<Node>) -> Result<Vec<Node>, AllocError>
+    ensures { IfOk result (λ v. map node_shape v.items ≡ map node_shape nodes.now.items) }
+{
+    let mut copies = Vec::with_capacity(*nodes.allocator(), nodes.len())?;
+    for node in nodes {
+        copies.push(copy_node(node)?)?;
+    }
+    Ok(copies)
+}
+
+#[cycle(copy)]
+fn copy_unbounds(
+    relationships: &Vec<UnboundRelationship>,
+) -> Result<Vec<UnboundRelationship>, AllocError>
+    ensures { IfOk result (λ v. map unbound_shape v.items
+        ≡ map unbound_shape relationships.now.items) }
+{
+    let mut copies = Vec::with_capacity(*relationships.allocator(), relationships.len())?;
+    for unbound in relationships {
+        copies.push(copy_unbound(unbound)?)?;
+    }
+    Ok(copies)
+}
+
+#[cycle(copy)]
+fn copy_node(node: &Node) -> Result<Node, AllocError>
+    ensures { IfOk result (λ n. node_shape n ≡ node_shape node.now) }
+{
+    let labels = copy_texts(&node.labels)?;
+    let properties = copy_pairs(&node.properties)?;
+    let element_id = copy_element(&node.element_id)?;
+    Ok(Node {
+        id: node.id,
+        labels,
+        properties,
+        element_id,
+    })
+}
+
+#[cycle(copy)]
+fn copy_unbound(unbound: &UnboundRelationship) -> Result<UnboundRelationship, AllocError>
+    ensures { IfOk result (λ r. unbound_shape r ≡ unbound_shape unbound.now) }
+{
+    let kind = unbound.kind.clone()?;
+    let properties = copy_pairs(&unbound.properties)?;
+    let element_id = copy_element(&unbound.element_id)?;
+    Ok(UnboundRelationship {
+        id: unbound.id,
+        kind,
+        properties,
+        element_id,
+    })
+}
+
+#[cycle(copy)]
+fn copy_relationship(relationship: &Relationship) -> Result<Relationship, AllocError>
+    ensures { IfOk result (λ r. relationship_shape r ≡ relationship_shape relationship.now) }
+{
+    let kind = relationship.kind.clone()?;
+    let properties = copy_pairs(&relationship.properties)?;
+    let element_ids = copy_elements(&relationship.element_ids)?;
+    Ok(Relationship {
+        id: relationship.id,
+        start: relationship.start,
+        end: relationship.end,
+        kind,
+        properties,
+        element_ids,
+    })
+}

@@ -1,7 +1,0 @@
-use Rattle.std.proofs.Common.{◌≡◌, drop}
-use Rattle.packstream.specs.View.{trees, trees_of}
-use Rattle.structures.specs.Faults.{each, is_text}
-use Rattle.structures.proofs.kinds.all_texts.Given as goal
-
-abbrev pub invariant-loop-member : goal.invariant-loop-member
-invariant-loop-member l = each is_text (trees_of (trees (drop l.member-index l.members))) ≡ each is_text (trees_of (trees l.members))

@@ -1,7 +1,0 @@
-use Rattle.std.proofs.Common.{◌≡◌, drop}
-use Rattle.packstream.specs.View.{trees, trees_of}
-use Rattle.structures.specs.Faults.{are_in_range}
-use Rattle.structures.proofs.kinds.all_within.Given as goal
-
-abbrev pub invariant-loop-i : goal.invariant-loop-i
-invariant-loop-i l = are_in_range (drop l.i l.kinds) (trees_of (trees (drop l.i l.fields))) ≡ are_in_range l.kinds (trees_of (trees l.fields))

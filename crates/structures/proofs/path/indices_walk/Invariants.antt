@@ -1,8 +1,0 @@
-use Rattle.std.proofs.Common.{◌≡◌, drop, map, true}
-use Rattle.packstream.specs.Tree.{int}
-use Rattle.packstream.specs.View.{trees_of}
-use Rattle.structures.specs.Faults.{is_walk}
-use Rattle.structures.proofs.path.indices_walk.Given as goal
-
-abbrev pub invariant-loop-index : goal.invariant-loop-index
-invariant-loop-index l = is_walk l.nodes l.relationships l.even (trees_of (map int (drop l.index-index l.indices))) ≡ is_walk l.nodes l.relationships true (trees_of (map int l.indices))
