@@ -1,5 +1,5 @@
 -- What a client takes of a piece that is data alone, and of one that begins with a whole message.
-use Rattle.std.proofs.Common.{◌≡◌, refl, sym, ◌∙◌, ap, subst, inl, inr, ℕ, ◌+◌, ◌<◌, ◌≤◌, true, false, Option, Result, Ok, Err, List, [], ◌++◌, length, take, arith}
+use Rattle.std.proofs.Common.{◌≡◌, refl, sym, ◌∙◌, ap, subst, inl, inr, ℕ, ◌+◌, ◌≤◌, true, false, Option, Result, Ok, Err, List, [], ◌++◌, length, take, arith}
 use Rattle.std.specs.Prelude.{IfOk, OnErr}
 use Rattle.std.proofs.lemmas.List.{take_all}
 use Rattle.wire.specs.declared.Version.{Version}
@@ -7,7 +7,7 @@ use Rattle.wire.specs.declared.Cut.{Cut}
 use Rattle.wire.specs.declared.Part.{Part}
 use Rattle.wire.specs.declared.Part.TheVariants as part
 use Rattle.wire.specs.Place.{Place, start}
-use Rattle.wire.specs.Parts.{cut_at}
+use Rattle.wire.specs.Parts.{IsData}
 use Rattle.wire.specs.Texts.{BeginsWith}
 use Rattle.wire.specs.Unfinished.{Unfinished, fresh, unfinished_at}
 use Rattle.wire.specs.Scanning.{Holds}
@@ -22,23 +22,15 @@ use Rattle.client.specs.declared.items.End.TheVariants as end
 use Rattle.client.specs.declared.faults.ClientFault.{ClientFault}
 use Rattle.client.specs.Held.{IsItem}
 use Rattle.client.specs.Rest.{heard_message}
-use Rattle.client.specs.Taking.{TakesPart, TakesItem, IsData}
+use Rattle.client.specs.Taking.{TakesPart, TakesItem}
 use Rattle.client.specs.Hearings.{plain, came_in, came_as, TakesPiece}
 use Rattle.client.proofs.Parts.{takes_data, Reached, reached_start, is_none, cut_goes_on, used_up}
-use Rattle.client.proofs.Taking.{taken_by, quiet_of}
+use Rattle.client.proofs.Taking.{taken_by, quiet_of, reads_none}
 
 -- ---- data alone
 
 abbrev cut_of : ℕ → Part → Cut
 cut_of used what = record { used = used; what = what }
-
--- one part is all of the piece, and data
-pub is_data : (old new : Place) (bytes : List ℕ) (c : Cut) → 0 < length bytes → c ≡ (cut_at old bytes).cut → new ≡ (cut_at old bytes).place → c.used ≡ length bytes → c.what ≡ part.Data → IsData old bytes new
-is_data old new bytes c some cut_is place_is all what = record {
-  some = some;
-  cut = sym cut_is ∙ ap (λ (n : ℕ). cut_of n c.what) all ∙ ap (λ (w : Part). cut_of (length bytes) w) what;
-  place = place_is;
-}
 
 -- the piece is used up, and the item goes on
 takes_alone : (old new : Place) (body bytes : List ℕ) (p q : Point) → Holds body old → old.too_big ≡ false → Reads p body → IsData old bytes new → ((b : List ℕ) → Reads p b → Reads q (b ++ bytes))
@@ -63,7 +55,7 @@ data_taken v o old new p q bytes opened going is more item held =
 -- and no message is past its limit
 pub going_behind : (o : Opening) (old new : Place) (p q : Point) (bytes : List ℕ) → 4 ≤ o.len → old.too_big ≡ false → IsData old bytes new → ((b : List ℕ) → Reads p b → Reads q (b ++ bytes)) → (item : Opened) → IsItem o old p item → new.too_big ≡ false
 going_behind o old new p q bytes opened going is more (opening held) at = absurd (omega arith)
-going_behind o old new p q bytes opened going is more (reading u) at = (takes_alone old new u.body bytes p q at.0.2 going at.1 is more).ends.2
+going_behind o old new p q bytes opened going is more (reading u) at = (takes_alone old new u.body bytes p q at.0.counts going at.1 is more).ends.going
 
 -- ---- a message whole
 
@@ -84,7 +76,7 @@ first_taken v o place p m bytes t opened at begins used said none =
     let e = taken_by fresh bytes _ refl (takes_first m bytes begins) in
     record {
       used = used ∙ sym (ap (λ x. x.used) e);
-      rest = subst (IsItem o place p) (sym (ap (λ x. x.rest) e)) ((opened, ap (λ (s : Place). unfinished_at s []) (sym at), subst (Holds []) (sym at) (refl, omega arith)), none);
+      rest = subst (IsItem o place p) (sym (ap (λ x. x.rest) e)) (reads_none o place p opened at none);
       came = said ∙ sym (ap (λ x. came_in v x.item) e);
       goes_on = λ h. absurd (not_big place at h);
     }
@@ -93,7 +85,7 @@ message_taken : (v : Option Version) (o : Opening) (place : Place) (p : Point) (
     → TakesPiece v (takes at_client item bytes) t o place p
 message_taken v o place p m bytes t opened at begins used said (opening held) is = absurd (omega arith)
 message_taken v o place p m bytes t opened at begins used said (reading u) is =
-    let none : u ≡ fresh = none_come place u is.0.1 is.0.2 at in
+    let none : u ≡ fresh = none_come place u is.0.held is.0.counts at in
     subst (λ (z : Unfinished). TakesPiece v (takes at_client (reading z) bytes) t o place p) (sym none)
     (first_taken v o place p m bytes t opened at begins used said (subst (λ (z : Unfinished). Reads p z.body) none is.1))
 

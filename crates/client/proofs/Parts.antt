@@ -87,7 +87,7 @@ module _ (s : Unfinished) (bytes : List ℕ) (used : ℕ) (place : Place) (p : P
   goes_by n part.Data next q more t a reads = (t.0, goes_on n next q more a.0 a.1 reads t.2)
   goes_by n part.Noop next q more t a reads =
       let none : more ≡ [] = is_none more a.2 in
-      record { body = more; reads = reads; ends = (r.ahead ∙ ap (further used) (t.0 ∙ ap (λ (l : List ℕ). record { answer = Ok (record { used = n; what = item_of l }); rest = fresh }) none), a.0, none) }
+      record { body = more; reads = reads; ends = record { answer = r.ahead ∙ ap (further used) (t.0 ∙ ap (λ (l : List ℕ). record { answer = Ok (record { used = n; what = item_of l }); rest = fresh }) none); begins = a.0; none = none } }
   goes_by n part.End next q more t a reads =
       record { body = more; reads = reads; ends = (r.ahead ∙ ap (further used) (t.0 ∙ ap (λ (i : Piece). record { answer = Ok (record { used = n; what = i }); rest = fresh }) (is_message more a.2)), a.0) }
   goes_by n part.TooBig next q more t a reads = record { body = more; reads = reads; ends = (r.ahead ∙ ap (further used) t, a) }
@@ -110,5 +110,9 @@ module _ (s : Unfinished) (bytes : List ℕ) (used : ℕ) (place : Place) (p : P
       record {
         body = r.body;
         reads = r.reads;
-        ends = (r.ahead ∙ ap (λ (z : List ℕ). further used (answer_from (unfinished_at place r.body) z)) (drop_all used bytes l) ∙ ap (λ (n : ℕ). record { answer = Ok (record { used = n; what = piece.Nothing }); rest = unfinished_at place r.body }) no_more, r.counts, r.going);
+        ends = record {
+          answer = r.ahead ∙ ap (λ (z : List ℕ). further used (answer_from (unfinished_at place r.body) z)) (drop_all used bytes l) ∙ ap (λ (n : ℕ). record { answer = Ok (record { used = n; what = piece.Nothing }); rest = unfinished_at place r.body }) no_more;
+          counts = r.counts;
+          going = r.going;
+        };
       }

@@ -26,11 +26,12 @@ use Rattle.client.specs.declared.feeding.Taken.{Taken}
 use Rattle.client.specs.declared.items.End.{End}
 use Rattle.client.specs.declared.items.End.TheVariants as end
 use Rattle.client.specs.declared.items.Bite.{Bite}
+use Rattle.client.specs.declared.stream.Stream.{Stream}
 use Rattle.client.specs.Answers.{held_bytes}
 use Rattle.client.specs.Held.{IsItem}
 use Rattle.client.specs.Rest.{heard_message}
 use Rattle.client.specs.Taking.{EndsAs, TakesItem}
-use Rattle.client.specs.Hearings.{plain, came_in, came_as, TakesPiece}
+use Rattle.client.specs.Hearings.{plain, came_in, came_as, TakesPiece, TakesNothing}
 
 -- of a stream that is opened: as of its chunks
 abbrev lifted : Took Unfinished Item → Took Opened Item
@@ -75,34 +76,37 @@ plain_by false false false = refl
 plain_version : (bytes : List ℕ) → plain (heard_version bytes) ≡ heard_version bytes
 plain_version bytes = plain_by (bytes_eq bytes (version_answer (Some V51))) (bytes_eq bytes (version_answer (Some V44))) (bytes_eq bytes (version_answer None))
 
+-- where no chunk has come
+pub reads_none : (o : Opening) (place : Place) (p : Point) → 4 ≤ o.len → place ≡ start → Reads p [] → IsItem o place p (reading fresh)
+reads_none o place p opened at none = (record { opened = opened; held = ap (λ (s : Place). unfinished_at s []) (sym at); counts = subst (Holds []) (sym at) (refl, omega arith) }, none)
+
 module _ (v : Option Version) (old new : Opening) (place : Place) (p : Point) (bytes piece : List ℕ) (used : ℕ) (item : IsItem old place p (opening bytes)) (holds : length (held_bytes old) ≡ old.len) (takes_most : used ≡ min (4 - old.len) (length piece)) (longer : new.len ≡ old.len + used) (holds_more : held_bytes new ≡ held_bytes old ++ take used piece) where
   not_past : place.too_big ≡ true → ⊥
-  not_past h = cc (ap (λ (s : Place). s.too_big) item.0.2)
+  not_past h = cc (ap (λ (s : Place). s.too_big) item.0.begins)
 
   answer_goes_on : new.len < 4 → TakesPiece v (takes at_client (opening bytes) piece) (record { used = used; came = came.Nothing }) new place p
   answer_goes_on l =
-      let is = item.0.1 in
-      let part = item.0.0 in
+      let is = item.0.held in
+      let part = item.0.part in
       let all : used ≡ length piece = omega arith in
       let m = part_taken bytes piece (omega (arith, holds, ap length is)) in
       let more : bytes ++ piece ≡ held_bytes new = ap (λ z. z ++ piece) is ∙ ap (λ z. held_bytes old ++ z) (sym (take_all used piece (omega arith))) ∙ sym holds_more in
       record {
         used = all ∙ sym (ap (λ t. t.used) m);
-        rest = subst (IsItem new place p) (sym (ap (λ t. t.rest) m)) ((l, more, item.0.2), item.1);
+        rest = subst (IsItem new place p) (sym (ap (λ t. t.rest) m)) (record { part = l; held = more; begins = item.0.begins }, item.1);
         came = sym (ap (λ t. came_in v t.item) m);
         goes_on = λ h. absurd (not_past h);
       }
 
   answer_ends : (c : Came) → 4 ≤ new.len → came_as c ≡ heard_version (held_bytes new) → TakesPiece v (takes at_client (opening bytes) piece) (record { used = used; came = c }) new place p
   answer_ends c l h =
-      let is = item.0.1 in
-      let part = item.0.0 in
+      let is = item.0.held in
+      let part = item.0.part in
       let m = whole_taken used bytes piece (omega arith) (omega arith) (omega (arith, holds, ap length is)) in
       let more : held_bytes new ≡ bytes ++ take used piece = holds_more ∙ ap (λ z. z ++ take used piece) (sym is) in
-      let begins : fresh ≡ unfinished_at place [] = ap (λ (s : Place). unfinished_at s []) (sym item.0.2) in
       record {
         used = sym (ap (λ t. t.used) m);
-        rest = subst (IsItem new place p) (sym (ap (λ t. t.rest) m)) ((l, begins, subst (Holds []) (sym item.0.2) (refl, omega arith)), item.1);
+        rest = subst (IsItem new place p) (sym (ap (λ t. t.rest) m)) (reads_none new place p l item.0.begins item.1);
         came = h ∙ ap heard_version more ∙ sym (plain_version (bytes ++ take used piece)) ∙ sym (ap (λ t. came_in v t.item) m);
         goes_on = λ h. absurd (not_past h);
       }
@@ -120,8 +124,8 @@ module _ (v : Option Version) (old new : Opening) (place : Place) (p : Point) (p
 -- what is held then, whether the answer is whole or not
 pub held_then : (old new : Opening) (place : Place) (p : Point) → old.len < 4 → (item : Opened) → IsItem old place p item → (next : Opened) × IsItem new place p next
 held_then old new place p part (opening bytes) is = elim (cases_lt new.len 4) as (λ _. (next : Opened) × IsItem new place p next) [
-  | inl l ↦ (opening (held_bytes new), ((l, refl, is.0.2), is.1))
-  | inr g ↦ (reading fresh, ((g, ap (λ (s : Place). unfinished_at s []) (sym is.0.2), subst (Holds []) (sym is.0.2) (refl, omega arith)), is.1))
+  | inl l ↦ (opening (held_bytes new), (record { part = l; held = refl; begins = is.0.begins }, is.1))
+  | inr g ↦ (reading fresh, reads_none new place p g is.0.begins is.1)
 ]
 held_then old new place p part (reading u) is = absurd (omega arith)
 
@@ -135,12 +139,12 @@ taken_by u piece a going e =
 module _ (v : Option Version) (o : Opening) (place : Place) (q : Point) (u : Unfinished) (piece body : List ℕ) (used : ℕ) (opened : 4 ≤ o.len) (going : u.too_big ≡ false) (reads : Reads q body) where
   after_nothing : EndsAs u piece used body place end.Nothing → TakesPiece v (takes at_client (reading u) piece) (record { used = used; came = came.Nothing }) o place q
   after_nothing e =
-      let m = taken_by u piece _ going e.0 in
+      let m = taken_by u piece _ going e.answer in
       record {
         used = sym (ap (λ t. t.used) m);
-        rest = subst (IsItem o place q) (sym (ap (λ t. t.rest) m)) ((opened, refl, e.1), reads);
+        rest = subst (IsItem o place q) (sym (ap (λ t. t.rest) m)) (record { opened = opened; held = refl; counts = e.counts }, reads);
         came = sym (ap (λ t. came_in v t.item) m);
-        goes_on = λ h. absurd (cc (e.2));
+        goes_on = λ h. absurd (cc (e.going));
       }
 
   after_too_big : EndsAs u piece used body place end.TooBig → TakesPiece v (takes at_client (reading u) piece) (record { used = used; came = came.Bad }) o place q
@@ -148,26 +152,22 @@ module _ (v : Option Version) (o : Opening) (place : Place) (q : Point) (u : Unf
       let m = taken_by u piece _ going e.0 in
       record {
         used = sym (ap (λ t. t.used) m);
-        rest = subst (IsItem o place q) (sym (ap (λ t. t.rest) m)) ((opened, refl, e.1), reads);
+        rest = subst (IsItem o place q) (sym (ap (λ t. t.rest) m)) (record { opened = opened; held = refl; counts = e.1 }, reads);
         came = sym (ap (λ t. came_in v t.item) m);
         goes_on = λ h. refl;
       }
-
-  -- where the next item begins
-  begins : place ≡ start → body ≡ [] → IsItem o place q (reading fresh)
-  begins at none = ((opened, ap (λ (s : Place). unfinished_at s []) (sym at), subst (Holds []) (sym at) (refl, omega arith)), subst (Reads q) none reads)
 
   not_big : place ≡ start → place.too_big ≡ true → ⊥
   not_big at h = cc (ap (λ (s : Place). s.too_big) at)
 
   after_noop : EndsAs u piece used body place end.Noop → TakesPiece v (takes at_client (reading u) piece) (record { used = used; came = came.Nothing }) o place q
   after_noop e =
-      let m = taken_by u piece _ going e.0 in
+      let m = taken_by u piece _ going e.answer in
       record {
         used = sym (ap (λ t. t.used) m);
-        rest = subst (IsItem o place q) (sym (ap (λ t. t.rest) m)) (begins e.1 e.2);
+        rest = subst (IsItem o place q) (sym (ap (λ t. t.rest) m)) (reads_none o place q opened e.begins (subst (Reads q) e.none reads));
         came = sym (ap (λ t. came_in v t.item) m);
-        goes_on = λ h. absurd (not_big e.1 h);
+        goes_on = λ h. absurd (not_big e.begins h);
       }
 
   -- nothing was read of it yet
@@ -177,7 +177,7 @@ module _ (v : Option Version) (o : Opening) (place : Place) (q : Point) (u : Unf
       let m = taken_by u piece _ going e.0 in
       record {
         used = sym (ap (λ t. t.used) m);
-        rest = subst (IsItem o place fresh_point) (sym (ap (λ t. t.rest) m)) ((opened, ap (λ (s : Place). unfinished_at s []) (sym e.1), subst (Holds []) (sym e.1) (refl, omega arith)), none);
+        rest = subst (IsItem o place fresh_point) (sym (ap (λ t. t.rest) m)) (reads_none o place fresh_point opened e.1 none);
         came = said ∙ sym (ap (λ t. came_in v t.item) m);
         goes_on = λ h. absurd (not_big e.1 h);
       }
@@ -190,11 +190,11 @@ module _ (v : Option Version) (o : Opening) (old place : Place) (p q : Point) (p
 
   nothing_of : (u : Unfinished) → IsItem o old p (reading u) → (what : End) → (what ≡ end.Nothing) ⊎ (what ≡ end.Noop) → bite.end ≡ what → Is (record { used = bite.used; came = came.Nothing }) q (reading u)
   nothing_of u is end.Nothing h e =
-      let t = taken u.body is.0.2 is.1 in
-      subst (λ (z : Unfinished). Is (record { used = bite.used; came = came.Nothing }) q (reading z)) (sym is.0.1) (after_nothing v o place q (unfinished_at old u.body) piece t.body bite.used opened going t.reads (subst (EndsAs (unfinished_at old u.body) piece bite.used t.body place) e t.ends))
+      let t = taken u.body is.0.counts is.1 in
+      subst (λ (z : Unfinished). Is (record { used = bite.used; came = came.Nothing }) q (reading z)) (sym is.0.held) (after_nothing v o place q (unfinished_at old u.body) piece t.body bite.used opened going t.reads (subst (EndsAs (unfinished_at old u.body) piece bite.used t.body place) e t.ends))
   nothing_of u is end.Noop h e =
-      let t = taken u.body is.0.2 is.1 in
-      subst (λ (z : Unfinished). Is (record { used = bite.used; came = came.Nothing }) q (reading z)) (sym is.0.1) (after_noop v o place q (unfinished_at old u.body) piece t.body bite.used opened going t.reads (subst (EndsAs (unfinished_at old u.body) piece bite.used t.body place) e t.ends))
+      let t = taken u.body is.0.counts is.1 in
+      subst (λ (z : Unfinished). Is (record { used = bite.used; came = came.Nothing }) q (reading z)) (sym is.0.held) (after_noop v o place q (unfinished_at old u.body) piece t.body bite.used opened going t.reads (subst (EndsAs (unfinished_at old u.body) piece bite.used t.body place) e t.ends))
   nothing_of u is end.Message (inl h) e = cc
   nothing_of u is end.Message (inr h) e = cc
   nothing_of u is end.TooBig (inl h) e = cc
@@ -207,14 +207,14 @@ module _ (v : Option Version) (o : Opening) (old place : Place) (p q : Point) (p
   pub too_big_of : bite.end ≡ end.TooBig → (item : Opened) → IsItem o old p item → Is (record { used = bite.used; came = came.Bad }) q item
   too_big_of e (opening bytes) is = absurd (omega arith)
   too_big_of e (reading u) is =
-      let t = taken u.body is.0.2 is.1 in
-      subst (λ (z : Unfinished). Is (record { used = bite.used; came = came.Bad }) q (reading z)) (sym is.0.1) (after_too_big v o place q (unfinished_at old u.body) piece t.body bite.used opened going t.reads (subst (EndsAs (unfinished_at old u.body) piece bite.used t.body place) e t.ends))
+      let t = taken u.body is.0.counts is.1 in
+      subst (λ (z : Unfinished). Is (record { used = bite.used; came = came.Bad }) q (reading z)) (sym is.0.held) (after_too_big v o place q (unfinished_at old u.body) piece t.body bite.used opened going t.reads (subst (EndsAs (unfinished_at old u.body) piece bite.used t.body place) e t.ends))
 
   pub message_of : bite.end ≡ end.Message → (c : Came) (fresh_point : Point) → Reads fresh_point [] → ((b : List ℕ) → Reads q b → came_as c ≡ plain (heard_message v b)) → (item : Opened) → IsItem o old p item → Is (record { used = bite.used; came = c }) fresh_point item
   message_of e c fresh_point none said (opening bytes) is = absurd (omega arith)
   message_of e c fresh_point none said (reading u) is =
-      let t = taken u.body is.0.2 is.1 in
-      subst (λ (z : Unfinished). Is (record { used = bite.used; came = c }) fresh_point (reading z)) (sym is.0.1) (after_message v o place q (unfinished_at old u.body) piece t.body bite.used opened going t.reads c fresh_point none (said t.body t.reads) (subst (EndsAs (unfinished_at old u.body) piece bite.used t.body place) e t.ends))
+      let t = taken u.body is.0.counts is.1 in
+      subst (λ (z : Unfinished). Is (record { used = bite.used; came = c }) fresh_point (reading z)) (sym is.0.held) (after_message v o place q (unfinished_at old u.body) piece t.body bite.used opened going t.reads c fresh_point none (said t.body t.reads) (subst (EndsAs (unfinished_at old u.body) piece bite.used t.body place) e t.ends))
 
 -- what is held of an item that some item is, before and after
 pub stands_then : (v : Option Version) (o : Opening) (old place : Place) (p q : Point) (piece : List ℕ) (t : Taken) → ((item : Opened) → IsItem o old p item → TakesPiece v (takes at_client item piece) t o place q)
@@ -224,17 +224,17 @@ stands_then v o old place p q piece t taken h = ∥∥₁_map h (λ x. ((takes a
 -- chunks are those of some message
 pub body_of : (o : Opening) (place : Place) (p : Point) → 4 ≤ o.len → (item : Opened) → IsItem o place p item → (body : List ℕ) × Holds body place × Reads p body
 body_of o place p opened (opening bytes) is = absurd (omega arith)
-body_of o place p opened (reading u) is = (u.body, is.0.2, is.1)
+body_of o place p opened (reading u) is = (u.body, is.0.counts, is.1)
 
 -- a point that stands where another stood
 pub held_at : (o : Opening) (place : Place) (p q : Point) → q ≡ p → ∥ ((item : Opened) × IsItem o place p item) ∥₁ → ∥ ((item : Opened) × IsItem o place q item) ∥₁
 held_at o place p q same h = ∥∥₁_map h (λ x. (x.0, subst (λ (z : Point). IsItem o place z x.0) (sym same) x.1))
 
 -- an item of what is as it was
-pub same_item : (o next : Opening) (place there : Place) (p q : Points) (item : Opened) → next ≡ o → there ≡ place → q ≡ p → IsItem o place p.here item → IsItem next there q.here item
-same_item o next place there p q item at same stands h =
-    subst (λ (x : Opening). IsItem x there q.here item) (sym at) (subst (λ (x : Place). IsItem o x q.here item) (sym same) (subst (λ (x : Points). IsItem o place x.here item) (sym stands) h))
+pub same_item : (old new : Stream) (item : Opened) → TakesNothing old new → IsItem old.opening old.chunks old.reader.here item → IsItem new.opening new.chunks new.reader.here item
+same_item old new item t h =
+    subst (λ (x : Opening). IsItem x new.chunks new.reader.here item) (sym t.opening) (subst (λ (x : Place). IsItem old.opening x new.reader.here item) (sym t.chunks) (subst (λ (x : Points). IsItem old.opening old.chunks x.here item) (sym t.reader) h))
 
 -- before the first byte
 pub held_first : (o : Opening) (place : Place) (p : Points) → o.len ≡ 0 → place ≡ start → p ≡ nothing_held → ∥ ((item : Opened) × IsItem o place p.here item) ∥₁
-held_first o place p none at begins = ∣ (opening (held_bytes o), ((omega arith, refl, at), subst (λ (x : Points). Reads x.here []) (sym begins) (tt, refl))) ∣₁
+held_first o place p none at begins = ∣ (opening (held_bytes o), (record { part = omega arith; held = refl; begins = at }, subst (λ (x : Points). Reads x.here []) (sym begins) (tt, refl))) ∣₁

@@ -21,9 +21,11 @@ knowledge_of p = record {
 }
 
 -- The client may stand at this rest of a run.
-abbrev pub Fits : Client → Rest → Type 0
-Fits c r = (c.wish ≡ r.wish) × (knowledge_of c.pipeline ≡ r.knows)
-    × IsItem c.stream.opening c.stream.chunks c.stream.reader.here r.item × (c.out.items ≡ r.unsent)
+pub record Fits (c : Client) (r : Rest) : Type 0 where
+  pub wish : c.wish ≡ r.wish
+  pub knows : knowledge_of c.pipeline ≡ r.knows
+  pub item : IsItem c.stream.opening c.stream.chunks c.stream.reader.here r.item
+  pub unsent : c.out.items ≡ r.unsent
 
 -- The request has a spelling at this version that stands for it.
 abbrev pub IsWrittenBy : Option Version → RequestView → Type 0
@@ -31,9 +33,10 @@ IsWrittenBy None q = ⊥
 IsWrittenBy (Some v) q = IsWritten v q
 
 -- The request is accepted with this ordinal, and it has a spelling that stands for it.
-abbrev pub IsAccepted : Rest → RequestView → ℕ → Type 0
-IsAccepted r q ordinal =
-    (refuses r.knows q ≡ None) × (ordinal ≡ next_ordinal r) × IsWrittenBy r.knows.version q
+pub record IsAccepted (r : Rest) (q : RequestView) (ordinal : ℕ) : Type 0 where
+  pub allowed : refuses r.knows q ≡ None
+  pub next : ordinal ≡ next_ordinal r
+  pub written : IsWrittenBy r.knows.version q
 
 -- what holds unless memory ran out
 abbrev pub UnlessMemory : {A : Type 0} → Result A ClientFault → Type 0 → Type 0

@@ -15,6 +15,7 @@ use Rattle.client.specs.declared.opening.Opening.{Opening}
 use Rattle.client.specs.declared.feeding.Came.{Came}
 use Rattle.client.specs.declared.feeding.Came.TheVariants as came
 use Rattle.client.specs.declared.feeding.Taken.{Taken}
+use Rattle.client.specs.declared.stream.Stream.{Stream}
 use Rattle.client.specs.declared.heard.Heard.{Heard}
 use Rattle.client.specs.declared.heard.Outcome.{Outcome}
 use Rattle.client.specs.declared.faults.ClientFault.{ClientFault}
@@ -78,6 +79,12 @@ pub record TakesPiece (v : Option Version) (m : Took Opened Item) (t : Taken) (o
   pub rest : IsItem o place p m.rest
   pub came : came_as t.came ≡ came_in v m.item
   pub goes_on : place.too_big ≡ true → came_as t.came ≡ AnyHeard.Strange
+
+-- What is held of the stream is what was.
+pub record TakesNothing (old new : Stream) : Type 0 where
+  pub opening : new.opening ≡ old.opening
+  pub chunks : new.chunks ≡ old.chunks
+  pub reader : new.reader ≡ old.reader
 
 -- what a feed answers, and that the client stands at the rest after it; not for want of memory
 abbrev pub Feeds : (Rest → Type 0) → Rest → Fed → Result (ℕ × Heard) ClientFault → Type 0

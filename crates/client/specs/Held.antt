@@ -1,7 +1,7 @@
 -- What a client holds of an item that isn't whole.
 use Rattle.std.specs.Prelude.{◌≡◌, ℕ, ◌<◌, ◌≤◌, List, []}
 use Rattle.wire.specs.Place.{Place, start}
-use Rattle.wire.specs.Unfinished.{unfinished_at}
+use Rattle.wire.specs.Unfinished.{Unfinished, unfinished_at}
 use Rattle.wire.specs.Framing.{Opened, opening, reading}
 use Rattle.wire.specs.Scanning.{Holds}
 use Rattle.reader.specs.Piecewise.{Point, Reads}
@@ -13,10 +13,22 @@ abbrev pub data_of : Opened → List ℕ
 data_of (opening bytes) = []
 data_of (reading u) = u.body
 
+-- bytes of a version answer that isn't whole
+pub record IsOpening (o : Opening) (place : Place) (bytes : List ℕ) : Type 0 where
+  pub part : o.len < 4
+  pub held : bytes ≡ held_bytes o
+  pub begins : place ≡ start
+
+-- chunks, after a version answer, at this place
+pub record IsReading (o : Opening) (place : Place) (u : Unfinished) : Type 0 where
+  pub opened : 4 ≤ o.len
+  pub held : u ≡ unfinished_at place u.body
+  pub counts : Holds u.body place
+
 -- The item is bytes of a version answer; or chunks, after such an answer, at this place.
 abbrev pub IsAt : Opening → Place → Opened → Type 0
-IsAt o place (opening bytes) = (o.len < 4) × (bytes ≡ held_bytes o) × (place ≡ start)
-IsAt o place (reading u) = (4 ≤ o.len) × (u ≡ unfinished_at place u.body) × Holds u.body place
+IsAt o place (opening bytes) = IsOpening o place bytes
+IsAt o place (reading u) = IsReading o place u
 
 -- And this was read of its data.
 abbrev pub IsItem : Opening → Place → Point → Opened → Type 0

@@ -28,6 +28,14 @@ use std::alloc::Global;
 use std::collections::VecDeque;
 use wire::{Chunks, Wish, offer, put_reserved, text_len};
 
+/// All of a piece was used, and nothing ended with it. A call of its own writes the answer once, where the caller reads it.
+#[inline(never)]
+fn used_up(used: usize) -> Result<(usize, Heard), ClientFault>
+    ensures { result ≡ Ok (used, Heard.Nothing) }
+{
+    Ok((used, Heard::Nothing))
+}
+
 impl Client {
     /// Its offer is to be taken out. C5 for want of memory.
     pub fn new(alloc: Global, wish: Wish) -> Result<Client, ClientFault>
@@ -107,6 +115,7 @@ impl Client {
     /// C4 where the client has ended; C6 at a bad answer, with which it has ended: one that can't be read or is past 65,536 bytes, a
     /// row where the first waiting request is no PULL, a summary that isn't accepted, a version that wasn't offered. C5 for want
     /// of memory: nothing was used, nothing has changed.
+    #[inline(always)]
     pub fn feed(&mut self, piece: &[u8]) -> Result<(usize, Heard), ClientFault>
         ensures told { (r : Rest) → Fits self.old r
             → UnlessMemory result ((note_result result ≡ (feed_of r piece.now).answer)
@@ -123,19 +132,21 @@ impl Client {
     }
 
     /// Of data alone nothing is told but that it was used.
+    #[inline(always)]
     fn feed_open(&mut self, piece: &[u8]) -> Result<(usize, Heard), ClientFault>
         requires { self.old.pipeline.over ≡ false }
         ensures { (r : Rest) → Fits self.old r
             → Feeds (Fits self.new) r (fed_open r (takes at_client r.item piece.now)) result }
     {
         match self.stream.take_data(piece) {
-            Ok(true) => Ok((piece.len(), Heard::Nothing)),
+            Ok(true) => used_up(piece.len()),
             Ok(false) => self.feed_item(piece),
             Err(fault) => Err(fault),
         }
     }
 
     /// Tells what ends with the last byte that is used.
+    #[inline(never)]
     fn feed_item(&mut self, piece: &[u8]) -> Result<(usize, Heard), ClientFault>
         requires { self.old.pipeline.over ≡ false }
         ensures { (r : Rest) → Fits self.old r

@@ -11,11 +11,11 @@ ghost use Rattle.messages.specs.Messages.{response_of as response_by};
 ghost use Rattle.client.specs.declared.opening.Opening.{Opening as AnyOpening};
 ghost use Rattle.client.specs.Answers.{held_bytes};
 ghost use Rattle.client.specs.Rest.{heard_response, heard_message};
-ghost use Rattle.client.specs.Hearings.{plain, came_as, TakesPiece};
+ghost use Rattle.client.specs.Hearings.{plain, came_as, TakesPiece, TakesNothing};
 ghost use Rattle.client.specs.Held.{IsItem};
 
 use crate::faults::ClientFault;
-use crate::items::{Bite, End, behind_data, take_item};
+use crate::items::{Bite, End, take_item};
 use crate::opening::{LENGTH, Opening};
 use crate::stream::Stream;
 use messages::{MsgFault, Response, read_response, response_of};
@@ -183,19 +183,15 @@ impl Stream {
             (record { used = length piece.now; came = Came.Nothing })
             self.new.opening self.new.chunks self.new.reader.here }
         ensures going { self.new.chunks.too_big ≡ false }
-        ensures other { result ≡ Ok false
-            → (self.new.opening ≡ self.old.opening) × (self.new.chunks ≡ self.old.chunks)
-            × (self.new.reader ≡ self.old.reader) }
+        ensures other { result ≡ Ok false → TakesNothing self.old self.new }
         ensures err { IfErr result (λ e. e ≡ ClientFault.Memory) }
-        ensures same { OnErr result
-            ((self.new.opening ≡ self.old.opening) × (self.new.chunks ≡ self.old.chunks)
-            × (self.new.reader ≡ self.old.reader)) }
+        ensures same { OnErr result (TakesNothing self.old self.new) }
     {
         reads_more();
         if self.opening.len < LENGTH {
             return Ok(false);
         }
-        let Some(behind) = behind_data(self.chunks, piece) else {
+        let Some(behind) = self.chunks.behind_data(piece) else {
             return Ok(false);
         };
         let Ok(()) = self.reader.advance(piece) else {
@@ -218,9 +214,7 @@ impl Stream {
             → IfOk result (λ t. TakesPiece version (takes at_client item piece.now) t
             self.new.opening self.new.chunks self.new.reader.here) }
         ensures err { IfErr result (λ e. e ≡ ClientFault.Memory) }
-        ensures same { OnErr result
-            ((self.new.opening ≡ self.old.opening) × (self.new.chunks ≡ self.old.chunks)
-            × (self.new.reader ≡ self.old.reader)) }
+        ensures same { OnErr result (TakesNothing self.old self.new) }
     {
         if self.opening.len < LENGTH {
             Ok(self.take_answer(piece))
@@ -264,9 +258,7 @@ impl Stream {
             → IfOk result (λ t. TakesPiece version (takes at_client item piece.now) t
             self.new.opening self.new.chunks self.new.reader.here) }
         ensures err { IfErr result (λ e. e ≡ ClientFault.Memory) }
-        ensures same { OnErr result
-            ((self.new.opening ≡ self.old.opening) × (self.new.chunks ≡ self.old.chunks)
-            × (self.new.reader ≡ self.old.reader)) }
+        ensures same { OnErr result (TakesNothing self.old self.new) }
     {
         match self.chunks.message_in(piece) {
             Some(message) => take_message(alloc, version, message),
@@ -287,9 +279,7 @@ impl Stream {
             → IfOk result (λ t. TakesPiece version (takes at_client item piece.now) t
             self.new.opening self.new.chunks self.new.reader.here) }
         ensures err { IfErr result (λ e. e ≡ ClientFault.Memory) }
-        ensures same { OnErr result
-            ((self.new.opening ≡ self.old.opening) × (self.new.chunks ≡ self.old.chunks)
-            × (self.new.reader ≡ self.old.reader)) }
+        ensures same { OnErr result (TakesNothing self.old self.new) }
     {
         let before = self.chunks;
         match read_chunks(alloc, version, &mut self.chunks, &mut self.reader, piece) {

@@ -1,10 +1,10 @@
 //! Takes the parts of a piece, and reads the data among them.
 
-ghost use Rattle.std.specs.Prelude.{◌≡◌, ℕ, ◌<◌, ◌≤◌, List, length, false, IfSome, IfOk};
+ghost use Rattle.std.specs.Prelude.{◌≡◌, ℕ, ◌<◌, ◌≤◌, List, length, false, IfOk};
 ghost use Rattle.wire.specs.Unfinished.{unfinished_at};
 ghost use Rattle.wire.specs.Scanning.{Holds};
 ghost use Rattle.reader.specs.Piecewise.{Reads};
-ghost use Rattle.client.specs.Taking.{IsData, TakesPart, TakesItem};
+ghost use Rattle.client.specs.Taking.{TakesPart, TakesItem};
 
 use reader::Reader;
 use reader::laws::reads_more;
@@ -28,23 +28,6 @@ pub(crate) enum End {
 pub(crate) struct Bite {
     pub used: usize,
     pub end: End,
-}
-
-/// The place behind a piece, where that is data of the chunk alone.
-pub(crate) fn behind_data(mut chunks: Chunks, piece: &[u8]) -> Option<Chunks>
-    ensures { IfSome result (λ behind. IsData chunks piece.now behind) }
-{
-    if piece.is_empty() {
-        return None;
-    }
-    let cut = chunks.next(piece);
-    if cut.used < piece.len() {
-        return None;
-    }
-    match cut.what {
-        Part::Data => Some(chunks),
-        _ => None,
-    }
 }
 
 /// Takes one part, and reads its data. For want of memory the reader stays as it was.

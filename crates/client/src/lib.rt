@@ -21,6 +21,6 @@ mod stream;
 mod verdicts;
 
 pub use client::Client;
-pub use faults::{ClientFault, SubmitFault};
+pub use faults::{ClientFault, SubmitFault, Unwritable};
 pub use heard::{Heard, Outcome};
 pub use losses::Losses;

@@ -11,11 +11,12 @@ use Rattle.machine.specs.declared.rows.Verdict.{Verdict}
 use Rattle.machine.specs.Asks.{kind_of, is_reset}
 use Rattle.machine.specs.Following.{interruptible}
 use Rattle.engine.specs.Views.{EntryView}
-use Rattle.server.specs.declared.kinds.Cause.{Cause}
+use Rattle.exchange.specs.declared.kinds.Cause.{Cause}
 use Rattle.server.specs.declared.kinds.Took.{Took}
-use Rattle.server.specs.declared.kinds.What.{What}
-use Rattle.server.specs.Session.{Setting, Reply, OneRow, Summary, Bye}
-use Rattle.server.specs.Rest.{Kept, Step, Ended, Full, puts, arrival, cause_of, ends, after_item, full, noop_kept, puts_noop, replies, rests, reset_among, shut, after_strike, takes_item, takes_none, turns, unread_among, version_of, work_kept}
+use Rattle.exchange.specs.declared.kinds.What.{What}
+use Rattle.exchange.specs.Session.{Setting, Reply, OneRow, Summary, Bye}
+use Rattle.exchange.specs.Rest.{Kept, Step, Ended, Full, puts, cause_of, ends, after_item, full, noop_kept, puts_noop, replies, rests, reset_among, shut, after_strike, turns, unread_among, version_of, work_kept}
+use Rattle.server.specs.Feeding.{arrival, takes_item, takes_none}
 use Rattle.server.specs.Serving.{Live, after_feeding, fresh, fed_live, with_kept}
 use Rattle.server.specs.Past.{Agrees, Follows, IsLater, answers_by, places_of}
 use Rattle.server.proofs.Arriving.{is_shake, IsNext, more_arrives, next_arrival, placed-append, rest_after}

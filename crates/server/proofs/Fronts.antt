@@ -8,7 +8,7 @@ use Rattle.wire.specs.declared.parts.Cut.{Cut}
 use Rattle.wire.specs.declared.parts.Part.{Part}
 use Rattle.wire.specs.declared.parts.Part.TheVariants as part
 use Rattle.wire.specs.Place.{Place, start}
-use Rattle.wire.specs.Parts.{cut_at}
+use Rattle.wire.specs.Parts.{cut_at, IsData}
 use Rattle.wire.specs.Texts.{BeginsWith}
 use Rattle.wire.specs.Unfinished.{Unfinished, fresh, unfinished_at}
 use Rattle.wire.specs.Reader.{takes}
@@ -19,9 +19,10 @@ use Rattle.reader.specs.Piecewise.{Point, Reads}
 use Rattle.messages.specs.Messages.{request_of}
 use Rattle.server.specs.declared.incoming.Stream.{Stream}
 use Rattle.server.specs.declared.kinds.Took.{Took}
-use Rattle.server.specs.declared.kinds.What.{What}
-use Rattle.server.specs.Rest.{Kept, takes_item, Receives, arrival_by, version_of}
-use Rattle.server.specs.Incoming.{IsAt, IsFedAt, Comes, IsData, IsFirst}
+use Rattle.exchange.specs.declared.kinds.What.{What}
+use Rattle.exchange.specs.Rest.{Kept, Receives, arrival_by, version_of}
+use Rattle.server.specs.Feeding.{takes_item}
+use Rattle.server.specs.Incoming.{IsAt, IsFedAt, Comes, IsFirst}
 use Rattle.server.proofs.Readings.{takes_fed}
 use Rattle.server.proofs.Coming.{comes_none, comes_on, comes_all}
 use Rattle.server.proofs.Feeds.{empty_is, by_taken, fed_part}
@@ -35,12 +36,10 @@ left piece = take (length piece - 0) (drop 0 piece)
 left_is : (piece : List ℕ) → left piece ≡ piece
 left_is piece = take_all (length piece - 0) piece (omega arith)
 
--- one part is all of the piece, and data
-pub is_data : (s : Stream) (piece : List ℕ) (c : Cut) (behind : Place) → s.is_over ≡ false → 0 < length piece → c ≡ (cut_at s.chunks piece).cut → behind ≡ (cut_at s.chunks piece).place → c.used ≤ length piece → length piece ≤ c.used → c.what ≡ part.Data
-    → IsData s piece behind
-is_data s piece c behind going some cut_is behind_is within all what =
-    let same : c.used ≡ length piece = omega arith in
-    record { going = going; some = some; used = sym (ap (λ (x : Cut). x.used) cut_is) ∙ same; what = sym (ap (λ (x : Cut). x.what) cut_is) ∙ what; place = behind_is }
+-- where the stream goes on
+pub is_alone : (r : Option Place) (s : Stream) (piece : List ℕ) → s.is_over ≡ false → ((behind : Place) → (r ≡ Some behind) ↔ IsData s.chunks piece behind) → IfSome r (λ behind. (s.is_over ≡ false) × IsData s.chunks piece behind)
+is_alone None s piece going found = tt
+is_alone (Some behind) s piece going found = (going, (found behind).0 refl)
 
 module _ (u : Unfinished) (piece : List ℕ) (c : Cut) (small : u.too_big ≡ false) (some : 0 < length piece) (used : c.used ≡ length piece) (what : c.what ≡ part.Data) where
   -- it has come to its end
@@ -61,12 +60,14 @@ module _ (u : Unfinished) (piece : List ℕ) (c : Cut) (small : u.too_big ≡ fa
       (fed_part k u piece (record { used = 0 + c.used; what = part.Head }) s going (comes_all u piece (0 + c.used) s small h most) (inl refl))
 
 -- the reader has read it, and the place is the one behind it
-pub fed_data : (k : Kept) (u : Unfinished) (piece : List ℕ) (old new : Stream) → IsAt old u → IsData old piece new.chunks → new.is_over ≡ old.is_over → ((b : List ℕ) → Reads old.reader.here b → Reads new.reader.here (b ++ piece))
+pub fed_data : (k : Kept) (u : Unfinished) (piece : List ℕ) (old new : Stream) → IsAt old u → (old.is_over ≡ false) × IsData old.chunks piece new.chunks → new.is_over ≡ old.is_over → ((b : List ℕ) → Reads old.reader.here b → Reads new.reader.here (b ++ piece))
     → IsFedAt (takes_item k (takes at_server (reading u) piece)) (record { used = length piece; what = What.Part }) k new
 fed_data k u piece old new is alone same read =
-    let small : u.too_big ≡ false = is.over ∙ alone.going in
-    data_fed u piece (cut_at old.chunks piece).cut small alone.some alone.used alone.what k new (same ∙ alone.going)
-    (comes_data u piece (cut_at old.chunks piece).cut small alone.some alone.used alone.what old.chunks new.chunks old.reader.here new.reader.here (comes_none old u piece is alone.going) refl alone.place read)
+    let small : u.too_big ≡ false = is.over ∙ alone.0 in
+    let used : (cut_at old.chunks piece).cut.used ≡ length piece = ap (λ (x : Cut). x.used) alone.1.cut in
+    let what : (cut_at old.chunks piece).cut.what ≡ part.Data = ap (λ (x : Cut). x.what) alone.1.cut in
+    data_fed u piece (cut_at old.chunks piece).cut small alone.1.some used what k new (same ∙ alone.0)
+    (comes_data u piece (cut_at old.chunks piece).cut small alone.1.some used what old.chunks new.chunks old.reader.here new.reader.here (comes_none old u piece is alone.0) refl alone.1.place read)
 
 -- ---- a message whole
 
@@ -92,4 +93,4 @@ pub fed_whole : (k : Kept) (u : Unfinished) (piece m : List ℕ) (what : What) (
 fed_whole k u piece m what new s is first received =
     let none : u ≡ fresh = none_come s u is first.going first.place in
     by_taken k u piece _ _ new s (ap (λ (v : Unfinished). takes at_server (reading v) piece) none ∙ takes_message m piece first.begins)
-    (ap (λ w. let x : Took = record { used = length m + 4; what = w } in x) (sym received.0), sym received.1, fresh, refl, subst (λ (v : Unfinished). IsAt s v) none is)
+    (record { told = ap (λ w. let x : Took = record { used = length m + 4; what = w } in x) (sym received.0); kept = sym received.1; item = fresh; is = refl; at = subst (λ (v : Unfinished). IsAt s v) none is })

@@ -3,13 +3,8 @@ pub mod Requests
 pub mod Coming
 pub mod Feeds
 pub mod Fronts
-pub mod Queues
 pub mod Placed
 pub mod Calls
-pub mod Saids
-pub mod Writes
-pub mod Replies
-pub mod Turns
 pub mod Bounds
 pub mod Runs
 pub mod Ledgers

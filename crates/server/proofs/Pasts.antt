@@ -13,7 +13,7 @@ use Rattle.messages.specs.Arrivals.{Arrival, Shook, NoMagic, Idle, Asked, Unread
 use Rattle.messages.proofs.Wholes.{arrives_whole}
 use Rattle.engine.specs.declared.answer.Mode.{Mode as QueryMode}
 use Rattle.engine.specs.Views.{WriteView, ParameterView, EntryView, AnswerView, QueryFault}
-use Rattle.server.specs.Rest.{take_kept, work_kept}
+use Rattle.exchange.specs.Rest.{take_kept, work_kept}
 use Rattle.server.specs.Serving.{Live, Rest, after_step, empty, fed_live, find, fresh, is_full, noop_put, opened, replace, setting, taken_from, with_kept, with_session, without}
 use Rattle.server.specs.Running.{AreBelow, Event, opens, feeds, works, takes, noops, loses, after_call, after_event, after_events}
 use Rattle.server.specs.Past.{Asks, Follows, answers_by, bytes_taken, call_answered, places_of, requests_answered, step_answered, took_by, used_of}
@@ -32,8 +32,8 @@ find_replaced conn s t (r ∷ ss) f e = elim (eqb r.conn conn) as (λ c. eqb r.c
 find_below : (n conn : ℕ) (ss : List Live) → AreBelow n ss → n ≤ conn → find conn ss ≡ None
 find_below n conn [] h l = refl
 find_below n conn (s ∷ ss) h l =
-    let other : eqb s.conn conn ≡ false = let b = h.0 in grind (arith, nat_tests) in
-    rw other (find_below n conn ss h.2 l)
+    let other : eqb s.conn conn ≡ false = let b = h.0.below in grind (arith, nat_tests) in
+    rw other (find_below n conn ss h.1 l)
 
 find_kept : (n c conn : ℕ) (ss : List Live) (s : Live) → AreBelow n ss → find conn (without c ss) ≡ Some s → find conn ss ≡ Some s
 find_kept n c conn [] s h f = cc
@@ -41,13 +41,13 @@ find_kept n c conn (r ∷ ss) s h f = elim (eqb r.conn c) as (λ b. find conn (c
   | true ↦ λ g. elim (eqb r.conn conn) as (λ b. eqb r.conn conn ≡ b → cond b (Some r) (find conn ss) ≡ Some s) [
     | true ↦ λ e.
         let same : r.conn ≡ conn = grind (arith, nat_tests, e) in
-        let none : find conn ss ≡ None = ap (λ k. find k ss) (sym same) ∙ h.1 in
+        let none : find conn ss ≡ None = ap (λ k. find k ss) (sym same) ∙ h.0.once in
         cc
     | false ↦ λ e. g
   ] refl
   | false ↦ λ g. elim (eqb r.conn conn) as (λ b. cond b (Some r) (find conn (without c ss)) ≡ Some s → cond b (Some r) (find conn ss) ≡ Some s) [
     | true ↦ λ e. e
-    | false ↦ λ e. find_kept n c conn ss s h.2 e
+    | false ↦ λ e. find_kept n c conn ss s h.1 e
   ] g
 ] f
 

@@ -4,8 +4,8 @@ use Rattle.std.specs.Prelude.{option_map, ◌||◌}
 use Rattle.std.proofs.lemmas.Bool.Decides.{nat_tests}
 use Rattle.engine.specs.declared.answer.Mode.{Mode as QueryMode}
 use Rattle.engine.specs.Views.{WriteView, ParameterView, EntryView, AnswerView, QueryFault}
-use Rattle.server.specs.Serving.{empty, with_sessions, commit_entries, Live, Rest, fresh, find, replace, without, is_full, opened, fed_live, taken_from, noop_put, on_live, with_kept, with_session, after_step, setting}
-use Rattle.server.specs.Rest.{work_kept}
+use Rattle.server.specs.Serving.{empty, with_sessions, Live, Rest, fresh, find, replace, without, is_full, opened, fed_live, taken_from, noop_put, on_live, with_kept, with_session, after_step, setting}
+use Rattle.exchange.specs.Rest.{commit_entries, work_kept}
 use Rattle.server.proofs.Bounds.{Fine, fine_bounded, FewRows, few_answers, begun_fine, feed_fine, work_fine, taken_fine, noop_fine}
 use Rattle.server.specs.Running.{AllBounded, AreBelow, IsKept, after_events, Event, opens, feeds, works, takes, noops, loses, after_call, after_event, conn_of}
 
@@ -120,26 +120,26 @@ replace-below n conn t [] e h = tt
 replace-below n conn t (s ∷ ss) e h = elim (eqb s.conn conn) as (λ c. eqb s.conn conn ≡ c → AreBelow n (cond c (t ∷ ss) (s ∷ replace conn t ss))) [
   | true ↦ λ q.
       let here : t.conn ≡ s.conn = grind (arith, nat_tests) in
-      (omega arith, ap (λ k. find k ss) here ∙ h.1, h.2)
+      (record { below = omega arith; once = ap (λ k. find k ss) here ∙ h.0.once }, h.1)
   | false ↦ λ q.
       let differ : conn ≢ s.conn = grind (arith, nat_tests) in
-      (h.0, find_other-replace s.conn conn t ss differ e ∙ h.1, replace-below n conn t ss e h.2)
+      (record { below = h.0.below; once = find_other-replace s.conn conn t ss differ e ∙ h.0.once }, replace-below n conn t ss e h.1)
 ] refl
 
 without-below : (n conn : ℕ) (ss : List Live) → AreBelow n ss → AreBelow n (without conn ss)
 without-below n conn [] h = tt
 without-below n conn (s ∷ ss) h = elim (eqb s.conn conn) as (λ c. eqb s.conn conn ≡ c → AreBelow n (cond c ss (s ∷ without conn ss))) [
-  | true ↦ λ q. h.2
+  | true ↦ λ q. h.1
   | false ↦ λ q.
       let differ : conn ≢ s.conn = grind (arith, nat_tests) in
-      (h.0, find_other-without s.conn conn ss differ ∙ h.1, without-below n conn ss h.2)
+      (record { below = h.0.below; once = find_other-without s.conn conn ss differ ∙ h.0.once }, without-below n conn ss h.1)
 ] refl
 
 push-below : (n : ℕ) (ss : List Live) → AreBelow n ss → AreBelow (n + 1) (ss ++ fresh n ∷ [])
-push-below n [] h = (omega arith, refl, tt)
+push-below n [] h = (record { below = omega arith; once = refl }, tt)
 push-below n (s ∷ ss) h =
-    let differ : n ≢ s.conn = omega (arith, h.0) in
-    (omega (arith, h.0), find_other-push s.conn n ss differ ∙ h.1, push-below n ss h.2)
+    let differ : n ≢ s.conn = omega (arith, h.0.below) in
+    (record { below = omega (arith, h.0.below); once = find_other-push s.conn n ss differ ∙ h.0.once }, push-below n ss h.1)
 
 or-left : (a b : Bool) → (a || b) ≡ false → a ≡ false
 or-left true b e = e

@@ -5,7 +5,6 @@ use Rattle.wire.specs.declared.parts.Cut.{Cut}
 use Rattle.wire.specs.declared.parts.Part.{Part}
 use Rattle.wire.specs.declared.parts.Part.TheVariants as part
 use Rattle.wire.specs.Place.{Place, start}
-use Rattle.wire.specs.Parts.{cut_at}
 use Rattle.wire.specs.Texts.{BeginsWith}
 use Rattle.wire.specs.Unfinished.{Unfinished, fresh, unfinished_at}
 use Rattle.wire.specs.Items.{answer_from, further}
@@ -16,7 +15,8 @@ use Rattle.server.specs.declared.incoming.Incoming.{Incoming}
 use Rattle.server.specs.declared.incoming.Offer.{Offer}
 use Rattle.server.specs.declared.incoming.Stream.{Stream}
 use Rattle.server.specs.declared.kinds.Took.{Took}
-use Rattle.server.specs.Rest.{Kept, Feeding}
+use Rattle.exchange.specs.Rest.{Kept}
+use Rattle.server.specs.Feeding.{Feeding}
 
 -- The stream stands in this item: its reader has read the data, and while none was refused its place is that of the item.
 pub record IsAt (s : Stream) (u : Unfinished) : Type 0 where
@@ -24,10 +24,15 @@ pub record IsAt (s : Stream) (u : Unfinished) : Type 0 where
   pub reads : Reads s.reader.here u.body
   pub place : u.too_big ≡ false → (u ≡ unfinished_at s.chunks u.body) × Holds u.body s.chunks
 
+-- These bytes of the handshake have come, and none of the stream.
+pub record HasBegun (offer : Offer) (s : Stream) (bytes : List ℕ) : Type 0 where
+  pub few : offer.len < 20
+  pub bytes_are : bytes ≡ take offer.len offer.bytes
+  pub unread : IsAt s fresh
+
 -- what has come of the handshake, and then of the stream, is this
 abbrev pub HasCome : Offer → Stream → Opened → Type 0
-HasCome offer s (opening bytes) =
-    (offer.len < 20) × (bytes ≡ take offer.len offer.bytes) × IsAt s fresh
+HasCome offer s (opening bytes) = HasBegun offer s bytes
 HasCome offer s (reading u) = (offer.len ≡ 20) × IsAt s u
 
 -- what is held of a session's bytes stands for this item that isn't whole
@@ -38,14 +43,24 @@ IsOpened i u = HasCome i.offer i.stream u
 abbrev pub IsSame : Incoming → Incoming → Type 0
 IsSame old new = (new.offer ≡ old.offer) × (new.stream ≡ old.stream)
 
--- what was told, what the exchange keeps and what isn't whole then are those of the model
-abbrev pub IsFed : Feeding → Took → Kept → Incoming → Type 0
-IsFed f took k i = (f.took ≡ took) × (f.kept ≡ k) × IsOpened i f.unfinished
+-- What was told, what the exchange keeps and what has come then are those of the model.
+pub record IsFedBy (f : Feeding) (took : Took) (k : Kept) (offer : Offer) (s : Stream)
+    : Type 0 where
+  pub told : f.took ≡ took
+  pub kept : f.kept ≡ k
+  pub come : HasCome offer s f.unfinished
 
--- the same of a stream
-abbrev pub IsFedAt : Feeding → Took → Kept → Stream → Type 0
-IsFedAt f took k s = (f.took ≡ took) × (f.kept ≡ k) × (u : Unfinished) × (f.unfinished ≡ reading u)
-    × IsAt s u
+-- the same of what is held of a session's bytes
+abbrev pub IsFed : Feeding → Took → Kept → Incoming → Type 0
+IsFed f took k i = IsFedBy f took k i.offer i.stream
+
+-- The same of a stream.
+pub record IsFedAt (f : Feeding) (took : Took) (k : Kept) (s : Stream) : Type 0 where
+  pub told : f.took ≡ took
+  pub kept : f.kept ≡ k
+  pub item : Unfinished
+  pub is : f.unfinished ≡ reading item
+  pub at : IsAt s item
 
 -- the item that ends with bytes of a kind, where these are its data
 abbrev pub item_ended : Part → List ℕ → Option Item
@@ -84,14 +99,6 @@ pub record Comes (u : Unfinished) (piece : List ℕ) (used : ℕ) (place : Place
   pub going : place.too_big ≡ false
   pub ahead : answer_from u piece
       ≡ further used (answer_from (unfinished_at place body) (drop used piece))
-
--- The piece is data of the chunk alone, and this is the place behind it.
-pub record IsData (s : Stream) (piece : List ℕ) (behind : Place) : Type 0 where
-  pub going : s.is_over ≡ false
-  pub some : 0 < length piece
-  pub used : (cut_at s.chunks piece).cut.used ≡ length piece
-  pub what : (cut_at s.chunks piece).cut.what ≡ part.Data
-  pub place : behind ≡ (cut_at s.chunks piece).place
 
 -- No message is begun, and the piece begins with this one, in one chunk.
 pub record IsFirst (s : Stream) (piece message : List ℕ) : Type 0 where

@@ -1,12 +1,7 @@
-pub mod Faults
-pub mod Said
-pub mod Session
-pub mod Rest
+pub mod Feeding
 pub mod Serving
-pub mod Rows
 pub mod Incoming
 pub mod Views
 pub mod Places
-pub mod Acts
 pub mod Running
 pub mod Past

@@ -1,8 +1,9 @@
 //! The items of the bytes that a session takes: the handshake, then no-ops and messages.
 ghost use Rattle.std.specs.Prelude.{◌≡◌, ◌≤◌, length};
 
-use crate::exchange::Exchange;
-use crate::kinds::{Took, What};
+use crate::asking::{ask, ask_bytes};
+use crate::kinds::Took;
+use exchange::{Exchange, What};
 use reader::Reader;
 use std::alloc::{AllocError, Global};
 use wire::{Chunks, Cut, Part};
@@ -45,11 +46,12 @@ pub(crate) struct Incoming {
 }
 
 impl Incoming {
-    ghost use Rattle.std.specs.Prelude.{ℕ, ◌+◌, ◌<◌, ◌^◌, length, IfOk, OnErr};
+    ghost use Rattle.std.specs.Prelude.{◌<◌, false, IfOk, OnErr};
     ghost use Rattle.wire.specs.Framing.{Opened, at_server};
     ghost use Rattle.wire.specs.Reader.{takes};
-    ghost use Rattle.server.specs.Rest.{takes_item};
-    ghost use Rattle.server.specs.Views.{kept_of};
+    ghost use Rattle.server.specs.Feeding.{takes_item};
+    ghost use Rattle.exchange.specs.Rest.{full};
+    ghost use Rattle.exchange.specs.Views.{kept_of};
     ghost use Rattle.server.specs.Incoming.{IsOpened, IsFed, IsSame};
 
     /// Before the first byte.
@@ -72,8 +74,7 @@ impl Incoming {
 
     /// Takes a piece to the end of the item begun, else whole, and the exchange receives the item. An `Err` changes nothing.
     pub(crate) fn take(&mut self, exchange: &mut Exchange, piece: &[u8]) -> Result<Took, AllocError>
-        requires place { length exchange.old.queue.items < 32 }
-        requires ordinal { exchange.old.first + length exchange.old.queue.items < 2 ^ 63 }
+        requires { full (kept_of exchange.old) ≡ false }
         ensures ok { (u : Opened) → IsOpened self.old u
             → IfOk result (λ took. IsFed
             (takes_item (kept_of exchange.old) (takes at_server u piece.now)) took
@@ -112,8 +113,7 @@ impl Incoming {
 
     /// Takes bytes of chunks: data alone, else a message whole, else part by part.
     fn take_chunks(&mut self, exchange: &mut Exchange, piece: &[u8]) -> Result<Took, AllocError>
-        requires place { length exchange.old.queue.items < 32 }
-        requires ordinal { exchange.old.first + length exchange.old.queue.items < 2 ^ 63 }
+        requires room { full (kept_of exchange.old) ≡ false }
         requires whole { self.old.offer.len ≡ 20 }
         ensures ok { (u : Opened) → IsOpened self.old u
             → IfOk result (λ took. IsFed
@@ -132,7 +132,7 @@ impl Incoming {
             });
         }
         if let Some(message) = self.stream.message_in(piece) {
-            let what = exchange.ask_bytes(message)?;
+            let what = ask_bytes(exchange, message)?;
             return Ok(Took {
                 used: message.len() + 4,
                 what,
@@ -144,8 +144,7 @@ impl Incoming {
     /// Takes bytes of chunks part by part. For want of memory the place is put back, and the reader returns to the point that it
     /// holds.
     fn take_parts(&mut self, exchange: &mut Exchange, piece: &[u8]) -> Result<Took, AllocError>
-        requires place { length exchange.old.queue.items < 32 }
-        requires ordinal { exchange.old.first + length exchange.old.queue.items < 2 ^ 63 }
+        requires room { full (kept_of exchange.old) ≡ false }
         requires whole { self.old.offer.len ≡ 20 }
         ensures ok { (u : Opened) → IsOpened self.old u
             → IfOk result (λ took. IsFed
@@ -190,33 +189,27 @@ impl Offer {
 }
 
 impl Stream {
-    ghost use Rattle.std.specs.Prelude.{ℕ, List, ◌+◌, ◌<◌, ◌^◌, false, length, take, IfOk, IfSome, OnErr};
+    ghost use Rattle.std.specs.Prelude.{ℕ, List, false, IfOk, IfSome, OnErr};
     ghost use Rattle.wire.specs.Unfinished.{Unfinished};
     ghost use Rattle.wire.specs.Framing.{at_server, reading};
     ghost use Rattle.wire.specs.Reader.{takes};
-    ghost use Rattle.wire.specs.Parts.{cut_at};
+    ghost use Rattle.wire.specs.Parts.{cut_at, IsData};
     ghost use Rattle.wire.specs.Scanning.{with_data};
     ghost use Rattle.reader.specs.Piecewise.{Reads};
-    ghost use Rattle.server.specs.Rest.{takes_item};
-    ghost use Rattle.server.specs.Views.{kept_of};
-    ghost use Rattle.server.specs.Incoming.{IsAt, IsFedAt, IsData, IsFirst, Scans};
+    ghost use Rattle.server.specs.Feeding.{takes_item};
+    ghost use Rattle.exchange.specs.Rest.{full};
+    ghost use Rattle.exchange.specs.Views.{kept_of};
+    ghost use Rattle.server.specs.Incoming.{IsAt, IsFedAt, IsFirst, Scans};
 
     /// The place behind a piece, where that is data alone.
     fn behind_data(&self, piece: &[u8]) -> Option<Chunks>
-        ensures { IfSome result (λ behind. IsData self.now piece.now behind) }
+        ensures { IfSome result
+            (λ behind. (self.now.is_over ≡ false) × IsData self.now.chunks piece.now behind) }
     {
-        if self.is_over || piece.is_empty() {
+        if self.is_over {
             return None;
         }
-        let mut chunks = self.chunks;
-        let cut = chunks.next(piece);
-        if cut.used < piece.len() {
-            return None;
-        }
-        match cut.what {
-            Part::Data => Some(chunks),
-            _ => None,
-        }
+        self.chunks.behind_data(piece)
     }
 
     /// The message that a piece begins with, whole and in one chunk, where none is begun.
@@ -232,16 +225,14 @@ impl Stream {
     /// Takes a piece to the end of the item begun, else whole, and the exchange receives the item. After an `Err` the held point
     /// and the exchange are as before.
     fn take(&mut self, exchange: &mut Exchange, piece: &[u8]) -> Result<Took, AllocError>
-        requires place { length exchange.old.queue.items < 32 }
-        requires ordinal { exchange.old.first + length exchange.old.queue.items < 2 ^ 63 }
+        requires { full (kept_of exchange.old) ≡ false }
         ensures ok { (u : Unfinished) → IsAt self.old u
             → IfOk result (λ took. IsFedAt
             (takes_item (kept_of exchange.old) (takes at_server (reading u) piece.now)) took
             (kept_of exchange.new) self.new) }
-        ensures err { OnErr result
-            ((kept_of exchange.new ≡ kept_of exchange.old)
-            × (self.new.reader.held ≡ self.old.reader.held)
-            × (self.new.is_over ≡ self.old.is_over)) }
+        ensures err { OnErr result (kept_of exchange.new ≡ kept_of exchange.old) }
+        ensures held { OnErr result (self.new.reader.held ≡ self.old.reader.held) }
+        ensures over { OnErr result (self.new.is_over ≡ self.old.is_over) }
     {
         if self.is_over {
             return Ok(Took {
@@ -254,8 +245,8 @@ impl Stream {
             Part::Head | Part::Data => What::Part,
             Part::Noop => What::Noop,
             Part::End => {
-                let what = exchange.ask(&self.reader)?;
-                self.reader = Reader::new(exchange.alloc);
+                let what = ask(exchange, &self.reader)?;
+                self.reader = Reader::new(exchange.alloc());
                 what
             }
             Part::TooBig => {

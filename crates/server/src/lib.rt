@@ -4,24 +4,14 @@
 //! was answered on `places_follow_bytes`.
 #![tactic(auto)]
 
-mod acts;
-mod deciding;
-mod exchange;
-mod fault;
+mod asking;
 mod incoming;
 mod kinds;
 pub mod laws;
-mod leaving;
-mod opening;
-mod performing;
 mod places;
-mod queue;
-mod result;
 mod server;
 mod session;
-mod summary;
-mod texts;
-mod words;
 
-pub use kinds::{Cause, Refused, Took, What, Worked};
+pub use exchange::{Cause, What, Worked};
+pub use kinds::{Refused, Took};
 pub use server::Server;

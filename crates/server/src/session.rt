@@ -1,10 +1,10 @@
 //! One session.
 
-use crate::exchange::Exchange;
 use crate::incoming::Incoming;
-use crate::kinds::{Cause, Took, What, Worked};
+use crate::kinds::Took;
 use bytes::Bytes;
 use engine::{Engine, Gate};
+use exchange::{Cause, Exchange, What, Worked};
 use machine::State;
 use std::alloc::{AllocError, Global};
 
@@ -18,8 +18,8 @@ pub(crate) struct Session {
 
 impl Session {
     ghost use Rattle.std.specs.Prelude.{◌≡◌, IfOk, OnErr};
-    ghost use Rattle.server.specs.Serving.{Live, fresh, fed_live, taken_from, noop_put, IsCounted, MayFeed, MayPutNoop, MayWork};
-    ghost use Rattle.server.specs.Rest.{work_kept};
+    ghost use Rattle.server.specs.Serving.{Live, fresh, fed_live, taken_from, noop_put, MayFeed, MayPutNoop, MayWork};
+    ghost use Rattle.exchange.specs.Rest.{IsCounted, work_kept};
     ghost use Rattle.server.specs.Views.{IsLive, Gives, Works};
 
     pub(crate) fn new(alloc: Global, conn: u64) -> Result<Session, AllocError>
@@ -76,14 +76,14 @@ impl Session {
     pub(crate) fn state(&self) -> State
         ensures { (l : Live) → IsLive self.now l → result ≡ l.kept.state }
     {
-        self.exchange.state
+        self.exchange.state()
     }
 
     /// Why it has ended.
     pub(crate) fn cause(&self) -> Option<Cause>
         ensures { (l : Live) → IsLive self.now l → result ≡ l.kept.ended }
     {
-        self.exchange.cause
+        self.exchange.cause()
     }
 
     /// One step: nothing, a row, a summary or an end. An `Err` changes nothing, nor the ledger.
@@ -98,8 +98,8 @@ impl Session {
             (E.entries engine.old) l.kept l.kept.ended) l w self.new
             (E.entries engine.old) (E.entries engine.new)) }
         ensures err { (l : Live) → IsLive self.old l
-            → OnErr result (IsLive self.new l × MayWork l
-            × (E.entries engine.new ≡ E.entries engine.old)) }
+            → OnErr result (IsLive self.new l × MayWork l) }
+        ensures ledger { OnErr result (E.entries engine.new ≡ E.entries engine.old) }
         ensures counted { IfOk result IsCounted }
     {
         self.exchange.work(self.conn, engine, gate)

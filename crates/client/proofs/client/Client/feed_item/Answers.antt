@@ -1,16 +1,14 @@
-use Rattle.std.proofs.Common.{◌≡◌, ℕ, Result, Ok, Err, rules, sym, ◌∙◌, ap, subst}
+use Rattle.std.proofs.Common.{◌≡◌, Ok, Err, rules, sym, ◌∙◌, ap}
 use Rattle.std.proofs.Math.Logic.{∥∥₁_elim}
 use Rattle.std.proofs.Props.{props}
 use Rattle.wire.specs.Framing.{at_client}
 use Rattle.wire.specs.Reader.{takes}
-use Rattle.client.specs.declared.heard.Heard.{Heard}
 use Rattle.client.specs.declared.faults.ClientFault.{ClientFault}
-use Rattle.client.specs.Held.{IsItem}
-use Rattle.client.specs.Rest.{Knows, Rest, fed_open}
-use Rattle.client.specs.Hearings.{came_as, came_in, Feeds}
-use Rattle.client.specs.Fits.{knowledge_of}
+use Rattle.client.specs.Rest.{Knows}
+use Rattle.client.specs.Hearings.{came_as, came_in}
+use Rattle.client.specs.Fits.{Fits, knowledge_of}
 use Rattle.client.proofs.Taking.{same_item}
-use Rattle.client.proofs.Pieces.{heard_feeds, refused_feeds, hears_by, spoils_going}
+use Rattle.client.proofs.Pieces.{heard_feeds, refused_feeds, memory_feeds, hears_by, spoils_going}
 use Rattle.client.proofs.client.Client.feed_item.Goals as goal
 
 pub invariant_of-self-2 : goal.invariant_of-self-2
@@ -25,35 +23,27 @@ invariant_of-self-2 c =
 
 pub returns-in_err-taken : goal.returns-in_err-taken
 returns-in_err-taken c = λ r f.
-    let s = c.args.self.now in
-    let n = c.take.new.self in
-    let fault = c.in_err-taken.field-0.0 in
     let e = c.in_err-taken.ensures in
-    let Now : Rest → Type 0 = λ z. (s.wish ≡ z.wish) × (knowledge_of s.pipeline ≡ z.knows) × IsItem n.opening n.chunks n.reader.here z.item × (s.out.items ≡ z.unsent) in
-    let is : c.from_residual.result ≡ Err fault = search rules in
-    subst (λ (z : Result (ℕ × Heard) ClientFault). Feeds Now r (fed_open r (takes at_client r.item c.args.piece.now)) z) (sym (is ∙ ap (λ (z : ClientFault). Err z) e.err))
-    (f.0, f.1, same_item s.stream.opening n.opening s.stream.chunks n.chunks s.stream.reader n.reader r.item e.same.0 e.same.1 e.same.2 f.2, f.3)
+    let is : c.from_residual.result ≡ Err c.in_err-taken.field-0.0 = search rules in
+    memory_feeds r (takes at_client r.item c.args.piece.now) (Fits _) c.from_residual.result (is ∙ ap (λ (z : ClientFault). Err z) e.err)
+    (record { wish = f.wish; knows = f.knows; item = same_item c.args.self.now.stream c.take.new.self r.item e.same f.item; unsent = f.unsent })
 
 pub returns-in-Ok : goal.returns-in-Ok
 returns-in-Ok c = λ r f.
     let s = c.args.self.now in
-    let n = c.take.new.self in
     let t = c.in_ok-taken.taken in
     let m = takes at_client r.item c.args.piece.now in
-    let took = c.in_ok-taken.ensures.ok r.item f.2 in
+    let took = c.in_ok-taken.ensures.ok r.item f.item in
     let knows = knowledge_of c.hear.new.self in
-    let Now : Rest → Type 0 = λ z. (s.wish ≡ z.wish) × (knows ≡ z.knows) × IsItem n.opening n.chunks n.reader.here z.item × (s.out.items ≡ z.unsent) in
-    heard_feeds r m (came_as t.came) (took.came ∙ ap (λ (k : Knows). came_in k.version m.item) f.1) Now knows (λ k e. (f.0, e, took.rest, f.3)) t.used c.in-Ok.heard took.used
-    (hears_by s.wish r.wish (knowledge_of s.pipeline) r.knows (came_as t.came) (Ok c.in-Ok.heard) knows f.0 f.1 c.in-Ok.ensures)
+    heard_feeds r m (came_as t.came) (took.came ∙ ap (λ (k : Knows). came_in k.version m.item) f.knows) (Fits _) knows (λ k e. record { wish = f.wish; knows = e; item = took.rest; unsent = f.unsent }) t.used c.in-Ok.heard took.used
+    (hears_by s.wish r.wish (knowledge_of s.pipeline) r.knows (came_as t.came) (Ok c.in-Ok.heard) knows f.wish f.knows c.in-Ok.ensures)
 
 pub returns-in-Err : goal.returns-in-Err
 returns-in-Err c = λ r f.
     let s = c.args.self.now in
-    let n = c.take.new.self in
     let t = c.in_ok-taken.taken in
     let m = takes at_client r.item c.args.piece.now in
-    let took = c.in_ok-taken.ensures.ok r.item f.2 in
+    let took = c.in_ok-taken.ensures.ok r.item f.item in
     let knows = knowledge_of c.hear.new.self in
-    let Now : Rest → Type 0 = λ z. (s.wish ≡ z.wish) × (knows ≡ z.knows) × IsItem n.opening n.chunks n.reader.here z.item × (s.out.items ≡ z.unsent) in
-    refused_feeds r m (came_as t.came) (took.came ∙ ap (λ (k : Knows). came_in k.version m.item) f.1) Now knows (λ k e. (f.0, e, took.rest, f.3)) c.in-Err.fault
-    (hears_by s.wish r.wish (knowledge_of s.pipeline) r.knows (came_as t.came) (Err c.in-Err.fault) knows f.0 f.1 c.in-Err.ensures)
+    refused_feeds r m (came_as t.came) (took.came ∙ ap (λ (k : Knows). came_in k.version m.item) f.knows) (Fits _) knows (λ k e. record { wish = f.wish; knows = e; item = took.rest; unsent = f.unsent }) c.in-Err.fault
+    (hears_by s.wish r.wish (knowledge_of s.pipeline) r.knows (came_as t.came) (Err c.in-Err.fault) knows f.wish f.knows c.in-Err.ensures)

@@ -3,7 +3,7 @@ use Rattle.client.proofs.Fronts.{whole_taken, on_err}
 use Rattle.client.proofs.stream.Stream.take_chunks.Goals as goal
 
 pub take_message-requires : goal.take_message-requires
-take_message-requires c = ((c.in-Some.ensures c.in-Some.message.now).0 refl).1.1
+take_message-requires c = ((c.in-Some.ensures c.in-Some.message.now).0 refl).1.fits
 
 pub returns-in-Some-clause-ok : goal.returns-in-Some-clause-ok
 returns-in-Some-clause-ok c =
@@ -13,4 +13,4 @@ returns-in-Some-clause-ok c =
     whole_taken c.args.version s.opening s.chunks s.reader.here message c.args.piece.now c.take_message.result c.requires.0 found.0 found.1 c.take_message.ensures.used c.take_message.ensures.came
 
 pub returns-in-Some-clause-same : goal.returns-in-Some-clause-same
-returns-in-Some-clause-same c = on_err c.take_message.result _ (refl, refl, refl)
+returns-in-Some-clause-same c = on_err c.take_message.result _ (record { opening = refl; chunks = refl; reader = refl })

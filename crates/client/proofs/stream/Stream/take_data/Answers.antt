@@ -1,4 +1,4 @@
-use Rattle.std.proofs.Common.{sym, ◌∙◌, ap, None, List, ℕ, ◌++◌, length}
+use Rattle.std.proofs.Common.{refl, sym, ◌∙◌, ap, None, List, ℕ, ◌++◌, length}
 use Rattle.std.proofs.Math.Logic.{∥∥₁_elim}
 use Rattle.std.proofs.Props.{props}
 use Rattle.packstream.proofs.Ranges.{bytes_from_each}
@@ -28,7 +28,7 @@ invariant_of-self-2 c =
     record {
       answering = s.answering;
       stands = stands_then None s.opening s.chunks c.in-Some.behind p q bytes (record { used = length bytes; came = came.Nothing })
-          (data_taken None s.opening s.chunks c.in-Some.behind p q bytes c.if-self-lt-LENGTH.false c.requires c.in-Some.ensures more) s.stands;
+          (data_taken None s.opening s.chunks c.in-Some.behind p q bytes c.if-self-lt-LENGTH.false c.requires ((c.in-Some.ensures c.in-Some.behind).0 refl) more) s.stands;
       still = c.in-Ok.ensures.held;
     }
 
@@ -38,7 +38,7 @@ returns-clause-data c = λ yes version item is.
     let bytes = c.args.piece.now in
     let p = s.reader.here in
     let q = c.advance.new.self.here in
-    data_taken version s.opening s.chunks c.in-Some.behind p q bytes c.if-self-lt-LENGTH.false c.requires c.in-Some.ensures
+    data_taken version s.opening s.chunks c.in-Some.behind p q bytes c.if-self-lt-LENGTH.false c.requires ((c.in-Some.ensures c.in-Some.behind).0 refl)
     (λ b reads. c.reads_more.ensures p q b bytes reads (bytes_from_each bytes c.type_inv.piece) c.in-Ok.ensures.here) item is
 
 pub returns-clause-going : goal.returns-clause-going
@@ -48,4 +48,4 @@ returns-clause-going c =
     let p = s.reader.here in
     let q = c.advance.new.self.here in
     let more : (b : List ℕ) → Reads p b → Reads q (b ++ bytes) = λ b reads. c.reads_more.ensures p q b bytes reads (bytes_from_each bytes c.type_inv.piece) c.in-Ok.ensures.here in
-    ∥∥₁_elim s.stands (hlevel props) (λ h. going_behind s.opening s.chunks c.in-Some.behind p q bytes c.if-self-lt-LENGTH.false c.requires c.in-Some.ensures more h.0 h.1)
+    ∥∥₁_elim s.stands (hlevel props) (λ h. going_behind s.opening s.chunks c.in-Some.behind p q bytes c.if-self-lt-LENGTH.false c.requires ((c.in-Some.ensures c.in-Some.behind).0 refl) more h.0 h.1)

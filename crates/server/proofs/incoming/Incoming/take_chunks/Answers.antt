@@ -1,8 +1,8 @@
 use Rattle.std.proofs.Common.{◌+◌, length, refl}
 use Rattle.packstream.proofs.Ranges.{bytes_from_each}
 use Rattle.server.specs.declared.incoming.Stream.{Stream}
-use Rattle.server.specs.declared.kinds.What.{What}
-use Rattle.server.specs.Views.{kept_of}
+use Rattle.exchange.specs.declared.kinds.What.{What}
+use Rattle.exchange.specs.Views.{kept_of}
 use Rattle.server.proofs.Feeds.{stream_fed}
 use Rattle.server.proofs.Fronts.{fed_data, fed_whole}
 use Rattle.server.proofs.incoming.Incoming.take_chunks.Goals as goal
@@ -21,7 +21,7 @@ pub returns-in-Some-message_in-clause-ok : goal.returns-in-Some-message_in-claus
 returns-in-Some-message_in-clause-ok c =
     let i = c.args.self.now in
     let k = kept_of c.args.exchange.now in
-    let after = kept_of c.ask_bytes.new.self in
+    let after = kept_of c.ask_bytes.new.exchange in
     let piece = c.args.piece.now in
     let m = c.in-Some-message_in.message.now in
     let what = c.in_ok-what.what in

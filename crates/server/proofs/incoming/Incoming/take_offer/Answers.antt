@@ -1,4 +1,4 @@
-use Rattle.server.specs.Views.{kept_of}
+use Rattle.exchange.specs.Views.{kept_of}
 use Rattle.server.proofs.Feeds.{offer_goes, offer_ends}
 use Rattle.server.proofs.incoming.Incoming.take_offer.Goals as goal
 

@@ -2,8 +2,8 @@ use Rattle.std.proofs.Common.{refl}
 use Rattle.wire.specs.Reader.{takes}
 use Rattle.wire.specs.Framing.{at_server, reading}
 use Rattle.server.specs.declared.incoming.Stream.{Stream}
-use Rattle.server.specs.Rest.{takes_item}
-use Rattle.server.specs.Views.{kept_of}
+use Rattle.server.specs.Feeding.{takes_item}
+use Rattle.exchange.specs.Views.{kept_of}
 use Rattle.server.proofs.Feeds.{stream_fed, fed_held}
 use Rattle.server.proofs.incoming.Incoming.take_parts.Goals as goal
 

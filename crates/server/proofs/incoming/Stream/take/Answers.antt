@@ -1,7 +1,7 @@
 use Rattle.std.proofs.Common.{◌∙◌, refl, sym, subst, [], true}
 use Rattle.reader.specs.Piecewise.{Points, Reads}
 use Rattle.server.specs.declared.incoming.Stream.{Stream}
-use Rattle.server.specs.Views.{kept_of}
+use Rattle.exchange.specs.Views.{kept_of}
 use Rattle.server.proofs.Feeds.{fed_over, fed_part, fed_noop, fed_message, fed_refused}
 use Rattle.server.proofs.incoming.Stream.take.Goals as goal
 
@@ -17,7 +17,7 @@ returns-in-Noop-clause-ok c = λ u is. fed_noop (kept_of c.args.exchange.now) u 
 pub returns-in_ok-what-in-End-clause-ok : goal.returns-in_ok-what-in-End-clause-ok
 returns-in_ok-what-in-End-clause-ok c = λ u is.
     let t : Stream = record { chunks = c.scan.new.self.chunks; reader = c.new.result; is_over = c.scan.new.self.is_over } in
-    fed_message (kept_of c.args.exchange.now) u c.args.piece.now c.in_ok-used.field-0 c.scan.new.self (c.in_ok-used.ensures.over ∙ c.if-self.false) (c.in_ok-used.ensures.ok u is) c.in_ok-what-in-End.what (kept_of c.ask.new.self) t c.in-End.is c.in_ok-what-in-End.ensures.ok (c.in_ok-used.ensures.over ∙ c.if-self.false) refl
+    fed_message (kept_of c.args.exchange.now) u c.args.piece.now c.in_ok-used.field-0 c.scan.new.self (c.in_ok-used.ensures.over ∙ c.if-self.false) (c.in_ok-used.ensures.ok u is) c.in_ok-what-in-End.what (kept_of c.ask.new.exchange) t c.in-End.is c.in_ok-what-in-End.ensures.ok (c.in_ok-used.ensures.over ∙ c.if-self.false) refl
     (subst (λ (p : Points). Reads p.here []) (sym c.new.ensures) (tt, refl))
 
 pub returns-in-TooBig-clause-ok : goal.returns-in-TooBig-clause-ok

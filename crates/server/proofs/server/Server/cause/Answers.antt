@@ -9,4 +9,4 @@ returns g c =
     let s = c.args.self.now in
     let place = rw c.deref.ensures.value at c.in_ok-at.ensures in
     let here : c.index-session.result.now ≡ get_or s.sessions.items c.in_ok-at.at c.index-session.result.now = search rules in
-    λ r fits. told_by c.args.conn c.in_ok-at.at s.sessions.items c.index-session.result.now place here c.cause.result (λ l. l.kept.ended) c.cause.ensures r.sessions fits.0
+    λ r fits. told_by c.args.conn c.in_ok-at.at s.sessions.items c.index-session.result.now place here c.cause.result (λ l. l.kept.ended) c.cause.ensures r.sessions fits.live

@@ -12,5 +12,5 @@ returns g c =
     let old = c.index-session.result.now in
     let here : c.index-session.result.now ≡ get_or s.sessions.items c.in_ok-at.at c.index-session.result.now = search rules in
     λ r fits.
-    let w = live_at c.args.conn c.in_ok-at.at s.sessions.items old place here r.sessions fits.0 in
-    (w.0, w.1, data_read old.incoming w.0.unfinished w.2.unfinished, old.incoming.still)
+    let w = live_at c.args.conn c.in_ok-at.at s.sessions.items old place here r.sessions fits.live in
+    record { session = w.0; is = w.1; reads = data_read old.incoming w.0.unfinished w.2.unfinished; still = old.incoming.still }

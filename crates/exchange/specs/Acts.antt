@@ -1,0 +1,215 @@
+-- What a step decides before it changes anything, and what it leaves.
+use Rattle.std.specs.Prelude.{◌≡◌, if◌then◌else◌, ℕ, suc, ◌+◌, ◌^◌, ◌<◌, ◌≤◌, List, [], ◌∷◌, ◌++◌, length, drop, Option, Some, None, option_map, option_to_list, Ok, is_err, true, false}
+use Rattle.packstream.specs.Tree.{Tree}
+use Rattle.wire.specs.declared.Version.{Version}
+use Rattle.messages.specs.View.{ResponseView}
+use Rattle.messages.specs.Summaries as messages
+use Rattle.messages.specs.Writing.{response_spelling}
+use Rattle.wire.specs.Texts.{written_run}
+use Rattle.messages.specs.Arrivals.{Arrival, Asked, Unread, TooLong}
+use Rattle.machine.specs.declared.states.State.{State}
+use Rattle.machine.specs.declared.kinds.Kind.{Kind}
+use Rattle.std.specs.declared.alloc.Global.{Global}
+use Rattle.std.specs.declared.vec.Vec.{Vec}
+use Rattle.cells.specs.declared.cell.Cell.{Cell}
+use Rattle.engine.specs.declared.answer.Mode.{Mode as QueryMode}
+use Rattle.engine.specs.declared.ledger.Write.{Write}
+use Rattle.engine.specs.Views.{WriteView, EntryView, write_view, rows_view}
+use Rattle.exchange.specs.declared.exchange.Waiting.{Waiting}
+use Rattle.exchange.specs.declared.exchange.Waiting.TheVariants as waiting
+use Rattle.exchange.specs.declared.kinds.Cause.{Cause}
+use Rattle.exchange.specs.declared.kinds.Cause.TheVariants as cause
+use Rattle.exchange.specs.declared.kinds.Worked.{Worked}
+use Rattle.exchange.specs.declared.acts.Turn.{Turn}
+use Rattle.exchange.specs.declared.acts.Turn.TheVariants as turn
+use Rattle.exchange.specs.declared.acts.Act.{Act}
+use Rattle.exchange.specs.declared.acts.Act.TheVariants as act
+use Rattle.exchange.specs.declared.acts.Leaves.{Leaves}
+use Rattle.exchange.specs.declared.acts.Leaves.TheVariants as leaves
+use Rattle.exchange.specs.declared.summary.Summary.{Summary}
+use Rattle.exchange.specs.declared.summary.Summary.TheVariants as summary
+use Rattle.messages.specs.declared.fault.MsgFault.{MsgFault}
+use Rattle.messages.specs.declared.fault.MsgFault.TheVariants as writer
+use Rattle.exchange.specs.declared.fault.Fault.{Fault}
+use Rattle.exchange.specs.declared.fault.Fault.TheVariants as fault
+use Rattle.exchange.specs.declared.texts.Unwritten.{Unwritten}
+use Rattle.exchange.specs.declared.texts.Unwritten.TheVariants as unwritten
+use Rattle.exchange.specs.Faults.{failure}
+use Rattle.exchange.specs.Said.{fits}
+use Rattle.machine.specs.Asks.{is_goodbye, is_reset}
+use Rattle.exchange.specs.Session.{Open, no_result, Tx, no_tx, Reply, with_write, unwritable, rows_fitted, result_mode, in_transaction, passed_over}
+use Rattle.exchange.specs.Rest.{Kept, Step, worked_of, commit_entries}
+use Rattle.exchange.specs.Views.{open_of}
+
+-- a summary, as the definitions of messages have it
+abbrev pub summary_of : Summary → messages.Summary
+summary_of (summary.Greeting conn) = messages.Greeting conn
+summary_of summary.RowsLeft = messages.RowsLeft
+summary_of (summary.Closing len mode) = messages.Closing len mode
+summary_of (summary.Committed len) = messages.Committed len
+summary_of summary.Plain = messages.Plain
+summary_of (summary.Failure fault) = failure fault
+summary_of summary.Passed = messages.Passed
+
+-- the spelling of a response, as a message of the wire
+pub record IsBody (v : Version) (m : ResponseView) (b : List ℕ) : Type 0 where
+  pub text : response_spelling v m ≡ Ok b
+  pub some : 0 < length b
+  pub few : length b ≤ 65536
+
+-- why a writer wrote nothing
+abbrev pub unwritten_of : MsgFault → Unwritten
+unwritten_of writer.Memory = unwritten.Memory
+unwritten_of writer.Size = unwritten.Because fault.RowTooLarge
+unwritten_of _ = unwritten.Because fault.NotInVersion
+
+-- It can't be written, and this is why.
+pub record IsRefused (v : Version) (m : ResponseView) (f : Fault) : Type 0 where
+  pub misfit : fits v m ≡ false
+  pub why : unwritable (response_spelling v m) ≡ f
+  pub unspelled : is_err (response_spelling v m) ≡ true
+
+-- the same, where it isn't for want of memory
+abbrev pub Refuses : Version → ResponseView → Unwritten → Type 0
+Refuses v m unwritten.Memory = Unit {0}
+Refuses v m (unwritten.Because f) = IsRefused v m f
+
+-- the result that is open after a summary, by the one that was open before
+abbrev pub left_result : Leaves → Open → Open
+left_result leaves.Nothing left = no_result
+left_result (leaves.Begun mode) left = no_result
+left_result (leaves.Opened r) left = open_of r
+left_result (leaves.Joined r write) left = open_of r
+left_result (leaves.Rest n) left =
+    record { rows = drop n left.rows; mode = left.mode; write = left.write; written = 0 }
+left_result leaves.Transaction left = no_result
+left_result leaves.CommitsResult left = no_result
+left_result leaves.CommitsTransaction left = no_result
+
+-- the transaction that is open after a summary, by the one that was open before
+abbrev pub left_tx : Leaves → Tx → Tx
+left_tx leaves.Nothing tx = no_tx
+left_tx (leaves.Begun mode) tx = record { mode = mode; writes = [] }
+left_tx (leaves.Opened r) tx = no_tx
+left_tx (leaves.Joined r write) tx = with_write tx (option_map write_view write)
+left_tx (leaves.Rest n) tx = tx
+left_tx leaves.Transaction tx = tx
+left_tx leaves.CommitsResult tx = no_tx
+left_tx leaves.CommitsTransaction tx = no_tx
+
+-- the writes that a summary commits, where it does: those of the result or transaction open before
+abbrev pub left_entry : Leaves → Open → Tx → Option (List WriteView)
+left_entry leaves.CommitsResult left tx = Some (option_to_list left.write)
+left_entry leaves.CommitsTransaction left tx = Some tx.writes
+left_entry _ left tx = None
+
+-- one row fewer
+abbrev pub one_less : Open → Open
+one_less left = record {
+  rows = drop 1 left.rows;
+  mode = left.mode;
+  write = left.write;
+  written = suc left.written;
+}
+
+-- A row is there, its text is this, and it is the reply.
+pub record IsRow (v : Version) (left : Open) (reply : Reply) (b : List ℕ) : Type 0 where
+  pub row : List Tree
+  pub is : reply ≡ Reply.OneRow row (one_less left)
+  pub body : IsBody v (ResponseView.Record row) b
+  pub some : 0 < length left.rows
+
+-- an act is this reply
+abbrev pub ActsAs : Version → Open → Tx → Act → Reply → Type 0
+ActsAs v left tx (act.Sends body) reply = IsRow v left reply body.items
+ActsAs v left tx (act.Says d body l) reply =
+    (m : ResponseView)
+    × (reply ≡ Reply.Summary d m (left_result l left) (left_tx l tx) (left_entry l left tx))
+    × IsBody v m body.items
+ActsAs v left tx act.Leaves reply = reply ≡ Reply.Bye
+
+-- a message may have these bytes
+abbrev pub IsSized : List ℕ → Type 0
+IsSized b = (0 < length b) × (length b ≤ 65536)
+
+-- what is written fits a message, and a row that is sent is there
+abbrev pub IsWritable : List (List Tree) → Act → Type 0
+IsWritable rows (act.Sends body) = IsSized body.items × (0 < length rows)
+IsWritable rows (act.Says d body l) = IsSized body.items
+IsWritable rows act.Leaves = Unit {0}
+
+-- what the first that waits is for a step
+abbrev pub turn_in : List Arrival → Turn
+turn_in (Asked q ∷ later) = turn.Serves
+turn_in (Unread e ∷ later) = turn.Ends cause.Malformed
+turn_in (TooLong ∷ later) = turn.Ends cause.TooBig
+turn_in _ = turn.Nothing
+
+-- the same of one that waits
+abbrev pub turn_of_one : Waiting → Turn
+turn_of_one (waiting.Asked request) = turn.Serves
+turn_of_one (waiting.Unread e) = turn.Ends cause.Malformed
+turn_of_one waiting.TooLong = turn.Ends cause.TooBig
+
+-- the same of the first that waits, where there is one
+abbrev pub turn_by : Option Waiting → Turn
+turn_by None = turn.Nothing
+turn_by (Some w) = turn_of_one w
+
+-- a summary was written, in the room that a request leaves
+abbrev pub after_summary : State → Option Cause → Open → Tx → List ℕ → Kept → Kept
+after_summary state ended left tx body k =
+    record {
+      version = k.version;
+      state = state;
+      ended = ended;
+      first = suc k.first;
+      waiting = drop 1 k.waiting;
+      result = left;
+      tx = tx;
+      unsent = k.unsent ++ written_run body;
+    }
+
+-- a row was written
+abbrev pub after_bytes : List ℕ → Kept → Kept
+after_bytes body k = record k { result = one_less k.result; unsent = k.unsent ++ written_run body }
+
+-- the ledger's length after it, where it commits
+abbrev pub length_after : List EntryView → Option (List WriteView) → Option ℕ
+length_after ledger entry = option_map (λ _. length ledger + 1) entry
+
+-- a length is below 2^63, where there is one
+abbrev pub IsBelow : Option ℕ → Type 0
+IsBelow None = Unit {0}
+IsBelow (Some n) = n < 2 ^ 63
+
+-- the result that an answer opens
+abbrev pub opened_by : Version → State → List (Vec Cell Global) → QueryMode → Option Write → Open
+opened_by v s rows mode write =
+    record {
+      rows = rows_fitted v (rows_view rows);
+      mode = result_mode mode;
+      write = if in_transaction s then None else option_map write_view write;
+      written = 0;
+    }
+
+-- Whatever was open before, this is left open; in a transaction its write is among the transaction's; nothing is committed.
+pub record LeavesOpen (v : Version) (s : State) (rows : List (Vec Cell Global)) (mode : QueryMode)
+    (write : Option Write) (l : Leaves) : Type 0 where
+  pub result : (left : Open) → left_result l left ≡ opened_by v s rows mode write
+  pub tx :
+      (before : Tx)
+      → left_tx l before
+      ≡ (if in_transaction s then with_write before (option_map write_view write) else no_tx)
+  pub entry : (left : Open) (before : Tx) → left_entry l left before ≡ None
+
+-- what is answered to a request in Interrupted
+abbrev pub served_struck : Kind → Reply
+served_struck k = if is_goodbye k then Reply.Bye else passed_over (is_reset k)
+
+-- What a step told, what is kept after it, and the ledger, are those of the model.
+pub record Steps (d : Step) (conn first : ℕ) (w : Worked) (new : Kept)
+    (before after : List EntryView) : Type 0 where
+  pub told : worked_of d.answer ≡ w
+  pub kept : d.kept ≡ new
+  pub ledger : after ≡ before ++ commit_entries conn first d.commit

@@ -1,0 +1,67 @@
+-- What contracts see of an exchange: what it keeps.
+use Rattle.std.specs.Prelude.{Bool, true, false, List, [], ◌∷◌, map, Option, Some, None}
+use Rattle.messages.specs.View.{request_view}
+use Rattle.messages.specs.Arrivals.{Arrival, Asked, Unread, TooLong}
+use Rattle.machine.specs.Asks.{kind_of, is_reset}
+use Rattle.engine.specs.Views.{writes_view}
+use Rattle.exchange.specs.declared.exchange.Exchange.{Exchange}
+use Rattle.exchange.specs.declared.exchange.Waiting.{Waiting}
+use Rattle.exchange.specs.declared.exchange.Waiting.TheVariants as waiting
+use Rattle.exchange.specs.declared.result.OpenResult.{OpenResult}
+use Rattle.exchange.specs.declared.result.Transaction.{Transaction}
+use Rattle.exchange.specs.Session.{Open, Tx}
+use Rattle.exchange.specs.Rest.{Kept}
+
+-- what waits
+abbrev pub arrival_of : Waiting → Arrival
+arrival_of (waiting.Asked request) = Asked (request_view request)
+arrival_of (waiting.Unread e) = Unread e
+arrival_of waiting.TooLong = TooLong
+
+-- what waits stands for no request
+abbrev pub is_unread : Waiting → Bool
+is_unread (waiting.Asked request) = false
+is_unread (waiting.Unread e) = true
+is_unread waiting.TooLong = true
+
+-- what waits is a RESET
+abbrev pub is_reset_in : Waiting → Bool
+is_reset_in (waiting.Asked request) = is_reset (kind_of (request_view request))
+is_reset_in (waiting.Unread e) = false
+is_reset_in waiting.TooLong = false
+
+-- all that waits, in its order
+abbrev pub waiting_in : List Waiting → List Arrival
+waiting_in ws = map arrival_of ws
+
+-- the first of a list, where there is one
+abbrev pub first_of : {A : Type 0} → List A → Option A
+first_of [] = None
+first_of (x ∷ xs) = Some x
+
+-- the open result, by what is held of it
+abbrev pub open_of : OpenResult → Open
+open_of r = record {
+  rows = r.rows.items;
+  mode = r.mode;
+  write = first_of (writes_view r.writes.items);
+  written = r.written;
+}
+
+-- the open transaction, by what is held of it
+abbrev pub tx_of : Transaction → Tx
+tx_of t = record { mode = t.mode; writes = writes_view t.writes.items }
+
+-- what a session keeps, by what is held of it
+abbrev pub kept_of : Exchange → Kept
+kept_of x =
+    record {
+      version = x.version;
+      state = x.state;
+      ended = x.cause;
+      first = x.first;
+      waiting = waiting_in x.queue.items;
+      result = open_of x.result;
+      tx = tx_of x.tx;
+      unsent = x.out.items;
+    }

@@ -1,0 +1,163 @@
+//! What is open after a summary, and the commit of it.
+ghost use Rattle.std.specs.Prelude.{◌≡◌, ◌+◌, ◌^◌, ◌<◌, ◌≤◌, ◌++◌, length, drop, Some, option_map, option_to_list, IfOk, OnOk, OnErr};
+ghost use Rattle.engine.specs.Views.{write_view, writes_view};
+ghost use Rattle.exchange.specs.Session.{no_result};
+ghost use Rattle.exchange.specs.Rest.{commit_entries};
+ghost use Rattle.exchange.specs.Views.{open_of, tx_of};
+ghost use Rattle.exchange.specs.Acts.{left_result, left_tx, left_entry, length_after, IsBelow};
+
+use crate::acts::Leaves;
+use crate::result::{OpenResult, Row, Transaction};
+use engine::{Engine, EntryId, NoMemory, Write};
+use std::alloc::{AllocError, Global};
+use std::collections::VecDeque;
+use std::mem;
+
+/// Leaves open what is to be left, and commits what is to be committed: the ledger's length where it did. An `Err`
+/// changes nothing.
+pub(crate) fn leave<E: Engine>(
+    alloc: Global,
+    open: &mut OpenResult,
+    tx: &mut Transaction,
+    leaves: Leaves,
+    id: EntryId,
+    engine: &mut E,
+) -> Result<Option<u64>, AllocError>
+    ensures open { OnOk result (open_of open.new ≡ left_result leaves (open_of open.old)) }
+    ensures tx { OnOk result (tx_of tx.new ≡ left_tx leaves (tx_of tx.old)) }
+    ensures ledger { OnOk result
+        (E.entries engine.new ≡ E.entries engine.old
+        ++ commit_entries id.conn id.ordinal
+        (left_entry leaves (open_of open.old) (tx_of tx.old))) }
+    ensures len { IfOk result
+        (λ n. n ≡ length_after (E.entries engine.old)
+        (left_entry leaves (open_of open.old) (tx_of tx.old))) }
+    ensures below { IfOk result IsBelow }
+    ensures open_kept { OnErr result (open_of open.new ≡ open_of open.old) }
+    ensures tx_kept { OnErr result (tx_of tx.new ≡ tx_of tx.old) }
+    ensures ledger_kept { OnErr result (E.entries engine.new ≡ E.entries engine.old) }
+{
+    match leaves {
+        Leaves::Nothing => {
+            *open = OpenResult::closed(alloc);
+            *tx = Transaction::none(alloc);
+            Ok(None)
+        }
+        Leaves::Begun(mode) => {
+            *open = OpenResult::closed(alloc);
+            *tx = Transaction::begun(alloc, mode);
+            Ok(None)
+        }
+        Leaves::Opened(next) => {
+            *open = next;
+            *tx = Transaction::none(alloc);
+            Ok(None)
+        }
+        Leaves::Joined(next, write) => {
+            join_write(&mut tx.writes, write)?;
+            *open = next;
+            Ok(None)
+        }
+        Leaves::Rest(count) => {
+            drop_rows(open, count);
+            Ok(None)
+        }
+        Leaves::Transaction => {
+            *open = OpenResult::closed(alloc);
+            Ok(None)
+        }
+        Leaves::CommitsResult => {
+            let len = commit_result(alloc, open, id, engine)?;
+            *tx = Transaction::none(alloc);
+            Ok(Some(len))
+        }
+        Leaves::CommitsTransaction => {
+            let len = commit_writes(alloc, &mut tx.writes, id, engine)?;
+            *open = OpenResult::closed(alloc);
+            *tx = Transaction::none(alloc);
+            Ok(Some(len))
+        }
+    }
+}
+
+/// The transaction takes over a write.
+fn join_write(writes: &mut Vec<Write>, write: Option<Write>) -> Result<(), AllocError>
+    ensures ok { OnOk result
+        (writes_view writes.new.items
+        ≡ writes_view writes.old.items ++ option_to_list (option_map write_view write)) }
+    ensures err { OnErr result (writes_view writes.new.items ≡ writes_view writes.old.items) }
+{
+    match write {
+        None => Ok(()),
+        Some(write) => {
+            writes.push(write)?;
+            Ok(())
+        }
+    }
+}
+
+/// Drops rows from the front of an open result. The count of written rows begins anew.
+fn drop_rows(open: &mut OpenResult, count: usize)
+    ensures { open_of open.new ≡ left_result (Leaves.Rest count) (open_of open.old) }
+{
+    drop_front(&mut open.rows, count);
+    open.written = 0;
+}
+
+fn drop_front(rows: &mut VecDeque<Row>, count: usize)
+    ensures items { rows.new.items ≡ drop count rows.old.items }
+    ensures few { length rows.new.items ≤ length rows.old.items }
+{
+    for _gone in 0..count {
+        rows.pop_front();
+    }
+}
+
+/// Commits the write of an open result, or none, and closes it.
+fn commit_result<E: Engine>(
+    alloc: Global,
+    open: &mut OpenResult,
+    id: EntryId,
+    engine: &mut E,
+) -> Result<u64, AllocError>
+    ensures open { OnOk result (open_of open.new ≡ no_result) }
+    ensures ledger { OnOk result
+        (E.entries engine.new ≡ E.entries engine.old
+        ++ commit_entries id.conn id.ordinal (Some (option_to_list (open_of open.old).write))) }
+    ensures len { IfOk result (λ n. n ≡ length (E.entries engine.old) + 1) }
+    ensures below { IfOk result (λ n. n < 2 ^ 63) }
+    ensures err { OnErr result
+        ((open_of open.new ≡ open_of open.old)
+        × (E.entries engine.new ≡ E.entries engine.old)) }
+{
+    let len = commit_writes(alloc, &mut open.writes, id, engine)?;
+    *open = OpenResult::closed(alloc);
+    Ok(len)
+}
+
+/// Commits writes. An `Err` leaves them.
+fn commit_writes<E: Engine>(
+    alloc: Global,
+    writes: &mut Vec<Write>,
+    id: EntryId,
+    engine: &mut E,
+) -> Result<u64, AllocError>
+    ensures ledger { OnOk result
+        (E.entries engine.new ≡ E.entries engine.old
+        ++ commit_entries id.conn id.ordinal (Some (writes_view writes.old.items))) }
+    ensures len { IfOk result (λ n. n ≡ length (E.entries engine.old) + 1) }
+    ensures below { IfOk result (λ n. n < 2 ^ 63) }
+    ensures err { OnErr result
+        ((writes_view writes.new.items ≡ writes_view writes.old.items)
+        × (E.entries engine.new ≡ E.entries engine.old)) }
+    ensures few { length writes.new.items ≤ length writes.old.items }
+{
+    let taken = mem::replace(writes, Vec::new(alloc));
+    match engine.commit(id, taken) {
+        Ok(len) => Ok(len),
+        Err(NoMemory { writes: returned }) => {
+            *writes = returned;
+            Err(AllocError)
+        }
+    }
+}

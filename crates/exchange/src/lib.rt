@@ -1,0 +1,20 @@
+//! What a session does with the requests that it was handed: they wait in a queue, each is answered in its turn by one step, and
+//! what it commits goes to an engine. Of bytes this crate knows those that go out.
+#![tactic(auto)]
+
+mod acts;
+mod deciding;
+mod exchange;
+mod fault;
+mod kinds;
+mod leaving;
+mod opening;
+mod performing;
+mod queue;
+mod result;
+mod summary;
+mod texts;
+mod words;
+
+pub use exchange::Exchange;
+pub use kinds::{Cause, What, Worked};

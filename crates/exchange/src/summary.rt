@@ -1,0 +1,125 @@
+//! The responses of a session but its rows and the SUCCESS of a RUN.
+ghost use Rattle.std.specs.Prelude.{◌≡◌, ◌∷◌, [], ◌++◌, IfOk, OnOk};
+ghost use Rattle.std.specs.Fmt.{decimal};
+ghost use Rattle.cells.specs.Shape.{shape, entries};
+ghost use Rattle.messages.specs.View.{response_view, Success};
+ghost use Rattle.messages.specs.Reading.{mode_tree};
+ghost use Rattle.messages.specs.Summaries.{response_of_summary, Metadata, greeting, bookmark, bookmark_of, ending};
+ghost use Rattle.exchange.specs.Faults.{code_of, message_of};
+ghost use Rattle.exchange.specs.Acts.{summary_of};
+
+use crate::fault::Fault;
+use messages::{Mode, Response};
+use std::alloc::{AllocError, Global};
+use structures::Cell;
+
+#[derive(Clone, Copy)]
+pub(crate) enum Summary {
+    /// Of a HELLO, with the number of the connection.
+    Greeting(u64),
+    /// Of a PULL or DISCARD after which rows are left.
+    RowsLeft,
+    /// Of the last PULL or DISCARD of a result, with the length of the ledger where it commits, and the result's mode.
+    Closing(Option<u64>, Mode),
+    /// Of a COMMIT, with the length of the ledger.
+    Committed(u64),
+    /// Of a request that has nothing to tell.
+    Plain,
+    Failure(Fault),
+    /// Of a request that is passed over.
+    Passed,
+}
+
+type Entries = Vec<(String, Cell)>;
+
+impl Summary {
+    pub(crate) fn response(self, alloc: Global) -> Result<Response, AllocError>
+        ensures { IfOk result (λ r. response_view r ≡ response_of_summary (summary_of self)) }
+    {
+        match self {
+            Summary::Greeting(conn) => greeting(alloc, conn),
+            Summary::RowsLeft => rows_left(alloc),
+            Summary::Closing(len, mode) => closing(alloc, len, mode),
+            Summary::Committed(len) => committed(alloc, len),
+            Summary::Plain => Ok(Response::Success(Vec::new(alloc))),
+            Summary::Failure(fault) => failure(alloc, fault),
+            Summary::Passed => Ok(Response::Ignored),
+        }
+    }
+}
+
+fn greeting(alloc: Global, conn: u64) -> Result<Response, AllocError>
+    ensures { IfOk result (λ r. response_view r ≡ Success (greeting conn)) }
+{
+    let mut metadata = Vec::with_capacity(alloc, 2)?;
+    let server = String::from_str(alloc, "BoltTable/1")?;
+    put(&mut metadata, "server", Cell::Text(server))?;
+    let id = format!(in alloc; "bolt-{conn}")?;
+    put(&mut metadata, "connection_id", Cell::Text(id))?;
+    Ok(Response::Success(metadata))
+}
+
+fn rows_left(alloc: Global) -> Result<Response, AllocError>
+    ensures { IfOk result (λ r. response_view r
+        ≡ response_of_summary (summary_of Summary.RowsLeft)) }
+{
+    let mut metadata = Vec::with_capacity(alloc, 1)?;
+    put(&mut metadata, "has_more", Cell::Bool(true))?;
+    Ok(Response::Success(metadata))
+}
+
+fn closing(alloc: Global, len: Option<u64>, mode: Mode) -> Result<Response, AllocError>
+    ensures { IfOk result (λ r. response_view r ≡ Success (bookmark_of len ++ ending mode)) }
+{
+    let mut metadata = Vec::with_capacity(alloc, 3)?;
+    if let Some(len) = len {
+        put_bookmark(&mut metadata, len)?;
+    }
+    let word = match mode {
+        Mode::Read => "r",
+        Mode::Write => "w",
+    };
+    put(
+        &mut metadata,
+        "type",
+        Cell::Text(String::from_str(alloc, word)?),
+    )?;
+    put(&mut metadata, "t_last", Cell::Int(0))?;
+    Ok(Response::Success(metadata))
+}
+
+fn committed(alloc: Global, len: u64) -> Result<Response, AllocError>
+    ensures { IfOk result (λ r. response_view r ≡ Success (bookmark len)) }
+{
+    let mut metadata = Vec::with_capacity(alloc, 1)?;
+    put_bookmark(&mut metadata, len)?;
+    Ok(Response::Success(metadata))
+}
+
+fn failure(alloc: Global, fault: Fault) -> Result<Response, AllocError>
+    ensures { IfOk result (λ r. response_view r
+        ≡ response_of_summary (summary_of (Summary.Failure fault))) }
+{
+    Ok(Response::Failure {
+        code: String::from_str(alloc, fault.code())?,
+        message: String::from_str(alloc, fault.message())?,
+    })
+}
+
+/// The bookmark of a ledger of this length.
+fn put_bookmark(metadata: &mut Entries, len: u64) -> Result<(), AllocError>
+    ensures { OnOk result (entries metadata.new.items
+        ≡ entries metadata.old.items ++ bookmark len) }
+{
+    let text = format!(in *metadata.allocator(); "bk:{len}")?;
+    put(metadata, "bookmark", Cell::Text(text))
+}
+
+fn put(metadata: &mut Entries, key: &str, cell: Cell) -> Result<(), AllocError>
+    ensures { OnOk result (entries metadata.new.items
+        ≡ entries metadata.old.items ++ (key.now, shape cell) ∷ []) }
+{
+    let key = String::from_str(*metadata.allocator(), key)?;
+    metadata.push((key, cell))?;
+    Ok(())
+}

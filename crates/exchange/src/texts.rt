@@ -1,0 +1,68 @@
+//! The texts of responses.
+ghost use Rattle.std.specs.Prelude.{◌≡◌, true, Ok, IfOk, IfErr};
+ghost use Rattle.messages.specs.View.{response_view};
+ghost use Rattle.messages.specs.Summaries.{response_of_summary, IsShort};
+ghost use Rattle.messages.specs.Writing.{response_spelling};
+ghost use Rattle.exchange.specs.Said.{fits};
+ghost use Rattle.exchange.specs.Acts.{IsBody, Refuses, summary_of, unwritten_of};
+
+use crate::fault::Fault;
+use crate::summary::Summary;
+use bytes::BytesMut;
+use messages::{MsgFault, Response, write_response};
+use std::alloc::{AllocError, Global};
+use wire::Version;
+
+/// Why a response wasn't written.
+#[derive(Clone, Copy)]
+pub(crate) enum Unwritten {
+    Memory,
+    /// It can't be, and this is answered.
+    Because(Fault),
+}
+
+/// The text of a response, or why it wasn't written.
+pub(crate) fn text_of(
+    alloc: Global,
+    version: Version,
+    response: &Response,
+) -> Result<BytesMut, Unwritten>
+    ensures ok { IfOk result
+        (λ b. IsBody version (response_view response.now) b.items
+        × (fits version (response_view response.now) ≡ true)) }
+    ensures err { IfErr result (Refuses version (response_view response.now)) }
+{
+    let mut text = BytesMut::new(alloc);
+    match write_response(version, response, &mut text) {
+        Ok(()) => Ok(text),
+        Err(fault) => Err(why_unwritten(fault)),
+    }
+}
+
+fn why_unwritten(fault: MsgFault) -> Unwritten
+    ensures { result ≡ unwritten_of fault }
+{
+    match fault {
+        MsgFault::Memory => Unwritten::Memory,
+        MsgFault::Size => Unwritten::Because(Fault::RowTooLarge),
+        _ => Unwritten::Because(Fault::NotInVersion),
+    }
+}
+
+/// The text of a summary, which always fits.
+pub(crate) fn summary_text(
+    alloc: Global,
+    version: Version,
+    summary: Summary,
+) -> Result<BytesMut, AllocError>
+    requires { IsShort (summary_of summary) }
+    ensures { IfOk result (λ b. IsBody version (response_of_summary (summary_of summary)) b.items) }
+{
+    messages::laws::summaries::short_fits();
+    let response = summary.response(alloc)?;
+    match text_of(alloc, version, &response) {
+        Ok(text) => Ok(text),
+        Err(Unwritten::Memory) => Err(AllocError),
+        Err(Unwritten::Because(_)) => unreachable!(),
+    }
+}

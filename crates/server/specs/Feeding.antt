@@ -1,0 +1,44 @@
+-- What a piece of bytes makes of a session.
+use Rattle.std.specs.Prelude.{ℕ, if◌then◌else◌, Option, option_map, List}
+use Rattle.wire.specs.declared.Version.{Version}
+use Rattle.wire.specs.Reader.{Took as TookOf, takes}
+use Rattle.wire.specs.Framing.{Item, Opening, Noop, Message, TooBig, Opened, at_server}
+use Rattle.messages.specs.Messages.{request_of}
+use Rattle.messages.specs.Arrivals.{Arrival, TooLong, arrival_of_offer}
+use Rattle.exchange.specs.declared.kinds.What.{What}
+use Rattle.exchange.specs.Rest.{Kept, version_of, arrival_by, after_item, what_of, shut, full}
+use Rattle.server.specs.declared.kinds.Took.{Took}
+
+-- what a whole item of the bytes is, at a version
+abbrev pub arrives : Version → Item → Arrival
+arrives v (Opening bytes) = arrival_of_offer bytes
+arrives v Noop = Arrival.Idle
+arrives v (Message b) = arrival_by (request_of v b)
+arrives v TooBig = TooLong
+
+-- what the item that a piece completed is, at the session's version; nothing where it completed none
+abbrev pub arrival : Kept → Option Item → Option Arrival
+arrival s x = option_map (arrives (version_of s)) x
+
+-- what a piece makes of a session: what `feed` tells, what is kept then, and what is unfinished
+pub record Feeding : Type 0 where
+  pub took : Took
+  pub kept : Kept
+  pub unfinished : Opened
+
+-- `feed` that uses no byte and changes nothing
+abbrev pub takes_none : What → Kept → Opened → Feeding
+takes_none what s u = record { took = record { used = 0; what = what }; kept = s; unfinished = u }
+
+-- `feed` by what was taken of the piece
+abbrev pub takes_item : Kept → TookOf Opened Item → Feeding
+takes_item s t = record {
+  took = record { used = t.used; what = what_of (arrival s t.item) };
+  kept = after_item s (arrival s t.item);
+  unfinished = t.rest;
+}
+
+-- `feed` of a session
+abbrev pub feeding : Opened → List ℕ → Kept → Feeding
+feeding u piece s = if shut s then takes_none What.Closed s u
+    else (if full s then takes_none What.Full s u else takes_item s (takes at_server u piece))
