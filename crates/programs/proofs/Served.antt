@@ -34,14 +34,14 @@ module _ {G : Type 0} (r : Rest G) (none : r.sessions ≡ []) where
 
   -- the session that was opened lives
   pub opened_lives : (conn : ℕ) (Now : Rest G → Type 0) → Opens (Ok conn) r Now → (x : Rest G) × Now x × IsSome (find conn x.sessions)
-  opened_lives conn Now h = (opened r, h.2, subst IsSome (sym (found_by conn h.1)) refl)
+  opened_lives conn Now h = (opened r, h.now, subst IsSome (sym (found_by conn h.number)) refl)
 
   -- and is given up
   pub served : (conn : ℕ) (Mid Now : Rest G → Type 0) → Opens (Ok conn) r Mid → ((x : Rest G) → Mid x → IsSome (find conn x.sessions) → LeavesOthers x conn Now) → HasServed r Now
   served conn Mid Now h leaves =
-      let l : LeavesOthers (opened r) r.next Now = subst (λ (n : ℕ). LeavesOthers (opened r) n Now) h.1 (leaves (opened r) h.2 (subst IsSome (sym (found_by conn h.1)) refl)) in
+      let l : LeavesOthers (opened r) r.next Now = subst (λ (n : ℕ). LeavesOthers (opened r) n Now) h.number (leaves (opened r) h.now (subst IsSome (sym (found_by conn h.number)) refl)) in
       (l.0, subst Now (ap (λ (ss : List Live). record { sessions = ss; next = r.next + 1; ledger = r.ledger ++ l.0; gate = r.gate }) (ap (λ (ss : List Live). without r.next (ss ++ fresh r.next ∷ [])) none ∙ left_alone r.next)) l.1)
 
   -- or lives on
   pub looped : (conn : ℕ) (Mid Now : Rest G → Type 0) → Opens (Ok conn) r Mid → LivesOn conn Mid Now → HasLooped r Now
-  looped conn Mid Now h lives = inr (subst (λ (n : ℕ). Grows (opened r) n Now) h.1 (lives (opened r) h.2 (subst IsSome (sym (found_by conn h.1)) refl)))
+  looped conn Mid Now h lives = inr (subst (λ (n : ℕ). Grows (opened r) n Now) h.number (lives (opened r) h.now (subst IsSome (sym (found_by conn h.number)) refl)))

@@ -1,13 +1,12 @@
 -- How a program ends, by why it stops.
-use Rattle.std.proofs.Common.{◌≡◌, refl, sym, ◌∙◌, subst, ℕ, Bool, false, List, Option, Some, None, Result, Ok, Err, ◌⊎◌, ⊎_elim}
+use Rattle.std.proofs.Common.{◌≡◌, refl, sym, ◌∙◌, subst, ℕ, Bool, List, Option, Some, None, Result, Ok, Err, ◌⊎◌, ⊎_elim}
 use Rattle.std.specs.Prelude.{OnOk, IsSome, option_map}
-use Rattle.std.specs.Io.KnownBytes.{Appends}
 use Rattle.std.proofs.KnownBytes.{Appends-nil}
 use Rattle.streams.specs.declared.fault.StreamFault.{StreamFault}
 use Rattle.streams.specs.declared.fault.StreamFault.TheVariants.{ReadFailed, WriteFailed, Memory}
 use Rattle.programs.specs.declared.stop.Stop.{Stop}
 use Rattle.programs.specs.declared.stop.Stop.TheVariants.{Unreadable, Broken}
-use Rattle.programs.specs.Stopping.{IsStopOf, stop_status, stop_text, Ends}
+use Rattle.programs.specs.Stopping.{IsStopOf, stop_status, Ends, TellsStop}
 
 stop_of : (stop : Stop) (A B : Type 0) → (stop ≡ Broken ReadFailed → A) → (stop ≡ Broken WriteFailed → B) → IsStopOf stop A B
 stop_of (Unreadable n) A B a b = tt
@@ -20,12 +19,12 @@ told_of told stop A B a b h = ⊎_elim (λ e. stop_of told A B (λ q. a (sym e �
 
 -- it stops, and why is told, or want of memory in its place
 pub ends_told : (stop : Stop) (status : ℕ) (A B : Type 0) (failed : Bool) (before after : Option (List ℕ)) → (stop ≡ Broken ReadFailed → A) → (stop ≡ Broken WriteFailed → B)
-    → (told : Stop) × ((told ≡ stop) ⊎ (told ≡ Broken Memory)) × (status ≡ stop_status told) × (failed ≡ false → Appends before after (stop_text told)) → Ends status A B failed before after
-ends_told stop status A B failed before after a b p = (Some p.0, p.2, told_of p.0 stop A B a b p.1, p.3)
+    → TellsStop stop status failed before after → Ends status A B failed before after
+ends_told stop status A B failed before after a b p = record { stop = Some p.told; ends = p.ends; cause = told_of p.told stop A B a b p.which; text = p.text }
 
 -- it ends well
 pub ends_well : (A B : Type 0) (failed : Bool) (before : Option (List ℕ)) → Ends 0 A B failed before before
-ends_well A B failed before = (None, refl, tt, λ e. Appends-nil before)
+ends_well A B failed before = record { stop = None; ends = refl; cause = tt; text = λ e. Appends-nil before }
 
 -- what follows of a good result
 pub on_ok_then : {T E : Type 0} (x : Result T E) (P Q : Type 0) → (P → Q) → OnOk x P → OnOk x Q

@@ -7,7 +7,7 @@ use Rattle.client.specs.declared.SubmitFault.TheVariants as refusal
 use Rattle.machine.specs.declared.Phase.{Phase}
 use Rattle.machine.specs.declared.Phase.TheVariants as phase
 use Rattle.machine.specs.declared.State.{State}
-use Rattle.server.specs.declared.kinds.Cause.{Cause}
+use Rattle.exchange.specs.declared.kinds.Cause.{Cause}
 
 -- the name of what became of a request
 abbrev pub outcome_name : Outcome → List ℕ

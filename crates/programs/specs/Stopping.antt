@@ -1,5 +1,5 @@
 -- Why a program stops before its lines end, and how it ends.
-use Rattle.std.specs.Prelude.{◌≡◌, ℕ, Bool, false, List, [], ◌∷◌, ◌++◌, codes, Option, Some, None, IfSome}
+use Rattle.std.specs.Prelude.{◌≡◌, ◌⊎◌, ℕ, Bool, false, List, [], ◌∷◌, ◌++◌, codes, Option, Some, None, IfSome}
 use Rattle.std.specs.Fmt.{decimal}
 use Rattle.std.specs.Io.KnownBytes.{Appends}
 use Rattle.streams.specs.declared.fault.StreamFault.TheVariants.{ReadFailed, WriteFailed, Memory}
@@ -38,7 +38,17 @@ said_of None = []
 said_of (Some stop) = stop_text stop
 
 -- a status with which the program may end, and what standard error got then, unless it failed
-abbrev pub Ends : ℕ → Type 0 → Type 0 → Bool → Option (List ℕ) → Option (List ℕ) → Type 0
-Ends status read written err_failed before after =
-    (stop : Option Stop) × (status ≡ ends_with stop) × IfSome stop (λ s. IsStopOf s read written)
-    × (err_failed ≡ false → Appends before after (said_of stop))
+pub record Ends (status : ℕ) (read written : Type 0) (err_failed : Bool)
+    (before after : Option (List ℕ)) : Type 0 where
+  pub stop : Option Stop
+  pub ends : status ≡ ends_with stop
+  pub cause : IfSome stop (λ s. IsStopOf s read written)
+  pub text : err_failed ≡ false → Appends before after (said_of stop)
+
+-- The status of why a program stops, and what standard error got then, unless it failed; or those of want of memory.
+pub record TellsStop (stop : Stop) (status : ℕ) (err_failed : Bool)
+    (before after : Option (List ℕ)) : Type 0 where
+  pub told : Stop
+  pub which : (told ≡ stop) ⊎ (told ≡ Broken Memory)
+  pub ends : status ≡ stop_status told
+  pub text : err_failed ≡ false → Appends before after (stop_text told)

@@ -1,9 +1,9 @@
 //! A client and a server in one process, over the two ends of a connection.
-ghost use Rattle.std.specs.Prelude.{◌≡◌, ◌⊎◌, ℕ, [], List, length, true, None, IsSome, IfErr, OnOk, IsErrOf};
+ghost use Rattle.std.specs.Prelude.{◌≡◌, ◌⊎◌, ℕ, [], List, length, true, None, IfErr, OnOk, IsErrOf};
 ghost use Rattle.server.specs.Serving.{Rest};
 ghost use Rattle.server.specs.Views.{Fits};
 ghost use Rattle.streams.specs.Settling.{IsLive, LivesOn};
-ghost use Rattle.programs.specs.Looping.{GivesNoMore, HasLooped};
+ghost use Rattle.programs.specs.Looping.{GivesNoMore, HasLooped, RunsNothing};
 ghost use Rattle.programs.specs.Serving.{IsVacant};
 ghost use Rattle.scripts.specs.Rows.{request_line_of};
 ghost use Rattle.scripts.specs.Script.{filled_lines, unreadable};
@@ -318,9 +318,8 @@ fn run<E: Engine, G: Gate, A: Source, B: Sink, C: Source, D: Sink, O: Sink>(
     // Nothing is run where a line can't be read.
     ensures unreadable { IfErr result
         (λ stop. stop_status stop ≡ 2
-        → IsSome (unreadable request_line_of (filled_lines script.now))
-        × (server.new ≡ server.old) × (near.new ≡ near.old) × (far.new ≡ far.old)
-        × (out.new ≡ out.old)) }
+        → RunsNothing script.now server.old server.new near.old near.new far.old far.new out.old
+        out.new) }
     ensures readable { OnOk result (unreadable request_line_of (filled_lines script.now) ≡ None) }
 {
     let lines = match read_requests(alloc, script) {
@@ -364,8 +363,8 @@ pub fn run_loop<E: Engine, G: Gate, A: Source, B: Sink, C: Source, D: Sink, O: S
     // 0 is only for a script of which each line can be read, and 2 only for one of which one can't: nothing is run then.
     ensures readable { result ≡ 0 → unreadable request_line_of (filled_lines script.now) ≡ None }
     ensures unreadable { result ≡ 2
-        → IsSome (unreadable request_line_of (filled_lines script.now)) × (server.new ≡ server.old)
-        × (near.new ≡ near.old) × (far.new ≡ far.old) × (out.new ≡ out.old) }
+        → RunsNothing script.now server.old server.new near.old near.new far.old far.new out.old
+        out.new }
     // At most one session is opened, and the ledger has at most grown.
     ensures grows { (r : Rest G) → Fits E.entries server.old r → r.sessions ≡ []
         → HasLooped r (Fits E.entries server.new) }

@@ -1,7 +1,7 @@
 //! Why a program stops before its lines end.
-ghost use Rattle.std.specs.Prelude.{◌≡◌, ◌⊎◌, false, string_bytes, IfOk};
+ghost use Rattle.std.specs.Prelude.{◌≡◌, false, string_bytes, IfOk};
 ghost use Rattle.std.specs.Io.KnownBytes.{Appends};
-ghost use Rattle.programs.specs.Stopping.{stop_status, stop_text};
+ghost use Rattle.programs.specs.Stopping.{TellsStop, stop_status, stop_text};
 
 use std::alloc::{AllocError, Global};
 use streams::{Sink, StreamFault, write_all};
@@ -18,9 +18,7 @@ pub(crate) enum Stop {
 /// Writes why a program stops, and answers its exit status: 2 for a line that can't be read, 1 for a stream that has failed, 3
 /// for want of memory. Where there is no memory for the text, that is why.
 pub(crate) fn put_stop<E: Sink>(alloc: Global, stop: Stop, err: &mut E) -> u8
-    ensures { (told : Stop) × ((told ≡ stop) ⊎ (told ≡ Stop.Broken StreamFault.Memory))
-        × (result ≡ stop_status told)
-        × (E.has_failed err.new ≡ false → Appends (E.taken err.old) (E.taken err.new) (stop_text told)) }
+    ensures { TellsStop stop result (E.has_failed err.new) (E.taken err.old) (E.taken err.new) }
 {
     match stop {
         Stop::Unreadable(number) => put_unreadable(alloc, number, err),
@@ -29,9 +27,8 @@ pub(crate) fn put_stop<E: Sink>(alloc: Global, stop: Stop, err: &mut E) -> u8
 }
 
 fn put_unreadable<E: Sink>(alloc: Global, number: usize, err: &mut E) -> u8
-    ensures { (told : Stop) × ((told ≡ Stop.Unreadable number)
-        ⊎ (told ≡ Stop.Broken StreamFault.Memory)) × (result ≡ stop_status told)
-        × (E.has_failed err.new ≡ false → Appends (E.taken err.old) (E.taken err.new) (stop_text told)) }
+    ensures { TellsStop (Stop.Unreadable number) result (E.has_failed err.new) (E.taken err.old)
+        (E.taken err.new) }
 {
     match unreadable_text(alloc, number) {
         Ok(text) => put(text.as_bytes(), 2, err),

@@ -1,6 +1,6 @@
 //! What is printed of what a client heard.
 ghost use Rattle.std.specs.Prelude.{◌≡◌, IfOk, string_bytes};
-ghost use Rattle.structures.specs.Shape.{shape, shapes};
+ghost use Rattle.cells.specs.Shape.{shape, shapes};
 ghost use Rattle.messages.specs.View.{response_view};
 ghost use Rattle.client.specs.Notes.{note};
 ghost use Rattle.programs.specs.Telling.{IsSpelled, IsTold, IsRowLine, row_line, heard_line, fault_line, failure_line, failure_told};

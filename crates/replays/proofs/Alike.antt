@@ -2,7 +2,7 @@
 use Rattle.std.proofs.Common.{◌≡◌, refl, sym, ap, ◌∙◌, subst, true, false, Bool, Result, Ok, Err, Option, Some, None, List, [], ◌∷◌, ◌++◌, ℕ, append_assoc, inl, inr, string_bytes}
 use Rattle.std.proofs.lemmas.List.{append-nil}
 use Rattle.std.specs.Option.{option_map}
-use Rattle.server.specs.Session.{Setting}
+use Rattle.exchange.specs.Session.{Setting}
 use Rattle.scripts.specs.Rows.{line_of}
 use Rattle.scripts.specs.Script.{filled_lines, lines_read}
 use Rattle.scripts.specs.Views.{LineView}
@@ -10,7 +10,7 @@ use Rattle.world.specs.World.{World, Event, Seen, Refusal, step, empty}
 use Rattle.replays.specs.declared.replaying.Replayed.{Replayed}
 use Rattle.replays.specs.Events.{Came, moves, code_of, repeats, event_at}
 use Rattle.replays.specs.Running.{serving, Takes, Once, Moves, stays, moves_on, Repeats, Done, Does, line_of_note, Runs, starts, runs_on}
-use Rattle.replays.specs.Scripts.{SaysScript, unreadable_line}
+use Rattle.replays.specs.Scripts.{Says, SaysScript, unreadable_line}
 use Rattle.replays.specs.Texts.{report_text}
 
 abbrev Step : Type 0
@@ -63,7 +63,7 @@ one_end S e c d x y (goes w w2 a t on h) (goes v w3 b u moved k) =
 -- what is done for a line is one thing
 done_one : (b : Bool) (S : Setting) (w : World) (e : Event) (c d : Option (List ℕ)) (x y : World) → Done b S w e c x → Done b S w e d y → (c ≡ d) × (x ≡ y)
 done_one true S w e c d x y h k =
-    one_end S e c d x y (ends_from S e w c x h.2 (stops h.0 h.1 h.3 h.4 h.5)) (ends_from S e w d y k.2 (stops k.0 k.1 k.3 k.4 k.5))
+    one_end S e c d x y (ends_from S e w c x h.moved (stops h.before h.came h.took h.still h.noted)) (ends_from S e w d y k.moved (stops k.before k.came k.took k.still k.noted))
 done_one false S w e c d x y h k =
     let p = takes_one S w e h.0 k.0 x y h.1 k.1 in (h.2 ∙ ap code_of p.0 ∙ sym k.2, p.1)
 
@@ -99,10 +99,10 @@ runs_one S (l ∷ ls) w t u x y h k =
     let q = runs_one S ls k.1 h.2 k.2 x y (subst (λ z. RunsOn S z ls h.2 x) p.1 h.4) k.4 in
     (h.5 ∙ ap (λ z. line_of_note l.0 z ++ h.2) p.0 ∙ ap (λ z. line_of_note l.0 k.0 ++ z) q.0 ∙ sym k.5, q.1)
 
-pub one_said : (b : List ℕ) (r s : Replayed) → SaysScript b r → SaysScript b s → (string_bytes r.out ≡ string_bytes s.out) × (string_bytes r.err ≡ string_bytes s.err) × (r.status ≡ s.status)
+pub one_said : (b : List ℕ) (r s : Replayed) → SaysScript b r → SaysScript b s → Says (string_bytes s.out) (string_bytes s.err) s.status r
 one_said b r s (inl h) (inl k) =
     let n : h.0 ≡ k.0 = some_is h.0 k.0 (sym h.1 ∙ k.1) in
-    (h.2.out ∙ sym k.2.out, h.2.err ∙ ap unreadable_line n ∙ sym k.2.err, h.2.status ∙ sym k.2.status)
+    record { out = h.2.out ∙ sym k.2.out; err = h.2.err ∙ ap unreadable_line n ∙ sym k.2.err; status = h.2.status ∙ sym k.2.status }
   where
     some_is : (n m : ℕ) → ◌≡◌ {A = Option ℕ} (Some n) (Some m) → n ≡ m
     some_is n m e = cc
@@ -112,4 +112,4 @@ one_said b r s (inr h) (inl k) =
     let bad : ◌≡◌ {A = Option ℕ} None (Some k.0) = ap (option_map (λ l. l.0)) (sym h.readable) ∙ k.1 in absurd cc
 one_said b r s (inr h) (inr k) =
     let p = runs_one serving (lines_read line_of (filled_lines b)) (empty []) h.text k.text h.after k.after (in_front serving (empty []) h.runs) (in_front serving (empty []) k.runs) in
-    (h.says.out ∙ ap (λ z. z ++ report_text h.after) p.0 ∙ ap (λ z. k.text ++ report_text z) p.1 ∙ sym k.says.out, h.says.err ∙ sym k.says.err, h.says.status ∙ sym k.says.status)
+    record { out = h.says.out ∙ ap (λ z. z ++ report_text h.after) p.0 ∙ ap (λ z. k.text ++ report_text z) p.1 ∙ sym k.says.out; err = h.says.err ∙ sym k.says.err; status = h.says.status ∙ sym k.says.status }

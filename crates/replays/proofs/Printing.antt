@@ -4,7 +4,7 @@ use Rattle.std.proofs.lemmas.List.{append-nil, flat_map_more, map_more, take_mor
 use Rattle.std.specs.List.{flat_map}
 use Rattle.std.specs.declared.option.Option.{Option}
 use Rattle.std.specs.Prelude.{Some, None, slice_get}
-use Rattle.world.specs.World.{Connection}
+use Rattle.world.specs.Connections.{Connection}
 use Rattle.world.specs.Reports.{ordinals, summaries_told, outcomes_at_loss, waits, standing}
 use Rattle.world.specs.Reported.{IsReport, standing_seen}
 use Rattle.world.specs.Views.{read_of}

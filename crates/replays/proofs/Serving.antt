@@ -6,7 +6,7 @@ use Rattle.engine.specs.declared.fixed_table.FixedTable.{FixedTable}
 use Rattle.engine.specs.declared.one_user.OneUser.{OneUser}
 use Rattle.engine.specs.Kept.{ledger_of, is_user, principal_of, credentials_of}
 use Rattle.engine.specs.Queries.{fixed_answer}
-use Rattle.server.specs.Session.{Setting}
+use Rattle.exchange.specs.Session.{Setting}
 use Rattle.scripts.specs.Views.{LineView}
 use Rattle.world.specs.declared.world.World.{World as WorldHeld}
 use Rattle.world.specs.World.{World, Reached, empty}

@@ -3,7 +3,7 @@ use Rattle.std.proofs.Common.{◌≡◌, refl, sym, ap, ◌∙◌, subst, true, 
 use Rattle.std.specs.declared.option.Option.{Option}
 use Rattle.std.specs.declared.alloc.AllocError.{AllocError}
 use Rattle.engine.specs.Views.{EntryView}
-use Rattle.server.specs.Session.{Setting}
+use Rattle.exchange.specs.Session.{Setting}
 use Rattle.world.specs.declared.kinds.Refused.{Refused}
 use Rattle.world.specs.declared.kinds.Refused.TheVariants.{NoSuchConnection, WrongPeer, SessionsFull, Memory}
 use Rattle.world.specs.declared.kinds.Seen.{Seen as SeenTold}
@@ -17,7 +17,8 @@ use Rattle.replays.specs.Running.{Leads, LeadsBy, Moves, moves_on, Once, Repeats
 
 pub stepped : (S : Setting) (brought : List EntryView) (w : World) (e : Event) (P : World → Type 0) → Reached S brought w → (res : Result SeenTold Refused) (s : Step) → Settles res s → Answers S w e (seen_in res) P
     → (w2 : World) × Stepped S w e s w2 × Reached S brought w2 × P w2
-stepped S brought w e P r (Ok seen) s h a = (a.0, (Ok (seen_of seen), a.1, h), goes_on w a.0 e (seen_of seen) r a.1, a.3)
+stepped S brought w e P r (Ok seen) s h a =
+    (a.after, (Ok (seen_of seen), a.steps, h), goes_on w a.after e (seen_of seen) r a.steps, a.now)
 stepped S brought w e P r (Err NoSuchConnection) s h a = (w, (Err V1, (a.0, refl), h), r, a.1)
 stepped S brought w e P r (Err WrongPeer) s h a = (w, (Err V2, (a.0, refl), h), r, a.1)
 stepped S brought w e P r (Err SessionsFull) s h a = (w, (Err V3, (a.0, refl), h), r, a.1)
@@ -49,7 +50,12 @@ module _ {E G : Type 0} (entries : E → List EntryView) (S : Setting) (gate : G
       record { after = x.0; way = x.1; reached = x.2; fits = x.3 }
   step_leads w e reached res t (Err f) h a =
       let x : Answers S w e (Err Memory) (FitsWorld entries t gate) = subst (λ z. Answers S w e (seen_in z) (FitsWorld entries t gate)) h a in
-      record { after = x.1.0; way = tt; reached = left_reached S brought w e x.1.0 reached x.1.1; fits = x.1.2 }
+      record {
+        after = x.after;
+        way = tt;
+        reached = left_reached S brought w e x.after reached x.leaves;
+        fits = x.now;
+      }
 
   pub once_leads : (w : World) (e : Event) (s : Step) (t : WorldHeld E G) → Leads entries S gate brought (Stepped S w e s) t → Leads entries S gate brought (Once S w e (code_in s)) t
   once_leads w e s t h = leads_as (Stepped S w e s) (Once S w e (code_in s)) t (λ w2 x. (x.0, x.1, x.2.0)) h
@@ -65,4 +71,4 @@ module _ {E G : Type 0} (entries : E → List EntryView) (S : Setting) (gate : G
       → Leads entries S gate brought (Repeats S w e (code_in s)) t
   moves_end w e e2 x t s same off h l =
       let P : Event → Type 0 = λ z. Leads entries S gate brought (Stepped S h.after z s) t in
-      leads_as (Stepped S h.after e s) (Repeats S w e (code_in s)) t (λ w2 y. (h.after, y.0, h.way, y.1, sym y.2.1 ∙ off, y.2.0)) (subst P same l)
+      leads_as (Stepped S h.after e s) (Repeats S w e (code_in s)) t (λ w2 y. record { before = h.after; came = y.0; moved = h.way; took = y.1; still = sym y.2.1 ∙ off; noted = y.2.0 }) (subst P same l)

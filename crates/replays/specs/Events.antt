@@ -3,10 +3,10 @@ use Rattle.std.specs.Prelude.{◌≡◌, ℕ, nat_lt, Bool, true, false, List, c
 use Rattle.wire.specs.declared.Version.{Version}
 use Rattle.wire.specs.declared.Version.TheVariants.{V51}
 use Rattle.wire.specs.Offers.{wish_version}
-use Rattle.server.specs.declared.What.{What}
-use Rattle.server.specs.declared.What.TheVariants as what
-use Rattle.server.specs.declared.Worked.{Worked}
-use Rattle.server.specs.declared.Worked.TheVariants as worked
+use Rattle.exchange.specs.declared.What.{What}
+use Rattle.exchange.specs.declared.What.TheVariants as what
+use Rattle.exchange.specs.declared.Worked.{Worked}
+use Rattle.exchange.specs.declared.Worked.TheVariants as worked
 use Rattle.client.specs.declared.SubmitFault.{SubmitFault}
 use Rattle.scripts.specs.declared.line.Peer.{Peer as PeerSaid}
 use Rattle.scripts.specs.declared.line.Peer.TheVariants as peer
@@ -18,7 +18,8 @@ use Rattle.scripts.specs.Views as line
 use Rattle.scripts.specs.Views.{LineView}
 use Rattle.scripts.specs.Meant.{meant}
 use Rattle.programs.specs.Names.{refusal_code}
-use Rattle.world.specs.World.{World, Connection, Peer, Ours, Foreign, Event, Opens, Submit, ToServer, ToClient, Work, PutsNoop, Cut, ClientLost, ServerLost, Feeds, Seen, Opened, Submitted, Fed, Gave, SawWork, SawNoop, SawNothing, Refusal, V1, V2, V3, wish_of}
+use Rattle.world.specs.Connections.{Connection, Peer, Ours, Foreign, wish_of}
+use Rattle.world.specs.World.{World, Event, Opens, Submit, ToServer, ToClient, Work, PutsNoop, Cut, ClientLost, ServerLost, Feeds, Seen, Opened, Submitted, Fed, Gave, SawWork, SawNoop, SawNothing, Refusal, V1, V2, V3}
 
 -- the version of the requests of a connection: the one that its client wishes, and the newest where it has none
 abbrev pub version_of : Option Connection → Version

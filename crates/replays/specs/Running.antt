@@ -4,7 +4,7 @@ use Rattle.std.specs.Str.{bytes_eq}
 use Rattle.std.specs.declared.alloc.AllocError.{AllocError}
 use Rattle.engine.specs.Queries.{fixed_answer}
 use Rattle.engine.specs.Views.{EntryView}
-use Rattle.server.specs.Session.{Setting}
+use Rattle.exchange.specs.Session.{Setting}
 use Rattle.scripts.specs.Views.{LineView}
 use Rattle.programs.specs.Telling.{refused_line}
 use Rattle.world.specs.declared.kinds.Refused.{Refused}
@@ -42,9 +42,14 @@ pub data Moves (S : Setting) (e : Event) (w : World) : World → Type 0 where
       → Moves S e w w3
 
 -- and then once more, moving nothing
-abbrev pub Repeats : Setting → World → Event → Option (List ℕ) → World → Type 0
-Repeats S w e code w3 = (w2 : World) × (a : Came) × Moves S e w w2 × Takes S w2 e a w3
-    × (moves a ≡ false) × (code ≡ code_of a)
+pub record Repeats (S : Setting) (w : World) (e : Event) (code : Option (List ℕ)) (last : World)
+    : Type 0 where
+  pub before : World
+  pub came : Came
+  pub moved : Moves S e w before
+  pub took : Takes S before e came last
+  pub still : moves came ≡ false
+  pub noted : code ≡ code_of came
 
 -- an event as often as a line says
 abbrev pub Done : Bool → Setting → World → Event → Option (List ℕ) → World → Type 0

@@ -35,14 +35,19 @@ pub record Reports (b : List ℕ) (r : Replayed) : Type 0 where
 abbrev pub SaysScript : List ℕ → Replayed → Type 0
 SaysScript b r = ((n : ℕ) × StopsAt b n × Says [] (unreadable_line n) 2 r) ⊎ Reports b r
 
+-- All the bytes of a source were read, and this is said of them.
+pub record SaysAll (before after : Option (List ℕ)) (r : Replayed) : Type 0 where
+  pub bytes : List ℕ
+  pub input : Consumes before after bytes
+  pub at_end : IsAtEnd after
+  pub says : SaysScript bytes r
+
 -- What is said of a source, which had these bytes before and has those now, by whether it has failed.
 abbrev pub SaysSource : Bool → Option (List ℕ) → Option (List ℕ) → Replayed → Type 0
 SaysSource true before after r = Says [] (codes "fault I1" ++ 10 ∷ []) 1 r
-SaysSource false before after r =
-    (b : List ℕ) × Consumes before after b × IsAtEnd after × SaysScript b r
+SaysSource false before after r = SaysAll before after r
 
 -- Bytes have one output, one standard error and one status.
 abbrev pub SaysOneThing : Type 0
 SaysOneThing = (b : List ℕ) (r s : Replayed) → SaysScript b r → SaysScript b s
-    → (string_bytes r.out ≡ string_bytes s.out) × (string_bytes r.err ≡ string_bytes s.err)
-    × (r.status ≡ s.status)
+    → Says (string_bytes s.out) (string_bytes s.err) s.status r

@@ -1,18 +1,18 @@
 -- What is printed of a world.
-use Rattle.std.specs.Prelude.{ℕ, suc, List, [], ◌∷◌, ◌++◌, codes, length}
+use Rattle.std.specs.Prelude.{ℕ, suc, List, [], ◌∷◌, ◌++◌, codes}
 use Rattle.std.specs.List.{flat_map}
 use Rattle.std.specs.Fmt.{decimal}
-use Rattle.machine.specs.declared.Phase.{Phase}
 use Rattle.client.specs.declared.Outcome.{Outcome}
-use Rattle.engine.specs.Views.{EntryView}
 use Rattle.programs.specs.Names.{outcome_name, phase_name, state_name, cause_code}
 use Rattle.programs.specs.Telling.{heard_line}
-use Rattle.world.specs.World.{World, Connection, ledger}
-use Rattle.world.specs.Reports.{summaries_told, outcomes_at_loss, waits, Standing, stands, has_ended, standing}
+use Rattle.programs.specs.Looping.{entry_line}
+use Rattle.world.specs.Connections.{Connection}
+use Rattle.world.specs.World.{World, ledger}
+use Rattle.world.specs.Reports.{ReadSummary, summaries_told, outcomes_at_loss, waits, Standing, stands, has_ended, standing}
 
 -- the line of a summary that a client read: ordinal, outcome and phase
-abbrev pub read_line : ℕ × Phase × Outcome → List ℕ
-read_line x = heard_line x.0 (outcome_name x.2) (phase_name x.1)
+abbrev pub read_line : ReadSummary → List ℕ
+read_line x = heard_line x.ordinal (outcome_name x.outcome) (phase_name x.phase)
 
 -- the line of an outcome at a client's loss, with its request's ordinal
 abbrev pub lost_line : ℕ × Outcome → List ℕ
@@ -42,11 +42,6 @@ connection_text c k = conn_line c ++ flat_map read_line (summaries_told k)
 unfoldable pub connections_text : ℕ → List Connection → List ℕ
 connections_text c [] = []
 connections_text c (k ∷ ks) = connection_text c k ++ connections_text (suc c) ks
-
--- an entry of the ledger: connection, ordinal and how many writes
-abbrev pub entry_line : EntryView → List ℕ
-entry_line e = codes "entry " ++ decimal e.conn ++ codes " " ++ decimal e.ordinal ++ codes " "
-    ++ decimal (length e.writes) ++ 10 ∷ []
 
 -- each connection in the order of opening, and then the ledger
 abbrev pub report_text : World → List ℕ

@@ -2,12 +2,14 @@
 ghost use Rattle.std.specs.Prelude.{◌≡◌, ◌++◌, ◌∷◌, [], IfOk, OnOk, List, map, string_bytes};
 ghost use Rattle.std.specs.List.{flat_map};
 ghost use Rattle.engine.specs.Views.{EntryView, entries_view, entry_view};
-ghost use Rattle.world.specs.World.{World as WorldSeen, Connection as ConnectionSeen, Reached, ledger};
+ghost use Rattle.world.specs.Connections.{Connection as ConnectionSeen};
+ghost use Rattle.world.specs.World.{World as WorldSeen, Reached, ledger};
 ghost use Rattle.world.specs.Reports.{ordinals};
 ghost use Rattle.world.specs.Reported.{IsReport, standing_seen};
 ghost use Rattle.world.specs.Views.{read_of};
 ghost use Rattle.world.specs.Turns.{FitsWorld, setting_of};
-ghost use Rattle.replays.specs.Texts.{conn_line, connection_text, connections_text, entry_line, lost_line, read_line, report_text, standing_line, waits_line};
+ghost use Rattle.programs.specs.Looping.{entry_line};
+ghost use Rattle.replays.specs.Texts.{conn_line, connection_text, connections_text, lost_line, read_line, report_text, standing_line, waits_line};
 
 use crate::running::connection_at;
 use client::Outcome;

@@ -2,11 +2,11 @@
 use Rattle.std.proofs.Common.{◌≡◌, ℕ, Ok, Err, Some, None, ap, sym, ◌∙◌}
 use Rattle.packstream.specs.Tree.{Tree}
 use Rattle.wire.specs.declared.Version.{Version}
-use Rattle.structures.specs.declared.cell.Cell.{Cell}
+use Rattle.cells.specs.declared.cell.Cell.{Cell}
+use Rattle.cells.specs.declared.fault.Reason.{Reason}
+use Rattle.cells.specs.Shape.{shape}
 use Rattle.structures.specs.declared.fault.CellFault.TheVariants as cell_fault
-use Rattle.structures.specs.declared.fault.Reason.{Reason}
 use Rattle.structures.specs.Answers.{Reads}
-use Rattle.structures.specs.Shape.{shape}
 use Rattle.scripts.specs.Params.{cell_by, cell_at}
 
 pub cell_is : (v : Version) (t : Tree) (c : Cell) → Reads v t (Ok c) → cell_at v t ≡ Some (shape c)

@@ -1,6 +1,6 @@
 -- Parameters are the entries of a dictionary that is a cell.
 use Rattle.std.proofs.Common.{◌≡◌, ◌↔◌, ℕ, List, [], ◌∷◌, Some, Result, Ok, Err, refl, sym, ap, ◌∙◌}
-use Rattle.std.specs.Option.{option_and_then}
+use Rattle.std.specs.Option.{option_and_then, option_or}
 use Rattle.std.specs.Result.{result_ok}
 use Rattle.packstream.proofs.Deciding.{whole_value}
 use Rattle.packstream.specs.Answers.{whole_of}
@@ -10,13 +10,13 @@ use Rattle.packstream.specs.Spelling.{Spells}
 use Rattle.packstream.specs.Tree.{Tree, null, boolean, int, float, byte_string, text, list, dict, structure, Entries, no_entries, entry_then}
 use Rattle.packstream.specs.View.{entries_of}
 use Rattle.packstream.specs.declared.fault.Reason.{Reason as PackReason}
-use Rattle.structures.specs.Faults.{fault, scan, structures}
+use Rattle.cells.specs.Faults.{fault, scan, structures}
+use Rattle.cells.specs.declared.fault.Reason.{Reason}
 use Rattle.structures.specs.Form.{Form, typed}
-use Rattle.structures.specs.declared.fault.Reason.{Reason}
 use Rattle.wire.specs.declared.Version.{Version}
 use Rattle.wire.specs.declared.Version.TheVariants.{V44, V51}
 use Rattle.messages.specs.Messages.{pairs_of}
-use Rattle.scripts.specs.Params.{cell_by, cell_at, or_else, cell_of, entries_in, params_of, IsParams}
+use Rattle.scripts.specs.Params.{cell_by, cell_at, cell_of, entries_in, params_of, IsParams}
 use Rattle.scripts.specs.Views.{Params}
 
 pub pairs_back : (es : Params) → pairs_of (entries_of es) ≡ es
@@ -45,7 +45,7 @@ abbrev Judged : Type 0
 Judged = Result ℕ (Reason × ℕ)
 
 formed : (t : Tree) (ps : Params) (new old : Judged) → scan (fault V51) 0 (structures t) ≡ new → scan (fault V44) 0 (structures t) ≡ old
-    → option_and_then entries_in (or_else (cell_by new t) (cell_by old t)) ≡ Some ps → (v : Version) × Form v (dict (entries_of ps)) t
+    → option_and_then entries_in (option_or (cell_by new t) (cell_by old t)) ≡ Some ps → (v : Version) × Form v (dict (entries_of ps)) t
 formed t ps (Ok n) old e f h = (V51, ((n, e), dictionary (typed t) ps h))
 formed t ps (Err x) (Ok n) e f h = (V44, ((n, f), dictionary (typed t) ps h))
 formed t ps (Err x) (Err y) e f h = absurd cc
@@ -54,13 +54,13 @@ entered : (t : Tree) (ps : Params) → dict (entries_of ps) ≡ typed t → entr
 entered t ps e = ap entries_in (sym e) ∙ ap Some (pairs_back ps)
 
 -- the oldest version is asked after the newest, and both give the same cell
-at_old : (t : Tree) (ps : Params) (new : Judged) → dict (entries_of ps) ≡ typed t → option_and_then entries_in (or_else (cell_by new t) (Some (typed t))) ≡ Some ps
+at_old : (t : Tree) (ps : Params) (new : Judged) → dict (entries_of ps) ≡ typed t → option_and_then entries_in (option_or (cell_by new t) (Some (typed t))) ≡ Some ps
 at_old t ps (Ok n) e = entered t ps e
 at_old t ps (Err x) e = entered t ps e
 
 found : (v : Version) (t : Tree) (ps : Params) → Form v (dict (entries_of ps)) t → option_and_then entries_in (cell_of t) ≡ Some ps
-found V51 t ps f = ap (λ j. option_and_then entries_in (or_else (cell_by j t) (cell_at V44 t))) f.0.1 ∙ entered t ps f.1
-found V44 t ps f = ap (λ j. option_and_then entries_in (or_else (cell_at V51 t) (cell_by j t))) f.0.1 ∙ at_old t ps (scan (fault V51) 0 (structures t)) f.1
+found V51 t ps f = ap (λ j. option_and_then entries_in (option_or (cell_by j t) (cell_at V44 t))) f.0.1 ∙ entered t ps f.1
+found V44 t ps f = ap (λ j. option_and_then entries_in (option_or (cell_at V51 t) (cell_by j t))) f.0.1 ∙ at_old t ps (scan (fault V51) 0 (structures t)) f.1
 
 spelled : (b : List ℕ) (ps : Params) (bytes : AreBytes b) (r : Result Tree (PackReason × ℕ)) → whole_of b ≡ r
     → option_and_then entries_in (option_and_then cell_of (result_ok r)) ≡ Some ps → IsParams b ps

@@ -1,7 +1,7 @@
 -- The request that a line's words stand for at a version.
-use Rattle.std.specs.Prelude.{ℕ, List, codes, Option, Some, None}
+use Rattle.std.specs.Prelude.{ℕ, List, codes, Option, Some, None, if◌then◌else◌}
 use Rattle.wire.specs.declared.Version.{Version}
-use Rattle.wire.specs.declared.Version.TheVariants.{V44, V51}
+use Rattle.wire.specs.Versions.{hello_has_login}
 use Rattle.messages.specs.View.{AuthView, RequestView, Hello, Logon, Logoff, Goodbye, Reset, Run, Begin, Commit, Rollback, Discard, Pull}
 use Rattle.scripts.specs.Views as script
 use Rattle.scripts.specs.Views.{ScriptRequestView}
@@ -14,10 +14,9 @@ login credentials = record {
   credentials = credentials;
 }
 
--- at 4.4 a HELLO has the login, at 5.1 a LOGON
+-- the login of a HELLO, where the version has one there
 abbrev pub login_at : Version → Option AuthView
-login_at V44 = Some (login (codes "pass"))
-login_at V51 = None
+login_at v = if hello_has_login v then Some (login (codes "pass")) else None
 
 -- the request that a script's request is at a version; a HELLO names the client `t/1`
 abbrev pub meant : Version → ScriptRequestView → RequestView

@@ -1,17 +1,17 @@
 -- Parameters out of bytes.
-use Rattle.std.specs.Prelude.{ℕ, List, Option, Some, None, Result, Ok, Err}
-use Rattle.std.specs.Option.{option_and_then}
+use Rattle.std.specs.Prelude.{ℕ, List, [], ◌∷◌, Option, Some, None, Result, Ok, Err}
+use Rattle.std.specs.Option.{option_and_then, option_or}
 use Rattle.std.specs.Result.{result_ok}
 use Rattle.packstream.specs.Answers.{whole_of}
 use Rattle.packstream.specs.Good.{IsGood}
 use Rattle.packstream.specs.Spelling.{Spells}
 use Rattle.packstream.specs.Tree.{Tree, dict}
 use Rattle.packstream.specs.View.{entries_of}
-use Rattle.structures.specs.Faults.{fault, scan, structures}
+use Rattle.cells.specs.Faults.{fault, scan, structures}
+use Rattle.cells.specs.declared.fault.Reason.{Reason}
 use Rattle.structures.specs.Form.{Form, typed}
-use Rattle.structures.specs.declared.fault.Reason.{Reason}
 use Rattle.wire.specs.declared.Version.{Version}
-use Rattle.wire.specs.declared.Version.TheVariants.{V44, V51}
+use Rattle.wire.specs.Versions.{versions}
 use Rattle.messages.specs.Messages.{pairs_of}
 use Rattle.scripts.specs.Views.{Params}
 
@@ -24,14 +24,15 @@ cell_by (Err e) t = None
 abbrev pub cell_at : Version → Tree → Option Tree
 cell_at v t = cell_by (scan (fault v) 0 (structures t)) t
 
--- the first, or else the second
-abbrev pub or_else : Option Tree → Option Tree → Option Tree
-or_else None o = o
-or_else (Some t) o = Some t
+-- the cell at the first of these versions that reads the value
+abbrev pub cell_among : List Version → Tree → Option Tree
+cell_among [] t = None
+cell_among (v ∷ []) t = cell_at v t
+cell_among (v ∷ (u ∷ us)) t = option_or (cell_at v t) (cell_among (u ∷ us) t)
 
 -- the cell at a version that reads the value: at all that do it is the same
 abbrev pub cell_of : Tree → Option Tree
-cell_of t = or_else (cell_at V51 t) (cell_at V44 t)
+cell_of t = cell_among versions t
 
 -- the entries of a value that is a dictionary, as parameters
 abbrev pub entries_in : Tree → Option Params

@@ -1,7 +1,7 @@
 -- What a line says, as plain data: texts by their bytes, parameters by the trees of their cells.
 use Rattle.std.specs.Prelude.{ℕ, List, string_bytes}
 use Rattle.packstream.specs.Tree.{Tree}
-use Rattle.structures.specs.Shape.{entries}
+use Rattle.cells.specs.Shape.{entries}
 use Rattle.messages.specs.declared.request.Mode.{Mode}
 use Rattle.messages.specs.declared.request.Count.{Count}
 use Rattle.scripts.specs.declared.request.ScriptRequest.{ScriptRequest}

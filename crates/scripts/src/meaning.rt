@@ -11,7 +11,7 @@ use wire::Version;
 
 impl ScriptRequest {
     /// The request at a version: the agent is `t/1`, the scheme `basic`, the user `user` and the credentials `pass`, or
-    /// `bad` for `logon bad`. A HELLO has the login at 4.4 alone.
+    /// `bad` for `logon bad`. A HELLO has the login where the version has one there.
     pub fn into_request(self, alloc: Global, version: Version) -> Result<Request, AllocError>
         ensures { IfOk result (λ r. request_view r ≡ meant version (script_request_view self)) }
     {
@@ -40,13 +40,14 @@ fn hello(alloc: Global, version: Version) -> Result<Request, AllocError>
     Ok(Request::Hello { agent, auth })
 }
 
-/// The login of a HELLO.
+/// The login of a HELLO, where the version has one there.
 fn login_at(alloc: Global, version: Version) -> Result<Option<Auth>, AllocError>
     ensures { IfOk result (λ a. auth_in a ≡ login_at version) }
 {
-    match version {
-        Version::V44 => Ok(Some(auth(alloc, "pass")?)),
-        Version::V51 => Ok(None),
+    if version.hello_has_login() {
+        Ok(Some(auth(alloc, "pass")?))
+    } else {
+        Ok(None)
     }
 }
 

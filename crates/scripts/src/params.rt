@@ -2,7 +2,7 @@
 ghost use Rattle.std.specs.Prelude.{◌≡◌};
 ghost use Rattle.std.specs.Result.{result_ok};
 ghost use Rattle.packstream.specs.Answers.{whole_of};
-ghost use Rattle.structures.specs.Shape.{shape, entries};
+ghost use Rattle.cells.specs.Shape.{shape, entries};
 ghost use Rattle.scripts.specs.Answers.{Gives};
 ghost use Rattle.scripts.specs.Params.{cell_at, cell_of, entries_in, params_of};
 

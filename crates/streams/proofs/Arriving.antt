@@ -14,9 +14,10 @@ use Rattle.messages.specs.Arrivals as arrival
 use Rattle.machine.specs.Asks.{kind_of, is_reset}
 use Rattle.machine.specs.Following.{interruptible}
 use Rattle.engine.specs.Views.{EntryView}
-use Rattle.server.specs.declared.kinds.Cause.{Cause}
-use Rattle.server.specs.Session.{Setting}
-use Rattle.server.specs.Rest.{Kept, begun, after_strike, after_item, arrives, arrival_by, version_of}
+use Rattle.exchange.specs.declared.kinds.Cause.{Cause}
+use Rattle.exchange.specs.Session.{Setting}
+use Rattle.exchange.specs.Rest.{Kept, begun, after_strike, after_item, arrival_by, version_of}
+use Rattle.server.specs.Feeding.{arrives}
 use Rattle.streams.specs.Conversing.{silent, after_bytes, talk_of_due, unless_ended, talk_then, talk_of_arrivals, conversation}
 use Rattle.streams.specs.Settling.{item_talk}
 use Rattle.streams.proofs.Stepping.{Rested}

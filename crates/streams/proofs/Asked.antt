@@ -100,7 +100,7 @@ module _ (r : Rest) (left mid : Option (List ℕ)) (before notes : List Note) (W
         ∙ ap (λ t. before ++ t.notes) (sym heard)
 
     needed_more : IsNeeded r ((so.fed ++ f.fed) ++ f.unheard)
-    needed_more = inr (so.fed, piece, sym all_read, short, waits)
+    needed_more = inr (record { before = so.fed; last = piece; parts = sym all_read; short = short; waits = waits })
 
     now_more : Now (after_all r (so.fed ++ f.fed))
     now_more = subst Now (sym (after_all-append r so.fed f.fed)) f.now
@@ -129,15 +129,15 @@ module _ (r : Rest) (left mid : Option (List ℕ)) (before notes : List Note) (W
   same_so e h = record { fed = so.fed; unheard = so.unheard; input = so.input; told = e ∙ so.told; now = h; needed = so.needed; whole = so.whole }
 
   pub hears_more : awaits (hears_all r so.fed).knows ≡ true → HearsPiece (after_all r so.fed) mid left_now notes after Now (Ok true) → ReadsOn r left left_now before after Now
-  hears_more waits h = reads_more r left mid before notes Was so left_now h.0 after true Now waits h.2 h.1 h.3 refl
+  hears_more waits h = reads_more r left mid before notes Was so left_now h.piece after true Now waits h.short h.input h.feeds refl
 
   pub hears_end : HearsPiece (after_all r so.fed) mid left_now notes after Now (Ok false) → ReadsAll r left left_now before after Now None
-  hears_end h = stops_at_end r left mid before after Now (same_so h.2 h.3) left_now h.0 h.1
+  hears_end h = stops_at_end r left mid before after Now (same_so h.told h.now) left_now h.input h.at_end
 
   pub hears_fault : (fault : StreamFault) → awaits (hears_all r so.fed).knows ≡ true → HearsPiece (after_all r so.fed) mid left_now notes after Now (Err fault) → ReadsAll r left left_now before after Now (Some fault)
-  hears_fault stream_fault.ReadFailed waits h = stops_failed r left mid before after Now (same_so h.1 h.2) left_now h.0
+  hears_fault stream_fault.ReadFailed waits h = stops_failed r left mid before after Now (same_so h.told h.now) left_now h.input
   hears_fault stream_fault.WriteFailed waits h = absurd h
-  hears_fault stream_fault.Memory waits h = reads_broken r left mid before notes Was so left_now h.0 after false Now waits h.2 h.1 h.3
+  hears_fault stream_fault.Memory waits h = reads_broken r left mid before notes Was so left_now h.piece after false Now waits h.short h.input h.feeds
 
 -- what was answered, by a test of it
 pub on_err : {T E : Type 0} (x : Result T E) (P : Type 0) → is_err x ≡ true → OnErr x P → P
@@ -173,6 +173,12 @@ written_all out n (Some stream_fault.ReadFailed) a b never h = h
 written_all out n (Some stream_fault.WriteFailed) a b never h = absurd (never refl)
 written_all out n (Some stream_fault.Memory) a b never h = all_front a b out h.0
 
+-- bytes that are taken out change nothing of what was needed
+needed_taken : (r : Rest) (n : ℕ) (bytes : List ℕ) → IsNeeded (taken_out r n) bytes → IsNeeded r bytes
+needed_taken r n bytes (inl none) = inl none
+needed_taken r n bytes (inr piece) =
+    inr (record { before = piece.before; last = piece.last; parts = piece.parts; short = piece.short; waits = piece.waits })
+
 pub asks_all : (r : Rest) (left left_now written written_now : Option (List ℕ)) (before after : List Note) (Was Now : Rest → Type 0) (fault : Option StreamFault) → (out : PutsOut r written written_now Was None) → (fault ≡ Some stream_fault.WriteFailed → ⊥)
     → ReadsAll (taken_out r out.0) left left_now before after Now fault → Asks r left left_now written written_now before after Now fault
 asks_all r left left_now written written_now before after Was Now fault out never h = record {
@@ -183,7 +189,7 @@ asks_all r left left_now written written_now before after Was Now fault out neve
   input = h.input;
   told = h.told;
   now = h.now;
-  needed = h.needed;
+  needed = needed_taken r out.0 (h.fed ++ h.unheard) h.needed;
   whole = h.whole;
   ends = h.ends;
 }

@@ -6,9 +6,9 @@ use Rattle.engine.specs.declared.answer.Mode.{Mode as QueryMode}
 use Rattle.engine.specs.Views.{EntryView, WriteView, ParameterView, AnswerView, QueryFault}
 use Rattle.server.specs.declared.kinds.Refused.{Refused}
 use Rattle.server.specs.declared.kinds.Refused.TheVariants.{NoSuchConnection, SessionsFull, Memory}
-use Rattle.server.specs.declared.kinds.Worked.{Worked}
-use Rattle.server.specs.Rest.{Kept, worked_of, work_kept}
-use Rattle.server.specs.Serving.{Live, Rest, find, replace, with_kept, with_session, on_live, after_step, commit_entries, setting, work_at, Answers}
+use Rattle.exchange.specs.declared.kinds.Worked.{Worked}
+use Rattle.exchange.specs.Rest.{Kept, worked_of, work_kept, commit_entries}
+use Rattle.server.specs.Serving.{Live, Rest, find, replace, with_kept, with_session, on_live, after_step, setting, work_at, Answers}
 use Rattle.server.proofs.Runs.{find-conn}
 use Rattle.streams.specs.Conversing.{with_talk}
 use Rattle.streams.proofs.Seats.{find-replace, here, talk-found, talk-replaced}

@@ -7,8 +7,9 @@ use Rattle.wire.proofs.Readers.{reads_pieces}
 use Rattle.engine.specs.Views.{EntryView}
 use Rattle.server.specs.declared.kinds.Refused.{Refused}
 use Rattle.server.specs.declared.kinds.Took.{Took}
-use Rattle.server.specs.declared.kinds.What.{What}
-use Rattle.server.specs.Rest.{Kept, Feeding, feeding, takes_none, takes_item, shut, full, after_item, arrival}
+use Rattle.exchange.specs.declared.kinds.What.{What}
+use Rattle.exchange.specs.Rest.{Kept, shut, full, after_item}
+use Rattle.server.specs.Feeding.{Feeding, feeding, takes_none, takes_item, arrival}
 use Rattle.server.specs.Serving.{Live, Rest, find, fed_live, with_session, feed_at, Answers}
 use Rattle.streams.specs.Conversing.{with_talk}
 use Rattle.streams.proofs.Called.{lives_on, found_again, called, some_first}

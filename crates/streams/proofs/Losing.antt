@@ -3,9 +3,9 @@ use Rattle.std.proofs.Common.{◌≡◌, ap, subst, ◌∙◌, ℕ, List, Option
 use Rattle.std.specs.Prelude.{IsSome, option_map, unwrap_or}
 use Rattle.engine.specs.Views.{EntryView}
 use Rattle.wire.specs.Framing.{Opened}
-use Rattle.server.specs.declared.kinds.Cause.{Cause}
-use Rattle.server.specs.Rest.{Kept, cause_or}
-use Rattle.server.specs.Serving.{Live, Rest, find, lost_at}
+use Rattle.exchange.specs.declared.kinds.Cause.{Cause}
+use Rattle.exchange.specs.Rest.{Kept}
+use Rattle.server.specs.Serving.{cause_or, Live, Rest, find, lost_at}
 use Rattle.streams.specs.declared.fault.StreamFault.{StreamFault}
 use Rattle.streams.specs.Conversing.{Talk, with_talk, without_talk}
 use Rattle.streams.specs.Serving.{Converses, Serves}
@@ -26,9 +26,9 @@ module _ {G : Type 0} (r : Rest G) (conn : ℕ) (i : IsSome (find conn r.session
   pub serves_whole : (cause : Cause) → cause ≡ unwrap_or o Cause.Lost → Converses r conn t Now old new (Ok tt) → Serves r conn t Then old new (Ok cause)
   serves_whole cause e h =
       let l = gives_up (with_talk r conn h.0 t.ledger t.kept) h.1 in
-      (e ∙ ap (λ (x : Option Cause). unwrap_or x Cause.Lost) (l.0 ∙ lost_cause r conn i h.0 t.ledger t.kept), subst Then (lost_rest r conn i h.0 t.ledger t.kept) l.1, h.2)
+      record { ended = e ∙ ap (λ (x : Option Cause). unwrap_or x Cause.Lost) (l.0 ∙ lost_cause r conn i h.0 t.ledger t.kept); now = subst Then (lost_rest r conn i h.0 t.ledger t.kept) l.1; took = h.2 }
 
   pub serves_broken : (fault : StreamFault) → Converses r conn t Now old new (Err fault) → Serves r conn t Then old new (Err fault)
   serves_broken fault h =
-      let l = gives_up (with_talk r conn h.0 h.2 h.1) h.4 in
-      (h.2, h.3, subst Then (lost_rest r conn i h.0 h.2 h.1) l.1, h.5, h.6)
+      let l = gives_up (with_talk r conn h.unfinished h.ledger h.kept) h.now in
+      record { ledger = h.ledger; more = h.more; now = subst Then (lost_rest r conn i h.unfinished h.ledger h.kept) l.1; grown = h.grown; took = h.took }

@@ -15,12 +15,11 @@ use Rattle.machine.specs.Asks.{kind_of, is_goodbye, is_reset}
 use Rattle.machine.specs.Rows.{row_at}
 use Rattle.machine.specs.Following.{interruptible}
 use Rattle.engine.specs.Views.{EntryView, AnswerView, QueryFault}
-use Rattle.server.specs.declared.kinds.Cause.{Cause}
-use Rattle.server.specs.declared.fault.Fault.{Fault}
-use Rattle.server.specs.Said.{fits}
-use Rattle.server.specs.Session.{Setting, Open, no_result, Tx, Reply, OneRow, Summary, Bye, fails, succeeds, close, close_last, if_fits, unwritable, pull, used_up, greets, reply_to_login, reply_to_run, result_of_answer, with_write, no_tx, in_transaction, fields_said, perform, serve, passed_over, is_halted}
-use Rattle.server.specs.Rest.{Kept, rests, turns, serves, Done, Idle, Full, WroteRow, Wrote, Ended, Step, work_kept, replies, after_strike, version_of}
-use Rattle.server.specs.Serving.{commit_entries}
+use Rattle.exchange.specs.declared.kinds.Cause.{Cause}
+use Rattle.exchange.specs.declared.fault.Fault.{Fault}
+use Rattle.exchange.specs.Said.{fits}
+use Rattle.exchange.specs.Session.{Setting, Open, no_result, Tx, Reply, OneRow, Summary, Bye, fails, succeeds, close, close_last, if_fits, unwritable, pull, used_up, greets, reply_to_login, reply_to_run, result_of_answer, with_write, no_tx, in_transaction, fields_said, perform, serve, passed_over, is_halted}
+use Rattle.exchange.specs.Rest.{Kept, rests, turns, serves, Done, Idle, Full, WroteRow, Wrote, Ended, Step, work_kept, replies, after_strike, version_of, commit_entries}
 use Rattle.streams.specs.Conversing.{Talk, silent, after_bytes, heard_out, step_then, steps, steps_due}
 use Rattle.streams.specs.Settling.{IsPlaced, due}
 

@@ -107,12 +107,18 @@ module _ (wish : Wish) (k : Knows) where
   item_spoils (AnyHeard.Unheard e) h = refl
   item_spoils AnyHeard.Over h = refl
 
+-- so many bytes of a piece were fed, told nothing, and ended the client
+pub record EndsSilently (s : Rest) (piece : List ℕ) (Now : Rest → Type 0) : Type 0 where
+  pub count : ℕ
+  pub now : Now (after_all s (take count piece))
+  pub silent : (hears_all s (take count piece)).notes ≡ []
+  pub over : (hears_all s (take count piece)).knows.over ≡ true
+
 -- what an answer to a feed says of the rest that the client stood at
 abbrev pub AfterFeed : Rest → List ℕ → Result (ℕ × Heard) ClientFault → (Rest → Type 0) → Type 0
 AfterFeed s piece (Ok t) Now = Now (after_all s (take t.0 piece)) × ((hears_all s (take t.0 piece)).notes ≡ notes_by (note t.1))
 AfterFeed s piece (Err client_fault.Closed) Now = Now s × (s.knows.over ≡ true)
-AfterFeed s piece (Err client_fault.BadPeer) Now =
-    (n : ℕ) × Now (after_all s (take n piece)) × ((hears_all s (take n piece)).notes ≡ []) × ((hears_all s (take n piece)).knows.over ≡ true)
+AfterFeed s piece (Err client_fault.BadPeer) Now = EndsSilently s piece Now
 AfterFeed s piece (Err client_fault.Memory) Now = Unit {0}
 
 abbrev used_in : Result (ℕ × Note) ClientFault → ℕ
@@ -151,7 +157,7 @@ module _ (s : Rest) (piece : List ℕ) (Now : Rest → Type 0) where
       subst (λ k. Now (after_all s (take k piece)) × ((hears_all s (take k piece)).notes ≡ notes_by (note told.1))) (sym u) (subst Now (sym (stands_is t e)) now, ap (λ z. z.notes) e ∙ n)
 
   bad_after : (t : Tale) → hears_all s front ≡ t → t.notes ≡ [] → t.knows.over ≡ true → Now (stands t) → AfterFeed s piece (Err client_fault.BadPeer) Now
-  bad_after t e n over now = (used, subst Now (sym (stands_is t e)) now, ap (λ z. z.notes) e ∙ n, ap (λ z. z.knows.over) e ∙ over)
+  bad_after t e n over now = record { count = used; now = subst Now (sym (stands_is t e)) now; silent = ap (λ z. z.notes) e ∙ n; over = ap (λ z. z.knows.over) e ∙ over }
 
   abbrev After : Fed → Result (ℕ × Heard) ClientFault → Type 0
   After f result = UnlessMemory result ((note_result result ≡ f.answer) × Now f.rest)
@@ -241,12 +247,12 @@ module _ (r : Rest) (piece rest : List ℕ) (before mid : List Note) (Was Now : 
   pub part_refused : (fault : ClientFault) → AfterFeed (after_all r part.fed) rest (Err fault) Now → (IsErrOf {T = ℕ × Heard} (Err fault) client_fault.Memory → Now (after_all r part.fed)) → FeedsPiece r piece before mid (has_ended fault) Now
   part_refused client_fault.Closed h m = record { fed = part.fed; unheard = rest; parts = part.parts; told = part.told; now = h.0; ends = λ _. inr h.1 }
   part_refused client_fault.BadPeer h m = record {
-    fed = part.fed ++ take h.0 rest;
-    unheard = drop h.0 rest;
-    parts = more_parts h.0;
-    told = more_told (take h.0 rest) [] mid h.2 (sym (append-nil mid));
-    now = more_now (take h.0 rest) h.1;
-    ends = λ _. inr (ap (λ t. t.knows.over) (hears_all-append r part.fed (take h.0 rest)) ∙ h.3);
+    fed = part.fed ++ take h.count rest;
+    unheard = drop h.count rest;
+    parts = more_parts h.count;
+    told = more_told (take h.count rest) [] mid h.silent (sym (append-nil mid));
+    now = more_now (take h.count rest) h.now;
+    ends = λ _. inr (ap (λ t. t.knows.over) (hears_all-append r part.fed (take h.count rest)) ∙ h.over);
   }
   part_refused client_fault.Memory h m = record { fed = part.fed; unheard = rest; parts = part.parts; told = part.told; now = m refl; ends = λ e. absurd (true≢false (sym e)) }
 

@@ -6,9 +6,10 @@ use Rattle.std.proofs.KnownBytes.{Appends-trans}
 use Rattle.wire.specs.Reader.{Took, state, outputs, takes}
 use Rattle.wire.specs.Framing.{Item, Opened, at_server, items_received}
 use Rattle.wire.proofs.Readers.{outputs-append, state-append, takes_outputs}
-use Rattle.server.specs.declared.kinds.Cause.{Cause}
-use Rattle.server.specs.Session.{Setting}
-use Rattle.server.specs.Rest.{Kept, begun, after_item, arrival, shut, unread_among}
+use Rattle.exchange.specs.declared.kinds.Cause.{Cause}
+use Rattle.exchange.specs.Session.{Setting}
+use Rattle.exchange.specs.Rest.{Kept, begun, after_item, shut, unread_among}
+use Rattle.server.specs.Feeding.{arrival}
 use Rattle.server.specs.Serving.{Rest}
 use Rattle.streams.specs.declared.fault.Standing.{Standing}
 use Rattle.streams.specs.declared.fault.StreamFault.{StreamFault}
@@ -50,7 +51,15 @@ module _ {G : Type 0} (r : Rest G) (conn : ℕ) (S : Setting) where
       let t = item_talk S conn (outputs at_server (kept_at up) more) (told up).ledger (told up).kept in
       let g = item_talk_grows S conn (outputs at_server (kept_at up) more) (told up).ledger (told up).kept in
       subst (λ (x : Talk). Breaks r conn x Now before new) (sym (told_append up more))
-      (b.0, b.1, b.2, b.3 ++ g.0, b.4, sym (append_assoc b.2 b.3 g.0) ∙ ap (λ z. z ++ g.0) b.5 ∙ g.1, front_more before new (told up).out t.out b.6)
+      (record {
+        unfinished = b.unfinished;
+        kept = b.kept;
+        ledger = b.ledger;
+        more = b.more ++ g.0;
+        now = b.now;
+        grown = sym (append_assoc b.ledger b.more g.0) ∙ ap (λ z. z ++ g.0) b.grown ∙ g.1;
+        took = front_more before new (told up).out t.out b.took;
+      })
 
   module _ (up piece : List ℕ) (goes_on : (told up).kept.ended ≡ None) where
     abbrev t : Took Opened Item
@@ -79,7 +88,7 @@ module _ {G : Type 0} (r : Rest G) (conn : ℕ) (S : Setting) where
       one_taken used standing e h =
           subst (λ (n : ℕ). TakesOne r conn S Now before new up piece (Ok (record { used = n; standing = standing }))) (sym e)
           (subst (λ (x : Talk). (Now (with_talk r conn (kept_at (up ++ take t.used piece)) x.ledger x.kept) × Appends before new x.out) × (standing ≡ standing_of x.kept.ended)) (sym told_next)
-          ((subst (λ (v : Opened). Now (with_talk r conn v then_said.ledger then_said.kept)) (sym kept_next) h.0, Appends-trans before old new (told up).out then_said.out said h.1), h.2))
+          ((subst (λ (v : Opened). Now (with_talk r conn v then_said.ledger then_said.kept)) (sym kept_next) h.now, Appends-trans before old new (told up).out then_said.out said h.took), h.stands))
 
       pub one_broken : (fault : StreamFault) → Settles r conn t.rest then_said Now old new (Err fault) → TakesOne r conn S Now before new up piece (Err fault)
       one_broken fault h =
@@ -90,4 +99,5 @@ module _ {G : Type 0} (r : Rest G) (conn : ℕ) (S : Setting) where
     -- where nothing was taken
     pub none_taken : (Now : Rest G → Type 0) (before old : Option (List ℕ)) (fault : StreamFault) → Appends before old (told up).out → Feeds r conn (kept_at up) (told up).ledger (told up).kept piece Now (Err fault) → TakesOne r conn S Now before old up piece (Err fault)
     none_taken Now before old fault said h =
-        breaks_more up piece Now before old (h.0, h.1, (told up).ledger, [], h.2, append-nil (told up).ledger, ((told up).out, [], append-nil (told up).out, said))
+        breaks_more up piece Now before old
+        (record { unfinished = h.0; kept = h.1; ledger = (told up).ledger; more = []; now = h.2; grown = append-nil (told up).ledger; took = ((told up).out, [], append-nil (told up).out, said) })

@@ -7,9 +7,10 @@ use Rattle.messages.specs.Arrivals as arrival
 use Rattle.machine.specs.Asks.{kind_of, is_reset}
 use Rattle.machine.specs.Following.{interruptible}
 use Rattle.engine.specs.Views.{EntryView}
-use Rattle.server.specs.declared.kinds.Cause.{Cause}
-use Rattle.server.specs.Session.{Setting}
-use Rattle.server.specs.Rest.{Kept, after_item, after_strike, arrives, arrival as arrival_of, version_of}
+use Rattle.exchange.specs.declared.kinds.Cause.{Cause}
+use Rattle.exchange.specs.Session.{Setting}
+use Rattle.exchange.specs.Rest.{Kept, after_item, after_strike, version_of}
+use Rattle.server.specs.Feeding.{arrives, arrival as arrival_of}
 use Rattle.streams.specs.Conversing.{Talk, silent, after_bytes, heard_out, steps, talk_of_due, unless_ended, talk_then}
 use Rattle.streams.specs.Settling.{IsPlaced, due, item_talk}
 use Rattle.streams.proofs.Stepping.{Rested, RestsAs, steps_rest, steps_grow, Grown}

@@ -62,20 +62,40 @@ pub record FeedsPiece (r : Rest) (piece : List ℕ) (before after : List Note) (
   pub now : Now (after_all r fed)
   pub ends : whole ≡ true → (unheard ≡ []) ⊎ ((hears_all r fed).knows.over ≡ true)
 
+-- A piece was read, and fed whole or up to the client's end; or some of it was fed.
+pub record ReadsPiece (r : Rest) (left left_now : Option (List ℕ)) (before after : List Note)
+    (whole : Bool) (Now : Rest → Type 0) : Type 0 where
+  pub piece : List ℕ
+  pub input : Consumes left left_now piece
+  pub short : length piece ≤ 4096
+  pub feeds : FeedsPiece r piece before after whole Now
+
+-- The input has ended, and nothing was fed.
+pub record ReadsEnd (r : Rest) (left left_now : Option (List ℕ)) (before after : List Note)
+    (Now : Rest → Type 0) : Type 0 where
+  pub input : Consumes left left_now []
+  pub at_end : IsAtEnd left_now
+  pub told : after ≡ before
+  pub now : Now r
+
+-- Nothing was read, and nothing was fed.
+pub record ReadsNothing (r : Rest) (left left_now : Option (List ℕ)) (before after : List Note)
+    (Now : Rest → Type 0) : Type 0 where
+  pub input : Keeps left left_now
+  pub told : after ≡ before
+  pub now : Now r
+
 -- A piece was read, and fed whole or up to the client's end; or the input has ended; or a fault came.
 abbrev pub HearsPiece : Rest → Option (List ℕ) → Option (List ℕ) → List Note → List Note
     → (Rest → Type 0) → Result Bool StreamFault → Type 0
 HearsPiece r left left_now before after Now (Ok true) =
-    (piece : List ℕ) × Consumes left left_now piece × (length piece ≤ 4096)
-    × FeedsPiece r piece before after true Now
-HearsPiece r left left_now before after Now (Ok false) =
-    Consumes left left_now [] × IsAtEnd left_now × (after ≡ before) × Now r
+    ReadsPiece r left left_now before after true Now
+HearsPiece r left left_now before after Now (Ok false) = ReadsEnd r left left_now before after Now
 HearsPiece r left left_now before after Now (Err stream_fault.ReadFailed) =
-    Keeps left left_now × (after ≡ before) × Now r
+    ReadsNothing r left left_now before after Now
 HearsPiece r left left_now before after Now (Err stream_fault.WriteFailed) = ⊥
 HearsPiece r left left_now before after Now (Err stream_fault.Memory) =
-    (piece : List ℕ) × Consumes left left_now piece × (length piece ≤ 4096)
-    × FeedsPiece r piece before after false Now
+    ReadsPiece r left left_now before after false Now
 
 -- a client that refuses bytes has ended, unless it wanted memory
 abbrev pub has_ended : ClientFault → Bool
@@ -83,11 +103,17 @@ has_ended client_fault.Closed = true
 has_ended client_fault.BadPeer = true
 has_ended client_fault.Memory = false
 
+-- Bytes that end in a piece, before which an answer was still to come.
+pub record HasNeededPiece (r : Rest) (bytes : List ℕ) : Type 0 where
+  pub before : List ℕ
+  pub last : List ℕ
+  pub parts : bytes ≡ before ++ last
+  pub short : length last ≤ 4096
+  pub waits : awaits (hears_all r before).knows ≡ true
+
 -- Bytes are read only as long as an answer is still to come: it was before the last piece.
 abbrev pub IsNeeded : Rest → List ℕ → Type 0
-IsNeeded r bytes = (bytes ≡ [])
-    ⊎ ((before : List ℕ) × (last : List ℕ) × (bytes ≡ before ++ last) × (length last ≤ 4096)
-    × (awaits (hears_all r before).knows ≡ true))
+IsNeeded r bytes = (bytes ≡ []) ⊎ HasNeededPiece r bytes
 
 -- Bytes were read, and fed but for those after the client's end.
 pub record ReadsOn (r : Rest) (left left_now : Option (List ℕ)) (before after : List Note)

@@ -3,9 +3,9 @@ use Rattle.std.specs.Prelude.{ℕ, List, Bool, Option, Some, None, Result}
 use Rattle.engine.specs.declared.answer.Mode.{Mode as QueryMode}
 use Rattle.engine.specs.Views.{WriteView, ParameterView, EntryView, AnswerView, QueryFault}
 use Rattle.machine.specs.declared.states.State.{State}
-use Rattle.server.specs.declared.kinds.Cause.{Cause}
-use Rattle.server.specs.Session.{Setting}
-use Rattle.server.specs.Rest.{Kept}
+use Rattle.exchange.specs.declared.kinds.Cause.{Cause}
+use Rattle.exchange.specs.Session.{Setting}
+use Rattle.exchange.specs.Rest.{Kept}
 use Rattle.streams.specs.declared.responding.End.{End}
 use Rattle.streams.specs.declared.responding.End.TheVariants.{Live, Over}
 

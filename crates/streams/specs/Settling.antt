@@ -5,12 +5,13 @@ use Rattle.wire.specs.Reader.{state, takes}
 use Rattle.wire.specs.Framing.{Item, Opened, at_server, items_received}
 use Rattle.messages.specs.Arrivals.{Arrival, Asked, Unread, TooLong}
 use Rattle.engine.specs.Views.{EntryView}
-use Rattle.server.specs.declared.kinds.Cause.{Cause}
+use Rattle.exchange.specs.declared.kinds.Cause.{Cause}
 use Rattle.server.specs.declared.server.Server.{Server}
-use Rattle.server.specs.declared.kinds.Worked.{Worked}
-use Rattle.server.specs.declared.kinds.Worked.TheVariants as worked
-use Rattle.server.specs.Session.{Setting}
-use Rattle.server.specs.Rest.{Kept, begun, after_item, arrives, arrival, version_of}
+use Rattle.exchange.specs.declared.kinds.Worked.{Worked}
+use Rattle.exchange.specs.declared.kinds.Worked.TheVariants as worked
+use Rattle.exchange.specs.Session.{Setting}
+use Rattle.exchange.specs.Rest.{Kept, begun, after_item, version_of}
+use Rattle.server.specs.Feeding.{arrives, arrival}
 use Rattle.server.specs.Serving.{Rest, find}
 use Rattle.server.specs.Views.{Fits}
 use Rattle.streams.specs.declared.fault.StreamFault.{StreamFault}
@@ -64,47 +65,82 @@ item_talk S c (x ∷ xs) ledger k =
 
 module _ {G : Type 0} (r : Rest G) (conn : ℕ) where
   -- A fault came in the midst of it: the sink took a beginning, and the ledger is one.
-  abbrev pub Breaks : Talk → (Rest G → Type 0) → Option (List ℕ) → Option (List ℕ) → Type 0
-  Breaks t Now old new =
-      (u : Opened) × (k : Kept) × (ledger : List EntryView) × (more : List EntryView)
-      × Now (with_talk r conn u ledger k) × (ledger ++ more ≡ t.ledger)
-      × AppendsFront old new t.out
+  pub record Breaks (t : Talk) (Now : Rest G → Type 0) (old new : Option (List ℕ)) : Type 0 where
+    pub unfinished : Opened
+    pub kept : Kept
+    pub ledger : List EntryView
+    pub more : List EntryView
+    pub now : Now (with_talk r conn unfinished ledger kept)
+    pub grown : ledger ++ more ≡ t.ledger
+    pub took : AppendsFront old new t.out
 
   -- The session stands somehow, the others as before, and the ledger has grown by some entries, or by none.
   abbrev pub Grows : (Rest G → Type 0) → Type 0
   Grows Now = (u : Opened) × (k : Kept) × (more : List EntryView)
       × Now (with_talk r conn u (r.ledger ++ more) k)
 
+  -- The sink took all of it, and the session stands as told.
+  pub record SettlesWhole (u : Opened) (t : Talk) (Now : Rest G → Type 0)
+      (old new : Option (List ℕ)) (standing : Standing) : Type 0 where
+    pub now : Now (with_talk r conn u t.ledger t.kept)
+    pub took : Appends old new t.out
+    pub stands : standing ≡ standing_of t.kept.ended
+
   -- all of it went well, or a fault came
   abbrev pub Settles : Opened → Talk → (Rest G → Type 0) → Option (List ℕ) → Option (List ℕ)
       → Result Standing StreamFault → Type 0
-  Settles u t Now old new (Ok standing) =
-      Now (with_talk r conn u t.ledger t.kept) × Appends old new t.out
-      × (standing ≡ standing_of t.kept.ended)
+  Settles u t Now old new (Ok standing) = SettlesWhole u t Now old new standing
   Settles u t Now old new (Err fault) = Breaks t Now old new
+
+  -- Nothing is put out, and the session stands as told.
+  pub record HasNothingDue (u : Opened) (t : Talk) (Now : Rest G → Type 0) (standing : Standing)
+      : Type 0 where
+    pub now : Now (with_talk r conn u t.ledger t.kept)
+    pub out : t.out ≡ []
+    pub stands : standing ≡ standing_of t.kept.ended
+
+  -- A step put something that the session keeps, and the others follow, one less at most.
+  pub record PutsStep (u : Opened) (ledger : List EntryView) (k : Kept) (S : Setting) (n : ℕ)
+      (Now : Rest G → Type 0) : Type 0 where
+    pub less : ℕ
+    pub after : List EntryView
+    pub left : Kept
+    pub one_less : n ≡ suc less
+    pub follows : steps S conn n ledger k
+        ≡ after_bytes left.unsent (steps S conn less after (heard_out left))
+    pub placed : IsPlaced left.waiting
+    pub enough : due left ≤ less
+    pub now : Now (with_talk r conn u after left)
 
   -- One step of so many at most: nothing is due; or it puts something, and the others follow; or nothing was done.
   abbrev pub WorkStep : Opened → List EntryView → Kept → Setting → ℕ → (Rest G → Type 0)
       → Result (Option Standing) StreamFault → Type 0
   WorkStep u ledger k S n Now (Ok (Some standing)) =
-      let t = steps S conn n ledger k in Now (with_talk r conn u t.ledger t.kept) × (t.out ≡ [])
-      × (standing ≡ standing_of t.kept.ended)
-  WorkStep u ledger k S n Now (Ok None) =
-      (m : ℕ) × (after : List EntryView) × (l : Kept) × (n ≡ suc m)
-      × (steps S conn n ledger k ≡ after_bytes l.unsent (steps S conn m after (heard_out l)))
-      × IsPlaced l.waiting × (due l ≤ m) × Now (with_talk r conn u after l)
+      HasNothingDue u (steps S conn n ledger k) Now standing
+  WorkStep u ledger k S n Now (Ok None) = PutsStep u ledger k S n Now
   WorkStep u ledger k S n Now (Err fault) = Now (with_talk r conn u ledger k)
+
+  -- What a step put is out, and the others follow, one less at most.
+  pub record StepsOut (u : Opened) (ledger : List EntryView) (k : Kept) (S : Setting) (n : ℕ)
+      (Now : Rest G → Type 0) (old new : Option (List ℕ)) : Type 0 where
+    pub less : ℕ
+    pub after : List EntryView
+    pub left : Kept
+    pub out : List ℕ
+    pub one_less : n ≡ suc less
+    pub follows : steps S conn n ledger k ≡ after_bytes out (steps S conn less after left)
+    pub sent : left.unsent ≡ []
+    pub placed : IsPlaced left.waiting
+    pub enough : due left ≤ less
+    pub now : Now (with_talk r conn u after left)
+    pub took : Appends old new out
 
   -- The same where what it put goes out: nothing is due; or it went out, and the others follow; or a fault came.
   abbrev pub Steps : Opened → List EntryView → Kept → Setting → ℕ → (Rest G → Type 0)
       → Option (List ℕ) → Option (List ℕ) → Result (Option Standing) StreamFault → Type 0
   Steps u ledger k S n Now old new (Ok (Some standing)) =
       Settles u (steps S conn n ledger k) Now old new (Ok standing)
-  Steps u ledger k S n Now old new (Ok None) =
-      (m : ℕ) × (after : List EntryView) × (l : Kept) × (out : List ℕ) × (n ≡ suc m)
-      × (steps S conn n ledger k ≡ after_bytes out (steps S conn m after l))
-      × (l.unsent ≡ []) × IsPlaced l.waiting × (due l ≤ m) × Now (with_talk r conn u after l)
-      × Appends old new out
+  Steps u ledger k S n Now old new (Ok None) = StepsOut u ledger k S n Now old new
   Steps u ledger k S n Now old new (Err fault) = Breaks (steps S conn n ledger k) Now old new
 
   -- An item at most was taken of a piece, which uses these of its bytes; or the session stands somehow.
@@ -135,14 +171,21 @@ module _ {G : Type 0} (r : Rest G) (conn : ℕ) where
         × (taken.standing ≡ standing_of (told_by (up ++ take taken.used piece)).kept.ended)
     TakesOne Now before new up piece (Err fault) = Breaks (told_by (up ++ piece)) Now before new
 
+    -- A beginning of a piece was taken, and with it the session ended.
+    pub record TakesFront (Now : Rest G → Type 0) (before new : Option (List ℕ))
+        (up piece : List ℕ) : Type 0 where
+      pub front : List ℕ
+      pub rest : List ℕ
+      pub parts : front ++ rest ≡ piece
+      pub stands : Stands Now before new (up ++ front)
+      pub over : IsSome (told_by (up ++ front)).kept.ended
+
     -- A piece was taken whole, or up to the end of the session; or a fault came.
     abbrev pub TakesPiece : (Rest G → Type 0) → Option (List ℕ) → Option (List ℕ) → List ℕ → List ℕ
         → Result Standing StreamFault → Type 0
     TakesPiece Now before new up piece (Ok Open) =
         Stands Now before new (up ++ piece) × ((told_by (up ++ piece)).kept.ended ≡ None)
-    TakesPiece Now before new up piece (Ok Over) =
-        (front : List ℕ) × (rest : List ℕ) × (front ++ rest ≡ piece)
-        × Stands Now before new (up ++ front) × IsSome (told_by (up ++ front)).kept.ended
+    TakesPiece Now before new up piece (Ok Over) = TakesFront Now before new up piece
     TakesPiece Now before new up piece (Err fault) = Breaks (told_by (up ++ piece)) Now before new
 
 -- From any rest in which it lived, the session lives on: the others are as before, and the ledger has at most grown.

@@ -18,7 +18,9 @@ pub struct Over<S> {
 
 impl<S> Over<S> {
     pub fn new(stream: S) -> Over<S>
-        ensures { (result.stream ≡ stream) × (result.failed ≡ false) × (result.reads ≡ 2 ^ 63) }
+        ensures stream { result.stream ≡ stream }
+        ensures failed { result.failed ≡ false }
+        ensures reads { result.reads ≡ 2 ^ 63 }
     {
         Over {
             stream,

@@ -2,7 +2,7 @@
 ghost use Rattle.std.specs.Prelude.{◌≡◌, ◌<◌, ◌≤◌, ◌++◌, ℕ, List, Option, None, length, IsSome, IfOk, IfErr, false};
 ghost use Rattle.wire.specs.Framing.{Opened};
 ghost use Rattle.engine.specs.Views.{EntryView};
-ghost use Rattle.server.specs.Rest.{Kept, shut};
+ghost use Rattle.exchange.specs.Rest.{Kept, shut};
 ghost use Rattle.server.specs.Serving.{Rest, find, setting};
 ghost use Rattle.server.specs.Views.{Fits};
 ghost use Rattle.streams.specs.Conversing.{with_talk};

@@ -7,7 +7,7 @@ use Rattle.messages.specs.View.{RequestView}
 use Rattle.messages.specs.Arrivals.{IsWritten, hears}
 use Rattle.engine.specs.declared.Mode.{Mode as QueryMode}
 use Rattle.engine.specs.Views.{EntryView, WriteView, ParameterView, AnswerView, QueryFault}
-use Rattle.server.specs.Session.{Setting}
+use Rattle.exchange.specs.Session.{Setting}
 use Rattle.server.specs.Serving as serving
 use Rattle.client.specs.declared.SubmitFault.{SubmitFault}
 use Rattle.client.specs.declared.SubmitFault.TheVariants as submit_fault
@@ -15,10 +15,11 @@ use Rattle.client.specs.Client.{Reading, refusal_of, may}
 use Rattle.client.specs.Fits.{IsWrittenBy, IsAccepted}
 use Rattle.client.specs.Rest as asking
 use Rattle.client.proofs.Later.{reading_count}
-use Rattle.world.specs.World.{Peer, Ours, Connection, World, Event, Submit, Seen, Submitted, client, input, wish_of, bytes_delivered, step, IsCountedIn, WStep, Reached, goes_on, Opens, place}
+use Rattle.world.specs.Connections.{Peer, Ours, Connection, client, input, wish_of, bytes_delivered}
+use Rattle.world.specs.World.{World, Event, Submit, Seen, Submitted, step, IsCountedIn, WStep, Reached, goes_on, Opens, place}
 use Rattle.world.specs.Rests.{client_rest}
 use Rattle.world.specs.Fits.{Link, Rest, FitsClient, FitsLink, FitLinks, Fits, cause_seen}
-use Rattle.world.specs.Seeing.{IsOpens, IsWrong}
+use Rattle.world.specs.Seeing.{IsOpens, IsWrong, ComesWrong}
 use Rattle.world.proofs.Seeing.{refuses_exactly}
 use Rattle.world.specs.declared.kinds.Refused.TheVariants.{NoSuchConnection, WrongPeer, SessionsFull}
 use Rattle.world.specs.Contract.{Answers}
@@ -35,7 +36,12 @@ pub answers : (S : Setting) (brought : List EntryView) (w : World) → (r : Reac
     → ((w2 : World) × (step S w e ≡ Ok (w2, seen)) × Now w2) → ((w2 : World) → TellsWritten S w (reached_keeps S brought r).1 seen w2 e) → IsCountedIn seen → Answers S w e (Ok seen) Now
 answers S brought w r e seen Now h f counted =
     let s : WStep S w e seen h.0 = becomes S brought w r e seen h.0 (f h.0) counted h.1 in
-    (h.0, s, headline S brought h.0 (goes_on w h.0 e seen r s), h.2)
+    record {
+      after = h.0;
+      steps = s;
+      good = headline S brought h.0 (goes_on w h.0 e seen r s);
+      now = h.2;
+    }
 
 one_conn : (a b : Connection) → Some a ≡ Some b → a ≡ b
 one_conn a b e = ap (λ o. or_that o) e
@@ -53,7 +59,7 @@ module _ (G : Type 0) (answer : List EntryView → List WriteView → List ℕ �
   pub submit_answers : (l : Link) → slice_get r.links c ≡ Some l → FitsLink l k → (wish : Wish) → k.peer ≡ Ours wish → (q : RequestView) (x : asking.Rest) → l.client ≡ Some x → (ordinal : ℕ) → IsAccepted x q ordinal
       → Answers S w (Submit c q) (Ok (Submitted (Ok ordinal))) (Fits (record { links = slice_set r.links c (record l { client = option_map (λ y. asking.after_submit y q) l.client }); server = r.server }))
   submit_answers l at f wish ours q x client_is ordinal accepted =
-      subst (λ n. Answers S w (Submit c q) (Ok (Submitted (Ok n))) (Fits (record { links = slice_set r.links c (record l { client = option_map (λ y. asking.after_submit y q) l.client }); server = r.server }))) (sym (accepted.1 ∙ ordinal_is))
+      subst (λ n. Answers S w (Submit c q) (Ok (Submitted (Ok n))) (Fits (record { links = slice_set r.links c (record l { client = option_map (λ y. asking.after_submit y q) l.client }); server = r.server }))) (sym (accepted.next ∙ ordinal_is))
       (answers S brought w reached (Submit c q) (Submitted (Ok (length k.sent))) _
       (submit_fits G answer accepts r w fits (reached_sound S brought reached) c k here l at wish ours q none open_now.1 open_now.0 version_is)
       (λ w2 k2 g wish2 p no. subst (λ wi. IsWritten (wish_version wi) q) (same_wish k2 wish2 g p) (accepts_written S brought w reached c k wish here ours q written)) tt)
@@ -61,14 +67,14 @@ module _ (G : Type 0) (answer : List EntryView → List WriteView → List ℕ �
       old : FitsClient (Ours wish) l.client l.up k
       old = subst (λ p. FitsClient p l.client l.up k) ours f.client
 
-      is : x ≡ client_rest old.0 k
-      is = some_is x (client_rest old.0 k) (sym client_is ∙ old.3)
+      is : x ≡ client_rest old.out k
+      is = some_is x (client_rest old.out k) (sym client_is ∙ old.client_is)
 
-      few : old.0 ≤ length (input (wish_of k.peer) k.sent)
-      few = subst (λ p. old.0 ≤ length (input (wish_of p) k.sent)) (sym ours) old.2
+      few : old.out ≤ length (input (wish_of k.peer) k.sent)
+      few = subst (λ p. old.out ≤ length (input (wish_of p) k.sent)) (sym ours) old.most
 
       none : refusal_of (client k) k.client_lost k.sent q ≡ None
-      none = refused_same k old.0 q few ∙ ap (λ z. asking.refuses z.knows q) (sym is) ∙ accepted.0
+      none = refused_same k old.out q few ∙ ap (λ z. asking.refuses z.knows q) (sym is) ∙ accepted.allowed
 
       open_now : (k.client_lost ≡ false) × ((client k).bad ≡ false) × ((client k).version ≡ None → ⊥)
       open_now = accepting (client k) k.client_lost k.sent q none
@@ -77,7 +83,7 @@ module _ (G : Type 0) (answer : List EntryView → List WriteView → List ℕ �
       version_is = ⊎_elim (λ e. absurd (open_now.2 e)) (λ e. e ∙ ap (λ p. Some (wish_version (wish_of p))) (sym ours)) (knows_wished S brought w reached c k wish here ours)
 
       written : IsWrittenBy (client k).version q
-      written = subst (λ z. IsWrittenBy z.knows.version q) is accepted.2
+      written = subst (λ z. IsWrittenBy z.knows.version q) is accepted.written
 
       same_wish : (k2 : Connection) (wish2 : Wish) → slice_get w.conns c ≡ Some k2 → k2.peer ≡ Ours wish2 → wish ≡ wish2
       same_wish k2 wish2 g p = ap wish_of (sym ours ∙ ap (λ y. y.peer) (one_conn k k2 (sym here ∙ g)) ∙ p)
@@ -120,7 +126,9 @@ no_connection T r w f e put h = ((refuses_exactly T w e).no_connection.1 (put, l
 pub wrong_peer : {G : Type 0} (T : Setting) (r : Rest G) (w : World) → Fits r w → (e : Event) → (IsOpens e → ⊥) → (l : Link) → slice_get r.links (place e) ≡ Some l → IsWrong e l.peer → Answers T w e (Err WrongPeer) (Fits r)
 wrong_peer T r w f e put l h wrong =
     let k = link_at r.links w.conns (place e) l f.links h in
-    ((refuses_exactly T w e).wrong_peer.1 (k.0, put, k.1, subst (IsWrong e) k.2.peer wrong), f)
+    let comes : ComesWrong w e =
+    record { connection = k.0; no_opening = put; here = k.1; wrong = subst (IsWrong e) k.2.peer wrong } in
+    ((refuses_exactly T w e).wrong_peer.1 comes, f)
 
 pub sessions_full : (G : Type 0) (T : Setting) (r : Rest G) (w : World) → Fits r w → (peer : Peer) → serving.is_full r.server ≡ true → Answers T w (Opens peer) (Err SessionsFull) (Fits r)
 sessions_full G T r w f peer full = (opens_not G T r w f peer full, f)

@@ -4,7 +4,7 @@ use Rattle.wire.specs.declared.Wish.{Wish}
 use Rattle.messages.specs.View.{RequestView}
 use Rattle.engine.specs.Views.{EntryView}
 use Rattle.server.specs.declared.Server.{Server}
-use Rattle.server.specs.Session.{Setting}
+use Rattle.exchange.specs.Session.{Setting}
 use Rattle.server.specs.Serving as serving
 use Rattle.client.specs.declared.SubmitFault.{SubmitFault}
 use Rattle.client.specs.Client.{refusal_of}
@@ -12,10 +12,11 @@ use Rattle.client.specs.Rest as asking
 use Rattle.world.specs.declared.kinds.Refused.{Refused}
 use Rattle.world.specs.declared.kinds.Refused.TheVariants.{NoSuchConnection, WrongPeer, SessionsFull, Memory}
 use Rattle.world.specs.declared.link.Link.{Link as LinkHeld}
-use Rattle.world.specs.World.{Peer, Ours, Foreign, Connection, World, Submit, ClientLost, Seen, Opened, Submitted, Fed, Gave, SawWork, SawNoop, SawNothing, step, client, submit, effect_of_submit}
+use Rattle.world.specs.Connections.{Peer, Ours, Foreign, Connection, client}
+use Rattle.world.specs.World.{World, Submit, ClientLost, Seen, Opened, Submitted, Fed, Gave, SawWork, SawNoop, SawNothing, step, submit, effect_of_submit}
 use Rattle.world.specs.Fits.{Link, Rest, FitsClient, FitsLink, Fits}
 use Rattle.world.specs.Contract.{Answers}
-use Rattle.world.specs.Seeing.{IsWrong}
+use Rattle.world.specs.Seeing.{IsWrong, ComesWrong}
 use Rattle.world.specs.declared.kinds.Event.{Event as EventTold}
 use Rattle.world.specs.declared.kinds.Seen.{Seen as SeenTold}
 use Rattle.world.specs.Views.{link_of, event_of}
@@ -64,12 +65,12 @@ module _ {E G : Type 0} (entries : E → List EntryView) (answer : Definition) (
     holds_now : (l2 : LinkHeld) (m2 : Link) (w2 : World) → Holds l2 m2 → Fits (record { links = slice_set r.links c m2; server = r.server }) w2 → Now_ l2 w2
     holds_now l2 m2 w2 h f =
         record {
-          client = h.0;
+          client = h.client;
           rest = r.server;
-          ends = h.2;
+          ends = h.ends;
           server = b.server;
           gated = refl;
-          fits = subst (λ z. Fits (record { links = slice_set r.links c z; server = r.server }) w2) h.1 f;
+          fits = subst (λ z. Fits (record { links = slice_set r.links c z; server = r.server }) w2) h.link_is f;
         }
 
     unchanged : (l2 : LinkHeld) → Holds l2 m → Now_ l2 w
@@ -80,18 +81,24 @@ module _ {E G : Type 0} (entries : E → List EntryView) (answer : Definition) (
 
     accepts_turn : (n : ℕ) (l2 : LinkHeld) → Submits m q (Ok (Submitted (Ok n))) (Holds l2) → Answers T w (Submit c q) (Ok (Submitted (Ok n))) (Now_ l2)
     accepts_turn n l2 x =
-        let o = wish_is x.0 x.1 in
-        let a = submit_answers G answer accepts r w b.fits b.brought b.reached c k here.1 m b.at here.2 o.0 o.1 q x.0 x.1 n x.2 in
-        let same : ◌≡◌ {A = Link} (record m { client = option_map (λ z. asking.after_submit z q) m.client }) (record m { client = Some (asking.after_submit x.0 q) }) =
-        ap (λ (z : Option asking.Rest). let m2 : Link = record m { client = option_map (λ v. asking.after_submit v q) z } in m2) x.1 in
-        (a.0, a.1, a.2, holds_now l2 (record m { client = Some (asking.after_submit x.0 q) }) a.0 x.3 (subst (λ z. Fits (record { links = slice_set r.links c z; server = r.server }) a.0) same a.3))
+        let o = wish_is x.client x.here in
+        let a = submit_answers G answer accepts r w b.fits b.brought b.reached c k here.1 m b.at here.2 o.0 o.1 q x.client x.here n x.accepted in
+        let same : ◌≡◌ {A = Link} (record m { client = option_map (λ z. asking.after_submit z q) m.client }) (record m { client = Some (asking.after_submit x.client q) }) =
+        ap (λ (z : Option asking.Rest). let m2 : Link = record m { client = option_map (λ v. asking.after_submit v q) z } in m2) x.here in
+        record {
+          after = a.after;
+          steps = a.steps;
+          good = a.good;
+          now = holds_now l2 (record m { client = Some (asking.after_submit x.client q) }) a.after x.now
+              (subst (λ z. Fits (record { links = slice_set r.links c z; server = r.server }) a.after) same a.now);
+        }
 
     refuses_turn : (fault : SubmitFault) (l2 : LinkHeld) → Submits m q (Ok (Submitted (Err fault))) (Holds l2) → Answers T w (Submit c q) (Ok (Submitted (Err fault))) (Now_ l2)
     refuses_turn fault l2 x =
-        let o = wish_is x.0 x.1 in
-        let h = refused_fits G answer accepts r w b.fits sound c k here.1 m b.at o.0 o.1 q x.0 x.1 fault x.2 in
-        done entries answer accepts (Submit c q) l s r w b (Submitted (Err fault)) l2 s x.3.0 r.server x.3.2 b.server refl
-        (h.0, h.1, subst (λ z. Fits (record { links = slice_set r.links c z; server = r.server }) h.0) x.3.1 h.2)
+        let o = wish_is x.client x.here in
+        let h = refused_fits G answer accepts r w b.fits sound c k here.1 m b.at o.0 o.1 q x.client x.here fault x.refused in
+        done entries answer accepts (Submit c q) l s r w b (Submitted (Err fault)) l2 s x.now.client r.server x.now.ends b.server refl
+        (h.0, h.1, subst (λ z. Fits (record { links = slice_set r.links c z; server = r.server }) h.0) x.now.link_is h.2)
         (λ w2 k2 g wish p none. absurd (never h.0 h.1 o.0 o.1 (subst (λ z. refusal_of (client z) z.client_lost z.sent q ≡ None) (one_conn k2 k (sym g ∙ here.1)) none))) tt
       where
         differ : (n : ℕ) → ◌≡◌ {A = Seen} (Submitted (Ok n)) (Submitted (Err fault)) → ⊥
@@ -114,10 +121,21 @@ module _ {E G : Type 0} (entries : E → List EntryView) (answer : Definition) (
     submit_turns (Err NoSuchConnection) l2 x = absurd x
     submit_turns (Err SessionsFull) l2 x = absurd x
     submit_turns (Err WrongPeer) l2 x =
-        ((refuses_exactly T w (Submit c q)).wrong_peer.1 (k, (λ h. h), here.1, subst (IsWrong (Submit c q)) (sym x.0 ∙ here.2.peer) tt), unchanged l2 x.1)
+        let comes : ComesWrong w (Submit c q) = record {
+          connection = k;
+          no_opening = λ h. h;
+          here = here.1;
+          wrong = subst (IsWrong (Submit c q)) (sym x.0 ∙ here.2.peer) tt;
+        } in
+        ((refuses_exactly T w (Submit c q)).wrong_peer.1 comes, unchanged l2 x.1)
     submit_turns (Err Memory) l2 x =
-        let o = wish_is x.0 x.1 in
-        (ok_of _ _ (submit_step T w c k here.1 o.0 q o.1), (w, refl, unchanged l2 x.2))
+        let o = wish_is x.client x.here in
+        record {
+          may = ok_of _ _ (submit_step T w c k here.1 o.0 q o.1);
+          after = w;
+          leaves = refl;
+          now = unchanged l2 x.now;
+        }
 
   module _ (b : Before entries answer accepts (ClientLost c) l s r w) where
     abbrev m_lost : Link
@@ -131,17 +149,17 @@ module _ {E G : Type 0} (entries : E → List EntryView) (answer : Definition) (
         let k = at_lost.0 in
         let o = ours_of k.peer m_lost.client m_lost.up k y at_lost.2.client is in
         let x = lost_once G answer accepts r w b.fits (all_sound entries answer accepts (ClientLost c) l s r w b) c k at_lost.1 m_lost b.at o.0 o.1 (sym at_lost.2.client_lost ∙ was) in
-        done entries answer accepts (ClientLost c) l s r w b SawNothing l2 s h.0 r.server h.2 b.server refl
-        (x.0, x.1, subst (λ z. Fits (record { links = slice_set r.links c z; server = r.server }) x.0) h.1 x.2) (λ w2. tt) tt
+        done entries answer accepts (ClientLost c) l s r w b SawNothing l2 s h.client r.server h.ends b.server refl
+        (x.0, x.1, subst (λ z. Fits (record { links = slice_set r.links c z; server = r.server }) x.0) h.link_is x.2) (λ w2. tt) tt
     loses_turn false was l2 y is h =
         let k = at_lost.0 in
         let o = ours_of k.peer m_lost.client m_lost.up k y at_lost.2.client is in
         let x = lost_fits G answer accepts r w b.fits (all_sound entries answer accepts (ClientLost c) l s r w b) c k at_lost.1 m_lost b.at o.0 o.1 (sym at_lost.2.client_lost ∙ was) y is in
-        done entries answer accepts (ClientLost c) l s r w b SawNothing l2 s h.0 r.server h.2 b.server refl
-        (x.0, x.1, subst (λ z. Fits (record { links = slice_set r.links c z; server = r.server }) x.0) h.1 x.2) (λ w2. tt) tt
+        done entries answer accepts (ClientLost c) l s r w b SawNothing l2 s h.client r.server h.ends b.server refl
+        (x.0, x.1, subst (λ z. Fits (record { links = slice_set r.links c z; server = r.server }) x.0) h.link_is x.2) (λ w2. tt) tt
 
     pub loses_turns : (res : Result Seen Refused) (l2 : LinkHeld) → LosesClient m_lost res (Holds l2) → Answers T w (ClientLost c) res (Now_ l2)
-    loses_turns (Ok SawNothing) l2 x = loses_turn m_lost.client_lost refl l2 x.0 x.1 x.2
+    loses_turns (Ok SawNothing) l2 x = loses_turn m_lost.client_lost refl l2 x.client x.here x.now
     loses_turns (Ok (Submitted answer)) l2 x = absurd x
     loses_turns (Ok (Opened n)) l2 x = absurd x
     loses_turns (Ok (Fed used what)) l2 x = absurd x
@@ -152,14 +170,19 @@ module _ {E G : Type 0} (entries : E → List EntryView) (answer : Definition) (
     loses_turns (Err SessionsFull) l2 x = absurd x
     loses_turns (Err Memory) l2 x = absurd x
     loses_turns (Err WrongPeer) l2 x = (
-      (refuses_exactly T w (ClientLost c)).wrong_peer.1 (at_lost.0, (λ h. h), at_lost.1, subst (IsWrong (ClientLost c)) (sym x.0 ∙ at_lost.2.peer) tt),
+      (refuses_exactly T w (ClientLost c)).wrong_peer.1 (record {
+        connection = at_lost.0;
+        no_opening = λ h. h;
+        here = at_lost.1;
+        wrong = subst (IsWrong (ClientLost c)) (sym x.0 ∙ at_lost.2.peer) tt;
+      }),
       record {
-        client = x.1.0;
+        client = x.1.client;
         rest = r.server;
-        ends = x.1.2;
+        ends = x.1.ends;
         server = b.server;
         gated = refl;
-        fits = subst (λ ls. Fits (record { links = ls; server = r.server }) w) (sym (ap (slice_set r.links c) (sym x.1.1) ∙ same_set r.links c m_lost b.at)) b.fits;
+        fits = subst (λ ls. Fits (record { links = ls; server = r.server }) w) (sym (ap (slice_set r.links c) (sym x.1.link_is) ∙ same_set r.links c m_lost b.at)) b.fits;
       },
     )
 

@@ -12,16 +12,17 @@ use Rattle.machine.specs.Following.{interruptible}
 use Rattle.machine.specs.Asks.{kind_of}
 use Rattle.machine.specs.Rows.{row_at}
 use Rattle.engine.specs.Views.{EntryView}
-use Rattle.server.specs.declared.Cause.{Cause}
-use Rattle.server.specs.Session.{Setting, no_result, no_tx, Reply, OneRow, Summary, Bye}
-use Rattle.server.specs.Rest.{reset_among}
+use Rattle.exchange.specs.declared.Cause.{Cause}
+use Rattle.exchange.specs.Session.{Setting, no_result, no_tx, Reply, OneRow, Summary, Bye}
+use Rattle.exchange.specs.Rest.{reset_among}
 use Rattle.client.specs.declared.SubmitFault.{SubmitFault}
 use Rattle.client.specs.Client.{reading_of, refusal_of}
 use Rattle.client.specs.Rest.{Knows, knows_of, refuses}
 use Rattle.client.specs.Moments.{Call, Submits, Feeds as FeedsCall, Loses, Run, starts, submits, used_of, call, calls, opened_bytes}
 use Rattle.client.proofs.Runs.{tells_by_bytes}
 use Rattle.client.proofs.Few.{keeps_few}
-use Rattle.world.specs.World.{Peer, Ours, Foreign, Connection, World, fresh, empty, Event, Opens, Submit, ToServer, ToClient, Work, PutsNoop, Cut, ClientLost, ServerLost, Feeds, Seen, Opened as SawOpened, Refusal, V3, Effect, Said, SaysNoop, SaysRow, SaysSummary, heard_as, quiet, answer_count, arrivals_at, waiting, said_version, output, bytes_delivered, client, wish_of, effect_of_submit, feed, input, to_server, server_gone, effect_at_peer, to_client, give, drain, strike_if, summary, write, turn, work, noop, at_peer, after_effect, with_effect, at_conn, result_of_open, live, ledger, step, taken_out, Reached, begins, goes_on, takes_out}
+use Rattle.world.specs.Connections.{Peer, Ours, Foreign, Connection, fresh, Said, SaysNoop, SaysRow, SaysSummary, heard_as, answer_count, arrivals_at, waiting, said_version, output, bytes_delivered, client, wish_of, input, strike_if}
+use Rattle.world.specs.World.{World, empty, Event, Opens, Submit, ToServer, ToClient, Work, PutsNoop, Cut, ClientLost, ServerLost, Feeds, Seen, Opened as SawOpened, Refusal, V3, Effect, quiet, effect_of_submit, feed, to_server, server_gone, effect_at_peer, to_client, give, drain, summary, write, turn, work, noop, at_peer, after_effect, with_effect, at_conn, result_of_open, live, ledger, step, taken_out, Reached, begins, goes_on, takes_out}
 use Rattle.world.specs.Rests.{client_rest}
 use Rattle.world.specs.Limits.{IsFew}
 use Rattle.world.proofs.Written.{ok_parts, get_set, get_more}

@@ -6,14 +6,15 @@ use Rattle.machine.specs.States.{phase_of}
 use Rattle.machine.specs.Asks.{kind_of}
 use Rattle.machine.specs.Following.{commits}
 use Rattle.engine.specs.Views.{EntryView}
-use Rattle.server.specs.declared.Cause.{Cause}
-use Rattle.server.specs.Session.{Setting}
+use Rattle.exchange.specs.declared.Cause.{Cause}
+use Rattle.exchange.specs.Session.{Setting}
 use Rattle.server.specs.Serving as serving
 use Rattle.server.specs.Serving.{Live, find}
 use Rattle.server.specs.Running as running
 use Rattle.server.specs.Running.{after_call, after_event, Adds, Grows, nothing, one}
 use Rattle.server.proofs.Ledgers.{grows}
-use Rattle.world.specs.World.{Connection, World, Event, Work, Seen, SawWork, Refusal, V1, Effect, quiet, answer_count, arrivals_at, waiting, work, after_effect, at_conn, ledger, step, Reached}
+use Rattle.world.specs.Connections.{Connection, answer_count, arrivals_at, waiting}
+use Rattle.world.specs.World.{World, Event, Work, Seen, SawWork, Refusal, V1, Effect, quiet, work, after_effect, at_conn, ledger, step, Reached}
 use Rattle.world.specs.Rests.{server_rest, live_of}
 use Rattle.world.specs.Turns.{Definition, setting_of}
 use Rattle.world.specs.Others.{Commits, GrowsByCommits}
@@ -104,7 +105,7 @@ Came S w seen w2 x = step S w x ≡ Ok (w2, seen) → (ledger w2 ≡ ledger w) �
 pub grows_by_commits : GrowsByCommits
 grows_by_commits S brought w reached e seen w2 h =
     let g = grows_by_work S w e seen w2 h in
-    ⊎_elim (λ same. inl (ap₂ (λ xs ys. xs ++ ys) g.0 same)) (λ en. at_work en.0 e en.3 h) g.1
+    ⊎_elim (λ same. inl (ap₂ (λ xs ys. xs ++ ys) g.0 same)) (λ en. at_work en.conn e en.works h) g.1
   where
     found : (d : ℕ) (o : Option Connection) → slice_get w.conns d ≡ o → Came S w seen w2 (Work d)
     found d None none h = let bad : ◌≡◌ {A = Result (World × Seen) Refusal} (Err V1) (Ok (w2, seen)) = sym (ap (at_conn S w (Work d) d) none) ∙ h in cc

@@ -11,23 +11,26 @@ use Rattle.machine.specs.declared.Phase.{Phase}
 use Rattle.machine.specs.Following.{interruptible}
 use Rattle.machine.specs.States.{phase_of}
 use Rattle.engine.specs.Views.{EntryView}
-use Rattle.server.specs.declared.Cause.{Cause}
-use Rattle.server.specs.declared.Worked.{Worked}
-use Rattle.server.specs.Session.{Setting, Open, Tx, no_result, no_tx, Reply, OneRow, Summary, Bye}
-use Rattle.server.specs.Rest.{reset_among, cause_or, cause_of}
+use Rattle.exchange.specs.declared.Cause.{Cause}
+use Rattle.exchange.specs.declared.Worked.{Worked}
+use Rattle.exchange.specs.Session.{Setting, Open, Tx, no_result, no_tx, Reply, OneRow, Summary, Bye}
+use Rattle.exchange.specs.Rest.{reset_among, cause_of}
+use Rattle.server.specs.Serving.{cause_or}
 use Rattle.client.specs.Client.{Reading, Told, GotRow, Got}
 use Rattle.client.specs.Moments.{tellings_in}
 use Rattle.client.specs.Client.{reading_of as reader}
 use Rattle.client.specs.Rest as asking
 use Rattle.client.specs.Rest.{knows_of, losses}
-use Rattle.world.specs.World.{Peer, Ours, Foreign, Connection, fresh, Effect, Seen, SawWork, SawNoop, Said, SaysVersion, SaysNoop, SaysRow, SaysSummary, heard_as, output, said_version, bytes_delivered, client, wish_of, input, answer_count, arrivals_at, waiting, strike_if, quiet, write, turn, answer, work, noop, give, taken_for, server_gone}
+use Rattle.world.specs.Connections.{Peer, Ours, Foreign, Connection, fresh, Said, SaysVersion, SaysNoop, SaysRow, SaysSummary, heard_as, output, said_version, bytes_delivered, client, wish_of, input, answer_count, arrivals_at, waiting, strike_if}
+use Rattle.world.specs.World.{Effect, Seen, SawWork, SawNoop, quiet, write, turn, answer, work, noop, give, taken_for, server_gone}
+use Rattle.world.specs.Connections as connections
 use Rattle.world.specs.World as world
 use Rattle.wire.specs.Reader.{state, reach}
 use Rattle.wire.specs.Framing.{at_client}
 use Rattle.machine.specs.Asks.{kind_of}
 use Rattle.machine.specs.Rows.{row_at}
 use Rattle.world.specs.Rests.{client_rest}
-use Rattle.world.specs.Reports.{wrote_by, wrote_after, summaries_told, read_after, by_peer}
+use Rattle.world.specs.Reports.{ReadSummary, wrote_by, wrote_after, summaries_told, read_after, by_peer}
 use Rattle.world.specs.Fits.{Link, FitsClient, FitsLink, FitLinks, cause_seen}
 use Rattle.client.specs.declared.Outcome.{Outcome}
 use Rattle.client.proofs.Later.{reading_later}
@@ -82,13 +85,13 @@ wrote_more (SaysSummary x) xs = wrote-append xs [] ((x.ordinal, phase_of x.state
 
 -- the client of a connection of which it sees no change
 pub same_client : (p : Peer) (o : Option asking.Rest) (u : List ℕ) (k k2 : Connection) → k2.up ≡ k.up → k2.sent ≡ k.sent → ((out : ℕ) → client_rest out k2 ≡ client_rest out k) → FitsClient p o u k → FitsClient p o u k2
-same_client (Ours wish) o u k k2 eu es er h = (
-  h.0,
-  subst (λ z. length z ≤ h.0) (sym eu) h.1,
-  subst (λ z. h.0 ≤ length (input wish z)) (sym es) h.2,
-  h.3 ∙ ap (λ z. Some z) (sym (er h.0)),
-  h.4 ∙ ap₂ (λ x y. take (h.0 - length x) (drop (length x) (input wish y))) (sym eu) (sym es),
-)
+same_client (Ours wish) o u k k2 eu es er h = record {
+  out = h.out;
+  least = subst (λ z. length z ≤ h.out) (sym eu) h.least;
+  most = subst (λ z. h.out ≤ length (input wish z)) (sym es) h.most;
+  client_is = h.client_is ∙ ap (λ z. Some z) (sym (er h.out));
+  up_is = h.up_is ∙ ap₂ (λ x y. take (h.out - length x) (drop (length x) (input wish y))) (sym eu) (sym es);
+}
 same_client Foreign o u k k2 eu es er h = h
 
 -- One more thing is said: nothing else of the link changes.
@@ -174,7 +177,7 @@ module _ (l : Link) (k : Connection) (f : FitsLink l k) (s : Sound k) (lives : k
 
   write_link : (entries : List EntryView) (q : RequestView) (r : Reply) → Links l (write entries k q r)
   write_link entries q (OneRow row left) = said_link l k f s lives (SaysRow row) k.state k.ended left k.tx
-  write_link entries q Bye = quiet_link _ (Worked.Ended Cause.Goodbye) refl (same_link l k f s lives (world.end_with Cause.Goodbye k) refl)
+  write_link entries q Bye = quiet_link _ (Worked.Ended Cause.Goodbye) refl (same_link l k f s lives (connections.end_with Cause.Goodbye k) refl)
   write_link entries q (Summary d a left tx entry) =
       let st = unwrap_or (row_at (said_version k) k.state (kind_of q) d) State.Defunct in
       said_link l k f s lives (SaysSummary (world.summary entries k q d a st entry)) st (cause_of d st) left tx
@@ -191,8 +194,8 @@ module _ (S : Setting) (c : ℕ) (entries : List EntryView) (l : Link) (k : Conn
   turn_link (Some (Shook o)) = quiet_link l k f s lives k Worked.Idle refl f
   turn_link (Some NoMagic) = quiet_link l k f s lives k Worked.Idle refl f
   turn_link (Some Arrival.Idle) = quiet_link l k f s lives k Worked.Idle refl f
-  turn_link (Some (Unread e)) = quiet_link l k f s lives _ (Worked.Ended Cause.Malformed) refl (same_link l k f s lives (world.end_with Cause.Malformed k) refl)
-  turn_link (Some TooLong) = quiet_link l k f s lives _ (Worked.Ended Cause.TooBig) refl (same_link l k f s lives (world.end_with Cause.TooBig k) refl)
+  turn_link (Some (Unread e)) = quiet_link l k f s lives _ (Worked.Ended Cause.Malformed) refl (same_link l k f s lives (connections.end_with Cause.Malformed k) refl)
+  turn_link (Some TooLong) = quiet_link l k f s lives _ (Worked.Ended Cause.TooBig) refl (same_link l k f s lives (connections.end_with Cause.TooBig k) refl)
   turn_link (Some (Asked q)) =
       strike_case (λ k2. Links l (answer S c entries k2 q)) (reset_among (waiting k)) k
       (write_link l k f s lives entries q _)
@@ -264,7 +267,13 @@ gone_link l k f s lives =
 
 -- `lost` of the client
 dropped_client : (p : Peer) (o : Option asking.Rest) (u : List ℕ) (k : Connection) → FitsClient p o u k → FitsClient p (option_map asking.after_drop o) u (record k { client_lost = true })
-dropped_client (Ours wish) o u k h = (h.0, h.1, h.2, ap (option_map asking.after_drop) h.3, h.4)
+dropped_client (Ours wish) o u k h = record {
+  out = h.out;
+  least = h.least;
+  most = h.most;
+  client_is = ap (option_map asking.after_drop) h.client_is;
+  up_is = h.up_is;
+}
 dropped_client Foreign o u k h = (ap (option_map asking.after_drop) h.0, h.1)
 
 pub lost_link : (l : Link) (k : Connection) (told : List (ℕ × Outcome)) → FitsLink l k → told ≡ by_peer k.peer (losses (knows_of (client k) k.sent false))
@@ -307,17 +316,18 @@ submitted_client : (p : Peer) (o : Option asking.Rest) (u : List ℕ) (k : Conne
 submitted_client Foreign o u k q e good lives ver h = (ap (option_map (λ r. asking.after_submit r q)) h.0, h.1)
 submitted_client (Ours wish) o u k q e good lives ver h =
     let is : wish_of k.peer ≡ wish = ap wish_of e in
-    let few : h.0 ≤ length (input (wish_of k.peer) k.sent) = subst (λ z. h.0 ≤ length (input z k.sent)) (sym is) h.2 in
-    let long : input wish (k.sent ++ q ∷ []) ≡ input wish k.sent ++ request_bytes (wish_version wish) q = subst (λ z. input z (k.sent ++ q ∷ []) ≡ input z k.sent ++ request_bytes (wish_version z) q) is (longer k h.0 q few) in
-    let b = h.1 in let c = h.2 in (
-      h.0,
-      h.1,
-      subst (λ z. h.0 ≤ length z) (sym long) (omega (arith, length-append (input wish k.sent) (request_bytes (wish_version wish) q))),
-      ap (option_map (λ r. asking.after_submit r q)) h.3 ∙ ap (λ z. Some z) (submitted_same k h.0 q few good lives ver),
-      h.4 ∙ sym (ap (λ z. take (h.0 - length k.up) (drop (length k.up) z)) long
-          ∙ ap (take (h.0 - length k.up)) (drop-append-le (length k.up) (input wish k.sent) (request_bytes (wish_version wish) q) (omega arith))
-          ∙ take-append-le (h.0 - length k.up) (drop (length k.up) (input wish k.sent)) (request_bytes (wish_version wish) q) (let m = length-drop (length k.up) (input wish k.sent) in omega arith)),
-    )
+    let few : h.out ≤ length (input (wish_of k.peer) k.sent) = subst (λ z. h.out ≤ length (input z k.sent)) (sym is) h.most in
+    let long : input wish (k.sent ++ q ∷ []) ≡ input wish k.sent ++ request_bytes (wish_version wish) q = subst (λ z. input z (k.sent ++ q ∷ []) ≡ input z k.sent ++ request_bytes (wish_version z) q) is (longer k h.out q few) in
+    let b = h.least in let c = h.most in
+    record {
+      out = h.out;
+      least = h.least;
+      most = subst (λ z. h.out ≤ length z) (sym long) (omega (arith, length-append (input wish k.sent) (request_bytes (wish_version wish) q)));
+      client_is = ap (option_map (λ r. asking.after_submit r q)) h.client_is ∙ ap (λ z. Some z) (submitted_same k h.out q few good lives ver);
+      up_is = h.up_is ∙ sym (ap (λ z. take (h.out - length k.up) (drop (length k.up) z)) long
+          ∙ ap (take (h.out - length k.up)) (drop-append-le (length k.up) (input wish k.sent) (request_bytes (wish_version wish) q) (omega arith))
+          ∙ take-append-le (h.out - length k.up) (drop (length k.up) (input wish k.sent)) (request_bytes (wish_version wish) q) (let m = length-drop (length k.up) (input wish k.sent) in omega arith));
+    }
 
 pub submit_link : (l : Link) (k : Connection) (q : RequestView) → FitsLink l k → (client k).bad ≡ false → k.client_lost ≡ false → (client k).version ≡ Some (wish_version (wish_of k.peer))
     → FitsLink (record l { client = option_map (λ r. asking.after_submit r q) l.client }) (record k { sent = k.sent ++ q ∷ [] })
@@ -338,7 +348,23 @@ submit_link l k q f good lives ver =
 -- `open`
 pub fresh_link : (wish : Wish) → FitsLink (record { peer = Ours wish; client = Some (asking.begun wish); up = []; down = []; cut = false; client_lost = false; gone = None; wrote = []; read = []; lost = [] }) (fresh (Ours wish))
 fresh_link wish =
-    record { peer = refl; client = (0, omega arith, omega arith, ap (λ u. Some (record (asking.begun wish) { unsent = u })) (sym (append-nil (offer_of wish))), refl); down = refl; cut = refl; client_lost = refl; gone = refl; wrote = refl; read = refl; lost = refl }
+    record {
+      peer = refl;
+      client = record {
+        out = 0;
+        least = omega arith;
+        most = omega arith;
+        client_is = ap (λ u. Some (record (asking.begun wish) { unsent = u })) (sym (append-nil (offer_of wish)));
+        up_is = refl;
+      };
+      down = refl;
+      cut = refl;
+      client_lost = refl;
+      gone = refl;
+      wrote = refl;
+      read = refl;
+      lost = refl;
+    }
 
 pub foreign_link : FitsLink (record { peer = Foreign; client = None; up = []; down = []; cut = false; client_lost = false; gone = None; wrote = []; read = []; lost = [] }) (fresh Foreign)
 foreign_link = record { peer = refl; client = (refl, refl); down = refl; cut = refl; client_lost = refl; gone = refl; wrote = refl; read = refl; lost = refl }
@@ -372,18 +398,19 @@ module _ {A : Type 0} (h n : ℕ) (xs : List A) (few : h ≤ length xs) where
       split l = omega arith
 
 -- What a client told comes after what it had told.
-read-append : (ts : List Told) (later more : List (ℕ × Phase × Outcome)) → read_after ts (later ++ more) ≡ read_after ts later ++ more
+read-append : (ts : List Told) (later more : List ReadSummary) → read_after ts (later ++ more) ≡ read_after ts later ++ more
 read-append [] later more = refl
 read-append (GotRow row ∷ ts) later more = read-append ts later more
-read-append (Got i p o a ∷ ts) later more = read-append ts ((i, p, o) ∷ later) more
+read-append (Got i p o a ∷ ts) later more =
+    read-append ts (record { ordinal = i; phase = p; outcome = o } ∷ later) more
 
 read_more : (new ts : List Told) → read_after (new ++ ts) [] ≡ read_after ts [] ++ read_after new []
 read_more new ts = go new [] ∙ read-append ts [] (read_after new [])
   where
-    go : (new : List Told) (later : List (ℕ × Phase × Outcome)) → read_after (new ++ ts) later ≡ read_after ts (read_after new later)
+    go : (new : List Told) (later : List ReadSummary) → read_after (new ++ ts) later ≡ read_after ts (read_after new later)
     go [] later = refl
     go (GotRow row ∷ new) later = go new later
-    go (Got i p o a ∷ new) later = go new ((i, p, o) ∷ later)
+    go (Got i p o a ∷ new) later = go new (record { ordinal = i; phase = p; outcome = o } ∷ later)
 
 abbrev or_this : asking.Rest → Option asking.Rest → asking.Rest
 or_this z (Some v) = v
@@ -471,15 +498,22 @@ module _ (l : Link) (k : Connection) (f : FitsLink l k) (s : Sound k) (wish : Wi
       old : FitsClient (Ours wish) l.client l.up k
       old = subst (λ p. FitsClient p l.client l.up k) ours f.client
 
-      is : r ≡ client_rest old.0 k
-      is = some_is r (client_rest old.0 k) (sym here ∙ old.3)
+      is : r ≡ client_rest old.out k
+      is = some_is r (client_rest old.out k) (sym here ∙ old.client_is)
 
       fits : FitsClient (Ours wish) (Some (asking.feed_of r (take n held)).rest) l.up k3
-      fits = (old.0, old.1, old.2, ap₂ (λ (x : asking.Rest) (y : List ℕ). Some (asking.feed_of x y).rest) is front_is ∙ ap (λ z. Some z) (give_same k old.0 n lives on).0, old.4)
+      fits =
+          record {
+            out = old.out;
+            least = old.least;
+            most = old.most;
+            client_is = ap₂ (λ (x : asking.Rest) (y : List ℕ). Some (asking.feed_of x y).rest) is front_is ∙ ap (λ z. Some z) (give_same k old.out n lives on).0;
+            up_is = old.up_is;
+          }
 
-      told : summaries_told k ++ read_after (tellings_in (asking.feed_of (client_rest old.0 k) (take n bytes)).answer) [] ≡ summaries_told k3
+      told : summaries_told k ++ read_after (tellings_in (asking.feed_of (client_rest old.out k) (take n bytes)).answer) [] ≡ summaries_told k3
       told =
-          ap (λ p. by_peer p (read_after (client k).told []) ++ read_after (tellings_in (asking.feed_of (client_rest old.0 k) (take n bytes)).answer) []) ours
-          ∙ sym (read_more (tellings_in (asking.feed_of (client_rest old.0 k) (take n bytes)).answer) (client k).told)
-          ∙ ap (λ ts. read_after ts []) (sym (give_told k old.0 n lives on))
+          ap (λ p. by_peer p (read_after (client k).told []) ++ read_after (tellings_in (asking.feed_of (client_rest old.out k) (take n bytes)).answer) []) ours
+          ∙ sym (read_more (tellings_in (asking.feed_of (client_rest old.out k) (take n bytes)).answer) (client k).told)
+          ∙ ap (λ ts. read_after ts []) (sym (give_told k old.out n lives on))
           ∙ sym (ap (λ p. by_peer p (read_after (client k3).told [])) ours)

@@ -6,9 +6,9 @@ use Rattle.wire.specs.declared.Wish.{Wish}
 use Rattle.wire.specs.Reader.{reach}
 use Rattle.messages.specs.Arrivals.{hears}
 use Rattle.engine.specs.Views.{EntryView}
-use Rattle.server.specs.declared.Cause.{Cause}
+use Rattle.exchange.specs.declared.Cause.{Cause}
 use Rattle.server.specs.declared.Server.{Server}
-use Rattle.server.specs.Session.{Setting}
+use Rattle.exchange.specs.Session.{Setting}
 use Rattle.server.specs.Serving as serving
 use Rattle.server.specs.Views as server
 use Rattle.client.specs.declared.ClientFault.{ClientFault}
@@ -18,7 +18,8 @@ use Rattle.client.specs.Rest as asking
 use Rattle.client.specs.Rest.{Note, Nothing}
 use Rattle.world.specs.declared.kinds.Refused.TheVariants.{Memory}
 use Rattle.world.specs.declared.link.Link.{Link as LinkHeld}
-use Rattle.world.specs.World.{Peer, Ours, Foreign, Connection, World, Effect, ToClient, Seen, Gave, step, client, output, bytes_delivered, give, to_client, drain, taken_out}
+use Rattle.world.specs.Connections.{Peer, Ours, Foreign, Connection, client, output, bytes_delivered}
+use Rattle.world.specs.World.{World, Effect, ToClient, Seen, Gave, step, give, to_client, drain, taken_out}
 use Rattle.world.specs.Reports.{read_after}
 use Rattle.world.specs.Rests.{client_rest}
 use Rattle.world.specs.Fits.{Link, Rest, FitsClient, FitsLink, Fits}
@@ -101,7 +102,7 @@ module _ {E G : Type 0} (entries : E → List EntryView) (answer : Definition) (
     old = subst (λ p. FitsClient p m.client m.up k) peer_is here.2.client
 
     over_is : y.knows.over ≡ (k.client_lost || ((client k).ended || (client k).bad))
-    over_is = ap (λ z. z.knows.over) (some_is y (client_rest old.0 k) (sym client_is ∙ old.3))
+    over_is = ap (λ z. z.knows.over) (some_is y (client_rest old.out k) (sym client_is ∙ old.client_is))
 
     pub given_over : y.knows.over ≡ true → Answers T w (ToClient c n) (Ok (Gave 0 (Ok Nothing))) (Now_ l s)
     given_over over =
@@ -113,7 +114,12 @@ module _ {E G : Type 0} (entries : E → List EntryView) (answer : Definition) (
 
     -- where nothing came out
     pub given_lacks : (l2 : LinkHeld) (s2 : Server E G) → link_of l2 b.client ≡ m → FitsEnd l2.end b.client → server.Fits entries s2 r.server → Answers T w (ToClient c n) (Err Memory) (Now_ l2 s2)
-    given_lacks l2 s2 same ends serves = (steps_ok, (w, inl refl, still entries answer accepts (ToClient c n) l s r w b l2 s2 same ends serves))
+    given_lacks l2 s2 same ends serves = record {
+      may = steps_ok;
+      after = w;
+      leaves = inl refl;
+      now = still entries answer accepts (ToClient c n) l s r w b l2 s2 same ends serves;
+    }
 
     module _ (on : y.knows.over ≡ false) (joined : l.is_cut ≡ false) where
       open_is : (k.client_lost ≡ false) × (((client k).ended ≡ false) × ((client k).bad ≡ false))
@@ -122,22 +128,20 @@ module _ {E G : Type 0} (entries : E → List EntryView) (answer : Definition) (
       -- where bytes came out of a session that lives
       came_out : (l2 : LinkHeld) (s2 : Server E G) → l.gone ≡ None → (taken : List ℕ) (server2 : serving.Rest G) → serving.take_out_at c (n - length m.down) r.server ≡ Some (taken, server2)
           → link_of l2 b.client ≡ record m { down = m.down ++ taken } → FitsEnd l2.end b.client → server.Fits entries s2 server2 → Answers T w (ToClient c n) (Err Memory) (Now_ l2 s2)
-      came_out l2 s2 gone taken server2 h same ends serves = (
-        steps_ok,
-        (
-          taken_out w c n (slice_get w.conns c),
-          inr refl,
-          record {
-            client = b.client;
-            rest = server2;
-            ends = ends;
-            server = serves;
-            gated = gate_kept r.server.gate _ (λ x. refl) _ taken server2 h;
-            fits = subst (λ z. Fits (record { links = slice_set r.links c z; server = server2 }) (taken_out w c n (slice_get w.conns c))) (sym same)
-                (left_fits G answer accepts r w b.fits sound c k here.1 m b.at wish peer_is (lives_is gone) (joined_is joined) open_is.0 open_is.1 n y client_is taken server2 h);
-          },
-        ),
-      )
+      came_out l2 s2 gone taken server2 h same ends serves = record {
+        may = steps_ok;
+        after = taken_out w c n (slice_get w.conns c);
+        leaves = inr refl;
+        now = record {
+          client = b.client;
+          rest = server2;
+          ends = ends;
+          server = serves;
+          gated = gate_kept r.server.gate _ (λ x. refl) _ taken server2 h;
+          fits = subst (λ z. Fits (record { links = slice_set r.links c z; server = server2 }) (taken_out w c n (slice_get w.conns c))) (sym same)
+              (left_fits G answer accepts r w b.fits sound c k here.1 m b.at wish peer_is (lives_is gone) (joined_is joined) open_is.0 open_is.1 n y client_is taken server2 h);
+        };
+      }
 
       pub given_draws : (gone : Option Cause) → l.gone ≡ gone → (res : Result (Unit {0}) AllocError) (bytes : List ℕ) (l2 : LinkHeld) (s2 : Server E G)
           → Draws gone c (n - length m.down) r.server m.down res bytes (server.Fits entries s2) → link_of l2 b.client ≡ record m { down = bytes } → FitsEnd l2.end b.client
@@ -145,11 +149,11 @@ module _ {E G : Type 0} (entries : E → List EntryView) (answer : Definition) (
       given_draws (Some cause) is res bytes l2 s2 d same ends =
           given_lacks l2 s2 (same ∙ ap (λ x. let z : Link = record m { down = x } in z) d.0) ends d.1
       given_draws None is (Ok u) bytes l2 s2 d same ends =
-          came_out l2 s2 is d.0 d.1 d.2 (same ∙ ap (λ x. let z : Link = record m { down = x } in z) d.3) ends d.4
+          came_out l2 s2 is d.taken d.after d.out (same ∙ ap (λ x. let z : Link = record m { down = x } in z) d.held) ends d.now
       given_draws None is (Err f) bytes l2 s2 (inl d) same ends =
           given_lacks l2 s2 (same ∙ ap (λ x. let z : Link = record m { down = x } in z) d.0) ends d.1
       given_draws None is (Err f) bytes l2 s2 (inr d) same ends =
-          came_out l2 s2 is d.0 d.1 d.2 (same ∙ ap (λ x. let z : Link = record m { down = x } in z) d.3) ends d.4
+          came_out l2 s2 is d.taken d.after d.out (same ∙ ap (λ x. let z : Link = record m { down = x } in z) d.held) ends d.now
 
       abbrev u : ℕ
       u = reach hears (bytes_delivered k) (take n (drop k.down (output k)))
@@ -184,12 +188,12 @@ module _ {E G : Type 0} (entries : E → List EntryView) (answer : Definition) (
                 × Fits (record { links = slice_set r.links c (record m { client = Some (asking.feed_of y (take n z)).rest; down = drop u z; read = m.read ++ read_after (tellings_in (asking.feed_of y (take n z)).answer) [] }); server = r.server }) w2) (sym d.0) h,
           )
       model None is bytes s2 d =
-          let h = client_fits G answer accepts r w b.fits sound c k here.1 m b.at wish peer_is (lives_is is) (joined_is joined) open_is.0 open_is.1 n y client_is d.0 d.1 d.2 in (
-            d.1,
-            d.4,
-            gate_kept r.server.gate _ (λ x. refl) _ d.0 d.1 d.2,
+          let h = client_fits G answer accepts r w b.fits sound c k here.1 m b.at wish peer_is (lives_is is) (joined_is joined) open_is.0 open_is.1 n y client_is d.taken d.after d.out in (
+            d.after,
+            d.now,
+            gate_kept r.server.gate _ (λ x. refl) _ d.taken d.after d.out,
             subst (λ z. (w2 : World) × (step T w (ToClient c n) ≡ Ok (w2, seen_as u (asking.feed_of y (take n z)).answer))
-                × Fits (record { links = slice_set r.links c (record m { client = Some (asking.feed_of y (take n z)).rest; down = drop u z; read = m.read ++ read_after (tellings_in (asking.feed_of y (take n z)).answer) [] }); server = d.1 }) w2) (sym d.3) h,
+                × Fits (record { links = slice_set r.links c (record m { client = Some (asking.feed_of y (take n z)).rest; down = drop u z; read = m.read ++ read_after (tellings_in (asking.feed_of y (take n z)).answer) [] }); server = d.after }) w2) (sym d.held) h,
           )
 
       pub given_done : (gone : Option Cause) (is : l.gone ≡ gone) (bytes : List ℕ) (s2 : Server E G) → Draws gone c (n - length m.down) r.server m.down (Ok tt) bytes (server.Fits entries s2)
@@ -221,7 +225,12 @@ module _ {E G : Type 0} (entries : E → List EntryView) (answer : Definition) (
 
     pub drains_lacks : (l2 : LinkHeld) (s2 : Server E G) → link_of l2 b.client ≡ m → FitsEnd l2.end b.client → server.Fits entries s2 r.server → Answers T w (ToClient c n) (Err Memory) (Now_ l2 s2)
     drains_lacks l2 s2 same ends serves =
-        (ok_of _ _ (steps_foreign T w c k here.1 (ToClient c n) (drain n k) peer_foreign refl), (w, inl refl, still entries answer accepts (ToClient c n) l s r w b l2 s2 same ends serves))
+        record {
+          may = ok_of _ _ (steps_foreign T w c k here.1 (ToClient c n) (drain n k) peer_foreign refl);
+          after = w;
+          leaves = inl refl;
+          now = still entries answer accepts (ToClient c n) l s r w b l2 s2 same ends serves;
+        }
 
     pub drains_gone : (cause : Cause) → l.gone ≡ Some cause → (l2 : LinkHeld) (used : ℕ) → used ≡ length m.down → link_of l2 b.client ≡ record m { down = [] } → FitsEnd l2.end b.client
         → Answers T w (ToClient c n) (Ok (Gave used (Ok Nothing))) (Now_ l2 s)

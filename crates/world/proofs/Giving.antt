@@ -24,7 +24,8 @@ use Rattle.client.specs.Moments.{tellings_in}
 use Rattle.client.proofs.Steps as steps
 use Rattle.client.proofs.Steps.{item_tells}
 use Rattle.client.proofs.Later.{reading_later, reading_count}
-use Rattle.world.specs.World.{Connection, Seen, Gave, output, bytes_delivered, client, wish_of, input, give, taken_for, note_now, tells_newest, note_given, tells_of, newest}
+use Rattle.world.specs.Connections.{Connection, output, bytes_delivered, client, wish_of, input}
+use Rattle.world.specs.World.{Seen, Gave, give, taken_for, note_now, tells_newest, note_given, tells_of, newest}
 use Rattle.world.specs.Rests.{client_rest}
 use Rattle.world.proofs.Asking.{hear_same, submit_same}
 use Rattle.client.proofs.Steps.{and_told}

@@ -12,16 +12,16 @@ use Rattle.world.specs.declared.link.Link.{Link as LinkHeld}
 use Rattle.world.specs.declared.link.Read.{Read}
 use Rattle.std.specs.declared.vec.Vec.{Vec}
 use Rattle.std.specs.declared.alloc.Global.{Global}
-use Rattle.machine.specs.declared.Phase.{Phase}
 use Rattle.client.specs.declared.ClientFault.{ClientFault}
 use Rattle.client.specs.declared.ClientFault.TheVariants as client_fault
 use Rattle.world.specs.World.{SawNothing}
 use Rattle.world.specs.Fits.{Link}
+use Rattle.world.specs.Reports.{ReadSummary}
 use Rattle.world.specs.Views.{FitsEnd, link_of, flow_of, read_of}
 use Rattle.messages.specs.View.{RequestView}
 use Rattle.client.specs.declared.SubmitFault.{SubmitFault}
 use Rattle.client.specs.declared.SubmitFault.TheVariants as submit_fault
-use Rattle.world.specs.Turns.{Holds, Submits, refusal_seen, LosesClient, after_loss}
+use Rattle.world.specs.Turns.{Holds, Submits, SubmitsInVain, refusal_seen, LosesClient, after_loss}
 
 -- a link whose end is replaced
 abbrev pub with_end : LinkHeld → End → LinkHeld
@@ -39,27 +39,34 @@ module _ (wish : Wish) (c : Client) (lost : Option (List (ℕ × Outcome))) wher
   pub holds_client : (l : LinkHeld) → l.end ≡ end.Ours wish c lost → (m : Link) → Holds l m
       → (y : asking.Rest) × (m.client ≡ Some y) × client.Fits c y × (m ≡ link_of (with_end l (end.Ours wish c lost)) (Some y))
   holds_client l is m h =
-      let r = held_client l is h.0 h.2 in
-      (r.0, ap (λ z. z.client) h.1 ∙ r.1, r.2, h.1 ∙ ap (λ x. link_of l x) r.1 ∙ ap (λ e. link_of (with_end l e) (Some r.0)) is)
+      let r = held_client l is h.client h.ends in
+      (r.0, ap (λ z. z.client) h.link_is ∙ r.1, r.2, h.link_is ∙ ap (λ x. link_of l x) r.1 ∙ ap (λ e. link_of (with_end l e) (Some r.0)) is)
 
   -- what is held once the client has changed
   pub holds_then : (l : LinkHeld) (m : Link) (y y2 : asking.Rest) (c2 : Client) → m ≡ link_of (with_end l (end.Ours wish c lost)) (Some y) → client.Fits c2 y2
       → Holds (with_end l (end.Ours wish c2 lost)) (record m { client = Some y2 })
-  holds_then l m y y2 c2 e f = (Some y2, ap (λ (z : Link). let z2 : Link = record z { client = Some y2 } in z2) e, f)
+  holds_then l m y y2 c2 e f = record {
+    client = Some y2;
+    link_is = ap (λ (z : Link). let z2 : Link = record z { client = Some y2 } in z2) e;
+    ends = f;
+  }
 
   pub holds_still : (l : LinkHeld) (m : Link) (y : asking.Rest) (c2 : Client) → m ≡ link_of (with_end l (end.Ours wish c lost)) (Some y) → client.Fits c2 y
       → Holds (with_end l (end.Ours wish c2 lost)) m
-  holds_still l m y c2 e f = (Some y, e, f)
+  holds_still l m y c2 e f = record { client = Some y; link_is = e; ends = f }
 
 -- a request that the client refuses
 module _ (m : Link) (q : RequestView) (Now : Link → Type 0) (y : asking.Rest) (is : m.client ≡ Some y) (now : Now m) where
+  vain : (fault : SubmitFault) → asking.refuses y.knows q ≡ Some fault → SubmitsInVain m q fault Now
+  vain fault h = record { client = y; here = is; refused = h; now = now }
+
   pub refused_submits : (fault : SubmitFault) → ((fault ≡ submit_fault.Memory → ⊥) → asking.refuses y.knows q ≡ Some fault) → Submits m q (refusal_seen fault) Now
-  refused_submits submit_fault.Memory h = (y, is, now)
-  refused_submits submit_fault.NotAllowed h = (y, is, h (λ e. cc), now)
-  refused_submits submit_fault.PipelineFull h = (y, is, h (λ e. cc), now)
-  refused_submits submit_fault.Size h = (y, is, h (λ e. cc), now)
-  refused_submits submit_fault.Closed h = (y, is, h (λ e. cc), now)
-  refused_submits (submit_fault.Unwritable why) h = (y, is, h (λ e. cc), now)
+  refused_submits submit_fault.Memory h = record { client = y; here = is; now = now }
+  refused_submits submit_fault.NotAllowed h = vain _ (h (λ e. cc))
+  refused_submits submit_fault.PipelineFull h = vain _ (h (λ e. cc))
+  refused_submits submit_fault.Size h = vain _ (h (λ e. cc))
+  refused_submits submit_fault.Closed h = vain _ (h (λ e. cc))
+  refused_submits (submit_fault.Unwritable why) h = vain _ (h (λ e. cc))
 
 -- the client's loss
 module _ (wish : Wish) (c : Client) (lost : Option (List (ℕ × Outcome))) (l : LinkHeld) (is : l.end ≡ end.Ours wish c lost) (m : Link) (h : Holds l m) where
@@ -67,7 +74,12 @@ module _ (wish : Wish) (c : Client) (lost : Option (List (ℕ × Outcome))) (l :
   loses_again b =
       let r = holds_client wish c lost l is m h in
       let was : m.client_lost ≡ true = ap (λ z. z.client_lost) r.3 ∙ b in
-      (r.0, r.1, subst (λ z. Holds (with_end l (end.Ours wish c lost)) (after_loss z m r.0)) (sym was) (Some r.0, r.3, r.2))
+      record {
+        client = r.0;
+        here = r.1;
+        now = subst (λ z. Holds (with_end l (end.Ours wish c lost)) (after_loss z m r.0)) (sym was)
+            (record { client = Some r.0; link_is = r.3; ends = r.2 });
+      }
 
   pub loses_now : is_some lost ≡ false → (c2 : Client) (told : List (ℕ × Outcome)) → ((y : asking.Rest) → client.Fits c y → (told ≡ asking.losses y.knows) × client.Fits c2 (asking.after_drop y))
       → LosesClient m (Ok SawNothing) (Holds (with_end l (end.Ours wish c2 (Some told))))
@@ -75,27 +87,28 @@ module _ (wish : Wish) (c : Client) (lost : Option (List (ℕ × Outcome))) (l :
       let r = holds_client wish c lost l is m h in
       let d = a r.0 r.2 in
       let was : m.client_lost ≡ false = ap (λ z. z.client_lost) r.3 ∙ b in
-      let P : Link → Type 0 = Holds (with_end l (end.Ours wish c2 (Some told))) in (
-        r.0,
-        r.1,
-        subst (λ z. P (after_loss z m r.0)) (sym was) (
-          Some (asking.after_drop r.0),
-          ap (λ (z : Link). let z2 : Link = record z { client = Some (asking.after_drop r.0); client_lost = true; lost = asking.losses r.0.knows } in z2) r.3
-              ∙ ap (λ x. let z2 : Link = record (link_of (with_end l (end.Ours wish c2 (Some told))) (Some (asking.after_drop r.0))) { lost = x } in z2) (sym d.0),
-          d.1,
-        ),
-      )
+      let P : Link → Type 0 = Holds (with_end l (end.Ours wish c2 (Some told))) in
+      record {
+        client = r.0;
+        here = r.1;
+        now = subst (λ z. P (after_loss z m r.0)) (sym was) (record {
+          client = Some (asking.after_drop r.0);
+          link_is = ap (λ (z : Link). let z2 : Link = record z { client = Some (asking.after_drop r.0); client_lost = true; lost = asking.losses r.0.knows } in z2) r.3
+              ∙ ap (λ x. let z2 : Link = record (link_of (with_end l (end.Ours wish c2 (Some told))) (Some (asking.after_drop r.0))) { lost = x } in z2) (sym d.0);
+          ends = d.1;
+        });
+      }
 
 -- the link with other bytes on their way
 module _ (wish : Wish) (c : Client) (lost : Option (List (ℕ × Outcome))) (l : LinkHeld) (is : l.end ≡ end.Ours wish c lost) (x z : Option asking.Rest) (c2 : Client) where
   pub up_changed : (up : Flow) (bytes : List ℕ) → flow_of up ≡ bytes → link_of (record l { end = end.Ours wish c2 lost; up = up }) z ≡ record (link_of l x) { client = z; up = bytes }
   up_changed up bytes e = ap₂ (λ (q : End) (u : List ℕ). let m : Link = record (link_of (with_end l q) x) { client = z; up = u } in m) (sym is) e
 
-  pub down_changed : (down : Flow) (read : Vec Read Global) (bytes : List ℕ) (rs : List (ℕ × Phase × Outcome)) → flow_of down ≡ bytes → map read_of read.items ≡ rs
+  pub down_changed : (down : Flow) (read : Vec Read Global) (bytes : List ℕ) (rs : List ReadSummary) → flow_of down ≡ bytes → map read_of read.items ≡ rs
       → link_of (record l { end = end.Ours wish c2 lost; down = down; read = read }) z ≡ record (link_of l x) { client = z; down = bytes; read = rs }
   down_changed down read bytes rs e f =
-      ap₂ (λ (q : End) (u : List ℕ × List (ℕ × Phase × Outcome)). let m : Link = record (link_of (with_end l q) x) { client = z; down = u.0; read = u.1 } in m) (sym is)
-      (ap₂ (λ (a : List ℕ) (b : List (ℕ × Phase × Outcome)). (a, b)) e f)
+      ap₂ (λ (q : End) (u : List ℕ × List ReadSummary). let m : Link = record (link_of (with_end l q) x) { client = z; down = u.0; read = u.1 } in m) (sym is)
+      (ap₂ (λ (a : List ℕ) (b : List ReadSummary). (a, b)) e f)
 
 -- what a client answers but want of memory
 pub unless : (A : Type 0) (e : ClientFault) (p : Type 0) → client.UnlessMemory {A = A} (Err e) p → (e ≡ client_fault.Memory → ⊥) → p

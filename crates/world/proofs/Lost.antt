@@ -2,17 +2,17 @@
 use Rattle.std.proofs.Common.{◌≡◌, refl, sym, ◌∙◌, ap, ap₂, subst, ℕ, zero, suc, ◌<◌, ◌≤◌, ◌==◌, Bool, true, false, min, if◌then◌else◌, Option, Some, None, option_map, Ok, Err, List, [], ◌∷◌, ◌++◌, length, take, drop, slice_get, slice_set, arith, length-take}
 use Rattle.std.proofs.lemmas.Bool.{eq-eqb, eqb-true}
 use Rattle.engine.specs.Views.{EntryView}
-use Rattle.server.specs.declared.Cause.{Cause}
+use Rattle.exchange.specs.declared.Cause.{Cause}
 use Rattle.server.specs.declared.Server.{Server}
-use Rattle.server.specs.Rest.{cause_or}
-use Rattle.server.specs.Session.{Setting}
+use Rattle.server.specs.Serving.{cause_or, Live, find, replace, without}
+use Rattle.exchange.specs.Session.{Setting}
 use Rattle.server.specs.Serving as serving
-use Rattle.server.specs.Serving.{Live, find, replace, without}
 use Rattle.server.specs.Views as server
 use Rattle.world.specs.declared.flow.Flow.{Flow}
 use Rattle.world.specs.declared.kinds.Refused.TheVariants.{Memory}
 use Rattle.world.specs.declared.link.Link.{Link as LinkHeld}
-use Rattle.world.specs.World.{Connection, World, ServerLost, SawNothing, output}
+use Rattle.world.specs.Connections.{Connection, output}
+use Rattle.world.specs.World.{World, ServerLost, SawNothing}
 use Rattle.world.specs.Fits.{Link, Rest, FitsLink, Fits}
 use Rattle.world.specs.Contract.{Answers}
 use Rattle.world.specs.Views.{FitsEnd, link_of, flow_of}
@@ -118,7 +118,12 @@ module _ {E G : Type 0} (entries : E → List EntryView) (answer : Definition) (
       (gone_once G answer accepts r w b.fits sound c k here.1 m b.at cause gone) (λ w2. tt) tt
 
   pub lost_lacks : (l2 : LinkHeld) (s2 : Server E G) → link_of l2 b.client ≡ m → FitsEnd l2.end b.client → server.Fits entries s2 r.server → Answers T w (ServerLost c) (Err Memory) (Now entries answer accepts r c l2 s2)
-  lost_lacks l2 s2 same ends serves = (ok_of _ _ (gone_step T w c k here.1), (w, refl, still entries answer accepts (ServerLost c) l s r w b l2 s2 same ends serves))
+  lost_lacks l2 s2 same ends serves = record {
+    may = ok_of _ _ (gone_step T w c k here.1);
+    after = w;
+    leaves = refl;
+    now = still entries answer accepts (ServerLost c) l s r w b l2 s2 same ends serves;
+  }
 
   abbrev first_in : Option (List ℕ × serving.Rest G) → List ℕ
   first_in (Some p) = p.0

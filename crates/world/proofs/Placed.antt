@@ -4,7 +4,7 @@ use Rattle.engine.specs.Views.{EntryView}
 use Rattle.server.specs.declared.Server.{Server}
 use Rattle.server.specs.declared.Refused.{Refused as ServerRefused}
 use Rattle.server.specs.declared.Refused.TheVariants as server_refused
-use Rattle.server.specs.Session.{Setting}
+use Rattle.exchange.specs.Session.{Setting}
 use Rattle.server.specs.Serving as serving
 use Rattle.server.specs.Views as server
 use Rattle.world.specs.declared.kinds.Peer.{Peer as PeerTold}
@@ -13,7 +13,8 @@ use Rattle.world.specs.declared.kinds.Refused.{Refused}
 use Rattle.world.specs.declared.kinds.Refused.TheVariants.{NoSuchConnection, WrongPeer, SessionsFull, Memory}
 use Rattle.world.specs.declared.link.Link.{Link as LinkHeld}
 use Rattle.world.specs.declared.world.World.{World as WorldHeld}
-use Rattle.world.specs.World.{Peer, World, Event, Opens, Seen, Opened, place, empty, Reached}
+use Rattle.world.specs.Connections.{Peer}
+use Rattle.world.specs.World.{World, Event, Opens, Seen, Opened, place, empty, Reached}
 use Rattle.world.specs.Fits.{Link, Rest, Fits}
 use Rattle.world.specs.Contract.{Answers}
 use Rattle.world.specs.Seeing.{IsOpens}
@@ -25,11 +26,13 @@ use Rattle.world.proofs.Stepping.{opens_fits}
 
 -- what holds of the answer's world may be said otherwise
 pub answers_with : (S : Setting) (w : World) (e : Event) (res : Result Seen Refused) (P Q : World → Type 0) → ((w2 : World) → P w2 → Q w2) → Answers S w e res P → Answers S w e res Q
-answers_with S w e (Ok seen) P Q f a = (a.0, a.1, a.2, f a.0 a.3)
+answers_with S w e (Ok seen) P Q f a =
+    record { after = a.after; steps = a.steps; good = a.good; now = f a.after a.now }
 answers_with S w e (Err NoSuchConnection) P Q f a = (a.0, f w a.1)
 answers_with S w e (Err WrongPeer) P Q f a = (a.0, f w a.1)
 answers_with S w e (Err SessionsFull) P Q f a = (a.0, f w a.1)
-answers_with S w e (Err Memory) P Q f a = (a.0, (a.1.0, a.1.1, f a.1.0 a.1.2))
+answers_with S w e (Err Memory) P Q f a =
+    record { may = a.may; after = a.after; leaves = a.leaves; now = f a.after a.now }
 
 -- what a server holds that refused to open a session
 pub open_refused : {G : Type 0} (e : ServerRefused) (r : serving.Rest G) (P : serving.Rest G → Type 0) → serving.Opens (Err e) r P → P r
@@ -84,13 +87,14 @@ module _ {E G : Type 0} (entries : E → List EntryView) (answer : Definition) (
       → Answers (setting_of answer accepts gate) w e (seen_in res) (IsWorld entries t gate)
   placed e c at few l is res l2 s2 turn t links_are server_is =
       let h = held_at s.links.items r.links c l f.links few is in
-      let link_is : slice_get r.links (place e) ≡ Some (link_of l h.2.0) = ap (slice_get r.links) (sym at) ∙ h.1 ∙ ap (λ z. Some z) h.2.1 in
-      let b : Before entries answer accepts e l s.server r w = record { brought = brought; reached = reached_here; client = h.2.0; ends = h.2.2; server = f.server; at = link_is; fits = f.fits } in
+      let link_is : slice_get r.links (place e) ≡ Some (link_of l h.2.client) = ap (slice_get r.links) (sym at) ∙ h.1 ∙ ap (λ z. Some z) h.2.link_is in
+      let b : Before entries answer accepts e l s.server r w = record { brought = brought; reached = reached_here; client = h.2.client; ends = h.2.ends; server = f.server; at = link_is; fits = f.fits } in
       answers_with (setting_of answer accepts gate) w e (seen_in res) (Now entries answer accepts r (place e) l2 s2) (IsWorld entries t gate)
       (λ w2 n. record {
         rest = record { links = slice_set r.links (place e) (link_of l2 n.client); server = n.rest };
         links = subst (λ ls. HoldLinks ls (slice_set r.links (place e) (link_of l2 n.client))) (ap (λ i. slice_set s.links.items i l2) (sym at) ∙ sym links_are)
-            (held_set s.links.items r.links (place e) l2 (link_of l2 n.client) f.links (n.client, refl, n.ends));
+            (held_set s.links.items r.links (place e) l2 (link_of l2 n.client) f.links
+            (record { client = n.client; link_is = refl; ends = n.ends }));
         server = subst (λ z. server.Fits entries z n.rest) (sym server_is) n.server;
         gated = n.gated ∙ f.gated;
         fits = n.fits;
@@ -105,7 +109,18 @@ module _ {E G : Type 0} (entries : E → List EntryView) (answer : Definition) (
       → Answers (setting_of answer accepts gate) w (Opens peer) (Err Memory) (IsWorld entries t gate)
   opens_lacks peer room t links_are serves =
       let h = opens_fits G (setting_of answer accepts gate) r w f.fits peer room in
-      (ok_of _ _ h.1, (w, refl, record { rest = r; links = subst (λ ls. HoldLinks ls r.links) (sym links_are) f.links; server = serves; gated = f.gated; fits = f.fits }))
+      record {
+        may = ok_of _ _ h.1;
+        after = w;
+        leaves = refl;
+        now = record {
+          rest = r;
+          links = subst (λ ls. HoldLinks ls r.links) (sym links_are) f.links;
+          server = serves;
+          gated = f.gated;
+          fits = f.fits;
+        };
+      }
 
   pub opens_done : (peer : PeerTold) → serving.is_full r.server ≡ false → (l : LinkHeld) → IsOpened peer l → (conn : ℕ) → conn ≡ r.server.next → (t : WorldHeld E G)
       → t.links.items ≡ s.links.items ++ l ∷ [] → server.Fits entries t.server (serving.opened r.server)
@@ -118,7 +133,8 @@ module _ {E G : Type 0} (entries : E → List EntryView) (answer : Definition) (
         record {
           rest = record { links = r.links ++ opened_link (peer_of peer) ∷ []; server = serving.opened r.server };
           links = subst (λ ls. HoldLinks ls (r.links ++ opened_link (peer_of peer) ∷ [])) (sym links_are)
-              (held_more s.links.items r.links l (opened_link (peer_of peer)) f.links (client_of (peer_of peer), sym opened.0, opened.1));
+              (held_more s.links.items r.links l (opened_link (peer_of peer)) f.links
+              (record { client = client_of (peer_of peer); link_is = sym opened.0; ends = opened.1 }));
           server = serves;
           gated = f.gated;
           fits = h.2;

@@ -9,16 +9,17 @@ use Rattle.messages.specs.Arrivals.{Arrival, Shook, NoMagic, Asked, Unread, TooL
 use Rattle.machine.specs.declared.State.{State}
 use Rattle.machine.specs.Asks.{kind_of, is_reset}
 use Rattle.machine.specs.Following.{interruptible}
-use Rattle.server.specs.declared.Cause.{Cause}
-use Rattle.server.specs.Session.{Open, Tx, no_result, no_tx}
-use Rattle.server.specs.Rest.{unread_among}
+use Rattle.exchange.specs.declared.Cause.{Cause}
+use Rattle.exchange.specs.Session.{Open, Tx, no_result, no_tx}
+use Rattle.exchange.specs.Rest.{unread_among}
 use Rattle.messages.specs.View.{RequestView}
 use Rattle.client.specs.declared.Outcome.{Outcome}
 use Rattle.client.specs.Client.{Reading}
 use Rattle.client.specs.Client.{reading_of as reader}
 use Rattle.client.specs.Rest as asking
 use Rattle.client.specs.Rest.{knows_of, losses}
-use Rattle.world.specs.World.{Peer, Ours, Foreign, Connection, Effect, Seen, Fed, SaysVersion, heard_as, output, said_version, bytes_delivered, client, wish_of, input, arrivals_at, waiting, last_item, take_item, feed, strike_if}
+use Rattle.world.specs.Connections.{Peer, Ours, Foreign, Connection, SaysVersion, heard_as, output, said_version, bytes_delivered, client, wish_of, input, arrivals_at, waiting, strike_if}
+use Rattle.world.specs.World.{Effect, Seen, Fed, last_item, take_item, feed}
 use Rattle.world.specs.Rests.{client_rest}
 use Rattle.world.specs.Reports.{wrote, read_after, by_peer}
 use Rattle.world.specs.Fits.{Link, FitsClient, FitsLink, cause_seen}
@@ -194,7 +195,7 @@ module _ (l : Link) (k : Connection) (f : FitsLink l k) (s : Sound k) (lives : k
   bytes = drop a all
 
   abbrev h : ℕ
-  h = old.0 - a
+  h = old.out - a
 
   abbrev lacking : ℕ
   lacking = n - length l.up
@@ -203,25 +204,25 @@ module _ (l : Link) (k : Connection) (f : FitsLink l k) (s : Sound k) (lives : k
   abbrev held : List ℕ
   held = l.up ++ take lacking r.unsent
 
-  is : r ≡ client_rest old.0 k
-  is = some_is r (client_rest old.0 k) (sym here ∙ old.3)
+  is : r ≡ client_rest old.out k
+  is = some_is r (client_rest old.out k) (sym here ∙ old.client_is)
 
-  unsent_is : r.unsent ≡ drop old.0 all
-  unsent_is = ap (λ z. z.unsent) is ∙ ap (λ p. drop old.0 (input (wish_of p) k.sent)) ours
+  unsent_is : r.unsent ≡ drop old.out all
+  unsent_is = ap (λ z. z.unsent) is ∙ ap (λ p. drop old.out (input (wish_of p) k.sent)) ours
 
   few : h ≤ length bytes
-  few = let x = old.1 in let y = old.2 in let m = length-drop a all in omega arith
+  few = let x = old.least in let y = old.most in let m = length-drop a all in omega arith
 
   held_long : length l.up ≡ h
-  held_long = ap length old.4 ∙ length-take h bytes ∙ smaller h (length bytes) few
+  held_long = ap length old.up_is ∙ length-take h bytes ∙ smaller h (length bytes) few
     where
       smaller : (x y : ℕ) → x ≤ y → min x y ≡ x
       smaller x y l = omega arith
 
   held_is : held ≡ take h bytes ++ take (n - h) (drop h bytes)
   held_is =
-      let d : r.unsent ≡ drop h bytes = unsent_is ∙ ap (λ i. drop i all) (parts old.0 a old.1) ∙ sym (drop-drop h a all) in
-      ap₂ (λ x (y : List ℕ × ℕ). x ++ take (n - y.1) y.0) old.4 (ap₂ (λ (x : List ℕ) (y : ℕ). (x, y)) d held_long)
+      let d : r.unsent ≡ drop h bytes = unsent_is ∙ ap (λ i. drop i all) (parts old.out a old.least) ∙ sym (drop-drop h a all) in
+      ap₂ (λ x (y : List ℕ × ℕ). x ++ take (n - y.1) y.0) old.up_is (ap₂ (λ (x : List ℕ) (y : ℕ). (x, y)) d held_long)
     where
       parts : (x y : ℕ) → y ≤ x → x ≡ y + (x - y)
       parts x y l = omega arith
@@ -246,7 +247,7 @@ module _ (l : Link) (k : Connection) (f : FitsLink l k) (s : Sound k) (lives : k
       smaller x y l = omega arith
 
   abbrev out : ℕ
-  out = min (old.0 + lacking) (length all)
+  out = min (old.out + lacking) (length all)
 
   up_is : drop used held ≡ take (out - length e3.conn.up) (drop (length e3.conn.up) all)
   up_is =
@@ -254,7 +255,7 @@ module _ (l : Link) (k : Connection) (f : FitsLink l k) (s : Sound k) (lives : k
       let t = tk.1 in
       let u = length-take n bytes in
       ap (drop used) held_is ∙ window_rest h n bytes few used (omega arith) (omega arith)
-      ∙ ap₂ (λ i z. take i z) (same old.0 a (length all) n used (length l.up) (length bytes) m held_long old.1 old.2) (drop-drop used a all)
+      ∙ ap₂ (λ i z. take i z) (same old.out a (length all) n used (length l.up) (length bytes) m held_long old.least old.most) (drop-drop used a all)
       ∙ ap (λ i. take (out - i) (drop i all)) (sym up_long)
     where
       same : (o a i n used q m : ℕ) → m ≡ i - a → q ≡ o - a → a ≤ o → o ≤ i → min (max (o - a) n) m - used ≡ min (o + (n - q)) i - (a + used)
@@ -269,16 +270,17 @@ module _ (l : Link) (k : Connection) (f : FitsLink l k) (s : Sound k) (lives : k
       client_is : asking.taken_out r lacking ≡ client_rest out e3.conn
       client_is =
           ap (λ z. asking.taken_out z lacking) is
-          ∙ ap (λ u. record (client_rest old.0 k) { unsent = u }) (drop-drop lacking old.0 (input (wish_of k.peer) k.sent) ∙ sym (drop_min (old.0 + lacking) (input (wish_of k.peer) k.sent)))
-          ∙ ap (λ p. record (client_rest old.0 k) { unsent = drop (min (old.0 + lacking) (length (input (wish_of p) k.sent))) (input (wish_of k.peer) k.sent) }) ours
+          ∙ ap (λ u. record (client_rest old.out k) { unsent = u }) (drop-drop lacking old.out (input (wish_of k.peer) k.sent) ∙ sym (drop_min (old.out + lacking) (input (wish_of k.peer) k.sent)))
+          ∙ ap (λ p. record (client_rest old.out k) { unsent = drop (min (old.out + lacking) (length (input (wish_of p) k.sent))) (input (wish_of k.peer) k.sent) }) ours
           ∙ sym (rest_same l k f s lives (take n bytes) out)
 
       fits : FitsClient (Ours wish) (Some (asking.taken_out r lacking)) (drop used held) e3.conn
       fits =
-          let x = old.1 in let y = old.2 in let m = length-drop a all in let t = tk.1 in let u = length-take n bytes in let w = held_long in (
-            out,
-            subst (λ z. z ≤ out) (sym up_long) (omega arith),
-            subst (λ z. out ≤ length (input wish z)) (sym lv3.sent) (omega arith),
-            ap (λ z. Some z) client_is,
-            up_is ∙ ap (λ z. take (out - length e3.conn.up) (drop (length e3.conn.up) (input wish z))) (sym lv3.sent),
-          )
+          let x = old.least in let y = old.most in let m = length-drop a all in let t = tk.1 in let u = length-take n bytes in let w = held_long in
+          record {
+            out = out;
+            least = subst (λ z. z ≤ out) (sym up_long) (omega arith);
+            most = subst (λ z. out ≤ length (input wish z)) (sym lv3.sent) (omega arith);
+            client_is = ap (λ z. Some z) client_is;
+            up_is = up_is ∙ ap (λ z. take (out - length e3.conn.up) (drop (length e3.conn.up) (input wish z))) (sym lv3.sent);
+          }

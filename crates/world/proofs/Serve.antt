@@ -24,10 +24,10 @@ use Rattle.engine.specs.Views.{AnswerView, EntryView, ParameterView, QueryFault,
 use Rattle.world.specs.Good.{alone_after, commit_of, is_invalid, is_success, tx_after}
 use Rattle.client.specs.Client.{outcome_of, verdict_of}
 use Rattle.client.specs.declared.Outcome.{Outcome}
-use Rattle.server.specs.Faults.{failure, of_query}
-use Rattle.server.specs.Said.{fits}
-use Rattle.server.specs.Session.{Bye, OneRow, Open, Reply, Setting, Summary, Tx, close, no_result, fails, fields_said, is_halted, if_fits, left_after, no_tx, perform, pull, query_mode, reply_to_run, serve, succeeds, unwritable, used_up}
-use Rattle.server.specs.declared.fault.Fault.{Fault}
+use Rattle.exchange.specs.Faults.{failure, of_query}
+use Rattle.exchange.specs.Said.{fits}
+use Rattle.exchange.specs.Session.{Bye, OneRow, Open, Reply, Setting, Summary, Tx, close, no_result, fails, fields_said, is_halted, if_fits, left_after, no_tx, perform, pull, query_mode, reply_to_run, serve, succeeds, unwritable, used_up}
+use Rattle.exchange.specs.declared.fault.Fault.{Fault}
 use Rattle.world.proofs.Trace.{outcome_by}
 use Rattle.world.proofs.Writing.{failure_fits, short_fits}
 use Rattle.machine.proofs.Leading.{same_state-true}

@@ -12,15 +12,17 @@ use Rattle.machine.specs.declared.State.{State}
 use Rattle.machine.specs.Following.{interruptible}
 use Rattle.engine.specs.declared.Mode.{Mode as QueryMode}
 use Rattle.engine.specs.Views.{EntryView, WriteView, ParameterView, AnswerView, QueryFault}
-use Rattle.server.specs.declared.Cause.{Cause}
-use Rattle.server.specs.declared.Worked.{Worked}
-use Rattle.server.specs.Session.{Setting, no_result, no_tx, Reply, OneRow, Summary, Bye, serve}
+use Rattle.exchange.specs.declared.Cause.{Cause}
+use Rattle.exchange.specs.declared.Worked.{Worked}
+use Rattle.exchange.specs.Session.{Setting, no_result, no_tx, Reply, OneRow, Summary, Bye, serve}
 use Rattle.server.specs.declared.Took.{Took}
-use Rattle.server.specs.Rest as serving_rest
-use Rattle.server.specs.Rest.{reset_among, unread_among, worked_of, Step, work_kept, feeding}
+use Rattle.exchange.specs.Rest as serving_rest
+use Rattle.exchange.specs.Rest.{reset_among, unread_among, worked_of, Step, work_kept, commit_entries}
+use Rattle.server.specs.Feeding.{feeding}
 use Rattle.server.specs.Serving as serving
-use Rattle.server.specs.Serving.{Live, find, replace, without, commit_entries}
-use Rattle.world.specs.World.{Peer, fresh, live, Connection, World, Effect, Fed, SawWork, SawNoop, SaysNoop, feed, take_item, noop, server_gone, ledger, quiet, output, said_version, arrivals_at, waiting, answer_count, strike_if, write, turn, work, after_effect}
+use Rattle.server.specs.Serving.{Live, find, replace, without}
+use Rattle.world.specs.Connections.{Peer, fresh, Connection, SaysNoop, output, said_version, arrivals_at, waiting, answer_count, strike_if}
+use Rattle.world.specs.World.{live, World, Effect, Fed, SawWork, SawNoop, feed, take_item, noop, server_gone, ledger, quiet, write, turn, work, after_effect}
 use Rattle.world.specs.Rests.{kept_of, live_of, sessions_from, server_rest}
 use Rattle.world.proofs.Rests.{work_same, noop_same}
 use Rattle.world.proofs.Fed.{feed_same}
@@ -326,9 +328,9 @@ module _ (G : Type 0) (gate : G) (w : World) (c : ℕ) (k : Connection) (here : 
       ∙ ap (λ o. Some (take n (drop k.taken (output k)), o)) (put_rest (record k { taken = t }) _ lives l)
 
   -- `lost`
-  pub lost_served : serving.lost_at c r ≡ (Some (serving_rest.cause_or k.ended), server_rest gate (effect (server_gone k)))
+  pub lost_served : serving.lost_at c r ≡ (Some (serving.cause_or k.ended), server_rest gate (effect (server_gone k)))
   lost_served =
-      ap₂ (λ (o : Option Cause) (x : serving.Rest G). (o, x)) (ap (option_map (λ (z : Live). serving_rest.cause_or z.kept.ended)) found)
+      ap₂ (λ (o : Option Cause) (x : serving.Rest G). (o, x)) (ap (option_map (λ (z : Live). serving.cause_or z.kept.ended)) found)
       (ap₂ (λ (ss : List Live) (n : ℕ). record { sessions = ss; next = n; ledger = ledger w; gate = gate }) (without_at w.conns 0 c c k (server_gone k).conn (omega arith) here refl) (sym (length-set w.conns c (server_gone k).conn))
       ∙ ap (server_rest gate) (sym (silent (server_gone k) refl)))
 

@@ -8,20 +8,21 @@ use Rattle.messages.specs.View.{RequestView}
 use Rattle.messages.specs.Arrivals.{hears}
 use Rattle.engine.specs.declared.Mode.{Mode as QueryMode}
 use Rattle.engine.specs.Views.{EntryView, WriteView, ParameterView, AnswerView, QueryFault}
-use Rattle.server.specs.declared.Cause.{Cause}
-use Rattle.server.specs.declared.What.{What}
+use Rattle.exchange.specs.declared.Cause.{Cause}
+use Rattle.exchange.specs.declared.What.{What}
 use Rattle.server.specs.declared.Took.{Took}
-use Rattle.server.specs.declared.Worked.{Worked}
-use Rattle.server.specs.Session.{Setting}
-use Rattle.server.specs.Rest.{cause_or}
+use Rattle.exchange.specs.declared.Worked.{Worked}
+use Rattle.exchange.specs.Session.{Setting}
+use Rattle.server.specs.Serving.{cause_or}
 use Rattle.server.specs.Serving as serving
 use Rattle.client.specs.declared.SubmitFault.{SubmitFault}
 use Rattle.client.specs.Client.{refusal_of}
 use Rattle.client.specs.Moments.{tellings_in}
 use Rattle.client.specs.Rest as asking
 use Rattle.client.specs.Rest.{Nothing, knows_of, losses}
-use Rattle.world.specs.World.{Peer, Ours, Foreign, Connection, fresh, World, ledger, live, Event, Opens, Submit, ToServer, ToClient, Work, PutsNoop, Cut, ClientLost, ServerLost, Feeds, Effect, Seen, quiet, Opened, Submitted, Fed, Gave, SawWork, SawNoop, SawNothing, V3, step, at_conn, at_peer, with_effect, after_effect, work, feed, to_server, give, to_client, taken_for, effect_at_peer, drain, taken_out, noop, server_gone, submit, effect_of_submit, client, wish_of, output, input, bytes_delivered}
-use Rattle.server.specs.Serving.{commit_entries}
+use Rattle.world.specs.Connections.{Peer, Ours, Foreign, Connection, fresh, client, wish_of, output, input, bytes_delivered}
+use Rattle.world.specs.World.{World, ledger, live, Event, Opens, Submit, ToServer, ToClient, Work, PutsNoop, Cut, ClientLost, ServerLost, Feeds, Effect, Seen, quiet, Opened, Submitted, Fed, Gave, SawWork, SawNoop, SawNothing, V3, step, at_conn, at_peer, with_effect, after_effect, work, feed, to_server, give, to_client, taken_for, effect_at_peer, drain, taken_out, noop, server_gone, submit, effect_of_submit}
+use Rattle.exchange.specs.Rest.{commit_entries}
 use Rattle.world.specs.Rests.{server_rest, client_rest, live_of}
 use Rattle.world.specs.Reports.{wrote_by, by_peer, read_after}
 use Rattle.world.specs.Views.{opened_link}
@@ -242,7 +243,7 @@ module _ (G : Type 0) (answer : List EntryView → List WriteView → List ℕ �
       told : FitsLink l k → losses x.knows ≡ by_peer k.peer (losses (knows_of (client k) k.sent false))
       told f =
           let old : FitsClient (Ours wish) l.client l.up k = subst (λ p. FitsClient p l.client l.up k) ours f.client in
-          ap (λ z. losses z.knows) (some_is x (client_rest old.0 k) (sym client_is ∙ old.3))
+          ap (λ z. losses z.knows) (some_is x (client_rest old.out k) (sym client_is ∙ old.client_is))
           ∙ ap (λ b. losses (knows_of (client k) k.sent b)) lives
           ∙ ap (λ p. by_peer p (losses (knows_of (client k) k.sent false))) (sym ours)
 
@@ -261,12 +262,12 @@ module _ (G : Type 0) (answer : List EntryView → List WriteView → List ℕ �
       let served = take_served G gate w c k here lives s m in
       let same = answer_is taken (take m (drop k.taken (output k))) server2 _ (sym h ∙ ap (serving.take_out_at c m) fits.server ∙ served) in
       let old : FitsClient (Ours wish) l.client l.up k = subst (λ p. FitsClient p l.client l.up k) ours f.client in
-      let is : x ≡ client_rest old.0 k = some_is x (client_rest old.0 k) (sym client_is ∙ old.3) in
+      let is : x ≡ client_rest old.out k = some_is x (client_rest old.out k) (sym client_is ∙ old.client_is) in
       let front : take n (l.down ++ taken) ≡ take n (drop k.down (output k)) = ap (λ z. take n (l.down ++ z)) same.0 ∙ front_is l k f s wish ours n still on x client_is in
       let given : to_client n k ≡ e = if_not (k.cut || (k.client_lost || ((client k).ended || (client k).bad))) _ _ (ap₂ (λ a b. a || b) joined (ap₂ (λ a b. a || b) still (ap₂ (λ a b. a || b) on.0 on.1))) in
       let told : e.seen ≡ seen_as u (asking.feed_of x (take n (l.down ++ taken))).answer =
-      sym (give_same k old.0 n still on).1
-      ∙ ap (λ i. seen_as i (asking.feed_of (client_rest old.0 k) (take n (drop k.down (output k)))).answer) (again k.down u)
+      sym (give_same k old.out n still on).1
+      ∙ ap (λ i. seen_as i (asking.feed_of (client_rest old.out k) (take n (drop k.down (output k)))).answer) (again k.down u)
       ∙ ap₂ (λ (y : asking.Rest) (z : List ℕ). seen_as u (asking.feed_of y z).answer) (sym is) (sym front) in
       let length_down : length l.down ≡ k.taken - k.down = held_long l k f s wish ours n still on x client_is in (
         after_effect w c k e,
@@ -349,9 +350,9 @@ module _ (G : Type 0) (answer : List EntryView → List WriteView → List ℕ �
   refused_fits l at wish ours q x client_is fault h =
       let f = at_link l at in
       let old : FitsClient (Ours wish) l.client l.up k = subst (λ p. FitsClient p l.client l.up k) ours f.client in
-      let is : x ≡ client_rest old.0 k = some_is x (client_rest old.0 k) (sym client_is ∙ old.3) in
-      let few : old.0 ≤ length (input (wish_of k.peer) k.sent) = subst (λ p. old.0 ≤ length (input (wish_of p) k.sent)) (sym ours) old.2 in
-      let no : refusal_of (client k) k.client_lost k.sent q ≡ Some fault = refused_same k old.0 q few ∙ ap (λ z. asking.refuses z.knows q) (sym is) ∙ h in
+      let is : x ≡ client_rest old.out k = some_is x (client_rest old.out k) (sym client_is ∙ old.client_is) in
+      let few : old.out ≤ length (input (wish_of k.peer) k.sent) = subst (λ p. old.out ≤ length (input (wish_of p) k.sent)) (sym ours) old.most in
+      let no : refusal_of (client k) k.client_lost k.sent q ≡ Some fault = refused_same k old.out q few ∙ ap (λ z. asking.refuses z.knows q) (sym is) ∙ h in
       (after_effect w c k (quiet k (Submitted (Err fault))), submit_step S w c k here wish q ours ∙ ap (λ o. Ok (after_effect w c k (effect_of_submit q k o), (effect_of_submit q k o).seen)) no, still_fits l at (Submitted (Err fault)))
 
   -- ClientLost, of a client that was lost before: nothing changes.
@@ -374,12 +375,12 @@ module _ (G : Type 0) (answer : List EntryView → List WriteView → List ℕ �
       let all : drop k.taken (output k) ≡ [] = ap (λ i. drop i (output k)) (s.gone gone).1 ∙ drop_whole (output k) in
       let held_is : l.down ++ take (n - length l.down) (drop k.taken (output k)) ≡ l.down = ap (λ z. l.down ++ take (n - length l.down) z) all ∙ ap (λ z. l.down ++ z) (take_none (n - length l.down)) ∙ append-nil l.down in
       let old : FitsClient (Ours wish) l.client l.up k = subst (λ p. FitsClient p l.client l.up k) ours f.client in
-      let is : x ≡ client_rest old.0 k = some_is x (client_rest old.0 k) (sym client_is ∙ old.3) in
+      let is : x ≡ client_rest old.out k = some_is x (client_rest old.out k) (sym client_is ∙ old.client_is) in
       let front : take n l.down ≡ take n (drop k.down (output k)) = ap (take n) (sym held_is) ∙ front_is l k f s wish ours n still on x client_is in
       let given : to_client n k ≡ e = if_not (k.cut || (k.client_lost || ((client k).ended || (client k).bad))) _ _ (ap₂ (λ a b. a || b) joined (ap₂ (λ a b. a || b) still (ap₂ (λ a b. a || b) on.0 on.1))) in
       let told : e.seen ≡ seen_as u (asking.feed_of x (take n l.down)).answer =
-      sym (give_same k old.0 n still on).1
-      ∙ ap (λ i. seen_as i (asking.feed_of (client_rest old.0 k) (take n (drop k.down (output k)))).answer) (again k.down u)
+      sym (give_same k old.out n still on).1
+      ∙ ap (λ i. seen_as i (asking.feed_of (client_rest old.out k) (take n (drop k.down (output k)))).answer) (again k.down u)
       ∙ ap₂ (λ (y : asking.Rest) (z : List ℕ). seen_as u (asking.feed_of y z).answer) (sym is) (sym front) in (
         after_effect w c k e,
         client_step S w c k here wish n ours ∙ ap (λ (y : Effect). Ok (after_effect w c k y, y.seen)) given ∙ ap (λ y. Ok (after_effect w c k e, y)) told,

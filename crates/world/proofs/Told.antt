@@ -1,17 +1,16 @@
 -- A report tells what the model has.
 use Rattle.std.proofs.Common.{◌≡◌, refl, sym, ◌∙◌, ap, ap₂, subst, ℕ, suc, ◌+◌, ◌<◌, ◌≤◌, Bool, Option, Some, None, List, [], ◌∷◌, length, slice_get, slice_index_or, arith}
 use Rattle.engine.specs.Views.{EntryView}
-use Rattle.server.specs.declared.Cause.{Cause}
-use Rattle.client.specs.declared.Outcome.{Outcome}
-use Rattle.machine.specs.declared.Phase.{Phase}
+use Rattle.exchange.specs.declared.Cause.{Cause}
 use Rattle.client.specs.Rest as asking
 use Rattle.world.specs.declared.link.Link.{Link as LinkHeld}
 use Rattle.world.specs.declared.report.Standing.{Standing as StandingTold}
 use Rattle.world.specs.declared.world.World.{World as WorldHeld}
-use Rattle.world.specs.World.{Peer, Ours, Foreign, Connection, World, Said, SaysVersion, SaysNoop, SaysRow, SaysSummary, answer_count, client, Reached}
+use Rattle.world.specs.Connections.{Peer, Ours, Foreign, Connection, Said, SaysVersion, SaysNoop, SaysRow, SaysSummary, answer_count, client}
+use Rattle.world.specs.World.{World, Reached}
 use Rattle.machine.specs.States.{phase_of}
 use Rattle.world.specs.Good.{tellings_of, delivered_whole, server_outcome, Good}
-use Rattle.world.specs.Reports.{by_peer, read_after, summaries_told, waits, ordinals, standing, standing_of}
+use Rattle.world.specs.Reports.{ReadSummary, by_peer, read_after, summaries_told, waits, ordinals, standing, standing_of}
 use Rattle.world.specs.Rests.{client_rest}
 use Rattle.world.specs.Fits.{Link, FitsClient, FitsLink, FitLinks}
 use Rattle.world.specs.Views.{link_of, waiting_at}
@@ -39,12 +38,14 @@ fit_long (m ∷ ms) (k ∷ ks) h = ap suc (fit_long ms ks h.1)
 pub as_many : {E G : Type 0} (entries : E → List EntryView) (s : WorldHeld E G) (gate : G) (w : World) → IsWorld entries s gate w → length s.links.items ≡ length w.conns
 as_many entries s gate w f = hold_long s.links.items f.rest.links f.links ∙ fit_long f.rest.links w.conns f.fits.links
 
-read_long : (xs : List Said) (later : List (ℕ × Phase × Outcome)) → length (read_after (tellings_of xs) later) ≡ answer_count xs + length later
+read_long : (xs : List Said) (later : List ReadSummary) → length (read_after (tellings_of xs) later) ≡ answer_count xs + length later
 read_long [] later = omega arith
 read_long (SaysVersion o ∷ xs) later = read_long xs later
 read_long (SaysNoop ∷ xs) later = read_long xs later
 read_long (SaysRow row ∷ xs) later = read_long xs later
-read_long (SaysSummary x ∷ xs) later = let h = read_long xs ((x.ordinal, phase_of x.state, server_outcome x) ∷ later) in omega (arith, h)
+read_long (SaysSummary x ∷ xs) later =
+    let y : ReadSummary = record { ordinal = x.ordinal; phase = phase_of x.state; outcome = server_outcome x } in
+    let h = read_long xs (y ∷ later) in omega (arith, h)
 
 module _ {E G : Type 0} (entries : E → List EntryView) (answer : Definition) (accepts : G → List ℕ → List ℕ → Bool)
     (s : WorldHeld E G) (gate : G) (w : World) (f : IsWorld entries s gate w) (brought : List EntryView) (reached : Reached (setting_of answer accepts gate) brought w)
@@ -57,10 +58,10 @@ module _ {E G : Type 0} (entries : E → List EntryView) (answer : Definition) (
     held = held_at s.links.items f.rest.links c l f.links few is
 
     abbrev m : Link
-    m = link_of l held.2.0
+    m = link_of l held.2.client
 
     pub there : (k : Connection) × (slice_get w.conns c ≡ Some k) × FitsLink m k
-    there = link_at f.rest.links w.conns c m f.fits.links (held.1 ∙ ap (λ z. Some z) held.2.1)
+    there = link_at f.rest.links w.conns c m f.fits.links (held.1 ∙ ap (λ z. Some z) held.2.link_is)
 
     abbrev k : Connection
     k = there.0
@@ -75,17 +76,17 @@ module _ {E G : Type 0} (entries : E → List EntryView) (answer : Definition) (
         h k.state lives.0 ∙ ap (λ o. standing_of k.state o) lives.1
 
     -- those that wait follow those that were read
-    pub waits_as : (count : ℕ) → length (summaries_told k) ≡ count → waits k ≡ ordinals count (waiting_at held.2.0)
+    pub waits_as : (count : ℕ) → length (summaries_told k) ≡ count → waits k ≡ ordinals count (waiting_at held.2.client)
     waits_as count long = go k.peer refl there.2.client
       where
-        go : (p : Peer) → k.peer ≡ p → FitsClient k.peer m.client m.up k → waits k ≡ ordinals count (waiting_at held.2.0)
+        go : (p : Peer) → k.peer ≡ p → FitsClient k.peer m.client m.up k → waits k ≡ ordinals count (waiting_at held.2.client)
         go (Ours wish) p g =
             let old : FitsClient (Ours wish) m.client m.up k = subst (λ q. FitsClient q m.client m.up k) p g in
-            let y = client_rest old.0 k in
+            let y = client_rest old.out k in
             let good : Good (setting_of answer accepts gate) w c k = headline (setting_of answer accepts gate) brought w reached c k wish there.1 p in
             let n : length (summaries_told k) ≡ (client k).count =
             ap (λ q. length (by_peer q (read_after (client k).told []))) p ∙ ap (λ ts. length (read_after ts [])) good.told ∙ read_long (delivered_whole k) [] ∙ sym (good.count_told ∙ plus_none (answer_count (delivered_whole k))) in
-            waits_are m k there.2 wish p y old.3 ∙ ap₂ (λ i j. ordinals i j) (sym n ∙ long) (ap waiting_at (sym old.3))
+            waits_are m k there.2 wish p y old.client_is ∙ ap₂ (λ i j. ordinals i j) (sym n ∙ long) (ap waiting_at (sym old.client_is))
           where
             plus_none : (i : ℕ) → i ≡ i + 0
             plus_none i = omega arith

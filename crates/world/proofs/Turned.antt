@@ -2,17 +2,18 @@
 use Rattle.std.proofs.Common.{◌≡◌, refl, sym, ◌∙◌, subst, ℕ, ◌-◌, Bool, true, false, Some, None, Ok, Err, List, ◌++◌, length, take, drop, slice_get, slice_set}
 use Rattle.wire.specs.declared.Wish.{Wish}
 use Rattle.engine.specs.Views.{EntryView}
-use Rattle.server.specs.declared.Cause.{Cause}
+use Rattle.exchange.specs.declared.Cause.{Cause}
 use Rattle.server.specs.declared.Server.{Server}
 use Rattle.server.specs.declared.Took.{Took}
-use Rattle.server.specs.declared.What.{What}
-use Rattle.server.specs.Session.{Setting}
+use Rattle.exchange.specs.declared.What.{What}
+use Rattle.exchange.specs.Session.{Setting}
 use Rattle.server.specs.Serving as serving
 use Rattle.server.specs.Views as server
 use Rattle.client.specs.Rest as asking
 use Rattle.world.specs.declared.kinds.Refused.TheVariants.{Memory}
 use Rattle.world.specs.declared.link.Link.{Link as LinkHeld}
-use Rattle.world.specs.World.{Ours, Foreign, Connection, World, ToServer, PutsNoop, Cut, Feeds, quiet, SawNoop, SawNothing, Fed, feed}
+use Rattle.world.specs.Connections.{Ours, Foreign, Connection}
+use Rattle.world.specs.World.{World, ToServer, PutsNoop, Cut, Feeds, quiet, SawNoop, SawNothing, Fed, feed}
 use Rattle.world.specs.Fits.{Link, Rest, FitsLink, Fits}
 use Rattle.world.specs.Contract.{Answers}
 use Rattle.world.specs.Views.{FitsEnd, link_of, end_peer}
@@ -41,7 +42,12 @@ module _ {E G : Type 0} (entries : E → List EntryView) (answer : Definition) (
         (noop_gone G answer accepts r w b.fits (all_sound entries answer accepts (PutsNoop c) l s r w b) c here.0 here.1 (link_of l b.client) b.at cause gone) (λ w2. tt) tt
 
     pub noop_lacks : (s2 : Server E G) → server.Fits entries s2 r.server → Answers T w (PutsNoop c) (Err Memory) (Now_ l s2)
-    noop_lacks s2 serves = (ok_of _ _ (noop_step T w c here.0 here.1), (w, refl, still entries answer accepts (PutsNoop c) l s r w b l s2 refl b.ends serves))
+    noop_lacks s2 serves = record {
+      may = ok_of _ _ (noop_step T w c here.0 here.1);
+      after = w;
+      leaves = refl;
+      now = still entries answer accepts (PutsNoop c) l s r w b l s2 refl b.ends serves;
+    }
 
     pub noop_done : (s2 : Server E G) (put : Bool) → l.gone ≡ None → serving.Answers (Ok put) (serving.noop_at c r.server) r.server (server.Fits entries s2) → Answers T w (PutsNoop c) (Ok (SawNoop put)) (Now_ l s2)
     noop_done s2 put lives a =
@@ -94,22 +100,20 @@ module _ {E G : Type 0} (entries : E → List EntryView) (answer : Definition) (
     pub server_lacks : (y : asking.Rest) → b.client ≡ Some y → (j : ℕ) (l2 : LinkHeld) (s2 : Server E G)
         → link_of l2 (Some (asking.taken_out y j)) ≡ record m_up { client = Some (asking.taken_out y j); up = m_up.up ++ take j y.unsent } → FitsEnd l2.end (Some (asking.taken_out y j))
         → server.Fits entries s2 r.server → Answers T w (ToServer c n) (Err Memory) (Now_ l2 s2)
-    server_lacks y is j l2 s2 same ends serves = (
-      ok_of _ _ (server_step T w c k_up at_up.1 wish n peer_up),
-      (
-        w,
-        refl,
-        record {
-          client = Some (asking.taken_out y j);
-          rest = r.server;
-          ends = ends;
-          server = serves;
-          gated = refl;
-          fits = subst (λ z. Fits (record { links = slice_set r.links c z; server = r.server }) w) (sym same)
-              (relinked entries answer accepts (ToServer c n) l s r w b _ (held_link m_up k_up at_up.2 wish peer_up j y is));
-        },
-      ),
-    )
+    server_lacks y is j l2 s2 same ends serves = record {
+      may = ok_of _ _ (server_step T w c k_up at_up.1 wish n peer_up);
+      after = w;
+      leaves = refl;
+      now = record {
+        client = Some (asking.taken_out y j);
+        rest = r.server;
+        ends = ends;
+        server = serves;
+        gated = refl;
+        fits = subst (λ z. Fits (record { links = slice_set r.links c z; server = r.server }) w) (sym same)
+            (relinked entries answer accepts (ToServer c n) l s r w b _ (held_link m_up k_up at_up.2 wish peer_up j y is));
+      };
+    }
 
     pub server_done : (y : asking.Rest) → b.client ≡ Some y → (l2 : LinkHeld) (s2 : Server E G) (took : Took) → l.gone ≡ None → l.is_cut ≡ false
         → let j = n - length m_up.up in let held = m_up.up ++ take j y.unsent in
@@ -155,7 +159,12 @@ module _ {E G : Type 0} (entries : E → List EntryView) (answer : Definition) (
 
     pub foreign_lacks : (s2 : Server E G) → server.Fits entries s2 r.server → Answers T w (Feeds c bytes) (Err Memory) (Now_ l s2)
     foreign_lacks s2 serves =
-        (ok_of _ _ (steps_foreign T w c k_feed at_feed.1 (Feeds c bytes) (feed bytes k_feed) peer_feed refl), (w, refl, still entries answer accepts (Feeds c bytes) l s r w b l s2 refl b.ends serves))
+        record {
+          may = ok_of _ _ (steps_foreign T w c k_feed at_feed.1 (Feeds c bytes) (feed bytes k_feed) peer_feed refl);
+          after = w;
+          leaves = refl;
+          now = still entries answer accepts (Feeds c bytes) l s r w b l s2 refl b.ends serves;
+        }
 
     pub foreign_done : (s2 : Server E G) (took : Took) → l.gone ≡ None → l.is_cut ≡ false → serving.Answers (Ok took) (serving.feed_at c bytes r.server) r.server (server.Fits entries s2)
         → Answers T w (Feeds c bytes) (Ok (Fed took.used took.what)) (Now_ l s2)

@@ -1,12 +1,13 @@
 -- What an event does at the link of its connection: from what the calls of the ends answered to the whole answer.
 use Rattle.std.proofs.Common.{◌≡◌, refl, sym, ◌∙◌, ap, subst, ℕ, zero, suc, Bool, Option, Some, None, option_map, Result, Ok, Err, IsOk, List, [], ◌∷◌, ◌++◌, slice_get, slice_set}
 use Rattle.engine.specs.Views.{EntryView}
-use Rattle.server.specs.declared.Cause.{Cause}
+use Rattle.exchange.specs.declared.Cause.{Cause}
 use Rattle.server.specs.declared.Server.{Server}
-use Rattle.server.specs.declared.Worked.{Worked}
+use Rattle.exchange.specs.declared.Worked.{Worked}
 use Rattle.server.specs.declared.Refused.{Refused as ServerRefused}
 use Rattle.server.specs.declared.Refused.TheVariants as server_refused
-use Rattle.server.specs.Session.{Setting}
+use Rattle.exchange.specs.Session.{Setting}
+use Rattle.exchange.specs.Rest.{IsCounted}
 use Rattle.server.specs.Serving as serving
 use Rattle.server.specs.Views as server
 use Rattle.client.specs.Rest as asking
@@ -15,12 +16,13 @@ use Rattle.world.specs.declared.kinds.Refused.TheVariants.{WrongPeer, Memory}
 use Rattle.world.specs.declared.kinds.Seen.{Seen as SeenTold}
 use Rattle.world.specs.declared.link.End.{End}
 use Rattle.world.specs.declared.link.Link.{Link as LinkHeld}
-use Rattle.world.specs.World.{Connection, World, Event, Work, Seen, SawWork, place, step, IsCountedIn}
+use Rattle.world.specs.Connections.{Connection}
+use Rattle.world.specs.World.{World, Event, Work, Seen, SawWork, place, step, IsCountedIn}
 use Rattle.world.specs.Reports.{wrote_by}
 use Rattle.world.specs.Fits.{Link, Rest, FitsLink, FitLinks, Fits}
 use Rattle.world.proofs.Fitting.{fit_set}
 use Rattle.world.specs.Contract.{Answers}
-use Rattle.world.specs.Seeing.{IsOpens, IsWrong}
+use Rattle.world.specs.Seeing.{IsOpens, IsWrong, ComesWrong}
 use Rattle.world.specs.Views.{FitsEnd, link_of, end_peer, seen_of}
 use Rattle.world.specs.Turns.{Definition, Now, Before}
 use Rattle.world.proofs.Headline.{reached_keeps}
@@ -96,7 +98,14 @@ module _ {E G : Type 0} (entries : E → List EntryView) (answer : Definition) (
   unmoved = still l s refl b.ends b.server
 
   pub wrong : (IsOpens e → ⊥) → IsWrong e (end_peer l.end) → Answers S w e (Err WrongPeer) (Now entries answer accepts r (place e) l s)
-  wrong opens h = ((refuses_exactly S w e).wrong_peer.1 (found.0, opens, found.1, subst (IsWrong e) found.2.peer h), unmoved)
+  wrong opens h =
+      let comes : ComesWrong w e = record {
+        connection = found.0;
+        no_opening = opens;
+        here = found.1;
+        wrong = subst (IsWrong e) found.2.peer h;
+      } in
+      ((refuses_exactly S w e).wrong_peer.1 comes, unmoved)
 
   -- where what is seen is known by an equation
   pub seen_by : (x y : SeenTold) (l2 : LinkHeld) (s2 : Server E G) → x ≡ y → Answers S w e (Ok (seen_of y)) (Now entries answer accepts r (place e) l2 s2) → Answers S w e (Ok (seen_of x)) (Now entries answer accepts r (place e) l2 s2)
@@ -135,9 +144,14 @@ module _ {E G : Type 0} (entries : E → List EntryView) (answer : Definition) (
         (work_gone G answer accepts r w b.fits (all_sound entries answer accepts (Work c) l s r w b) c k here (link_of l b.client) b.at cause gone) (λ w2. tt) tt
 
     pub work_lacks : (l2 : LinkHeld) (s2 : Server E G) → link_of l2 b.client ≡ link_of l b.client → FitsEnd l2.end b.client → server.Fits entries s2 r.server → Answers T w (Work c) (Err Memory) (Now_ l2 s2)
-    work_lacks l2 s2 same ends serves = (ok_of _ _ (work_step T w c k here), (w, refl, still entries answer accepts (Work c) l s r w b l2 s2 same ends serves))
+    work_lacks l2 s2 same ends serves = record {
+      may = ok_of _ _ (work_step T w c k here);
+      after = w;
+      leaves = refl;
+      now = still entries answer accepts (Work c) l s r w b l2 s2 same ends serves;
+    }
 
-    pub work_done : (l2 : LinkHeld) (s2 : Server E G) (worked : Worked) → l.gone ≡ None → serving.IsCounted worked
+    pub work_done : (l2 : LinkHeld) (s2 : Server E G) (worked : Worked) → l.gone ≡ None → IsCounted worked
         → link_of l2 b.client ≡ record (link_of l b.client) { wrote = (link_of l b.client).wrote ++ wrote_by worked } → FitsEnd l2.end b.client
         → serving.Answers (Ok worked) (serving.work_at answer accepts c r.server) r.server (server.Fits entries s2) → Answers T w (Work c) (Ok (SawWork worked)) (Now_ l2 s2)
     work_done l2 s2 worked lives counted same ends a =

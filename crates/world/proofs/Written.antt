@@ -6,7 +6,6 @@ use Rattle.wire.specs.declared.Wish.{Wish}
 use Rattle.wire.specs.Offers.{wish_version}
 use Rattle.wire.specs.Framing.{bytes_newest_first}
 use Rattle.messages.specs.declared.MsgFault.{MsgFault}
-use Rattle.messages.specs.declared.MsgFault.TheVariants as msg_fault
 use Rattle.messages.specs.View.{RequestView}
 use Rattle.messages.specs.Writing.{request_spelling}
 use Rattle.messages.specs.Arrivals.{Arrival, Shook, NoMagic, Asked, Unread, TooLong, IsWritten, AreWritten, heard_bytes}
@@ -17,15 +16,16 @@ use Rattle.machine.specs.Asks.{kind_of, is_reset}
 use Rattle.machine.specs.declared.State.{State}
 use Rattle.machine.specs.Following.{interruptible}
 use Rattle.engine.specs.Views.{EntryView}
-use Rattle.server.specs.declared.Cause.{Cause}
-use Rattle.server.specs.declared.What.{What}
-use Rattle.server.specs.declared.Worked.{Worked}
-use Rattle.server.specs.Session.{Setting, no_result, no_tx, Reply, OneRow, Summary, Bye}
-use Rattle.server.specs.Rest.{unread_among, reset_among}
+use Rattle.exchange.specs.declared.Cause.{Cause}
+use Rattle.exchange.specs.declared.What.{What}
+use Rattle.exchange.specs.declared.Worked.{Worked}
+use Rattle.exchange.specs.Session.{Setting, no_result, no_tx, Reply, OneRow, Summary, Bye}
+use Rattle.exchange.specs.Rest.{unread_among, reset_among}
 use Rattle.client.specs.declared.SubmitFault.{SubmitFault}
 use Rattle.client.specs.declared.SubmitFault.TheVariants as submit_fault
 use Rattle.client.specs.Client.{Reading, refusal_of, reading_of, may, writing_fault, writing_fault_by}
-use Rattle.world.specs.World.{Peer, Ours, Foreign, input, to_server, Connection, World, fresh, Event, Opens, Submit, ToServer, ToClient, Work, PutsNoop, Cut, ClientLost, ServerLost, Feeds, Seen, Opened, Submitted, Fed, Gave, SawWork, SawNoop, SawNothing, Refusal, V2, V3, Effect, quiet, wish_of, said_version, answer_count, waiting, arrivals_at, output, client, heard_as, effect_of_submit, take_item, feed, take_item, to_client, drain, write, turn, work, noop, strike_if, at_ours, at_foreign, at_peer, after_effect, with_effect, at_conn, result_of_open, live, ledger, step, IsMade}
+use Rattle.world.specs.Connections.{Peer, Ours, Foreign, input, Connection, fresh, wish_of, said_version, answer_count, waiting, arrivals_at, output, client, heard_as, strike_if}
+use Rattle.world.specs.World.{to_server, World, Event, Opens, Submit, ToServer, ToClient, Work, PutsNoop, Cut, ClientLost, ServerLost, Feeds, Seen, Opened, Submitted, Fed, Gave, SawWork, SawNoop, SawNothing, Refusal, V2, V3, Effect, quiet, effect_of_submit, take_item, feed, take_item, to_client, drain, write, turn, work, noop, at_ours, at_foreign, at_peer, after_effect, with_effect, at_conn, result_of_open, live, ledger, step, IsMade}
 use Rattle.world.proofs.Kept.{Inv, Talk, tells}
 
 abbrev pub AllWritten : World → Type 0
@@ -252,8 +252,7 @@ none_else false x o h = h
 
 written_by : (x : Result (List ℕ) MsgFault) → writing_fault_by x ≡ None → (b : List ℕ) × (x ≡ Ok b)
 written_by (Ok b) h = (b, refl)
-written_by (Err msg_fault.Size) h = cc
-written_by (Err _) h = cc
+written_by (Err e) h = cc
 
 accepted_text : (r : Reading) (lost : Bool) (sent : List RequestView) (q : RequestView) (v : Version) → refusal_of r lost sent q ≡ None → r.version ≡ Some v → (b : List ℕ) × (request_spelling v q ≡ Ok b)
 accepted_text r lost sent q v h e =

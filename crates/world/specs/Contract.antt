@@ -1,7 +1,7 @@
 -- What a step of a world answers, and what it leaves.
 use Rattle.std.specs.Prelude.{◌≡◌, ◌⊎◌, List, Result, Ok, Err, IsOk, IsErr, [], ◌∷◌, slice_get}
 use Rattle.engine.specs.Views.{EntryView}
-use Rattle.server.specs.Session.{Setting}
+use Rattle.exchange.specs.Session.{Setting}
 use Rattle.world.specs.declared.kinds.Refused.{Refused}
 use Rattle.world.specs.declared.kinds.Refused.TheVariants.{NoSuchConnection, WrongPeer, SessionsFull, Memory}
 use Rattle.world.specs.World.{World, Event, ToClient, Cut, ClientLost, Seen, V1, V2, V3, step, WStep, taken_out, Reached}
@@ -18,13 +18,30 @@ abbrev pub Leaves : World → Event → World → Type 0
 Leaves w (ToClient c n) w2 = (w2 ≡ w) ⊎ (w2 ≡ taken_out w c n (slice_get w.conns c))
 Leaves w e w2 = w2 ≡ w
 
+-- a step that is done, and what is fitted then
+pub record Succeeds (S : Setting) (w : World) (e : Event) (seen : Seen) (Now : World → Type 0)
+    : Type 0 where
+  -- the world that it leads to
+  pub after : World
+  pub steps : WStep S w e seen after
+  pub good : AllGood S after
+  pub now : Now after
+
+-- a step that lacks memory, and what is fitted then
+pub record Lacks (S : Setting) (w : World) (e : Event) (Now : World → Type 0) : Type 0 where
+  pub may : MayLack S w e
+  -- the world that it leaves
+  pub after : World
+  pub leaves : Leaves w e after
+  pub now : Now after
+
 -- the answer of a step, where the world fitted this one; and what is fitted then
 abbrev pub Answers : Setting → World → Event → Result Seen Refused → (World → Type 0) → Type 0
-Answers S w e (Ok seen) Now = (w2 : World) × WStep S w e seen w2 × AllGood S w2 × Now w2
+Answers S w e (Ok seen) Now = Succeeds S w e seen Now
 Answers S w e (Err NoSuchConnection) Now = (step S w e ≡ Err V1) × Now w
 Answers S w e (Err WrongPeer) Now = (step S w e ≡ Err V2) × Now w
 Answers S w e (Err SessionsFull) Now = (step S w e ≡ Err V3) × Now w
-Answers S w e (Err Memory) Now = MayLack S w e × ((w2 : World) × Leaves w e w2 × Now w2)
+Answers S w e (Err Memory) Now = Lacks S w e Now
 
 -- `step` of an object of which Fitted tells the worlds that it fits, before and after the call
 abbrev pub Steps : Setting → Event → Result Seen Refused → (World → Type 0) → (World → Type 0)

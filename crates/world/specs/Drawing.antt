@@ -1,15 +1,17 @@
 -- What is taken out of a session, to be given to its peer.
 use Rattle.std.specs.Prelude.{◌≡◌, ◌⊎◌, ℕ, Option, Some, None, Result, Ok, Err, List, ◌++◌}
 use Rattle.std.specs.declared.alloc.AllocError.{AllocError}
-use Rattle.server.specs.declared.Cause.{Cause}
+use Rattle.exchange.specs.declared.Cause.{Cause}
 use Rattle.server.specs.Serving.{Rest, take_out_at}
 
 module _ {G : Type 0} where
   -- so many bytes came out, and are held behind the others
-  abbrev pub Takes : ℕ → ℕ → Rest G → List ℕ → List ℕ → (Rest G → Type 0) → Type 0
-  Takes c n r old new Now =
-      (taken : List ℕ) × (after : Rest G) × (take_out_at c n r ≡ Some (taken, after))
-      × (new ≡ old ++ taken) × Now after
+  pub record Takes (c n : ℕ) (r : Rest G) (old new : List ℕ) (Now : Rest G → Type 0) : Type 0 where
+    pub taken : List ℕ
+    pub after : Rest G
+    pub out : take_out_at c n r ≡ Some (taken, after)
+    pub held : new ≡ old ++ taken
+    pub now : Now after
 
   -- of a session that was given up none; where there is no room for them, they came out or didn't
   abbrev pub Draws : Option Cause → ℕ → ℕ → Rest G → List ℕ → Result (Unit {0}) AllocError → List ℕ

@@ -1,3 +1,4 @@
+pub mod Connections
 pub mod World
 pub mod Good
 pub mod Rests
@@ -8,6 +9,7 @@ pub mod Seeing
 pub mod Others
 pub mod Views
 pub mod Turns
+pub mod Replayed
 pub mod Drawing
 pub mod Reported
 pub mod Limits

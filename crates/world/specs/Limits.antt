@@ -2,11 +2,12 @@
 use Rattle.std.specs.Prelude.{◌≡◌, ℕ, ◌≤◌, false, Some, List, length, slice_get}
 use Rattle.wire.specs.declared.Wish.{Wish}
 use Rattle.engine.specs.Views.{EntryView}
-use Rattle.server.specs.Session.{Setting}
+use Rattle.exchange.specs.Session.{Setting}
 use Rattle.server.specs.Running.{Bounded}
 use Rattle.client.specs.Moments.{opened_bytes}
 use Rattle.client.specs.Rest as asking
-use Rattle.world.specs.World.{Ours, Connection, World, live, Reached}
+use Rattle.world.specs.Connections.{Ours, Connection}
+use Rattle.world.specs.World.{World, live, Reached}
 use Rattle.world.specs.Rests.{live_of, client_rest}
 
 -- a client: the requests that wait, and the bytes of an unfinished message

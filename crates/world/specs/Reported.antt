@@ -2,13 +2,14 @@
 use Rattle.std.specs.Prelude.{◌≡◌, ℕ, Option, Some, None, List, length, map, slice_get}
 use Rattle.machine.specs.declared.State.{State}
 use Rattle.engine.specs.Views.{EntryView}
-use Rattle.server.specs.declared.Cause.{Cause}
+use Rattle.exchange.specs.declared.Cause.{Cause}
 use Rattle.server.specs.Serving as serving
 use Rattle.world.specs.declared.report.Connection.{Connection as ConnectionTold}
 use Rattle.world.specs.declared.report.Report.{Report as ReportLent}
 use Rattle.world.specs.declared.report.Standing.{Standing as StandingTold}
 use Rattle.world.specs.declared.report.Standing.TheVariants as standing_told
-use Rattle.world.specs.World.{Connection, World}
+use Rattle.world.specs.Connections.{Connection}
+use Rattle.world.specs.World.{World}
 use Rattle.world.specs.Reports.{Standing, stands, has_ended, standing_of, wrote, summaries_told, outcomes_at_loss, waits, ordinals, standing}
 use Rattle.world.specs.Views.{peer_of, wrote_of, read_of}
 use Rattle.world.specs.Turns.{FitsWorld}

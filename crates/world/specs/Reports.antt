@@ -3,12 +3,12 @@ use Rattle.std.specs.Prelude.{ℕ, zero, suc, false, if◌then◌else◌, Option
 use Rattle.machine.specs.declared.State.{State}
 use Rattle.machine.specs.declared.Phase.{Phase}
 use Rattle.machine.specs.States.{phase_of}
-use Rattle.server.specs.declared.Cause.{Cause}
-use Rattle.server.specs.declared.Worked.{Worked}
+use Rattle.exchange.specs.declared.Cause.{Cause}
+use Rattle.exchange.specs.declared.Worked.{Worked}
 use Rattle.client.specs.declared.Outcome.{Outcome}
 use Rattle.client.specs.Client.{Told, GotRow, Got}
 use Rattle.client.specs.Rest.{knows_of, losses}
-use Rattle.world.specs.World.{Said, SaysSummary, Peer, Ours, Foreign, Connection, client}
+use Rattle.world.specs.Connections.{Said, SaysSummary, Peer, Ours, Foreign, Connection, client}
 
 -- the summaries that the server wrote, the oldest first: ordinal and phase
 abbrev pub wrote_after : List Said → List (ℕ × Phase) → List (ℕ × Phase)
@@ -25,11 +25,21 @@ abbrev pub wrote_by : Worked → List (ℕ × Phase)
 wrote_by (Worked.Wrote ordinal kind state entry) = (ordinal, phase_of state) ∷ []
 wrote_by _ = []
 
--- those that the client read, the oldest first: ordinal, phase and outcome
-abbrev pub read_after : List Told → List (ℕ × Phase × Outcome) → List (ℕ × Phase × Outcome)
+-- a summary that a client read
+pub record ReadSummary : Type 0 where
+  -- its request's ordinal
+  pub ordinal : ℕ
+  -- the phase that it leads to
+  pub phase : Phase
+  -- what became of the request
+  pub outcome : Outcome
+
+-- those that the client read, the oldest first
+abbrev pub read_after : List Told → List ReadSummary → List ReadSummary
 read_after [] later = later
 read_after (GotRow row ∷ ts) later = read_after ts later
-read_after (Got i p o a ∷ ts) later = read_after ts ((i, p, o) ∷ later)
+read_after (Got i p o a ∷ ts) later =
+    read_after ts (record { ordinal = i; phase = p; outcome = o } ∷ later)
 
 -- of a foreign peer nothing is known
 abbrev pub by_peer : {A : Type 0} → Peer → List A → List A
@@ -37,7 +47,7 @@ by_peer (Ours wish) xs = xs
 by_peer Foreign xs = []
 
 -- the summaries that the client of a connection read, the oldest first
-abbrev pub summaries_told : Connection → List (ℕ × Phase × Outcome)
+abbrev pub summaries_told : Connection → List ReadSummary
 summaries_told k = by_peer k.peer (read_after (client k).told [])
 
 -- the outcomes that the client gave when it was lost

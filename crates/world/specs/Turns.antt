@@ -4,7 +4,7 @@ use Rattle.engine.specs.declared.Mode.{Mode as QueryMode}
 use Rattle.engine.specs.Views.{EntryView, WriteView, ParameterView, AnswerView, QueryFault}
 use Rattle.server.specs.declared.Server.{Server}
 use Rattle.server.specs.Serving as serving
-use Rattle.server.specs.Session.{Setting}
+use Rattle.exchange.specs.Session.{Setting}
 use Rattle.server.specs.Views as server
 use Rattle.messages.specs.View.{RequestView}
 use Rattle.client.specs.Fits.{IsAccepted}
@@ -16,10 +16,11 @@ use Rattle.world.specs.declared.kinds.Refused.{Refused}
 use Rattle.world.specs.declared.link.Link.{Link as LinkHeld}
 use Rattle.world.specs.declared.world.World.{World as WorldHeld}
 use Rattle.world.specs.declared.kinds.Refused.TheVariants.{WrongPeer, Memory}
-use Rattle.world.specs.World.{World, Foreign, Event, Seen, Submitted, SawNothing, place, Reached}
+use Rattle.world.specs.Connections.{Foreign}
+use Rattle.world.specs.World.{World, Event, Seen, Submitted, SawNothing, place, Reached}
 use Rattle.world.specs.Fits.{Link, Rest, Fits}
 use Rattle.world.specs.Views.{seen_of, link_of, FitsEnd}
-use Rattle.world.specs.Contract.{Answers, Replays}
+use Rattle.world.specs.Contract.{Answers, Follows, Replays}
 
 -- an engine's definition and a gate's
 abbrev pub Definition : Type 0
@@ -36,17 +37,38 @@ seen_in (Ok seen) = Ok (seen_of seen)
 seen_in (Err refused) = Err refused
 
 -- what is held of a connection stands as this link
-abbrev pub Holds : LinkHeld → Link → Type 0
-Holds l m = (x : Option asking.Rest) × (m ≡ link_of l x) × FitsEnd l.end x
+pub record Holds (l : LinkHeld) (m : Link) : Type 0 where
+  pub client : Option asking.Rest
+  pub link_is : m ≡ link_of l client
+  pub ends : FitsEnd l.end client
+
+-- a link with a client, and what is held then
+pub record HasClient (m : Link) (Now : asking.Rest → Type 0) : Type 0 where
+  pub client : asking.Rest
+  pub here : m.client ≡ Some client
+  pub now : Now client
+
+-- a request that the client of a link accepts, with this ordinal; and what is held then
+pub record SubmitsWell (m : Link) (q : RequestView) (ordinal : ℕ) (Now : Link → Type 0)
+    : Type 0 where
+  pub client : asking.Rest
+  pub here : m.client ≡ Some client
+  pub accepted : IsAccepted client q ordinal
+  pub now : Now (record m { client = Some (asking.after_submit client q) })
+
+-- one that it refuses
+pub record SubmitsInVain (m : Link) (q : RequestView) (fault : SubmitFault) (Now : Link → Type 0)
+    : Type 0 where
+  pub client : asking.Rest
+  pub here : m.client ≡ Some client
+  pub refused : asking.refuses client.knows q ≡ Some fault
+  pub now : Now m
 
 -- what a client is asked at a link; and what is held then
 abbrev pub Submits : Link → RequestView → Result Seen Refused → (Link → Type 0) → Type 0
-Submits m q (Ok (Submitted (Ok n))) Now =
-    (y : asking.Rest) × (m.client ≡ Some y) × IsAccepted y q n
-    × Now (record m { client = Some (asking.after_submit y q) })
-Submits m q (Ok (Submitted (Err fault))) Now =
-    (y : asking.Rest) × (m.client ≡ Some y) × (asking.refuses y.knows q ≡ Some fault) × Now m
-Submits m q (Err Memory) Now = (y : asking.Rest) × (m.client ≡ Some y) × Now m
+Submits m q (Ok (Submitted (Ok n))) Now = SubmitsWell m q n Now
+Submits m q (Ok (Submitted (Err fault))) Now = SubmitsInVain m q fault Now
+Submits m q (Err Memory) Now = HasClient m (λ y. Now m)
 Submits m q (Err WrongPeer) Now = (m.peer ≡ Foreign) × Now m
 Submits m q result Now = ⊥
 
@@ -66,8 +88,7 @@ after_loss false m y = record m {
 
 -- what ClientLost answers at a link, refused of a foreign peer; and what is held then
 abbrev pub LosesClient : Link → Result Seen Refused → (Link → Type 0) → Type 0
-LosesClient m (Ok SawNothing) Now =
-    (y : asking.Rest) × (m.client ≡ Some y) × Now (after_loss m.client_lost m y)
+LosesClient m (Ok SawNothing) Now = HasClient m (λ y. Now (after_loss m.client_lost m y))
 LosesClient m (Err WrongPeer) Now = (m.peer ≡ Foreign) × Now m
 LosesClient m result Now = ⊥
 
@@ -120,6 +141,14 @@ module _ {E G : Type 0} (entries : E → List EntryView) (answer : Definition)
       (r : Rest G) (w : World) → Before e l s r w
       → Answers (serving.setting answer accepts r.server) w e (seen_in result)
       (Now r (place e) l2 s2)
+
+-- A world that fits what one event leads to from a world, or the same world where the event is refused and left out.
+pub record GoesBy {E G : Type 0} (entries : E → List EntryView) (S : Setting) (gate : G)
+    (brought : List EntryView) (w : World) (e : Event) (s : WorldHeld E G) : Type 0 where
+  pub after : World
+  pub follows : Follows S w e after
+  pub reached : Reached S brought after
+  pub fits : FitsWorld entries s gate after
 
 -- A world that fits what events lead to from a world, in order, those left out that are refused.
 pub record Goes {E G : Type 0} (entries : E → List EntryView) (S : Setting) (gate : G)

@@ -18,7 +18,9 @@ use Rattle.world.specs.declared.link.End.TheVariants as end
 use Rattle.world.specs.declared.link.Link.{Link as LinkHeld}
 use Rattle.world.specs.declared.link.Read.{Read}
 use Rattle.world.specs.declared.link.Wrote.{Wrote}
-use Rattle.world.specs.World.{Peer, Ours, Foreign, Event, Opens, Submit, ToServer, ToClient, Work, PutsNoop, Cut, ClientLost, ServerLost, Feeds, Seen, Opened, Submitted, Fed, Gave, SawWork, SawNoop, SawNothing}
+use Rattle.world.specs.Connections.{Peer, Ours, Foreign}
+use Rattle.world.specs.World.{Event, Opens, Submit, ToServer, ToClient, Work, PutsNoop, Cut, ClientLost, ServerLost, Feeds, Seen, Opened, Submitted, Fed, Gave, SawWork, SawNoop, SawNothing}
+use Rattle.world.specs.Reports.{ReadSummary}
 use Rattle.world.specs.Fits.{Link}
 
 -- bytes on their way, in order: those that are joined, then those that lie apart
@@ -57,9 +59,9 @@ seen_of seen.Nothing = SawNothing
 abbrev pub wrote_of : Wrote → ℕ × Phase
 wrote_of x = (x.ordinal, x.phase)
 
--- a summary that a client read: its request's ordinal, its phase, and the outcome
-abbrev pub read_of : Read → ℕ × Phase × Outcome
-read_of x = (x.ordinal, x.phase, x.outcome)
+-- a summary that a client read, as contracts see it
+abbrev pub read_of : Read → ReadSummary
+read_of x = record { ordinal = x.ordinal; phase = x.phase; outcome = x.outcome }
 
 -- the outcomes at a client's loss, none where it wasn't lost
 abbrev pub losses_of : Option (List (ℕ × Outcome)) → List (ℕ × Outcome)
@@ -124,8 +126,10 @@ opened_link p = record {
 }
 
 -- an end of a connection that is opened: of this peer, its client at the beginning and not lost
-abbrev pub Begins : PeerTold → End → Type 0
-Begins p e = (end_peer e ≡ peer_of p) × (end_lost e ≡ None) × FitsEnd e (client_of (peer_of p))
+pub record Begins (p : PeerTold) (e : End) : Type 0 where
+  pub peer : end_peer e ≡ peer_of p
+  pub lost : end_lost e ≡ None
+  pub client : FitsEnd e (client_of (peer_of p))
 
 -- what is held of a connection that is opened with this peer
 abbrev pub IsOpened : PeerTold → LinkHeld → Type 0

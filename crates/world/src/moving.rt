@@ -5,7 +5,8 @@ ghost use Rattle.client.specs.Moments.{tellings};
 ghost use Rattle.world.specs.Views.{read_of, end_peer, flow_of};
 ghost use Rattle.world.specs.Reports.{read_after};
 ghost use Rattle.world.specs.Turns.{Turns};
-ghost use Rattle.world.specs.World.{ToServer, ToClient, Feeds, Foreign as ForeignPeer};
+ghost use Rattle.world.specs.Connections.{Foreign as ForeignPeer};
+ghost use Rattle.world.specs.World.{ToServer, ToClient, Feeds};
 
 use crate::drawing::{draw_down, draw_up};
 use crate::flow::Flow;

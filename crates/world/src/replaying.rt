@@ -1,12 +1,10 @@
 //! A list of events, one after the other.
-ghost use Rattle.std.specs.Prelude.{◌≡◌, List, [], map, codes, IfOk, IfErr, OnOk};
+ghost use Rattle.std.specs.Prelude.{◌≡◌, List, [], map, IfOk, IfErr, OnOk};
 ghost use Rattle.engine.specs.Views.{EntryView};
-ghost use Rattle.engine.specs.Queries.{fixed_answer};
-ghost use Rattle.engine.specs.Kept.{is_user, ledger_of, principal_of, credentials_of};
-ghost use Rattle.world.specs.World.{World as WorldSeen, empty, Reached};
-ghost use Rattle.world.specs.Contract.{Follows, Replays};
+ghost use Rattle.world.specs.World.{World as WorldSeen, Reached};
 ghost use Rattle.world.specs.Views.{event_of};
-ghost use Rattle.world.specs.Turns.{FitsWorld, setting_of, Goes};
+ghost use Rattle.world.specs.Turns.{FitsWorld, setting_of, Goes, GoesBy};
+ghost use Rattle.world.specs.Replayed.{Replayed};
 
 use crate::kinds::{Event, Refused, Seen};
 use crate::world::World;
@@ -16,11 +14,7 @@ use std::alloc::{AllocError, Global};
 /// The world after one step for each event in order, over an empty `FixedTable` and the gate of `user` with `pass`. Events that V1
 /// to V3 refuse are left out, and no others; V4 where a step, or making the gate, finds no memory.
 pub fn replay(alloc: Global, events: &[Event]) -> Result<World<FixedTable, OneUser>, Refused>
-    ensures ok { IfOk result
-        (λ world. (gate : OneUser) × (principal_of gate ≡ codes "user")
-        × (credentials_of gate ≡ codes "pass")
-        × Goes ledger_of (setting_of fixed_answer is_user gate) gate [] (empty [])
-        (map event_of events.now) world) }
+    ensures ok { IfOk result (Replayed (map event_of events.now)) }
     ensures fault { IfErr result (λ e. e ≡ Refused.Memory) }
 {
     let Ok(gate) = OneUser::new(alloc, "user", "pass") else {
@@ -54,7 +48,8 @@ fn follow<E: Engine, G: Gate>(world: &mut World<E, G>, event: &Event) -> Result<
     ensures { (gate : G) (brought : List EntryView) (w : WorldSeen)
         → Reached (setting_of E.answer G.accepts gate) brought w
         → FitsWorld E.entries world.old gate w
-        → OnOk result ((w2 : WorldSeen) × Follows (setting_of E.answer G.accepts gate) w (event_of event.now) w2 × Reached (setting_of E.answer G.accepts gate) brought w2 × FitsWorld E.entries world.new gate w2) }
+        → OnOk result (GoesBy E.entries (setting_of E.answer G.accepts gate) gate brought w
+        (event_of event.now) world.new) }
 {
     let event = event.clone()?;
     settled(world.step(event))

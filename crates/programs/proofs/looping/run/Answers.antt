@@ -3,7 +3,7 @@ use Rattle.programs.proofs.Stops.{some_of, broken_stops}
 use Rattle.programs.proofs.looping.run.Goals as goal
 
 pub returns-in-Err-Unreadable-clause-unreadable : goal.returns-in-Err-Unreadable-clause-unreadable
-returns-in-Err-Unreadable-clause-unreadable g c = λ e. (some_of _ _ _ (rw c.in-Err-Unreadable.field-0-is at c.in-Err-Unreadable.ensures), refl, refl, refl, refl)
+returns-in-Err-Unreadable-clause-unreadable g c = λ e. record { line = some_of _ _ _ (rw c.in-Err-Unreadable.field-0-is at c.in-Err-Unreadable.ensures); same_server = refl; same_near = refl; same_far = refl; same_out = refl }
 
 pub returns-in-Err-clause-unreadable : goal.returns-in-Err-clause-unreadable
 returns-in-Err-clause-unreadable g c = λ e. absurd (broken_stops c.in-Err.fault e)

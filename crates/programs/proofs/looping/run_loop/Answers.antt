@@ -9,7 +9,7 @@ pub returns-in-Err-clause-ends : goal.returns-in-Err-clause-ends
 returns-in-Err-clause-ends g c = ends_told c.in-Err.stop c.put_stop.result _ _ _ _ _ (λ e. c.in-Err.ensures.read (ap Err e)) (λ e. c.in-Err.ensures.written (ap Err e)) c.put_stop.ensures
 
 pub returns-in-Err-clause-readable : goal.returns-in-Err-clause-readable
-returns-in-Err-clause-readable g c = λ e. absurd (never_well c.put_stop.ensures.0 (sym c.put_stop.ensures.2 ∙ e))
+returns-in-Err-clause-readable g c = λ e. absurd (never_well c.put_stop.ensures.told (sym c.put_stop.ensures.ends ∙ e))
 
 pub returns-in-Err-clause-unreadable : goal.returns-in-Err-clause-unreadable
-returns-in-Err-clause-unreadable g c = λ e. c.in-Err.ensures.unreadable (was_unreadable c.put_stop.ensures.0 c.in-Err.stop c.put_stop.ensures.1 (sym c.put_stop.ensures.2 ∙ e))
+returns-in-Err-clause-unreadable g c = λ e. c.in-Err.ensures.unreadable (was_unreadable c.put_stop.ensures.told c.in-Err.stop c.put_stop.ensures.which (sym c.put_stop.ensures.ends ∙ e))

@@ -37,5 +37,5 @@ pub returns-in-Ok-put_end-clause-serves : goal.returns-in-Ok-put_end-clause-serv
 returns-in-Ok-put_end-clause-serves g c = λ r bytes f e l.
     let o = c.in-Ok.ensures r f in
     let S = setting g.E.Engine.answer g.G.Gate.accepts r in
-    subst (λ (n : ℕ). ServesSo (opened r) n (conversation S n r.ledger bytes) (Fits g.E.Engine.entries c.serve_opened.new.server) (g.O.Sink.taken c.args.sink.now) (g.O.Sink.taken c.serve_opened.new.sink) (g.I.Source.has_failed c.serve_opened.new.source) (g.O.Sink.has_failed c.serve_opened.new.sink) c.in-Ok-serve_opened.cause) o.1
-    (c.in-Ok-serve_opened.ensures.serves (opened r) bytes o.2 (found_by r e c.in-Ok.conn o.1) l)
+    subst (λ (n : ℕ). ServesSo (opened r) n (conversation S n r.ledger bytes) (Fits g.E.Engine.entries c.serve_opened.new.server) (g.O.Sink.taken c.args.sink.now) (g.O.Sink.taken c.serve_opened.new.sink) (g.I.Source.has_failed c.serve_opened.new.source) (g.O.Sink.has_failed c.serve_opened.new.sink) c.in-Ok-serve_opened.cause) o.number
+    (c.in-Ok-serve_opened.ensures.serves (opened r) bytes o.now (found_by r e c.in-Ok.conn o.number) l)

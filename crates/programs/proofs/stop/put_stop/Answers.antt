@@ -3,7 +3,7 @@ use Rattle.programs.specs.declared.stop.Stop.TheVariants.{Broken}
 use Rattle.programs.proofs.stop.put_stop.Goals as goal
 
 pub returns-in-Unreadable : goal.returns-in-Unreadable
-returns-in-Unreadable g c = let p = c.put_unreadable.ensures in (p.0, ⊎_elim (λ e. inl (e ∙ sym c.in-Unreadable.is)) (λ e. inr e) p.1, p.2, p.3)
+returns-in-Unreadable g c = let p = c.put_unreadable.ensures in record { told = p.told; which = ⊎_elim (λ e. inl (e ∙ sym c.in-Unreadable.is)) (λ e. inr e) p.which; ends = p.ends; text = p.text }
 
 pub returns-in-Broken : goal.returns-in-Broken
-returns-in-Broken g c = (Broken c.in-Broken.fault, inl (sym c.in-Broken.is), c.put_fault.ensures.status, c.put_fault.ensures.text)
+returns-in-Broken g c = record { told = Broken c.in-Broken.fault; which = inl (sym c.in-Broken.is); ends = c.put_fault.ensures.status; text = c.put_fault.ensures.text }

@@ -6,7 +6,12 @@ use Rattle.programs.proofs.stop.put_unreadable.Goals as goal
 
 pub returns-in-Ok : goal.returns-in-Ok
 returns-in-Ok g c =
-    (Unreadable c.args.number, inl refl, c.put.ensures.status, λ e. subst (λ (t : List ℕ). Appends (g.E.Sink.taken c.args.err.now) (g.E.Sink.taken c.put.new.err) t) (c.as_bytes.ensures.value ∙ c.in-Ok.ensures) (c.put.ensures.text e))
+    record {
+      told = Unreadable c.args.number;
+      which = inl refl;
+      ends = c.put.ensures.status;
+      text = λ e. subst (λ (t : List ℕ). Appends (g.E.Sink.taken c.args.err.now) (g.E.Sink.taken c.put.new.err) t) (c.as_bytes.ensures.value ∙ c.in-Ok.ensures) (c.put.ensures.text e);
+    }
 
 pub returns-in-Err : goal.returns-in-Err
-returns-in-Err g c = (Broken Memory, inr refl, c.put_fault.ensures.status, c.put_fault.ensures.text)
+returns-in-Err g c = record { told = Broken Memory; which = inr refl; ends = c.put_fault.ensures.status; text = c.put_fault.ensures.text }

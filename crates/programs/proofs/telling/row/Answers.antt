@@ -1,7 +1,7 @@
 use Rattle.std.proofs.Common.{string_bytes, ◌∙◌}
-use Rattle.structures.specs.Shape.{shape, shapes}
-use Rattle.structures.specs.declared.cell.Cell.TheVariants.{List as ListCase}
-use Rattle.structures.proofs.Views.{shape-List}
+use Rattle.cells.specs.Shape.{shape, shapes}
+use Rattle.cells.specs.declared.cell.Cell.TheVariants.{List as ListCase}
+use Rattle.cells.proofs.Views.{shape-List}
 use Rattle.programs.proofs.Lines.{row_told}
 use Rattle.programs.proofs.telling.row.Goals as goal
 

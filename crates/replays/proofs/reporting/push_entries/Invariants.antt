@@ -1,7 +1,7 @@
 use Rattle.std.proofs.Common.{◌≡◌, ◌++◌, ◌-◌, take, map, string_bytes}
 use Rattle.std.specs.List.{flat_map}
 use Rattle.engine.specs.Views.{entries_view}
-use Rattle.replays.specs.Texts.{entry_line}
+use Rattle.programs.specs.Looping.{entry_line}
 use Rattle.replays.proofs.reporting.push_entries.Given as goal
 
 abbrev pub invariant-loop-entry : goal.invariant-loop-entry

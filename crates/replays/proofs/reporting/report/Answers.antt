@@ -1,7 +1,8 @@
 use Rattle.std.proofs.Common.{ap, ◌∙◌, ◌++◌}
 use Rattle.std.specs.List.{flat_map}
 use Rattle.engine.specs.Views.{entries_view}
-use Rattle.replays.specs.Texts.{connections_text, entry_line}
+use Rattle.programs.specs.Looping.{entry_line}
+use Rattle.replays.specs.Texts.{connections_text}
 use Rattle.replays.proofs.reporting.report.Goals as goal
 
 pub returns : goal.returns

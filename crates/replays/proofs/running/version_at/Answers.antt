@@ -1,6 +1,6 @@
 use Rattle.std.proofs.Common.{sym, ap, ◌∙◌}
 use Rattle.wire.specs.Offers.{wish_version}
-use Rattle.world.specs.World.{wish_of}
+use Rattle.world.specs.Connections.{wish_of}
 use Rattle.replays.specs.Events.{version_of}
 use Rattle.replays.proofs.running.version_at.Goals as goal
 

@@ -37,9 +37,9 @@ loop-count-preserved g c = record {
       let Then = Fits g.E.Engine.entries c.take_piece.new.server in
       let new = g.O.Sink.taken c.take_piece.new.sink in
       let p = c.loop-count.invariant.reads r bytes f e l in
-      let h = c.in-Ok-Open.ensures.takes r before p.0 (subst IsSome (sym e) refl) p.4 p.5 in
+      let h = c.in-Ok-Open.ensures.takes r before p.up (subst IsSome (sym e) refl) p.live p.stands in
       reads_more r c.args.conn S before bytes (Fits g.E.Engine.entries c.loop-count.server) (g.O.Sink.taken c.loop-count.sink) (g.I.Source.left c.loop-count.source) p (g.I.Source.left c.read.new.self) (take c.in-Ok.count c.read.new.buffer) c.in-Ok.ensures.bytes.0 Then new
-      (subst (λ (x : Standing). TakesPiece r c.args.conn S Then before new p.0 (take c.in-Ok.count c.read.new.buffer) (Ok x)) c.in-Ok-Open.field-0-is h);
+      (subst (λ (x : Standing). TakesPiece r c.args.conn S Then before new p.up (take c.in-Ok.count c.read.new.buffer) (Ok x)) c.in-Ok-Open.field-0-is h);
 }
 
 pub returns-in-Ok-Over-clause-converses : goal.returns-in-Ok-Over-clause-converses
@@ -49,16 +49,16 @@ returns-in-Ok-Over-clause-converses g c = λ r bytes f e l.
     let Then = Fits g.E.Engine.entries c.take_piece.new.server in
     let new = g.O.Sink.taken c.take_piece.new.sink in
     let p = c.loop-count.invariant.reads r bytes f e l in
-    let h = c.in-Ok-Over.ensures.takes r before p.0 (subst IsSome (sym e) refl) p.4 p.5 in
+    let h = c.in-Ok-Over.ensures.takes r before p.up (subst IsSome (sym e) refl) p.live p.stands in
     reads_over r c.args.conn S before bytes (Fits g.E.Engine.entries c.loop-count.server) (g.O.Sink.taken c.loop-count.sink) (g.I.Source.left c.loop-count.source) p (g.I.Source.left c.read.new.self) (take c.in-Ok.count c.read.new.buffer) c.in-Ok.ensures.bytes.0 Then new
-    (subst (λ (x : Standing). TakesPiece r c.args.conn S Then before new p.0 (take c.in-Ok.count c.read.new.buffer) (Ok x)) c.in-Ok-Over.field-0-is h)
+    (subst (λ (x : Standing). TakesPiece r c.args.conn S Then before new p.up (take c.in-Ok.count c.read.new.buffer) (Ok x)) c.in-Ok-Over.field-0-is h)
 
 pub returns-in-Err-clause-converses : goal.returns-in-Err-clause-converses
 returns-in-Err-clause-converses g c = λ r bytes f e l.
     let S = setting g.E.Engine.answer g.G.Gate.accepts r in
     let before = g.O.Sink.taken c.args.sink.now in
     let p = c.loop-count.invariant.reads r bytes f e l in
-    let h = c.in-Err.ensures.takes r before p.0 (subst IsSome (sym e) refl) p.4 p.5 in
+    let h = c.in-Err.ensures.takes r before p.up (subst IsSome (sym e) refl) p.live p.stands in
     reads_broken r c.args.conn S before bytes (Fits g.E.Engine.entries c.loop-count.server) (g.O.Sink.taken c.loop-count.sink) (g.I.Source.left c.loop-count.source) p (g.I.Source.left c.read.new.self) (take c.in-Ok.count c.read.new.buffer) c.in-Ok.ensures.bytes.0
     (Fits g.E.Engine.entries c.take_piece.new.server) (g.O.Sink.taken c.take_piece.new.sink) c.in-Err.fault h
 

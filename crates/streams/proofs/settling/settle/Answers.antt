@@ -30,7 +30,7 @@ returns-in-Ok-Some-clause-settles g c = λ r u ledger k i p f.
     let old = g.O.Sink.taken c.loop.sink in
     let new = g.O.Sink.taken c.work_once.new.sink in
     let o = c.loop.invariant.goes r u ledger k i p f in
-    let h = subst (λ (x : Option Standing). Steps r c.args.conn u o.1 o.2 S o.0 Then old new (Ok x)) c.in-Ok-Some.field-0-is (c.in-Ok-Some.ensures.steps r u o.1 o.2 o.0 i o.5 o.6 o.7 o.8) in
+    let h = subst (λ (x : Option Standing). Steps r c.args.conn u o.ledger o.kept S o.most Then old new (Ok x)) c.in-Ok-Some.field-0-is (c.in-Ok-Some.ensures.steps r u o.ledger o.kept o.most i o.sent o.placed o.enough o.now) in
     goes_whole r c.args.conn u S (talk_of_due S c.args.conn ledger k) (g.O.Sink.taken c.args.sink.now) Now Then old new o c.in-Ok-Some.standing h
 
 pub returns-in-Err-work_once-clause-settles : goal.returns-in-Err-work_once-clause-settles
@@ -38,7 +38,7 @@ returns-in-Err-work_once-clause-settles g c = λ r u ledger k i p f.
     let S = setting g.E.Engine.answer g.G.Gate.accepts r in
     let o = c.loop.invariant.goes r u ledger k i p f in
     goes_wrong r c.args.conn u S (talk_of_due S c.args.conn ledger k) (g.O.Sink.taken c.args.sink.now) (Fits g.E.Engine.entries c.loop.server) (Fits g.E.Engine.entries c.work_once.new.server) (g.O.Sink.taken c.loop.sink) (g.O.Sink.taken c.work_once.new.sink) o
-    c.in-Err-work_once.fault (c.in-Err-work_once.ensures.steps r u o.1 o.2 o.0 i o.5 o.6 o.7 o.8)
+    c.in-Err-work_once.fault (c.in-Err-work_once.ensures.steps r u o.ledger o.kept o.most i o.sent o.placed o.enough o.now)
 
 pub loop-preserved : goal.loop-preserved
 loop-preserved g c = record {
@@ -50,7 +50,7 @@ loop-preserved g c = record {
       let old = g.O.Sink.taken c.loop.sink in
       let new = g.O.Sink.taken c.work_once.new.sink in
       let o = c.loop.invariant.goes r u ledger k i p f in
-      let h = subst (λ (x : Option Standing). Steps r c.args.conn u o.1 o.2 S o.0 Then old new (Ok x)) c.in-Ok-None.field-0-is (c.in-Ok-None.ensures.steps r u o.1 o.2 o.0 i o.5 o.6 o.7 o.8) in
+      let h = subst (λ (x : Option Standing). Steps r c.args.conn u o.ledger o.kept S o.most Then old new (Ok x)) c.in-Ok-None.field-0-is (c.in-Ok-None.ensures.steps r u o.ledger o.kept o.most i o.sent o.placed o.enough o.now) in
       goes_further r c.args.conn u S (talk_of_due S c.args.conn ledger k) (g.O.Sink.taken c.args.sink.now) (Fits g.E.Engine.entries c.loop.server) Then old new o h;
 }
 

@@ -2,7 +2,7 @@ use Rattle.std.proofs.Common.{List}
 use Rattle.std.specs.Prelude.{IsSome}
 use Rattle.wire.specs.Framing.{Opened}
 use Rattle.engine.specs.Views.{EntryView}
-use Rattle.server.specs.Rest.{Kept}
+use Rattle.exchange.specs.Rest.{Kept}
 use Rattle.server.specs.Serving.{Rest, find, setting}
 use Rattle.server.specs.Views.{Fits}
 use Rattle.streams.specs.Conversing.{talk_of_due, with_talk}

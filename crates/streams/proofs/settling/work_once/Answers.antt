@@ -23,14 +23,14 @@ returns-in-Ok-clause-steps g c = λ r u ledger k n i s p l f.
     let S = setting g.E.Engine.answer g.G.Gate.accepts r in
     let Now = Fits g.E.Engine.entries c.work_step.new.server in
     let h = subst (λ (x : Option Standing). WorkStep r c.args.conn u ledger k S n Now (Ok x)) c.in-Ok-None.field-0-is (c.in-Ok-None.ensures.works r u ledger k n i s p l f) in
-    steps_out r c.args.conn u S n ledger k Now (Fits g.E.Engine.entries c.put_out.new.server) (g.O.Sink.taken c.args.sink.now) (g.O.Sink.taken c.put_out.new.sink) h (c.in-Ok.ensures.puts r u h.1 h.2 i h.7)
+    steps_out r c.args.conn u S n ledger k Now (Fits g.E.Engine.entries c.put_out.new.server) (g.O.Sink.taken c.args.sink.now) (g.O.Sink.taken c.put_out.new.sink) h (c.in-Ok.ensures.puts r u h.after h.left i h.now)
 
 pub returns-in-Err-put_out-clause-steps : goal.returns-in-Err-put_out-clause-steps
 returns-in-Err-put_out-clause-steps g c = λ r u ledger k n i s p l f.
     let S = setting g.E.Engine.answer g.G.Gate.accepts r in
     let Now = Fits g.E.Engine.entries c.work_step.new.server in
     let h = subst (λ (x : Option Standing). WorkStep r c.args.conn u ledger k S n Now (Ok x)) c.in-Ok-None.field-0-is (c.in-Ok-None.ensures.works r u ledger k n i s p l f) in
-    steps_broken r c.args.conn u S n ledger k Now (Fits g.E.Engine.entries c.put_out.new.server) (g.O.Sink.taken c.args.sink.now) (g.O.Sink.taken c.put_out.new.sink) h c.in-Err-put_out.fault (c.in-Err-put_out.ensures.puts r u h.1 h.2 i h.7)
+    steps_broken r c.args.conn u S n ledger k Now (Fits g.E.Engine.entries c.put_out.new.server) (g.O.Sink.taken c.args.sink.now) (g.O.Sink.taken c.put_out.new.sink) h c.in-Err-put_out.fault (c.in-Err-put_out.ensures.puts r u h.after h.left i h.now)
 
 pub returns-in-Ok-clause-grows : goal.returns-in-Ok-clause-grows
 returns-in-Ok-clause-grows g c = lives_then c.args.conn (Fits g.E.Engine.entries c.args.server.now) (Fits g.E.Engine.entries c.work_step.new.server) (Fits g.E.Engine.entries c.put_out.new.server) c.work_step.ensures.grows c.put_out.ensures.grows

@@ -1,4 +1,5 @@
-use Rattle.server.specs.Rest.{after_item, arrival}
+use Rattle.exchange.specs.Rest.{after_item}
+use Rattle.server.specs.Feeding.{arrival}
 use Rattle.server.specs.Serving.{setting}
 use Rattle.server.specs.Views.{Fits}
 use Rattle.wire.specs.Reader.{state, takes}

@@ -20,13 +20,13 @@ pub returns-in-Err-clause-takes : goal.returns-in-Err-clause-takes
 returns-in-Err-clause-takes g c = λ r before up i e s.
     let p = c.loop-rest.invariant.takes r before up i e s in
     partly_broken r c.args.conn (setting g.E.Engine.answer g.G.Gate.accepts r) before up c.args.piece.now (Fits g.E.Engine.entries c.loop-rest.server) (g.O.Sink.taken c.loop-rest.sink) (g.O.Sink.taken c.take_one.new.sink) c.loop-rest.rest.now p
-    (Fits g.E.Engine.entries c.take_one.new.server) c.in-Err.fault (c.in-Err.ensures.takes r before (up ++ p.0) i p.2 p.3)
+    (Fits g.E.Engine.entries c.take_one.new.server) c.in-Err.fault (c.in-Err.ensures.takes r before (up ++ p.done) i p.live p.stands)
 
 pub returns-in-Over-clause-takes : goal.returns-in-Over-clause-takes
 returns-in-Over-clause-takes g c = λ r before up i e s.
     let p = c.loop-rest.invariant.takes r before up i e s in
     partly_over r c.args.conn (setting g.E.Engine.answer g.G.Gate.accepts r) before up c.args.piece.now (Fits g.E.Engine.entries c.loop-rest.server) (g.O.Sink.taken c.loop-rest.sink) (g.O.Sink.taken c.take_one.new.sink) c.loop-rest.rest.now p
-    (Fits g.E.Engine.entries c.take_one.new.server) c.in-Ok.taken c.in-Over.is (c.in-Ok.ensures.takes r before (up ++ p.0) i p.2 p.3)
+    (Fits g.E.Engine.entries c.take_one.new.server) c.in-Ok.taken c.in-Over.is (c.in-Ok.ensures.takes r before (up ++ p.done) i p.live p.stands)
 
 pub loop-rest-preserved : goal.loop-rest-preserved
 loop-rest-preserved g c = record {
@@ -35,7 +35,7 @@ loop-rest-preserved g c = record {
   takes = λ r before up i e s.
       let p = c.loop-rest.invariant.takes r before up i e s in
       partly_more r c.args.conn (setting g.E.Engine.answer g.G.Gate.accepts r) before up c.args.piece.now (Fits g.E.Engine.entries c.loop-rest.server) (g.O.Sink.taken c.loop-rest.sink) (g.O.Sink.taken c.take_one.new.sink) c.loop-rest.rest.now p
-      (Fits g.E.Engine.entries c.take_one.new.server) c.in-Ok.taken c.split_at.result.1.now c.split_at.ensures.back c.in-Open.is (c.in-Ok.ensures.takes r before (up ++ p.0) i p.2 p.3);
+      (Fits g.E.Engine.entries c.take_one.new.server) c.in-Ok.taken c.split_at.result.1.now c.split_at.ensures.back c.in-Open.is (c.in-Ok.ensures.takes r before (up ++ p.done) i p.live p.stands);
 }
 
 pub returns-clause-live : goal.returns-clause-live

@@ -1,5 +1,5 @@
 use Rattle.std.proofs.Common.{sym, ◌∙◌, ap, subst, drop, Ok, Some, length, ◌-◌, take, List, ℕ}
-use Rattle.server.specs.declared.What.{What}
+use Rattle.exchange.specs.declared.What.{What}
 use Rattle.server.specs.Serving as serving
 use Rattle.server.specs.Views as server
 use Rattle.client.specs.Rest as asking

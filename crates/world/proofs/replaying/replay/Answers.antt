@@ -7,9 +7,11 @@ use Rattle.world.proofs.replaying.replay.Goals as goal
 
 pub returns-clause-ok : goal.returns-clause-ok
 returns-clause-ok c =
-    let P : List EntryView → Type 0 = λ es. FitsWorld ledger_of c.new-world.result c.in-Ok.gate (empty es) in (
-      c.in-Ok.gate,
-      c.in-Ok.ensures.principal,
-      c.in-Ok.ensures.credentials,
-      c.in-Ok-follow_all.ensures c.in-Ok.gate [] (empty []) (record { after = empty []; replays = refl; reached = begins; fits = subst P c.new-2.ensures c.new-world.ensures.fits }),
-    )
+    let P : List EntryView → Type 0 = λ es. FitsWorld ledger_of c.new-world.result c.in-Ok.gate (empty es) in
+    record {
+      gate = c.in-Ok.gate;
+      principal = c.in-Ok.ensures.principal;
+      credentials = c.in-Ok.ensures.credentials;
+      goes = c.in-Ok-follow_all.ensures c.in-Ok.gate [] (empty [])
+          (record { after = empty []; replays = refl; reached = begins; fits = subst P c.new-2.ensures c.new-world.ensures.fits });
+    }

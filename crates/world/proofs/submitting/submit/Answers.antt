@@ -13,7 +13,12 @@ returns-in-Ok c = λ m h.
     let l = c.args.link.now in
     let r = holds_client o.wish o.client o.lost l o.is m h in
     let a = c.in-Ok.ensures.ok r.0 r.2 in
-    (r.0, r.1, a.0, holds_then o.wish o.client o.lost l m r.0 _ c.submit.new.self r.3 a.1)
+    record {
+      client = r.0;
+      here = r.1;
+      accepted = a.0;
+      now = holds_then o.wish o.client o.lost l m r.0 _ c.submit.new.self r.3 a.1;
+    }
 
 pub returns-in-Err : goal.returns-in-Err
 returns-in-Err c = λ m h.

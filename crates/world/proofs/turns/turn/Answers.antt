@@ -13,7 +13,7 @@ returns-in-Submit g c =
     let s = c.args.server.now in
     event_is g.E.Engine.entries g.E.Engine.answer g.G.Gate.accepts c.args.event _ l s c.submit.result c.submit.new.link s c.in-Submit.is
     (λ r w b. submit_turns g.E.Engine.entries g.E.Engine.answer g.G.Gate.accepts c.in-Submit.field-0 l s r w (request_view c.in-Submit.request) b (seen_in c.submit.result) c.submit.new.link
-    (c.submit.ensures (link_of l b.client) (b.client, refl, b.ends)))
+    (c.submit.ensures (link_of l b.client) (record { client = b.client; link_is = refl; ends = b.ends })))
 
 pub returns-in-ClientLost : goal.returns-in-ClientLost
 returns-in-ClientLost g c =
@@ -21,7 +21,7 @@ returns-in-ClientLost g c =
     let s = c.args.server.now in
     event_is g.E.Engine.entries g.E.Engine.answer g.G.Gate.accepts c.args.event _ l s c.lose_client.result c.lose_client.new.link s c.in-ClientLost.is
     (λ r w b. loses_turns g.E.Engine.entries g.E.Engine.answer g.G.Gate.accepts c.in-ClientLost.field-0 l s r w b (seen_in c.lose_client.result) c.lose_client.new.link
-    (c.lose_client.ensures (link_of l b.client) (b.client, refl, b.ends)))
+    (c.lose_client.ensures (link_of l b.client) (record { client = b.client; link_is = refl; ends = b.ends })))
 
 pub returns-in-Cut : goal.returns-in-Cut
 returns-in-Cut g c =

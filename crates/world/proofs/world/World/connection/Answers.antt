@@ -27,7 +27,7 @@ returns g c = λ gate brought w reached f.
         wrote = ap (map wrote_of) c.as_slice.ensures.value ∙ t.2.wrote;
         read = shown;
         lost = c.losses.ensures ∙ t.2.lost;
-        waits = ap (λ n. ordinals count n) (c.waiting.ensures h.2.0 h.2.2)
+        waits = ap (λ n. ordinals count n) (c.waiting.ensures h.2.client h.2.ends)
             ∙ sym (waits_as g.E.Engine.entries g.E.Engine.answer g.G.Gate.accepts c.args.self.now gate w f brought reached c.args.conn few l c.index-link.ensures count (sym (ap length shown) ∙ length-map c.as_slice-2.result.now read_of));
         standing = stands_as g.E.Engine.entries g.E.Engine.answer g.G.Gate.accepts c.args.self.now gate w f brought reached c.args.conn few l c.index-link.ensures l.gone refl c.standing_at.result (c.standing_at.ensures f.rest.server f.server);
       },

@@ -33,6 +33,6 @@ unfolding FitsWorld
 returns g c = λ gate brought w reached f.
     let a = c.in-Ok-open.ensures f.rest.server f.server in
     opens_done g.E.Engine.entries g.E.Engine.answer g.G.Gate.accepts c.args.self.now gate w f brought reached c.args.peer (sym (c.is_full.ensures f.rest.server f.server) ∙ c.if-is_full.false)
-    c.in-Ok.link c.in-Ok.ensures c.in-Ok-open.conn a.1
+    c.in-Ok.link c.in-Ok.ensures c.in-Ok-open.conn a.number
     (record c.args.self.now { links = c.push_reserved.new.self; server = c.open.new.self })
-    (c.push_reserved.ensures.items ∙ ap (λ ls. ls ++ c.in-Ok.link ∷ []) c.reserve.ensures.items) a.2
+    (c.push_reserved.ensures.items ∙ ap (λ ls. ls ++ c.in-Ok.link ∷ []) c.reserve.ensures.items) a.now
