@@ -3,7 +3,7 @@ use Rattle.std.proofs.Common.{◌≡◌, refl, sym, ap, subst, ◌∙◌, ℕ, �
 use Rattle.std.specs.Io.KnownBytes.{Appends}
 use Rattle.std.proofs.KnownBytes.{Appends-trans}
 use Rattle.std.proofs.lemmas.List.{length_push}
-use Rattle.server.specs.declared.kinds.Cause.{Cause}
+use Rattle.exchange.specs.declared.kinds.Cause.{Cause}
 use Rattle.programs.specs.Serving.{conn_line}
 use Rattle.bolt.specs.Served.{HasServedAll, listening_line, served_lines}
 
@@ -19,15 +19,17 @@ served_more conn (c ∷ cs) cause =
 
 -- no connection yet
 pub served_none : (a b : Option (List ℕ)) (port : ℕ) → Appends a b (listening_line port) → HasServedAll a b port 0
-served_none a b port h = ([], refl, subst (Appends a b) (sym (append-nil (listening_line port))) h)
+served_none a b port h = record { causes = []; all = refl; printed = subst (Appends a b) (sym (append-nil (listening_line port))) h }
 
 -- one connection more
 pub served_one : (a b c : Option (List ℕ)) (port count : ℕ) (cause : Cause) → HasServedAll a b port count → Appends b c (conn_line count cause) → HasServedAll a c port (count + 1)
 served_one a b c port count cause h more =
-    let same : 0 + length h.0 ≡ count = omega (arith, h.1) in
-    let lines : served_lines 0 (h.0 ++ cause ∷ []) ≡ served_lines 0 h.0 ++ conn_line count cause = served_more 0 h.0 cause ∙ ap (λ (n : ℕ). served_lines 0 h.0 ++ conn_line n cause) same in (
-      h.0 ++ cause ∷ [],
-      length_push h.0 cause ∙ ap (λ (n : ℕ). n + 1) h.1,
-      subst (Appends a c) (append_assoc (listening_line port) (served_lines 0 h.0) (conn_line count cause) ∙ ap (λ (l : List ℕ). listening_line port ++ l) (sym lines))
-          (Appends-trans a b c _ _ h.2 more),
-    )
+    let same : 0 + length h.causes ≡ count = omega (arith, h.all) in
+    let lines : served_lines 0 (h.causes ++ cause ∷ []) ≡ served_lines 0 h.causes ++ conn_line count cause =
+    served_more 0 h.causes cause ∙ ap (λ (n : ℕ). served_lines 0 h.causes ++ conn_line n cause) same in
+    record {
+      causes = h.causes ++ cause ∷ [];
+      all = length_push h.causes cause ∙ ap (λ (n : ℕ). n + 1) h.all;
+      printed = subst (Appends a c) (append_assoc (listening_line port) (served_lines 0 h.causes) (conn_line count cause) ∙ ap (λ (l : List ℕ). listening_line port ++ l) (sym lines))
+          (Appends-trans a b c _ _ h.printed more);
+    }

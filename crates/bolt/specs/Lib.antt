@@ -1,8 +1,2 @@
-pub mod Answers
-pub mod Hexadecimal
-pub mod Laws
-pub mod Checks
-pub mod Commands
-pub mod Asked
 pub mod Starting
 pub mod Served

@@ -5,7 +5,7 @@ use Rattle.std.specs.Io.KnownBytes.{Appends}
 use Rattle.engine.specs.Kept.{ledger_of}
 use Rattle.engine.specs.declared.fixed_table.FixedTable.{FixedTable}
 use Rattle.engine.specs.declared.one_user.OneUser.{OneUser}
-use Rattle.server.specs.declared.kinds.Cause.{Cause}
+use Rattle.exchange.specs.declared.kinds.Cause.{Cause}
 use Rattle.server.specs.declared.server.Server.{Server}
 use Rattle.server.specs.Serving.{Rest}
 use Rattle.server.specs.Views.{Fits}
@@ -21,11 +21,14 @@ served_lines conn [] = []
 served_lines conn (cause ∷ causes) = conn_line conn cause ++ served_lines (conn + 1) causes
 
 -- the line of the port, and the line of each of so many connections, from number 0 on
-abbrev pub HasServedAll : Option (List ℕ) → Option (List ℕ) → ℕ → ℕ → Type 0
-HasServedAll before after port count =
-    (causes : List Cause) × (length causes ≡ count)
-    × Appends before after (listening_line port ++ served_lines 0 causes)
+pub record HasServedAll (before after : Option (List ℕ)) (port count : ℕ) : Type 0 where
+  pub causes : List Cause
+  pub all : length causes ≡ count
+  pub printed : Appends before after (listening_line port ++ served_lines 0 causes)
 
 -- no session lives, and the next number is this
-abbrev pub IsServing : Server FixedTable OneUser → ℕ → Type 0
-IsServing s next = (r : Rest OneUser) × Fits ledger_of s r × (r.sessions ≡ []) × (r.next ≡ next)
+pub record IsServing (s : Server FixedTable OneUser) (next : ℕ) : Type 0 where
+  pub rest : Rest OneUser
+  pub fits : Fits ledger_of s rest
+  pub idle : rest.sessions ≡ []
+  pub number : rest.next ≡ next

@@ -1,31 +1,16 @@
 //! The program `bolt`: what a server answers to the bytes that a client sends.
 #![tactic(auto)]
 
-mod answering;
-#[cfg(test)]
-mod cases;
-mod checking;
-mod codes;
-mod commands;
 mod connecting;
-mod end;
-mod laws;
 mod opening;
-mod parser;
-mod samples;
 mod starting;
-#[cfg(test)]
-mod tests;
-mod vectors;
-mod words;
 
-use commands::command;
+use commands::{CommandLine, asked, command};
 use connecting::{loop_through, serve_on, shell_at};
 use opening::replay_file;
 use starting::{refuse, words_of};
 use std::process::ExitCode;
 use streams::Over;
-use words::{CommandLine, asked};
 
 fn run(rt: &HostRuntime) -> u8 {
     let mut err = Over::new(rt.stderr());

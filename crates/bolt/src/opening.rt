@@ -1,7 +1,7 @@
 //! The file of a replay.
 
-use crate::commands::command;
 use crate::connecting::unread;
+use commands::command;
 use programs::put_fault;
 use std::fs::File;
 use streams::Over;

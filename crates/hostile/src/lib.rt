@@ -1,20 +1,18 @@
-//! Worlds under losses, strangers and want of memory: scripts and random events are run on a world, and its report is held against
+//! Worlds under losses, strangers and want of memory: scripts and events are run on a world, and its report is held against
 //! what clients may rely on, written out as a plain check.
 #![tactic(auto)]
 
 mod account;
 mod asked;
-mod chance;
-mod fuzzing;
 mod good;
 mod play;
+mod playing;
 mod script;
 mod scripts_of;
 
 pub use asked::{Table, Unplayed, asking, requests, server};
-pub use chance::{Chance, any_event, torn};
-pub use fuzzing::{hears, plays, plays_script};
 pub use good::{Broken, fault_in};
 pub use play::{Play, mixed, moved};
+pub use playing::{NOT_PLAYED, checked, plays_script};
 pub use script::{Step, Unplayable, steps};
 pub use scripts_of::{LOST_COMMIT, RESETS, SCRIPTS, TRANSACTION};

@@ -10,11 +10,11 @@ pub loop-init : goal.loop-init
 loop-init g c = record { serving = c.in_ok-server.ensures.new; told = served_none (g.O.Sink.taken c.args.out.now) (g.O.Sink.taken c.put_listening.new.out) c.args.port c.in_ok-put_listening.ensures.told }
 
 pub serve_next-requires : goal.serve_next-requires
-serve_next-requires g c = let s = c.loop.invariant.serving in (s.0, s.1, s.2)
+serve_next-requires g c = let s = c.loop.invariant.serving in (s.rest, s.fits, s.idle)
 
 pub loop-preserved : goal.loop-preserved
 loop-preserved g c =
     let s = c.loop.invariant.serving in
-    let h : HasServed s.0 (Fits ledger_of c.serve_next.new.server) = c.in_ok-serve_next.ensures.ok s.0 s.1 s.2 in
-    let line = subst (λ (n : ℕ). Appends (g.O.Sink.taken c.loop.out) (g.O.Sink.taken c.serve_next.new.out) (conn_line n c.in_ok-serve_next.field-0)) s.3 (c.in_ok-serve_next.ensures.told s.0 s.1) in
-    record { serving = (_, h.1, refl, ap (λ (n : ℕ). n + 1) s.3); told = served_one (g.O.Sink.taken c.args.out.now) (g.O.Sink.taken c.loop.out) (g.O.Sink.taken c.serve_next.new.out) c.args.port c.loop.counter c.in_ok-serve_next.field-0 c.loop.invariant.told line }
+    let h : HasServed s.rest (Fits ledger_of c.serve_next.new.server) = c.in_ok-serve_next.ensures.ok s.rest s.fits s.idle in
+    let line = subst (λ (n : ℕ). Appends (g.O.Sink.taken c.loop.out) (g.O.Sink.taken c.serve_next.new.out) (conn_line n c.in_ok-serve_next.field-0)) s.number (c.in_ok-serve_next.ensures.told s.rest s.fits) in
+    record { serving = record { rest = _; fits = h.1; idle = refl; number = ap (λ (n : ℕ). n + 1) s.number }; told = served_one (g.O.Sink.taken c.args.out.now) (g.O.Sink.taken c.loop.out) (g.O.Sink.taken c.serve_next.new.out) c.args.port c.loop.counter c.in_ok-serve_next.field-0 c.loop.invariant.told line }

@@ -4,4 +4,4 @@ use Rattle.server.specs.Serving.{empty}
 use Rattle.bolt.proofs.connecting.server_of.Goals as goal
 
 pub returns-clause-new : goal.returns-clause-new
-returns-clause-new c = (empty (ledger_of c.new-2.result) c.in-Ok.gate, c.new-server.ensures, refl, refl)
+returns-clause-new c = record { rest = empty (ledger_of c.new-2.result) c.in-Ok.gate; fits = c.new-server.ensures; idle = refl; number = refl }

@@ -1,0 +1,5 @@
+use Rattle.commands.proofs.CheckedOnce.{one_check}
+use Rattle.commands.proofs.laws.has_one_check.Goals as goal
+
+pub returns : goal.returns
+returns c = one_check

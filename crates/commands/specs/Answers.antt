@@ -1,0 +1,26 @@
+-- What the program's server puts out for the bytes that its first client sends, and how the session stands then: the whole of them,
+-- however they came.
+use Rattle.std.specs.Prelude.{◌≡◌, ◌&&◌, ℕ, Bool, List, [], codes}
+use Rattle.std.specs.Str.{bytes_eq}
+use Rattle.engine.specs.Queries.{fixed_answer}
+use Rattle.exchange.specs.Session.{Setting}
+use Rattle.streams.specs.declared.responding.End.{End}
+use Rattle.streams.specs.Conversing.{Talk, conversation}
+use Rattle.streams.specs.Responding.{end_of}
+
+-- the one user that is let in
+abbrev pub lets_in : List ℕ → List ℕ → Bool
+lets_in principal credentials =
+    bytes_eq principal (codes "user") && bytes_eq credentials (codes "pass")
+
+-- over a fixed table
+abbrev pub serving : Setting
+serving = record { run = fixed_answer; check = lets_in }
+
+-- the conversation of the first connection over an empty ledger
+abbrev pub talk_of : List ℕ → Talk
+talk_of bytes = conversation serving 0 [] bytes
+
+-- all that is put out, and the cause of the end, or the state where the bytes end first
+abbrev pub Answers : List ℕ → List ℕ → End → Type 0
+Answers bytes out last = (out ≡ (talk_of bytes).out) × (last ≡ end_of (talk_of bytes).kept)

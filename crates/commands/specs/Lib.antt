@@ -1,0 +1,6 @@
+pub mod Answers
+pub mod Hexadecimal
+pub mod Laws
+pub mod Checks
+pub mod Commands
+pub mod Asked

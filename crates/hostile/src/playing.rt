@@ -1,0 +1,65 @@
+//! What is checked of a play, and scripts played, each told as one number.
+
+use crate::good::{Broken, fault_in};
+use crate::play::Play;
+use crate::script::{Unplayable, steps};
+use crate::scripts_of::SCRIPTS;
+use std::alloc::Global;
+
+/// A refused event changed the report.
+const TORN: u64 = 7;
+
+/// There was no memory to begin with, or a script can't be read.
+pub const NOT_PLAYED: u64 = 8;
+
+/// How often a step is given again where the play itself wants memory.
+const MOST_AGAIN: usize = 1000;
+
+fn code(broken: Broken) -> u64 {
+    match broken {
+        Broken::Read => 1,
+        Broken::Numbers => 2,
+        Broken::Ledger => 3,
+        Broken::Outcome => 4,
+        Broken::End => 5,
+        Broken::Memory => 0,
+    }
+}
+
+/// What doesn't hold of a play, as a number below 100: 0 where all holds, or where there was no memory for the check.
+pub fn checked(alloc: Global, play: &Play) -> u64 {
+    if play.is_torn {
+        return TORN;
+    }
+    match fault_in(alloc, play) {
+        Some(broken) => code(broken),
+        None => 0,
+    }
+}
+
+/// Plays a script by its number, and answers what `digest` gives of its report, or a number below 100 where it couldn't be played or
+/// something didn't hold.
+pub fn plays_script(alloc: Global, number: u32) -> u64 {
+    let script = SCRIPTS.get(number as usize).copied().unwrap_or("");
+    match played(alloc, script) {
+        Ok(told) => told,
+        Err(_) => NOT_PLAYED,
+    }
+}
+
+fn played(alloc: Global, script: &str) -> Result<u64, Unplayable> {
+    let steps = steps(alloc, script)?;
+    let mut play = Play::new(alloc)?;
+    for step in &steps {
+        for _again in 0..MOST_AGAIN {
+            if play.follow(step).is_ok() {
+                break;
+            }
+        }
+        let fault = checked(alloc, &play);
+        if fault > 0 {
+            return Ok(fault);
+        }
+    }
+    Ok(play.digest())
+}
