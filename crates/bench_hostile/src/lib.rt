@@ -10,13 +10,13 @@ use std::alloc::Global;
 /// Plays so many events by chance: 0 where all held.
 #[unsafe(no_mangle)]
 pub extern "C" fn hostile_plays(alloc: Global, seed: u64, events: u64) -> u64 {
-    hostile::plays(alloc, seed, events)
+    fuzzing::plays(alloc, seed, events)
 }
 
 /// Gives a client torn bytes of a server, and reads torn bytes: 0 where all held.
 #[unsafe(no_mangle)]
 pub extern "C" fn hostile_hears(alloc: Global, seed: u64) -> u64 {
-    hostile::hears(alloc, seed)
+    fuzzing::hears(alloc, seed)
 }
 
 /// Feeds so many of the dearest requests to a server's session, of 65,536 bytes each and before anyone is let in: how many were taken.

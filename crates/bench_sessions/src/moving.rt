@@ -47,7 +47,7 @@ fn hear(link: &mut Link, piece: &[u8], tally: &mut Tally) -> Result<(), Stopped>
     let mut rest = piece;
     while !rest.is_empty() {
         let (used, heard) = link.client.feed(rest)?;
-        tally.hear(&heard);
+        tally.hear(heard);
         rest = after(rest, used)?;
     }
     Ok(())

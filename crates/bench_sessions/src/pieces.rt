@@ -112,7 +112,7 @@ fn hear_pieces(
         if used != part.len() {
             return Err(Stopped);
         }
-        tally.hear(&heard);
+        tally.hear(heard);
     }
     tally.add_down(message.len());
     Ok(())

@@ -34,14 +34,14 @@ impl Tally {
         self.down = self.down.wrapping_add(count as u64);
     }
 
-    pub fn hear(&mut self, heard: &Heard) {
+    pub fn hear(&mut self, heard: Heard) {
         match heard {
             Heard::Nothing | Heard::Version(_) => {}
             Heard::Row(cells) => {
                 self.rows = self.rows.wrapping_add(1);
-                self.cells = self.cells.wrapping_add(first_of(cells));
+                self.cells = self.cells.wrapping_add(first_of(&cells));
             }
-            Heard::Summary { outcome, .. } => self.conclude(*outcome),
+            Heard::Summary { outcome, .. } => self.conclude(outcome),
         }
     }
 

@@ -1,5 +1,5 @@
-//! Tests of the codec: the crates packstream, wire, structures, messages and machine, by their public calls. A crate of their own, so
-//! that none of those is proved twice.
+//! Tests of the codec: the crates packstream, reader, wire, structures, messages and machine, by their public calls. A crate of their
+//! own, so that none of those is proved twice.
 #![tactic(auto)]
 
 #[cfg(test)]
@@ -8,6 +8,8 @@ mod machine_tests;
 mod messages_tests;
 #[cfg(test)]
 mod packstream_tests;
+#[cfg(test)]
+mod reader_tests;
 #[cfg(test)]
 mod structures_tests;
 #[cfg(test)]

@@ -1,10 +1,10 @@
 use bytes::BytesMut;
 use messages::*;
-use packstream::{PackFault, decode};
+use packstream::decode;
 use std::alloc::Global;
 use std::process::Abort;
 use std::test::*;
-use structures::{Cell, CellFault, read};
+use structures::{Cell, read};
 use wire::Version;
 
 /// HELLO at 4.4 of the agent `t/1`, basic, `user`, `pass`.
@@ -59,12 +59,12 @@ fn asked(alloc: Global, version: Version, bytes: &[u8]) -> &'static str {
 
 fn code(fault: &MsgFault) -> &'static str {
     match fault {
-        MsgFault::Pack(_) => "M1",
+        MsgFault::Pack(_, _) => "M1",
         MsgFault::NotAMessage => "M2",
         MsgFault::UnknownTag => "M3",
         MsgFault::Fields => "M4",
         MsgFault::Extra => "M5",
-        MsgFault::Cell(_) => "M6",
+        MsgFault::Cell(_, _) | MsgFault::CellPack(_, _) => "M6",
         MsgFault::Memory => "M7",
         MsgFault::Size => "M8",
     }
@@ -228,7 +228,7 @@ fn the_fault_of_a_cell(rt: HostRuntime) {
             0xB3, 0x10, 0x83, 0x4F, 0x4E, 0x45, 0xA1, 0x81, 0x61, 0xB1, 0x5A, 0x00, 0xA0,
         ],
     ) {
-        Err(MsgFault::Cell(CellFault::Refused(reason, number))) => {
+        Err(MsgFault::Cell(reason, number)) => {
             assert!(rt; reason == structures::Reason::UnknownTag);
             assert_eq!(rt; number, 0);
         }
@@ -261,17 +261,15 @@ fn parameters_are_a_value(rt: HostRuntime) -> Result<(), Fail> {
 #[test]
 fn texts_of_faults(rt: HostRuntime) -> Result<(), Fail> {
     let faults = [
-        (
-            MsgFault::Pack(PackFault::Refused(packstream::Reason::Trailing, 2)),
-            "P7 at 2",
-        ),
+        (MsgFault::Pack(packstream::Reason::Trailing, 2), "P7 at 2"),
         (MsgFault::NotAMessage, "M2"),
         (MsgFault::UnknownTag, "M3"),
         (MsgFault::Fields, "M4"),
         (MsgFault::Extra, "M5"),
+        (MsgFault::Cell(structures::Reason::Range, 1), "S4 at 1"),
         (
-            MsgFault::Cell(CellFault::Refused(structures::Reason::Range, 1)),
-            "S4 at 1",
+            MsgFault::CellPack(packstream::Reason::KeyTwice, 3),
+            "P5 at 3",
         ),
         (MsgFault::Memory, "out of memory"),
         (MsgFault::Size, "M8"),

@@ -3,6 +3,8 @@
 #![tactic(auto)]
 
 #[cfg(test)]
+mod asking;
+#[cfg(test)]
 mod client_tests;
 #[cfg(test)]
 mod driving_tests;

@@ -1,7 +1,7 @@
 //! Bytes of strangers. A message past 65,536 bytes, the 1,025th write and the 65,616 bytes that wait are tests of `server`.
 
 use crate::telling::told;
-use hostile::{hears, plays};
+use fuzzing::{hears, plays};
 use packstream::{PackFault, Reason, decode};
 use std::alloc::Global;
 use std::test::Fail;

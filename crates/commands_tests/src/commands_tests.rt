@@ -1,0 +1,394 @@
+use crate::cases::CASES;
+use commands::{AnswerFault, answer, command, end_text};
+use std::alloc::Global;
+use std::process::Abort;
+use std::test::Fail;
+use streams::{Buffer, Failed, Sink, Slice};
+
+/// A handshake for 5.1 and 4.4, then HELLO with a user agent.
+const HELLO: &str =
+    "6060B017000001050000040400000000000000000012B101A18A757365725F6167656E7483742F310000";
+
+const SUCCESS: &str =
+    "00000105002bb170a2867365727665728b426f6c745461626c652f318d636f6e6e656374696f6e5f696486626f6c742d300000";
+
+fn answers(rt: &impl Abort, alloc: Global, text: &str, out: &str, last: &str) -> Result<(), Fail> {
+    let answered = answer(alloc, text)?;
+    assert_eq!(rt; answered.out.as_str(), out);
+    assert_eq!(rt; end_text(answered.last), last);
+    Ok(())
+}
+
+#[test]
+fn answers_a_hello(rt: HostRuntime) -> Result<(), Fail> {
+    answers(&rt, rt.alloc(), HELLO, SUCCESS, "state Unauth")
+}
+
+/// HELLO with a further entry, which is no cell and isn't read as one.
+#[test]
+fn ignores_other_entries_of_a_hello(rt: HostRuntime) -> Result<(), Fail> {
+    let hello = "0017B101A28A757365725F6167656E7483742F318178B15A000000";
+    let text = format!(in rt.alloc(); "{}{hello}", &HELLO[..40])?;
+    answers(&rt, rt.alloc(), text.as_str(), SUCCESS, "state Unauth")
+}
+
+#[test]
+fn waits_for_the_last_byte(rt: HostRuntime) -> Result<(), Fail> {
+    answers(&rt, rt.alloc(), &HELLO[..82], "00000105", "state Fresh")
+}
+
+#[test]
+fn answers_nothing_to_nothing(rt: HostRuntime) -> Result<(), Fail> {
+    answers(&rt, rt.alloc(), "", "", "state Fresh")
+}
+
+#[test]
+fn ends_at_another_magic(rt: HostRuntime) -> Result<(), Fail> {
+    answers(
+        &rt,
+        rt.alloc(),
+        "6060B01800000105000004040000000000000000",
+        "",
+        "ended E1",
+    )
+}
+
+#[test]
+fn ends_at_unknown_versions(rt: HostRuntime) -> Result<(), Fail> {
+    answers(
+        &rt,
+        rt.alloc(),
+        "6060B01700000003000000000000000000000000",
+        "00000000",
+        "ended E2",
+    )
+}
+
+#[test]
+fn ends_at_another_message(rt: HostRuntime) -> Result<(), Fail> {
+    answers(
+        &rt,
+        rt.alloc(),
+        "6060B017000001050000040400000000000000000003B101A00000",
+        "00000105",
+        "ended E4",
+    )
+}
+
+#[test]
+fn answers_each_case(rt: HostRuntime) -> Result<(), Fail> {
+    for case in CASES.iter() {
+        answers(&rt, rt.alloc(), case.text, case.out, case.last)?;
+    }
+    Ok(())
+}
+
+#[test]
+fn refuses_what_is_no_hex(rt: HostRuntime) {
+    assert_eq!(rt; answer(rt.alloc(), "606").err(), Some(AnswerFault::BadHex));
+    assert_eq!(rt; answer(rt.alloc(), "6g").err(), Some(AnswerFault::BadHex));
+}
+
+/// Runs the command on memory streams, of which the input is empty.
+fn says(
+    rt: &impl Abort,
+    alloc: Global,
+    words: &[&str],
+    out: &str,
+    err: &str,
+    status: u8,
+) -> Result<(), Fail> {
+    says_of(rt, alloc, words, &[], out, err, status)
+}
+
+/// Runs the command on memory streams.
+fn says_of(
+    rt: &impl Abort,
+    alloc: Global,
+    words: &[&str],
+    input: &[u8],
+    out: &str,
+    err: &str,
+    status: u8,
+) -> Result<(), Fail> {
+    let mut list = Vec::new(alloc);
+    list.push(String::from_str(alloc, "bolt")?)?;
+    for word in words {
+        list.push(String::from_str(alloc, word)?)?;
+    }
+    let mut input = Slice::new(input);
+    let mut printed = Buffer::new(Vec::new(alloc));
+    let mut told = Buffer::new(Vec::new(alloc));
+    let answered = command(alloc, list.as_slice(), &mut input, &mut printed, &mut told);
+    assert_eq!(rt; printed.bytes(), out.as_bytes());
+    assert_eq!(rt; told.bytes(), err.as_bytes());
+    assert_eq!(rt; answered, status);
+    Ok(())
+}
+
+#[test]
+fn prints_an_answer(rt: HostRuntime) -> Result<(), Fail> {
+    let out = format!(in rt.alloc(); "{SUCCESS}\nstate Unauth\n")?;
+    says(&rt, rt.alloc(), &["answer", HELLO], out.as_str(), "", 0)?;
+    says(&rt, rt.alloc(), &["answer", ""], "\nstate Fresh\n", "", 0)?;
+    says(&rt, rt.alloc(), &["answer", "606"], "", "fault I4\n", 2)
+}
+
+#[test]
+fn checks_values(rt: HostRuntime) -> Result<(), Fail> {
+    let alloc = rt.alloc();
+    says(&rt, alloc, &["check", "5.1", "C90001"], "ok 01\n", "", 0)?;
+    says(
+        &rt,
+        alloc,
+        &["check", "4.4", "C17FF0000000000001"],
+        "ok c17ff0000000000001\n",
+        "",
+        0,
+    )?;
+    says(
+        &rt,
+        alloc,
+        &["check", "5.1", "A2816101816102"],
+        "refused P5 at 4\n",
+        "",
+        1,
+    )?;
+    says(
+        &rt,
+        alloc,
+        &["check", "5.1", ""],
+        "refused P1 at 0\n",
+        "",
+        1,
+    )?;
+    says(
+        &rt,
+        alloc,
+        &["check", "5.1", "0102"],
+        "refused P7 at 1\n",
+        "",
+        1,
+    )?;
+    says(
+        &rt,
+        alloc,
+        &["check", "5.1", "D6000F4240"],
+        "refused P1 at 5\n",
+        "",
+        1,
+    )?;
+    says(
+        &rt,
+        alloc,
+        &["check", "4.4", "B34E01918141A0"],
+        "ok b34e01918141a0\n",
+        "",
+        0,
+    )?;
+    says(&rt, alloc, &["check", "4.4", "0"], "", "fault I4\n", 2)
+}
+
+/// The check of these bytes at the version prints one line; the status is 0 after `ok` and 1 after `refused`.
+fn checks(
+    rt: &impl Abort,
+    alloc: Global,
+    version: &str,
+    hex: &str,
+    line: &str,
+    status: u8,
+) -> Result<(), Fail> {
+    let out = format!(in alloc; "{line}\n")?;
+    says(
+        rt,
+        alloc,
+        &["check", version, hex],
+        out.as_str(),
+        "",
+        status,
+    )
+}
+
+#[test]
+fn checks_cells(rt: HostRuntime) -> Result<(), Fail> {
+    let alloc = rt.alloc();
+    checks(&rt, alloc, "4.4", "B144C948E5", "ok b144c948e5", 0)?;
+    checks(&rt, alloc, "5.1", "B144C948E5", "ok b144c948e5", 0)?;
+    checks(&rt, alloc, "5.1", "B34E01918141A0", "refused S2 at 0", 1)?;
+    checks(
+        &rt,
+        alloc,
+        "5.1",
+        "B44E01918141A08131",
+        "ok b44e01918141a08131",
+        0,
+    )?;
+    checks(
+        &rt,
+        alloc,
+        "4.4",
+        "B346C90E1000C90E10",
+        "ok b346c90e1000c90e10",
+        0,
+    )?;
+    checks(
+        &rt,
+        alloc,
+        "5.1",
+        "B346C90E1000C90E10",
+        "refused S6 at 0",
+        1,
+    )?;
+    checks(&rt, alloc, "5.1", "B3490000C90E10", "ok b3490000c90e10", 0)?;
+    checks(&rt, alloc, "4.4", "B3490000C90E10", "refused S6 at 0", 1)
+}
+
+#[test]
+fn refuses_what_is_no_cell(rt: HostRuntime) -> Result<(), Fail> {
+    let alloc = rt.alloc();
+    checks(&rt, alloc, "4.4", "92B14400B2440000", "refused S2 at 1", 1)?;
+    checks(&rt, alloc, "5.1", "B15A00", "refused S1 at 0", 1)?;
+    checks(
+        &rt,
+        alloc,
+        "5.1",
+        "B445000000CA3B9ACA00",
+        "refused S4 at 0",
+        1,
+    )?;
+    checks(&rt, alloc, "5.1", "B25400CA0000FD21", "refused S4 at 0", 1)?;
+    checks(
+        &rt,
+        alloc,
+        "5.1",
+        "B25400CA0000FD20",
+        "ok b25400ca0000fd20",
+        0,
+    )?;
+    checks(
+        &rt,
+        alloc,
+        "4.4",
+        "B25400CA0000FD20",
+        "ok b25400ca0000fd20",
+        0,
+    )?;
+    checks(
+        &rt,
+        alloc,
+        "4.4",
+        "B346CB80000000000000000001",
+        "refused S4 at 0",
+        1,
+    )?;
+    checks(&rt, alloc, "4.4", "B350909090", "refused S5 at 0", 1)?;
+    checks(&rt, alloc, "4.4", "B144C0", "refused S3 at 0", 1)
+}
+
+#[test]
+fn passes_the_vectors(rt: HostRuntime) -> Result<(), Fail> {
+    let old = "pass V1\npass V2\npass V3\npass V4\npass V5\npass V6\npass V7\npass V8\npass V9\n";
+    let new = "pass V10\npass V11\npass V12\npass V13\npass V14\npass V15\npass V16\n";
+    let out = format!(in rt.alloc(); "{old}{new}")?;
+    says(&rt, rt.alloc(), &["vectors"], out.as_str(), "", 0)
+}
+
+/// A sink that takes nothing.
+#[derive(Drop)]
+struct Broken;
+
+impl Sink for Broken {
+    ghost use Rattle.std.specs.Prelude.{None, true};
+
+    ghost taken = { λ _. None };
+
+    ghost has_failed = { λ _. true };
+
+    fn write(&mut self, _bytes: &[u8]) -> Result<usize, Failed> {
+        Err(Failed)
+    }
+}
+
+fn status_of(alloc: Global, words: &[&str], told: &mut Buffer) -> Result<u8, Fail> {
+    let mut list = Vec::new(alloc);
+    for word in words {
+        list.push(String::from_str(alloc, word)?)?;
+    }
+    let mut out = Broken;
+    let mut input = Slice::new(&[]);
+    Ok(command(alloc, list.as_slice(), &mut input, &mut out, told))
+}
+
+#[test]
+fn tells_a_failed_stream(rt: HostRuntime) -> Result<(), Fail> {
+    let mut told = Buffer::new(Vec::new(rt.alloc()));
+    let status = status_of(rt.alloc(), &["bolt", "vectors"], &mut told)?;
+    assert_eq!(rt; status, 1);
+    assert_eq!(rt; told.bytes(), "fault I2\n".as_bytes());
+    Ok(())
+}
+
+#[test]
+fn refuses_other_words(rt: HostRuntime) -> Result<(), Fail> {
+    let mut told = Buffer::new(Vec::new(rt.alloc()));
+    assert_eq!(rt; status_of(rt.alloc(), &["bolt"], &mut told)?, 2);
+    assert_eq!(rt;
+        status_of(rt.alloc(), &["bolt", "answer", "--", "6060"], &mut told)?,
+        2
+    );
+    assert!(rt;
+        told.bytes()
+            .ends_with("error: these words are no command\n".as_bytes())
+    );
+    assert_eq!(rt;
+        status_of(rt.alloc(), &["bolt", "check", "5.0", "01"], &mut told)?,
+        2
+    );
+    assert_eq!(rt;
+        status_of(rt.alloc(), &["bolt", "vectors", "01"], &mut told)?,
+        2
+    );
+    Ok(())
+}
+
+#[test]
+fn replays_its_input(rt: HostRuntime) -> Result<(), Fail> {
+    let alloc = rt.alloc();
+    let script = b"open 5.1\nsubmit 0 commit\nopen foreign\n";
+    let out = "line 2 C1\nconn 0\nserver Fresh\nconn 1\nserver Fresh\n";
+    says_of(&rt, alloc, &["replay", "script"], script, out, "", 0)?;
+    let told = "line 2 unreadable\n";
+    says_of(
+        &rt,
+        alloc,
+        &["replay", "script"],
+        b"open 5.1\nopen",
+        "",
+        told,
+        2,
+    )?;
+    says_of(
+        &rt,
+        alloc,
+        &["replay", "script"],
+        &[0xFF],
+        "",
+        "line 1 unreadable\n",
+        2,
+    )
+}
+
+/// What `main` does, and words that are near to it.
+#[test]
+fn leaves_sockets_to_main(rt: HostRuntime) -> Result<(), Fail> {
+    let mut told = Buffer::new(Vec::new(rt.alloc()));
+    for words in [
+        ["bolt", "serve", "7687", "1"],
+        ["bolt", "serve", "7687", "1000001"],
+        ["bolt", "shell", "localhost", "7687"],
+        ["bolt", "loop", "lines", "lines"],
+    ] {
+        assert_eq!(rt; status_of(rt.alloc(), &words, &mut told)?, 2);
+    }
+    Ok(())
+}
