@@ -24,6 +24,7 @@ impl Tally {
                 self.cells = self.cells.wrapping_add(match cells.first() {
                     Some(Value::Int(n)) => *n as u64,
                     Some(Value::Bytes(b)) => b.len() as u64,
+                    Some(Value::List(l)) => l.len() as u64,
                     _ => 0,
                 });
             }
@@ -34,7 +35,7 @@ impl Tally {
     }
 
     /// The check number of a run: the bytes up and down, the rows, the first cell of each (an Int, or the length of
-    /// Bytes), the summaries done, twice those committed, and the ledger's length.
+    /// Bytes or of a list), the summaries done, twice those committed, and the ledger's length.
     fn check(&self, server: &Ours) -> u64 {
         assert_eq!(self.other, 0);
         self.up + self.down + self.rows + self.cells + self.done + 2 * self.committed + server.engine().ledger().len() as u64
@@ -175,13 +176,18 @@ fn transactions(puts: u32, gets: u32) -> u64 {
     tally.check(&server)
 }
 
-/// A message of so many bytes in one chunk: a front, Bytes of the length that is left, and a back.
-fn long_message(bytes: usize, front: &[u8], back: &[u8]) -> Vec<u8> {
+/// Announces Bytes, and a list, by a length of two bytes.
+const BYTES: u8 = 0xCD;
+const LIST: u8 = 0xD5;
+
+/// A message of so many bytes in one chunk: a front; Bytes or a list of small integers of the length that is left, by its
+/// marker; and a back.
+fn long_message(marker: u8, bytes: usize, front: &[u8], back: &[u8]) -> Vec<u8> {
     let long = bytes - front.len() - 3 - back.len();
     assert!((256..=65_535).contains(&bytes) && long >= 256);
     let mut out = (bytes as u16).to_be_bytes().to_vec();
     out.extend_from_slice(front);
-    out.push(0xCD);
+    out.push(marker);
     out.extend((long as u16).to_be_bytes());
     out.resize(out.len() + long, 7);
     out.extend_from_slice(back);
@@ -191,10 +197,10 @@ fn long_message(bytes: usize, front: &[u8], back: &[u8]) -> Vec<u8> {
 
 /// So many times: RUN ECHO in a message of so many bytes, fed to the server in pieces of a length, then worked, and
 /// DISCARD -1 fed whole and worked.
-fn pieces_to_server(bytes: u32, piece: u32, turns: u32) -> u64 {
+fn pieces_to_server(marker: u8, bytes: u32, piece: u32, turns: u32) -> u64 {
     let (mut server, mut tally) = (new_server(), Tally::default());
     let (conn, _client) = connect(&mut server, &mut tally);
-    let echo = long_message(bytes as usize, b"\xB3\x10\x84ECHO\xA1\x81x", b"\xA0");
+    let echo = long_message(marker, bytes as usize, b"\xB3\x10\x84ECHO\xA1\x81x", b"\xA0");
     let discard = b"\x00\x06\xB1\x2F\xA1\x81n\xFF\x00\x00";
     for turn in 0..turns {
         let mut messages = 0;
@@ -215,7 +221,7 @@ fn pieces_to_server(bytes: u32, piece: u32, turns: u32) -> u64 {
 }
 
 /// So many times: a RECORD in a message of so many bytes, fed in pieces of a length to a client that waits for a PULL.
-fn pieces_to_client(bytes: u32, piece: u32, turns: u32) -> u64 {
+fn pieces_to_client(marker: u8, bytes: u32, piece: u32, turns: u32) -> u64 {
     let (mut server, mut tally) = (new_server(), Tally::default());
     let (_conn, mut client) = connect(&mut server, &mut tally);
     ask(&mut client, [run("ONE", vec![]), Request::Pull(Count::All)]);
@@ -229,7 +235,7 @@ fn pieces_to_client(bytes: u32, piece: u32, turns: u32) -> u64 {
         tally.down += bytes.len() as u64;
     };
     feed(b"\x00\x03\xB1\x70\xA0\x00\x00", PIECE);
-    let record = long_message(bytes as usize, b"\xB1\x71\x91", b"");
+    let record = long_message(marker, bytes as usize, b"\xB1\x71\x91", b"");
     for _ in 0..turns { feed(&record, piece as usize); }
     assert_eq!((tally.rows, tally.cells, tally.done), (turns as u64, turns as u64 * (bytes as u64 - 6), 3));
     tally.check(&server)
@@ -264,8 +270,8 @@ pub enum Call {
     Rows { rows: u32, turns: u32 },
     Echo { bytes: u32, turns: u32 },
     Transactions { puts: u32, gets: u32 },
-    PiecesToServer { bytes: u32, piece: u32, turns: u32 },
-    PiecesToClient { bytes: u32, piece: u32, turns: u32 },
+    PiecesToServer { marker: u8, bytes: u32, piece: u32, turns: u32 },
+    PiecesToClient { marker: u8, bytes: u32, piece: u32, turns: u32 },
     Sessions { sessions: u32, requests: u32 },
 }
 use Call::*;
@@ -276,8 +282,8 @@ pub fn twin(call: Call) -> u64 {
         Rows { rows: n, turns } => rows(n, turns),
         Echo { bytes, turns } => echo(bytes, turns),
         Transactions { puts, gets } => transactions(puts, gets),
-        PiecesToServer { bytes, piece, turns } => pieces_to_server(bytes, piece, turns),
-        PiecesToClient { bytes, piece, turns } => pieces_to_client(bytes, piece, turns),
+        PiecesToServer { marker, bytes, piece, turns } => pieces_to_server(marker, bytes, piece, turns),
+        PiecesToClient { marker, bytes, piece, turns } => pieces_to_client(marker, bytes, piece, turns),
         Sessions { sessions: n, requests } => sessions(n, requests),
     }
 }
@@ -289,8 +295,11 @@ fn lines() -> Vec<Line> {
     let line = |name, unit, units, call| Line { name, unit, units, call, less: None };
     let past = |name, unit, units, call, less| Line { name, unit, units, call, less: Some(less) };
     let tx = |puts, gets| Transactions { puts, gets };
-    let server = |bytes, piece| PiecesToServer { bytes, piece, turns: if piece == 1 { 5 } else { 100 } };
-    let client = |bytes, piece| PiecesToClient { bytes, piece, turns: if piece == 1 { 5 } else { 100 } };
+    let turns = |piece| if piece == 1 { 5 } else { 100 };
+    let to_server = |marker, bytes, piece| PiecesToServer { marker, bytes, piece, turns: turns(piece) };
+    let to_client = |marker, bytes, piece| PiecesToClient { marker, bytes, piece, turns: turns(piece) };
+    let server = |bytes, piece| to_server(BYTES, bytes, piece);
+    let client = |bytes, piece| to_client(BYTES, bytes, piece);
     vec![
         line("1 RUN ONE + PULL, 2 in the pipeline", "request", 20_000, Autocommit { pairs: 10_000, batch: 1 }),
         line("2 RUN ONE + PULL, 16 in the pipeline", "request", 20_000, Autocommit { pairs: 10_000, batch: 8 }),
@@ -312,6 +321,14 @@ fn lines() -> Vec<Line> {
         line("6 client, 65,000 bytes by 64", "byte", 6_500_000, client(65_000, 64)),
         line("6 client, 16,250 bytes by 64", "byte", 1_625_000, client(16_250, 64)),
         line("7 16 sessions of 1,000 requests", "request", 16_000, Sessions { sessions: 16, requests: 1_000 }),
+        line("8 server, a list, 65,000 bytes by 1", "byte", 325_000, to_server(LIST, 65_000, 1)),
+        line("8 server, a list, 16,250 bytes by 1", "byte", 81_250, to_server(LIST, 16_250, 1)),
+        line("8 server, a list, 65,000 bytes by 64", "byte", 6_500_000, to_server(LIST, 65_000, 64)),
+        line("8 server, a list, 16,250 bytes by 64", "byte", 1_625_000, to_server(LIST, 16_250, 64)),
+        line("8 client, a list, 65,000 bytes by 1", "byte", 325_000, to_client(LIST, 65_000, 1)),
+        line("8 client, a list, 16,250 bytes by 1", "byte", 81_250, to_client(LIST, 16_250, 1)),
+        line("8 client, a list, 65,000 bytes by 64", "byte", 6_500_000, to_client(LIST, 65_000, 64)),
+        line("8 client, a list, 16,250 bytes by 64", "byte", 1_625_000, to_client(LIST, 16_250, 64)),
     ]
 }
 

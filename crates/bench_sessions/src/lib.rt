@@ -39,16 +39,30 @@ pub extern "C" fn bench_transactions(alloc: Global, puts: u32, gets: u32) -> u64
     transactions(alloc, puts, gets).unwrap_or(0)
 }
 
-/// A request of so many bytes, fed to the server in pieces of a length, so many times.
+/// A request of so many bytes, with Bytes or a list of small integers by the marker, fed to the server in pieces of a length, so
+/// many times.
 #[unsafe(no_mangle)]
-pub extern "C" fn bench_pieces_to_server(alloc: Global, bytes: u32, piece: u32, turns: u32) -> u64 {
-    pieces_to_server(alloc, bytes, piece, turns).unwrap_or(0)
+pub extern "C" fn bench_pieces_to_server(
+    alloc: Global,
+    marker: u8,
+    bytes: u32,
+    piece: u32,
+    turns: u32,
+) -> u64 {
+    pieces_to_server(alloc, marker, bytes, piece, turns).unwrap_or(0)
 }
 
-/// A row of so many bytes, fed to the client in pieces of a length, so many times.
+/// A row of so many bytes, with Bytes or a list of small integers by the marker, fed to the client in pieces of a length, so many
+/// times.
 #[unsafe(no_mangle)]
-pub extern "C" fn bench_pieces_to_client(alloc: Global, bytes: u32, piece: u32, turns: u32) -> u64 {
-    pieces_to_client(alloc, bytes, piece, turns).unwrap_or(0)
+pub extern "C" fn bench_pieces_to_client(
+    alloc: Global,
+    marker: u8,
+    bytes: u32,
+    piece: u32,
+    turns: u32,
+) -> u64 {
+    pieces_to_client(alloc, marker, bytes, piece, turns).unwrap_or(0)
 }
 
 /// So many sessions, each with so many requests, interleaved by single pieces and single steps.

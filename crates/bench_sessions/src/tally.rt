@@ -8,7 +8,7 @@ pub(crate) struct Tally {
     pub up: u64,
     pub down: u64,
     pub rows: u64,
-    /// The sum of the first cells of rows: an Int, or the length of Bytes.
+    /// The sum of the first cells of rows: an Int, or the length of Bytes or of a list.
     pub cells: u64,
     pub done: u64,
     pub committed: u64,
@@ -71,6 +71,7 @@ fn first_of(cells: &[Cell]) -> u64 {
     match cells.first() {
         Some(Cell::Int(n)) => n.unsigned_abs(),
         Some(Cell::Bytes(bytes)) => bytes.len() as u64,
+        Some(Cell::List(cells)) => cells.len() as u64,
         _ => 0,
     }
 }

@@ -18,10 +18,13 @@ use Rattle.packstream.proofs.Deciding.{whole_value, whole_fault, err_parts}
 use Rattle.reader.specs.declared.reading.Part.{Part}
 use Rattle.reader.specs.declared.reading.Part.TheVariants as part
 use Rattle.reader.specs.declared.reading.Mark.{Mark}
+use Rattle.reader.specs.declared.reading.Standing.{Standing}
+use Rattle.reader.specs.declared.stop.Stop.TheVariants as stop
+use Rattle.reader.specs.Frames.{Frame, AreLevels}
 use Rattle.reader.specs.Items.{bytes_of_items, part_head, bodies, AreItems}
 use Rattle.reader.specs.Naming.{ArePlaced}
 use Rattle.reader.specs.Piecewise.{Point, Points, IsBeginning, Takes, MayGoOn}
-use Rattle.reader.specs.Holding.{Holds, bytes_of, point, mark_of, at_mark, with_fault, points, points_at, mark_at, IsKeptAt, Goes, IsLacking, IsDone, IsStanding, IsKeeping, HasGrown, IsKept}
+use Rattle.reader.specs.Holding.{Holds, bytes_of, point, mark_of, at_mark, with_fault, points, points_at, IsKeptAt, Goes, IsLacking, IsDone, IsStanding, IsKeeping, HasGrown, IsKept, IsMark, HoldsOn, IsFaultOf}
 use Rattle.reader.proofs.Opening.{bad_behind}
 use Rattle.reader.proofs.Faulting.{part_is_short}
 use Rattle.reader.proofs.Standing.{bytes_behind}
@@ -82,9 +85,6 @@ kept_here h keeps = record {
   held = subst (λ (x : Holds). IsBeginning (bytes_of x) (bytes_of h)) (sym (cut_all h)) (begins_itself (bytes_of h));
 }
 
-pub points_here : (h : Holds) → points h (mark_of h) ≡ record { here = point h; held = point h }
-points_here h = ap (λ (x : Holds). record { here = point h; held = point x }) (cut_all h)
-
 pub kept_back : (h : Holds) (m : Mark) → IsKept h m → IsKept (at_mark m h) m
 kept_back h m kept =
     let again : at_mark m (at_mark m h) ≡ at_mark m h = cut_cut m m h (omega arith) (omega arith) (omega arith) in
@@ -128,10 +128,6 @@ held_on old new m kept grown = ap point (cut_on old new m grown kept.items kept.
 true_not_false : true ≡ false → ⊥
 true_not_false e = cc
 
-pub kept_at : (still : Bool) (h : Holds) (m : Mark) → IsKeptAt still h m → IsKept h (mark_at still m (mark_of h))
-kept_at true h m keeps = kept_here h keeps
-kept_at false h m kept = kept
-
 pub keeps_at : (still : Bool) (h : Holds) (m : Mark) → IsKeptAt still h m → IsKeeping h
 keeps_at true h m keeps = keeps
 keeps_at false h m kept = kept.here
@@ -141,10 +137,6 @@ pub kept_within : (still : Bool) (old new : Holds) (m : Mark) (piece : List ℕ)
 kept_within true old new m piece kept grown keeps bytes = keeps
 kept_within false old new m piece kept grown keeps bytes = kept_on old new m piece kept grown keeps bytes
 
-pub points_are : (still : Bool) (h : Holds) (m : Mark) → points_at still h m ≡ points h (mark_at still m (mark_of h))
-points_are true h m = sym (points_here h)
-points_are false h m = refl
-
 pub here_at : (still : Bool) (h : Holds) (m : Mark) → (points_at still h m).here ≡ point h
 here_at true h m = refl
 here_at false h m = refl
@@ -152,10 +144,6 @@ here_at false h m = refl
 pub begins_at : (still : Bool) (h : Holds) (m : Mark) → IsKeptAt still h m → IsBeginning (points_at still h m).held.bytes (points_at still h m).here.bytes
 begins_at true h m keeps = begins_itself (bytes_of h)
 begins_at false h m kept = kept.held
-
--- what has grown is cut back to where it stood
-pub keeps_cut : (old new : Holds) (m : Mark) → m ≡ mark_of old → HasGrown old new → IsKeeping old → IsKeeping (at_mark m new)
-keeps_cut old new m e grown keeps = subst IsKeeping (sym (ap (λ (k : Mark). at_mark k new) e ∙ cut_grown old new grown)) keeps
 
 -- the way back to a mark
 
@@ -174,13 +162,6 @@ points_back_at false h back m e b = (ap point b, ap (λ (x : Holds). point (at_m
 pub still_points : (still : Bool) (h : Holds) (m : Mark) → still ≡ true → (points_at still h m).here ≡ (points_at still h m).held
 still_points true h m e = refl
 still_points false h m e = absurd (true_not_false (sym e))
-
--- what was taken, or turned bad, leaves the held point
-pub held_after : (still : Bool) (old new : Holds) (m k : Mark) (value : Points) → points_at still old m ≡ value → IsKeptAt still old m → HasGrown old new → k ≡ mark_at still m (mark_of old) → point (at_mark k new) ≡ value.held
-held_after still old new m k value is kept grown e =
-    ap (λ (x : Mark). point (at_mark x new)) e
-    ∙ held_on old new (mark_at still m (mark_of old)) (kept_at still old m kept) grown
-    ∙ ap (λ (p : Points). p.held) (sym (points_are still old m) ∙ is)
 
 -- ---- what the bytes have
 
@@ -308,3 +289,168 @@ kept_turned h m r o kept = record {
   behind = kept.behind;
   held = kept.held;
 }
+
+-- ---- a mark that has the open levels alone
+
+-- what a standing has beside the levels that aren't open
+record IsAlike (s o : Standing) : Type 0 where
+  part : s.part ≡ o.part
+  read : s.read ≡ o.read
+  bad : s.bad ≡ o.bad
+  is_whole : s.«open».is_whole ≡ o.«open».is_whole
+  levels : (fs : List Frame) → AreLevels fs o.«open».depth o.«open».around → AreLevels fs s.«open».depth s.«open».around
+
+abbrev standing_so : Holds → Standing → Holds
+standing_so h s = record h { standing = s }
+
+alike_goes : (h : Holds) (s : Standing) (p : Part) → IsAlike s h.standing → Goes h p → Goes (standing_so h s) p
+alike_goes h s p like g = record {
+  frames = g.frames;
+  full = g.full;
+  tail = g.tail;
+  unread = like.is_whole ∙ g.unread;
+  store = g.store;
+  sized = g.sized;
+  fit = g.fit;
+  are = g.are;
+  read = like.read ∙ g.read;
+  levels = like.levels g.frames g.levels;
+  named = g.named;
+  placed = g.placed;
+  isa = g.isa;
+}
+
+alike_done : (h : Holds) (s : Standing) → IsAlike s h.standing → IsDone h → IsDone (standing_so h s)
+alike_done h s like d = record {
+  tree = d.tree;
+  whole = like.is_whole ∙ d.whole;
+  none = like.part ∙ d.none;
+  sized = d.sized;
+  fit = d.fit;
+  spells = d.spells;
+  sound = d.sound;
+  deep = d.deep;
+  read = like.read ∙ d.read;
+  placed = d.placed;
+}
+
+alike_stands : (h : Holds) (s : Standing) → IsAlike s h.standing → IsStanding h → IsStanding (standing_so h s)
+alike_stands h s like (inl d) = inl (alike_done h s like d)
+alike_stands h s like (inr u) = inr (subst (λ (p : Part). Goes (standing_so h s) p × IsLacking p) (sym like.part) (alike_goes h s h.standing.part like u.0, u.1))
+
+alike_point : (h : Holds) (s : Standing) → IsAlike s h.standing → point (standing_so h s) ≡ point h
+alike_point h s like = rw (like.part, like.bad) refl
+
+alike_keeps : (h : Holds) (s : Standing) → IsAlike s h.standing → IsKeeping h → IsKeeping (standing_so h s)
+alike_keeps h s like keeps = record {
+  bytes = subst AreBytes (sym (ap (λ (p : Point). p.bytes) (alike_point h s like))) keeps.bytes;
+  stands = alike_stands h s like keeps.stands;
+}
+
+marked : (h : Holds) (m : Mark) → IsMark h m → IsAlike m.standing h.standing
+marked h m is = record { part = is.part; read = is.read; bad = is.bad; is_whole = is.is_whole; levels = is.levels }
+
+at_marked : (h : Holds) (m : Mark) → IsMark h m → at_mark m h ≡ standing_so h m.standing
+at_marked h m is =
+    let a = ap (λ (n : ℕ). take n h.items) is.items ∙ take-length h.items in
+    let b = ap (λ (n : ℕ). take n h.store) is.store ∙ take-length h.store in
+    let c = ap (λ (n : ℕ). take n h.names) is.names ∙ take-length h.names in
+    rw (a, b, c) refl
+
+marked_keeps : (h : Holds) (m : Mark) → IsMark h m → IsKeeping h → IsKeeping (at_mark m h)
+marked_keeps h m is keeps = subst IsKeeping (sym (at_marked h m is)) (alike_keeps h m.standing (marked h m is) keeps)
+
+pub marked_point : (h : Holds) (m : Mark) → IsMark h m → point (at_mark m h) ≡ point h
+marked_point h m is = ap point (at_marked h m is) ∙ alike_point h m.standing (marked h m is)
+
+-- the mark of where it stands is one
+pub its_mark : (h : Holds) (m : Mark) → m ≡ mark_of h → IsMark h m
+its_mark h m e = subst (λ (k : Mark). IsMark h k) (sym e) (record { items = refl; store = refl; names = refl; part = refl; read = refl; bad = refl; is_whole = refl; levels = λ fs are. are })
+
+-- the point that is marked is held
+pub kept_marked : (h : Holds) (m : Mark) → IsMark h m → IsKeeping h → IsKept h m
+kept_marked h m is keeps = record {
+  items = omega (arith, is.items);
+  store = omega (arith, is.store);
+  names = omega (arith, is.names);
+  here = keeps;
+  behind = marked_keeps h m is keeps;
+  held = subst (λ (p : Point). IsBeginning p.bytes (bytes_of h)) (sym (marked_point h m is)) (begins_itself (bytes_of h));
+}
+
+-- what has grown since is cut back to the mark
+cut_marked : (old new : Holds) (b : Mark) → IsMark old b → HasGrown old new → at_mark b new ≡ at_mark b old
+cut_marked old new b is grown = cut_on old new b grown (omega (arith, is.items)) (omega (arith, is.store)) (omega (arith, is.names))
+
+pub keeps_cut : (old new : Holds) (b : Mark) → IsMark old b → HasGrown old new → IsKeeping old → IsKeeping (at_mark b new)
+keeps_cut old new b is grown keeps = subst IsKeeping (sym (cut_marked old new b is grown)) (marked_keeps old b is keeps)
+
+pub point_cut : (old new : Holds) (b : Mark) → IsMark old b → HasGrown old new → point (at_mark b new) ≡ point old
+point_cut old new b is grown = ap point (cut_marked old new b is grown) ∙ marked_point old b is
+
+-- a piece that was taken leaves each held point
+pub on_taken : (old new : Holds) (piece : List ℕ) → HasGrown old new → IsKeeping new → bytes_of new ≡ bytes_of old ++ piece → HoldsOn old new
+on_taken old new piece grown now bytes = λ m kept. (kept_on old new m piece kept grown now bytes, held_on old new m kept grown)
+
+-- a way back to where it stood does so too
+on_marked : (old : Holds) (b : Mark) → IsMark old b → HoldsOn old (at_mark b old)
+on_marked old b is = λ m kept.
+    (let same : at_mark m (at_mark b old) ≡ at_mark m old = cut_cut m b old (omega (arith, kept.items, is.items)) (omega (arith, kept.store, is.store)) (omega (arith, kept.names, is.names)) in
+    let now = at_marked old b is in (
+      record {
+        items = subst (λ (x : Holds). m.items ≤ length x.items) (sym now) kept.items;
+        store = subst (λ (x : Holds). m.store ≤ length x.store) (sym now) kept.store;
+        names = subst (λ (x : Holds). m.keys ≤ length x.names) (sym now) kept.names;
+        here = marked_keeps old b is kept.here;
+        behind = subst IsKeeping (sym same) kept.behind;
+        held = subst (λ (x : Holds). IsBeginning (bytes_of x) (bytes_of (at_mark b old))) (sym same)
+            (subst (λ (p : Point). IsBeginning (bytes_of (at_mark m old)) p.bytes) (sym (marked_point old b is)) kept.held);
+      },
+      ap point same,
+    ))
+
+pub on_cut : (old new : Holds) (b : Mark) → IsMark old b → HasGrown old new → HoldsOn old (at_mark b new)
+on_cut old new b is grown = subst (λ (x : Holds). HoldsOn old x) (sym (cut_marked old new b is grown)) (on_marked old b is)
+
+-- and so does a fault that is kept there
+pub on_bad : (old new bad : Holds) (b : Mark) (r : Reason) (o : ℕ) → IsMark old b → HasGrown old new → bad ≡ with_fault r o (at_mark b new) → HoldsOn old bad
+on_bad old new bad b r o is grown e = subst (λ (x : Holds). HoldsOn old x) (sym e)
+    (λ m kept. (let on = on_cut old new b is grown m kept in (kept_turned (at_mark b new) m r o on.0, on.1)))
+
+-- a piece in which a fault is makes it bad where it stood
+pub turns_back : (old new bad : Holds) (b : Mark) (piece : List ℕ) (r : Reason) (o : ℕ) → IsMark old b → HasGrown old new → old.standing.bad ≡ None
+    → bad ≡ with_fault r o (at_mark b new) → IsFaultOf (stop.Fault r o) (bytes_of old ++ piece) → Takes (point old) piece (point bad)
+turns_back old new bad b piece r o is grown good e fault =
+    let same = point_cut old new b is grown in
+    turns (at_mark b new) bad (point old) piece r o same (ap (λ (p : Point). p.bad) same ∙ good) e
+    (subst (λ (p : Point). IsFaultOf (stop.Fault r o) (p.bytes ++ piece)) (sym same) fault)
+
+-- ---- a piece at the held point, or behind it
+
+pub still_held : (still : Bool) (h : Holds) (m : Mark) (value : Points) → still ≡ true → points_at still h m ≡ value → point h ≡ value.held
+still_held true h m value e is = ap (λ (p : Points). p.held) is
+still_held false h m value e is = absurd (true_not_false (sym e))
+
+pub still_same : (still : Bool) (old back : Holds) (m k : Mark) (value : Points) → still ≡ true → points_at still old m ≡ value → point back ≡ point old → points_at still back k ≡ value
+still_same true old back m k value e is same = ap (λ (p : Point). record { here = p; held = p }) same ∙ is
+still_same false old back m k value e is same = absurd (true_not_false (sym e))
+
+pub still_keeps : (still : Bool) (h : Holds) (m : Mark) → still ≡ true → IsKeeping h → IsKeptAt still h m
+still_keeps true h m e keeps = keeps
+still_keeps false h m e keeps = absurd (true_not_false (sym e))
+
+pub kept_behind : (still : Bool) (h : Holds) (m : Mark) → still ≡ false → IsKeptAt still h m → IsKept h m
+kept_behind true h m e kept = absurd (true_not_false e)
+kept_behind false h m e kept = kept
+
+pub behind_keeps : (still : Bool) (h : Holds) (m : Mark) → still ≡ false → IsKept h m → IsKeptAt still h m
+behind_keeps true h m e kept = absurd (true_not_false e)
+behind_keeps false h m e kept = kept
+
+pub behind_held : (still : Bool) (old new : Holds) (m : Mark) (value : Points) → still ≡ false → points_at still old m ≡ value → point (at_mark m new) ≡ point (at_mark m old) → (points_at still new m).held ≡ value.held
+behind_held true old new m value e is same = absurd (true_not_false e)
+behind_held false old new m value e is same = same ∙ ap (λ (p : Points). p.held) is
+
+pub behind_same : (still : Bool) (old new : Holds) (m : Mark) (value : Points) → still ≡ false → points_at still old m ≡ value → point new ≡ point old → point (at_mark m new) ≡ point (at_mark m old) → points_at still new m ≡ value
+behind_same true old new m value e is here held = absurd (true_not_false e)
+behind_same false old new m value e is here held = rw (here, held) is

@@ -1,7 +1,7 @@
 -- The levels of an array as what is open.
-use Rattle.std.proofs.Common.{◌≡◌, ◌≤◌, ◌<◌, ◌+◌, ◌-◌, ℕ, nat_lt, true, false, List, [], ◌∷◌, length, get_or, Some, refl, sym, ap, subst, ◌∙◌, arith}
+use Rattle.std.proofs.Common.{◌≡◌, ◌≤◌, ◌<◌, ◌+◌, ◌-◌, ℕ, nat_lt, true, false, List, [], ◌∷◌, length, get_or, Some, refl, sym, ap, subst, ◌∙◌, ⊎_elim, arith}
 use Rattle.std.specs.Prelude.{slice_get, slice_set}
-use Rattle.std.proofs.lemmas.Bool.{lt-ltb, le-ltb}
+use Rattle.std.proofs.lemmas.Bool.{lt-ltb, le-ltb, cases_eq}
 use Rattle.std.proofs.lemmas.List.{get_or-set_same, get_or-set_other, length-set}
 use Rattle.std.proofs.lemmas.Option.{slice_get_within, slice_get-get_or, get_or_from_slice_get}
 use Rattle.packstream.specs.Tree.{Tree, Entries}
@@ -101,3 +101,33 @@ level_opens d fs f next lacks keys n xs lt h e =
       there = get_set_same xs n l d lt ∙ ap (λ (x : Level). Some x) is;
       others = levels_set fs n n xs l d (omega arith) h;
     }
+
+-- ---- levels that are copied
+
+below_other : (i n : ℕ) → i < n + 1 → (i ≡ n → ⊥) → i < n
+below_other i n lt e = omega (arith, e)
+
+-- the level that is copied is alike, and those before it stay so
+pub copied_on : (d : Level) (n : ℕ) (xs ys : List Level) → n < length xs → n < length ys
+    → ((i : ℕ) → i < n → slice_get xs i ≡ slice_get ys i) → (i : ℕ) → i < n + 1 → slice_get (slice_set xs n (get_or ys n d)) i ≡ slice_get ys i
+copied_on d n xs ys lx ly alike i lt =
+    let v : Level = get_or ys n d in
+    let len : length (slice_set xs n v) ≡ length xs = length-set xs n v in
+    ⊎_elim
+    (λ (e : i ≡ n). subst (λ (k : ℕ). slice_get (slice_set xs n v) k ≡ slice_get ys k) (sym e) (get_set_same xs n v d lx ∙ sym (slice_get-get_or ys n d ly)))
+    (λ (e : i ≡ n → ⊥).
+    slice_get-get_or (slice_set xs n v) i d (omega (arith, len))
+    ∙ ap (λ (l : Level). Some l) (get_or-set_other xs n i v d e)
+    ∙ sym (slice_get-get_or xs i d (omega arith))
+    ∙ alike i (below_other i n lt e))
+    (cases_eq i n)
+
+-- what is open is so in an array that is alike
+pub levels_alike : (fs : List Frame) (n m : ℕ) (xs ys : List Level) → n ≤ m → ((i : ℕ) → i < m → slice_get ys i ≡ slice_get xs i) → AreLevels fs n xs → AreLevels fs n ys
+levels_alike [] n m xs ys le alike h = h
+levels_alike (f ∷ fs) n m xs ys le alike h = record {
+  below = h.below;
+  counted = h.counted;
+  there = alike h.below (omega (arith, h.counted)) ∙ h.there;
+  others = levels_alike fs h.below m xs ys (omega (arith, h.counted)) alike h.others;
+}

@@ -1,6 +1,6 @@
 -- Of which bytes a reader tells.
 use Rattle.std.proofs.Common.{◌≡◌, ℕ, List, [], ◌++◌, Option, Some, None, Result, Ok, Err, refl, sym, ap, subst, ◌∙◌, append_assoc, inl, inr}
-use Rattle.std.specs.Prelude.{◌⊎◌, ◌↔◌, MatchOption}
+use Rattle.std.specs.Prelude.{◌↔◌, MatchOption}
 use Rattle.std.proofs.lemmas.List.{append-nil}
 use Rattle.packstream.specs.declared.fault.Reason.{Reason}
 use Rattle.packstream.specs.declared.fault.PackFault.{PackFault}
@@ -13,7 +13,7 @@ use Rattle.packstream.specs.Faults.{Bad, IsBadAlways}
 use Rattle.packstream.specs.Answers.{UnlessMemory, Tells, whole_of}
 use Rattle.packstream.proofs.Ranges.{both_bytes}
 use Rattle.packstream.proofs.Deciding.{whole_value, whole_fault, err_parts}
-use Rattle.reader.specs.Piecewise.{Point, nothing_read, Joins, TurnsBad, Takes, Reads, TellsValue, TellsFault, Finishes}
+use Rattle.reader.specs.Piecewise.{Point, Joins, TurnsBad, Takes, Reads, TellsValue, TellsFault, Finishes}
 
 abbrev Told : Type 0
 Told = Result Tree PackFault

@@ -207,11 +207,6 @@ pub record IsKept (h : Holds) (m : Mark) : Type 0 where
   pub behind : IsKeeping (at_mark m h)
   pub held : IsBeginning (bytes_of (at_mark m h)) (bytes_of h)
 
--- the mark of the point that is held: it is here, or at a mark
-abbrev pub mark_at : Bool → Mark → Mark → Mark
-mark_at true held here = here
-mark_at false held here = held
-
 -- where it stands, and the point that is held
 abbrev pub points_at : Bool → Holds → Mark → Points
 points_at true h m = record { here = point h; held = point h }
@@ -221,3 +216,21 @@ points_at false h m = points h m
 abbrev pub IsKeptAt : Bool → Holds → Mark → Type 0
 IsKeptAt true h m = IsKeeping h
 IsKeptAt false h m = IsKept h m
+
+-- The mark returns there: it has the lengths of the lists, and what stands beside them; of the array
+-- it has the levels that are open.
+pub record IsMark (h : Holds) (m : Mark) : Type 0 where
+  pub items : m.items ≡ length h.items
+  pub store : m.store ≡ length h.store
+  pub names : m.keys ≡ length h.names
+  pub part : m.standing.part ≡ h.standing.part
+  pub read : m.standing.read ≡ h.standing.read
+  pub bad : m.standing.bad ≡ h.standing.bad
+  pub is_whole : m.standing.«open».is_whole ≡ h.standing.«open».is_whole
+  pub levels : (fs : List Frame) → AreLevels fs h.standing.«open».depth h.standing.«open».around
+      → AreLevels fs m.standing.«open».depth m.standing.«open».around
+
+-- Each point that was held before stays.
+abbrev pub HoldsOn : Holds → Holds → Type 0
+HoldsOn old new = (m : Mark) → IsKept old m
+    → IsKept new m × (point (at_mark m new) ≡ point (at_mark m old))

@@ -56,6 +56,22 @@ impl Open {
         }
     }
 
+    /// What is open there is open here.
+    #[inline]
+    pub(crate) fn copy_from(&mut self, other: &Open)
+        ensures is_whole { self.new.is_whole ≡ other.now.is_whole }
+        ensures levels { (fs : List Frame) → AreLevels fs other.now.depth other.now.around
+            → AreLevels fs self.new.depth self.new.around }
+    {
+        let mut at = 0;
+        while at < other.depth {
+            self.around[at] = other.around[at];
+            at += 1;
+        }
+        self.depth = other.depth;
+        self.is_whole = other.is_whole;
+    }
+
     /// Whether the value is whole.
     pub(crate) fn is_whole(&self) -> bool
         ensures { result ≡ self.now.is_whole }

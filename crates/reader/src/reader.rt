@@ -7,11 +7,9 @@ ghost use Rattle.packstream.specs.Faults.{Bad};
 ghost use Rattle.packstream.specs.Answers.{UnlessMemory};
 ghost use Rattle.packstream.specs.declared.fault.Reason.{Reason};
 ghost use Rattle.packstream.specs.declared.fault.PackFault.TheVariants as fault;
-ghost use Rattle.reader.specs.Holding.{mark_at};
 ghost use Rattle.reader.specs.Piecewise.{fresh, Takes, IsBeginning};
 
 use crate::reading::{Mark, Reading};
-use crate::stop::Stop;
 use packstream::{PackFault, Packed};
 use std::alloc::{AllocError, Global};
 use std::marker::Model;
@@ -62,26 +60,14 @@ impl Reader {
         if self.reading.bad().is_some() {
             return Ok(());
         }
-        let before = self.reading.mark();
-        let held = held_mark(self.is_still, self.held, before);
-        match self.reading.take(piece) {
-            Ok(()) => {
-                self.held = held;
-                self.is_still = false;
-                Ok(())
-            }
-            Err(Stop::Memory) => {
-                self.reading.cut(before);
-                Err(AllocError)
-            }
-            Err(Stop::Fault(reason, place)) => {
-                self.reading.cut(before);
-                self.reading.turn_bad(reason, place);
-                self.held = held;
-                self.is_still = false;
-                Ok(())
-            }
+        if self.is_still {
+            self.reading.mark_in(&mut self.held);
+            self.reading.feed(&self.held, piece)?;
+            self.is_still = false;
+            return Ok(());
         }
+        let before = self.reading.mark();
+        self.reading.feed(&before, piece)
     }
 
     /// Joins the piece as `feed` does, and makes the point behind it the held one; in a text or a byte string that goes on
@@ -137,15 +123,7 @@ impl Reader {
         ensures held { self.new.held ≡ self.old.held }
     {
         if !self.is_still {
-            let held = self.held;
-            self.reading.cut(held);
+            self.reading.cut(&self.held);
         }
     }
-}
-
-/// The mark of the point that is held, where it is here or at a mark.
-fn held_mark(is_still: bool, held: Mark, here: Mark) -> Mark
-    ensures { result ≡ mark_at is_still held here }
-{
-    if is_still { here } else { held }
 }

@@ -9,8 +9,8 @@ ghost use Rattle.reader.specs.declared.stop.Stop.TheVariants as stop;
 ghost use Rattle.reader.specs.declared.reading.Part.TheVariants as part;
 ghost use Rattle.reader.specs.Items.{size_with};
 ghost use Rattle.reader.specs.Frames.{Frame, AreLevels, place};
-ghost use Rattle.reader.specs.Piecewise.{nothing_read};
-ghost use Rattle.reader.specs.Holding.{holds, point, bytes_of, bytes_with, at_mark, mark_of, with_fault, with_item, Goes, IsStanding, IsKeeping, IsValue, IsListOf, HasGrown, HasTaken, Answers};
+ghost use Rattle.reader.specs.Piecewise.{nothing_read, Takes};
+ghost use Rattle.reader.specs.Holding.{holds, point, bytes_of, bytes_with, at_mark, mark_of, with_fault, with_item, Goes, IsStanding, IsKeeping, IsMark, HoldsOn, IsValue, IsListOf, HasGrown, HasTaken, Answers};
 
 use crate::building::build;
 use crate::item::{Item, body_len, field_len, join, size_in};
@@ -91,10 +91,24 @@ impl Reading {
         }
     }
 
+    /// Marks where it stands, in the place of another mark.
+    #[inline]
+    pub(crate) fn mark_in(&self, mark: &mut Mark)
+        ensures { IsMark (holds self.now) mark.new }
+    {
+        mark.items = self.items.len();
+        mark.store = self.texts.len();
+        mark.keys = self.texts.count();
+        mark.standing.open.copy_from(&self.standing.open);
+        mark.standing.part = self.standing.part;
+        mark.standing.read = self.standing.read;
+        mark.standing.bad = self.standing.bad;
+    }
+
     /// Goes back to a place where it stood.
-    pub(crate) fn cut(&mut self, mark: Mark)
-        requires { IsKeeping (at_mark mark (holds self.old)) }
-        ensures { holds self.new ≡ at_mark mark (holds self.old) }
+    pub(crate) fn cut(&mut self, mark: &Mark)
+        requires { IsKeeping (at_mark mark.now (holds self.old)) }
+        ensures { holds self.new ≡ at_mark mark.now (holds self.old) }
     {
         self.items.truncate(mark.items);
         self.texts.cut(mark.store, mark.keys);
@@ -161,6 +175,31 @@ impl Reading {
             lacks: lacks - piece.len() as u64,
         };
         Ok(true)
+    }
+
+    /// Takes the piece; or, where a fault is in it, turns bad where the mark is. For want of memory it goes back there.
+    #[inline]
+    pub(crate) fn feed(&mut self, before: &Mark, piece: &[u8]) -> Result<(), AllocError>
+        requires before { IsMark (holds self.old) before.now }
+        requires keeping { IsKeeping (holds self.old) }
+        requires good { (holds self.old).standing.bad ≡ None }
+        ensures here { OnOk result
+            (Takes (point (holds self.old)) piece.now (point (holds self.new))) }
+        ensures held { HoldsOn (holds self.old) (holds self.new) }
+        ensures err { OnErr result (point (holds self.new) ≡ point (holds self.old)) }
+    {
+        match self.take(piece) {
+            Ok(()) => Ok(()),
+            Err(Stop::Memory) => {
+                self.cut(before);
+                Err(AllocError)
+            }
+            Err(Stop::Fault(reason, place)) => {
+                self.cut(before);
+                self.turn_bad(reason, place);
+                Ok(())
+            }
+        }
     }
 
     /// Takes the piece, item by item. Its lists only grow.
@@ -288,6 +327,9 @@ impl Reading {
         ensures shorter { IfOk result (λ x. length x.now ≤ length bytes.now) }
         ensures grown { HasGrown (holds self.old) (holds self.new) }
     {
+        if lacks == 0 {
+            return self.end_item(announced, marker, number, bytes);
+        }
         if (bytes.len() as u64) < lacks {
             self.texts.extend(bytes)?;
             self.standing.part = Part::Body {

@@ -42,7 +42,10 @@ fn cells_of(alloc: Global, version: Version, members: &Vec<Value>) -> Result<Vec
 {
     let mut cells = Vec::with_capacity(alloc, members.len())?;
     for member in members {
-        cells.push(cell_of(alloc, version, member)?)?;
+        match member {
+            Value::Int(n) => cells.push(Cell::Int(*n))?,
+            _ => cells.push(cell_of(alloc, version, member)?)?,
+        }
     }
     Ok(cells)
 }

@@ -1,7 +1,7 @@
-use Rattle.std.proofs.Common.{List, [], ◌∷◌, ◌++◌, sym, subst}
+use Rattle.std.proofs.Common.{[], ◌∷◌, ◌++◌, sym, subst}
 use Rattle.std.proofs.lemmas.List.Elements.{All-nil, All-push}
 use Rattle.engine.specs.Cells.{IsCellPair, AreCellPairs, AreCellEntries, IsOfCells}
-use Rattle.engine.specs.Views.{EntryView, entry_of, writes_view, parameters_view}
+use Rattle.engine.specs.Views.{EntryView, entry_of, parameters_view}
 use Rattle.engine.proofs.FitsBy.{holds_by}
 use Rattle.engine.proofs.laws.commit_and_run.Goals as goal
 

@@ -1,7 +1,7 @@
 use Rattle.std.proofs.Common.{◌≡◌, List, ℕ, [], refl, subst}
 use Rattle.packstream.specs.Plain.{AreBytes}
 use Rattle.packstream.proofs.Ranges.{bytes_from_each}
-use Rattle.reader.specs.Piecewise.{Points, Point, Takes, Reads, Finishes, nothing_read, fresh}
+use Rattle.reader.specs.Piecewise.{Points, Point, Takes, Reads, nothing_read, fresh}
 use Rattle.reader.proofs.Pieces.{more_read, value_read, fault_read}
 use Rattle.reader.proofs.piece.read_piece.Goals as goal
 

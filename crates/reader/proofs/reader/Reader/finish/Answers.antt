@@ -1,8 +1,6 @@
-use Rattle.std.proofs.Common.{subst}
 use Rattle.packstream.proofs.Deciding.{whole_tells_value, whole_tells_fault}
-use Rattle.reader.specs.Piecewise.{Points, IsBeginning}
 use Rattle.reader.specs.Holding.{holds, bytes_of}
-use Rattle.reader.proofs.Held.{keeps_at, here_at, begins_at}
+use Rattle.reader.proofs.Held.{keeps_at, here_at}
 use Rattle.reader.proofs.reader.Reader.finish.Goals as goal
 
 pub returns-in-None-clause-value : goal.returns-in-None-clause-value

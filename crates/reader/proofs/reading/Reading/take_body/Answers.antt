@@ -16,8 +16,8 @@ returns-then-bytes-lacks-clause-told c =
     (part_taken (stored s h) p (bytes_with h (part.Body c.args.marker c.args.number c.args.lacks) ++ s) (body_longer h c.args.marker c.args.number c.args.lacks left s c.requires.goes (omega arith)) (omega arith)
     (bytes_stored h c.args.marker c.args.number c.args.lacks left s c.requires.goes) c.requires.good)
 
-pub end_item-requires-clause-goes : goal.end_item-requires-clause-goes
-end_item-requires-clause-goes c =
+pub end_item-requires-2-clause-goes : goal.end_item-requires-2-clause-goes
+end_item-requires-2-clause-goes c =
     let h : Holds = holds c.args.self.now in
     let s = c.split_at.result.0.now in
     subst (λ (x : Holds). Goes x (part.Body c.args.marker c.args.number 0)) (sym (stored_is h c.extend-2.new.self.bytes s c.extend-2.new.self.names c.in_ok-extend-2.ensures.ok c.in_ok-extend-2.ensures.keys))
@@ -33,4 +33,4 @@ returns-clause-told c =
     ∙ ap (λ (b : List ℕ). b ++ rest) (bytes_stored h c.args.marker c.args.number c.args.lacks 0 s c.requires.goes)
     ∙ append_assoc (bytes_with h (part.Body c.args.marker c.args.number c.args.lacks)) s rest
     ∙ ap (λ (b : List ℕ). bytes_with h (part.Body c.args.marker c.args.number c.args.lacks) ++ b) (sym c.split_at.ensures.by_index.0) in
-    subst (λ (b : List ℕ). Answers (λ x. x.now) c.end_item.result b (holds c.end_item.new.self)) all c.end_item.ensures.told
+    subst (λ (b : List ℕ). Answers (λ x. x.now) c.end_item-2.result b (holds c.end_item-2.new.self)) all c.end_item-2.ensures.told
