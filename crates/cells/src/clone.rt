@@ -1,6 +1,6 @@
 //! `clone`, written out since a derived one says nothing of types that hold each other.
 ghost use Rattle.std.specs.Prelude.{◌≡◌, IfOk, map};
-ghost use Rattle.cells.specs.Shape.{shape, node_shape, unbound_shape, relationship_shape, element_of, elements_of, entries, shapes};
+ghost use Rattle.cells.specs.Shape.{shape, node_shape, unbound_shape, relationship_shape, entries, shapes};
 
 use crate::cell::{Cell, Node, Relationship, UnboundRelationship};
 use crate::parts::{copy_element, copy_elements, copy_texts};

@@ -1,8 +1,7 @@
 //! The first typed cell that can't be written.
 ghost use Rattle.std.specs.Prelude.{◌≡◌, ◌≤◌, Ok, length, map, true};
-ghost use Rattle.packstream.specs.Tree.{int};
 ghost use Rattle.packstream.specs.View.{trees_of, entries_of};
-ghost use Rattle.cells.specs.Faults.{scan, fault_or_rest, next, structures, structures_in, structures_under, is_walk};
+ghost use Rattle.cells.specs.Faults.{scan, fault_or_rest, next, structures, structures_in, structures_under};
 ghost use Rattle.packstream.specs.Good.{count};
 ghost use Rattle.cells.specs.Shape.{element_of, elements_of, shape, shapes, entries, node_shape, unbound_shape, relationship_shape};
 ghost use Rattle.cells.specs.Writing.{fault_of_structure, tag_at};

@@ -83,13 +83,13 @@ module _ (s : Unfinished) (bytes : List ℕ) (used : ℕ) (place : Place) (p : P
   }
 
   goes_by : (n : ℕ) (what : Part) (next : Place) (q : Point) (more : List ℕ) → Taken (unfinished_at place r.body) (drop used bytes) n what (unfinished_at next more) → After what next more → Reads q more → Goes s bytes used n next q what
-  goes_by n part.Head next q more t a reads = (t.0, goes_on n next q more a.0 a.1 reads t.2)
-  goes_by n part.Data next q more t a reads = (t.0, goes_on n next q more a.0 a.1 reads t.2)
+  goes_by n part.Head next q more t a reads = (t.some, goes_on n next q more a.0 a.1 reads t.ahead)
+  goes_by n part.Data next q more t a reads = (t.some, goes_on n next q more a.0 a.1 reads t.ahead)
   goes_by n part.Noop next q more t a reads =
-      let none : more ≡ [] = is_none more a.2 in
-      record { body = more; reads = reads; ends = record { answer = r.ahead ∙ ap (further used) (t.0 ∙ ap (λ (l : List ℕ). record { answer = Ok (record { used = n; what = item_of l }); rest = fresh }) none); begins = a.0; none = none } }
+      let none : more ≡ [] = is_none more a.1 in
+      record { body = more; reads = reads; ends = record { answer = r.ahead ∙ ap (further used) (t.0 ∙ ap (λ (l : List ℕ). record { answer = Ok (record { used = n; what = item_of l }); rest = fresh }) none); begins = a.0.0; none = none } }
   goes_by n part.End next q more t a reads =
-      record { body = more; reads = reads; ends = (r.ahead ∙ ap (further used) (t.0 ∙ ap (λ (i : Piece). record { answer = Ok (record { used = n; what = i }); rest = fresh }) (is_message more a.2)), a.0) }
+      record { body = more; reads = reads; ends = (r.ahead ∙ ap (further used) (t.0 ∙ ap (λ (i : Piece). record { answer = Ok (record { used = n; what = i }); rest = fresh }) (is_message more a.1)), a.0.0) }
   goes_by n part.TooBig next q more t a reads = record { body = more; reads = reads; ends = (r.ahead ∙ ap (further used) t, a) }
 
   goes : (c : Cut) (next : Place) (q : Point) → TakesPart place r.body (drop used bytes) c next q → Goes s bytes used c.used next q c.what

@@ -1,6 +1,6 @@
 //! What a client holds.
 
-ghost use Rattle.std.specs.Prelude.{◌≡◌, true, false};
+ghost use Rattle.std.specs.Prelude.{◌≡◌, false};
 
 use crate::pipeline::Pipeline;
 use crate::stream::Stream;

@@ -1,5 +1,5 @@
 //! What a query leaves open.
-ghost use Rattle.std.specs.Prelude.{ℕ, ◌+◌, ◌≤◌, length};
+ghost use Rattle.std.specs.Prelude.{◌+◌, ◌≤◌, length};
 
 use engine::Write;
 use messages::{Mode, Response};

@@ -1,11 +1,8 @@
 //! The responses of a session but its rows and the SUCCESS of a RUN.
 ghost use Rattle.std.specs.Prelude.{◌≡◌, ◌∷◌, [], ◌++◌, IfOk, OnOk};
-ghost use Rattle.std.specs.Fmt.{decimal};
 ghost use Rattle.cells.specs.Shape.{shape, entries};
 ghost use Rattle.messages.specs.View.{response_view, Success};
-ghost use Rattle.messages.specs.Reading.{mode_tree};
-ghost use Rattle.messages.specs.Summaries.{response_of_summary, Metadata, greeting, bookmark, bookmark_of, ending};
-ghost use Rattle.exchange.specs.Faults.{code_of, message_of};
+ghost use Rattle.messages.specs.Summaries.{response_of_summary, greeting, bookmark, bookmark_of, ending};
 ghost use Rattle.exchange.specs.Acts.{summary_of};
 
 use crate::fault::Fault;

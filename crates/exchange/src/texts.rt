@@ -2,7 +2,6 @@
 ghost use Rattle.std.specs.Prelude.{◌≡◌, true, Ok, IfOk, IfErr};
 ghost use Rattle.messages.specs.View.{response_view};
 ghost use Rattle.messages.specs.Summaries.{response_of_summary, IsShort};
-ghost use Rattle.messages.specs.Writing.{response_spelling};
 ghost use Rattle.exchange.specs.Said.{fits};
 ghost use Rattle.exchange.specs.Acts.{IsBody, Refuses, summary_of, unwritten_of};
 

@@ -1,4 +1,4 @@
-ghost use Rattle.std.specs.Prelude.{◌≡◌, List, [], ◌∷◌, Option, Some, None};
+ghost use Rattle.std.specs.Prelude.{◌≡◌, [], ◌∷◌, Option, Some, None};
 ghost use Rattle.messages.specs.View.{request_view};
 ghost use Rattle.machine.specs.Asks.{kind_of, in_part};
 ghost use Rattle.machine.specs.Following.{after_greeting, after_halted, after_row, after_serving, allowed_in, allows, as_set, set_after, phases_of, possible, table};

@@ -1,5 +1,5 @@
-ghost use Rattle.std.specs.Prelude.{◌≡◌, List, [], ◌∷◌, ◌||◌};
-ghost use Rattle.machine.specs.Following.{has, set_of, union};
+ghost use Rattle.std.specs.Prelude.{◌≡◌, List, [], ◌∷◌};
+ghost use Rattle.machine.specs.Following.{has, union};
 
 use crate::states::Phase;
 use std::marker::Model;

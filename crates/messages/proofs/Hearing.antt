@@ -40,7 +40,7 @@ answer_heard (Some V51) = refl
 
 -- each comes as an item of the wire
 told_spoken : (b : List ℕ) (xs : List Item) → Fits b → Spoken 4 xs → Spoken 4 (Message b ∷ xs)
-told_spoken b xs f h = (f.0, f.1, h)
+told_spoken b xs f h = ((f.0, f.1), h)
 
 spoken : (v : Version) (xs : List Heard) → IsSpoken v xs → Spoken 4 (map (item_of v) xs)
 spoken v [] h = absurd h

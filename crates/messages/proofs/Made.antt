@@ -215,9 +215,9 @@ response_made v (Failure c m) h = (h.1.0, h.1.1.0)
 pub requests_are_made : RequestsAreMade
 requests_are_made v m b r =
     request_made v m (made v (contents_of_message v requests r.value) (request_contents m)
-    (asked_made v r.value r.good.2) r.says)
+    (asked_made v r.value r.good.plain) r.says)
 
 pub responses_are_made : ResponsesAreMade
 responses_are_made v m b r =
     response_made v m (made v (contents_of_message v responses r.value) (response_contents m)
-    (said_made v r.value r.good.2) r.says)
+    (said_made v r.value r.good.plain) r.says)

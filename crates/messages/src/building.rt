@@ -1,11 +1,11 @@
 //! Values of requests and responses.
 ghost use Rattle.std.specs.Prelude.{◌≡◌, true, false, ◌∷◌, [], ◌++◌, Ok, IfOk, OnOk, codes, Some, None, string_bytes};
 ghost use Rattle.packstream.specs.Tree.{int, text, dict, list, structure, no_trees, tree_then};
-ghost use Rattle.packstream.specs.View.{tree, trees, trees_of, entries as value_entries, entries_of};
+ghost use Rattle.packstream.specs.View.{tree, trees_of, entries as value_entries, entries_of};
 ghost use Rattle.cells.specs.Shape.{entries, shapes, text_of};
 ghost use Rattle.messages.specs.View.{request_view, response_view, auth_in, auth_view, Hello, Logon, Logoff, Run, Success, Record, Failure};
 ghost use Rattle.messages.specs.Table.{how_many, mode_alone, run_tag, begin_tag};
-ghost use Rattle.messages.specs.Reading.{Answers, request_contents, response_contents, contents, mode_tree, count_tree, login_trees};
+ghost use Rattle.messages.specs.Reading.{Answers, request_contents, response_contents, mode_tree, count_tree};
 ghost use Rattle.messages.specs.Writing.{form_put, named_put};
 ghost use Rattle.messages.specs.Parts.{with_dict, count_number};
 ghost use Rattle.messages.specs.Cells.{cell_put};

@@ -1,5 +1,5 @@
 //! The named entries of a dictionary.
-ghost use Rattle.std.specs.Prelude.{◌≡◌, codes, MatchOption, IsNone, Some, None, ◌∷◌, []};
+ghost use Rattle.std.specs.Prelude.{◌≡◌, codes, Some, None, ◌∷◌, []};
 ghost use Rattle.packstream.specs.View.{tree, entries, entries_of};
 ghost use Rattle.packstream.specs.Tree.{text};
 ghost use Rattle.cells.specs.Shape.{text_of};

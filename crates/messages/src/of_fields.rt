@@ -1,6 +1,5 @@
 //! Cells in the fields of a message.
-ghost use Rattle.std.specs.Prelude.{◌≡◌, ◌∷◌, [], IfOk, IsOk};
-ghost use Rattle.packstream.specs.Tree.{Tree, text, list, dict, Trees, Entries};
+ghost use Rattle.packstream.specs.Tree.{list, dict};
 ghost use Rattle.packstream.specs.View.{tree, trees_of, entries_of};
 ghost use Rattle.cells.specs.Shape.{shape, shapes, entries};
 ghost use Rattle.messages.specs.Reading.{Answers, cell_of_field};

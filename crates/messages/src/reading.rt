@@ -1,13 +1,13 @@
 //! Requests and responses of values.
-ghost use Rattle.std.specs.Prelude.{◌≡◌, ◌∷◌, [], Ok, IfOk};
-ghost use Rattle.packstream.specs.Tree.{Tree, text, list, dict, Trees, Entries};
+ghost use Rattle.std.specs.Prelude.{◌∷◌, [], Ok};
+ghost use Rattle.packstream.specs.Tree.{text, list};
 ghost use Rattle.packstream.specs.View.{tree, trees, trees_of, entries as value_entries, entries_of};
-ghost use Rattle.cells.specs.Shape.{shape, shapes, entries};
+ghost use Rattle.cells.specs.Shape.{entries};
 ghost use Rattle.wire.specs.declared.Version.{Version as AnyVersion};
 ghost use Rattle.wire.specs.Versions.{every_version};
-ghost use Rattle.messages.specs.Table.{ignored, refused, extra, text_field, cells, cell_list, hello, credentials, mode_alone, how_many, of_error, Name, HELLO, LOGON, LOGOFF, GOODBYE, RESET, RUN, BEGIN, COMMIT, ROLLBACK, DISCARD, PULL, SUCCESS, RECORD, IGNORED, FAILURE, requests, responses};
+ghost use Rattle.messages.specs.Table.{ignored, refused, extra, text_field, cells, cell_list, hello, credentials, mode_alone, how_many, of_error, HELLO, LOGON, LOGOFF, GOODBYE, RESET, RUN, BEGIN, COMMIT, ROLLBACK, DISCARD, PULL, SUCCESS, RECORD, IGNORED, FAILURE, requests, responses};
 ghost use Rattle.messages.specs.View.{request_view, response_view};
-ghost use Rattle.messages.specs.Reading.{contents, Answers, contents_of_row, cell_of_field, contents_at_tag, request_contents, response_contents, count_tree};
+ghost use Rattle.messages.specs.Reading.{contents, Answers, contents_of_row, contents_at_tag, request_contents, response_contents};
 ghost use Rattle.messages.specs.Parts.{contents_of_plain, contents_of_run, entries_of_dict, members_of_list, only_dict, parts, run_parts, field_text, no_field, one_field};
 
 use crate::entries::{auth_of, count_in, mode_in, text_in};

@@ -1,5 +1,5 @@
 //! A client and a server in one process, over the two ends of a connection.
-ghost use Rattle.std.specs.Prelude.{◌≡◌, ◌⊎◌, ℕ, [], List, length, true, None, IfErr, OnOk, IsErrOf};
+ghost use Rattle.std.specs.Prelude.{◌≡◌, ◌⊎◌, [], length, true, None, IfErr, OnOk, IsErrOf};
 ghost use Rattle.server.specs.Serving.{Rest};
 ghost use Rattle.server.specs.Views.{Fits};
 ghost use Rattle.streams.specs.Settling.{IsLive, LivesOn};

@@ -227,7 +227,7 @@ keeps_on old new piece keeps are stands bytes = record {
 -- a piece that is joined
 pub joins : (old new : Holds) (before : Point) (piece : List ℕ) → point old ≡ before → IsKeeping new → old.standing.bad ≡ None → bytes_of new ≡ bytes_of old ++ piece → new.standing.bad ≡ None → Takes before piece (point new)
 joins old new before piece is keeps good bytes still =
-    subst (λ (p : Point). Takes p piece (point new)) is (rw good (inl (bytes, still, may_go_on new keeps)))
+    subst (λ (p : Point). Takes p piece (point new)) is (rw good (inl (record { joined = bytes; good = still; goes_on = may_go_on new keeps })))
 
 -- a piece that ends in a fault is taken back, and the fault is kept
 pub turns : (old new : Holds) (before : Point) (piece : List ℕ) (r : Reason) (o : ℕ) → point old ≡ before → old.standing.bad ≡ None → new ≡ with_fault r o old → Bad (bytes_of old ++ piece) o r × (r ≡ reason.Short → ⊥) → Takes before piece (point new)

@@ -31,8 +31,8 @@ bad_on b c r o bytes bad =
 joined_keeps : (bytes b c : List ℕ) (new : Point) → bytes ≡ b
     → Joins (record { bytes = bytes; bad = None }) c new → Keeps new.bytes new.bad (b ++ c)
 joined_keeps bytes b c new e j =
-    subst (λ (x : Option (Reason × ℕ)). Keeps new.bytes x (b ++ c)) (sym j.1)
-    (j.0 ∙ ap (λ (x : List ℕ). x ++ c) e)
+    subst (λ (x : Option (Reason × ℕ)). Keeps new.bytes x (b ++ c)) (sym j.good)
+    (j.joined ∙ ap (λ (x : List ℕ). x ++ c) e)
 
 turned_keeps : (bytes b c : List ℕ) (new : Point) → bytes ≡ b
     → TurnsBad (record { bytes = bytes; bad = None }) c new → Keeps new.bytes new.bad (b ++ c)

@@ -147,7 +147,11 @@ last_closes f fs front t c h none one sound deep le =
 
 -- A value behind what is open leaves what the definition says.
 pub ends_stand : (fs : List Frame) (front : List ℕ) (t : Tree) (c : List ℕ) → AreFrames fs front → (place fs).key ≡ None → SpellsTree t c → IsSound t → depth t + length fs ≤ 32 → Stands (ends fs t) (front ++ c)
-ends_stand [] front t c h none one sound deep = (subst (λ (x : List ℕ). SpellsTree t (x ++ c)) (sym h) one, sound, omega arith)
+ends_stand [] front t c h none one sound deep = record {
+  spells = subst (λ (x : List ℕ). SpellsTree t (x ++ c)) (sym h) one;
+  sound = sound;
+  deep = omega arith;
+}
 ends_stand (f ∷ fs) front t c h none one sound deep =
     elim (cases_lt 1 f.lacks) as (λ _. Stands (ends (f ∷ fs) t) (front ++ c)) [
       | inl lt ↦ (let e : nat_lt 1 f.lacks ≡ true = lt-ltb _ _ lt in rw e (stays_open f fs front t c h none one sound deep lt))

@@ -84,10 +84,10 @@ names_end (f ∷ fs) t b names store gs are none h e =
       | inl lt ↦ (let l : nat_lt 1 f.lacks ≡ true = lt-ltb _ _ lt in
           let same : still (record { opened = with_member f.opened t; lacks = f.lacks - 1; first = f.first } ∷ fs) ≡ still gs = rw l at e in
           let g : record { opened = with_member f.opened t; lacks = f.lacks - 1; first = f.first } ∷ fs ≡ gs = cc in
-          subst (λ (x : List Frame). HaveNames x names store) g (names_put f.opened t f.first names store h.0 (no_key f fs none), apart_put f.opened t f.first fs h.1, h.2))
+          subst (λ (x : List Frame). HaveNames x names store) g ((names_put f.opened t f.first names store h.0.0 (no_key f fs none), apart_put f.opened t f.first fs h.0.1), h.1))
       | inr le ↦ (let l : nat_lt 1 f.lacks ≡ false = le-ltb _ _ le in
           let same : ends fs (tree_so_far (with_member f.opened t)) ≡ still gs = rw l at e in
-          names_end fs (tree_so_far (with_member f.opened t)) are.front names store gs are.around are.keyless h.2 same)
+          names_end fs (tree_so_far (with_member f.opened t)) are.front names store gs are.around are.keyless h.1 same)
     ]
 
 -- more bytes change no name
@@ -111,7 +111,7 @@ has_more (at_value es k) names store s first placed h = are_more names store s f
 
 pub names_more : (fs : List Frame) (names : List Name) (store s : List ℕ) → ArePlaced names (length store) → HaveNames fs names store → HaveNames fs names (store ++ s)
 names_more [] names store s placed h = tt
-names_more (f ∷ fs) names store s placed h = (has_more f.opened names store s f.first placed h.0, h.1, names_more fs names store s placed h.2)
+names_more (f ∷ fs) names store s placed h = ((has_more f.opened names store s f.first placed h.0.0, h.0.1), names_more fs names store s placed h.1)
 
 pub placed_more : (names : List Name) (store s : List ℕ) → ArePlaced names (length store) → ArePlaced names (length (store ++ s))
 placed_more names store s placed = λ i n e. (let p = placed i n e in (p.0, omega (arith, p.1, length-append store s)))
@@ -143,7 +143,7 @@ has_push (at_value es k) names n store first other lt h = are_push names n store
 pub names_push : (fs : List Frame) (b : List ℕ) (names : List Name) (n : Name) (store : List ℕ) → AreFrames fs b → (place fs).key ≡ None → BeginBefore fs n.first → HaveNames fs names store → HaveNames fs (names ++ n ∷ []) store
 names_push [] b names n store are none lt h = tt
 names_push (f ∷ fs) b names n store are none lt h =
-    (has_push f.opened names n store f.first (no_key f fs none) lt.0 h.0, h.1, names_push fs are.front names n store are.around are.keyless lt.1 h.2)
+    ((has_push f.opened names n store f.first (no_key f fs none) lt.0 h.0.0, h.0.1), names_push fs are.front names n store are.around are.keyless lt.1 h.1)
 
 -- ---- keys among keys
 
@@ -216,7 +216,7 @@ opened_before (at_value es k) names store first placed other h = named_before na
 pub all_before : (fs : List Frame) (b : List ℕ) (names : List Name) (store : List ℕ) → AreFrames fs b → (place fs).key ≡ None → ArePlaced names (length store) → HaveNames fs names store → BeginBefore fs (length names)
 all_before [] b names store are none placed h = tt
 all_before (f ∷ fs) b names store are none placed h =
-    (opened_before f.opened names store f.first placed (no_key f fs none) h.0, all_before fs are.front names store are.around are.keyless placed h.2)
+    (opened_before f.opened names store f.first placed (no_key f fs none) h.0.0, all_before fs are.front names store are.around are.keyless placed h.1)
 
 -- the next key of a dictionary is its first, or another stands where its keys begin
 pub root_of : (names : List Name) (store : List ℕ) (first : ℕ) (keys : List (List ℕ)) → AreNames names store first keys → (keys ≡ [] → first ≡ length names) → IsRoot names first
@@ -309,7 +309,7 @@ is_done h m number what o t is r ended spells sound deep = inl (record {
 
 left_stands : (h : Holds) (m number : ℕ) (what : Marker) (o : Open) (l : Left) → marker m ≡ Some what → (r : IsReady h m number) → Stands l (bytes_of_items h.items [] r.full ++ (head_bytes m number ++ r.tail)) → IsLeft l o
     → ((gs : List Frame) → l ≡ still gs → HaveNames gs h.names h.store) → IsStanding (after o (with_item what m number h))
-left_stands h m number what o (whole t) is r s i names = is_done h m number what o t is r i s.0 s.1 s.2
+left_stands h m number what o (whole t) is r s i names = is_done h m number what o t is r i s.spells s.sound s.deep
 left_stands h m number what o (still gs) is r s i names = goes_on h m number what o gs is r i.0 s i.1 (names gs refl)
 
 -- a value without members

@@ -251,7 +251,7 @@ key_twice h m number start size rest is g k there utf8 named =
     let n : length g.tail ≡ size_with size number = omega (arith, g.isa.long) ∙ ap (λ (o : Option Marker). body o number) is in
     let small : number < 256 ^ size_len size = subst (λ (o : Option Marker). number < 256 ^ field o) is g.isa.small in
     let names = subst (λ (fs : List Frame). HaveNames fs h.names h.store) k.is g.named in
-    let among : is_among g.tail (keys_of k.es) ≡ true = (names.0.0 g.tail).1 (subst (λ (s : List ℕ). IsNamed h.names h.store k.first s) there named) in
+    let among : is_among g.tail (keys_of k.es) ≡ true = (names.0.0.0 g.tail).1 (subst (λ (s : List ℕ). IsNamed h.names h.store k.first s) there named) in
     let key : (place g.frames).key ≡ Some (keys_of k.es) = ap (λ (fs : List Frame). (place fs).key) k.is in
     fault_behind h (part.Body m number 0) rest reason.KeyTwice g
     (ap (fault_at (place g.frames)) (append_assoc (head_bytes m number) g.tail rest) ∙ twice (place g.frames) m number size g.tail rest (keys_of k.es) is small n (is_utf8-from_IsUtf8 g.tail utf8) key among)

@@ -216,7 +216,7 @@ list_stands h m number count (announces.List size) o is l some g levels whole =
     let field_is = sized_by size number count (small_by m number what is g.isa.small) l in
     let are = list_opens size count 0 (big_bytes (size_len size) number) g.frames (bytes_of_items h.items [] g.full) (m ∷ big_bytes (size_len size) number) g.are none (room h m number what is refl refl g) (omega arith) field_is (m, is, refl) in
     goes_on h m number what o (waits (in_list no_trees) count 0 ∷ g.frames) is (ready h m number g) (whole ∙ g.unread)
-    (opened h m number what (waits (in_list no_trees) count 0 ∷ g.frames) is refl g are) (levels g.frames (in_list no_trees) g.levels refl) (tt, tt, g.named)
+    (opened h m number what (waits (in_list no_trees) count 0 ∷ g.frames) is refl g are) (levels g.frames (in_list no_trees) g.levels refl) ((tt, tt), g.named)
 list_stands h m number count (announces.Dict size) o is l some g levels whole = absurd l
 list_stands h m number count (announces.Struct n) o is l some g levels whole =
     let what : Marker = announces.Struct n in
@@ -224,7 +224,7 @@ list_stands h m number count (announces.Struct n) o is l some g levels whole =
     let counted : marker m ≡ Some (announces.Struct count) = is ∙ ap (λ (k : ℕ). Some (announces.Struct k)) l in
     let are = struct_opens (number % 256) count 0 g.frames (bytes_of_items h.items [] g.full) (m ∷ big_bytes 1 number) g.are none (room h m number what is refl refl g) (omega arith) (m, counted, refl) in
     goes_on h m number what o (waits (in_struct (number % 256) no_trees) count 0 ∷ g.frames) is (ready h m number g) (whole ∙ g.unread)
-    (opened h m number what (waits (in_struct (number % 256) no_trees) count 0 ∷ g.frames) is refl g are) (levels g.frames (in_struct (number % 256) no_trees) g.levels refl) (tt, tt, g.named)
+    (opened h m number what (waits (in_struct (number % 256) no_trees) count 0 ∷ g.frames) is refl g are) (levels g.frames (in_struct (number % 256) no_trees) g.levels refl) ((tt, tt), g.named)
 
 pub dict_stands : (h : Holds) (m number count : ℕ) (size : Size) (o : Open) → marker m ≡ Some (announces.Dict size) → size_with size number ≡ count → (count ≡ 0 → ⊥) → (g : Goes h (part.Body m number 0))
     → ((fs : List Frame) (f : Opened) → AreLevels fs h.standing.«open».depth h.standing.«open».around → next_of f ≡ inside.Key → AreLevels (waits f count (length h.names) ∷ fs) o.depth o.around) → o.is_whole ≡ h.standing.«open».is_whole
@@ -238,7 +238,7 @@ dict_stands h m number count size o is l some g levels whole =
     let before = all_before g.frames (bytes_of_items h.items [] g.full) h.names h.store g.are none g.placed g.named in
     goes_on h m number what o (waits (at_key no_entries) count first ∷ g.frames) is (ready h m number g) (whole ∙ g.unread)
     (opened h m number what (waits (at_key no_entries) count first ∷ g.frames) is refl g are) (levels g.frames (at_key no_entries) g.levels refl)
-    ((no_names h.names h.store g.placed, λ e. refl), before, g.named)
+    (((no_names h.names h.store g.placed, λ e. refl), before), g.named)
 
 -- ---- keys
 
@@ -288,7 +288,7 @@ named_with n h = record h { names = h.names ++ n ∷ [] }
 pub key_root : (h : Holds) (m number : ℕ) → (g : Goes h (part.Body m number 0)) → (k : IsKeyFrame g.frames) → IsRoot h.names k.first
 key_root h m number g k =
     let named = subst (λ (fs : List Frame). HaveNames fs h.names h.store) k.is g.named in
-    root_of h.names h.store k.first (keys_of k.es) named.0.0 named.0.1
+    root_of h.names h.store k.first (keys_of k.es) named.0.0.0 named.0.0.1
 
 -- as the code has it
 pub named_is : (h : Holds) (b : List ℕ) (ns : List Name) (start len first found : ℕ) → b ≡ h.store → ns ≡ h.names ++ (record { start = start; len = len; first = found }) ∷ [] → found ≡ first
@@ -321,11 +321,11 @@ key_stands h m number start size o is g k from there utf8 other levels same =
     let here = subst (λ (fs : List Frame). AreFrames fs (bytes_of_items h.items [] g.full)) k.is g.are in
     let around = subst (λ (fs : List Frame). AreLevels fs h.standing.«open».depth h.standing.«open».around) k.is g.levels in
     let named = subst (λ (fs : List Frame). HaveNames fs h.names h.store) k.is g.named in
-    let fresh : is_among g.tail (keys_of k.es) ≡ false = fresh_key h.names h.store k.first (keys_of k.es) g.tail named.0.0 (subst (λ (s : List ℕ). IsNamed h.names h.store k.first s → ⊥) there other) in
+    let fresh : is_among g.tail (keys_of k.es) ≡ false = fresh_key h.names h.store k.first (keys_of k.es) g.tail named.0.0.0 (subst (λ (s : List ℕ). IsNamed h.names h.store k.first s → ⊥) there other) in
     let are = key_waits k.es g.tail k.lacks k.first k.around (bytes_of_items h.items [] g.full) (head_bytes m number ++ g.tail) here (text_spelled m number size g.tail is g.isa.small g.isa.long utf8) fresh in
     let len : n.len ≡ length g.tail = omega arith in
     let has : text_of h.store n ≡ g.tail = ap (λ (x : ℕ). take x (drop start h.store)) len ∙ ap (λ (x : List ℕ). take (length g.tail) x) there ∙ take-length g.tail in
     goes_on (named_with n h) m number (announces.Text size) o (waits (at_value k.es g.tail) k.lacks k.first ∷ k.around) is
     (key_ready h m number start g k (omega arith))
     (same ∙ g.unread) are (levels k.around k.es g.tail k.lacks k.first around)
-    (key_named h.names n h.store (keys_of k.es) g.tail named.0.0 has, named.1, names_push k.around here.front h.names n h.store here.around here.keyless named.1 named.2)
+    ((key_named h.names n h.store (keys_of k.es) g.tail named.0.0.0 has, named.0.1), names_push k.around here.front h.names n h.store here.around here.keyless named.0.1 named.1)

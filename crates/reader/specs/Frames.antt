@@ -165,11 +165,14 @@ IsApart (in_struct tag ts) first fs = Unit {0}
 IsApart (at_key es) first fs = BeginBefore fs first
 IsApart (at_value es k) first fs = BeginBefore fs first
 
--- each open dictionary has its names, and its keys begin behind those of the ones around it
+-- an open dictionary has its names, and its keys begin behind those of the ones around it
+abbrev pub HasOwnNames : Frame → List Frame → List Name → List ℕ → Type 0
+HasOwnNames f fs names store = HasNames f.opened f.first names store × IsApart f.opened f.first fs
+
+-- each open dictionary has its own names
 abbrev pub HaveNames : List Frame → List Name → List ℕ → Type 0
 HaveNames [] names store = Unit {0}
-HaveNames (f ∷ fs) names store =
-    HasNames f.opened f.first names store × IsApart f.opened f.first fs × HaveNames fs names store
+HaveNames (f ∷ fs) names store = HasOwnNames f fs names store × HaveNames fs names store
 
 -- ---- a value behind what is open
 
@@ -209,9 +212,15 @@ ends (f ∷ fs) t =
     if nat_lt 1 f.lacks then still (waits (with_member f.opened t) (f.lacks - 1) f.first ∷ fs)
     else ends fs (tree_so_far (with_member f.opened t))
 
--- The bytes spell the whole value, which is sound and not too deep; or they are what is still open.
+-- the bytes spell the value, which is sound and not too deep
+pub record SpellsSound (t : Tree) (b : List ℕ) : Type 0 where
+  pub spells : SpellsTree t b
+  pub sound : IsSound t
+  pub deep : depth t ≤ 32
+
+-- The bytes spell the whole value; or they are what is still open.
 abbrev pub Stands : Left → List ℕ → Type 0
-Stands (whole t) b = SpellsTree t b × IsSound t × (depth t ≤ 32)
+Stands (whole t) b = SpellsSound t b
 Stands (still fs) b = AreFrames fs b
 
 -- It is held so: that the value is whole; or that it isn't, with what is still open in the array.

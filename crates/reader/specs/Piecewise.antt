@@ -38,8 +38,10 @@ abbrev pub MayGoOn : List ℕ → Type 0
 MayGoOn b = (r : Reason) (o : ℕ) → Bad b o r → r ≡ reason.Short
 
 -- the piece is joined to the bytes
-abbrev pub Joins : Point → List ℕ → Point → Type 0
-Joins old piece new = (new.bytes ≡ old.bytes ++ piece) × (new.bad ≡ None) × MayGoOn new.bytes
+pub record Joins (old : Point) (piece : List ℕ) (new : Point) : Type 0 where
+  pub joined : new.bytes ≡ old.bytes ++ piece
+  pub good : new.bad ≡ None
+  pub goes_on : MayGoOn new.bytes
 
 -- with the piece each continuation of the bytes is bad, and the bytes that there were are kept
 pub record TurnsBad (old : Point) (piece : List ℕ) (new : Point) : Type 0 where

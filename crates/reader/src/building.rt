@@ -1,5 +1,5 @@
 //! A value out of the items that were read of it.
-ghost use Rattle.std.specs.Prelude.{◌≡◌, ◌≤◌, ◌<◌, ◌^◌, ◌+◌, [], ℕ, List, length, take, drop, Ok, IfOk};
+ghost use Rattle.std.specs.Prelude.{◌≡◌, ◌≤◌, ◌<◌, ◌^◌, [], ℕ, List, length, take, drop, Ok, IfOk};
 ghost use Rattle.byteorder.specs.Endian.{twos_complement};
 ghost use Rattle.packstream.specs.Tree.{Tree};
 ghost use Rattle.packstream.specs.View.{tree, trees, entries};

@@ -6,10 +6,10 @@ use Rattle.exchange.specs.Session.{Setting}
 use Rattle.scripts.specs.Rows.{line_of}
 use Rattle.scripts.specs.Script.{filled_lines, lines_read}
 use Rattle.scripts.specs.Views.{LineView}
-use Rattle.world.specs.World.{World, Event, Seen, Refusal, step, empty}
+use Rattle.world.specs.World.{World, Event, Seen, Refusal, empty}
 use Rattle.replays.specs.declared.replaying.Replayed.{Replayed}
 use Rattle.replays.specs.Events.{Came, moves, code_of, repeats, event_at}
-use Rattle.replays.specs.Running.{serving, Takes, Once, Moves, stays, moves_on, Repeats, Done, Does, line_of_note, Runs, starts, runs_on}
+use Rattle.replays.specs.Running.{serving, Takes, Moves, stays, moves_on, Done, Does, line_of_note, Runs, starts, runs_on}
 use Rattle.replays.specs.Scripts.{Says, SaysScript, unreadable_line}
 use Rattle.replays.specs.Texts.{report_text}
 

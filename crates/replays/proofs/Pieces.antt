@@ -1,5 +1,5 @@
 -- Bytes that are read one piece after the other.
-use Rattle.std.proofs.Common.{◌≡◌, sym, ap, ◌∙◌, List, ℕ, ◌++◌, append_assoc}
+use Rattle.std.proofs.Common.{sym, ap, ◌∙◌, List, ℕ, ◌++◌, append_assoc}
 use Rattle.std.specs.Prelude.{Some, None}
 use Rattle.std.specs.declared.option.Option.{Option}
 use Rattle.std.specs.Io.KnownBytes.{Consumes}

@@ -1,6 +1,6 @@
 -- Texts of several things, one after the other.
-use Rattle.std.proofs.Common.{◌≡◌, refl, sym, ap, ◌∙◌, List, [], ◌∷◌, ◌++◌, ℕ, ◌+◌, ◌<◌, zero, suc, length, take, map, get_or, append_assoc, add-one, ◌≤◌, ◌-◌, arith}
-use Rattle.std.proofs.lemmas.List.{append-nil, flat_map_more, map_more, take_more}
+use Rattle.std.proofs.Common.{◌≡◌, refl, sym, ap, ◌∙◌, List, [], ◌∷◌, ◌++◌, ℕ, ◌+◌, zero, suc, length, take, map, append_assoc, add-one, ◌≤◌, ◌-◌, arith}
+use Rattle.std.proofs.lemmas.List.{append-nil, flat_map_more}
 use Rattle.std.specs.List.{flat_map}
 use Rattle.std.specs.declared.option.Option.{Option}
 use Rattle.std.specs.Prelude.{Some, None, slice_get}

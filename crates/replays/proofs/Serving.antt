@@ -1,5 +1,5 @@
 -- The program's server lets in its one user, and what is said of the lines that it runs.
-use Rattle.std.proofs.Common.{◌≡◌, refl, sym, ap, ◌∙◌, subst, List, [], ℕ, ◌++◌, string_bytes}
+use Rattle.std.proofs.Common.{◌≡◌, ap, ◌∙◌, subst, List, [], ℕ, ◌++◌, string_bytes}
 use Rattle.std.specs.Prelude.{◌&&◌, codes}
 use Rattle.std.specs.Str.{bytes_eq}
 use Rattle.engine.specs.declared.fixed_table.FixedTable.{FixedTable}

@@ -1,6 +1,5 @@
 -- What a world's answer means for an event, and events again and again.
-use Rattle.std.proofs.Common.{◌≡◌, refl, sym, ap, ◌∙◌, subst, true, false, Result, Ok, Err, List, ℕ, inl, inr}
-use Rattle.std.specs.declared.option.Option.{Option}
+use Rattle.std.proofs.Common.{◌≡◌, refl, sym, ◌∙◌, subst, true, false, Result, Ok, Err, List, inl, inr}
 use Rattle.std.specs.declared.alloc.AllocError.{AllocError}
 use Rattle.engine.specs.Views.{EntryView}
 use Rattle.exchange.specs.Session.{Setting}

@@ -1,5 +1,5 @@
 -- The events of a script's lines, and what is noted of them.
-use Rattle.std.specs.Prelude.{◌≡◌, ℕ, nat_lt, Bool, true, false, List, codes, Option, Some, None, Result, Ok, Err, slice_get}
+use Rattle.std.specs.Prelude.{ℕ, nat_lt, Bool, true, false, List, codes, Option, Some, None, Result, Ok, Err, slice_get}
 use Rattle.wire.specs.declared.Version.{Version}
 use Rattle.wire.specs.declared.Version.TheVariants.{V51}
 use Rattle.wire.specs.Offers.{wish_version}

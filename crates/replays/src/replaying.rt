@@ -1,5 +1,5 @@
 //! A script that a source gives, and what is said of it.
-ghost use Rattle.std.specs.Prelude.{◌≡◌, ◌≤◌, ◌++◌, ◌∷◌, [], codes, IfOk, List, ℕ, string_bytes};
+ghost use Rattle.std.specs.Prelude.{◌≤◌, ◌++◌, ◌∷◌, [], codes, IfOk, List, ℕ};
 ghost use Rattle.std.specs.Io.KnownBytes.{Consumes};
 ghost use Rattle.scripts.specs.Script.{said_lines};
 ghost use Rattle.world.specs.World.{World as WorldSeen, empty};

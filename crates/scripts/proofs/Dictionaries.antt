@@ -67,11 +67,11 @@ spelled : (b : List ℕ) (ps : Params) (bytes : AreBytes b) (r : Result Tree (Pa
 spelled b ps bytes (Ok t) e h =
     let good : IsGood t × Spells t b = (whole_value b bytes t).0 e in
     let cell = formed t ps (scan (fault V51) 0 (structures t)) (scan (fault V44) 0 (structures t)) refl refl h in
-    (cell.0, t, good.0, good.1, cell.1)
+    record { version = cell.0; value = t; good = good.0; spelled = good.1; form = cell.1 }
 spelled b ps bytes (Err x) e h = absurd cc
 
 pub are_params : (b : List ℕ) (ps : Params) → AreBytes b → (params_of b ≡ Some ps) ↔ IsParams b ps
 are_params b ps bytes = (
   (λ (h : params_of b ≡ Some ps). spelled b ps bytes (whole_of b) refl h),
-  (λ (h : IsParams b ps). ap (λ r. option_and_then entries_in (option_and_then cell_of (result_ok r))) ((whole_value b bytes h.1).1 (h.2, h.3)) ∙ found h.0 h.1 ps h.4),
+  (λ (h : IsParams b ps). ap (λ r. option_and_then entries_in (option_and_then cell_of (result_ok r))) ((whole_value b bytes h.value).1 (h.good, h.spelled)) ∙ found h.version h.value ps h.form),
 )

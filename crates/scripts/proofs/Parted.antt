@@ -81,7 +81,12 @@ words_by : (line : Text) (ws : List Text) (u e : Bool) → is_utf8 line ≡ u �
 words_by line ws true false u e h =
     let same : parts_of line ≡ ws = cc in
     let P : List Text → Type 0 = λ vs. AreWords line vs in
-    subst P same (IsUtf8-from_is_utf8 line u, some_words line, words_all (parts_of line) e (unblanked line), join_with_byte-slice_split 32 line)
+    subst P same (record {
+      utf8 = IsUtf8-from_is_utf8 line u;
+      some = some_words line;
+      words = words_all (parts_of line) e (unblanked line);
+      joined = join_with_byte-slice_split 32 line;
+    })
 words_by line ws true true u e h = absurd cc
 words_by line ws false e u f h = absurd cc
 
@@ -89,6 +94,6 @@ pub are_words : (line : Text) (ws : List Text) → (words_of line ≡ Some ws) �
 are_words line ws = (
   (λ (h : words_of line ≡ Some ws). words_by line ws (is_utf8 line) (list_any is_empty (parts_of line)) refl refl h),
   (λ (h : AreWords line ws).
-      let same : parts_of line ≡ ws = ap parts_of (sym h.3) ∙ again ws h.1 h.2 in
-      whole_words line h.0 (ap (list_any is_empty) same ∙ none_empty ws h.2) ∙ ap Some same),
+      let same : parts_of line ≡ ws = ap parts_of (sym h.joined) ∙ again ws h.some h.words in
+      whole_words line h.utf8 (ap (list_any is_empty) same ∙ none_empty ws h.words) ∙ ap Some same),
 )

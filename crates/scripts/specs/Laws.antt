@@ -10,6 +10,8 @@ abbrev pub is_word : Text → Bool
 is_word w = not (is_empty w) && not (list_any (λ b. b == 32) w)
 
 -- one word or more, which one blank between each two makes the line
-abbrev pub AreWords : Text → List Text → Type 0
-AreWords line ws = IsUtf8 line × (0 < length ws) × (list_all is_word ws ≡ true)
-    × (join_with_byte 32 ws ≡ line)
+pub record AreWords (line : Text) (ws : List Text) : Type 0 where
+  pub utf8 : IsUtf8 line
+  pub some : 0 < length ws
+  pub words : list_all is_word ws ≡ true
+  pub joined : join_with_byte 32 ws ≡ line

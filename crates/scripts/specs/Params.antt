@@ -44,5 +44,9 @@ abbrev pub params_of : List ℕ → Option Params
 params_of b = option_and_then entries_in (option_and_then cell_of (result_ok (whole_of b)))
 
 -- the bytes spell a good value, which at some version is a cell: a dictionary with these entries
-abbrev pub IsParams : List ℕ → Params → Type 0
-IsParams b ps = (v : Version) × (t : Tree) × IsGood t × Spells t b × Form v (dict (entries_of ps)) t
+pub record IsParams (b : List ℕ) (ps : Params) : Type 0 where
+  pub version : Version
+  pub value : Tree
+  pub good : IsGood value
+  pub spelled : Spells value b
+  pub form : Form version (dict (entries_of ps)) value

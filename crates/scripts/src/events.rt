@@ -1,5 +1,5 @@
 //! What the words of an event say.
-ghost use Rattle.std.specs.Prelude.{◌≡◌, ℕ, ◌∷◌, map, codes, if◌then◌else◌};
+ghost use Rattle.std.specs.Prelude.{◌≡◌, ◌∷◌, map, codes, if◌then◌else◌};
 ghost use Rattle.std.specs.Option.{option_map};
 ghost use Rattle.std.specs.Str.{bytes_eq};
 ghost use Rattle.scripts.specs.declared.line.Times.TheVariants as times;

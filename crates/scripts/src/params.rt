@@ -1,5 +1,4 @@
 //! Parameters out of bytes.
-ghost use Rattle.std.specs.Prelude.{◌≡◌};
 ghost use Rattle.std.specs.Result.{result_ok};
 ghost use Rattle.packstream.specs.Answers.{whole_of};
 ghost use Rattle.cells.specs.Shape.{shape, entries};

@@ -1,5 +1,5 @@
 //! What the words of a request say.
-ghost use Rattle.std.specs.Prelude.{◌≡◌, ◌&&◌, map, codes, if◌then◌else◌, Some, None};
+ghost use Rattle.std.specs.Prelude.{◌&&◌, map, codes, if◌then◌else◌, Some, None};
 ghost use Rattle.std.specs.Option.{option_map};
 ghost use Rattle.std.specs.Str.{bytes_eq};
 ghost use Rattle.messages.specs.declared.request.Mode.TheVariants.{Read, Write};

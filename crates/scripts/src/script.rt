@@ -2,7 +2,6 @@
 ghost use Rattle.std.specs.Prelude.{◌≡◌, map, IfOk};
 ghost use Rattle.scripts.specs.Rows.{line_of, request_line_of};
 ghost use Rattle.scripts.specs.Script.{lines, GivesAll, fault_at, said_lines, said_requests};
-ghost use Rattle.scripts.specs.Views.{line_view, script_request_view};
 
 use crate::fault::{LineFault, ScriptFault};
 use crate::line::Line;

@@ -132,20 +132,20 @@ module _ (u : Unfinished) (bytes : List ℕ) (used : ℕ) (place new : Place) (h
   -- the item goes on
   goes : (what : Part) → (what ≡ part.Head) ⊎ (what ≡ part.Data) → Taken (unfinished_at place h.body) (drop used bytes) c.used what (unfinished_at new body) → After what new body → Comes u bytes (used + c.used) new there
   goes part.Head w t a = record {
-    within = omega (arith, length-drop used bytes, t.1);
+    within = omega (arith, length-drop used bytes, t.within);
     body = body;
     reads = reads;
     holds = a.0;
     going = a.1;
-    ahead = h.ahead ∙ ap (further used) t.2 ∙ further-further used c.used _ ∙ ap (λ b. further (used + c.used) (answer_from (unfinished_at new body) b)) (drop-drop c.used used bytes);
+    ahead = h.ahead ∙ ap (further used) t.ahead ∙ further-further used c.used _ ∙ ap (λ b. further (used + c.used) (answer_from (unfinished_at new body) b)) (drop-drop c.used used bytes);
   }
   goes part.Data w t a = record {
-    within = omega (arith, length-drop used bytes, t.1);
+    within = omega (arith, length-drop used bytes, t.within);
     body = body;
     reads = reads;
     holds = a.0;
     going = a.1;
-    ahead = h.ahead ∙ ap (further used) t.2 ∙ further-further used c.used _ ∙ ap (λ b. further (used + c.used) (answer_from (unfinished_at new body) b)) (drop-drop c.used used bytes);
+    ahead = h.ahead ∙ ap (further used) t.ahead ∙ further-further used c.used _ ∙ ap (λ b. further (used + c.used) (answer_from (unfinished_at new body) b)) (drop-drop c.used used bytes);
   }
   goes part.Noop (inl e) t a = cc
   goes part.Noop (inr e) t a = cc
@@ -163,9 +163,9 @@ module _ (u : Unfinished) (bytes : List ℕ) (used : ℕ) (place new : Place) (h
   ends part.Head never t a = absurd (never (inl refl))
   ends part.Data never t a = absurd (never (inr refl))
   ends part.Noop never t a =
-      taken_as u fresh bytes (Ok (record { used = used + c.used; what = item_of body })) small (h.ahead ∙ ap (further used) t.0) ∙ ap (λ o. as_taken (used + c.used) o fresh) (no_op body a.2)
+      taken_as u fresh bytes (Ok (record { used = used + c.used; what = item_of body })) small (h.ahead ∙ ap (further used) t.0) ∙ ap (λ o. as_taken (used + c.used) o fresh) (no_op body a.1)
   ends part.End never t a =
-      taken_as u fresh bytes (Ok (record { used = used + c.used; what = item_of body })) small (h.ahead ∙ ap (further used) t.0) ∙ ap (λ o. as_taken (used + c.used) o fresh) (message body a.2)
+      taken_as u fresh bytes (Ok (record { used = used + c.used; what = item_of body })) small (h.ahead ∙ ap (further used) t.0) ∙ ap (λ o. as_taken (used + c.used) o fresh) (message body a.1)
   ends part.TooBig never t a = taken_as u (unfinished_at new body) bytes (Err (TooBig (used + c.used))) small (h.ahead ∙ ap (further used) t)
 
   refused : (what : Part) → Taken (unfinished_at place h.body) (drop used bytes) c.used what (unfinished_at new body) → what ≡ part.TooBig → new.too_big ≡ true

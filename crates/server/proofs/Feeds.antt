@@ -72,7 +72,7 @@ module _ (k : Kept) (u : Unfinished) (piece : List ℕ) where
     pub fed_noop : cut.what ≡ part.Noop → IsFedAt fed (record { used = cut.used; what = What.Noop }) k s
     fed_noop e =
         let a = rw e at h.after in
-        by_taken _ _ k s (rw e at h.takes) (record { told = refl; kept = refl; item = fresh; is = refl; at = at_start s going a.0 (subst (λ (b : List ℕ). Reads s.reader.here b) (empty_is h.body a.2) h.reads) })
+        by_taken _ _ k s (rw e at h.takes) (record { told = refl; kept = refl; item = fresh; is = refl; at = at_start s going a.0.0 (subst (λ (b : List ℕ). Reads s.reader.here b) (empty_is h.body a.1) h.reads) })
 
     -- a message ends: this was received of it, and a new reader follows
     pub fed_message : (what : What) (new : Kept) (t : Stream) → cut.what ≡ part.End → ((b : List ℕ) → Reads s.reader.here b → Receives what k new (arrival_by (request_of (version_of k) b)))
@@ -80,7 +80,7 @@ module _ (k : Kept) (u : Unfinished) (piece : List ℕ) where
     fed_message what new t e received on same none =
         let r = received h.body h.reads in
         let a = rw e at h.after in
-        by_taken _ _ new t (rw e at h.takes) (record { told = ap (λ w. let x : Took = record { used = cut.used; what = w } in x) (sym r.0); kept = sym r.1; item = fresh; is = refl; at = at_start t on (same ∙ a.0) none })
+        by_taken _ _ new t (rw e at h.takes) (record { told = ap (λ w. let x : Took = record { used = cut.used; what = w } in x) (sym r.0); kept = sym r.1; item = fresh; is = refl; at = at_start t on (same ∙ a.0.0) none })
 
     -- a message is refused
     pub fed_refused : (what : What) (new : Kept) (t : Stream) → cut.what ≡ part.TooBig → Receives what k new TooLong → t.is_over ≡ true → t.reader.here ≡ s.reader.here → IsFedAt fed (record { used = cut.used; what = what }) new t

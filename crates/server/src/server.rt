@@ -1,5 +1,5 @@
 //! Up to sixteen sessions over one engine and one gate.
-ghost use Rattle.std.specs.Prelude.{◌≡◌, List, IfOk, IfSome, IsErrOf};
+ghost use Rattle.std.specs.Prelude.{◌≡◌, IfOk, IfSome, IsErrOf};
 ghost use Rattle.server.specs.Serving.{Rest, empty, find, feed_at, work_at, take_out_at, noop_at, lost_at, state_at, cause_at, is_full, Answers, Opens, MayFeed, MayWork, MayPutNoop};
 ghost use Rattle.exchange.specs.Rest.{IsCounted};
 ghost use Rattle.server.specs.Views.{Fits, Lends};

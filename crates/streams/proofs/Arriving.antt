@@ -9,7 +9,7 @@ use Rattle.wire.specs.Reader.{state}
 use Rattle.messages.specs.declared.MsgFault.{MsgFault}
 use Rattle.messages.specs.View.{RequestView}
 use Rattle.messages.specs.Messages.{request_of}
-use Rattle.messages.specs.Arrivals.{Arrival, Shook, NoMagic, Asked, Unread, TooLong, arrival_of_offer, then_request, requests_in, after_shake, arrivals_of, arrivals}
+use Rattle.messages.specs.Arrivals.{Arrival, Shook, NoMagic, Asked, Unread, TooLong, then_request, requests_in, after_shake, arrivals_of}
 use Rattle.messages.specs.Arrivals as arrival
 use Rattle.machine.specs.Asks.{kind_of, is_reset}
 use Rattle.machine.specs.Following.{interruptible}

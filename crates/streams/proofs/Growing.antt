@@ -11,7 +11,7 @@ use Rattle.exchange.specs.declared.kinds.Worked.{Worked}
 use Rattle.exchange.specs.Rest.{Kept, work_kept, commit_entries}
 use Rattle.server.specs.Serving.{Live, Rest, find, replace, on_live, fed_live, taken_from, setting, work_at, Answers}
 use Rattle.server.proofs.Runs.{find-conn}
-use Rattle.streams.specs.Conversing.{with_talk, without_talk}
+use Rattle.streams.specs.Conversing.{with_talk}
 use Rattle.streams.specs.Settling.{Grows, LivesOn}
 use Rattle.streams.specs.Serving.{LeavesOthers}
 use Rattle.streams.proofs.Seats.{here, replace-itself, talk-found, talk-replaced}

@@ -1,6 +1,5 @@
 //! What a server answers to the bytes of one client, and how its session stands then.
-ghost use Rattle.std.specs.Prelude.{◌≡◌, ℕ, List, Some, IfOk};
-ghost use Rattle.exchange.specs.Session.{Setting};
+ghost use Rattle.std.specs.Prelude.{◌≡◌, Some, IfOk};
 ghost use Rattle.server.specs.Serving.{Live, Rest, find};
 ghost use Rattle.server.specs.Views.{Fits};
 ghost use Rattle.streams.specs.Conversing.{conversation};

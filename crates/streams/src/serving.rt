@@ -1,7 +1,6 @@
 //! A whole conversation of a session with its client, over streams.
-ghost use Rattle.std.specs.Prelude.{◌≡◌, ◌<◌, ℕ, List, Some, IsSome, length, IfOk, OnErr, IfErr};
-ghost use Rattle.std.specs.Io.KnownBytes.{Appends};
-ghost use Rattle.server.specs.Serving.{cause_or, Rest, find, fresh, setting};
+ghost use Rattle.std.specs.Prelude.{◌≡◌, ◌<◌, ℕ, List, Some, IsSome, length, IfErr};
+ghost use Rattle.server.specs.Serving.{Rest, find, fresh, setting};
 ghost use Rattle.server.specs.Views.{Fits};
 ghost use Rattle.streams.specs.Conversing.{conversation};
 ghost use Rattle.streams.specs.Settling.{IsDueTo, IsLive, LivesOn};

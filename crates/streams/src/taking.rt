@@ -1,5 +1,5 @@
 //! A client's bytes are taken, one item at a time, and what each makes due is put out.
-ghost use Rattle.std.specs.Prelude.{◌≡◌, ◌<◌, ◌≤◌, ◌++◌, ℕ, List, Option, None, length, IsSome, IfOk, IfErr, false};
+ghost use Rattle.std.specs.Prelude.{◌≡◌, ◌<◌, ◌≤◌, ℕ, List, Option, None, length, IsSome, IfOk, IfErr, false};
 ghost use Rattle.wire.specs.Framing.{Opened};
 ghost use Rattle.engine.specs.Views.{EntryView};
 ghost use Rattle.exchange.specs.Rest.{Kept, shut};

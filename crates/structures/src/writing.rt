@@ -1,6 +1,6 @@
 //! Values of cells.
 ghost use Rattle.std.specs.Prelude.{◌≡◌, IfOk, map, None, true};
-ghost use Rattle.packstream.specs.Tree.{Tree, int, float, structure, no_trees, tree_then};
+ghost use Rattle.packstream.specs.Tree.{int, float, structure, no_trees, tree_then};
 ghost use Rattle.packstream.specs.View.{tree, trees, trees_of, entries_of, entries as seen_entries};
 ghost use Rattle.cells.specs.Faults.{structures, structures_in, structures_under};
 ghost use Rattle.cells.specs.Steps.{all_fine};

@@ -7,7 +7,7 @@ use Rattle.wire.specs.declared.items.Fed.{Fed}
 use Rattle.wire.specs.declared.faults.WireFault.{WireFault}
 use Rattle.wire.specs.declared.faults.WireFault.TheVariants as fault
 use Rattle.wire.specs.Unfinished.{Unfinished, fresh}
-use Rattle.wire.specs.Items.{Step, goes, ends, refused, after_limit, next, item_of, Answered, answer_to, answer_from, later, further}
+use Rattle.wire.specs.Items.{Step, goes, ends, refused, after_limit, next, item_of, Answered, answer_from, later}
 use Rattle.wire.specs.Items as items
 use Rattle.wire.specs.Stream.{Seen, on_next, items_of, IsTold}
 use Rattle.wire.specs.Texts.{written_run}

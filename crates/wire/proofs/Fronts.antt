@@ -84,9 +84,9 @@ only_nothing (b ∷ bytes) none rest =
 -- the items of runs are their messages and no-ops
 messages-runs : (runs : List (List (List ℕ))) → AreRuns runs → messages (map (λ run. item_of (body_of run)) runs) ≡ messages_of runs
 messages-runs [] h = refl
-messages-runs ([] ∷ runs) h = messages-runs runs h.2
-messages-runs (([] ∷ cs) ∷ runs) h = absurd (omega (arith, h.0.0))
-messages-runs (((x ∷ xs) ∷ cs) ∷ runs) h = ap (λ l. ((x ∷ xs) ++ body_of cs) ∷ l) (messages-runs runs h.2)
+messages-runs ([] ∷ runs) h = messages-runs runs h.1
+messages-runs (([] ∷ cs) ∷ runs) h = absurd (omega (arith, h.0.0.0.0))
+messages-runs (((x ∷ xs) ∷ cs) ∷ runs) h = ap (λ l. ((x ∷ xs) ++ body_of cs) ∷ l) (messages-runs runs h.1)
 
 pub reads_messages : ReadsMessages
 reads_messages ms bytes t =
@@ -176,8 +176,8 @@ past_chunks (c ∷ cs) body high low more h held over =
     let same : (body ++ c) ++ body_of cs ≡ body ++ (c ++ body_of cs) = append_assoc body c (body_of cs) in
     let fits : length body + length c ≤ 65536 = omega (arith, ap length same, length-append (body ++ c) (body_of cs), length-append body c) in
     ap (λ b. (items_of (open_at body None 0) b).rest.too_big) (append_assoc (chunk_of c) (flat_map chunk_of cs) (high ∷ low ∷ more))
-    ∙ ap (λ (x : Seen). x.rest.too_big) (items_of-chunk c body (flat_map chunk_of cs ++ high ∷ low ∷ more) h.0 h.1 fits)
-    ∙ past_chunks cs (body ++ c) high low more h.2 (rw same held) (rw same over)
+    ∙ ap (λ (x : Seen). x.rest.too_big) (items_of-chunk c body (flat_map chunk_of cs ++ high ∷ low ∷ more) h.0.0 h.0.1 fits)
+    ∙ past_chunks cs (body ++ c) high low more h.1 (rw same held) (rw same over)
 
 pub refuses_past : RefusesPast
 refuses_past bytes h = (

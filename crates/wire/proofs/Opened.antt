@@ -100,7 +100,7 @@ frames_fronts k start xs n some len come = elim (leb k n) as (λ b. leb k n ≡ 
 -- what a client sends
 all_come : (ms : List (List ℕ)) → AreMessages ms → AllCome (map Message ms)
 all_come [] h = tt
-all_come (m ∷ ms) h = ((h.0, h.1), all_come ms h.2)
+all_come (m ∷ ms) h = (h.0, all_come ms h.1)
 
 message_text : (m : List ℕ) → item_bytes (Message m) ≡ written_run m
 message_text m = refl
@@ -150,7 +150,7 @@ read_all k (Opening o ∷ xs) some h =
     let read = opening_read k [] o (omega (arith, h.0)) (omega (arith, h.0)) in
     rw h.1 read
 read_all k (Noop ∷ xs) some h = read_more k Noop xs tt (read_all k xs some h)
-read_all k (Message m ∷ xs) some h = read_more k (Message m) xs (h.0, h.1) (read_all k xs some h.2)
+read_all k (Message m ∷ xs) some h = read_more k (Message m) xs h.0 (read_all k xs some h.1)
 read_all k (TooBig ∷ xs) some h = absurd h
 
 -- where all of it lies in the front
@@ -219,7 +219,7 @@ module _ (k : ℕ) (some : 0 < k) where
   hears_front [] n h = absurd h
   hears_front (Opening o ∷ xs) n h = subst (λ (l : List Item). hears (take n (bytes_newest_first item_bytes (Opening o ∷ l))) ≡ within_newest_first item_bytes n (Opening o ∷ l)) (sym h.1) (hears_opening o n h.0)
   hears_front (Noop ∷ xs) n h = hears_more Noop xs n tt h (hears_front xs n h)
-  hears_front (Message m ∷ xs) n h = hears_more (Message m) xs n (h.0, h.1) h.2 (hears_front xs n h.2)
+  hears_front (Message m ∷ xs) n h = hears_more (Message m) xs n h.0 h.1 (hears_front xs n h.1)
   hears_front (TooBig ∷ xs) n h = absurd h
 
 pub said_arrives : SaidArrives

@@ -50,4 +50,4 @@ answer_tells (Some V51) (Some V44) e = cc
 answer_tells (Some V51) (Some V51) e = refl
 
 pub offers_taken : OffersTaken
-offers_taken = (taken, answer_length, answer_tells)
+offers_taken = record { taken = taken; long = answer_length; tells = answer_tells }

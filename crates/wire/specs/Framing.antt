@@ -129,7 +129,7 @@ abbrev pub Spoken : ℕ → List Item → Type 0
 Spoken k [] = ⊥
 Spoken k (Opening bytes ∷ xs) = (length bytes ≡ k) × (xs ≡ [])
 Spoken k (Noop ∷ xs) = Spoken k xs
-Spoken k (Message m ∷ xs) = (0 < length m) × (length m ≤ 65536) × Spoken k xs
+Spoken k (Message m ∷ xs) = CanCome (Message m) × Spoken k xs
 Spoken k (TooBig ∷ xs) = ⊥
 
 -- Of every front of what opens a stream and what follows, the items are those whose bytes lie whole in it.
@@ -143,7 +143,7 @@ FramesFronts = (k : ℕ) (start : List ℕ) (xs : List Item) (n : ℕ) → 0 < k
 -- what a client of this product sends: its offer, then messages
 abbrev pub AreMessages : List (List ℕ) → Type 0
 AreMessages [] = Unit {0}
-AreMessages (m ∷ ms) = (0 < length m) × (length m ≤ 65536) × AreMessages ms
+AreMessages (m ∷ ms) = CanCome (Message m) × AreMessages ms
 
 -- Of every front of what a client sends, a server's items are those whose bytes lie whole in it.
 abbrev pub OursArrives : Type 0

@@ -8,19 +8,27 @@ abbrev pub AreBytes : List ℕ → Type 0
 AreBytes [] = Unit {0}
 AreBytes (b ∷ bs) = (b < 256) × AreBytes bs
 
--- Chunks that may come: from one byte to 65,535 each. A run of no chunks is a no-op.
+-- a chunk's data: from one byte to 65,535
+abbrev pub FillsChunk : List ℕ → Type 0
+FillsChunk c = (0 < length c) × (length c < 65536)
+
+-- Chunks that may come. A run of no chunks is a no-op.
 abbrev pub AreChunks : List (List ℕ) → Type 0
 AreChunks [] = Unit {0}
-AreChunks (c ∷ cs) = (0 < length c) × (length c < 65536) × AreChunks cs
+AreChunks (c ∷ cs) = FillsChunk c × AreChunks cs
 
 -- the data of chunks, in order
 abbrev pub body_of : List (List ℕ) → List ℕ
 body_of chunks = flat_map (λ c. c) chunks
 
--- runs and no-ops: each of chunks that may come, and of at most 65,536 bytes of data
+-- a run, or a no-op: chunks that may come, and at most 65,536 bytes of data
+abbrev pub MayRun : List (List ℕ) → Type 0
+MayRun run = AreChunks run × (length (body_of run) ≤ 65536)
+
+-- each is a run or a no-op
 abbrev pub AreRuns : List (List (List ℕ)) → Type 0
 AreRuns [] = Unit {0}
-AreRuns (run ∷ runs) = AreChunks run × (length (body_of run) ≤ 65536) × AreRuns runs
+AreRuns (run ∷ runs) = MayRun run × AreRuns runs
 
 -- the messages of runs
 abbrev pub messages_of : List (List (List ℕ)) → List (List ℕ)

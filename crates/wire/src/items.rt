@@ -1,6 +1,6 @@
 //! Whole messages and no-ops out of a stream of chunks ("Bolt message chunking").
 
-ghost use Rattle.std.specs.Prelude.{◌≡◌, ℕ, ◌+◌, ◌-◌, ◌<◌, ◌≤◌, List, [], ◌++◌, length, take, min, false, true, Option, IfOk, IsErr, IfErr, IsErrOf, OnOk, OnErr};
+ghost use Rattle.std.specs.Prelude.{◌≡◌, ◌+◌, ◌-◌, ◌<◌, ◌≤◌, [], length, take, false, true, IfOk, IsErr, IfErr, IsErrOf, OnOk, OnErr};
 ghost use Rattle.wire.specs.Unfinished.{Unfinished, fresh, unfinished_at};
 ghost use Rattle.wire.specs.Items.{item_of, IsSized, Answers, wants_room, answer_from, answer_to};
 ghost use Rattle.wire.specs.Stream.{used_of};

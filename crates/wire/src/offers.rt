@@ -1,6 +1,6 @@
 //! What a client offers and what a server takes ("Bolt handshake").
 
-ghost use Rattle.std.specs.Prelude.{◌≡◌, ◌≢◌, ℕ, ◌+◌, List, take, drop, Option, Some, None, IfOk, IsErr, OnOk, ◌↔◌};
+ghost use Rattle.std.specs.Prelude.{◌≡◌, ◌≢◌, ◌+◌, take, drop, Option, Some, None, IfOk, IsErr, OnOk, ◌↔◌};
 ghost use Rattle.wire.specs.Offers.{magic, choice_of, covered_by, offer_of};
 
 use crate::versions::Version;

@@ -1,6 +1,6 @@
 //! Messages and no-ops as chunks ("Bolt message chunking").
 
-ghost use Rattle.std.specs.Prelude.{◌≡◌, ℕ, ◌+◌, ◌<◌, ◌≤◌, List, ◌++◌, length, IfErr, IsOk, OnOk, OnErr, ◌↔◌};
+ghost use Rattle.std.specs.Prelude.{◌≡◌, ◌+◌, ◌<◌, ◌≤◌, ◌++◌, length, IfErr, OnOk, OnErr, ◌↔◌};
 ghost use Rattle.wire.specs.Texts.{chunk_of, split_chunks, written_run, noop, IsTooBig, UsesNothing};
 
 use crate::MAX_MESSAGE;

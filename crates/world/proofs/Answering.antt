@@ -1,6 +1,5 @@
 -- From an answer of an end of a connection to the whole answer of `step`: the model steps, every connection is good then, and what is held fits.
-use Rattle.std.proofs.Common.{◌≡◌, refl, sym, ◌∙◌, ap, subst, ℕ, ◌+◌, ◌≤◌, Bool, true, false, not, ◌||◌, if◌then◌else◌, Option, Some, None, option_map, Result, Ok, Err, List, [], ◌∷◌, length, drop, slice_get, slice_set, ⊎_elim, arith, length-drop, zero, suc, is_some, true≢false}
-use Rattle.wire.specs.declared.Version.{Version}
+use Rattle.std.proofs.Common.{◌≡◌, refl, sym, ◌∙◌, ap, subst, ℕ, ◌+◌, ◌≤◌, Bool, true, false, if◌then◌else◌, Option, Some, None, option_map, Result, Ok, Err, List, [], ◌∷◌, length, drop, slice_get, slice_set, ⊎_elim, arith, length-drop, zero, suc, is_some, true≢false}
 use Rattle.wire.specs.declared.Wish.{Wish}
 use Rattle.wire.specs.Offers.{wish_version}
 use Rattle.messages.specs.View.{RequestView}
@@ -11,7 +10,7 @@ use Rattle.exchange.specs.Session.{Setting}
 use Rattle.server.specs.Serving as serving
 use Rattle.client.specs.declared.SubmitFault.{SubmitFault}
 use Rattle.client.specs.declared.SubmitFault.TheVariants as submit_fault
-use Rattle.client.specs.Client.{Reading, refusal_of, may}
+use Rattle.client.specs.Client.{refusal_of}
 use Rattle.client.specs.Fits.{IsWrittenBy, IsAccepted}
 use Rattle.client.specs.Rest as asking
 use Rattle.client.proofs.Later.{reading_count}

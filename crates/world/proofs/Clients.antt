@@ -1,6 +1,6 @@
 -- How much a client keeps, over every list of steps: the requests that its connection sent and the bytes that it was given are those of
 -- a list of calls.
-use Rattle.std.proofs.Common.{◌≡◌, refl, sym, ◌∙◌, ap, ap₂, subst, ℕ, ◌+◌, ◌≤◌, ◌^◌, Bool, true, false, ◌||◌, if◌then◌else◌, nat_le, Option, Some, None, unwrap_or, Result, Ok, Err, List, [], ◌∷◌, ◌++◌, length, take, drop, slice_get, slice_set, ⊎_elim, arith, length-append}
+use Rattle.std.proofs.Common.{◌≡◌, refl, sym, ◌∙◌, ap, ap₂, subst, ℕ, ◌+◌, ◌≤◌, ◌^◌, Bool, true, false, ◌||◌, if◌then◌else◌, nat_le, Option, Some, None, unwrap_or, Result, Ok, Err, List, [], ◌∷◌, ◌++◌, length, take, drop, slice_get, slice_set, ⊎_elim, arith}
 use Rattle.std.proofs.lemmas.List.{take-append-le}
 use Rattle.wire.specs.declared.Wish.{Wish}
 use Rattle.wire.specs.Reader.{reach, takes, state}
@@ -22,7 +22,7 @@ use Rattle.client.specs.Moments.{Call, Submits, Feeds as FeedsCall, Loses, Run, 
 use Rattle.client.proofs.Runs.{tells_by_bytes}
 use Rattle.client.proofs.Few.{keeps_few}
 use Rattle.world.specs.Connections.{Peer, Ours, Foreign, Connection, fresh, Said, SaysNoop, SaysRow, SaysSummary, heard_as, answer_count, arrivals_at, waiting, said_version, output, bytes_delivered, client, wish_of, input, strike_if}
-use Rattle.world.specs.World.{World, empty, Event, Opens, Submit, ToServer, ToClient, Work, PutsNoop, Cut, ClientLost, ServerLost, Feeds, Seen, Opened as SawOpened, Refusal, V3, Effect, quiet, effect_of_submit, feed, to_server, server_gone, effect_at_peer, to_client, give, drain, summary, write, turn, work, noop, at_peer, after_effect, with_effect, at_conn, result_of_open, live, ledger, step, taken_out, Reached, begins, goes_on, takes_out}
+use Rattle.world.specs.World.{World, Event, Opens, Submit, ToServer, ToClient, Work, PutsNoop, Cut, ClientLost, ServerLost, Feeds, Seen, Opened as SawOpened, Refusal, V3, Effect, effect_of_submit, feed, to_server, server_gone, effect_at_peer, to_client, give, drain, summary, write, turn, work, noop, at_peer, after_effect, with_effect, at_conn, result_of_open, live, ledger, step, taken_out, Reached, begins, goes_on, takes_out}
 use Rattle.world.specs.Rests.{client_rest}
 use Rattle.world.specs.Limits.{IsFew}
 use Rattle.world.proofs.Written.{ok_parts, get_set, get_more}

@@ -1,7 +1,6 @@
 -- That an entry comes by a row that commits, for a request that came whole.
-use Rattle.std.proofs.Common.{◌≡◌, refl, sym, ◌∙◌, ap, ap₂, subst, ℕ, suc, zero, Bool, true, false, true≢false, if◌then◌else◌, Option, Some, None, is_some, Result, Ok, Err, List, [], ◌∷◌, ◌++◌, length, drop, slice_get, ◌⊎◌, inl, inr, ⊎_elim, arith, append-nil}
-use Rattle.messages.specs.View.{RequestView}
-use Rattle.messages.specs.Arrivals.{Arrival, Asked}
+use Rattle.std.proofs.Common.{◌≡◌, refl, sym, ◌∙◌, ap, ap₂, subst, ℕ, suc, zero, Bool, true, false, if◌then◌else◌, Option, Some, None, is_some, Result, Ok, Err, List, [], ◌∷◌, ◌++◌, drop, slice_get, ◌⊎◌, inl, inr, ⊎_elim, arith, append-nil}
+use Rattle.messages.specs.Arrivals.{Asked}
 use Rattle.machine.specs.States.{phase_of}
 use Rattle.machine.specs.Asks.{kind_of}
 use Rattle.machine.specs.Following.{commits}
@@ -11,10 +10,10 @@ use Rattle.exchange.specs.Session.{Setting}
 use Rattle.server.specs.Serving as serving
 use Rattle.server.specs.Serving.{Live, find}
 use Rattle.server.specs.Running as running
-use Rattle.server.specs.Running.{after_call, after_event, Adds, Grows, nothing, one}
+use Rattle.server.specs.Running.{after_call, Adds, Grows, nothing, one}
 use Rattle.server.proofs.Ledgers.{grows}
 use Rattle.world.specs.Connections.{Connection, answer_count, arrivals_at, waiting}
-use Rattle.world.specs.World.{World, Event, Work, Seen, SawWork, Refusal, V1, Effect, quiet, work, after_effect, at_conn, ledger, step, Reached}
+use Rattle.world.specs.World.{World, Event, Work, Seen, Refusal, V1, work, after_effect, at_conn, ledger, step}
 use Rattle.world.specs.Rests.{server_rest, live_of}
 use Rattle.world.specs.Turns.{Definition, setting_of}
 use Rattle.world.specs.Others.{Commits, GrowsByCommits}

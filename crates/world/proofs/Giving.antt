@@ -19,7 +19,7 @@ use Rattle.client.specs.Client.{Told, GotRow, Got, outcome_of, Reading, reading,
 use Rattle.client.specs.Rest as asking
 use Rattle.world.proofs.Growth.{texts_append}
 use Rattle.client.specs.Client.{refusal_of}
-use Rattle.client.specs.Rest.{refuses, Note, Nothing, Hearing, Fed, heard_as, hears_item, note_of, note_by, knows_of}
+use Rattle.client.specs.Rest.{refuses, Note, Nothing, heard_as, hears_item, note_of, note_by, knows_of}
 use Rattle.client.specs.Moments.{tellings_in}
 use Rattle.client.proofs.Steps as steps
 use Rattle.client.proofs.Steps.{item_tells}

@@ -14,8 +14,8 @@ use Rattle.server.specs.Serving as serving
 use Rattle.server.specs.Serving.{Live, is_full}
 use Rattle.server.specs.Running as running
 use Rattle.server.specs.Running.{after_call, after_event, after_events, Bounded, AllBounded, IsKept}
-use Rattle.world.specs.Connections.{Peer, Ours, Foreign, Connection, fresh, answer_count, output, bytes_delivered, client, input}
-use Rattle.world.specs.World.{World, empty, Event, Opens, Submit, ToServer, ToClient, Work, PutsNoop, Cut, ClientLost, ServerLost, Feeds, Seen, Opened, Fed, SawWork, SawNoop, SawNothing, Refusal, V3, Effect, quiet, effect_of_submit, Submitted, Gave, feed, to_server, to_client, give, drain, effect_at_peer, taken_for, work, noop, server_gone, at_ours, at_foreign, at_peer, after_effect, with_effect, at_conn, result_of_open, live, ledger, step, WStep, taken_out, Reached, begins, goes_on, takes_out}
+use Rattle.world.specs.Connections.{Peer, Ours, Foreign, Connection, fresh, output, client, input}
+use Rattle.world.specs.World.{World, empty, Event, Opens, Submit, ToServer, ToClient, Work, PutsNoop, Cut, ClientLost, ServerLost, Feeds, Seen, Opened, Fed, SawWork, SawNoop, SawNothing, Refusal, V3, Effect, quiet, effect_of_submit, Submitted, Gave, feed, to_client, give, drain, effect_at_peer, taken_for, work, noop, server_gone, at_peer, after_effect, with_effect, at_conn, result_of_open, live, ledger, step, taken_out, Reached, begins, goes_on, takes_out}
 use Rattle.world.specs.Rests.{server_rest, sessions_from, live_of}
 use Rattle.world.specs.Turns.{Definition, setting_of}
 use Rattle.world.proofs.Written.{ok_parts}

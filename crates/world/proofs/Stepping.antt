@@ -22,7 +22,6 @@ use Rattle.client.specs.Rest as asking
 use Rattle.client.specs.Rest.{Nothing, knows_of, losses}
 use Rattle.world.specs.Connections.{Peer, Ours, Foreign, Connection, fresh, client, wish_of, output, input, bytes_delivered}
 use Rattle.world.specs.World.{World, ledger, live, Event, Opens, Submit, ToServer, ToClient, Work, PutsNoop, Cut, ClientLost, ServerLost, Feeds, Effect, Seen, quiet, Opened, Submitted, Fed, Gave, SawWork, SawNoop, SawNothing, V3, step, at_conn, at_peer, with_effect, after_effect, work, feed, to_server, give, to_client, taken_for, effect_at_peer, drain, taken_out, noop, server_gone, submit, effect_of_submit}
-use Rattle.exchange.specs.Rest.{commit_entries}
 use Rattle.world.specs.Rests.{server_rest, client_rest, live_of}
 use Rattle.world.specs.Reports.{wrote_by, by_peer, read_after}
 use Rattle.world.specs.Views.{opened_link}

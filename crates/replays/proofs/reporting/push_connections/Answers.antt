@@ -1,4 +1,4 @@
-use Rattle.std.proofs.Common.{sym, ap, ◌∙◌, ◌++◌, string_bytes}
+use Rattle.std.proofs.Common.{ap, ◌∙◌, ◌++◌, string_bytes}
 use Rattle.replays.proofs.Printing.{connections_on, connections_all, connections_none}
 use Rattle.replays.proofs.reporting.push_connections.Goals as goal
 

@@ -1,4 +1,4 @@
-use Rattle.std.proofs.Common.{◌≡◌, ◌++◌, ◌-◌, take, map, string_bytes}
+use Rattle.std.proofs.Common.{◌≡◌, ◌++◌, ◌-◌, take, string_bytes}
 use Rattle.std.specs.List.{flat_map}
 use Rattle.engine.specs.Views.{entries_view}
 use Rattle.programs.specs.Looping.{entry_line}

@@ -1,4 +1,4 @@
-use Rattle.std.proofs.Common.{◌≡◌, ◌++◌, ◌-◌, take, map, string_bytes}
+use Rattle.std.proofs.Common.{◌≡◌, ◌++◌, ◌-◌, take, string_bytes}
 use Rattle.std.specs.List.{flat_map}
 use Rattle.replays.specs.Texts.{lost_line}
 use Rattle.replays.proofs.reporting.push_lost.Given as goal

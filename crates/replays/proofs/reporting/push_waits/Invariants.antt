@@ -1,4 +1,4 @@
-use Rattle.std.proofs.Common.{◌≡◌, ◌++◌, ◌-◌, take, map, string_bytes}
+use Rattle.std.proofs.Common.{◌≡◌, ◌++◌, ◌-◌, string_bytes}
 use Rattle.std.specs.List.{flat_map}
 use Rattle.world.specs.Reports.{ordinals}
 use Rattle.replays.specs.Texts.{waits_line}

@@ -1,9 +1,6 @@
-use Rattle.std.proofs.Common.{sym, ap, ◌∙◌, ◌≡◌, List, ℕ}
-use Rattle.std.specs.declared.option.Option.{Option}
+use Rattle.std.proofs.Common.{sym, ap, ◌∙◌, ◌≡◌}
 use Rattle.std.specs.Option.{option_map}
-use Rattle.engine.specs.Views.{EntryView}
 use Rattle.scripts.specs.Views.{line_view}
-use Rattle.world.specs.World.{World}
 use Rattle.world.specs.Turns.{setting_of}
 use Rattle.world.specs.Views.{event_of}
 use Rattle.replays.specs.Events.{event_by, event_at, version_at}

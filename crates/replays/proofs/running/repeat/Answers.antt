@@ -1,6 +1,5 @@
 use Rattle.world.specs.Turns.{setting_of}
 use Rattle.world.specs.Views.{event_of}
-use Rattle.world.specs.World.{World}
 use Rattle.replays.specs.Running.{stays}
 use Rattle.replays.proofs.Stepping.{moves_more, moves_end}
 use Rattle.replays.proofs.running.repeat.Goals as goal

@@ -1,4 +1,4 @@
-use Rattle.std.proofs.Common.{◌≡◌, sym, ◌∙◌, subst, Bool, Ok}
+use Rattle.std.proofs.Common.{sym, ◌∙◌, subst, Bool, Ok}
 use Rattle.std.specs.Prelude.{map}
 use Rattle.client.specs.Rest.{Rest}
 use Rattle.client.specs.Notes.{note}
