@@ -1,0 +1,9 @@
+//! Tests of a client, by its public calls. A crate of their own, so that `client` isn't proved twice.
+#![tactic(auto)]
+
+#[cfg(test)]
+mod asking;
+#[cfg(test)]
+mod driving_tests;
+#[cfg(test)]
+mod outcome_tests;
