@@ -1,5 +1,5 @@
 //! The requests of the workloads.
-use crate::link::{Link, Ours, Stopped};
+use crate::link::{Link, Ours, Pair, Stopped, new_server};
 use crate::moving::{exchange, turn};
 use crate::tally::Tally;
 use client::Client;
@@ -7,6 +7,18 @@ use messages::{Auth, Count, Mode, Request};
 use std::alloc::{AllocError, Global};
 use structures::Cell;
 use wire::Wish;
+
+/// A server with a session at 5.1, whose client is let in.
+pub(crate) fn pair(alloc: Global) -> Result<Pair, Stopped> {
+    let mut server = new_server(alloc)?;
+    let mut tally = Tally::new();
+    let link = connect(alloc, &mut server, &mut tally)?;
+    Ok(Pair {
+        server,
+        link,
+        tally,
+    })
+}
 
 /// Opens a session at 5.1, whose client is let in.
 pub(crate) fn connect(
@@ -17,11 +29,20 @@ pub(crate) fn connect(
     let conn = server.open()?;
     let client = Client::new(alloc, Wish::Newest)?;
     let mut link = Link { conn, client };
-    turn(server, &mut link, tally)?;
+    log_on(alloc, server, &mut link, tally)?;
+    Ok(link)
+}
+
+fn log_on(
+    alloc: Global,
+    server: &mut Ours,
+    link: &mut Link,
+    tally: &mut Tally,
+) -> Result<(), Stopped> {
+    turn(server, link, tally)?;
     link.client.submit(hello(alloc)?)?;
     link.client.submit(logon(alloc)?)?;
-    exchange(server, &mut link, tally)?;
-    Ok(link)
+    exchange(server, link, tally)
 }
 
 fn hello(alloc: Global) -> Result<Request, AllocError> {
@@ -53,13 +74,16 @@ pub(crate) fn ask(
 
 /// Submits a transaction of one put: the value of a number for its key.
 pub(crate) fn ask_put(alloc: Global, link: &mut Link, number: u32) -> Result<(), Stopped> {
-    let mut params = key_parameter(alloc, number)?;
-    let value = Cell::Int(i64::from(number));
-    params.push((String::from_str(alloc, "value")?, value))?;
     link.client.submit(Request::Begin(Mode::Write))?;
-    ask(alloc, link, "PUT", params)?;
+    ask(alloc, link, "PUT", put_parameters(alloc, number)?)?;
     link.client.submit(Request::Commit)?;
     Ok(())
+}
+
+fn put_parameters(alloc: Global, number: u32) -> Result<Vec<(String, Cell)>, AllocError> {
+    let mut params = key_parameter(alloc, number)?;
+    params.push(named(alloc, "value", Cell::Int(i64::from(number)))?)?;
+    Ok(params)
 }
 
 fn run(alloc: Global, text: &str, params: Vec<(String, Cell)>) -> Result<Request, AllocError> {
@@ -70,14 +94,18 @@ fn run(alloc: Global, text: &str, params: Vec<(String, Cell)>) -> Result<Request
     })
 }
 
+fn named(alloc: Global, name: &str, value: Cell) -> Result<(String, Cell), AllocError> {
+    Ok((String::from_str(alloc, name)?, value))
+}
+
 /// One parameter.
 pub(crate) fn parameter(
     alloc: Global,
     name: &str,
     value: Cell,
 ) -> Result<Vec<(String, Cell)>, AllocError> {
-    let mut params = Vec::with_capacity(alloc, 1)?;
-    params.push((String::from_str(alloc, name)?, value))?;
+    let mut params = Vec::new(alloc);
+    params.push(named(alloc, name, value)?)?;
     Ok(params)
 }
 

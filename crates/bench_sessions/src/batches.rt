@@ -1,6 +1,6 @@
 //! Workloads of whole requests.
 use crate::asking::{ask, ask_put, connect, key_parameter, parameter};
-use crate::link::{Link, Ours, Stopped, new_server};
+use crate::link::{Link, Ours, Pair, Stopped, new_server};
 use crate::moving::{down, exchange, up};
 use crate::tally::Tally;
 use engine::Engine;
@@ -8,97 +8,125 @@ use server::Worked;
 use std::alloc::{AllocError, Global};
 use structures::Cell;
 
-/// The check number of a run on a server.
-pub(crate) fn check(server: &Ours, tally: &Tally) -> u64 {
-    tally.check(server.engine().ledger().len())
+/// Takes turns until every request is answered.
+fn settle(pair: &mut Pair) -> Result<(), Stopped> {
+    exchange(&mut pair.server, &mut pair.link, &mut pair.tally)
 }
 
 /// RUN of one row and PULL of all so many times, so many pairs in one pipeline.
-pub(crate) fn autocommit(alloc: Global, pairs: u32, batch: u32) -> Result<u64, Stopped> {
-    let mut server = new_server(alloc)?;
-    let mut tally = Tally::new();
-    let mut link = connect(alloc, &mut server, &mut tally)?;
+pub(crate) fn autocommit(
+    alloc: Global,
+    pair: &mut Pair,
+    pairs: u32,
+    batch: u32,
+) -> Result<(), Stopped> {
     let mut waiting = 0u32;
     for _ in 0..pairs {
-        ask(alloc, &mut link, "ONE", Vec::new(alloc))?;
+        ask(alloc, &mut pair.link, "ONE", Vec::new(alloc))?;
         waiting = waiting.saturating_add(1);
         if waiting >= batch {
-            exchange(&mut server, &mut link, &mut tally)?;
+            settle(pair)?;
             waiting = 0;
         }
     }
-    exchange(&mut server, &mut link, &mut tally)?;
-    Ok(check(&server, &tally))
+    settle(pair)
 }
 
 /// RUN of so many rows and PULL of all, so many times.
-pub(crate) fn rows(alloc: Global, count: u32, turns: u32) -> Result<u64, Stopped> {
-    let mut server = new_server(alloc)?;
-    let mut tally = Tally::new();
-    let mut link = connect(alloc, &mut server, &mut tally)?;
+pub(crate) fn rows(alloc: Global, pair: &mut Pair, count: u32, turns: u32) -> Result<(), Stopped> {
     for _ in 0..turns {
         let params = parameter(alloc, "n", Cell::Int(i64::from(count)))?;
-        ask(alloc, &mut link, "ROWS", params)?;
-        exchange(&mut server, &mut link, &mut tally)?;
+        ask(alloc, &mut pair.link, "ROWS", params)?;
+        settle(pair)?;
     }
-    Ok(check(&server, &tally))
+    Ok(())
 }
 
 /// RUN that sends so many bytes back, and PULL of all, so many times.
-pub(crate) fn echo(alloc: Global, bytes: u32, turns: u32) -> Result<u64, Stopped> {
-    let mut server = new_server(alloc)?;
-    let mut tally = Tally::new();
-    let mut link = connect(alloc, &mut server, &mut tally)?;
+pub(crate) fn echo(alloc: Global, pair: &mut Pair, bytes: u32, turns: u32) -> Result<(), Stopped> {
     let x = sevens(alloc, bytes)?;
     for _ in 0..turns {
-        let params = parameter(alloc, "x", Cell::Bytes(x.clone()?))?;
-        ask(alloc, &mut link, "ECHO", params)?;
-        exchange(&mut server, &mut link, &mut tally)?;
+        ask_echo(alloc, pair, &x)?;
     }
-    Ok(check(&server, &tally))
+    Ok(())
 }
 
 fn sevens(alloc: Global, count: u32) -> Result<Vec<u8>, AllocError> {
     vec![in alloc; 7u8; count as usize]
 }
 
+fn ask_echo(alloc: Global, pair: &mut Pair, x: &Vec<u8>) -> Result<(), Stopped> {
+    let params = parameter(alloc, "x", Cell::Bytes(x.clone()?))?;
+    ask(alloc, &mut pair.link, "ECHO", params)?;
+    settle(pair)
+}
+
 /// So many transactions of one put each, in a pipeline each; then so many gets, each its own commit.
-pub(crate) fn transactions(alloc: Global, puts: u32, gets: u32) -> Result<u64, Stopped> {
-    let mut server = new_server(alloc)?;
-    let mut tally = Tally::new();
-    let mut link = connect(alloc, &mut server, &mut tally)?;
+pub(crate) fn transactions(
+    alloc: Global,
+    pair: &mut Pair,
+    puts: u32,
+    gets: u32,
+) -> Result<(), Stopped> {
     for number in 0..puts {
-        ask_put(alloc, &mut link, number)?;
-        exchange(&mut server, &mut link, &mut tally)?;
+        ask_put(alloc, &mut pair.link, number)?;
+        settle(pair)?;
     }
     for number in 0..gets {
-        ask(alloc, &mut link, "GET", key_parameter(alloc, number)?)?;
-        exchange(&mut server, &mut link, &mut tally)?;
+        ask_get(alloc, pair, number)?;
     }
-    Ok(check(&server, &tally))
+    Ok(())
+}
+
+fn ask_get(alloc: Global, pair: &mut Pair, number: u32) -> Result<(), Stopped> {
+    let params = key_parameter(alloc, number)?;
+    ask(alloc, &mut pair.link, "GET", params)?;
+    settle(pair)
 }
 
 /// So many sessions, each with so many requests, interleaved by single pieces and single steps.
 pub(crate) fn sessions(alloc: Global, count: u32, requests: u32) -> Result<u64, Stopped> {
     let mut server = new_server(alloc)?;
     let mut tally = Tally::new();
+    let mut links = links(alloc, &mut server, &mut tally, count)?;
+    for _ in 0..requests / 2 {
+        ask_in_turn(alloc, &mut server, &mut links, &mut tally)?;
+    }
+    Ok(tally.check(server.engine().ledger().len()))
+}
+
+/// So many sessions of one server.
+fn links(
+    alloc: Global,
+    server: &mut Ours,
+    tally: &mut Tally,
+    count: u32,
+) -> Result<Vec<Link>, Stopped> {
     let mut links = Vec::new(alloc);
     for _ in 0..count {
-        links.push(connect(alloc, &mut server, &mut tally)?)?;
+        links.push(connect(alloc, server, tally)?)?;
     }
-    for _ in 0..requests / 2 {
-        for link in &mut links {
-            ask(alloc, link, "ONE", Vec::new(alloc))?;
-        }
-        for link in &mut links {
-            up(&mut server, link, &mut tally)?;
-        }
-        work_in_turn(&mut server, &links)?;
-        for link in &mut links {
-            down(&mut server, link, &mut tally)?;
-        }
+    Ok(links)
+}
+
+/// A RUN of one row and a PULL of all by each session, a step of each after the other.
+fn ask_in_turn(
+    alloc: Global,
+    server: &mut Ours,
+    links: &mut [Link],
+    tally: &mut Tally,
+) -> Result<(), Stopped> {
+    for link in &mut *links {
+        ask(alloc, link, "ONE", Vec::new(alloc))?;
     }
-    Ok(check(&server, &tally))
+    for link in &mut *links {
+        up(server, link, tally)?;
+    }
+    work_in_turn(server, links)?;
+    for link in &mut *links {
+        down(server, link, tally)?;
+    }
+    Ok(())
 }
 
 /// More rounds than the requests of a pipeline take.

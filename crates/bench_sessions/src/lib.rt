@@ -9,34 +9,36 @@ mod link;
 mod moving;
 mod pieces;
 mod tally;
+mod workload;
 
-use crate::batches::{autocommit, echo, rows, sessions, transactions};
+use crate::batches::sessions;
 use crate::growth::{pieces_taken, records_read, records_written};
-use crate::pieces::{pieces_to_client, pieces_to_server};
+use crate::pieces::Long;
+use crate::workload::{Workload, run};
 use std::alloc::Global;
 
 /// RUN of one row and PULL of all so many times, so many pairs in one pipeline.
 #[unsafe(no_mangle)]
 pub extern "C" fn bench_autocommit(alloc: Global, pairs: u32, batch: u32) -> u64 {
-    autocommit(alloc, pairs, batch).unwrap_or(0)
+    run(alloc, Workload::Autocommit(pairs, batch)).unwrap_or(0)
 }
 
 /// RUN of so many rows and PULL of all, so many times.
 #[unsafe(no_mangle)]
 pub extern "C" fn bench_rows(alloc: Global, count: u32, turns: u32) -> u64 {
-    rows(alloc, count, turns).unwrap_or(0)
+    run(alloc, Workload::Rows(count, turns)).unwrap_or(0)
 }
 
 /// RUN that sends so many bytes back, and PULL of all, so many times.
 #[unsafe(no_mangle)]
 pub extern "C" fn bench_echo(alloc: Global, bytes: u32, turns: u32) -> u64 {
-    echo(alloc, bytes, turns).unwrap_or(0)
+    run(alloc, Workload::Echo(bytes, turns)).unwrap_or(0)
 }
 
 /// So many transactions of one put each, in a pipeline each; then so many gets, each its own commit.
 #[unsafe(no_mangle)]
 pub extern "C" fn bench_transactions(alloc: Global, puts: u32, gets: u32) -> u64 {
-    transactions(alloc, puts, gets).unwrap_or(0)
+    run(alloc, Workload::Transactions(puts, gets)).unwrap_or(0)
 }
 
 /// A request of so many bytes, with Bytes or a list of small integers by the marker, fed to the server in pieces of a length, so
@@ -49,7 +51,12 @@ pub extern "C" fn bench_pieces_to_server(
     piece: u32,
     turns: u32,
 ) -> u64 {
-    pieces_to_server(alloc, marker, bytes, piece, turns).unwrap_or(0)
+    let message = Long {
+        marker,
+        bytes: bytes as usize,
+        piece: piece as usize,
+    };
+    run(alloc, Workload::ToServer(message, turns)).unwrap_or(0)
 }
 
 /// A row of so many bytes, with Bytes or a list of small integers by the marker, fed to the client in pieces of a length, so many
@@ -62,7 +69,12 @@ pub extern "C" fn bench_pieces_to_client(
     piece: u32,
     turns: u32,
 ) -> u64 {
-    pieces_to_client(alloc, marker, bytes, piece, turns).unwrap_or(0)
+    let message = Long {
+        marker,
+        bytes: bytes as usize,
+        piece: piece as usize,
+    };
+    run(alloc, Workload::ToClient(message, turns)).unwrap_or(0)
 }
 
 /// So many sessions, each with so many requests, interleaved by single pieces and single steps.

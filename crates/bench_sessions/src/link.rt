@@ -1,6 +1,7 @@
 //! A server with its sessions' clients, in one process.
+use crate::tally::Tally;
 use client::{Client, ClientFault, SubmitFault};
-use engine::{FixedTable, OneUser};
+use engine::{Engine, FixedTable, OneUser};
 use server::{Refused, Server};
 use std::alloc::{AllocError, AllocFailed, Global};
 
@@ -12,6 +13,21 @@ pub(crate) type Ours = Server<FixedTable, OneUser>;
 pub(crate) struct Link {
     pub conn: u64,
     pub client: Client,
+}
+
+/// A server with one client's session, and what was moved and heard.
+#[derive(Drop)]
+pub(crate) struct Pair {
+    pub server: Ours,
+    pub link: Link,
+    pub tally: Tally,
+}
+
+impl Pair {
+    /// The check number of a run.
+    pub fn check(&self) -> u64 {
+        self.tally.check(self.server.engine().ledger().len())
+    }
 }
 
 /// A workload has stopped: want of memory, or an answer that it doesn't wait for.

@@ -1,9 +1,8 @@
 //! Workloads of one message fed in pieces.
 ghost use Rattle.std.specs.Prelude.{◌+◌, ◌<◌, length};
 
-use crate::asking::{ask, connect};
-use crate::batches::check;
-use crate::link::{Link, Ours, Stopped, new_server};
+use crate::asking::ask;
+use crate::link::{Link, Ours, Pair, Stopped};
 use crate::tally::Tally;
 use server::What;
 use std::alloc::{AllocError, Global};
@@ -14,24 +13,25 @@ const DISCARD: &[u8] = b"\x00\x06\xB1\x2F\xA1\x81n\xFF\x00\x00";
 /// SUCCESS without metadata, as a message.
 const SUCCESS: &[u8] = b"\x00\x03\xB1\x70\xA0\x00\x00";
 
-/// The bytes of a message in one chunk of so many bytes: a front; Bytes or a list of what is left, by the marker, each byte 7;
-/// and a back.
-fn long_message(
-    alloc: Global,
-    marker: u8,
-    bytes: u32,
-    front: &[u8],
-    back: &[u8],
-) -> Result<Vec<u8>, Stopped>
+/// A message of so many bytes, with Bytes or a list of small integers by the marker, and the length of the pieces that it comes in.
+#[derive(Clone, Copy)]
+pub(crate) struct Long {
+    pub marker: u8,
+    pub bytes: usize,
+    pub piece: usize,
+}
+
+/// The bytes of a message in one chunk: a front; Bytes or a list of what is left, each byte 7; and a back.
+fn long_message(alloc: Global, message: Long, front: &[u8], back: &[u8]) -> Result<Vec<u8>, Stopped>
     requires { length front.now + length back.now < 64 }
 {
-    let Some(long) = (bytes as usize).checked_sub(front.len() + 3 + back.len()) else {
+    let Some(long) = message.bytes.checked_sub(front.len() + 3 + back.len()) else {
         return Err(Stopped);
     };
     let mut out = Vec::new(alloc);
-    out.extend_from_slice(&length_of(bytes as usize))?;
+    out.extend_from_slice(&length_of(message.bytes))?;
     out.extend_from_slice(front)?;
-    out.push(marker)?;
+    out.push(message.marker)?;
     out.extend_from_slice(&length_of(long))?;
     for _ in 0..long {
         out.push(7)?;
@@ -48,34 +48,36 @@ fn length_of(count: usize) -> [u8; 2] {
 
 /// A RUN that sends Bytes or a list back, in a message of so many bytes, fed to the server in pieces of a length, then worked;
 /// and DISCARD of all, fed whole and worked. So many times.
-pub(crate) fn pieces_to_server(
+pub(crate) fn to_server(
     alloc: Global,
-    marker: u8,
-    bytes: u32,
-    piece: u32,
+    pair: &mut Pair,
+    message: Long,
     turns: u32,
-) -> Result<u64, Stopped> {
-    let mut server = new_server(alloc)?;
-    let mut tally = Tally::new();
-    let link = connect(alloc, &mut server, &mut tally)?;
-    let echo = long_message(alloc, marker, bytes, b"\xB3\x10\x84ECHO\xA1\x81x", b"\xA0")?;
+) -> Result<(), Stopped> {
+    let echo = long_message(alloc, message, b"\xB3\x10\x84ECHO\xA1\x81x", b"\xA0")?;
     for _ in 0..turns {
-        feed_pieces(&mut server, link.conn, &echo, piece)?;
-        server.work(link.conn)?;
-        server.feed(link.conn, DISCARD)?;
-        server.work(link.conn)?;
-        tally.add_up(echo.len());
-        tally.add_up(DISCARD.len());
-        let answers = server.take_out(link.conn, usize::MAX)?;
-        tally.add_down(answers.len());
+        feed_and_discard(pair, &echo, message.piece)?;
     }
-    Ok(check(&server, &tally))
+    Ok(())
+}
+
+fn feed_and_discard(pair: &mut Pair, echo: &[u8], piece: usize) -> Result<(), Stopped> {
+    let conn = pair.link.conn;
+    feed_pieces(&mut pair.server, conn, echo, piece)?;
+    pair.server.work(conn)?;
+    pair.server.feed(conn, DISCARD)?;
+    pair.server.work(conn)?;
+    pair.tally.add_up(echo.len());
+    pair.tally.add_up(DISCARD.len());
+    let answers = pair.server.take_out(conn, usize::MAX)?;
+    pair.tally.add_down(answers.len());
+    Ok(())
 }
 
 /// Feeds the server one message in pieces of a length.
-fn feed_pieces(server: &mut Ours, conn: u64, message: &[u8], piece: u32) -> Result<(), Stopped> {
+fn feed_pieces(server: &mut Ours, conn: u64, message: &[u8], piece: usize) -> Result<(), Stopped> {
     let mut messages = 0u32;
-    for part in message.chunks((piece as usize).max(1)) {
+    for part in message.chunks(piece.max(1)) {
         let took = server.feed(conn, part)?;
         if took.used != part.len() {
             return Err(Stopped);
@@ -89,35 +91,36 @@ fn feed_pieces(server: &mut Ours, conn: u64, message: &[u8], piece: u32) -> Resu
 
 /// A row of Bytes or a list in a message of so many bytes, fed in pieces of a length to a client that waits for a PULL. So many
 /// times.
-pub(crate) fn pieces_to_client(
+pub(crate) fn to_client(
     alloc: Global,
-    marker: u8,
-    bytes: u32,
-    piece: u32,
+    pair: &mut Pair,
+    message: Long,
     turns: u32,
-) -> Result<u64, Stopped> {
-    let mut server = new_server(alloc)?;
-    let mut tally = Tally::new();
-    let mut link = connect(alloc, &mut server, &mut tally)?;
-    ask(alloc, &mut link, "ONE", Vec::new(alloc))?;
-    let requests = link.client.take_out(usize::MAX)?;
-    tally.add_up(requests.len());
-    hear_pieces(&mut link, SUCCESS, 4096, &mut tally)?;
-    let record = long_message(alloc, marker, bytes, b"\xB1\x71\x91", b"")?;
+) -> Result<(), Stopped> {
+    wait_for_rows(alloc, pair)?;
+    let record = long_message(alloc, message, b"\xB1\x71\x91", b"")?;
     for _ in 0..turns {
-        hear_pieces(&mut link, &record, piece, &mut tally)?;
+        hear_pieces(&mut pair.link, &record, message.piece, &mut pair.tally)?;
     }
-    Ok(check(&server, &tally))
+    Ok(())
+}
+
+/// A RUN is answered, and its PULL isn't.
+fn wait_for_rows(alloc: Global, pair: &mut Pair) -> Result<(), Stopped> {
+    ask(alloc, &mut pair.link, "ONE", Vec::new(alloc))?;
+    let requests = pair.link.client.take_out(usize::MAX)?;
+    pair.tally.add_up(requests.len());
+    hear_pieces(&mut pair.link, SUCCESS, 4096, &mut pair.tally)
 }
 
 /// Feeds the client one message in pieces of a length.
 fn hear_pieces(
     link: &mut Link,
     message: &[u8],
-    piece: u32,
+    piece: usize,
     tally: &mut Tally,
 ) -> Result<(), Stopped> {
-    for part in message.chunks((piece as usize).max(1)) {
+    for part in message.chunks(piece.max(1)) {
         let (used, heard) = link.client.feed(part)?;
         if used != part.len() {
             return Err(Stopped);

@@ -88,7 +88,7 @@ pub enum Step {
 use Asked::*;
 use Step::*;
 
-pub fn said(fed: Result<(usize, Heard), ClientFault>) -> Told {
+fn said(fed: Result<(usize, Heard), ClientFault>) -> Told {
     match fed {
         Ok((used, Heard::Nothing)) => Told::Nothing(used),
         Ok((_, Heard::Version(Some(_)))) => Told::Version,
@@ -184,24 +184,49 @@ fn chunked(rt: &(impl Abort + AllocGlobal), message: &[u8]) -> BytesMut {
     bytes
 }
 
+fn asks(
+    rt: &(impl Abort + AllocGlobal),
+    client: &mut Client,
+    asked: Asked,
+    answer: &str,
+) -> Result<(), Fail> {
+    let request = request(rt.alloc(), asked)?;
+    assert_eq!(rt; code(client.submit(request)), answer);
+    Ok(())
+}
+
+/// What feeding these bytes answers.
+pub fn tells(rt: &impl Abort, client: &mut Client, bytes: &[u8], answer: Told) {
+    assert_eq!(rt; said(client.feed(bytes)), answer);
+}
+
+fn takes(rt: &impl Abort, client: &mut Client, max: usize, count: usize) -> Result<(), Fail> {
+    assert_eq!(rt; client.take_out(max)?.len(), count);
+    Ok(())
+}
+
+fn stands(rt: &impl Abort, client: &Client, count: usize, phase: Phase) {
+    assert_eq!(rt; client.pending(), count);
+    assert_eq!(rt; client.phase(), phase);
+}
+
+fn awaits(rt: &impl Abort, client: &Client, awaits: bool) {
+    assert_eq!(rt; client.awaits(), awaits);
+}
+
+fn loses(rt: &impl Abort, client: &mut Client, losses: &[(u64, Outcome)]) {
+    assert_eq!(rt; client.lost().as_slice(), losses);
+}
+
 pub fn take(rt: &(impl Abort + AllocGlobal), client: &mut Client, step: Step) -> Result<(), Fail> {
     match step {
-        Asks(asked, answer) => {
-            let request = request(rt.alloc(), asked)?;
-            assert_eq!(rt; code(client.submit(request)), answer);
-        }
-        Feeds(bytes, answer) => assert_eq!(rt; said(client.feed(bytes)), answer),
-        Hears(message, answer) => {
-            let bytes = chunked(rt, message);
-            assert_eq!(rt; said(client.feed(&bytes)), answer);
-        }
-        Takes(max, count) => assert_eq!(rt; client.take_out(max)?.len(), count),
-        Stands(count, phase) => {
-            assert_eq!(rt; client.pending(), count);
-            assert_eq!(rt; client.phase(), phase);
-        }
-        Awaits(awaits) => assert_eq!(rt; client.awaits(), awaits),
-        Loses(losses) => assert_eq!(rt; client.lost().as_slice(), losses),
+        Asks(asked, answer) => asks(rt, client, asked, answer)?,
+        Feeds(bytes, answer) => tells(rt, client, bytes, answer),
+        Hears(message, answer) => tells(rt, client, &chunked(rt, message), answer),
+        Takes(max, count) => takes(rt, client, max, count)?,
+        Stands(count, phase) => stands(rt, client, count, phase),
+        Awaits(is_waiting) => awaits(rt, client, is_waiting),
+        Loses(losses) => loses(rt, client, losses),
     }
     Ok(())
 }

@@ -1,6 +1,7 @@
 use client::*;
 use messages::{Auth, Mode, Request};
 use std::alloc::{AllocError, Global};
+use std::process::Abort;
 use std::test::*;
 use wire::{Version, Wish};
 
@@ -48,27 +49,38 @@ fn hear(client: &mut Client, bytes: &[u8]) -> Result<usize, ClientFault> {
     Ok(summaries)
 }
 
+/// The answer to its HELLO has come, and its BEGIN and COMMIT are sent.
+fn asks_for_a_commit(rt: &(impl Abort + AllocGlobal), client: &mut Client) -> Result<(), Fail> {
+    client.submit(hello(rt.alloc())?)?;
+    let success = [0, 0, 0, 3, 0xB1, 0x70, 0xA0, 0, 0];
+    assert_eq!(rt; hear(client, &success)?, 1);
+    client.submit(Request::Begin(Mode::Write))?;
+    client.submit(Request::Commit)?;
+    assert_eq!(rt; client.take_out(usize::MAX)?.len(), 80);
+    assert_eq!(rt; client.first_waiting(), 1);
+    Ok(())
+}
+
+/// What the caller of a lost client does about each of two requests.
+fn is_advised(rt: &impl Abort, client: &mut Client, wanted: &[(u64, Next)]) {
+    let losses = client.lost();
+    assert_eq!(rt; losses.as_slice().len(), wanted.len());
+    for (loss, want) in losses.as_slice().iter().zip(wanted) {
+        assert!(rt; loss.0 == want.0 && advice(loss.1) == want.1);
+    }
+}
+
 /// A client is lost when the answer to its HELLO has come, and not that to its COMMIT.
 #[test]
 fn drives_a_client(rt: HostRuntime) -> Result<(), Fail> {
     let mut client = Client::new(rt.alloc(), Wish::Only(Version::V44))?;
-    let offer = client.take_out(usize::MAX)?;
-    assert_eq!(rt; offer.len(), 20);
+    assert_eq!(rt; client.take_out(usize::MAX)?.len(), 20);
     assert_eq!(rt; hear(&mut client, &[0, 0, 4, 4])?, 0);
-    client.submit(hello(rt.alloc())?)?;
-    assert_eq!(rt;
-        hear(&mut client, &[0, 0, 0, 3, 0xB1, 0x70, 0xA0, 0, 0])?,
-        1
+    asks_for_a_commit(&rt, &mut client)?;
+    is_advised(
+        &rt,
+        &mut client,
+        &[(1, Next::SendAgain), (2, Next::LookFirst)],
     );
-    client.submit(Request::Begin(Mode::Write))?;
-    client.submit(Request::Commit)?;
-    let asked = client.take_out(usize::MAX)?;
-    assert_eq!(rt; asked.len(), 80);
-    assert_eq!(rt; client.first_waiting(), 1);
-    let wanted = [(1, Next::SendAgain), (2, Next::LookFirst)];
-    for (loss, want) in client.lost().as_slice().iter().zip(&wanted) {
-        assert_eq!(rt; loss.0, want.0);
-        assert_eq!(rt; advice(loss.1), want.1);
-    }
     Ok(())
 }

@@ -3,12 +3,14 @@
 use crate::asking::Asked::*;
 use crate::asking::Step::*;
 use crate::asking::{
-    FAILURE, IGNORED, MORE, MORE_OF_ONE, NEW, OLD, ROW, SUCCESS, Told, done, go_on, play, play_on,
-    said, take,
+    FAILURE, IGNORED, MORE, MORE_OF_ONE, NEW, OLD, ROW, SUCCESS, Step, Told, done, go_on, play,
+    play_on, take, tells,
 };
 use client::*;
 use machine::Phase;
 use messages::Count;
+use std::alloc::Global;
+use std::process::Abort;
 use std::test::*;
 use wire::{Version, Wish};
 
@@ -92,23 +94,28 @@ fn session(rt: HostRuntime) -> Result<(), Fail> {
 }
 
 /// What was read of a message that comes in pieces: bytes are missing, or its value is whole.
+fn then_reads(
+    rt: &(impl Abort + AllocGlobal),
+    client: &mut Client,
+    step: Step,
+    is_whole: bool,
+) -> Result<(), Fail> {
+    take(rt, client, step)?;
+    assert!(rt; client.reader().finish().is_ok() == is_whole);
+    Ok(())
+}
+
 #[test]
 fn lends_its_reader(rt: HostRuntime) -> Result<(), Fail> {
     let mut client = Client::new(rt.alloc(), Wish::Newest)?;
-    let begun = [
-        Feeds(NEW, Told::Version),
-        Asks(Hello, "accepted"),
-        Feeds(&[0, 2, 0xB1, 0x70], Told::Nothing(4)),
-    ];
-    go_on(&rt, &mut client, &begun)?;
-    assert!(&rt; client.reader().finish().is_err());
-    let whole = [Feeds(&[0, 1, 0xA0], Told::Nothing(3))];
-    go_on(&rt, &mut client, &whole)?;
-    assert!(&rt; client.reader().finish().is_ok());
-    let ended = [Feeds(&[0, 0], done(0, Phase::Unauth))];
-    go_on(&rt, &mut client, &ended)?;
-    assert!(&rt; client.reader().finish().is_err());
-    Ok(())
+    take(&rt, &mut client, Feeds(NEW, Told::Version))?;
+    take(&rt, &mut client, Asks(Hello, "accepted"))?;
+    let begun = Feeds(&[0, 2, 0xB1, 0x70], Told::Nothing(4));
+    then_reads(&rt, &mut client, begun, false)?;
+    let whole = Feeds(&[0, 1, 0xA0], Told::Nothing(3));
+    then_reads(&rt, &mut client, whole, true)?;
+    let ended = Feeds(&[0, 0], done(0, Phase::Unauth));
+    then_reads(&rt, &mut client, ended, false)
 }
 
 /// A message that can't be a value is a bad answer with its last byte, and not before.
@@ -275,19 +282,25 @@ fn byte_by_byte(rt: HostRuntime) -> Result<(), Fail> {
     play_on(&rt, &steps)
 }
 
-/// A message past the limit.
-#[test]
-fn too_big(rt: HostRuntime) -> Result<(), Fail> {
-    let mut client = Client::new(rt.alloc(), Wish::Newest)?;
-    let mut bytes = Vec::new(rt.alloc());
+/// A chunk as long as can be.
+fn longest_chunk(alloc: Global) -> Result<Vec<u8>, Fail> {
+    let mut bytes = Vec::new(alloc);
     bytes.extend_from_slice(&[0xFF, 0xFF])?;
     for _ in 0..65535 {
         bytes.push(0x90)?;
     }
-    assert_eq!(rt; said(client.feed(NEW)), Told::Version);
-    assert_eq!(rt; said(client.feed(&bytes)), Told::Nothing(65537));
-    assert_eq!(rt; said(client.feed(&[0, 2])), Told::BadPeer);
-    assert_eq!(rt; said(client.feed(&[0, 2])), Told::Closed);
+    Ok(bytes)
+}
+
+/// A message past the limit.
+#[test]
+fn too_big(rt: HostRuntime) -> Result<(), Fail> {
+    let bytes = longest_chunk(rt.alloc())?;
+    let mut client = Client::new(rt.alloc(), Wish::Newest)?;
+    tells(&rt, &mut client, NEW, Told::Version);
+    tells(&rt, &mut client, &bytes, Told::Nothing(65537));
+    tells(&rt, &mut client, &[0, 2], Told::BadPeer);
+    tells(&rt, &mut client, &[0, 2], Told::Closed);
     Ok(())
 }
 

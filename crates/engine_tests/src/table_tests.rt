@@ -100,26 +100,86 @@ fn fault_of(answer: Result<Answer, EngineFault>) -> Option<EngineFault> {
     }
 }
 
+/// Whether KEYS reads these keys.
+fn keys_are(
+    table: &FixedTable,
+    own: &[Write],
+    mode: Mode,
+    keys: &[&str],
+) -> Result<bool, EngineFault> {
+    let answer = table.run(own, "KEYS", &[], mode)?;
+    Ok(reads_texts(&answer, "key", keys))
+}
+
+/// Whether KEYS reads these keys where one more is put in the same transaction.
+fn keys_with(alloc: Global, table: &FixedTable, own: &str, keys: &[&str]) -> Result<bool, Fail> {
+    let own = write(alloc, own, 4)?;
+    Ok(keys_are(table, &own, Mode::Write, keys)?)
+}
+
+/// Whether a query reads one column of this name and these numbers.
+fn numbers_are(
+    table: &FixedTable,
+    query: &str,
+    params: &[(String, Cell)],
+    name: &str,
+    numbers: &[i64],
+) -> Result<bool, EngineFault> {
+    let answer = table.run(&[], query, params, Mode::Read)?;
+    Ok(reads_numbers(&answer, name, numbers))
+}
+
+/// Whether GET of a key reads these numbers.
+fn gets(alloc: Global, table: &FixedTable, key: &str, numbers: &[i64]) -> Result<bool, Fail> {
+    let params = key_param(alloc, key)?;
+    Ok(numbers_are(table, "GET", &params, "value", numbers)?)
+}
+
+/// Whether ROWS of n reads these numbers.
+fn rows_are(alloc: Global, table: &FixedTable, n: i64, numbers: &[i64]) -> Result<bool, Fail> {
+    let params = param(alloc, "n", Cell::Int(n))?;
+    Ok(numbers_are(table, "ROWS", &params, "i", numbers)?)
+}
+
+/// How many rows ROWS of n reads.
+fn row_count(alloc: Global, table: &FixedTable, n: i64) -> Result<usize, Fail> {
+    let params = param(alloc, "n", Cell::Int(n))?;
+    Ok(table.run(&[], "ROWS", &params, Mode::Read)?.rows.len())
+}
+
+/// What ROWS of n is refused for.
+fn rows_fault(alloc: Global, n: i64) -> Result<Option<EngineFault>, Fail> {
+    let params = param(alloc, "n", Cell::Int(n))?;
+    let table = FixedTable::new(alloc);
+    Ok(fault_of(table.run(&[], "ROWS", &params, Mode::Read)))
+}
+
+/// Whether ECHO of a text sends it back.
+fn echoes(alloc: Global, table: &FixedTable, sent: &str) -> Result<bool, Fail> {
+    let x = param(alloc, "x", text(alloc, sent)?)?;
+    let echo = table.run(&[], "ECHO", &x, Mode::Read)?;
+    Ok(reads_texts(&echo, "x", &[sent]))
+}
+
+/// Whether WALK reads one column of the one path.
+fn walks(table: &FixedTable) -> Result<bool, EngineFault> {
+    let walk = table.run(&[], "WALK", &[], Mode::Read)?;
+    Ok(reads_column(&walk, "p") && walk.rows.iter().all(|row| row.iter().all(is_walk)))
+}
+
 #[test]
 fn keys_and_values(rt: HostRuntime) -> Result<(), Fail> {
-    let alloc = rt.alloc();
-    let table = three_puts(alloc)?;
-    let keys = table.run(&[], "KEYS", &[], Mode::Read)?;
-    assert!(rt; reads_texts(&keys, "key", &["b", "a"]));
-    let got = table.run(&[], "GET", &key_param(alloc, "b")?, Mode::Read)?;
-    assert!(rt; reads_numbers(&got, "value", &[3]));
+    let table = three_puts(rt.alloc())?;
+    assert!(rt; keys_are(&table, &[], Mode::Read, &["b", "a"])?);
+    assert!(rt; gets(rt.alloc(), &table, "b", &[3])?);
     Ok(())
 }
 
 #[test]
 fn own_writes(rt: HostRuntime) -> Result<(), Fail> {
-    let alloc = rt.alloc();
-    let table = three_puts(alloc)?;
-    let own = write(alloc, "c", 4)?;
-    let keys = table.run(&own, "KEYS", &[], Mode::Write)?;
-    assert!(rt; reads_texts(&keys, "key", &["b", "a", "c"]));
-    let none = table.run(&[], "GET", &key_param(alloc, "c")?, Mode::Read)?;
-    assert!(rt; reads_numbers(&none, "value", &[]));
+    let table = three_puts(rt.alloc())?;
+    assert!(rt; keys_with(rt.alloc(), &table, "c", &["b", "a", "c"])?);
+    assert!(rt; gets(rt.alloc(), &table, "c", &[])?);
     assert!(rt; table.ledger().len() == 3);
     Ok(())
 }
@@ -165,32 +225,17 @@ fn commit_of_no_writes(rt: HostRuntime) -> Result<(), Fail> {
 fn rows(rt: HostRuntime) -> Result<(), Fail> {
     let alloc = rt.alloc();
     let table = FixedTable::new(alloc);
-    let three = table.run(&[], "ROWS", &param(alloc, "n", Cell::Int(3))?, Mode::Read)?;
-    assert!(rt; reads_numbers(&three, "i", &[1, 2, 3]));
-    let none = table.run(&[], "ROWS", &param(alloc, "n", Cell::Int(0))?, Mode::Read)?;
-    assert!(rt; reads_numbers(&none, "i", &[]));
-    let most = table.run(
-        &[],
-        "ROWS",
-        &param(alloc, "n", Cell::Int(1024))?,
-        Mode::Read,
-    )?;
-    assert!(rt; most.rows.len() == 1024);
+    assert!(rt; rows_are(alloc, &table, 3, &[1, 2, 3])?);
+    assert!(rt; rows_are(alloc, &table, 0, &[])?);
+    assert!(rt; row_count(alloc, &table, 1024)? == 1024);
     Ok(())
 }
 
 #[test]
 fn bad_counts(rt: HostRuntime) -> Result<(), Fail> {
     let alloc = rt.alloc();
-    let table = FixedTable::new(alloc);
-    for (n, fault) in [
-        (1025, EngineFault::TooManyRows),
-        (-1, EngineFault::Parameter),
-    ] {
-        let params = param(alloc, "n", Cell::Int(n))?;
-        let told = fault_of(table.run(&[], "ROWS", &params, Mode::Read));
-        assert!(rt; told == Some(fault));
-    }
+    assert!(rt; rows_fault(alloc, 1025)? == Some(EngineFault::TooManyRows));
+    assert!(rt; rows_fault(alloc, -1)? == Some(EngineFault::Parameter));
     Ok(())
 }
 
@@ -225,31 +270,40 @@ fn too_many_keys(rt: HostRuntime) -> Result<(), Fail> {
 
 #[test]
 fn values_in_and_out(rt: HostRuntime) -> Result<(), Fail> {
-    let alloc = rt.alloc();
-    let table = FixedTable::new(alloc);
-    let one = table.run(&[], "ONE", &[], Mode::Read)?;
-    assert!(rt; reads_numbers(&one, "one", &[1]));
-    let x = param(alloc, "x", text(alloc, "hi")?)?;
-    let echo = table.run(&[], "ECHO", &x, Mode::Read)?;
-    assert!(rt; reads_texts(&echo, "x", &["hi"]));
-    let walk = table.run(&[], "WALK", &[], Mode::Read)?;
-    assert!(rt; reads_column(&walk, "p") && walk.rows.iter().all(|row| row.iter().all(is_walk)));
+    let table = FixedTable::new(rt.alloc());
+    assert!(rt; numbers_are(&table, "ONE", &[], "one", &[1])?);
+    assert!(rt; echoes(rt.alloc(), &table, "hi")?);
+    assert!(rt; walks(&table)?);
     Ok(())
+}
+
+/// The parameters of a PUT.
+fn put_params(alloc: Global, key: &str, value: i64) -> Result<Vec<(String, Cell)>, AllocError> {
+    let mut params = key_param(alloc, key)?;
+    params.push((String::from_str(alloc, "value")?, Cell::Int(value)))?;
+    Ok(params)
+}
+
+fn reads_nothing(answer: &Answer) -> bool {
+    answer.fields.is_empty() && answer.rows.is_empty()
+}
+
+/// Whether a copy of what the answer writes has this key and number.
+fn writes(answer: &Answer, key: &str, value: i64) -> Result<bool, AllocError> {
+    let Some(write) = &answer.write else {
+        return Ok(false);
+    };
+    let copy = write.clone()?;
+    Ok(copy.key.as_str() == key && is_int(&copy.value, value))
 }
 
 #[test]
 fn put(rt: HostRuntime) -> Result<(), Fail> {
-    let alloc = rt.alloc();
-    let table = FixedTable::new(alloc);
-    let mut params = key_param(alloc, "a")?;
-    params.push((String::from_str(alloc, "value")?, Cell::Int(1)))?;
+    let table = FixedTable::new(rt.alloc());
+    let params = put_params(rt.alloc(), "a", 1)?;
     let put = table.run(&[], "PUT", &params, Mode::Write)?;
-    assert!(rt; put.fields.is_empty() && put.rows.is_empty() && put.mode == Mode::Write);
-    let Some(write) = &put.write else {
-        return Err(Fail::from("no write"));
-    };
-    let copy = write.clone()?;
-    assert!(rt; copy.key.as_str() == "a" && is_int(&copy.value, 1));
+    assert!(rt; reads_nothing(&put) && put.mode == Mode::Write);
+    assert!(rt; writes(&put, "a", 1)?);
     Ok(())
 }
 
@@ -269,26 +323,37 @@ fn is_walk(cell: &Cell) -> bool {
     }
 }
 
+/// What a commit and a GET of the same key say, whether the GET reads these numbers.
+fn commits_and_gets(
+    alloc: Global,
+    table: &mut FixedTable,
+    writes: Vec<Write>,
+    numbers: &[i64],
+) -> Result<bool, Fail> {
+    let params = key_param(alloc, "a")?;
+    match commit_and_get(table, CALLER, writes, &params) {
+        Ok(Ok(got)) => Ok(reads_numbers(&got, "value", numbers)),
+        _ => Err(Fail::from("no memory")),
+    }
+}
+
+const CALLER: EntryId = EntryId {
+    conn: 1,
+    ordinal: 3,
+};
+
+/// Whether a commit of no writes and KEYS after it are both answered.
+fn commits_and_runs(alloc: Global, table: &mut FixedTable) -> bool {
+    let keys = commit_and_run(table, CALLER, Vec::new(alloc), "KEYS", &[], Mode::Read);
+    matches!(keys, Ok(Ok(_)))
+}
+
 #[test]
 fn callers(rt: HostRuntime) -> Result<(), Fail> {
     let alloc = rt.alloc();
     let mut table = three_puts(alloc)?;
-    let id = EntryId {
-        conn: 1,
-        ordinal: 3,
-    };
-    let got = commit_and_get(
-        &mut table,
-        id,
-        write(alloc, "a", 5)?,
-        &key_param(alloc, "a")?,
-    );
-    let Ok(Ok(got)) = got else {
-        return Err(Fail::from("no memory"));
-    };
-    assert!(rt; reads_numbers(&got, "value", &[5]));
-    let keys = commit_and_run(&mut table, id, Vec::new(alloc), "KEYS", &[], Mode::Read);
-    assert!(rt; matches!(keys, Ok(Ok(_))));
+    assert!(rt; commits_and_gets(alloc, &mut table, write(alloc, "a", 5)?, &[5])?);
+    assert!(rt; commits_and_runs(alloc, &mut table));
     Ok(())
 }
 

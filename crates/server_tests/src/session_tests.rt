@@ -3,7 +3,7 @@
 use crate::talking::{
     BAD_LOGON, BEGIN, COMMIT, DISCARD_ALL, FIELDS, GOODBYE, GREETING, HELLO, INVALID, LOGON, NOPE,
     OFFER, OLD_HELLO, OLD_OFFER, PULL_ALL, PULL_THREE, PULL_TWO, PUT, RESET, ROWS, Step, Table,
-    UNAUTHORIZED, begins, goes_on, server, work_all,
+    UNAUTHORIZED, begins, converse, goes_on, server,
 };
 use machine::{Kind, State};
 use packstream::{PackFault, Reason};
@@ -78,29 +78,33 @@ const WHOLE_HELLO: [u8; 67] = [
     0, 0,
 ];
 
+const OFFERS_OLD: &[Step<'static>] = &[
+    Step::Feed(OLD_OFFER, 20, What::Handshake(Some(Version::V44))),
+    Step::Out(&[0, 0, 4, 4]),
+];
+
+const GREETS_READY: &[Step<'static>] = &[
+    Step::WorkAll(Worked::Idle),
+    Step::Stands(State::Ready),
+    Step::Out(GREETING),
+];
+
 /// The session that is fed these pieces greets at the end of the last.
 fn greets_at_the_last(
     rt: &impl Abort,
     alloc: Global,
+    server: &mut Table,
     first: &[u8],
     second: &[u8],
     last: &[u8],
 ) -> Result<(), Fail> {
-    let mut server = server(alloc)?;
     let conn = server.open()?;
-    server.feed(conn, OLD_OFFER)?;
-    let version = server.take_out(conn, 1000)?;
-    assert_eq!(rt; version.as_slice(), [0, 0, 4, 4].as_slice());
+    converse(rt, alloc, server, conn, OFFERS_OLD)?;
     server.feed(conn, first)?;
     server.feed(conn, second)?;
-    let took = server.feed(conn, last)?;
-    assert_eq!(rt; took.used, last.len());
-    assert_eq!(rt; took.what, What::Message);
-    assert_eq!(rt; work_all(&mut server, conn)?, Worked::Idle);
-    assert_eq!(rt; server.state(conn), Some(State::Ready));
-    let greeting = server.take_out(conn, 1000)?;
-    assert_eq!(rt; greeting.as_slice(), GREETING);
-    Ok(())
+    let ends = [Step::Feed(last, last.len(), What::Message)];
+    converse(rt, alloc, server, conn, &ends)?;
+    converse(rt, alloc, server, conn, GREETS_READY)
 }
 
 #[test]
@@ -109,61 +113,80 @@ fn greets_however_hello_is_cut(rt: HostRuntime) -> Result<(), Fail> {
         let (first, rest) = WHOLE_HELLO.split_at(one);
         for (two, _) in rest.iter().enumerate() {
             let (second, last) = rest.split_at(two);
-            greets_at_the_last(&rt, rt.alloc(), first, second, last)?;
+            let mut server = server(rt.alloc())?;
+            greets_at_the_last(&rt, rt.alloc(), &mut server, first, second, last)?;
         }
     }
     Ok(())
 }
 
+/// The last byte of the magic, two proposals, and what a session says to them.
+struct Offered {
+    magic: u8,
+    first: [u8; 4],
+    second: [u8; 4],
+    what: What,
+    out: &'static [u8],
+    cause: Option<Cause>,
+}
+
+const OFFERED: &[Offered] = &[
+    Offered {
+        magic: 0x17,
+        first: [0, 0, 0, 5],
+        second: [0, 0, 4, 4],
+        what: What::Handshake(Some(Version::V44)),
+        out: &[0, 0, 4, 4],
+        cause: None,
+    },
+    Offered {
+        magic: 0x17,
+        first: [0, 2, 1, 5],
+        second: [0, 0, 0, 0],
+        what: What::Handshake(Some(Version::V51)),
+        out: &[0, 0, 1, 5],
+        cause: None,
+    },
+    Offered {
+        magic: 0x17,
+        first: [0, 0, 0, 3],
+        second: [0, 0, 0, 0],
+        what: What::Handshake(None),
+        out: &[0, 0, 0, 0],
+        cause: Some(Cause::NoVersion),
+    },
+    Offered {
+        magic: 0x18,
+        first: [0, 0, 1, 5],
+        second: [0, 0, 4, 4],
+        what: What::BadMagic,
+        out: &[],
+        cause: Some(Cause::BadMagic),
+    },
+];
+
+/// The handshake of a magic and two proposals.
+fn handshake(offered: &Offered) -> [u8; 20] {
+    let mut hand = [0; 20];
+    hand[..4].copy_from_slice(&[0x60, 0x60, 0xB0, offered.magic]);
+    hand[4..8].copy_from_slice(&offered.first);
+    hand[8..12].copy_from_slice(&offered.second);
+    hand
+}
+
+fn answers(rt: &impl Abort, server: &mut Table, offered: &Offered) -> Result<(), Fail> {
+    let conn = server.open()?;
+    assert_eq!(rt; server.feed(conn, &handshake(offered))?.what, offered.what);
+    assert_eq!(rt; server.take_out(conn, 10)?.as_slice(), offered.out);
+    assert_eq!(rt; server.cause(conn), offered.cause);
+    Ok(())
+}
+
 #[test]
 fn takes_the_first_proposal_that_it_has(rt: HostRuntime) -> Result<(), Fail> {
-    let old = What::Handshake(Some(Version::V44));
-    let new = What::Handshake(Some(Version::V51));
-    let cases = [
-        (
-            0x17,
-            [0, 0, 0, 5],
-            [0, 0, 4, 4],
-            old,
-            [0, 0, 4, 4].as_slice(),
-            None,
-        ),
-        (
-            0x17,
-            [0, 2, 1, 5],
-            [0, 0, 0, 0],
-            new,
-            [0, 0, 1, 5].as_slice(),
-            None,
-        ),
-        (
-            0x17,
-            [0, 0, 0, 3],
-            [0, 0, 0, 0],
-            What::Handshake(None),
-            [0, 0, 0, 0].as_slice(),
-            Some(Cause::NoVersion),
-        ),
-        (
-            0x18,
-            [0, 0, 1, 5],
-            [0, 0, 4, 4],
-            What::BadMagic,
-            [].as_slice(),
-            Some(Cause::BadMagic),
-        ),
-    ];
     let mut server = server(rt.alloc())?;
-    for (last, first, second, what, out, cause) in &cases {
-        let conn = server.open()?;
-        let mut offer = Vec::new(rt.alloc());
-        offer.extend_from_slice(&[0x60, 0x60, 0xB0, *last])?;
-        offer.extend_from_slice(first.as_slice())?;
-        offer.extend_from_slice(second.as_slice())?;
-        offer.extend_from_slice(&[0; 8])?;
-        assert_eq!(rt; server.feed(conn, offer.as_slice())?.what, *what);
-        assert_eq!(rt; server.take_out(conn, 10)?.as_slice(), *out);
-        assert_eq!(rt; server.cause(conn), *cause);
+    for offered in OFFERED {
+        answers(&rt, &mut server, offered)?;
     }
     Ok(())
 }
@@ -402,21 +425,45 @@ fn fault_in(server: &Table, conn: u64) -> Option<(Reason, usize)> {
     }
 }
 
+/// The session says this of a piece, and its reader then has this fault at this place.
+fn then_has(
+    rt: &impl Abort,
+    server: &mut Table,
+    conn: u64,
+    piece: &[u8],
+    what: What,
+    fault: (Reason, usize),
+) -> Result<(), Fail> {
+    assert_eq!(rt; server.feed(conn, piece)?.what, what);
+    assert_eq!(rt; fault_in(server, conn), Some(fault));
+    Ok(())
+}
+
+fn lends_its_reader(rt: &impl Abort, server: &mut Table) -> Result<(), Fail> {
+    let conn = server.open()?;
+    assert_eq!(rt; fault_in(server, conn), Some((Reason::Short, 0)));
+    server.feed(conn, OFFER)?;
+    // A structure, its tag, a dictionary, and a key of two bytes of which one has come, in two chunks.
+    let key = [0, 2, 0xB1, 0x01, 0, 9, 0xA1, 0x82, 0x61];
+    then_has(rt, server, conn, &key, What::Part, (Reason::Short, 3))?;
+    // A byte that announces nothing makes every continuation bad, but the message isn't at its end.
+    let bad = [0x62, 0xC7, 0xA0];
+    then_has(rt, server, conn, &bad, What::Part, (Reason::Marker, 6))?;
+    let more = [0xA0, 0xA0, 0xA0];
+    then_has(rt, server, conn, &more, What::Part, (Reason::Marker, 6))?;
+    then_has(
+        rt,
+        server,
+        conn,
+        &[0, 0],
+        What::Malformed,
+        (Reason::Short, 0),
+    )
+}
+
 #[test]
 fn lends_the_reader_of_a_message_in_pieces(rt: HostRuntime) -> Result<(), Fail> {
     let mut server = server(rt.alloc())?;
-    let conn = server.open()?;
     assert!(rt; server.reader(99).is_none());
-    assert_eq!(rt; fault_in(&server, conn), Some((Reason::Short, 0)));
-    server.feed(conn, OFFER)?;
-    // A structure, its tag, a dictionary, and a key of two bytes of which one has come, in two chunks.
-    server.feed(conn, &[0, 2, 0xB1, 0x01, 0, 9, 0xA1, 0x82, 0x61])?;
-    assert_eq!(rt; fault_in(&server, conn), Some((Reason::Short, 3)));
-    // A byte that announces nothing makes every continuation bad, but the message isn't at its end.
-    server.feed(conn, &[0x62, 0xC7, 0xA0])?;
-    assert_eq!(rt; fault_in(&server, conn), Some((Reason::Marker, 6)));
-    assert_eq!(rt; server.feed(conn, &[0xA0, 0xA0, 0xA0])?.what, What::Part);
-    assert_eq!(rt; server.feed(conn, &[0, 0])?.what, What::Malformed);
-    assert_eq!(rt; fault_in(&server, conn), Some((Reason::Short, 0)));
-    Ok(())
+    lends_its_reader(&rt, &mut server)
 }

@@ -163,17 +163,23 @@ pub fn work_all(server: &mut Table, conn: u64) -> Result<Worked, Fail> {
     Ok(Worked::Full)
 }
 
-/// The bytes of a FAILURE in its chunk.
-fn failure(alloc: Global, code: &str, message: &str) -> Result<Vec<u8>, Fail> {
+/// The text of a FAILURE.
+fn failure_text(alloc: Global, code: &str, message: &str) -> Result<Vec<u8>, Fail> {
     let mut bytes = Vec::new(alloc);
     bytes.extend_from_slice(&[0xB1, 0x7F, 0xA2])?;
     put_text(&mut bytes, "code")?;
     put_text(&mut bytes, code)?;
     put_text(&mut bytes, "message")?;
     put_text(&mut bytes, message)?;
+    Ok(bytes)
+}
+
+/// The bytes of a FAILURE in its chunk.
+fn failure(alloc: Global, code: &str, message: &str) -> Result<Vec<u8>, Fail> {
+    let text = failure_text(alloc, code, message)?;
     let mut chunk = Vec::new(alloc);
-    chunk.extend_from_slice(&[0, (bytes.len() % 256) as u8])?;
-    chunk.extend_from_slice(bytes.as_slice())?;
+    chunk.extend_from_slice(&[0, (text.len() % 256) as u8])?;
+    chunk.extend_from_slice(text.as_slice())?;
     chunk.extend_from_slice(&[0, 0])?;
     Ok(chunk)
 }
