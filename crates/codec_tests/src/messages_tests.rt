@@ -85,15 +85,18 @@ fn is_unwritten(rt: &(impl Abort + AllocGlobal), version: Version, request: &Req
     assert!(rt; out.is_empty());
 }
 
-/// A request and a response that are read and written back.
+/// A copy of the request is written as these bytes.
+fn is_copied(rt: &(impl Abort + AllocGlobal), version: Version, request: &Request, bytes: &[u8]) {
+    match request.clone() {
+        Ok(copy) => is_written(rt, version, &copy, bytes),
+        Err(_) => assert!(rt; false),
+    }
+}
+
+/// A request that is read is written back.
 fn again(rt: &(impl Abort + AllocGlobal), version: Version, bytes: &[u8]) {
     match read_request(rt.alloc(), version, bytes) {
-        Ok(request) => {
-            match request.clone() {
-                Ok(copy) => is_written(rt, version, &copy, bytes),
-                Err(_) => assert!(rt; false),
-            }
-        }
+        Ok(request) => is_copied(rt, version, &request, bytes),
         Err(_) => assert!(rt; false),
     }
 }
@@ -110,113 +113,111 @@ fn answered_again(rt: &(impl Abort + AllocGlobal), version: Version, bytes: &[u8
 }
 
 #[test]
-fn written_requests(rt: HostRuntime) -> Result<(), Fail> {
-    let alloc = rt.alloc();
+fn written_requests(rt: HostRuntime) {
     let v51 = Version::V51;
-    is_written(
-        &rt,
-        v51,
-        &Request::Pull(Count::All),
-        &[0xB1, 0x3F, 0xA1, 0x81, 0x6E, 0xFF],
-    );
-    is_written(
-        &rt,
-        v51,
-        &Request::Discard(Count::Of(5)),
-        &[0xB1, 0x2F, 0xA1, 0x81, 0x6E, 0x05],
-    );
+    let pull = [0xB1, 0x3F, 0xA1, 0x81, 0x6E, 0xFF];
+    is_written(&rt, v51, &Request::Pull(Count::All), &pull);
+    let discard = [0xB1, 0x2F, 0xA1, 0x81, 0x6E, 0x05];
+    is_written(&rt, v51, &Request::Discard(Count::Of(5)), &discard);
     is_written(&rt, v51, &Request::Begin(Mode::Write), &[0xB1, 0x11, 0xA0]);
-    is_written(
-        &rt,
-        v51,
-        &Request::Begin(Mode::Read),
-        &[0xB1, 0x11, 0xA1, 0x84, 0x6D, 0x6F, 0x64, 0x65, 0x81, 0x72],
-    );
-    let run = Request::Run {
-        text: String::from_str(alloc, "ONE")?,
-        params: Vec::new(alloc),
-        mode: Mode::Write,
-    };
-    is_written(
-        &rt,
-        v51,
-        &run,
-        &[0xB3, 0x10, 0x83, 0x4F, 0x4E, 0x45, 0xA0, 0xA0],
-    );
+    let begin = [0xB1, 0x11, 0xA1, 0x84, 0x6D, 0x6F, 0x64, 0x65, 0x81, 0x72];
+    is_written(&rt, v51, &Request::Begin(Mode::Read), &begin);
+}
+
+#[test]
+fn written_requests_without_fields(rt: HostRuntime) {
+    let v51 = Version::V51;
     is_written(&rt, v51, &Request::Reset, &[0xB0, 0x0F]);
     is_written(&rt, v51, &Request::Goodbye, &[0xB0, 0x02]);
     is_written(&rt, v51, &Request::Commit, &[0xB0, 0x12]);
     is_written(&rt, v51, &Request::Rollback, &[0xB0, 0x13]);
     is_written(&rt, v51, &Request::Logoff, &[0xB0, 0x6B]);
+}
+
+#[test]
+fn a_written_run(rt: HostRuntime) -> Result<(), Fail> {
+    let run = Request::Run {
+        text: String::from_str(rt.alloc(), "ONE")?,
+        params: Vec::new(rt.alloc()),
+        mode: Mode::Write,
+    };
+    let text = [0xB3, 0x10, 0x83, 0x4F, 0x4E, 0x45, 0xA0, 0xA0];
+    is_written(&rt, Version::V51, &run, &text);
+    Ok(())
+}
+
+#[test]
+fn unwritten_requests(rt: HostRuntime) -> Result<(), Fail> {
     is_unwritten(&rt, Version::V44, &Request::Logoff, "M3");
-    is_unwritten(&rt, v51, &Request::Pull(Count::Of(0)), "M5");
+    is_unwritten(&rt, Version::V51, &Request::Pull(Count::Of(0)), "M5");
     let hello = Request::Hello {
-        agent: String::from_str(alloc, "t/1")?,
+        agent: String::from_str(rt.alloc(), "t/1")?,
         auth: None,
     };
     is_unwritten(&rt, Version::V44, &hello, "M5");
     Ok(())
 }
 
+/// Requests, and the codes of what reading them answers.
+const READ_REQUESTS: &[(Version, &[u8], &str)] = &[
+    (Version::V51, &[0xC0], "M2"),
+    (Version::V51, &[0xB1, 0x70, 0xA0], "M3"),
+    (Version::V44, &[0xB0, 0x6B], "M3"),
+    (Version::V51, &[0xB1, 0x0F, 0xA0], "M4"),
+    (Version::V51, &[0xB1, 0x10, 0xA0], "M4"),
+    (Version::V51, &[0xB1, 0x3F, 0xA0], "M5"),
+    (Version::V51, &[0xB1, 0x3F, 0xA1, 0x81, 0x6E, 0x00], "M5"),
+    (
+        Version::V51,
+        &[
+            0xB1, 0x3F, 0xA2, 0x81, 0x6E, 0x01, 0x83, 0x71, 0x69, 0x64, 0x00,
+        ],
+        "M5",
+    ),
+    (
+        Version::V51,
+        &[
+            0xB1, 0x3F, 0xA2, 0x81, 0x6E, 0x01, 0x83, 0x71, 0x69, 0x64, 0xFF,
+        ],
+        "read",
+    ),
+    (
+        Version::V51,
+        &[0xB1, 0x3F, 0xA2, 0x81, 0x6E, 0x01, 0x81, 0x78, 0x01],
+        "M5",
+    ),
+    (
+        Version::V51,
+        &[0xB1, 0x11, 0xA1, 0x84, 0x6D, 0x6F, 0x64, 0x65, 0x01],
+        "M5",
+    ),
+    (
+        Version::V51,
+        &[
+            0xB3, 0x10, 0x83, 0x4F, 0x4E, 0x45, 0xA1, 0x81, 0x61, 0xB1, 0x5A, 0x00, 0xA0,
+        ],
+        "M6",
+    ),
+    (Version::V51, &[0xB0, 0x0F, 0x00], "M1"),
+    (
+        Version::V51,
+        &[
+            0xB1, 0x01, 0xA2, 0x8A, 0x75, 0x73, 0x65, 0x72, 0x5F, 0x61, 0x67, 0x65, 0x6E, 0x74,
+            0x83, 0x74, 0x2F, 0x31, 0x81, 0x78, 0xB1, 0x5A, 0x00,
+        ],
+        "read",
+    ),
+    (Version::V44, HELLO_OF_USER, "read"),
+    (Version::V51, LOGON_OF_USER, "read"),
+];
+
 #[test]
 fn read_requests(rt: HostRuntime) {
-    let (old, new) = (Version::V44, Version::V51);
-    let cases: [(Version, &[u8], &str); 16] = [
-        (new, &[0xC0], "M2"),
-        (new, &[0xB1, 0x70, 0xA0], "M3"),
-        (old, &[0xB0, 0x6B], "M3"),
-        (new, &[0xB1, 0x0F, 0xA0], "M4"),
-        (new, &[0xB1, 0x10, 0xA0], "M4"),
-        (new, &[0xB1, 0x3F, 0xA0], "M5"),
-        (new, &[0xB1, 0x3F, 0xA1, 0x81, 0x6E, 0x00], "M5"),
-        (
-            new,
-            &[
-                0xB1, 0x3F, 0xA2, 0x81, 0x6E, 0x01, 0x83, 0x71, 0x69, 0x64, 0x00,
-            ],
-            "M5",
-        ),
-        (
-            new,
-            &[
-                0xB1, 0x3F, 0xA2, 0x81, 0x6E, 0x01, 0x83, 0x71, 0x69, 0x64, 0xFF,
-            ],
-            "read",
-        ),
-        (
-            new,
-            &[0xB1, 0x3F, 0xA2, 0x81, 0x6E, 0x01, 0x81, 0x78, 0x01],
-            "M5",
-        ),
-        (
-            new,
-            &[0xB1, 0x11, 0xA1, 0x84, 0x6D, 0x6F, 0x64, 0x65, 0x01],
-            "M5",
-        ),
-        (
-            new,
-            &[
-                0xB3, 0x10, 0x83, 0x4F, 0x4E, 0x45, 0xA1, 0x81, 0x61, 0xB1, 0x5A, 0x00, 0xA0,
-            ],
-            "M6",
-        ),
-        (new, &[0xB0, 0x0F, 0x00], "M1"),
-        (
-            new,
-            &[
-                0xB1, 0x01, 0xA2, 0x8A, 0x75, 0x73, 0x65, 0x72, 0x5F, 0x61, 0x67, 0x65, 0x6E, 0x74,
-                0x83, 0x74, 0x2F, 0x31, 0x81, 0x78, 0xB1, 0x5A, 0x00,
-            ],
-            "read",
-        ),
-        (old, HELLO_OF_USER, "read"),
-        (new, LOGON_OF_USER, "read"),
-    ];
-    for (version, bytes, told) in cases.iter() {
+    for (version, bytes, told) in READ_REQUESTS {
         assert_eq!(rt; asked(rt.alloc(), *version, bytes), *told);
     }
-    again(&rt, old, HELLO_OF_USER);
-    again(&rt, new, LOGON_OF_USER);
+    again(&rt, Version::V44, HELLO_OF_USER);
+    again(&rt, Version::V51, LOGON_OF_USER);
 }
 
 #[test]
@@ -245,17 +246,20 @@ fn responses(rt: HostRuntime) {
     answered_again(&rt, Version::V51, &[0xB0, 0x7E]);
 }
 
-#[test]
-fn parameters_are_a_value(rt: HostRuntime) -> Result<(), Fail> {
-    let Ok(packed) = decode(rt.alloc(), PUT_PARAMS) else {
-        return Err(Fail::from("refused"));
+/// Whether the bytes are read as a dictionary of so many pairs.
+fn reads_pairs(alloc: Global, bytes: &[u8], count: usize) -> bool {
+    let Ok(packed) = decode(alloc, bytes) else {
+        return false;
     };
-    let answer = read(rt.alloc(), Version::V51, &packed);
-    match &answer {
-        Ok(Cell::Dict(pairs)) => assert_eq!(rt; pairs.len(), 2),
-        _ => assert!(rt; false),
+    match read(alloc, Version::V51, &packed) {
+        Ok(Cell::Dict(pairs)) => pairs.len() == count,
+        _ => false,
     }
-    Ok(())
+}
+
+#[test]
+fn parameters_are_a_value(rt: HostRuntime) {
+    assert!(rt; reads_pairs(rt.alloc(), PUT_PARAMS, 2));
 }
 
 #[test]

@@ -4,31 +4,51 @@ use std::alloc::{AllocError, Global};
 use std::process::Abort;
 use std::test::*;
 
-/// What the bytes are read as, copied, is written as these, from either end of a call.
-fn again(rt: &(impl Abort + AllocGlobal), input: &[u8], output: &[u8]) -> Result<(), Fail> {
-    let Ok(packed) = decode(rt.alloc(), input) else {
-        return Err(Fail::from("refused"));
-    };
-    let copy = packed.clone()?;
-    let Ok(made) = Packed::new_in(rt.alloc(), packed.value().clone()?) else {
-        return Err(Fail::from("not made"));
-    };
+/// The value is written as these bytes.
+fn is_written(rt: &(impl Abort + AllocGlobal), packed: &Packed, output: &[u8]) {
     let mut out = BytesMut::new(rt.alloc());
-    assert!(rt; encode(&copy, &mut out).is_ok());
+    assert!(rt; encode(packed, &mut out).is_ok());
     assert_eq!(rt; out.as_slice(), output);
-    assert!(rt; encode(&made, &mut out).is_ok());
-    assert_eq!(rt; out.as_slice().len(), 2 * output.len());
-    assert_eq!(rt; size(&packed), output.len());
+    assert_eq!(rt; size(packed), output.len());
+}
+
+/// What is made of a copy of the value is written as these bytes.
+fn is_made(rt: &(impl Abort + AllocGlobal), value: &Value, output: &[u8]) -> Result<(), Fail> {
+    match Packed::new_in(rt.alloc(), value.clone()?) {
+        Ok(made) => is_written(rt, &made, output),
+        Err(_) => assert!(rt; false),
+    }
+    Ok(())
+}
+
+/// A copy of the value, and what is made of a copy, are written as these bytes.
+fn is_copied(rt: &(impl Abort + AllocGlobal), packed: &Packed, output: &[u8]) -> Result<(), Fail> {
+    let copy = packed.clone()?;
+    is_written(rt, &copy, output);
+    is_made(rt, packed.value(), output)
+}
+
+/// The bytes, with one more behind them, are read up to that one.
+fn is_front(rt: &(impl Abort + AllocGlobal), input: &[u8], length: usize) -> Result<(), Fail> {
     let mut longer = Vec::from_slice(rt.alloc(), input)?;
     longer.push(0xC0)?;
     match decode_front(rt.alloc(), &longer) {
         Ok((front, used)) => {
             assert_eq!(rt; used, input.len());
-            assert_eq!(rt; size(&front), output.len());
+            assert_eq!(rt; size(&front), length);
         }
         Err(_) => assert!(rt; false),
     }
     Ok(())
+}
+
+/// What the bytes are read as, copied, is written as these, from either end of a call.
+fn again(rt: &(impl Abort + AllocGlobal), input: &[u8], output: &[u8]) -> Result<(), Fail> {
+    match decode(rt.alloc(), input) {
+        Ok(packed) => is_copied(rt, &packed, output)?,
+        Err(_) => assert!(rt; false),
+    }
+    is_front(rt, input, output.len())
 }
 
 #[test]
@@ -94,61 +114,68 @@ fn is_text(value: &Value, wanted: &str) -> bool {
     }
 }
 
+/// Whether the bytes are read as a float of these bits.
+fn reads_float(alloc: Global, bytes: &[u8], wanted: u64) -> bool {
+    match decode(alloc, bytes) {
+        Ok(packed) => matches!(packed.value(), Value::Float(bits) if *bits == wanted),
+        Err(_) => false,
+    }
+}
+
+/// Whether the bytes are read as Bytes.
+fn reads_bytes(alloc: Global, bytes: &[u8], wanted: &[u8]) -> bool {
+    match decode(alloc, bytes) {
+        Ok(packed) => matches!(packed.value(), Value::Bytes(held) if held.as_slice() == wanted),
+        Err(_) => false,
+    }
+}
+
+/// Whether the value is a dictionary of one key, with this text.
+fn is_pair(value: &Value, key: &str, text: &str) -> bool {
+    match value {
+        Value::Dict(pairs) if pairs.len() == 1 => pairs.iter().all(|(held, value)| held.as_str()
+            == key
+            && is_text(value, text)),
+        _ => false,
+    }
+}
+
+fn reads_pair(alloc: Global, bytes: &[u8], key: &str, text: &str) -> bool {
+    match decode(alloc, bytes) {
+        Ok(packed) => is_pair(packed.value(), key, text),
+        Err(_) => false,
+    }
+}
+
 #[test]
-fn others(rt: HostRuntime) -> Result<(), Fail> {
-    let float = decode(rt.alloc(), &[0xC1, 0x7F, 0xF0, 0, 0, 0, 0, 0, 1]);
-    match float {
-        Ok(packed) => match packed.value() {
-            Value::Float(bits) => assert_eq!(rt; *bits, 0x7FF0_0000_0000_0001),
-            _ => assert!(rt; false),
-        },
-        Err(_) => assert!(rt; false),
-    }
-    let bytes = decode(rt.alloc(), &[0xCC, 3, 1, 2, 3]);
-    match bytes {
-        Ok(packed) => match packed.value() {
-            Value::Bytes(held) => assert_eq!(rt; held.as_slice(), [1, 2, 3].as_slice()),
-            _ => assert!(rt; false),
-        },
-        Err(_) => assert!(rt; false),
-    }
+fn others(rt: HostRuntime) {
+    let float = [0xC1, 0x7F, 0xF0, 0, 0, 0, 0, 0, 1];
+    assert!(rt; reads_float(rt.alloc(), &float, 0x7FF0_0000_0000_0001));
+    assert!(rt; reads_bytes(rt.alloc(), &[0xCC, 3, 1, 2, 3], &[1, 2, 3]));
     let dict = [0xA1, 0x83, 0x6F, 0x6E, 0x65, 0x84, 0x65, 0x69, 0x6E, 0x73];
-    match decode(rt.alloc(), &dict) {
-        Ok(packed) => match packed.value() {
-            Value::Dict(pairs) => {
-                assert_eq!(rt; pairs.len(), 1);
-                for (key, value) in pairs {
-                    assert_eq!(rt; key.as_str(), "one");
-                    assert!(rt; is_text(value, "eins"));
-                }
-            }
-            _ => assert!(rt; false),
-        },
-        Err(_) => assert!(rt; false),
+    assert!(rt; reads_pair(rt.alloc(), &dict, "one", "eins"));
+}
+
+fn is_refused(told: Result<Packed, PackFault>, reason: Reason, place: usize) -> bool {
+    match told {
+        Err(PackFault::Refused(why, at)) => why == reason && at == place,
+        _ => false,
     }
-    Ok(())
+}
+
+/// The decoder of a front tells this; what is left over is none of its concern.
+fn is_refused_in_front(alloc: Global, input: &[u8], reason: Reason, place: usize) -> bool {
+    match decode_front(alloc, input) {
+        Err(PackFault::Refused(why, at)) => why == reason && at == place,
+        Err(PackFault::Memory) => false,
+        Ok((_, used)) => reason == Reason::Trailing && used == place,
+    }
 }
 
 /// Both decoders tell this.
 fn refused(rt: &(impl Abort + AllocGlobal), input: &[u8], reason: Reason, place: usize) {
-    match decode(rt.alloc(), input) {
-        Err(PackFault::Refused(r, p)) => {
-            assert!(rt; r == reason);
-            assert_eq!(rt; p, place);
-        }
-        _ => assert!(rt; false),
-    }
-    match decode_front(rt.alloc(), input) {
-        Err(PackFault::Refused(r, p)) => {
-            assert!(rt; r == reason);
-            assert_eq!(rt; p, place);
-        }
-        Ok((_, used)) => {
-            assert!(rt; reason == Reason::Trailing);
-            assert_eq!(rt; used, place);
-        }
-        Err(PackFault::Memory) => assert!(rt; false),
-    }
+    assert!(rt; is_refused(decode(rt.alloc(), input), reason, place));
+    assert!(rt; is_refused_in_front(rt.alloc(), input, reason, place));
 }
 
 #[test]
@@ -183,16 +210,6 @@ fn refusals(rt: HostRuntime) {
     assert!(rt; decode(rt.alloc(), &deep[..32]).is_ok());
 }
 
-fn is_unmade(rt: &impl Abort, made: Result<Packed, PackFault>, reason: Reason, place: usize) {
-    match made {
-        Err(PackFault::Refused(r, p)) => {
-            assert!(rt; r == reason);
-            assert_eq!(rt; p, place);
-        }
-        _ => assert!(rt; false),
-    }
-}
-
 /// Both makers tell this.
 fn unmade(
     rt: &(impl Abort + AllocGlobal),
@@ -201,68 +218,79 @@ fn unmade(
     place: usize,
 ) -> Result<(), Fail> {
     let copy = value.clone()?;
-    is_unmade(rt, Packed::new(value), reason, place);
-    is_unmade(rt, Packed::new_in(rt.alloc(), copy), reason, place);
+    assert!(rt; is_refused(Packed::new(value), reason, place));
+    assert!(rt; is_refused(Packed::new_in(rt.alloc(), copy), reason, place));
     Ok(())
 }
 
+/// A dictionary of one key, twice.
+fn twice(alloc: Global) -> Result<Value, AllocError> {
+    let first = (String::from_str(alloc, "a")?, Value::Int(1));
+    let second = (String::from_str(alloc, "a")?, Value::Int(2));
+    Ok(Value::Dict(vec![in alloc; first, second]?))
+}
+
+/// A dictionary of 20 keys, whose last but one is that of the third too.
+fn third_again(alloc: Global) -> Result<Value, AllocError> {
+    let mut pairs = Vec::new(alloc);
+    for i in 0..20 {
+        let n: i64 = if i == 18 { 2 } else { i };
+        pairs.push((format!(in alloc; "k{n}")?, Value::Int(n)))?;
+    }
+    Ok(Value::Dict(pairs))
+}
+
 #[test]
-fn making(rt: HostRuntime) -> Result<(), Fail> {
-    let first = (String::from_str(rt.alloc(), "a")?, Value::Int(1));
-    let second = (String::from_str(rt.alloc(), "a")?, Value::Int(2));
-    unmade(
-        &rt,
-        Value::Dict(vec![in rt.alloc(); first, second]?),
-        Reason::KeyTwice,
-        2,
-    )?;
+fn making_with_keys_twice(rt: HostRuntime) -> Result<(), Fail> {
+    unmade(&rt, twice(rt.alloc())?, Reason::KeyTwice, 2)?;
+    unmade(&rt, third_again(rt.alloc())?, Reason::KeyTwice, 19)
+}
+
+#[test]
+fn making_too_many_fields(rt: HostRuntime) -> Result<(), Fail> {
     let mut fields = Vec::new(rt.alloc());
     for _ in 0..16 {
         fields.push(Value::Null)?;
     }
-    unmade(&rt, Value::Struct(0, fields), Reason::Size, 0)?;
+    unmade(&rt, Value::Struct(0, fields), Reason::Size, 0)
+}
+
+#[test]
+fn making_too_deep(rt: HostRuntime) -> Result<(), Fail> {
     let mut value = Value::List(Vec::new(rt.alloc()));
     for _ in 0..32 {
         value = Value::List(vec![in rt.alloc(); value]?);
     }
-    unmade(&rt, value, Reason::Depth, 32)?;
-    let mut pairs = Vec::new(rt.alloc());
-    for i in 0..20 {
-        let n: i64 = if i == 18 { 2 } else { i };
-        pairs.push((format!(in rt.alloc(); "k{n}")?, Value::Int(n)))?;
+    unmade(&rt, value, Reason::Depth, 32)
+}
+
+/// Bytes as a value, so many.
+fn bytes_of(alloc: Global, count: usize) -> Result<Packed, Fail> {
+    let bytes = vec![in alloc; 7u8; count]?;
+    match Packed::new(Value::Bytes(bytes)) {
+        Ok(packed) => Ok(packed),
+        Err(_) => Err(Fail::from("not made")),
     }
-    unmade(&rt, Value::Dict(pairs), Reason::KeyTwice, 19)
 }
 
 #[test]
-fn sizes(rt: HostRuntime) -> Result<(), Fail> {
-    let mut bytes = Vec::new(rt.alloc());
-    for _ in 0..65_533 {
-        bytes.push(7u8)?;
-    }
+fn the_largest_size(rt: HostRuntime) -> Result<(), Fail> {
+    let packed = bytes_of(rt.alloc(), 65_533)?;
     let mut out = BytesMut::new(rt.alloc());
-    match Packed::new(Value::Bytes(bytes.clone()?)) {
-        Ok(packed) => {
-            assert!(rt; encode(&packed, &mut out).is_ok());
-            assert_eq!(rt; out.len(), 65_536);
-            assert_eq!(rt; size(&packed), 65_536);
-        }
-        Err(_) => assert!(rt; false),
-    }
-    bytes.push(7)?;
-    match Packed::new(Value::Bytes(bytes)) {
-        Ok(packed) => {
-            assert!(rt;
-                matches!(
-                    &encode(&packed, &mut out),
-                    Err(PackFault::Refused(Reason::Size, 0))
-                )
-            );
-            assert_eq!(rt; size(&packed), 65_537);
-            assert_eq!(rt; out.len(), 65_536);
-        }
-        Err(_) => assert!(rt; false),
-    }
+    assert!(rt; encode(&packed, &mut out).is_ok());
+    assert_eq!(rt; out.len(), 65_536);
+    assert_eq!(rt; size(&packed), 65_536);
+    Ok(())
+}
+
+#[test]
+fn a_size_past_the_limit(rt: HostRuntime) -> Result<(), Fail> {
+    let packed = bytes_of(rt.alloc(), 65_534)?;
+    let mut out = BytesMut::copy_from_slice(rt.alloc(), &[7])?;
+    let told = encode(&packed, &mut out);
+    assert!(rt; matches!(told, Err(PackFault::Refused(Reason::Size, 0))));
+    assert_eq!(rt; size(&packed), 65_537);
+    assert_eq!(rt; out.len(), 1);
     Ok(())
 }
 
@@ -289,45 +317,54 @@ fn many_keys(rt: HostRuntime) -> Result<(), Fail> {
     Ok(())
 }
 
+/// The value is written behind what is there, so that this is what there is.
+fn is_put(rt: &impl Abort, packed: &Packed, out: &mut BytesMut, wanted: &[u8]) {
+    assert!(rt; encode(packed, out).is_ok());
+    assert_eq!(rt; out.as_slice(), wanted);
+}
+
 #[test]
 fn appended(rt: HostRuntime) -> Result<(), Fail> {
     let Ok(packed) = decode(rt.alloc(), &[0x92, 1, 0x81, 0x61]) else {
         return Err(Fail::from("refused"));
     };
     let mut out = BytesMut::new(rt.alloc());
-    assert!(rt; encode(&packed, &mut out).is_ok());
-    assert!(rt; encode(&packed, &mut out).is_ok());
-    assert_eq!(rt;
-        out.as_slice(),
-        [0x92, 1, 0x81, 0x61, 0x92, 1, 0x81, 0x61].as_slice()
+    is_put(&rt, &packed, &mut out, &[0x92, 1, 0x81, 0x61]);
+    is_put(
+        &rt,
+        &packed,
+        &mut out,
+        &[0x92, 1, 0x81, 0x61, 0x92, 1, 0x81, 0x61],
     );
     out.clear();
-    assert!(rt; encode(&packed, &mut out).is_ok());
-    assert_eq!(rt; out.as_slice(), [0x92, 1, 0x81, 0x61].as_slice());
+    is_put(&rt, &packed, &mut out, &[0x92, 1, 0x81, 0x61]);
     Ok(())
+}
+
+/// A list of twice so many Bytes.
+fn both(alloc: Global, count: usize) -> Result<Packed, Fail> {
+    let bytes = vec![in alloc; 9u8; count]?;
+    let copy = bytes.clone()?;
+    let both = vec![in alloc; Value::Bytes(bytes), Value::Bytes(copy)]?;
+    match Packed::new(Value::List(both)) {
+        Ok(packed) => Ok(packed),
+        Err(_) => Err(Fail::from("not made")),
+    }
 }
 
 #[test]
 fn put_back(rt: HostRuntime) -> Result<(), Fail> {
-    let mut bytes = Vec::new(rt.alloc());
-    for _ in 0..40_000 {
-        bytes.push(9u8)?;
-    }
-    let both = vec![in rt.alloc(); Value::Bytes(bytes.clone()?), Value::Bytes(bytes.clone()?)]?;
-    let mut out = BytesMut::copy_from_slice(rt.alloc(), &[7])?;
-    match (
-        Packed::new(Value::List(both)),
-        Packed::new(Value::Bytes(bytes)),
-    ) {
-        (Ok(long), Ok(fits)) => {
-            assert!(rt; encode(&long, &mut out).is_err());
-            assert_eq!(rt; out.as_slice(), [7].as_slice());
-            assert!(rt; encode(&fits, &mut out).is_ok());
-            assert_eq!(rt; out.len(), 40_004);
-            assert_eq!(rt; &out.as_slice()[..5], [7, 0xCD, 0x9C, 0x40, 9].as_slice());
-        }
-        _ => assert!(rt; false),
-    }
+    let long = both(rt.alloc(), 40_000)?;
+    let mut out = BytesMut::copy_from_slice(rt.alloc(), &[8])?;
+    assert!(rt; encode(&long, &mut out).is_err());
+    assert_eq!(rt; out.as_slice(), [8].as_slice());
+    let fits = bytes_of(rt.alloc(), 40_000)?;
+    assert!(rt; encode(&fits, &mut out).is_ok());
+    assert_eq!(rt; out.len(), 40_004);
+    assert_eq!(rt;
+        out.as_slice().get(..5),
+        Some([8, 0xCD, 0x9C, 0x40, 7].as_slice())
+    );
     Ok(())
 }
 
