@@ -41,12 +41,15 @@ pub(crate) fn is_written(
 
 /// The SUCCESS of a query with one field, `i`.
 pub(crate) fn success(alloc: Global) -> Result<Response, AllocError> {
-    let mut fields = Vec::new(alloc);
-    fields.push(Cell::Text(String::from_str(alloc, "i")?))?;
+    let fields = vec![in alloc; Cell::Text(String::from_str(alloc, "i")?)]?;
     let mut metadata = Vec::new(alloc);
-    metadata.push((String::from_str(alloc, "fields")?, Cell::List(fields)))?;
-    metadata.push((String::from_str(alloc, "t_first")?, Cell::Int(0)))?;
+    metadata.push(entry(alloc, "fields", Cell::List(fields))?)?;
+    metadata.push(entry(alloc, "t_first", Cell::Int(0))?)?;
     Ok(Response::Success(metadata))
+}
+
+fn entry(alloc: Global, key: &str, cell: Cell) -> Result<(String, Cell), AllocError> {
+    Ok((String::from_str(alloc, key)?, cell))
 }
 
 /// The FAILURE of a query of unknown text.
@@ -69,9 +72,24 @@ pub(crate) fn walk(alloc: Global, version: Version) -> Result<Response, AllocErr
 }
 
 fn path(alloc: Global) -> Result<Cell, AllocError> {
+    let nodes = nodes(alloc)?;
+    let relationships = relationships(alloc)?;
+    let indices = vec![in alloc; 1, 1]?;
+    Ok(Cell::Path {
+        nodes,
+        relationships,
+        indices,
+    })
+}
+
+fn nodes(alloc: Global) -> Result<Vec<Node>, AllocError> {
     let mut nodes = Vec::new(alloc);
     nodes.push(node(alloc, 1, "A")?)?;
     nodes.push(node(alloc, 2, "B")?)?;
+    Ok(nodes)
+}
+
+fn relationships(alloc: Global) -> Result<Vec<UnboundRelationship>, AllocError> {
     let mut relationships = Vec::new(alloc);
     relationships.push(UnboundRelationship {
         id: 7,
@@ -79,14 +97,7 @@ fn path(alloc: Global) -> Result<Cell, AllocError> {
         properties: Vec::new(alloc),
         element_id: None,
     })?;
-    let mut indices = Vec::new(alloc);
-    indices.push(1)?;
-    indices.push(1)?;
-    Ok(Cell::Path {
-        nodes,
-        relationships,
-        indices,
-    })
+    Ok(relationships)
 }
 
 fn node(alloc: Global, id: i64, label: &str) -> Result<Node, AllocError> {

@@ -86,15 +86,25 @@ fn hello(alloc: Global) -> Result<Request, AllocError> {
     })
 }
 
-/// HELLO, LOGON, a transaction and a result: two commits in all.
-pub fn requests(alloc: Global) -> Result<Vec<Request>, AllocError> {
-    let mut requests = Vec::new(alloc);
+fn log_on(alloc: Global, requests: &mut Vec<Request>) -> Result<(), AllocError> {
     requests.push(hello(alloc)?)?;
     requests.push(logon(alloc)?)?;
+    Ok(())
+}
+
+fn commit_a_put(alloc: Global, requests: &mut Vec<Request>) -> Result<(), AllocError> {
     requests.push(Request::Begin(Mode::Write))?;
     requests.push(put(alloc)?)?;
     requests.push(Request::Pull(Count::All))?;
     requests.push(Request::Commit)?;
+    Ok(())
+}
+
+/// HELLO, LOGON, a transaction and a result: two commits in all.
+pub fn requests(alloc: Global) -> Result<Vec<Request>, AllocError> {
+    let mut requests = Vec::new(alloc);
+    log_on(alloc, &mut requests)?;
+    commit_a_put(alloc, &mut requests)?;
     requests.push(rows(alloc)?)?;
     requests.push(Request::Pull(Count::All))?;
     Ok(requests)

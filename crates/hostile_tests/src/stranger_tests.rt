@@ -4,6 +4,7 @@ use crate::telling::told;
 use fuzzing::{hears, plays};
 use packstream::{PackFault, Reason, decode};
 use std::alloc::Global;
+use std::process::Abort;
 use std::test::Fail;
 
 /// A HELLO at 4.4, LOGON, a SUCCESS of RUN, a FAILURE, a RECORD of a path at 4.4 and at 5.1, and parameters.
@@ -25,22 +26,32 @@ fn short_at(alloc: Global, bytes: &[u8]) -> Option<usize> {
     }
 }
 
+/// Each front of the bytes that isn't all of them is short.
+fn stops_short(rt: &impl Abort, alloc: Global, whole: &str) -> Result<(), Fail> {
+    let bytes = hex::decode(alloc, whole)?;
+    assert!(rt; decode(alloc, &bytes).is_ok());
+    for len in 0..bytes.len() {
+        assert!(rt;
+            short_at(alloc, &bytes[..len]).is_some(),
+            "{len} of {whole}"
+        );
+    }
+    Ok(())
+}
+
 #[test]
 fn proper_fronts_stop_short(rt: HostRuntime) -> Result<(), Fail> {
-    let alloc = rt.alloc();
     for whole in WHOLE {
-        let bytes = hex::decode(alloc, whole)?;
-        assert!(rt; decode(alloc, &bytes).is_ok());
-        for len in 0..bytes.len() {
-            assert!(rt;
-                short_at(alloc, &bytes[..len]).is_some(),
-                "{len} of {whole}"
-            );
-        }
+        stops_short(&rt, rt.alloc(), whole)?;
     }
+    Ok(())
+}
+
+#[test]
+fn claims_of_more_than_there_is_are_short(rt: HostRuntime) {
+    let alloc = rt.alloc();
     assert_eq!(rt; short_at(alloc, &[0xD6, 0xFF, 0xFF, 0xFF, 0xFF]), Some(5));
     assert_eq!(rt; short_at(alloc, &[0xD6, 0x00, 0x0F, 0x42, 0x40]), Some(5));
-    Ok(())
 }
 
 /// A script, and what it tells.

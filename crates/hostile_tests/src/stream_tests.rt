@@ -9,7 +9,7 @@ use server::{Cause, Server, Worked};
 use std::alloc::Global;
 use std::process::Abort;
 use std::test::Fail;
-use streams::{Buffer, Slice, StreamFault, ask_all, serve_one};
+use streams::{Slice, StreamFault, Told, ask_all, serve_one};
 
 /// What is asked, what is answered, and where in the answer each summary begins that commits.
 #[derive(Drop)]
@@ -17,6 +17,13 @@ struct Talk {
     asked: Vec<u8>,
     answered: Vec<u8>,
     commits: Vec<usize>,
+}
+
+impl Talk {
+    /// How many commits have a summary that begins in so many bytes.
+    fn begun(&self, written: usize) -> usize {
+        self.commits.iter().filter(|at| **at <= written).count()
+    }
 }
 
 /// Takes out what waits.
@@ -40,17 +47,8 @@ fn work_all(server: &mut Table, conn: u64, talk: &mut Talk) -> Result<(), Fail> 
     Ok(())
 }
 
-/// The conversation, fed and worked by hand.
-fn conversation(alloc: Global) -> Result<Talk, Fail> {
-    let mut talk = Talk {
-        asked: Vec::new(alloc),
-        answered: Vec::new(alloc),
-        commits: Vec::new(alloc),
-    };
-    talk.asked
-        .extend_from_slice(&asking(alloc)?.take_out(65_536)?)?;
-    let mut server = server(alloc)?;
-    let conn = server.open()?;
+/// Takes all that is asked, and answers it.
+fn talk_on(server: &mut Table, conn: u64, talk: &mut Talk) -> Result<(), Fail> {
     let mut rest = 0;
     for _piece in 0..100 {
         if rest >= talk.asked.len() {
@@ -58,9 +56,29 @@ fn conversation(alloc: Global) -> Result<Talk, Fail> {
         }
         let took = server.feed(conn, &talk.asked[rest..])?;
         rest = rest.wrapping_add(took.used);
-        out_of(&mut server, conn, &mut talk.answered)?;
-        work_all(&mut server, conn, &mut talk)?;
+        out_of(server, conn, &mut talk.answered)?;
+        work_all(server, conn, talk)?;
     }
+    Ok(())
+}
+
+/// What the client asks, before anything is answered.
+fn asked(alloc: Global) -> Result<Vec<u8>, Fail> {
+    let mut asked = Vec::new(alloc);
+    asked.extend_from_slice(&asking(alloc)?.take_out(65_536)?)?;
+    Ok(asked)
+}
+
+/// The conversation, fed and worked by hand.
+fn conversation(alloc: Global) -> Result<Talk, Fail> {
+    let mut talk = Talk {
+        asked: asked(alloc)?,
+        answered: Vec::new(alloc),
+        commits: Vec::new(alloc),
+    };
+    let mut server = server(alloc)?;
+    let conn = server.open()?;
+    talk_on(&mut server, conn, &mut talk)?;
     Ok(talk)
 }
 
@@ -107,52 +125,82 @@ fn serves_what_is_worked_by_hand(rt: HostRuntime) -> Result<(), Fail> {
     Ok(())
 }
 
-/// The kth read fails, for each k: what was written and the ledger are those of the bytes that were read.
+/// What was written and the ledger are those of the bytes that were read.
+fn is_of_what_was_read(
+    rt: &impl Abort,
+    alloc: Global,
+    talk: &Talk,
+    served: &Served,
+) -> Result<(), Fail> {
+    let read = &talk.asked[..served.read.min(talk.asked.len())];
+    let alone = serves(alloc, read, MANY, MANY)?;
+    assert_eq!(rt; served.out.as_slice(), alone.out.as_slice());
+    assert_eq!(rt; served.entries, alone.entries);
+    assert!(rt; is_front(&served.out, &talk.answered));
+    Ok(())
+}
+
+/// Serves streams whose reads fail after so many; answers whether none did.
+fn reads_and_fails(
+    rt: &impl Abort,
+    alloc: Global,
+    talk: &Talk,
+    reads: usize,
+) -> Result<bool, Fail> {
+    let served = serves(alloc, &talk.asked, reads, MANY)?;
+    if served.answer == Ok(Cause::Lost) {
+        assert_eq!(rt; served.read, talk.asked.len());
+        assert!(rt; reads > 30);
+        return Ok(true);
+    }
+    assert_eq!(rt; served.answer, Err(StreamFault::ReadFailed));
+    is_of_what_was_read(rt, alloc, talk, &served)?;
+    Ok(false)
+}
+
+/// The kth read fails, for each k.
 #[test]
 fn each_read_fails_when_served(rt: HostRuntime) -> Result<(), Fail> {
-    let alloc = rt.alloc();
-    let talk = conversation(alloc)?;
+    let talk = conversation(rt.alloc())?;
     for reads in 0..MANY {
-        let served = serves(alloc, &talk.asked, reads, MANY)?;
-        if served.answer == Ok(Cause::Lost) {
-            assert_eq!(rt; served.read, talk.asked.len());
-            assert!(rt; reads > 30);
+        if reads_and_fails(&rt, rt.alloc(), &talk, reads)? {
             return Ok(());
         }
-        assert_eq!(rt; served.answer, Err(StreamFault::ReadFailed));
-        let alone = serves(
-            alloc,
-            &talk.asked[..served.read.min(talk.asked.len())],
-            MANY,
-            MANY,
-        )?;
-        assert_eq!(rt; served.out.as_slice(), alone.out.as_slice());
-        assert_eq!(rt; served.entries, alone.entries);
-        assert!(rt; is_front(&served.out, &talk.answered));
     }
     assert!(rt; false);
     Ok(())
 }
 
+/// Serves streams whose writes fail after so many; answers whether none did.
+fn writes_and_fails(
+    rt: &impl Abort,
+    alloc: Global,
+    talk: &Talk,
+    writes: usize,
+) -> Result<bool, Fail> {
+    let served = serves(alloc, &talk.asked, MANY, writes)?;
+    if served.answer == Ok(Cause::Lost) {
+        assert!(rt; writes > 20);
+        return Ok(true);
+    }
+    assert_eq!(rt; served.answer, Err(StreamFault::WriteFailed));
+    assert!(rt; is_front(&served.out, &talk.answered));
+    assert_eq!(rt;
+        served.entries,
+        talk.begun(served.out.len()),
+        "after {writes} writes"
+    );
+    Ok(false)
+}
+
 /// The kth write fails, for each k: what was written is a beginning, and the ledger has the commits whose summaries were begun.
 #[test]
 fn each_write_fails_when_served(rt: HostRuntime) -> Result<(), Fail> {
-    let alloc = rt.alloc();
-    let talk = conversation(alloc)?;
+    let talk = conversation(rt.alloc())?;
     for writes in 0..MANY {
-        let served = serves(alloc, &talk.asked, MANY, writes)?;
-        if served.answer == Ok(Cause::Lost) {
-            assert!(rt; writes > 20);
+        if writes_and_fails(&rt, rt.alloc(), &talk, writes)? {
             return Ok(());
         }
-        assert_eq!(rt; served.answer, Err(StreamFault::WriteFailed));
-        assert!(rt; is_front(&served.out, &talk.answered));
-        let begun = talk
-            .commits
-            .iter()
-            .filter(|at| **at <= served.out.len())
-            .count();
-        assert_eq!(rt; served.entries, begun, "after {writes} writes");
     }
     assert!(rt; false);
     Ok(())
@@ -218,45 +266,99 @@ fn answer(alloc: Global) -> Result<Vec<u8>, Fail> {
     Ok(answer)
 }
 
+/// Asks over sound streams, and answers what was written.
+fn asks_over(
+    rt: &impl Abort,
+    alloc: Global,
+    answer: &[u8],
+    wanted: &[Said],
+) -> Result<Vec<u8>, Fail> {
+    let mut client = asking(alloc)?;
+    let mut sink = Drip::new(alloc, MANY);
+    let mut source = Slice::new(answer);
+    let told = ask_all(alloc, &mut client, &mut source, &mut sink);
+    assert!(rt; told.fault == None && told.losses.as_slice().is_empty());
+    is_heard(rt, &told.heard, wanted);
+    Ok(sink.into_bytes())
+}
+
 #[test]
 fn asks_without_a_fault(rt: HostRuntime) -> Result<(), Fail> {
     let alloc = rt.alloc();
     let answer = answer(alloc)?;
-    let mut client = asking(alloc)?;
-    let mut sink = Buffer::new(Vec::new(alloc));
-    let mut source = Slice::new(&answer);
-    let told = ask_all(alloc, &mut client, &mut source, &mut sink);
-    assert_eq!(rt; told.fault, None);
-    assert!(rt; told.losses.as_slice().is_empty());
     let (heard, _) = hears(alloc, &answer)?;
     assert_eq!(rt; heard.len(), 11);
-    is_heard(&rt, &told.heard, &heard);
-    assert_eq!(rt; sink.bytes(), conversation(alloc)?.asked.as_slice());
+    let written = asks_over(&rt, alloc, &answer, &heard)?;
+    assert_eq!(rt; written.as_slice(), asked(alloc)?.as_slice());
     Ok(())
 }
 
-/// The kth read fails, for each k: what is told is what the bytes say that were read, then the outcomes of those that wait.
+/// Asks over streams whose reads fail after so many: what is told is what the bytes say that were read, then the outcomes of those
+/// that wait. Answers whether none failed.
+fn asks_and_reads_fail(
+    rt: &impl Abort,
+    alloc: Global,
+    answer: &[u8],
+    reads: usize,
+) -> Result<bool, Fail> {
+    let mut client = asking(alloc)?;
+    let mut source = Trickle::new(answer, reads);
+    let mut sink = Drip::new(alloc, MANY);
+    let told = ask_all(alloc, &mut client, &mut source, &mut sink);
+    let read = answer.len().saturating_sub(source.left());
+    let (heard, losses) = hears(alloc, &answer[..read.min(answer.len())])?;
+    is_heard(rt, &told.heard, &heard);
+    assert_eq!(rt; told.losses.as_slice(), losses.as_slice());
+    if told.fault == None {
+        assert!(rt; reads > 20 && losses.as_slice().is_empty());
+        return Ok(true);
+    }
+    assert_eq!(rt; told.fault, Some(StreamFault::ReadFailed));
+    Ok(false)
+}
+
+/// The kth read fails, for each k.
 #[test]
 fn each_read_fails_when_asking(rt: HostRuntime) -> Result<(), Fail> {
-    let alloc = rt.alloc();
-    let answer = answer(alloc)?;
+    let answer = answer(rt.alloc())?;
     for reads in 0..MANY {
-        let mut client = asking(alloc)?;
-        let mut source = Trickle::new(&answer, reads);
-        let mut sink = Drip::new(alloc, MANY);
-        let told = ask_all(alloc, &mut client, &mut source, &mut sink);
-        let read = answer.len().saturating_sub(source.left());
-        let (heard, losses) = hears(alloc, &answer[..read.min(answer.len())])?;
-        is_heard(&rt, &told.heard, &heard);
-        assert_eq!(rt; told.losses.as_slice(), losses.as_slice());
-        if told.fault == None {
-            assert!(rt; reads > 20 && losses.as_slice().is_empty());
+        if asks_and_reads_fail(&rt, rt.alloc(), &answer, reads)? {
             return Ok(());
         }
-        assert_eq!(rt; told.fault, Some(StreamFault::ReadFailed));
     }
     assert!(rt; false);
     Ok(())
+}
+
+/// A client that heard nothing is told of each of its requests.
+fn tells_nothing(rt: &impl Abort, alloc: Global, told: &Told) -> Result<(), Fail> {
+    let (_, losses) = hears(alloc, &[])?;
+    is_heard(rt, &told.heard, &[]);
+    assert_eq!(rt; told.losses.as_slice(), losses.as_slice());
+    Ok(())
+}
+
+/// Asks over streams whose writes fail after so many; answers whether none did.
+fn asks_and_writes_fail(
+    rt: &impl Abort,
+    alloc: Global,
+    answer: &[u8],
+    asked: &[u8],
+    writes: usize,
+) -> Result<bool, Fail> {
+    let mut client = asking(alloc)?;
+    let mut source = Slice::new(answer);
+    let mut sink = Drip::new(alloc, writes);
+    let told = ask_all(alloc, &mut client, &mut source, &mut sink);
+    let out = sink.into_bytes();
+    assert!(rt; is_front(&out, asked));
+    if told.fault == None {
+        assert!(rt; out.len() == asked.len() && writes > 20);
+        return Ok(true);
+    }
+    assert_eq!(rt; told.fault, Some(StreamFault::WriteFailed));
+    tells_nothing(rt, alloc, &told)?;
+    Ok(false)
 }
 
 /// The kth write fails, for each k: nothing is heard, and what was written is a beginning of the output.
@@ -264,23 +366,11 @@ fn each_read_fails_when_asking(rt: HostRuntime) -> Result<(), Fail> {
 fn each_write_fails_when_asking(rt: HostRuntime) -> Result<(), Fail> {
     let alloc = rt.alloc();
     let answer = answer(alloc)?;
-    let talk = conversation(alloc)?;
+    let asked = asked(alloc)?;
     for writes in 0..MANY {
-        let mut client = asking(alloc)?;
-        let mut source = Slice::new(&answer);
-        let mut sink = Drip::new(alloc, writes);
-        let told = ask_all(alloc, &mut client, &mut source, &mut sink);
-        let out = sink.into_bytes();
-        assert!(rt; is_front(&out, &talk.asked));
-        if told.fault == None {
-            assert_eq!(rt; out.len(), talk.asked.len());
-            assert!(rt; writes > 20);
+        if asks_and_writes_fail(&rt, alloc, &answer, &asked, writes)? {
             return Ok(());
         }
-        assert_eq!(rt; told.fault, Some(StreamFault::WriteFailed));
-        let (_, losses) = hears(alloc, &[])?;
-        is_heard(&rt, &told.heard, &[]);
-        assert_eq!(rt; told.losses.as_slice(), losses.as_slice());
     }
     assert!(rt; false);
     Ok(())

@@ -10,14 +10,18 @@ use world::{Connection, Peer, Refused, Seen, Standing};
 /// The report of a script that is played to its end.
 pub fn told(alloc: Global, script: &str) -> Result<String, Fail> {
     let steps = steps(alloc, script)?;
-    let mut play = Play::new(alloc)?;
     let mut text = String::new(alloc);
-    for step in &steps {
-        let seen = play.follow(step)?;
-        tell_refusal(&mut text, step, &seen)?;
-    }
-    tell(&mut text, &play)?;
+    tell_steps(&mut text, alloc, &steps)?;
     Ok(text)
+}
+
+fn tell_steps(text: &mut String, alloc: Global, steps: &[Step]) -> Result<(), Fail> {
+    let mut play = Play::new(alloc)?;
+    for step in steps {
+        let seen = play.follow(step)?;
+        tell_refusal(text, step, &seen)?;
+    }
+    tell(text, &play)
 }
 
 /// A line for what was refused.
@@ -71,21 +75,26 @@ pub fn tell(text: &mut String, play: &Play) -> Result<(), Fail> {
 
 fn tell_connection(text: &mut String, told: &Connection<'_>) -> Result<(), Fail> {
     if told.peer != Peer::Foreign {
-        for read in told.read {
-            let (outcome, phase) = (read.outcome, read.phase);
-            write!(text, "heard {} {outcome:?} {phase:?}\n", read.ordinal)?;
-        }
-        for (ordinal, outcome) in told.lost {
-            write!(text, "lost {ordinal} {outcome:?}\n")?;
-        }
-        let first = told.read.len();
-        for ordinal in first..first.saturating_add(told.waits) {
-            write!(text, "waits {ordinal}\n")?;
-        }
+        tell_client(text, told)?;
     }
     match told.standing {
         Standing::Stands(state) => write!(text, "server {state:?}\n")?,
         Standing::Ended(cause) => write!(text, "server ended {}\n", code(cause))?,
+    }
+    Ok(())
+}
+
+fn tell_client(text: &mut String, told: &Connection<'_>) -> Result<(), Fail> {
+    for read in told.read {
+        let (outcome, phase) = (read.outcome, read.phase);
+        write!(text, "heard {} {outcome:?} {phase:?}\n", read.ordinal)?;
+    }
+    for (ordinal, outcome) in told.lost {
+        write!(text, "lost {ordinal} {outcome:?}\n")?;
+    }
+    let first = told.read.len();
+    for ordinal in first..first.saturating_add(told.waits) {
+        write!(text, "waits {ordinal}\n")?;
     }
     Ok(())
 }

@@ -190,6 +190,20 @@ impl Link {
         Ok(())
     }
 
+    /// The number of what was moved and told, and of the ledger's length.
+    fn converse_all(&mut self, requests: &[Request]) -> Result<u64, Unplayed> {
+        self.up()?;
+        self.down()?;
+        for request in requests {
+            self.converse(request)?;
+        }
+        if self.is_torn {
+            return Ok(TORN);
+        }
+        let entries = self.server.engine().ledger().len();
+        Ok(mixed(self.sum, entries as u64))
+    }
+
     /// A request is sent, worked and answered.
     fn converse(&mut self, request: &Request) -> Result<(), Unplayed> {
         self.submit(request)?;
@@ -224,14 +238,5 @@ fn linked(alloc: Global) -> Result<Link, Unplayed> {
 pub fn ends(alloc: Global) -> Result<u64, Unplayed> {
     let requests = requests(alloc)?;
     let mut link = linked(alloc)?;
-    link.up()?;
-    link.down()?;
-    for request in &requests {
-        link.converse(request)?;
-    }
-    if link.is_torn {
-        return Ok(TORN);
-    }
-    let entries = link.server.engine().ledger().len();
-    Ok(mixed(link.sum, entries as u64))
+    link.converse_all(&requests)
 }

@@ -2,7 +2,7 @@
 
 use crate::hunger::Hunger;
 use crate::spelling::{SPELLED, decoded};
-use client::SubmitFault;
+use client::{Client, SubmitFault};
 use engine::Engine;
 use hostile::{Play, Table, Unplayed, asking, server};
 use machine::State;
@@ -20,9 +20,8 @@ const OFFER: &[u8] = &[
 
 const RESET: &[u8] = &[0, 2, 0xB0, 0x0F, 0, 0];
 
-/// A server with a session of 32 requests that wait, one that has ended, and one at which nothing waits.
-fn three(alloc: Global) -> Result<Table, Unplayed> {
-    let mut server = server(alloc)?;
+/// A session of 32 requests that wait, one that has ended, and one at which nothing waits.
+fn open_three(server: &mut Table) -> Result<(), Unplayed> {
     let (full, ended, idle) = (server.open()?, server.open()?, server.open()?);
     server.feed(full, OFFER)?;
     for _place in 0..32 {
@@ -30,6 +29,12 @@ fn three(alloc: Global) -> Result<Table, Unplayed> {
     }
     server.feed(ended, &[0; 20])?;
     server.feed(idle, OFFER)?;
+    Ok(())
+}
+
+fn three(alloc: Global) -> Result<Table, Unplayed> {
+    let mut server = server(alloc)?;
+    open_three(&mut server)?;
     Ok(server)
 }
 
@@ -64,26 +69,36 @@ pub fn sessions(alloc: Global) -> Result<bool, Unplayed> {
     Ok(held)
 }
 
+/// A client whose pipeline is full.
+fn full(alloc: Global) -> Result<Client, Unplayed> {
+    let mut client = asking(alloc)?;
+    for _place in 8..32 {
+        client.submit(Request::Reset)?;
+    }
+    Ok(client)
+}
+
+/// What one client answers that isn't lost before, and one whose pipeline is full.
+fn clients_answer(client: &mut Client, many: &mut Client) -> bool {
+    let is_refused = matches!(client.submit(Request::Commit), Err(SubmitFault::NotAllowed));
+    let is_full = matches!(many.submit(Request::Reset), Err(SubmitFault::PipelineFull));
+    let losses = client.lost();
+    let closed = client.submit(Request::Begin(Mode::Read));
+    is_refused
+        && is_full
+        && losses.as_slice().len() == 8
+        && matches!(closed, Err(SubmitFault::Closed))
+}
+
 /// A client refuses what isn't allowed, what is too much, and all when it has ended.
 pub fn clients(alloc: Global) -> Result<bool, Unplayed> {
     let mut client = asking(alloc)?;
-    let mut many = asking(alloc)?;
-    for _place in 8..32 {
-        many.submit(Request::Reset)?;
-    }
+    let mut many = full(alloc)?;
     let mut hunger = Hunger::new(alloc)?;
     hunger.starve();
-    let refused = client.submit(Request::Commit);
-    let past = many.submit(Request::Reset);
-    let losses = client.lost();
-    let closed = client.submit(Request::Begin(Mode::Read));
+    let held = clients_answer(&mut client, &mut many);
     hunger.feast();
-    Ok(
-        matches!(refused, Err(SubmitFault::NotAllowed))
-            && matches!(past, Err(SubmitFault::PipelineFull))
-            && losses.as_slice().len() == 8
-            && matches!(closed, Err(SubmitFault::Closed)),
-    )
+    Ok(held)
 }
 
 /// Past its limit, a message is refused again and again.
@@ -144,25 +159,37 @@ fn is_nothing(hunger: &mut Hunger, play: &mut Play, event: Event) -> bool {
     matches!(seen, Ok(Seen::Nothing))
 }
 
+/// Events that are refused but for want of memory.
+fn refuses(alloc: Global, hunger: &mut Hunger, play: &mut Play) -> bool {
+    is_refused(
+        hunger,
+        play,
+        Event::Open(Peer::Foreign),
+        Refused::SessionsFull,
+    ) && is_refused(hunger, play, Event::Work(16), Refused::NoSuchConnection)
+        && is_refused(
+            hunger,
+            play,
+            Event::Foreign(0, Vec::new(alloc)),
+            Refused::WrongPeer,
+        )
+        && is_refused(
+            hunger,
+            play,
+            Event::Submit(1, Request::Reset),
+            Refused::WrongPeer,
+        )
+        && is_refused(hunger, play, Event::ToServer(2, 7), Refused::WrongPeer)
+        && is_refused(hunger, play, Event::ClientLost(3), Refused::WrongPeer)
+}
+
 /// Events that are refused but for want of memory, a cut and a client's loss.
 pub fn worlds(alloc: Global) -> Result<bool, Unplayed> {
     let mut play = opened(alloc)?;
     let mut hunger = Hunger::new(alloc)?;
-    let refused = [
-        (Event::Open(Peer::Foreign), Refused::SessionsFull),
-        (Event::Work(16), Refused::NoSuchConnection),
-        (Event::Foreign(0, Vec::new(alloc)), Refused::WrongPeer),
-        (Event::Submit(1, Request::Reset), Refused::WrongPeer),
-        (Event::ToServer(2, 7), Refused::WrongPeer),
-        (Event::ClientLost(3), Refused::WrongPeer),
-    ];
-    for (event, fault) in refused {
-        if !is_refused(&mut hunger, &mut play, event, fault) {
-            return Ok(false);
-        }
-    }
     Ok(
-        is_nothing(&mut hunger, &mut play, Event::Cut(1))
+        refuses(alloc, &mut hunger, &mut play)
+            && is_nothing(&mut hunger, &mut play, Event::Cut(1))
             && is_nothing(&mut hunger, &mut play, Event::ClientLost(0)),
     )
 }
