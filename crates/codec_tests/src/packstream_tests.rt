@@ -178,31 +178,37 @@ fn refused(rt: &(impl Abort + AllocGlobal), input: &[u8], reason: Reason, place:
     assert!(rt; is_refused_in_front(rt.alloc(), input, reason, place));
 }
 
+/// Bytes, what they are refused for, and the place.
+const REFUSED: &[(&[u8], Reason, usize)] = &[
+    (&[], Reason::Short, 0),
+    (&[0xB0], Reason::Short, 0),
+    (&[0xCC], Reason::Short, 0),
+    (&[0xD0, 5, 0x61], Reason::Short, 0),
+    (&[0xBF, 1], Reason::Short, 2),
+    (&[0x92, 1], Reason::Short, 2),
+    (&[0xA1, 0x81, 0x61], Reason::Short, 3),
+    (&[0xD6, 0, 0x0F, 0x42, 0x40], Reason::Short, 5),
+    (&[0xD6, 0xFF, 0xFF, 0xFF, 0xFF], Reason::Short, 5),
+    (&[0xDA, 0xFF, 0xFF, 0xFF, 0xFF], Reason::Short, 5),
+    (&[0xC4], Reason::Marker, 0),
+    (&[0xA1, 0xC4, 1], Reason::Marker, 1),
+    (&[0x81, 0xFF], Reason::Utf8, 0),
+    (&[0xA1, 1, 1], Reason::KeyKind, 1),
+    (&[0xA2, 0x81, 0x61, 1, 0x81, 0x61, 2], Reason::KeyTwice, 4),
+    (&[0xA2, 0x81, 0x61, 1, 0x81, 0x61], Reason::KeyTwice, 4),
+    (&[1, 2], Reason::Trailing, 1),
+    (&[0xB0, 0x0F, 0], Reason::Trailing, 2),
+];
+
 #[test]
 fn refusals(rt: HostRuntime) {
-    refused(&rt, &[], Reason::Short, 0);
-    refused(&rt, &[0xB0], Reason::Short, 0);
-    refused(&rt, &[0xCC], Reason::Short, 0);
-    refused(&rt, &[0xD0, 5, 0x61], Reason::Short, 0);
-    refused(&rt, &[0xBF, 1], Reason::Short, 2);
-    refused(&rt, &[0x92, 1], Reason::Short, 2);
-    refused(&rt, &[0xA1, 0x81, 0x61], Reason::Short, 3);
-    refused(&rt, &[0xD6, 0, 0x0F, 0x42, 0x40], Reason::Short, 5);
-    refused(&rt, &[0xD6, 0xFF, 0xFF, 0xFF, 0xFF], Reason::Short, 5);
-    refused(&rt, &[0xDA, 0xFF, 0xFF, 0xFF, 0xFF], Reason::Short, 5);
-    refused(&rt, &[0xC4], Reason::Marker, 0);
-    refused(&rt, &[0xA1, 0xC4, 1], Reason::Marker, 1);
-    refused(&rt, &[0x81, 0xFF], Reason::Utf8, 0);
-    refused(&rt, &[0xA1, 1, 1], Reason::KeyKind, 1);
-    refused(
-        &rt,
-        &[0xA2, 0x81, 0x61, 1, 0x81, 0x61, 2],
-        Reason::KeyTwice,
-        4,
-    );
-    refused(&rt, &[0xA2, 0x81, 0x61, 1, 0x81, 0x61], Reason::KeyTwice, 4);
-    refused(&rt, &[1, 2], Reason::Trailing, 1);
-    refused(&rt, &[0xB0, 0x0F, 0], Reason::Trailing, 2);
+    for (bytes, reason, place) in REFUSED {
+        refused(&rt, bytes, *reason, *place);
+    }
+}
+
+#[test]
+fn the_deepest(rt: HostRuntime) {
     let mut deep = [0x91; 33];
     deep[32] = 0x90;
     refused(&rt, &deep, Reason::Depth, 32);
@@ -352,19 +358,21 @@ fn both(alloc: Global, count: usize) -> Result<Packed, Fail> {
     }
 }
 
+/// What is refused leaves what was written before as it was.
+fn is_put_back(rt: &impl Abort, long: &Packed, out: &mut BytesMut) {
+    assert!(rt; encode(long, out).is_err());
+    assert_eq!(rt; out.as_slice(), [8].as_slice());
+}
+
 #[test]
 fn put_back(rt: HostRuntime) -> Result<(), Fail> {
     let long = both(rt.alloc(), 40_000)?;
-    let mut out = BytesMut::copy_from_slice(rt.alloc(), &[8])?;
-    assert!(rt; encode(&long, &mut out).is_err());
-    assert_eq!(rt; out.as_slice(), [8].as_slice());
     let fits = bytes_of(rt.alloc(), 40_000)?;
+    let mut out = BytesMut::copy_from_slice(rt.alloc(), &[8])?;
+    is_put_back(&rt, &long, &mut out);
     assert!(rt; encode(&fits, &mut out).is_ok());
     assert_eq!(rt; out.len(), 40_004);
-    assert_eq!(rt;
-        out.as_slice().get(..5),
-        Some([8, 0xCD, 0x9C, 0x40, 7].as_slice())
-    );
+    assert!(rt; out.as_slice().starts_with(&[8, 0xCD, 0x9C, 0x40, 7]));
     Ok(())
 }
 

@@ -367,9 +367,14 @@ fn the_deepest_cell(rt: HostRuntime) -> Result<(), Fail> {
     Ok(())
 }
 
+fn prints(rt: &(impl Abort + AllocGlobal), fault: CellFault, wanted: &str) -> Result<(), Fail> {
+    let text = format!(in rt.alloc(); "{fault}")?;
+    assert_eq!(rt; text.as_str(), wanted);
+    Ok(())
+}
+
 #[test]
 fn texts_of_faults(rt: HostRuntime) -> Result<(), Fail> {
-    let alloc = rt.alloc();
     let reasons = [
         (Reason::UnknownTag, "S1 at 4"),
         (Reason::FieldCount, "S2 at 4"),
@@ -379,13 +384,9 @@ fn texts_of_faults(rt: HostRuntime) -> Result<(), Fail> {
         (Reason::NotInVersion, "S6 at 4"),
     ];
     for (reason, wanted) in reasons {
-        let fault = CellFault::Refused(reason, 4);
-        let text = format!(in alloc; "{fault}")?;
-        assert_eq!(rt; text.as_str(), wanted);
+        prints(&rt, CellFault::Refused(reason, 4), wanted)?;
     }
     let packing = CellFault::Pack(packstream::Reason::KeyTwice, 2);
-    assert_eq!(rt; format!(in alloc; "{packing}")?.as_str(), "P5 at 2");
-    let memory = CellFault::Memory;
-    assert_eq!(rt; format!(in alloc; "{memory}")?.as_str(), "out of memory");
-    Ok(())
+    prints(&rt, packing, "P5 at 2")?;
+    prints(&rt, CellFault::Memory, "out of memory")
 }

@@ -10,22 +10,27 @@ use wire::{
 /// `00 00 00 01 B0 00 01 0F 00 00`: a no-op, then RESET in two chunks.
 const RESET: [u8; 10] = [0, 0, 0, 1, 0xB0, 0, 1, 0x0F, 0, 0];
 
+/// 5.1 and 4.4, and 4.4 alone.
+const NEWEST: [u8; 20] = [
+    0x60, 0x60, 0xB0, 0x17, 0, 0, 1, 5, 0, 0, 4, 4, 0, 0, 0, 0, 0, 0, 0, 0,
+];
+
+const OLDEST: [u8; 20] = [
+    0x60, 0x60, 0xB0, 0x17, 0, 0, 4, 4, 0, 0, 0, 0, 0, 0, 0, 0, 0, 0, 0, 0,
+];
+
 #[test]
 fn offers_by_their_bytes(rt: HostRuntime) {
-    let newest = [
-        0x60, 0x60, 0xB0, 0x17, 0, 0, 1, 5, 0, 0, 4, 4, 0, 0, 0, 0, 0, 0, 0, 0,
-    ];
-    let oldest = [
-        0x60, 0x60, 0xB0, 0x17, 0, 0, 4, 4, 0, 0, 0, 0, 0, 0, 0, 0, 0, 0, 0, 0,
-    ];
-    assert_eq!(rt; offer(Wish::Newest), newest);
-    assert_eq!(rt; offer(Wish::Only(Version::V44)), oldest);
-    assert_eq!(rt; choose(&newest), Ok(Some(Version::V51)));
-    assert_eq!(rt; choose(&oldest), Ok(Some(Version::V44)));
-    assert_eq!(rt;
-        choose(&offer(Wish::Only(Version::V51))),
-        Ok(Some(Version::V51))
-    );
+    assert_eq!(rt; offer(Wish::Newest), NEWEST);
+    assert_eq!(rt; offer(Wish::Only(Version::V44)), OLDEST);
+}
+
+#[test]
+fn chooses_of_its_own_offers(rt: HostRuntime) {
+    assert_eq!(rt; choose(&NEWEST), Ok(Some(Version::V51)));
+    assert_eq!(rt; choose(&OLDEST), Ok(Some(Version::V44)));
+    let alone = offer(Wish::Only(Version::V51));
+    assert_eq!(rt; choose(&alone), Ok(Some(Version::V51)));
 }
 
 /// Two proposals, and the version that they are answered with.
@@ -208,15 +213,21 @@ fn refuses_at_the_header(rt: HostRuntime) -> Result<(), Fail> {
 
 #[test]
 fn faults_by_their_texts(rt: HostRuntime) -> Result<(), Fail> {
-    let alloc = rt.alloc();
-    let too_big = WireFault::TooBig { used: 65539 };
-    assert_eq!(rt; format!(in alloc; "{too_big}")?.as_str(), "X1 at 65539");
-    let memory = WireFault::Memory;
-    assert_eq!(rt; format!(in alloc; "{memory}")?.as_str(), "out of memory");
+    let faults = [
+        (WireFault::TooBig { used: 65539 }, "X1 at 65539"),
+        (WireFault::Memory, "out of memory"),
+    ];
+    for (fault, wanted) in faults {
+        let text = format!(in rt.alloc(); "{fault}")?;
+        assert_eq!(rt; text.as_str(), wanted);
+    }
+    Ok(())
+}
+
+#[test]
+fn bad_magic_by_its_text(rt: HostRuntime) -> Result<(), Fail> {
     let magic = BadMagic;
-    assert_eq!(rt;
-        format!(in alloc; "{magic}")?.as_str(),
-        "not the magic of the protocol"
-    );
+    let text = format!(in rt.alloc(); "{magic}")?;
+    assert_eq!(rt; text.as_str(), "not the magic of the protocol");
     Ok(())
 }
