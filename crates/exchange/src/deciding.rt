@@ -13,7 +13,7 @@ ghost use Rattle.exchange.specs.Acts.{ActsAs, IsWritable, summary_of, left_resul
 use crate::acts::{Act, Leaves};
 use crate::exchange::Exchange;
 use crate::fault::Fault;
-use crate::opening::{fields_response, leaves_open};
+use crate::opening::{fields_text, leaves_open};
 use crate::summary::Summary;
 use crate::texts::{Unwritten, summary_text, text_of};
 use crate::words::{count_of, is_halted, is_in_transaction, is_used_up, query_mode};
@@ -222,8 +222,7 @@ impl Exchange {
             write,
             mode,
         } = answer;
-        let response = fields_response(alloc, fields)?;
-        match text_of(alloc, version, &response) {
+        match fields_text(alloc, version, fields) {
             Ok(body) => {
                 let leaves = leaves_open(alloc, version, self.state, rows, mode, write)?;
                 Ok(Act::Says {

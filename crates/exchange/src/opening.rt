@@ -1,5 +1,5 @@
 //! What a query's answer opens.
-ghost use Rattle.std.specs.Prelude.{◌≡◌, ◌≤◌, true, false, length, map, option_map, IfOk, string_bytes};
+ghost use Rattle.std.specs.Prelude.{◌≡◌, ◌≤◌, true, false, length, map, option_map, IfOk, IfErr, string_bytes};
 ghost use Rattle.messages.specs.View.{response_view};
 ghost use Rattle.cells.specs.Shape.{shapes};
 ghost use Rattle.packstream.specs.Tree.{text};
@@ -7,11 +7,14 @@ ghost use Rattle.engine.specs.Views.{rows_view, write_view, writes_view};
 ghost use Rattle.machine.specs.declared.states.State.{State as AnyState};
 ghost use Rattle.exchange.specs.Session.{fields_said, rows_fitted, in_transaction};
 ghost use Rattle.exchange.specs.Views.{first_of};
-ghost use Rattle.exchange.specs.Acts.{LeavesOpen};
+ghost use Rattle.exchange.specs.Said.{fits};
+ghost use Rattle.exchange.specs.Acts.{LeavesOpen, IsBody, Refuses};
 
 use crate::acts::Leaves;
 use crate::result::{OpenResult, Row};
+use crate::texts::{Unwritten, text_of};
 use crate::words::{is_in_transaction, result_mode};
+use bytes::BytesMut;
 use engine::{Mode as QueryMode, Write};
 use machine::State;
 use messages::Response;
@@ -20,8 +23,24 @@ use std::collections::VecDeque;
 use structures::Cell;
 use wire::Version;
 
+/// The text of the SUCCESS of a RUN, or why it wasn't written.
+pub(crate) fn fields_text(
+    alloc: Global,
+    version: Version,
+    fields: Vec<String>,
+) -> Result<BytesMut, Unwritten>
+    ensures ok { let said = fields_said (map string_bytes fields.items) in
+        IfOk result (λ b. IsBody version said b.items × (fits version said ≡ true)) }
+    ensures err { IfErr result (Refuses version (fields_said (map string_bytes fields.items))) }
+{
+    match fields_response(alloc, fields) {
+        Ok(response) => text_of(alloc, version, &response),
+        Err(AllocError) => Err(Unwritten::Memory),
+    }
+}
+
 /// The SUCCESS of a RUN.
-pub(crate) fn fields_response(alloc: Global, fields: Vec<String>) -> Result<Response, AllocError>
+fn fields_response(alloc: Global, fields: Vec<String>) -> Result<Response, AllocError>
     ensures { IfOk result (λ r. response_view r ≡ fields_said (map string_bytes fields.items)) }
 {
     let names = Cell::List(texts(alloc, fields)?);

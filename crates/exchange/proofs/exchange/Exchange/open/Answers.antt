@@ -3,7 +3,6 @@ use Rattle.engine.specs.Views.{AnswerView, answer_view}
 use Rattle.exchange.specs.Session.{fields_said}
 use Rattle.exchange.specs.Rest.{version_of}
 use Rattle.exchange.specs.Views.{kept_of}
-use Rattle.messages.specs.View.{response_view}
 use Rattle.exchange.specs.Said.{fits}
 use Rattle.exchange.specs.Acts.{IsBody, opened_by}
 use Rattle.exchange.proofs.Turns.{opens_as}
@@ -16,10 +15,9 @@ returns-in-Ok c =
     let a : AnswerView = answer_view c.args.answer in
     let leaves = c.in_ok-leaves-in-Ok.leaves in
     let left = c.in_ok-leaves-in-Ok.ensures in
-    let said = c.in_ok-response.ensures in
     let ver = c.version-version.ensures in (
       fields_said a.fields,
-      opens_as v k.state k.result k.tx a leaves (sym c.has_too_many.ensures ∙ c.if-has_too_many.false) (ap (λ m. fits v m) (sym said) ∙ ap (λ u. fits u (response_view c.in_ok-response.response)) (sym ver) ∙ c.in-Ok.ensures.ok.1)
+      opens_as v k.state k.result k.tx a leaves (sym c.has_too_many.ensures ∙ c.if-has_too_many.false) (ap (λ u. fits u (fields_said a.fields)) (sym ver) ∙ c.in-Ok.ensures.ok.1)
           (left.result k.result ∙ ap (λ u. opened_by u k.state c.args.answer.rows.items c.args.answer.mode c.args.answer.write) ver) (left.tx k.tx) (left.entry k.result k.tx),
-      subst (λ u. IsBody u (fields_said a.fields) c.in-Ok.body.items) ver (subst (λ m. IsBody c.version-version.result m c.in-Ok.body.items) said c.in-Ok.ensures.ok.0),
+      subst (λ u. IsBody u (fields_said a.fields) c.in-Ok.body.items) ver c.in-Ok.ensures.ok.0,
     )
