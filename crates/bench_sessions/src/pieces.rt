@@ -5,7 +5,7 @@ use crate::asking::ask;
 use crate::link::{Link, Ours, Pair, Stopped};
 use crate::tally::Tally;
 use server::What;
-use std::alloc::{AllocError, Global};
+use std::alloc::Global;
 
 /// DISCARD of all, as a message.
 const DISCARD: &[u8] = b"\x00\x06\xB1\x2F\xA1\x81n\xFF\x00\x00";

@@ -70,6 +70,13 @@ fn every_cutting(rt: HostRuntime) -> Result<(), Fail> {
     Ok(())
 }
 
+#[test]
+fn decodes_and_reads(rt: HostRuntime) {
+    let (decoded, told) = decode_and_read(rt.alloc(), &HELLO);
+    gives(&rt, decoded, &HELLO);
+    gives(&rt, told, &HELLO);
+}
+
 /// Fed byte by byte.
 fn by_bytes(alloc: Global, bytes: &[u8]) -> Result<Reader, AllocError> {
     let mut reader = Reader::new(alloc);
