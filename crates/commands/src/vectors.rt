@@ -176,16 +176,23 @@ fn is_no_cell(
     }
 }
 
-fn is_local_zone(alloc: Global, bytes: &[u8]) -> Result<bool, AllocError> {
+/// Whether the bytes are a moment in a zone by its clock at 4.4.
+fn is_zoned(alloc: Global, bytes: &[u8]) -> Result<bool, AllocError> {
     let Some(packed) = value_in(alloc, bytes)? else {
         return Ok(false);
     };
     match read(alloc, Version::V44, &packed) {
-        Ok(Cell::ZonedLocal { .. }) => {
-            is_no_cell(alloc, Version::V51, bytes, CellReason::NotInVersion, 0)
-        }
+        Ok(Cell::ZonedLocal { .. }) => Ok(true),
         Ok(_) => Ok(false),
         Err(CellFault::Memory) => Err(AllocError),
         Err(_) => Ok(false),
+    }
+}
+
+fn is_local_zone(alloc: Global, bytes: &[u8]) -> Result<bool, AllocError> {
+    if is_zoned(alloc, bytes)? {
+        is_no_cell(alloc, Version::V51, bytes, CellReason::NotInVersion, 0)
+    } else {
+        Ok(false)
     }
 }
