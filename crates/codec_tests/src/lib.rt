@@ -1,16 +1,10 @@
-//! Tests of the codec: the crates packstream, reader, wire, structures, messages and machine, by their public calls. A crate of their
-//! own, so that none of those is proved twice.
+//! Tests of values: the crates packstream, reader and structures, by their public calls. A crate of their own, so that none of those
+//! is proved twice.
 #![tactic(auto)]
 
-#[cfg(test)]
-mod machine_tests;
-#[cfg(test)]
-mod messages_tests;
 #[cfg(test)]
 mod packstream_tests;
 #[cfg(test)]
 mod reader_tests;
 #[cfg(test)]
 mod structures_tests;
-#[cfg(test)]
-mod wire_tests;

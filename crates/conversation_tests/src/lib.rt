@@ -1,17 +1,11 @@
-//! Tests of whole conversations: the crates world, streams, scripts and programs, by their public calls. A crate of their own, so
-//! that none of those is proved twice.
+//! Tests of whole conversations: the crates world and streams, by their public calls. A crate of their own, so that none of those is
+//! proved twice.
 #![tactic(auto)]
 
 #[cfg(test)]
 mod asking_tests;
 #[cfg(test)]
 mod loss_tests;
-#[cfg(test)]
-mod programs_tests;
-#[cfg(test)]
-mod replays_tests;
-#[cfg(test)]
-mod scripts_tests;
 #[cfg(test)]
 mod serving_tests;
 #[cfg(test)]

@@ -1,7 +1,7 @@
 use Rattle.engine.specs.Kept.{ledger_of}
 use Rattle.server.specs.Views.{Fits}
 use Rattle.programs.proofs.Served.{opened_lives}
-use Rattle.conversation_tests.proofs.programs_tests.serves_a_socket.Goals as goal
+use Rattle.script_tests.proofs.programs_tests.serves_a_socket.Goals as goal
 
 pub serve_one-ended-requires : goal.serve_one-ended-requires
 serve_one-ended-requires g c =
