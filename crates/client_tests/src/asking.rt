@@ -8,7 +8,7 @@ use std::alloc::{AllocError, Global};
 use std::process::Abort;
 use std::test::*;
 use structures::Cell;
-use wire::{Version, Wish, put_message};
+use wire::{Wish, put_message};
 
 pub const SUCCESS: &[u8] = &[0xB1, 0x70, 0xA0];
 
@@ -38,7 +38,6 @@ pub const OLD: &[u8] = &[0, 0, 4, 4];
 pub const NEW: &[u8] = &[0, 0, 1, 5];
 
 /// A request.
-#[derive(Clone, Copy)]
 pub enum Asked {
     /// HELLO with and without the credentials.
     HelloOld,
@@ -56,7 +55,6 @@ pub enum Asked {
 }
 
 /// What a feed tells.
-#[derive(Clone, Copy, Debug, PartialEq, Eq)]
 pub enum Told {
     Nothing(usize),
     Version,
@@ -64,50 +62,59 @@ pub enum Told {
     Row,
     Summary(u64, Outcome, Phase),
     Closed,
-    Memory,
     BadPeer,
 }
 
 /// A call of a client, and what it has to answer.
-#[derive(Clone, Copy)]
 pub enum Step {
     /// What a submit answers, by its code.
     Asks(Asked, &'static str),
-    /// Bytes as they come, and a message in one chunk.
+    /// Bytes as they come, a message in one chunk, and a chunk as long as can be.
     Feeds(&'static [u8], Told),
     Hears(&'static [u8], Told),
-    /// How many bytes are taken out of at most so many.
+    FeedsTheLongest(Told),
+    /// Bytes are fed to their end, and so many summaries come.
+    FeedsAll(&'static [u8], usize),
+    /// How many bytes are taken out of at most so many, and which.
     Takes(usize, usize),
+    TakesOut(usize, &'static [u8]),
     /// How many requests wait, and the phase.
     Stands(usize, Phase),
+    /// The ordinal of the first request that waits.
+    First(u64),
     /// Whether an answer is still to come.
     Awaits(bool),
+    /// Whether what was read of a message that comes in pieces is a whole value.
+    Reads(bool),
     Loses(&'static [(u64, Outcome)]),
 }
 
 use Asked::*;
 use Step::*;
 
-fn said(fed: Result<(usize, Heard), ClientFault>) -> Told {
-    match fed {
-        Ok((used, Heard::Nothing)) => Told::Nothing(used),
-        Ok((_, Heard::Version(Some(_)))) => Told::Version,
-        Ok((_, Heard::Version(None))) => Told::NoVersion,
-        Ok((_, Heard::Row(_))) => Told::Row,
-        Ok(
-            (
-                _,
-                Heard::Summary {
-                    ordinal,
-                    phase,
-                    outcome,
-                    response: _,
-                },
+fn is_told(fed: &Result<(usize, Heard), ClientFault>, told: &Told) -> bool {
+    match (fed, told) {
+        (Ok((used, Heard::Nothing)), Told::Nothing(wanted)) => used == wanted,
+        (Ok((_, Heard::Version(Some(_)))), Told::Version) => true,
+        (Ok((_, Heard::Version(None))), Told::NoVersion) => true,
+        (Ok((_, Heard::Row(_))), Told::Row) => true,
+        (
+            Ok(
+                (
+                    _,
+                    Heard::Summary {
+                        ordinal,
+                        phase,
+                        outcome,
+                        response: _,
+                    },
+                ),
             ),
-        ) => Told::Summary(ordinal, outcome, phase),
-        Err(ClientFault::Closed) => Told::Closed,
-        Err(ClientFault::Memory) => Told::Memory,
-        Err(ClientFault::BadPeer) => Told::BadPeer,
+            Told::Summary(number, result, led_to),
+        ) => ordinal == number && outcome == result && phase == led_to,
+        (Err(ClientFault::Closed), Told::Closed) => true,
+        (Err(ClientFault::BadPeer), Told::BadPeer) => true,
+        _ => false,
     }
 }
 
@@ -124,44 +131,41 @@ fn code(submitted: Result<u64, SubmitFault>) -> &'static str {
     }
 }
 
-fn text(alloc: Global, text: &str) -> Result<String, AllocError> {
-    String::from_str(alloc, text)
-}
-
 fn login(alloc: Global) -> Result<Auth, AllocError> {
     Ok(Auth {
-        scheme: text(alloc, "basic")?,
-        principal: text(alloc, "user")?,
-        credentials: text(alloc, "pass")?,
+        scheme: String::from_str(alloc, "basic")?,
+        principal: String::from_str(alloc, "user")?,
+        credentials: String::from_str(alloc, "pass")?,
     })
 }
 
 fn hello(alloc: Global, auth: Option<Auth>) -> Result<Request, AllocError> {
     Ok(Request::Hello {
-        agent: text(alloc, "t/1")?,
+        agent: String::from_str(alloc, "t/1")?,
         auth,
     })
 }
 
 fn run(alloc: Global, query: &str, params: Vec<(String, Cell)>) -> Result<Request, AllocError> {
     Ok(Request::Run {
-        text: text(alloc, query)?,
+        text: String::from_str(alloc, query)?,
         params,
         mode: Mode::Write,
     })
 }
 
-fn echo(alloc: Global, len: usize) -> Result<Request, AllocError> {
+/// A parameter with a text of so many bytes.
+fn long_param(alloc: Global, len: usize) -> Result<Vec<(String, Cell)>, AllocError> {
     let mut long = String::new(alloc);
     for _ in 0..len {
         long.push('x')?;
     }
     let mut params = Vec::new(alloc);
-    params.push((text(alloc, "x")?, Cell::Text(long)))?;
-    run(alloc, "ECHO", params)
+    params.push((String::from_str(alloc, "x")?, Cell::Text(long)))?;
+    Ok(params)
 }
 
-fn request(alloc: Global, asked: Asked) -> Result<Request, AllocError> {
+fn request(alloc: Global, asked: &Asked) -> Result<Request, AllocError> {
     match asked {
         HelloOld => hello(alloc, Some(login(alloc)?)),
         Hello => hello(alloc, None),
@@ -172,94 +176,84 @@ fn request(alloc: Global, asked: Asked) -> Result<Request, AllocError> {
         Run => run(alloc, "ONE", Vec::new(alloc)),
         Begin => Ok(Request::Begin(Mode::Write)),
         Commit => Ok(Request::Commit),
-        Pull(count) => Ok(Request::Pull(count)),
-        Echo(len) => echo(alloc, len),
+        Pull(count) => Ok(Request::Pull(*count)),
+        Echo(len) => run(alloc, "ECHO", long_param(alloc, *len)?),
     }
 }
 
-fn chunked(rt: &(impl Abort + AllocGlobal), message: &[u8]) -> BytesMut {
-    let mut bytes = BytesMut::new(rt.alloc());
-    assert!(rt; !message.is_empty());
-    assert!(rt; put_message(message, &mut bytes).is_ok());
-    bytes
+/// The message in one chunk; None without one, or without memory.
+fn chunked(alloc: Global, message: &[u8]) -> Option<BytesMut> {
+    if message.is_empty() {
+        return None;
+    }
+    let mut bytes = BytesMut::new(alloc);
+    match put_message(message, &mut bytes) {
+        Ok(()) => Some(bytes),
+        Err(_) => None,
+    }
 }
 
-fn asks(
+/// A chunk as long as can be, without the end of its message.
+fn longest_chunk(alloc: Global) -> Result<Vec<u8>, AllocError> {
+    let mut bytes = Vec::new(alloc);
+    bytes.extend_from_slice(&[0xFF, 0xFF])?;
+    for _ in 0..65535 {
+        bytes.push(0x90)?;
+    }
+    Ok(bytes)
+}
+
+/// Feeds bytes of the server, and answers how many summaries they had.
+fn hear(client: &mut Client, bytes: &[u8]) -> Result<usize, ClientFault> {
+    let mut rest = bytes;
+    let mut summaries: usize = 0;
+    while !rest.is_empty() {
+        let (used, heard) = client.feed(rest)?;
+        if let Heard::Summary { .. } = heard {
+            summaries = summaries.saturating_add(1);
+        }
+        let (_, after) = rest.split_at(used);
+        rest = after;
+    }
+    Ok(summaries)
+}
+
+/// Whether a call of the client answers what it has to.
+fn is_so(alloc: Global, client: &mut Client, step: &Step) -> Result<bool, Fail> {
+    Ok(match step {
+        Asks(asked, answer) => code(client.submit(request(alloc, asked)?)) == *answer,
+        Feeds(bytes, told) => is_told(&client.feed(bytes), told),
+        Hears(message, told) => match chunked(alloc, message) {
+            Some(bytes) => is_told(&client.feed(&bytes), told),
+            None => false,
+        },
+        FeedsTheLongest(told) => is_told(&client.feed(&longest_chunk(alloc)?), told),
+        FeedsAll(bytes, summaries) => hear(client, bytes)? == *summaries,
+        Takes(max, count) => client.take_out(*max)?.len() == *count,
+        TakesOut(max, bytes) => client.take_out(*max)?.as_slice() == *bytes,
+        Stands(count, phase) => client.pending() == *count && client.phase() == *phase,
+        First(ordinal) => client.first_waiting() == *ordinal,
+        Awaits(is_waiting) => client.awaits() == *is_waiting,
+        Reads(is_whole) => client.reader().finish().is_ok() == *is_whole,
+        Loses(losses) => client.lost().as_slice() == *losses,
+    })
+}
+
+/// These calls are made of a client of its own.
+pub fn plays(
     rt: &(impl Abort + AllocGlobal),
-    client: &mut Client,
-    asked: Asked,
-    answer: &str,
+    name: &str,
+    wish: Wish,
+    parts: &[&[Step]],
 ) -> Result<(), Fail> {
-    let request = request(rt.alloc(), asked)?;
-    assert_eq!(rt; code(client.submit(request)), answer);
-    Ok(())
-}
-
-/// What feeding these bytes answers.
-pub fn tells(rt: &impl Abort, client: &mut Client, bytes: &[u8], answer: Told) {
-    assert_eq!(rt; said(client.feed(bytes)), answer);
-}
-
-fn takes(rt: &impl Abort, client: &mut Client, max: usize, count: usize) -> Result<(), Fail> {
-    assert_eq!(rt; client.take_out(max)?.len(), count);
-    Ok(())
-}
-
-fn stands(rt: &impl Abort, client: &Client, count: usize, phase: Phase) {
-    assert_eq!(rt; client.pending(), count);
-    assert_eq!(rt; client.phase(), phase);
-}
-
-fn awaits(rt: &impl Abort, client: &Client, awaits: bool) {
-    assert_eq!(rt; client.awaits(), awaits);
-}
-
-fn loses(rt: &impl Abort, client: &mut Client, losses: &[(u64, Outcome)]) {
-    assert_eq!(rt; client.lost().as_slice(), losses);
-}
-
-pub fn take(rt: &(impl Abort + AllocGlobal), client: &mut Client, step: Step) -> Result<(), Fail> {
-    match step {
-        Asks(asked, answer) => asks(rt, client, asked, answer)?,
-        Feeds(bytes, answer) => tells(rt, client, bytes, answer),
-        Hears(message, answer) => tells(rt, client, &chunked(rt, message), answer),
-        Takes(max, count) => takes(rt, client, max, count)?,
-        Stands(count, phase) => stands(rt, client, count, phase),
-        Awaits(is_waiting) => awaits(rt, client, is_waiting),
-        Loses(losses) => loses(rt, client, losses),
-    }
-    Ok(())
-}
-
-pub fn go_on(
-    rt: &(impl Abort + AllocGlobal),
-    client: &mut Client,
-    steps: &[Step],
-) -> Result<(), Fail> {
-    for step in steps {
-        take(rt, client, *step)?;
-    }
-    Ok(())
-}
-
-/// A client of which these calls are made.
-pub fn play(rt: &(impl Abort + AllocGlobal), wish: Wish, steps: &[Step]) -> Result<(), Fail> {
     let mut client = Client::new(rt.alloc(), wish)?;
-    go_on(rt, &mut client, steps)
-}
-
-/// The same at 4.4, of a client that is logged on.
-pub fn play_on(rt: &(impl Abort + AllocGlobal), steps: &[Step]) -> Result<(), Fail> {
-    let mut client = Client::new(rt.alloc(), Wish::Only(Version::V44))?;
-    let logged_on = [
-        Feeds(OLD, Told::Version),
-        Asks(HelloOld, "accepted"),
-        Hears(SUCCESS, Told::Summary(0, Outcome::Done, Phase::Ready)),
-    ];
-    go_on(rt, &mut client, &logged_on)?;
-    go_on(rt, &mut client, steps)
-}
-
-pub const fn done(ordinal: u64, phase: Phase) -> Told {
-    Told::Summary(ordinal, Outcome::Done, phase)
+    for (part, steps) in parts.iter().enumerate() {
+        for (place, step) in steps.iter().enumerate() {
+            assert!(rt;
+                is_so(rt.alloc(), &mut client, step)?,
+                "{name}: part {part}, step {place}"
+            );
+        }
+    }
+    Ok(())
 }

@@ -4,6 +4,4 @@
 #[cfg(test)]
 mod asking;
 #[cfg(test)]
-mod driving_tests;
-#[cfg(test)]
 mod outcome_tests;

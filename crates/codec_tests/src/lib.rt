@@ -5,6 +5,8 @@
 #[cfg(test)]
 mod packstream_tests;
 #[cfg(test)]
-mod reader_tests;
+mod reading_tests;
 #[cfg(test)]
 mod structures_tests;
+#[cfg(test)]
+mod telling;

@@ -1,392 +1,396 @@
-use bytes::BytesMut;
-use packstream::{Packed, decode, encode};
-use std::alloc::Global;
-use std::process::Abort;
+use crate::reading_tests::DEEPEST;
+use crate::telling::gives;
+use packstream::decode;
+use std::alloc::{AllocError, Global};
 use std::test::*;
 use structures::*;
 use wire::Version;
 
-fn packed(rt: &(impl Abort + AllocGlobal), input: &[u8]) -> Result<Packed, Fail> {
-    match decode(rt.alloc(), input) {
-        Ok(packed) => Ok(packed),
-        Err(_) => Err(Fail::from("refused bytes")),
-    }
+fn cell(alloc: Global, version: Version, input: &[u8]) -> Result<Cell, Fail> {
+    let packed = decode(alloc, input)?;
+    Ok(read(alloc, version, &packed)?)
 }
 
-fn cell(rt: &(impl Abort + AllocGlobal), version: Version, input: &[u8]) -> Result<Cell, Fail> {
-    match read(rt.alloc(), version, &packed(rt, input)?) {
-        Ok(cell) => Ok(cell),
-        Err(_) => Err(Fail::from("no cell")),
-    }
-}
-
-fn is_written(
-    rt: &(impl Abort + AllocGlobal),
-    version: Version,
-    cell: &Cell,
-    output: &[u8],
-) -> Result<(), Fail> {
-    let value = match write(rt.alloc(), version, cell) {
-        Ok(value) => value,
-        Err(_) => return Err(Fail::from("not written")),
-    };
-    let mut out = BytesMut::new(rt.alloc());
-    assert!(rt; encode(&value, &mut out).is_ok());
-    assert_eq!(rt; out.as_slice(), output);
-    Ok(())
-}
-
-fn is_copied(
-    rt: &(impl Abort + AllocGlobal),
-    version: Version,
-    cell: &Cell,
-    bytes: &[u8],
-) -> Result<(), Fail> {
-    let copy = cell.clone()?;
-    is_written(rt, version, &copy, bytes)
-}
-
-/// The bytes read as a cell, whose clone is written as the same bytes.
-fn again(rt: &(impl Abort + AllocGlobal), version: Version, bytes: &[u8]) -> Result<(), Fail> {
-    let cell = cell(rt, version, bytes)?;
-    is_copied(rt, version, &cell, bytes)
-}
-
-fn is_fitted(
-    rt: &(impl Abort + AllocGlobal),
-    version: Version,
-    input: &[u8],
-    to: Version,
-    output: &[u8],
-) -> Result<(), Fail> {
-    let fitted = match fit(rt.alloc(), cell(rt, version, input)?, to) {
-        Ok(fitted) => fitted,
-        Err(_) => return Err(Fail::from("not fitted")),
-    };
-    is_written(rt, to, &fitted, output)
-}
-
-/// The reason of a refusal, and the number of the structure.
-fn refusal_of(fault: CellFault) -> Option<(Reason, usize)> {
-    match fault {
-        CellFault::Refused(reason, number) => Some((reason, number)),
-        _ => None,
-    }
-}
-
-fn refusal_of_read(alloc: Global, version: Version, packed: &Packed) -> Option<(Reason, usize)> {
-    match read(alloc, version, packed) {
-        Ok(_) => None,
-        Err(fault) => refusal_of(fault),
-    }
-}
-
-fn refusal_of_written(alloc: Global, version: Version, cell: &Cell) -> Option<(Reason, usize)> {
+/// Whether the cell is written as these bytes.
+fn is_written(alloc: Global, version: Version, cell: &Cell, output: &[u8]) -> bool {
     match write(alloc, version, cell) {
-        Ok(_) => None,
-        Err(fault) => refusal_of(fault),
+        Ok(packed) => gives(alloc, Ok(packed), output),
+        Err(_) => false,
     }
 }
 
-fn is_refused(
-    rt: &(impl Abort + AllocGlobal),
-    version: Version,
-    input: &[u8],
-    reason: Reason,
-    number: usize,
-) -> Result<(), Fail> {
-    let packed = packed(rt, input)?;
-    assert!(rt; refusal_of_read(rt.alloc(), version, &packed) == Some((reason, number)));
-    Ok(())
-}
-
-fn is_unwritable(
-    rt: &(impl Abort + AllocGlobal),
-    version: Version,
-    cell: &Cell,
-    reason: Reason,
-    number: usize,
-) {
-    assert!(rt; refusal_of_written(rt.alloc(), version, cell) == Some((reason, number)));
-}
-
-/// What is read at a version isn't written at another.
-fn is_of_its_version(
-    rt: &(impl Abort + AllocGlobal),
-    version: Version,
-    input: &[u8],
-    to: Version,
-) -> Result<(), Fail> {
-    let cell = cell(rt, version, input)?;
-    is_unwritable(rt, to, &cell, Reason::NotInVersion, 0);
-    Ok(())
-}
-
+/// A node, `A`, of the number 1, at either version.
 const OLD_NODE: &[u8] = &[0xB3, 0x4E, 0x01, 0x91, 0x81, 0x41, 0xA0];
 
 const NEW_NODE: &[u8] = &[0xB4, 0x4E, 0x01, 0x91, 0x81, 0x41, 0xA0, 0x81, 0x31];
 
-#[test]
-fn nodes(rt: HostRuntime) -> Result<(), Fail> {
-    again(&rt, Version::V44, OLD_NODE)?;
-    again(&rt, Version::V51, NEW_NODE)?;
-    is_refused(&rt, Version::V51, OLD_NODE, Reason::FieldCount, 0)?;
-    is_of_its_version(&rt, Version::V44, OLD_NODE, Version::V51)?;
-    is_of_its_version(&rt, Version::V51, NEW_NODE, Version::V44)
-}
+/// A relationship, `TO`, of the number 7, from the node 1 to the node 2, at either version.
+const OLD_RELATIONSHIP: &[u8] = &[0xB5, 0x52, 0x07, 0x01, 0x02, 0x82, 0x54, 0x4F, 0xA0];
 
-#[test]
-fn fitted_nodes(rt: HostRuntime) -> Result<(), Fail> {
-    is_fitted(&rt, Version::V44, OLD_NODE, Version::V51, NEW_NODE)?;
-    is_fitted(&rt, Version::V51, NEW_NODE, Version::V44, OLD_NODE)?;
-    is_fitted(
-        &rt,
-        Version::V44,
-        &[0xB3, 0x4E, 0xC8, 0xEF, 0x90, 0xA0],
-        Version::V51,
-        &[0xB4, 0x4E, 0xC8, 0xEF, 0x90, 0xA0, 0x83, 0x2D, 0x31, 0x37],
-    )
-}
+const NEW_RELATIONSHIP: &[u8] = &[
+    0xB8, 0x52, 0x07, 0x01, 0x02, 0x82, 0x54, 0x4F, 0xA0, 0x81, 0x37, 0x81, 0x31, 0x81, 0x32,
+];
 
-#[test]
-fn relationships(rt: HostRuntime) -> Result<(), Fail> {
-    let old = [0xB5, 0x52, 0x07, 0x01, 0x02, 0x82, 0x54, 0x4F, 0xA0];
-    let new = [
-        0xB8, 0x52, 0x07, 0x01, 0x02, 0x82, 0x54, 0x4F, 0xA0, 0x81, 0x37, 0x81, 0x31, 0x81, 0x32,
-    ];
-    again(&rt, Version::V44, &old)?;
-    again(&rt, Version::V51, &new)?;
-    is_fitted(&rt, Version::V44, &old, Version::V51, &new)?;
-    is_fitted(&rt, Version::V51, &new, Version::V44, &old)
-}
+/// A path of two nodes, at either version.
+const OLD_PATH: &[u8] = &[
+    0x91, 0xB3, 0x50, 0x92, 0xB3, 0x4E, 0x01, 0x91, 0x81, 0x41, 0xA0, 0xB3, 0x4E, 0x02, 0x91, 0x81,
+    0x42, 0xA0, 0x91, 0xB3, 0x72, 0x07, 0x82, 0x54, 0x4F, 0xA0, 0x92, 0x01, 0x01,
+];
+
+const NEW_PATH: &[u8] = &[
+    0x91, 0xB3, 0x50, 0x92, 0xB4, 0x4E, 0x01, 0x91, 0x81, 0x41, 0xA0, 0x81, 0x31, 0xB4, 0x4E, 0x02,
+    0x91, 0x81, 0x42, 0xA0, 0x81, 0x32, 0x91, 0xB4, 0x72, 0x07, 0x82, 0x54, 0x4F, 0xA0, 0x81, 0x37,
+    0x92, 0x01, 0x01,
+];
 
 /// The first second of the calendar in a zone of one hour, at either version.
 const OLD_MOMENT: &[u8] = &[0xB3, 0x46, 0xC9, 0x0E, 0x10, 0x00, 0xC9, 0x0E, 0x10];
 
 const NEW_MOMENT: &[u8] = &[0xB3, 0x49, 0x00, 0x00, 0xC9, 0x0E, 0x10];
 
-fn is_first_second(cell: &Cell) -> bool {
-    match cell {
-        Cell::DateTime { utc, nanos, offset } => *utc == 0 && *nanos == 0 && *offset == 3600,
-        _ => false,
-    }
-}
+/// A moment in a zone at 4.4.
+const ZONED: &[u8] = &[0xB3, 0x66, 0x00, 0x00, 0x83, 0x55, 0x54, 0x43];
 
-/// The bytes are read as that moment, and written at the other version as these.
-fn is_moment(
-    rt: &(impl Abort + AllocGlobal),
+/// Bytes of a cell at one version, and what the cell is written as at another, or at the same.
+const WRITTEN: &[(Version, &[u8], Version, &[u8])] = &[
+    (Version::V44, OLD_NODE, Version::V44, OLD_NODE),
+    (Version::V51, NEW_NODE, Version::V51, NEW_NODE),
+    (
+        Version::V44,
+        OLD_RELATIONSHIP,
+        Version::V44,
+        OLD_RELATIONSHIP,
+    ),
+    (
+        Version::V51,
+        NEW_RELATIONSHIP,
+        Version::V51,
+        NEW_RELATIONSHIP,
+    ),
+    (Version::V44, OLD_PATH, Version::V44, OLD_PATH),
+    (Version::V51, NEW_PATH, Version::V51, NEW_PATH),
+    (Version::V44, OLD_MOMENT, Version::V51, NEW_MOMENT),
+    (Version::V51, NEW_MOMENT, Version::V44, OLD_MOMENT),
+    (Version::V44, ZONED, Version::V44, ZONED),
+    (Version::V44, DEEPEST, Version::V44, DEEPEST),
+    // days
+    (
+        Version::V44,
+        &[0xB1, 0x44, 0xC9, 0x48, 0xE5],
+        Version::V44,
+        &[0xB1, 0x44, 0xC9, 0x48, 0xE5],
+    ),
+    // a duration
+    (
+        Version::V51,
+        &[0xB4, 0x45, 0x01, 0x02, 0x03, 0x04],
+        Version::V51,
+        &[0xB4, 0x45, 0x01, 0x02, 0x03, 0x04],
+    ),
+    // a time with its offset
+    (
+        Version::V44,
+        &[0xB2, 0x54, 0x00, 0xCA, 0x00, 0x00, 0xFD, 0x20],
+        Version::V44,
+        &[0xB2, 0x54, 0x00, 0xCA, 0x00, 0x00, 0xFD, 0x20],
+    ),
+];
+
+/// Whether a copy of the cell of the bytes is written as these.
+fn is_copied(
+    alloc: Global,
     version: Version,
     input: &[u8],
     to: Version,
     output: &[u8],
-) -> Result<(), Fail> {
-    let cell = cell(rt, version, input)?;
-    assert!(rt; is_first_second(&cell));
-    is_written(rt, to, &cell, output)
+) -> Result<bool, Fail> {
+    let cell = cell(alloc, version, input)?;
+    let copy = cell.clone()?;
+    Ok(is_written(alloc, to, &copy, output))
 }
 
 #[test]
-fn moments(rt: HostRuntime) -> Result<(), Fail> {
-    is_moment(&rt, Version::V44, OLD_MOMENT, Version::V51, NEW_MOMENT)?;
-    is_moment(&rt, Version::V51, NEW_MOMENT, Version::V44, OLD_MOMENT)?;
-    is_refused(&rt, Version::V51, OLD_MOMENT, Reason::NotInVersion, 0)?;
-    is_refused(
-        &rt,
-        Version::V44,
-        &[0xB3, 0x46, 0xCB, 0x80, 0, 0, 0, 0, 0, 0, 0, 0x00, 0x01],
-        Reason::Range,
-        0,
-    )
+fn written(rt: HostRuntime) -> Result<(), Fail> {
+    for (version, input, to, output) in WRITTEN {
+        assert!(rt;
+            is_copied(rt.alloc(), *version, input, *to, output)?,
+            "at {input:?}"
+        );
+    }
+    Ok(())
 }
 
-/// Days, a time with its offset, a duration, and a moment in a zone.
-const TIMES: &[(Version, &[u8])] = &[
-    (Version::V44, &[0xB1, 0x44, 0xC9, 0x48, 0xE5]),
-    (Version::V51, &[0xB4, 0x45, 0x01, 0x02, 0x03, 0x04]),
+/// Bytes of a cell at one version, and what the cell is written as once it is fitted to another.
+const FITTED: &[(Version, &[u8], Version, &[u8])] = &[
+    (Version::V44, OLD_NODE, Version::V51, NEW_NODE),
+    (Version::V51, NEW_NODE, Version::V44, OLD_NODE),
     (
         Version::V44,
-        &[0xB2, 0x54, 0x00, 0xCA, 0x00, 0x00, 0xFD, 0x20],
+        &[0xB3, 0x4E, 0xC8, 0xEF, 0x90, 0xA0],
+        Version::V51,
+        &[0xB4, 0x4E, 0xC8, 0xEF, 0x90, 0xA0, 0x83, 0x2D, 0x31, 0x37],
     ),
-    (Version::V44, ZONED),
+    (
+        Version::V44,
+        OLD_RELATIONSHIP,
+        Version::V51,
+        NEW_RELATIONSHIP,
+    ),
+    (
+        Version::V51,
+        NEW_RELATIONSHIP,
+        Version::V44,
+        OLD_RELATIONSHIP,
+    ),
+    (Version::V44, OLD_PATH, Version::V51, NEW_PATH),
+    (Version::V51, NEW_PATH, Version::V44, OLD_PATH),
 ];
 
-const ZONED: &[u8] = &[0xB3, 0x66, 0x00, 0x00, 0x83, 0x55, 0x54, 0x43];
+fn is_fitted(
+    alloc: Global,
+    version: Version,
+    input: &[u8],
+    to: Version,
+    output: &[u8],
+) -> Result<bool, Fail> {
+    let fitted = fit(alloc, cell(alloc, version, input)?, to)?;
+    Ok(is_written(alloc, to, &fitted, output))
+}
 
-const OUT_OF_RANGE: &[(Version, &[u8])] = &[
+#[test]
+fn fitted(rt: HostRuntime) -> Result<(), Fail> {
+    for (version, input, to, output) in FITTED {
+        assert!(rt;
+            is_fitted(rt.alloc(), *version, input, *to, output)?,
+            "at {input:?}"
+        );
+    }
+    Ok(())
+}
+
+/// What a cell of a time holds.
+enum Time {
+    Days(i64),
+    /// Seconds, nanoseconds, and the offset.
+    Moment(i64, i64, i64),
+}
+
+/// Bytes of times.
+const TIMES: &[(Version, &[u8], Time)] = &[
+    (Version::V44, OLD_MOMENT, Time::Moment(0, 0, 3600)),
+    (Version::V51, NEW_MOMENT, Time::Moment(0, 0, 3600)),
+    (
+        Version::V51,
+        &[0xB1, 0x44, 0xC9, 0x48, 0xE5],
+        Time::Days(18_661),
+    ),
+];
+
+fn is_time(cell: &Cell, time: &Time) -> bool {
+    match (cell, time) {
+        (Cell::Date { days }, Time::Days(number)) => days == number,
+        (Cell::DateTime { utc, nanos, offset }, Time::Moment(seconds, rest, east)) => {
+            utc == seconds && nanos == rest && offset == east
+        }
+        _ => false,
+    }
+}
+
+#[test]
+fn times(rt: HostRuntime) -> Result<(), Fail> {
+    for (version, bytes, time) in TIMES {
+        let cell = cell(rt.alloc(), *version, bytes)?;
+        assert!(rt; is_time(&cell, time), "at {bytes:?}");
+    }
+    Ok(())
+}
+
+/// Bytes that are refused, and the faults.
+const UNREAD: &[(Version, &[u8], CellFault)] = &[
+    (
+        Version::V51,
+        &[0xB1, 0x5A, 0x00],
+        CellFault::Refused(Reason::UnknownTag, 0),
+    ),
+    (
+        Version::V51,
+        OLD_NODE,
+        CellFault::Refused(Reason::FieldCount, 0),
+    ),
+    (
+        Version::V44,
+        &[0x92, 0xB1, 0x44, 0x00, 0xB2, 0x44, 0x00, 0x00],
+        CellFault::Refused(Reason::FieldCount, 1),
+    ),
+    (
+        Version::V44,
+        &[0xB3, 0x46, 0xCB, 0x80, 0, 0, 0, 0, 0, 0, 0, 0x00, 0x01],
+        CellFault::Refused(Reason::Range, 0),
+    ),
     (
         Version::V44,
         &[0xB2, 0x54, 0x00, 0xCA, 0x00, 0x00, 0xFD, 0x21],
+        CellFault::Refused(Reason::Range, 0),
     ),
     (
         Version::V44,
         &[
             0xB2, 0x54, 0xCB, 0x00, 0x00, 0x4E, 0x94, 0x91, 0x4F, 0x00, 0x00, 0x00,
         ],
+        CellFault::Refused(Reason::Range, 0),
     ),
     (
         Version::V51,
         &[0xB4, 0x45, 0x00, 0x00, 0x00, 0xCA, 0x3B, 0x9A, 0xCA, 0x00],
+        CellFault::Refused(Reason::Range, 0),
     ),
-];
-
-#[test]
-fn times(rt: HostRuntime) -> Result<(), Fail> {
-    for (version, bytes) in TIMES {
-        again(&rt, *version, bytes)?;
-    }
-    for (version, bytes) in OUT_OF_RANGE {
-        is_refused(&rt, *version, bytes, Reason::Range, 0)?;
-    }
-    is_refused(&rt, Version::V51, ZONED, Reason::NotInVersion, 0)
-}
-
-#[test]
-fn days(rt: HostRuntime) -> Result<(), Fail> {
-    let cell = cell(&rt, Version::V51, &[0xB1, 0x44, 0xC9, 0x48, 0xE5])?;
-    assert!(rt; matches!(cell, Cell::Date { days: 18_661 }));
-    Ok(())
-}
-
-/// A date, and behind it a moment in a zone as 4.4 writes it.
-fn date_and_zoned(rt: &(impl Abort + AllocGlobal)) -> Result<Cell, Fail> {
-    let zoned = cell(rt, Version::V44, ZONED)?;
-    Ok(Cell::List(vec![in rt.alloc(); Cell::Date { days: 0 }, zoned]?))
-}
-
-#[test]
-fn unwritable_times(rt: HostRuntime) -> Result<(), Fail> {
-    let both = date_and_zoned(&rt)?;
-    is_unwritable(&rt, Version::V51, &both, Reason::NotInVersion, 1);
-    let late = Cell::LocalTime {
-        nanos: 86_400_000_000_000,
-    };
-    is_unwritable(&rt, Version::V44, &late, Reason::Range, 0);
-    Ok(())
-}
-
-#[test]
-fn faults_by_number(rt: HostRuntime) -> Result<(), Fail> {
-    is_refused(
-        &rt,
-        Version::V44,
-        &[0x92, 0xB1, 0x44, 0x00, 0xB2, 0x44, 0x00, 0x00],
-        Reason::FieldCount,
-        1,
-    )?;
-    is_refused(
-        &rt,
-        Version::V51,
-        &[0xB1, 0x5A, 0x00],
-        Reason::UnknownTag,
-        0,
-    )
-}
-
-#[test]
-fn paths(rt: HostRuntime) -> Result<(), Fail> {
-    is_refused(
-        &rt,
+    (
         Version::V44,
         &[0xB3, 0x50, 0x90, 0x90, 0x90],
-        Reason::PathShape,
-        0,
-    )?;
-    is_refused(
-        &rt,
+        CellFault::Refused(Reason::PathShape, 0),
+    ),
+    (
         Version::V44,
         &[
             0xB3, 0x50, 0x91, 0xB3, 0x4E, 0x01, 0x90, 0xA0, 0x90, 0x92, 0x01, 0x00,
         ],
-        Reason::PathShape,
-        0,
-    )?;
-    let old = [
-        0xB1, 0x71, 0x91, 0xB3, 0x50, 0x92, 0xB3, 0x4E, 0x01, 0x91, 0x81, 0x41, 0xA0, 0xB3, 0x4E,
-        0x02, 0x91, 0x81, 0x42, 0xA0, 0x91, 0xB3, 0x72, 0x07, 0x82, 0x54, 0x4F, 0xA0, 0x92, 0x01,
-        0x01,
-    ];
-    let new = [
-        0xB1, 0x71, 0x91, 0xB3, 0x50, 0x92, 0xB4, 0x4E, 0x01, 0x91, 0x81, 0x41, 0xA0, 0x81, 0x31,
-        0xB4, 0x4E, 0x02, 0x91, 0x81, 0x42, 0xA0, 0x81, 0x32, 0x91, 0xB4, 0x72, 0x07, 0x82, 0x54,
-        0x4F, 0xA0, 0x81, 0x37, 0x92, 0x01, 0x01,
-    ];
-    again(&rt, Version::V44, &old[2..])?;
-    again(&rt, Version::V51, &new[2..])?;
-    is_fitted(&rt, Version::V44, &old[2..], Version::V51, &new[2..])?;
-    is_fitted(&rt, Version::V51, &new[2..], Version::V44, &old[2..])
-}
+        CellFault::Refused(Reason::PathShape, 0),
+    ),
+    (
+        Version::V51,
+        OLD_MOMENT,
+        CellFault::Refused(Reason::NotInVersion, 0),
+    ),
+    (
+        Version::V51,
+        ZONED,
+        CellFault::Refused(Reason::NotInVersion, 0),
+    ),
+];
 
-/// An empty list in so many lists.
-fn nested(alloc: Global, depth: usize) -> Result<Cell, Fail> {
-    let mut cell = Cell::List(Vec::new(alloc));
-    for _ in 0..depth {
-        cell = Cell::List(vec![in alloc; cell]?);
-    }
-    Ok(cell)
-}
-
-/// The reason of a refusal by the packing, and its place.
-fn packing_of(alloc: Global, version: Version, cell: &Cell) -> Option<(packstream::Reason, usize)> {
-    match write(alloc, version, cell) {
-        Err(CellFault::Pack(reason, place)) => Some((reason, place)),
-        _ => None,
+fn is_fault(told: &CellFault, wanted: &CellFault) -> bool {
+    match (told, wanted) {
+        (CellFault::Refused(why, at), CellFault::Refused(reason, number)) => {
+            why == reason && at == number
+        }
+        (CellFault::Pack(why, at), CellFault::Pack(reason, place)) => why == reason && at == place,
+        _ => false,
     }
 }
 
-/// What writing so many lists in a list tells of the packing.
-fn packing_of_nested(
+fn is_unread(
     alloc: Global,
-    depth: usize,
-) -> Result<Option<(packstream::Reason, usize)>, Fail> {
-    let cell = nested(alloc, depth)?;
-    Ok(packing_of(alloc, Version::V44, &cell))
+    version: Version,
+    input: &[u8],
+    wanted: &CellFault,
+) -> Result<bool, Fail> {
+    let packed = decode(alloc, input)?;
+    match read(alloc, version, &packed) {
+        Ok(_) => Ok(false),
+        Err(fault) => Ok(is_fault(&fault, wanted)),
+    }
+}
+
+#[test]
+fn unread(rt: HostRuntime) -> Result<(), Fail> {
+    for (version, input, fault) in UNREAD {
+        assert!(rt;
+            is_unread(rt.alloc(), *version, input, fault)?,
+            "at {input:?}"
+        );
+    }
+    Ok(())
+}
+
+/// Bytes of a cell at one version, and its fault at another.
+const UNWRITTEN: &[(Version, &[u8], Version, CellFault)] = &[
+    (
+        Version::V44,
+        OLD_NODE,
+        Version::V51,
+        CellFault::Refused(Reason::NotInVersion, 0),
+    ),
+    (
+        Version::V51,
+        NEW_NODE,
+        Version::V44,
+        CellFault::Refused(Reason::NotInVersion, 0),
+    ),
+    // a date, and behind it a moment in a zone
+    (
+        Version::V44,
+        &[
+            0x92, 0xB1, 0x44, 0x00, 0xB3, 0x66, 0x00, 0x00, 0x83, 0x55, 0x54, 0x43,
+        ],
+        Version::V51,
+        CellFault::Refused(Reason::NotInVersion, 1),
+    ),
+];
+
+fn is_unwritten(alloc: Global, version: Version, cell: Cell, wanted: &CellFault) -> bool {
+    match write(alloc, version, &cell) {
+        Ok(_) => false,
+        Err(fault) => is_fault(&fault, wanted),
+    }
+}
+
+#[test]
+fn unwritten(rt: HostRuntime) -> Result<(), Fail> {
+    for (version, input, to, fault) in UNWRITTEN {
+        let told = is_unwritten(rt.alloc(), *to, cell(rt.alloc(), *version, input)?, fault);
+        assert!(rt; told, "at {input:?}");
+    }
+    Ok(())
+}
+
+/// One list more around the deepest.
+fn too_deep(alloc: Global) -> Result<Cell, Fail> {
+    let deepest = cell(alloc, Version::V44, DEEPEST)?;
+    Ok(Cell::List(vec![in alloc; deepest]?))
 }
 
 /// A dictionary with a key twice.
-fn twice(alloc: Global) -> Result<Cell, Fail> {
+fn twice(alloc: Global) -> Result<Cell, AllocError> {
     let first = (String::from_str(alloc, "a")?, Cell::Int(1));
     let second = (String::from_str(alloc, "a")?, Cell::Int(2));
     Ok(Cell::Dict(vec![in alloc; first, second]?))
 }
 
+const LATE: &CellFault = &CellFault::Refused(Reason::Range, 0);
+
+const TOO_DEEP: &CellFault = &CellFault::Pack(packstream::Reason::Depth, 32);
+
+const KEY_TWICE: &CellFault = &CellFault::Pack(packstream::Reason::KeyTwice, 2);
+
 #[test]
 fn cells_without_bytes(rt: HostRuntime) -> Result<(), Fail> {
     let alloc = rt.alloc();
-    let depth = Some((packstream::Reason::Depth, 32));
-    assert!(rt; packing_of_nested(alloc, 32)? == depth);
-    let cell = twice(alloc)?;
-    let key_twice = Some((packstream::Reason::KeyTwice, 2));
-    assert!(rt; packing_of(alloc, Version::V51, &cell) == key_twice);
+    let late = Cell::LocalTime {
+        nanos: 86_400_000_000_000,
+    };
+    assert!(rt; is_unwritten(alloc, Version::V44, late, LATE));
+    assert!(rt; is_unwritten(alloc, Version::V44, too_deep(alloc)?, TOO_DEEP));
+    assert!(rt; is_unwritten(alloc, Version::V51, twice(alloc)?, KEY_TWICE));
     Ok(())
 }
 
-#[test]
-fn the_deepest_cell(rt: HostRuntime) -> Result<(), Fail> {
-    let cell = nested(rt.alloc(), 31)?;
-    assert!(rt; write(rt.alloc(), Version::V44, &cell).is_ok());
-    Ok(())
-}
-
-fn prints(rt: &(impl Abort + AllocGlobal), fault: CellFault, wanted: &str) -> Result<(), Fail> {
-    let text = format!(in rt.alloc(); "{fault}")?;
-    assert_eq!(rt; text.as_str(), wanted);
-    Ok(())
-}
+/// Faults, and their texts.
+const TEXTS: &[(CellFault, &str)] = &[
+    (CellFault::Refused(Reason::UnknownTag, 4), "S1 at 4"),
+    (CellFault::Refused(Reason::FieldCount, 4), "S2 at 4"),
+    (CellFault::Refused(Reason::FieldKind, 4), "S3 at 4"),
+    (CellFault::Refused(Reason::Range, 4), "S4 at 4"),
+    (CellFault::Refused(Reason::PathShape, 4), "S5 at 4"),
+    (CellFault::Refused(Reason::NotInVersion, 4), "S6 at 4"),
+    (CellFault::Pack(packstream::Reason::KeyTwice, 2), "P5 at 2"),
+    (CellFault::Memory, "out of memory"),
+];
 
 #[test]
 fn texts_of_faults(rt: HostRuntime) -> Result<(), Fail> {
-    let reasons = [
-        (Reason::UnknownTag, "S1 at 4"),
-        (Reason::FieldCount, "S2 at 4"),
-        (Reason::FieldKind, "S3 at 4"),
-        (Reason::Range, "S4 at 4"),
-        (Reason::PathShape, "S5 at 4"),
-        (Reason::NotInVersion, "S6 at 4"),
-    ];
-    for (reason, wanted) in reasons {
-        prints(&rt, CellFault::Refused(reason, 4), wanted)?;
+    for (fault, wanted) in TEXTS {
+        let text = format!(in rt.alloc(); "{fault}")?;
+        assert_eq!(rt; text.as_str(), *wanted);
     }
-    let packing = CellFault::Pack(packstream::Reason::KeyTwice, 2);
-    prints(&rt, packing, "P5 at 2")?;
-    prints(&rt, CellFault::Memory, "out of memory")
+    Ok(())
 }

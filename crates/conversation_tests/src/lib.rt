@@ -5,9 +5,9 @@
 #[cfg(test)]
 mod asking_tests;
 #[cfg(test)]
-mod loss_tests;
-#[cfg(test)]
 mod serving_tests;
+#[cfg(test)]
+mod streams_of;
 #[cfg(test)]
 mod world_scripts;
 #[cfg(test)]

@@ -1,9 +1,10 @@
+use crate::streams_of::{Drip, MANY, Trickle};
 use engine::{FixedTable, OneUser};
 use server::{Cause, Server};
 use std::alloc::Global;
 use std::process::Abort;
 use std::test::Fail;
-use streams::{Failed, Sink, Source, StreamFault, serve_one};
+use streams::{StreamFault, serve_one};
 
 /// A handshake for 4.4 and a HELLO that logs on, RUN of ROWS with three rows, and PULL of all.
 const TALK: &[u8] = &[
@@ -30,125 +31,44 @@ const ANSWER: &[u8] = &[
     0x74, 0x5F, 0x6C, 0x61, 0x73, 0x74, 0x00, 0x00, 0x00,
 ];
 
-/// A source that gives at most 5 bytes at once, and fails once it was read so often.
-#[derive(Drop)]
-struct Trickle<'a> {
-    rest: &'a [u8],
-    reads: usize,
-    failed: bool,
-}
-
-impl Source for Trickle<'_> {
-    ghost use Rattle.std.specs.Prelude.{None};
-
-    ghost left = { λ _. None };
-
-    ghost has_failed = { λ s. s.failed };
-
-    ghost reads = { λ s. s.reads };
-
-    fn read(&mut self, buffer: &mut [u8]) -> Result<usize, Failed> {
-        if self.failed {
-            return Err(Failed);
-        }
-        if self.reads == 0 {
-            self.failed = true;
-            return Err(Failed);
-        }
-        self.reads -= 1;
-        let n = self.rest.len().min(buffer.len()).min(5);
-        let (front, after) = self.rest.split_at(n);
-        buffer[..n].copy_from_slice(front);
-        self.rest = after;
-        Ok(n)
-    }
-}
-
-/// A sink that takes at most 7 bytes at once, and fails once it was written so often.
-#[derive(Drop)]
-struct Drip {
-    bytes: Vec<u8>,
-    writes: usize,
-    failed: bool,
-}
-
-impl Sink for Drip {
-    ghost use Rattle.std.specs.Prelude.{None};
-
-    ghost taken = { λ _. None };
-
-    ghost has_failed = { λ s. s.failed };
-
-    fn write(&mut self, bytes: &[u8]) -> Result<usize, Failed> {
-        if self.failed {
-            return Err(Failed);
-        }
-        if self.writes == 0 {
-            self.failed = true;
-            return Err(Failed);
-        }
-        self.writes -= 1;
-        let n = bytes.len().min(7);
-        if self.bytes.extend_from_slice(&bytes[..n]).is_err() {
-            self.failed = true;
-            return Err(Failed);
-        }
-        Ok(n)
-    }
-}
-
-/// What was written of the conversation over streams that fail after so many reads and writes, and what was answered.
+/// Serves the conversation over streams that fail after so many reads and writes, and answers how much was written of the answer.
 fn serves(
+    rt: &impl Abort,
     alloc: Global,
     reads: usize,
     writes: usize,
-) -> Result<(Vec<u8>, Result<Cause, StreamFault>), Fail> {
+    wanted: Result<Cause, StreamFault>,
+) -> Result<usize, Fail> {
     let gate = OneUser::new(alloc, "user", "pass")?;
     let mut server = Server::new(alloc, FixedTable::new(alloc), gate);
     let conn = server.open()?;
     let mut source = Trickle {
         rest: TALK,
+        step: 5,
         reads,
         failed: false,
     };
     let mut sink = Drip {
         bytes: Vec::new(alloc),
+        step: 7,
         writes,
+        room: MANY,
         failed: false,
     };
     let answered = serve_one(alloc, &mut server, conn, &mut source, &mut sink);
-    Ok((sink.bytes, answered))
+    assert_eq!(rt; answered, wanted, "after {reads} reads and {writes} writes");
+    assert!(rt; ANSWER.starts_with(sink.bytes.as_slice()));
+    Ok(sink.bytes.len())
 }
 
 #[test]
 fn serves_a_client(rt: HostRuntime) -> Result<(), Fail> {
-    let (out, answered) = serves(rt.alloc(), 1000, 1000)?;
-    assert_eq!(rt; out.as_slice(), ANSWER);
-    assert_eq!(rt; answered, Ok(Cause::Lost));
-    Ok(())
-}
-
-/// Whether the first bytes are a beginning of the others.
-fn is_front(front: &[u8], whole: &[u8]) -> bool {
-    front.len() <= whole.len() && front == &whole[..front.len()]
-}
-
-#[test]
-fn tells_a_failed_source(rt: HostRuntime) -> Result<(), Fail> {
-    for reads in 0..20 {
-        let (out, answered) = serves(rt.alloc(), reads, 1000)?;
-        assert_eq!(rt; is_front(out.as_slice(), ANSWER), true);
-        assert_eq!(rt; answered, Err(StreamFault::ReadFailed));
-    }
-    Ok(())
-}
-
-#[test]
-fn tells_a_failed_sink(rt: HostRuntime) -> Result<(), Fail> {
-    for writes in 0..20 {
-        let (out, answered) = serves(rt.alloc(), 1000, writes)?;
-        assert_eq!(rt; is_front(out.as_slice(), ANSWER), true);
-        assert_eq!(rt; answered, Err(StreamFault::WriteFailed));
+    let alloc = rt.alloc();
+    let written = serves(&rt, alloc, MANY, MANY, Ok(Cause::Lost))?;
+    assert_eq!(rt; written, ANSWER.len());
+    for calls in 0..20 {
+        serves(&rt, alloc, calls, MANY, Err(StreamFault::ReadFailed))?;
+        serves(&rt, alloc, MANY, calls, Err(StreamFault::WriteFailed))?;
     }
     Ok(())
 }

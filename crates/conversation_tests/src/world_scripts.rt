@@ -1,38 +1,47 @@
-//! Scripts of events, and what is wanted of the world after them.
+//! Scripts of events, and the world after them.
 
-use client::Outcome;
 use engine::{FixedTable, OneUser};
-use machine::Phase;
 use messages::{Auth, Count, Mode, Request};
 use server::Worked;
 use std::alloc::{AllocError, Global};
-use std::process::Abort;
 use std::test::Fail;
 use structures::Cell;
 use wire::{Version, Wish};
-use world::{Event, Peer, Seen, Standing, World, replay};
+use world::{Event, Peer, Seen, World, replay};
 
 pub(crate) type Table = World<FixedTable, OneUser>;
 
+/// A value of a RUN.
+pub(crate) enum Given {
+    Int(i64),
+    Text(&'static str),
+}
+
 /// A request.
-#[derive(Clone, Copy)]
 pub(crate) enum Asked {
     Hello,
+    /// A HELLO of 4.4, which has the login.
+    Login,
     Logon,
     Begin,
-    /// RUN PUT of the key `k` and the number 1.
-    Put,
-    /// RUN ROWS with n 3.
-    Rows,
-    One,
-    Nope,
+    /// RUN of a text with these parameters.
+    Run(&'static str, &'static [(&'static str, Given)]),
     PullAll,
     Commit,
     Reset,
+    Goodbye,
 }
 
+/// RUN PUT of the key `k` and the number 1.
+pub(crate) const PUT: Asked = Asked::Run(
+    "PUT",
+    &[("key", Given::Text("k")), ("value", Given::Int(1))],
+);
+
+/// RUN ROWS with n 3.
+pub(crate) const ROWS: Asked = Asked::Run("ROWS", &[("n", Given::Int(3))]);
+
 /// A line of a script. A line of `all` repeats its event until it moves nothing.
-#[derive(Clone, Copy)]
 pub(crate) enum Line {
     Open,
     Submit(Asked),
@@ -49,79 +58,61 @@ pub(crate) enum Line {
 
 use Line::*;
 
-/// What is reported of the first connection, and the ledger's entries, all of that connection: ordinal, and the count of writes.
-#[derive(Clone, Copy)]
-pub(crate) struct Wanted {
-    pub heard: &'static [(Outcome, Phase)],
-    pub lost: &'static [(u64, Outcome)],
-    pub waits: usize,
-    pub standing: Standing,
-    pub entries: &'static [(u64, usize)],
-}
-
 /// How often a line of `all` may move something.
 const MOST: usize = 100;
 
 const ALL: usize = 65_536;
 
-fn named(alloc: Global, name: &str, cell: Cell) -> Result<(String, Cell), AllocError> {
-    Ok((String::from_str(alloc, name)?, cell))
-}
-
-fn run(alloc: Global, text: &str, params: Vec<(String, Cell)>) -> Result<Request, AllocError> {
+fn run(alloc: Global, text: &str, params: &[(&'static str, Given)]) -> Result<Request, AllocError> {
+    let mut list = Vec::new(alloc);
+    for (name, given) in params {
+        let cell = match given {
+            Given::Int(value) => Cell::Int(*value),
+            Given::Text(value) => Cell::Text(String::from_str(alloc, value)?),
+        };
+        list.push((String::from_str(alloc, name)?, cell))?;
+    }
     Ok(Request::Run {
         text: String::from_str(alloc, text)?,
-        params,
+        params: list,
         mode: Mode::Write,
     })
 }
 
-fn put(alloc: Global) -> Result<Request, AllocError> {
-    let key = Cell::Text(String::from_str(alloc, "k")?);
-    let mut params = Vec::new(alloc);
-    params.push(named(alloc, "key", key)?)?;
-    params.push(named(alloc, "value", Cell::Int(1))?)?;
-    run(alloc, "PUT", params)
-}
-
-fn rows(alloc: Global) -> Result<Request, AllocError> {
-    let mut params = Vec::new(alloc);
-    params.push(named(alloc, "n", Cell::Int(3))?)?;
-    run(alloc, "ROWS", params)
-}
-
-fn logon(alloc: Global) -> Result<Request, AllocError> {
-    Ok(Request::Logon(Auth {
+fn auth(alloc: Global) -> Result<Auth, AllocError> {
+    Ok(Auth {
         scheme: String::from_str(alloc, "basic")?,
         principal: String::from_str(alloc, "user")?,
         credentials: String::from_str(alloc, "pass")?,
-    }))
+    })
 }
 
-fn request(alloc: Global, asked: Asked) -> Result<Request, AllocError> {
+pub(crate) fn request(alloc: Global, asked: &Asked) -> Result<Request, AllocError> {
     match asked {
         Asked::Hello => Ok(Request::Hello {
             agent: String::from_str(alloc, "t/1")?,
             auth: None,
         }),
-        Asked::Logon => logon(alloc),
+        Asked::Login => Ok(Request::Hello {
+            agent: String::from_str(alloc, "t/1")?,
+            auth: Some(auth(alloc)?),
+        }),
+        Asked::Logon => Ok(Request::Logon(auth(alloc)?)),
         Asked::Begin => Ok(Request::Begin(Mode::Write)),
-        Asked::Put => put(alloc),
-        Asked::Rows => rows(alloc),
-        Asked::One => run(alloc, "ONE", Vec::new(alloc)),
-        Asked::Nope => run(alloc, "NOPE", Vec::new(alloc)),
+        Asked::Run(text, params) => run(alloc, text, params),
         Asked::PullAll => Ok(Request::Pull(Count::All)),
         Asked::Commit => Ok(Request::Commit),
         Asked::Reset => Ok(Request::Reset),
+        Asked::Goodbye => Ok(Request::Goodbye),
     }
 }
 
-/// The event of a line, and whether it is repeated.
-fn event(alloc: Global, line: Line) -> Result<(Event, usize), AllocError> {
+/// The event of a line, and how often it is given at most.
+fn event(alloc: Global, line: &Line) -> Result<(Event, usize), AllocError> {
     match line {
         Open => Ok((Event::Open(Peer::Ours(Wish::Only(Version::V51))), 1)),
         Submit(asked) => Ok((Event::Submit(0, request(alloc, asked)?), 1)),
-        Server(count) => Ok((Event::ToServer(0, count), 1)),
+        Server(count) => Ok((Event::ToServer(0, *count), 1)),
         AllServer => Ok((Event::ToServer(0, ALL), MOST)),
         AllClient => Ok((Event::ToClient(0, ALL), MOST)),
         Work => Ok((Event::Work(0), 1)),
@@ -132,78 +123,35 @@ fn event(alloc: Global, line: Line) -> Result<(Event, usize), AllocError> {
     }
 }
 
-/// Whether an event moved something.
-fn moved(seen: Seen) -> bool {
-    match seen {
-        Seen::Fed(took) => took.used > 0,
-        Seen::Gave { used, heard: _ } => used > 0,
-        Seen::Worked(Worked::Row) => true,
-        Seen::Worked(Worked::Wrote { .. }) => true,
-        _ => false,
-    }
-}
-
 /// Adds the events of a line, as often as it moves something in the world beside them.
 fn add_line(
     alloc: Global,
     world: &mut Table,
     events: &mut Vec<Event>,
-    line: Line,
+    line: &Line,
 ) -> Result<(), Fail> {
     let (event, times) = event(alloc, line)?;
     for _time in 0..times {
         events.push(event.clone()?)?;
-        if !moved(world.step(event.clone()?)?) {
-            return Ok(());
+        match world.step(event.clone()?)? {
+            Seen::Fed(took) if took.used > 0 => {}
+            Seen::Gave { used, .. } if used > 0 => {}
+            Seen::Worked(Worked::Row | Worked::Wrote { .. }) => {}
+            _ => return Ok(()),
         }
     }
     Ok(())
 }
 
-/// The world after the lines, by `replay`.
-pub(crate) fn play(alloc: Global, lines: &[Line]) -> Result<Table, Fail> {
+/// The world after the lines of a script's parts, by `replay`.
+pub(crate) fn play(alloc: Global, script: &[&[Line]]) -> Result<Table, Fail> {
     let gate = OneUser::new(alloc, "user", "pass")?;
     let mut world = World::new(alloc, FixedTable::new(alloc), gate);
     let mut events = Vec::new(alloc);
-    for line in lines {
-        add_line(alloc, &mut world, &mut events, *line)?;
+    for part in script {
+        for line in *part {
+            add_line(alloc, &mut world, &mut events, line)?;
+        }
     }
     Ok(replay(alloc, &events)?)
-}
-
-pub(crate) fn expect_heard(rt: &impl Abort, world: &Table, wanted: &Wanted) {
-    let Some(told) = world.report().connection(0) else {
-        assert!(rt; false);
-        return;
-    };
-    assert_eq!(rt; told.read.len(), wanted.heard.len());
-    for (read, (outcome, phase)) in told.read.iter().zip(wanted.heard) {
-        assert_eq!(rt; read.outcome, *outcome);
-        assert_eq!(rt; read.phase, *phase);
-    }
-    assert_eq!(rt; told.lost, wanted.lost);
-    assert_eq!(rt; told.waits, wanted.waits);
-    assert_eq!(rt; told.standing, wanted.standing);
-}
-
-pub(crate) fn expect_ledger(rt: &impl Abort, world: &Table, wanted: &Wanted) {
-    let ledger = world.report().ledger();
-    assert_eq!(rt; ledger.len(), wanted.entries.len());
-    for (entry, (ordinal, count)) in ledger.iter().zip(wanted.entries) {
-        assert_eq!(rt; entry.id.conn, 0);
-        assert_eq!(rt; entry.id.ordinal, *ordinal);
-        assert_eq!(rt; entry.writes.len(), *count);
-    }
-}
-
-pub(crate) fn expect(
-    alloc: Global,
-    rt: &impl Abort,
-    lines: &[Line],
-    wanted: &Wanted,
-) -> Result<(), Fail> {
-    let world = play(alloc, lines)?;
-    expect_heard(rt, &world, wanted);
-    expect_ledger(rt, &world, wanted);
-    Ok(())
 }

@@ -1,255 +1,363 @@
+//! What the fixed table and the gate of one user answer.
+
+use Plain::*;
+use Step::*;
+use Told::*;
 use engine::laws::{commit_and_get, commit_and_run};
 use engine::*;
-use indexmap::IndexMap;
 use std::alloc::{AllocError, Global};
 use std::test::*;
 use structures::Cell;
 
-fn text(alloc: Global, bytes: &str) -> Result<Cell, AllocError> {
-    Ok(Cell::Text(String::from_str(alloc, bytes)?))
+/// A value of a parameter or of a row.
+enum Plain {
+    Int(i64),
+    Text(&'static str),
+    /// A path from node 1 over relationship 7 to node 2.
+    Path,
 }
 
-fn write(alloc: Global, key: &str, value: i64) -> Result<Vec<Write>, AllocError> {
-    puts(alloc, &[(key, value)])
+/// Names and their values.
+type Named = &'static [(&'static str, Plain)];
+
+/// What a query is answered.
+enum Told {
+    /// One column of this name, with these values.
+    Column(&'static str, &'static [Plain]),
+    /// So many rows.
+    Rows(usize),
+    /// No column, no row, and the write of 1 for the key `a`.
+    PutsOne,
+    Refused(EngineFault),
 }
 
-fn puts(alloc: Global, pairs: &[(&str, i64)]) -> Result<Vec<Write>, AllocError> {
+/// A call of a table, and what it tells.
+enum Step {
+    /// Values of keys are committed, and the ledger has so many entries then.
+    Commits(EntryId, Named, u64),
+    Entries(usize),
+    /// The table's pairs, in their order.
+    Pairs(Named),
+    /// A query in a transaction of these writes, by its text, its parameters and its mode.
+    Asks(Named, &'static str, Named, Mode, Told),
+    /// A commit, and GET after it with these parameters.
+    CommitsAndGets(Named, Named, Told),
+    /// A commit of no writes, and KEYS after it.
+    CommitsAndRuns(Told),
+}
+
+/// Who commits: the first request of connection 0, its fifth, and two requests of connection 1.
+const FIRST: EntryId = EntryId {
+    conn: 0,
+    ordinal: 0,
+};
+
+const FIFTH: EntryId = EntryId {
+    conn: 0,
+    ordinal: 4,
+};
+
+const OTHER: EntryId = EntryId {
+    conn: 1,
+    ordinal: 7,
+};
+
+const CALLER: EntryId = EntryId {
+    conn: 1,
+    ordinal: 3,
+};
+
+/// Entries that put b 1, a 2 and b 3.
+const THREE_PUTS: &[Step] = &[
+    Commits(FIRST, &[("b", Int(1))], 1),
+    Commits(FIRST, &[("a", Int(2))], 2),
+    Commits(FIRST, &[("b", Int(3))], 3),
+];
+
+const KEYS_AND_VALUES: &[Step] = &[
+    Asks(
+        &[],
+        "KEYS",
+        &[],
+        Mode::Read,
+        Column("key", &[Text("b"), Text("a")]),
+    ),
+    Asks(
+        &[],
+        "GET",
+        &[("key", Text("b"))],
+        Mode::Read,
+        Column("value", &[Int(3)]),
+    ),
+];
+
+const OWN_WRITES: &[Step] = &[
+    Asks(
+        &[("c", Int(4))],
+        "KEYS",
+        &[],
+        Mode::Write,
+        Column("key", &[Text("b"), Text("a"), Text("c")]),
+    ),
+    Asks(
+        &[],
+        "GET",
+        &[("key", Text("c"))],
+        Mode::Read,
+        Column("value", &[]),
+    ),
+    Entries(3),
+];
+
+const KEY_TWICE_IN_A_COMMIT: &[Step] = &[
+    Commits(FIFTH, &[("a", Int(1)), ("b", Int(2)), ("a", Int(3))], 1),
+    Pairs(&[("a", Int(3)), ("b", Int(2))]),
+];
+
+const COMMIT_OF_NO_WRITES: &[Step] = &[Commits(OTHER, &[], 4), Entries(4)];
+
+const ROWS: &[Step] = &[
+    Asks(
+        &[],
+        "ROWS",
+        &[("n", Int(3))],
+        Mode::Read,
+        Column("i", &[Int(1), Int(2), Int(3)]),
+    ),
+    Asks(&[], "ROWS", &[("n", Int(0))], Mode::Read, Column("i", &[])),
+    Asks(&[], "ROWS", &[("n", Int(1024))], Mode::Read, Rows(1024)),
+];
+
+const BAD_COUNTS: &[Step] = &[
+    Asks(
+        &[],
+        "ROWS",
+        &[("n", Int(1025))],
+        Mode::Read,
+        Refused(EngineFault::TooManyRows),
+    ),
+    Asks(
+        &[],
+        "ROWS",
+        &[("n", Int(-1))],
+        Mode::Read,
+        Refused(EngineFault::Parameter),
+    ),
+];
+
+const FAULTS_IN_ORDER: &[Step] = &[
+    Asks(&[], "PUT", &[], Mode::Read, Refused(EngineFault::ReadOnly)),
+    Asks(
+        &[],
+        "PUT",
+        &[],
+        Mode::Write,
+        Refused(EngineFault::Parameter),
+    ),
+    Asks(
+        &[],
+        "NOPE",
+        &[],
+        Mode::Read,
+        Refused(EngineFault::UnknownText),
+    ),
+    Asks(
+        &[],
+        "ROWS",
+        &[],
+        Mode::Read,
+        Refused(EngineFault::Parameter),
+    ),
+];
+
+const VALUES_IN_AND_OUT: &[Step] = &[
+    Asks(&[], "ONE", &[], Mode::Read, Column("one", &[Int(1)])),
+    Asks(
+        &[],
+        "ECHO",
+        &[("x", Text("hi"))],
+        Mode::Read,
+        Column("x", &[Text("hi")]),
+    ),
+    Asks(&[], "WALK", &[], Mode::Read, Column("p", &[Path])),
+];
+
+const PUT: &[Step] = &[Asks(
+    &[],
+    "PUT",
+    &[("key", Text("a")), ("value", Int(1))],
+    Mode::Write,
+    PutsOne,
+)];
+
+const CALLERS: &[Step] = &[
+    CommitsAndGets(
+        &[("a", Int(5))],
+        &[("key", Text("a"))],
+        Column("value", &[Int(5)]),
+    ),
+    CommitsAndRuns(Column("key", &[Text("b"), Text("a")])),
+];
+
+/// What is asked of a table of its own: a name, what comes before, and the steps.
+const ASKED: &[(&str, &[Step], &[Step])] = &[
+    ("keys and values", THREE_PUTS, KEYS_AND_VALUES),
+    ("own writes", THREE_PUTS, OWN_WRITES),
+    ("a key twice in a commit", &[], KEY_TWICE_IN_A_COMMIT),
+    ("a commit of no writes", THREE_PUTS, COMMIT_OF_NO_WRITES),
+    ("rows", &[], ROWS),
+    ("bad counts", &[], BAD_COUNTS),
+    ("faults in order", &[], FAULTS_IN_ORDER),
+    ("values in and out", &[], VALUES_IN_AND_OUT),
+    ("put", &[], PUT),
+    ("callers", THREE_PUTS, CALLERS),
+];
+
+fn cell(alloc: Global, value: &Plain) -> Result<Cell, AllocError> {
+    match value {
+        Int(n) => Ok(Cell::Int(*n)),
+        Text(text) => Ok(Cell::Text(String::from_str(alloc, text)?)),
+        // No parameter is a path.
+        Path => Ok(Cell::Null),
+    }
+}
+
+fn params(alloc: Global, named: Named) -> Result<Vec<(String, Cell)>, AllocError> {
+    let mut params = Vec::new(alloc);
+    for (name, value) in named {
+        params.push((String::from_str(alloc, name)?, cell(alloc, value)?))?;
+    }
+    Ok(params)
+}
+
+fn writes(alloc: Global, named: Named) -> Result<Vec<Write>, AllocError> {
     let mut writes = Vec::new(alloc);
-    for (key, value) in pairs {
-        writes.push(Write {
-            key: String::from_str(alloc, key)?,
-            value: Cell::Int(*value),
-        })?;
+    for (key, value) in params(alloc, named)? {
+        writes.push(Write { key, value })?;
     }
     Ok(writes)
 }
 
-fn param(alloc: Global, name: &str, value: Cell) -> Result<Vec<(String, Cell)>, AllocError> {
-    let mut params = Vec::new(alloc);
-    params.push((String::from_str(alloc, name)?, value))?;
-    Ok(params)
+/// Nodes 1 and 2, relationship 7 and two indices of 1.
+fn is_path(cell: &Cell) -> bool {
+    let Cell::Path {
+        nodes,
+        relationships,
+        indices,
+    } = cell
+    else {
+        return false;
+    };
+    match (nodes.as_slice(), relationships.as_slice()) {
+        ([first, second], [walked]) => {
+            let ids = [first.id, second.id, walked.id];
+            ids == [1, 2, 7] && indices.as_slice() == [1, 1].as_slice()
+        }
+        _ => false,
+    }
 }
 
-fn key_param(alloc: Global, key: &str) -> Result<Vec<(String, Cell)>, AllocError> {
-    param(alloc, "key", text(alloc, key)?)
+fn is_cell(cell: &Cell, wanted: &Plain) -> bool {
+    match (cell, wanted) {
+        (Cell::Int(held), Int(n)) => held == n,
+        (Cell::Text(held), Text(text)) => held.as_str() == *text,
+        (_, Path) => is_path(cell),
+        _ => false,
+    }
 }
 
-/// Entries that put b 1, a 2 and b 3.
-fn three_puts(alloc: Global) -> Result<FixedTable, AllocError> {
-    let mut table = FixedTable::new(alloc);
-    for (key, value) in [("b", 1), ("a", 2), ("b", 3)] {
-        let id = EntryId {
-            conn: 0,
-            ordinal: 0,
-        };
-        if table.commit(id, write(alloc, key, value)?).is_err() {
-            return Err(AllocError);
+/// Whether the answer reads one column of this name and these values.
+fn reads(answer: &Answer, name: &str, values: &[Plain]) -> bool {
+    let [field] = answer.fields.as_slice() else {
+        return false;
+    };
+    if field.as_str() != name || answer.rows.len() != values.len() {
+        return false;
+    }
+    for (row, value) in answer.rows.iter().zip(values) {
+        match row.as_slice() {
+            [cell] if is_cell(cell, value) => {}
+            _ => return false,
         }
     }
-    Ok(table)
+    answer.write.is_none() && answer.mode == Mode::Read
 }
 
-fn is_int(cell: &Cell, n: i64) -> bool {
-    match cell {
-        Cell::Int(held) => *held == n,
-        _ => false,
-    }
-}
-
-fn is_text(cell: &Cell, text: &str) -> bool {
-    match cell {
-        Cell::Text(held) => held.as_str() == text,
-        _ => false,
-    }
-}
-
-/// Whether the answer reads one column of this name and these numbers.
-fn reads_numbers(answer: &Answer, name: &str, numbers: &[i64]) -> bool {
-    if !reads_column(answer, name) || answer.rows.len() != numbers.len() {
+/// Whether the answer has nothing but a write, of which a copy has 1 for the key `a`.
+fn puts_one(answer: &Answer) -> bool {
+    let Some(write) = &answer.write else {
         return false;
-    }
-    answer
-        .rows
-        .iter()
-        .zip(numbers)
-        .all(|(row, n)| row.iter().all(|cell| is_int(cell, *n)))
-}
-
-/// Whether the answer reads one column of this name and these texts.
-fn reads_texts(answer: &Answer, name: &str, texts: &[&str]) -> bool {
-    if !reads_column(answer, name) || answer.rows.len() != texts.len() {
-        return false;
-    }
-    answer
-        .rows
-        .iter()
-        .zip(texts)
-        .all(|(row, text)| row.iter().all(|cell| is_text(cell, text)))
-}
-
-fn reads_column(answer: &Answer, name: &str) -> bool {
-    let wide = answer.rows.iter().all(|row| row.len() == 1);
-    let named = answer.fields.iter().all(|field| field.as_str() == name);
-    wide && named && answer.fields.len() == 1 && answer.write.is_none() && answer.mode == Mode::Read
-}
-
-fn fault_of(answer: Result<Answer, EngineFault>) -> Option<EngineFault> {
-    match answer {
-        Ok(_) => None,
-        Err(fault) => Some(fault),
-    }
-}
-
-/// Whether KEYS reads these keys.
-fn keys_are(
-    table: &FixedTable,
-    own: &[Write],
-    mode: Mode,
-    keys: &[&str],
-) -> Result<bool, EngineFault> {
-    let answer = table.run(own, "KEYS", &[], mode)?;
-    Ok(reads_texts(&answer, "key", keys))
-}
-
-/// Whether KEYS reads these keys where one more is put in the same transaction.
-fn keys_with(alloc: Global, table: &FixedTable, own: &str, keys: &[&str]) -> Result<bool, Fail> {
-    let own = write(alloc, own, 4)?;
-    Ok(keys_are(table, &own, Mode::Write, keys)?)
-}
-
-/// Whether a query reads one column of this name and these numbers.
-fn numbers_are(
-    table: &FixedTable,
-    query: &str,
-    params: &[(String, Cell)],
-    name: &str,
-    numbers: &[i64],
-) -> Result<bool, EngineFault> {
-    let answer = table.run(&[], query, params, Mode::Read)?;
-    Ok(reads_numbers(&answer, name, numbers))
-}
-
-/// Whether GET of a key reads these numbers.
-fn gets(alloc: Global, table: &FixedTable, key: &str, numbers: &[i64]) -> Result<bool, Fail> {
-    let params = key_param(alloc, key)?;
-    Ok(numbers_are(table, "GET", &params, "value", numbers)?)
-}
-
-/// Whether ROWS of n reads these numbers.
-fn rows_are(alloc: Global, table: &FixedTable, n: i64, numbers: &[i64]) -> Result<bool, Fail> {
-    let params = param(alloc, "n", Cell::Int(n))?;
-    Ok(numbers_are(table, "ROWS", &params, "i", numbers)?)
-}
-
-/// How many rows ROWS of n reads.
-fn row_count(alloc: Global, table: &FixedTable, n: i64) -> Result<usize, Fail> {
-    let params = param(alloc, "n", Cell::Int(n))?;
-    Ok(table.run(&[], "ROWS", &params, Mode::Read)?.rows.len())
-}
-
-/// What ROWS of n is refused for.
-fn rows_fault(alloc: Global, n: i64) -> Result<Option<EngineFault>, Fail> {
-    let params = param(alloc, "n", Cell::Int(n))?;
-    let table = FixedTable::new(alloc);
-    Ok(fault_of(table.run(&[], "ROWS", &params, Mode::Read)))
-}
-
-/// Whether ECHO of a text sends it back.
-fn echoes(alloc: Global, table: &FixedTable, sent: &str) -> Result<bool, Fail> {
-    let x = param(alloc, "x", text(alloc, sent)?)?;
-    let echo = table.run(&[], "ECHO", &x, Mode::Read)?;
-    Ok(reads_texts(&echo, "x", &[sent]))
-}
-
-/// Whether WALK reads one column of the one path.
-fn walks(table: &FixedTable) -> Result<bool, EngineFault> {
-    let walk = table.run(&[], "WALK", &[], Mode::Read)?;
-    Ok(reads_column(&walk, "p") && walk.rows.iter().all(|row| row.iter().all(is_walk)))
-}
-
-#[test]
-fn keys_and_values(rt: HostRuntime) -> Result<(), Fail> {
-    let table = three_puts(rt.alloc())?;
-    assert!(rt; keys_are(&table, &[], Mode::Read, &["b", "a"])?);
-    assert!(rt; gets(rt.alloc(), &table, "b", &[3])?);
-    Ok(())
-}
-
-#[test]
-fn own_writes(rt: HostRuntime) -> Result<(), Fail> {
-    let table = three_puts(rt.alloc())?;
-    assert!(rt; keys_with(rt.alloc(), &table, "c", &["b", "a", "c"])?);
-    assert!(rt; gets(rt.alloc(), &table, "c", &[])?);
-    assert!(rt; table.ledger().len() == 3);
-    Ok(())
-}
-
-/// Whether the pair at a place has this key and number.
-fn is_pair(pairs: &IndexMap<String, Cell>, place: usize, key: &str, n: i64) -> bool {
-    match pairs.get_index(place) {
-        Some((held, value)) => held.as_str() == key && is_int(value, n),
-        None => false,
-    }
-}
-
-#[test]
-fn key_twice_in_a_commit(rt: HostRuntime) -> Result<(), Fail> {
-    let alloc = rt.alloc();
-    let mut table = FixedTable::new(alloc);
-    let id = EntryId {
-        conn: 0,
-        ordinal: 4,
     };
-    let len = table.commit(id, puts(alloc, &[("a", 1), ("b", 2), ("a", 3)])?);
-    assert!(rt; matches!(len, Ok(1)));
+    let Ok(copy) = write.clone() else {
+        return false;
+    };
+    let is_one = copy.key.as_str() == "a" && is_cell(&copy.value, &Int(1));
+    is_one && answer.fields.is_empty() && answer.rows.is_empty() && answer.mode == Mode::Write
+}
+
+fn is_told(answer: &Result<Answer, EngineFault>, told: &Told) -> bool {
+    match (answer, told) {
+        (Ok(answer), Column(name, values)) => reads(answer, name, values),
+        (Ok(answer), Rows(count)) => answer.rows.len() == *count,
+        (Ok(answer), PutsOne) => puts_one(answer),
+        (Err(fault), Refused(wanted)) => fault == wanted,
+        _ => false,
+    }
+}
+
+fn has_pairs(table: &FixedTable, wanted: Named) -> bool {
     let pairs = table.pairs();
-    assert!(rt; pairs.len() == 2 && is_pair(pairs, 0, "a", 3) && is_pair(pairs, 1, "b", 2));
-    Ok(())
-}
-
-#[test]
-fn commit_of_no_writes(rt: HostRuntime) -> Result<(), Fail> {
-    let alloc = rt.alloc();
-    let mut table = three_puts(alloc)?;
-    let id = EntryId {
-        conn: 1,
-        ordinal: 7,
-    };
-    let len = table.commit(id, Vec::new(alloc));
-    assert!(rt; matches!(len, Ok(4)));
-    assert!(rt; table.ledger().len() == 4);
-    Ok(())
-}
-
-#[test]
-fn rows(rt: HostRuntime) -> Result<(), Fail> {
-    let alloc = rt.alloc();
-    let table = FixedTable::new(alloc);
-    assert!(rt; rows_are(alloc, &table, 3, &[1, 2, 3])?);
-    assert!(rt; rows_are(alloc, &table, 0, &[])?);
-    assert!(rt; row_count(alloc, &table, 1024)? == 1024);
-    Ok(())
-}
-
-#[test]
-fn bad_counts(rt: HostRuntime) -> Result<(), Fail> {
-    let alloc = rt.alloc();
-    assert!(rt; rows_fault(alloc, 1025)? == Some(EngineFault::TooManyRows));
-    assert!(rt; rows_fault(alloc, -1)? == Some(EngineFault::Parameter));
-    Ok(())
-}
-
-#[test]
-fn faults_in_order(rt: HostRuntime) {
-    let table = FixedTable::new(rt.alloc());
-    for (query, mode, fault) in [
-        ("PUT", Mode::Read, EngineFault::ReadOnly),
-        ("PUT", Mode::Write, EngineFault::Parameter),
-        ("NOPE", Mode::Read, EngineFault::UnknownText),
-        ("ROWS", Mode::Read, EngineFault::Parameter),
-    ] {
-        assert!(rt; fault_of(table.run(&[], query, &[], mode)) == Some(fault));
+    for (place, (key, value)) in wanted.iter().enumerate() {
+        match pairs.get_index(place) {
+            Some((held, cell)) if held.as_str() == *key && is_cell(cell, value) => {}
+            _ => return false,
+        }
     }
+    pairs.len() == wanted.len()
+}
+
+/// Whether a call of the table tells what it should.
+fn is_so(alloc: Global, table: &mut FixedTable, step: &Step) -> Result<bool, AllocError> {
+    match step {
+        Commits(id, named, len) => {
+            let told = table.commit(*id, writes(alloc, named)?);
+            Ok(matches!(told, Ok(told) if told == *len))
+        }
+        Entries(count) => Ok(table.ledger().len() == *count),
+        Pairs(named) => Ok(has_pairs(table, named)),
+        Asks(own, query, named, mode, told) => {
+            let own = writes(alloc, own)?;
+            let params = params(alloc, named)?;
+            Ok(is_told(&table.run(&own, query, &params, *mode), told))
+        }
+        CommitsAndGets(own, named, told) => {
+            let params = params(alloc, named)?;
+            match commit_and_get(table, CALLER, writes(alloc, own)?, &params) {
+                Ok(answer) => Ok(is_told(&answer, told)),
+                Err(_) => Ok(false),
+            }
+        }
+        CommitsAndRuns(told) => {
+            match commit_and_run(table, CALLER, Vec::new(alloc), "KEYS", &[], Mode::Read) {
+                Ok(answer) => Ok(is_told(&answer, told)),
+                Err(_) => Ok(false),
+            }
+        }
+    }
+}
+
+#[test]
+fn a_table_answers(rt: HostRuntime) -> Result<(), Fail> {
+    for (name, before, steps) in ASKED {
+        let mut table = FixedTable::new(rt.alloc());
+        for (place, step) in before.iter().chain(*steps).enumerate() {
+            assert!(rt;
+                is_so(rt.alloc(), &mut table, step)?,
+                "{name}: step {place}"
+            );
+        }
+    }
+    Ok(())
 }
 
 #[test]
@@ -262,113 +370,28 @@ fn too_many_keys(rt: HostRuntime) -> Result<(), Fail> {
             value: Cell::Null,
         })?;
     }
-    let table = FixedTable::new(alloc);
-    let told = fault_of(table.run(&own, "KEYS", &[], Mode::Read));
-    assert!(rt; told == Some(EngineFault::TooManyRows));
+    let answer = FixedTable::new(alloc).run(&own, "KEYS", &[], Mode::Read);
+    assert!(rt; is_told(&answer, &Refused(EngineFault::TooManyRows)));
     Ok(())
 }
 
-#[test]
-fn values_in_and_out(rt: HostRuntime) -> Result<(), Fail> {
-    let table = FixedTable::new(rt.alloc());
-    assert!(rt; numbers_are(&table, "ONE", &[], "one", &[1])?);
-    assert!(rt; echoes(rt.alloc(), &table, "hi")?);
-    assert!(rt; walks(&table)?);
-    Ok(())
-}
+/// What is given to a gate of `user` and `pass`, and whether it is accepted.
+const GIVEN: &[(&str, &str, bool)] = &[
+    ("user", "pass", true),
+    ("user", "bad", false),
+    ("other", "pass", false),
+];
 
-/// The parameters of a PUT.
-fn put_params(alloc: Global, key: &str, value: i64) -> Result<Vec<(String, Cell)>, AllocError> {
-    let mut params = key_param(alloc, key)?;
-    params.push((String::from_str(alloc, "value")?, Cell::Int(value)))?;
-    Ok(params)
-}
-
-fn reads_nothing(answer: &Answer) -> bool {
-    answer.fields.is_empty() && answer.rows.is_empty()
-}
-
-/// Whether a copy of what the answer writes has this key and number.
-fn writes(answer: &Answer, key: &str, value: i64) -> Result<bool, AllocError> {
-    let Some(write) = &answer.write else {
-        return Ok(false);
-    };
-    let copy = write.clone()?;
-    Ok(copy.key.as_str() == key && is_int(&copy.value, value))
-}
-
-#[test]
-fn put(rt: HostRuntime) -> Result<(), Fail> {
-    let table = FixedTable::new(rt.alloc());
-    let params = put_params(rt.alloc(), "a", 1)?;
-    let put = table.run(&[], "PUT", &params, Mode::Write)?;
-    assert!(rt; reads_nothing(&put) && put.mode == Mode::Write);
-    assert!(rt; writes(&put, "a", 1)?);
-    Ok(())
-}
-
-/// Nodes 1 and 2, relationship 7 and two indices of 1.
-fn is_walk(cell: &Cell) -> bool {
-    match cell {
-        Cell::Path {
-            nodes,
-            relationships,
-            indices,
-        } => {
-            nodes.iter().map(|node| node.id).eq([1, 2])
-                && relationships.iter().map(|r| r.id).eq([7])
-                && indices.as_slice() == [1, 1].as_slice()
-        }
-        _ => false,
-    }
-}
-
-/// What a commit and a GET of the same key say, whether the GET reads these numbers.
-fn commits_and_gets(
-    alloc: Global,
-    table: &mut FixedTable,
-    writes: Vec<Write>,
-    numbers: &[i64],
-) -> Result<bool, Fail> {
-    let params = key_param(alloc, "a")?;
-    match commit_and_get(table, CALLER, writes, &params) {
-        Ok(Ok(got)) => Ok(reads_numbers(&got, "value", numbers)),
-        _ => Err(Fail::from("no memory")),
-    }
-}
-
-const CALLER: EntryId = EntryId {
-    conn: 1,
-    ordinal: 3,
-};
-
-/// Whether a commit of no writes and KEYS after it are both answered.
-fn commits_and_runs(alloc: Global, table: &mut FixedTable) -> bool {
-    let keys = commit_and_run(table, CALLER, Vec::new(alloc), "KEYS", &[], Mode::Read);
-    matches!(keys, Ok(Ok(_)))
-}
-
-#[test]
-fn callers(rt: HostRuntime) -> Result<(), Fail> {
-    let alloc = rt.alloc();
-    let mut table = three_puts(alloc)?;
-    assert!(rt; commits_and_gets(alloc, &mut table, write(alloc, "a", 5)?, &[5])?);
-    assert!(rt; commits_and_runs(alloc, &mut table));
-    Ok(())
-}
-
+/// The gate prints its principal, and no credentials.
 #[test]
 fn one_user(rt: HostRuntime) -> Result<(), Fail> {
     let gate = OneUser::new(rt.alloc(), "user", "pass")?;
-    assert!(rt; gate.check("user", "pass"));
-    assert!(rt; !gate.check("user", "bad"));
-    assert!(rt; !gate.check("other", "pass"));
-    Ok(())
-}
-
-#[test]
-fn one_user_prints_no_credentials(rt: HostRuntime) -> Result<(), Fail> {
-    let gate = OneUser::new(rt.alloc(), "user", "pass")?;
+    for (principal, credentials, accepted) in GIVEN {
+        assert!(rt;
+            gate.check(principal, credentials) == *accepted,
+            "{principal}: {credentials}"
+        );
+    }
     let printed = format!(in rt.alloc(); "{gate:?}")?;
     assert!(rt; printed.as_str() == "OneUser { principal: \"user\", .. }");
     Ok(())

@@ -7,4 +7,6 @@ mod machine_tests;
 #[cfg(test)]
 mod messages_tests;
 #[cfg(test)]
+mod texts_tests;
+#[cfg(test)]
 mod wire_tests;

@@ -1,6 +1,5 @@
 use machine::{Kind, Phase, PhaseSet, State, Verdict, after, allowed, kind, phase, row};
 use messages::{Count, Request};
-use std::test::Fail;
 use wire::Version;
 
 const ALL: [Phase; 8] = [
@@ -14,22 +13,26 @@ const ALL: [Phase; 8] = [
     Phase::Defunct,
 ];
 
-/// The set has these phases and no others.
+/// Whether the set has these phases and no others.
 fn is_set(set: PhaseSet, phases: &[Phase]) -> bool {
-    ALL.iter()
-        .all(|p| set.has(*p) == phases.iter().any(|q| q == p))
+    for phase in ALL {
+        if set.has(phase) != phases.contains(&phase) {
+            return false;
+        }
+    }
+    true
 }
 
 fn set(phases: &[Phase]) -> PhaseSet {
     let mut all = PhaseSet::empty();
-    for p in phases {
-        all = all.union(PhaseSet::of(*p));
+    for phase in phases {
+        all = all.union(PhaseSet::of(*phase));
     }
     all
 }
 
 #[test]
-fn what_may_follow(rt: HostRuntime) -> Result<(), Fail> {
+fn what_may_follow(rt: HostRuntime) {
     let hello = Request::Hello {
         agent: String::new(rt.alloc()),
         auth: None,
@@ -57,82 +60,96 @@ fn what_may_follow(rt: HostRuntime) -> Result<(), Fail> {
         ),
     ];
     for (from, request, expected) in &cases {
-        assert!(rt; is_set(after(Version::V51, PhaseSet::of(*from), request), expected));
+        let set = after(Version::V51, PhaseSet::of(*from), request);
+        assert!(rt; is_set(set, expected), "at {request:?}");
     }
-    Ok(())
 }
 
+/// Phases that a connection may be in, a kind of request, and whether it is allowed.
+const ALLOWED: &[(Version, &[Phase], Kind, bool)] = &[
+    (
+        Version::V51,
+        &[Phase::Ready, Phase::Streaming, Phase::Halted],
+        Kind::Run,
+        false,
+    ),
+    (
+        Version::V51,
+        &[Phase::Ready, Phase::Halted],
+        Kind::Run,
+        true,
+    ),
+    (Version::V51, &[Phase::Defunct], Kind::Goodbye, false),
+    (Version::V51, &[Phase::Unauth], Kind::Reset, false),
+    (Version::V44, &[Phase::Halted], Kind::Logon, false),
+];
+
 #[test]
-fn what_is_allowed(rt: HostRuntime) -> Result<(), Fail> {
-    let part = after(
-        Version::V51,
-        PhaseSet::of(Phase::Streaming),
-        &Request::Pull(Count::Of(2)),
-    );
-    let whole = after(
-        Version::V51,
-        PhaseSet::of(Phase::Streaming),
-        &Request::Pull(Count::All),
-    );
-    let logged_off = after(Version::V51, PhaseSet::of(Phase::Ready), &Request::Logoff);
-    let cases = [
+fn what_is_allowed(rt: HostRuntime) {
+    for (version, phases, kind, expected) in ALLOWED {
+        let told = allowed(*version, set(phases), *kind);
+        assert!(rt; told == *expected, "at {phases:?}, {kind:?}");
+    }
+    let waiting = [
+        // a RUN while a PULL waits, of two rows and of all
         (
-            set(&[Phase::Ready, Phase::Streaming, Phase::Halted]),
+            Phase::Streaming,
+            Request::Pull(Count::Of(2)),
             Kind::Run,
             false,
         ),
-        (set(&[Phase::Ready, Phase::Halted]), Kind::Run, true),
-        (set(&[Phase::Defunct]), Kind::Goodbye, false),
-        (set(&[Phase::Unauth]), Kind::Reset, false),
-        // a RUN while a PULL waits, of two rows and of all
-        (part, Kind::Run, false),
-        (whole, Kind::Run, true),
+        (Phase::Streaming, Request::Pull(Count::All), Kind::Run, true),
         // a RESET while a LOGOFF waits
-        (logged_off, Kind::Reset, false),
+        (Phase::Ready, Request::Logoff, Kind::Reset, false),
     ];
-    for (phases, kind, expected) in cases {
-        assert_eq!(rt; allowed(Version::V51, phases, kind), expected);
+    for (from, request, kind, expected) in &waiting {
+        let set = after(Version::V51, PhaseSet::of(*from), request);
+        let told = allowed(Version::V51, set, *kind);
+        assert!(rt; told == *expected, "at {request:?}, {kind:?}");
     }
-    assert!(rt; !allowed(Version::V44, PhaseSet::of(Phase::Halted), Kind::Logon));
-    Ok(())
 }
 
+/// Rows of the table of states.
+const ROWS: &[(Version, State, Kind, Verdict, Option<State>)] = &[
+    (
+        Version::V51,
+        State::Fresh,
+        Kind::Hello,
+        Verdict::Success,
+        Some(State::Unauth),
+    ),
+    (
+        Version::V44,
+        State::Fresh,
+        Kind::Hello,
+        Verdict::Success,
+        Some(State::Ready),
+    ),
+    (
+        Version::V51,
+        State::Failed,
+        Kind::Commit,
+        Verdict::Ignored,
+        Some(State::Failed),
+    ),
+    (
+        Version::V51,
+        State::Failed,
+        Kind::Commit,
+        Verdict::Success,
+        None,
+    ),
+];
+
 #[test]
-fn rows_of_the_table(rt: HostRuntime) -> Result<(), Fail> {
-    let cases = [
-        (
-            Version::V51,
-            State::Fresh,
-            Kind::Hello,
-            Verdict::Success,
-            Some(State::Unauth),
-        ),
-        (
-            Version::V44,
-            State::Fresh,
-            Kind::Hello,
-            Verdict::Success,
-            Some(State::Ready),
-        ),
-        (
-            Version::V51,
-            State::Failed,
-            Kind::Commit,
-            Verdict::Ignored,
-            Some(State::Failed),
-        ),
-        (
-            Version::V51,
-            State::Failed,
-            Kind::Commit,
-            Verdict::Success,
-            None,
-        ),
-    ];
-    for (version, state, kind, verdict, expected) in cases {
-        assert_eq!(rt; row(version, state, kind, verdict), expected);
+fn rows_of_the_table(rt: HostRuntime) {
+    for (version, state, kind, verdict, expected) in ROWS {
+        let told = row(*version, *state, *kind, *verdict);
+        assert!(rt;
+            told == *expected,
+            "at {version:?}, {state:?}, {kind:?}, {verdict:?}"
+        );
     }
-    assert_eq!(rt; phase(State::Interrupted), Phase::Halted);
-    assert_eq!(rt; kind(&Request::Pull(Count::Of(2))), Kind::Pull);
-    Ok(())
+    assert!(rt; phase(State::Interrupted) == Phase::Halted);
+    assert!(rt; kind(&Request::Pull(Count::Of(2))) == Kind::Pull);
 }

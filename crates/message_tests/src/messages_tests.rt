@@ -2,7 +2,6 @@ use bytes::BytesMut;
 use messages::*;
 use packstream::decode;
 use std::alloc::Global;
-use std::process::Abort;
 use std::test::*;
 use structures::{Cell, read};
 use wire::Version;
@@ -48,14 +47,10 @@ const WALK_NEW: &[u8] = &[
 const PUT_PARAMS: &[u8] = &[
     0xA2, 0x83, 0x6B, 0x65, 0x79, 0x81, 0x61, 0x85, 0x76, 0x61, 0x6C, 0x75, 0x65, 0x01,
 ];
-
-/// The code of what reading a request answers.
-fn asked(alloc: Global, version: Version, bytes: &[u8]) -> &'static str {
-    match read_request(alloc, version, bytes) {
-        Ok(_) => "read",
-        Err(fault) => code(&fault),
-    }
-}
+/// RUN whose one parameter is a structure of an unknown tag.
+const RUN_OF_UNKNOWN_CELL: &[u8] = &[
+    0xB3, 0x10, 0x83, 0x4F, 0x4E, 0x45, 0xA1, 0x81, 0x61, 0xB1, 0x5A, 0x00, 0xA0,
+];
 
 fn code(fault: &MsgFault) -> &'static str {
     match fault {
@@ -70,91 +65,67 @@ fn code(fault: &MsgFault) -> &'static str {
     }
 }
 
-fn is_written(rt: &(impl Abort + AllocGlobal), version: Version, request: &Request, text: &[u8]) {
-    let mut out = BytesMut::new(rt.alloc());
-    assert!(rt; write_request(version, request, &mut out).is_ok());
-    assert_eq!(rt; out.as_slice(), text);
-}
-
-fn is_unwritten(rt: &(impl Abort + AllocGlobal), version: Version, request: &Request, told: &str) {
-    let mut out = BytesMut::new(rt.alloc());
-    match write_request(version, request, &mut out) {
-        Ok(()) => assert!(rt; false),
-        Err(fault) => assert_eq!(rt; code(&fault), told),
-    }
-    assert!(rt; out.is_empty());
-}
-
-/// A copy of the request is written as these bytes.
-fn is_copied(rt: &(impl Abort + AllocGlobal), version: Version, request: &Request, bytes: &[u8]) {
-    match request.clone() {
-        Ok(copy) => is_written(rt, version, &copy, bytes),
-        Err(_) => assert!(rt; false),
-    }
-}
-
-/// A request that is read is written back.
-fn again(rt: &(impl Abort + AllocGlobal), version: Version, bytes: &[u8]) {
-    match read_request(rt.alloc(), version, bytes) {
-        Ok(request) => is_copied(rt, version, &request, bytes),
-        Err(_) => assert!(rt; false),
-    }
-}
-
-fn answered_again(rt: &(impl Abort + AllocGlobal), version: Version, bytes: &[u8]) {
-    let mut out = BytesMut::new(rt.alloc());
-    match read_response(rt.alloc(), version, bytes) {
-        Ok(response) => {
-            assert!(rt; write_response(version, &response, &mut out).is_ok());
-        }
-        Err(_) => assert!(rt; false),
-    }
-    assert_eq!(rt; out.as_slice(), bytes);
+fn is_written(alloc: Global, version: Version, request: &Request, text: &[u8]) -> bool {
+    let mut out = BytesMut::new(alloc);
+    write_request(version, request, &mut out).is_ok() && out.as_slice() == text
 }
 
 #[test]
-fn written_requests(rt: HostRuntime) {
-    let v51 = Version::V51;
-    let pull = [0xB1, 0x3F, 0xA1, 0x81, 0x6E, 0xFF];
-    is_written(&rt, v51, &Request::Pull(Count::All), &pull);
-    let discard = [0xB1, 0x2F, 0xA1, 0x81, 0x6E, 0x05];
-    is_written(&rt, v51, &Request::Discard(Count::Of(5)), &discard);
-    is_written(&rt, v51, &Request::Begin(Mode::Write), &[0xB1, 0x11, 0xA0]);
-    let begin = [0xB1, 0x11, 0xA1, 0x84, 0x6D, 0x6F, 0x64, 0x65, 0x81, 0x72];
-    is_written(&rt, v51, &Request::Begin(Mode::Read), &begin);
-}
-
-#[test]
-fn written_requests_without_fields(rt: HostRuntime) {
-    let v51 = Version::V51;
-    is_written(&rt, v51, &Request::Reset, &[0xB0, 0x0F]);
-    is_written(&rt, v51, &Request::Goodbye, &[0xB0, 0x02]);
-    is_written(&rt, v51, &Request::Commit, &[0xB0, 0x12]);
-    is_written(&rt, v51, &Request::Rollback, &[0xB0, 0x13]);
-    is_written(&rt, v51, &Request::Logoff, &[0xB0, 0x6B]);
-}
-
-#[test]
-fn a_written_run(rt: HostRuntime) -> Result<(), Fail> {
+fn written_requests(rt: HostRuntime) -> Result<(), Fail> {
     let run = Request::Run {
         text: String::from_str(rt.alloc(), "ONE")?,
         params: Vec::new(rt.alloc()),
         mode: Mode::Write,
     };
-    let text = [0xB3, 0x10, 0x83, 0x4F, 0x4E, 0x45, 0xA0, 0xA0];
-    is_written(&rt, Version::V51, &run, &text);
+    let requests = [
+        (
+            Request::Pull(Count::All),
+            [0xB1, 0x3F, 0xA1, 0x81, 0x6E, 0xFF].as_slice(),
+        ),
+        (
+            Request::Discard(Count::Of(5)),
+            &[0xB1, 0x2F, 0xA1, 0x81, 0x6E, 0x05],
+        ),
+        (Request::Begin(Mode::Write), &[0xB1, 0x11, 0xA0]),
+        (
+            Request::Begin(Mode::Read),
+            &[0xB1, 0x11, 0xA1, 0x84, 0x6D, 0x6F, 0x64, 0x65, 0x81, 0x72],
+        ),
+        (Request::Reset, &[0xB0, 0x0F]),
+        (Request::Goodbye, &[0xB0, 0x02]),
+        (Request::Commit, &[0xB0, 0x12]),
+        (Request::Rollback, &[0xB0, 0x13]),
+        (Request::Logoff, &[0xB0, 0x6B]),
+        (run, &[0xB3, 0x10, 0x83, 0x4F, 0x4E, 0x45, 0xA0, 0xA0]),
+    ];
+    for (request, text) in &requests {
+        assert!(rt;
+            is_written(rt.alloc(), Version::V51, request, text),
+            "at {request:?}"
+        );
+    }
     Ok(())
+}
+
+/// Whether writing the request tells the fault of this code, and appends nothing.
+fn is_unwritten(alloc: Global, version: Version, request: &Request, told: &str) -> bool {
+    let mut out = BytesMut::new(alloc);
+    match write_request(version, request, &mut out) {
+        Ok(()) => false,
+        Err(fault) => code(&fault) == told && out.is_empty(),
+    }
 }
 
 #[test]
 fn unwritten_requests(rt: HostRuntime) -> Result<(), Fail> {
-    is_unwritten(&rt, Version::V44, &Request::Logoff, "M3");
-    is_unwritten(&rt, Version::V51, &Request::Pull(Count::Of(0)), "M5");
+    let alloc = rt.alloc();
+    assert!(rt; is_unwritten(alloc, Version::V44, &Request::Logoff, "M3"));
+    assert!(rt; is_unwritten(alloc, Version::V51, &Request::Pull(Count::Of(0)), "M5"));
     let hello = Request::Hello {
-        agent: String::from_str(rt.alloc(), "t/1")?,
+        agent: String::from_str(alloc, "t/1")?,
         auth: None,
     };
-    is_unwritten(&rt, Version::V44, &hello, "M5");
+    assert!(rt; is_unwritten(alloc, Version::V44, &hello, "M5"));
     Ok(())
 }
 
@@ -191,13 +162,7 @@ const READ_REQUESTS: &[(Version, &[u8], &str)] = &[
         &[0xB1, 0x11, 0xA1, 0x84, 0x6D, 0x6F, 0x64, 0x65, 0x01],
         "M5",
     ),
-    (
-        Version::V51,
-        &[
-            0xB3, 0x10, 0x83, 0x4F, 0x4E, 0x45, 0xA1, 0x81, 0x61, 0xB1, 0x5A, 0x00, 0xA0,
-        ],
-        "M6",
-    ),
+    (Version::V51, RUN_OF_UNKNOWN_CELL, "M6"),
     (Version::V51, &[0xB0, 0x0F, 0x00], "M1"),
     (
         Version::V51,
@@ -211,77 +176,75 @@ const READ_REQUESTS: &[(Version, &[u8], &str)] = &[
     (Version::V51, LOGON_OF_USER, "read"),
 ];
 
-#[test]
-fn read_requests(rt: HostRuntime) {
-    for (version, bytes, told) in READ_REQUESTS {
-        assert_eq!(rt; asked(rt.alloc(), *version, bytes), *told);
+/// Requests whose copies are written as they were read.
+const AGAIN: &[(Version, &[u8])] = &[(Version::V44, HELLO_OF_USER), (Version::V51, LOGON_OF_USER)];
+
+/// Whether a copy of the request that is read is written as the same bytes.
+fn is_again(alloc: Global, version: Version, bytes: &[u8]) -> Result<bool, Fail> {
+    let request = read_request(alloc, version, bytes)?;
+    let copy = request.clone()?;
+    Ok(is_written(alloc, version, &copy, bytes))
+}
+
+/// The code of what reading a request answers.
+fn asked(alloc: Global, version: Version, bytes: &[u8]) -> &'static str {
+    match read_request(alloc, version, bytes) {
+        Ok(_) => "read",
+        Err(fault) => code(&fault),
     }
-    again(&rt, Version::V44, HELLO_OF_USER);
-    again(&rt, Version::V51, LOGON_OF_USER);
+}
+
+#[test]
+fn read_requests(rt: HostRuntime) -> Result<(), Fail> {
+    for (version, bytes, told) in READ_REQUESTS {
+        assert!(rt; asked(rt.alloc(), *version, bytes) == *told, "at {bytes:?}");
+    }
+    for (version, bytes) in AGAIN {
+        assert!(rt; is_again(rt.alloc(), *version, bytes)?, "at {bytes:?}");
+    }
+    Ok(())
 }
 
 #[test]
 fn the_fault_of_a_cell(rt: HostRuntime) {
-    match read_request(
-        rt.alloc(),
-        Version::V51,
-        &[
-            0xB3, 0x10, 0x83, 0x4F, 0x4E, 0x45, 0xA1, 0x81, 0x61, 0xB1, 0x5A, 0x00, 0xA0,
-        ],
-    ) {
-        Err(MsgFault::Cell(reason, number)) => {
-            assert!(rt; reason == structures::Reason::UnknownTag);
-            assert_eq!(rt; number, 0);
-        }
-        _ => assert!(rt; false),
-    }
+    let told = read_request(rt.alloc(), Version::V51, RUN_OF_UNKNOWN_CELL);
+    let unknown = structures::Reason::UnknownTag;
+    assert!(rt; matches!(&told, Err(MsgFault::Cell(reason, 0)) if *reason == unknown));
+}
+
+/// Responses that are written as they were read.
+const RESPONSES: &[(Version, &[u8])] = &[
+    (Version::V51, FIELDS_OF_ROWS),
+    (Version::V51, UNKNOWN_TEXT),
+    (Version::V44, WALK_OLD),
+    (Version::V51, WALK_NEW),
+    (Version::V51, &[0xB0, 0x7E]),
+];
+
+/// Whether the response that is read is written as the same bytes.
+fn is_answered_again(alloc: Global, version: Version, bytes: &[u8]) -> bool {
+    let Ok(response) = read_response(alloc, version, bytes) else {
+        return false;
+    };
+    let mut out = BytesMut::new(alloc);
+    write_response(version, &response, &mut out).is_ok() && out.as_slice() == bytes
 }
 
 #[test]
 fn responses(rt: HostRuntime) {
-    answered_again(&rt, Version::V51, FIELDS_OF_ROWS);
-    answered_again(&rt, Version::V51, UNKNOWN_TEXT);
-    answered_again(&rt, Version::V44, WALK_OLD);
-    answered_again(&rt, Version::V51, WALK_NEW);
-    answered_again(&rt, Version::V51, &[0xB0, 0x7E]);
-}
-
-/// Whether the bytes are read as a dictionary of so many pairs.
-fn reads_pairs(alloc: Global, bytes: &[u8], count: usize) -> bool {
-    let Ok(packed) = decode(alloc, bytes) else {
-        return false;
-    };
-    match read(alloc, Version::V51, &packed) {
-        Ok(Cell::Dict(pairs)) => pairs.len() == count,
-        _ => false,
+    for (version, bytes) in RESPONSES {
+        assert!(rt;
+            is_answered_again(rt.alloc(), *version, bytes),
+            "at {bytes:?}"
+        );
     }
 }
 
 #[test]
-fn parameters_are_a_value(rt: HostRuntime) {
-    assert!(rt; reads_pairs(rt.alloc(), PUT_PARAMS, 2));
-}
-
-#[test]
-fn texts_of_faults(rt: HostRuntime) -> Result<(), Fail> {
-    let faults = [
-        (MsgFault::Pack(packstream::Reason::Trailing, 2), "P7 at 2"),
-        (MsgFault::NotAMessage, "M2"),
-        (MsgFault::UnknownTag, "M3"),
-        (MsgFault::Fields, "M4"),
-        (MsgFault::Extra, "M5"),
-        (MsgFault::Cell(structures::Reason::Range, 1), "S4 at 1"),
-        (
-            MsgFault::CellPack(packstream::Reason::KeyTwice, 3),
-            "P5 at 3",
-        ),
-        (MsgFault::Memory, "out of memory"),
-        (MsgFault::Size, "M8"),
-    ];
-    for (fault, wanted) in faults {
-        let text = format!(in rt.alloc(); "{fault}")?;
-        assert_eq!(rt; text.as_str(), wanted);
-    }
+fn parameters_are_a_value(rt: HostRuntime) -> Result<(), Fail> {
+    let packed = decode(rt.alloc(), PUT_PARAMS)?;
+    let told = read(rt.alloc(), Version::V51, &packed);
+    assert!(rt; matches!(&told, Ok(Cell::Dict(pairs)) if pairs.len() == 2));
     Ok(())
 }
 

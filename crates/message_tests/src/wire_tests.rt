@@ -1,4 +1,4 @@
-// What no clause says: that the calls succeed with ample memory, the texts of faults, and examples by their bytes.
+// What no clause says: that the calls succeed with ample memory, and examples by their bytes.
 use bytes::{BufMut, BytesMut};
 use std::alloc::{AllocError, Global};
 use std::test::Fail;
@@ -7,108 +7,142 @@ use wire::{
     put_message, put_noop,
 };
 
-/// `00 00 00 01 B0 00 01 0F 00 00`: a no-op, then RESET in two chunks.
-const RESET: [u8; 10] = [0, 0, 0, 1, 0xB0, 0, 1, 0x0F, 0, 0];
-
-/// 5.1 and 4.4, and 4.4 alone.
-const NEWEST: [u8; 20] = [
-    0x60, 0x60, 0xB0, 0x17, 0, 0, 1, 5, 0, 0, 4, 4, 0, 0, 0, 0, 0, 0, 0, 0,
+/// Wishes, the offers of them, and the version that each is answered with.
+const OFFERS: &[(Wish, [u8; 20], Version)] = &[
+    (
+        Wish::Newest,
+        [
+            0x60, 0x60, 0xB0, 0x17, 0, 0, 1, 5, 0, 0, 4, 4, 0, 0, 0, 0, 0, 0, 0, 0,
+        ],
+        Version::V51,
+    ),
+    (
+        Wish::Only(Version::V44),
+        [
+            0x60, 0x60, 0xB0, 0x17, 0, 0, 4, 4, 0, 0, 0, 0, 0, 0, 0, 0, 0, 0, 0, 0,
+        ],
+        Version::V44,
+    ),
+    (
+        Wish::Only(Version::V51),
+        [
+            0x60, 0x60, 0xB0, 0x17, 0, 0, 1, 5, 0, 0, 0, 0, 0, 0, 0, 0, 0, 0, 0, 0,
+        ],
+        Version::V51,
+    ),
 ];
 
-const OLDEST: [u8; 20] = [
-    0x60, 0x60, 0xB0, 0x17, 0, 0, 4, 4, 0, 0, 0, 0, 0, 0, 0, 0, 0, 0, 0, 0,
+/// Offers of others, and their answers: the first proposal that covers a version is taken, and another protocol is told.
+const ANSWERS: &[([u8; 20], Result<Option<Version>, BadMagic>)] = &[
+    (
+        [
+            0x60, 0x60, 0xB0, 0x17, 0, 0, 0, 0, 0, 0, 0, 0, 0, 0, 0, 0, 0, 0, 0, 0,
+        ],
+        Ok(None),
+    ),
+    (
+        [
+            0x60, 0x60, 0xB0, 0x17, 0, 0, 0, 5, 0, 0, 4, 4, 0, 0, 0, 0, 0, 0, 0, 0,
+        ],
+        Ok(Some(Version::V44)),
+    ),
+    (
+        [
+            0x60, 0x60, 0xB0, 0x17, 0, 2, 1, 5, 0, 0, 4, 4, 0, 0, 0, 0, 0, 0, 0, 0,
+        ],
+        Ok(Some(Version::V51)),
+    ),
+    (
+        [
+            0x60, 0x60, 0xB0, 0x17, 1, 2, 1, 5, 0, 2, 6, 4, 0, 0, 0, 0, 0, 0, 0, 0,
+        ],
+        Ok(Some(Version::V44)),
+    ),
+    (
+        [
+            0x60, 0x60, 0xB0, 0x17, 0, 0, 0, 3, 0, 1, 6, 4, 0, 0, 0, 0, 0, 0, 0, 0,
+        ],
+        Ok(None),
+    ),
+    ([0; 20], Err(BadMagic)),
+    (
+        [
+            0x60, 0x60, 0xB0, 0x18, 0, 0, 4, 4, 0, 0, 0, 0, 0, 0, 0, 0, 0, 0, 0, 0,
+        ],
+        Err(BadMagic),
+    ),
 ];
 
 #[test]
-fn offers_by_their_bytes(rt: HostRuntime) {
-    assert_eq!(rt; offer(Wish::Newest), NEWEST);
-    assert_eq!(rt; offer(Wish::Only(Version::V44)), OLDEST);
-}
-
-#[test]
-fn chooses_of_its_own_offers(rt: HostRuntime) {
-    assert_eq!(rt; choose(&NEWEST), Ok(Some(Version::V51)));
-    assert_eq!(rt; choose(&OLDEST), Ok(Some(Version::V44)));
-    let alone = offer(Wish::Only(Version::V51));
-    assert_eq!(rt; choose(&alone), Ok(Some(Version::V51)));
-}
-
-/// Two proposals, and the version that they are answered with.
-const PROPOSALS: &[([u8; 8], Option<Version>)] = &[
-    ([0, 0, 0, 0, 0, 0, 0, 0], None),
-    ([0, 0, 0, 5, 0, 0, 4, 4], Some(Version::V44)),
-    ([0, 2, 1, 5, 0, 0, 4, 4], Some(Version::V51)),
-    ([1, 2, 1, 5, 0, 2, 6, 4], Some(Version::V44)),
-    ([0, 0, 0, 3, 0, 1, 6, 4], None),
-];
-
-#[test]
-fn takes_the_first_proposal_that_covers(rt: HostRuntime) {
-    let mut hand = [0; 20];
-    hand[..4].copy_from_slice(&[0x60, 0x60, 0xB0, 0x17]);
-    for (proposals, chosen) in PROPOSALS {
-        hand[4..12].copy_from_slice(proposals);
-        assert_eq!(rt; choose(&hand), Ok(*chosen));
+fn offers_and_answers(rt: HostRuntime) {
+    for (wish, bytes, version) in OFFERS {
+        assert!(rt; offer(*wish) == *bytes, "at {bytes:?}");
+        assert!(rt; choose(bytes) == Ok(Some(*version)), "at {bytes:?}");
+    }
+    for (bytes, answer) in ANSWERS {
+        assert!(rt; choose(bytes) == *answer, "at {bytes:?}");
     }
 }
 
-#[test]
-fn tells_another_protocol(rt: HostRuntime) {
-    let mut hand = [0; 20];
-    assert_eq!(rt; choose(&hand), Err(BadMagic));
-    hand[..8].copy_from_slice(&[0x60, 0x60, 0xB0, 0x18, 0, 0, 4, 4]);
-    assert_eq!(rt; choose(&hand), Err(BadMagic));
+/// What is told of a piece.
+#[derive(Drop)]
+enum Told<'a> {
+    Nothing,
+    Noop,
+    Message(&'a [u8]),
+    TooBig,
 }
 
-/// Whether the byte at this place of RESET ends this.
-fn ends_at(at: usize, piece: Piece) -> bool {
-    match piece {
-        Piece::Nothing => at != 1 && at != 9,
-        Piece::Noop => at == 1,
-        Piece::Message(m) => at == 9 && m.as_slice() == [0xB0, 0x0F].as_slice(),
+fn is_told(piece: &Piece, told: &Told) -> bool {
+    match (piece, told) {
+        (Piece::Nothing, Told::Nothing) => true,
+        (Piece::Noop, Told::Noop) => true,
+        (Piece::Message(held), Told::Message(message)) => held.as_slice() == *message,
+        _ => false,
     }
 }
 
+/// Whether so many bytes of a piece are used, and this is told of it.
+fn is_fed(dechunk: &mut Dechunk, piece: &[u8], used: usize, told: &Told) -> bool {
+    match dechunk.feed(piece) {
+        Ok(fed) => fed.used == used && is_told(&fed.what, told),
+        Err(WireFault::TooBig { used: at }) => at == used && matches!(told, Told::TooBig),
+        Err(WireFault::Memory) => false,
+    }
+}
+
+/// A no-op, then RESET in two chunks, byte by byte, and what ends with each byte.
+const RESET_BY_BYTES: &[(u8, Told)] = &[
+    (0, Told::Nothing),
+    (0, Told::Noop),
+    (0, Told::Nothing),
+    (1, Told::Nothing),
+    (0xB0, Told::Nothing),
+    (0, Told::Nothing),
+    (1, Told::Nothing),
+    (0x0F, Told::Nothing),
+    (0, Told::Nothing),
+    (0, Told::Message(&[0xB0, 0x0F])),
+];
+
 #[test]
-fn reads_byte_by_byte(rt: HostRuntime) -> Result<(), Fail> {
+fn reads_byte_by_byte(rt: HostRuntime) {
     let mut dechunk = Dechunk::new(rt.alloc());
-    for (at, byte) in RESET.iter().enumerate() {
-        let fed = dechunk.feed(&[*byte])?;
-        assert_eq!(rt; fed.used, 1);
-        assert!(rt; ends_at(at, fed.what), "at {at}");
-    }
-    Ok(())
-}
-
-/// Whether a piece ends a no-op with so many of its bytes.
-fn ends_noop(dechunk: &mut Dechunk, piece: &[u8], used: usize) -> Result<bool, WireFault> {
-    let fed = dechunk.feed(piece)?;
-    Ok(fed.used == used && matches!(fed.what, Piece::Noop))
-}
-
-/// Whether a piece ends this message with so many of its bytes.
-fn ends_message(
-    dechunk: &mut Dechunk,
-    piece: &[u8],
-    used: usize,
-    message: &[u8],
-) -> Result<bool, WireFault> {
-    let fed = dechunk.feed(piece)?;
-    let is_used = fed.used == used;
-    match fed.what {
-        Piece::Message(m) => Ok(is_used && m.as_slice() == message),
-        _ => Ok(false),
+    for (at, (byte, told)) in RESET_BY_BYTES.iter().enumerate() {
+        assert!(rt; is_fed(&mut dechunk, &[*byte], 1, told), "at {at}");
     }
 }
 
 #[test]
 fn stops_at_each_item(rt: HostRuntime) -> Result<(), Fail> {
     let mut dechunk = Dechunk::new(rt.alloc());
-    assert!(rt; ends_noop(&mut dechunk, &RESET, 2)?);
-    assert_eq!(rt; dechunk.feed(&RESET[2..6])?.used, 4);
+    let reset = [0, 0, 0, 1, 0xB0, 0, 1, 0x0F, 0, 0];
+    assert!(rt; is_fed(&mut dechunk, &reset, 2, &Told::Noop));
+    assert!(rt; is_fed(&mut dechunk, &reset[2..6], 4, &Told::Nothing));
     let mut twin = dechunk.clone()?;
-    assert!(rt; ends_message(&mut dechunk, &[1, 0x0F, 0, 0, 7, 7], 4, &[0xB0, 0x0F])?);
-    assert!(rt; ends_message(&mut twin, &[1, 0x02, 0, 0, 7, 7], 4, &[0xB0, 0x02])?);
+    let (reset, goodbye) = (Told::Message(&[0xB0, 0x0F]), Told::Message(&[0xB0, 0x02]));
+    assert!(rt; is_fed(&mut dechunk, &[1, 0x0F, 0, 0, 7, 7], 4, &reset));
+    assert!(rt; is_fed(&mut twin, &[1, 0x02, 0, 0, 7, 7], 4, &goodbye));
     Ok(())
 }
 
@@ -128,68 +162,59 @@ const PARTS: &[(&[u8], usize, Part)] = &[
 fn cuts_parts(rt: HostRuntime) {
     let mut chunks = Chunks::new();
     for (piece, used, what) in PARTS {
-        assert_eq!(rt; chunks.next(piece), part(*used, *what));
+        let cut = Cut {
+            used: *used,
+            what: *what,
+        };
+        assert_eq!(rt; chunks.next(piece), cut, "at {piece:?}");
     }
 }
 
 #[test]
 fn cuts_no_more_than_a_message(rt: HostRuntime) {
+    let longest = [7; 65535];
+    let parts = [
+        ([0xFF, 0xFF].as_slice(), 2, Part::Head),
+        (longest.as_slice(), 65535, Part::Data),
+        ([0, 2, 7].as_slice(), 2, Part::TooBig),
+        ([0, 2, 7].as_slice(), 0, Part::TooBig),
+    ];
     let mut chunks = Chunks::new();
-    assert_eq!(rt; chunks.next(&[0xFF, 0xFF]), part(2, Part::Head));
-    assert_eq!(rt; chunks.next(&[7; 65535]), part(65535, Part::Data));
-    assert_eq!(rt; chunks.next(&[0, 2, 7]), part(2, Part::TooBig));
-    assert_eq!(rt; chunks.next(&[0, 2, 7]), part(0, Part::TooBig));
-}
-
-fn part(used: usize, what: Part) -> Cut {
-    Cut { used, what }
-}
-
-/// The longest message in its chunks.
-fn longest_in_chunks(alloc: Global) -> Result<BytesMut, Fail> {
-    let longest = vec![in alloc; 7u8; 65536]?;
-    let mut out = BytesMut::new(alloc);
-    put_message(&longest, &mut out)?;
-    Ok(out)
+    for (piece, used, what) in parts {
+        assert_eq!(rt; chunks.next(piece), Cut { used, what });
+    }
 }
 
 #[test]
-fn writes_the_longest_chunks(rt: HostRuntime) -> Result<(), Fail> {
-    let out = longest_in_chunks(rt.alloc())?;
-    let text = out.as_slice();
-    assert_eq!(rt; text.len(), 65542);
-    assert_eq!(rt; text.get(..3), Some([0xFF, 0xFF, 7].as_slice()));
-    assert_eq!(rt; text.get(65537..), Some([0, 1, 7, 0, 0].as_slice()));
-    Ok(())
-}
-
-#[test]
-fn reads_the_longest_chunks(rt: HostRuntime) -> Result<(), Fail> {
-    let out = longest_in_chunks(rt.alloc())?;
+fn the_longest_message(rt: HostRuntime) -> Result<(), Fail> {
     let longest = vec![in rt.alloc(); 7u8; 65536]?;
+    let mut out = BytesMut::new(rt.alloc());
+    put_message(&longest, &mut out)?;
+    assert_eq!(rt; out.len(), 65542);
+    assert!(rt; out.as_slice().starts_with(&[0xFF, 0xFF, 7]));
+    assert!(rt; out.as_slice().ends_with(&[0, 1, 7, 0, 0]));
     let mut dechunk = Dechunk::new(rt.alloc());
-    assert!(rt; ends_message(&mut dechunk, out.as_slice(), 65542, &longest)?);
+    assert!(rt;
+        is_fed(
+            &mut dechunk,
+            out.as_slice(),
+            65542,
+            &Told::Message(&longest)
+        )
+    );
     Ok(())
 }
 
 #[test]
 fn writes_no_longer_message(rt: HostRuntime) -> Result<(), Fail> {
+    let past = vec![in rt.alloc(); 7u8; 65537]?;
     let mut out = BytesMut::new(rt.alloc());
     put_noop(&mut out)?;
     assert_eq!(rt; out.len(), 2);
-    let past = vec![in rt.alloc(); 7u8; 65537]?;
     let told = put_message(&past, &mut out);
     assert!(rt; matches!(told, Err(WireFault::TooBig { used: 0 })));
     assert_eq!(rt; out.len(), 2);
     Ok(())
-}
-
-/// The bytes that were used where a message is too big.
-fn too_big_at(dechunk: &mut Dechunk, piece: &[u8]) -> Option<usize> {
-    match dechunk.feed(piece) {
-        Err(WireFault::TooBig { used }) => Some(used),
-        _ => None,
-    }
 }
 
 /// The longest chunk, and the header of one more.
@@ -205,29 +230,8 @@ fn past_the_limit(alloc: Global) -> Result<BytesMut, AllocError> {
 fn refuses_at_the_header(rt: HostRuntime) -> Result<(), Fail> {
     let bytes = past_the_limit(rt.alloc())?;
     let mut dechunk = Dechunk::new(rt.alloc());
-    assert_eq!(rt; too_big_at(&mut dechunk, bytes.as_slice()), Some(65539));
-    assert_eq!(rt; too_big_at(&mut dechunk, &[0, 0]), Some(0));
-    assert_eq!(rt; too_big_at(&mut dechunk, &[]), Some(0));
-    Ok(())
-}
-
-#[test]
-fn faults_by_their_texts(rt: HostRuntime) -> Result<(), Fail> {
-    let faults = [
-        (WireFault::TooBig { used: 65539 }, "X1 at 65539"),
-        (WireFault::Memory, "out of memory"),
-    ];
-    for (fault, wanted) in faults {
-        let text = format!(in rt.alloc(); "{fault}")?;
-        assert_eq!(rt; text.as_str(), wanted);
-    }
-    Ok(())
-}
-
-#[test]
-fn bad_magic_by_its_text(rt: HostRuntime) -> Result<(), Fail> {
-    let magic = BadMagic;
-    let text = format!(in rt.alloc(); "{magic}")?;
-    assert_eq!(rt; text.as_str(), "not the magic of the protocol");
+    assert!(rt; is_fed(&mut dechunk, bytes.as_slice(), 65539, &Told::TooBig));
+    assert!(rt; is_fed(&mut dechunk, &[0, 0], 0, &Told::TooBig));
+    assert!(rt; is_fed(&mut dechunk, &[], 0, &Told::TooBig));
     Ok(())
 }

@@ -1,13 +1,14 @@
 //! What a session answers, by its bytes.
 
+use crate::talking::Step::*;
 use crate::talking::{
     BAD_LOGON, BEGIN, COMMIT, DISCARD_ALL, FIELDS, GOODBYE, GREETING, HELLO, INVALID, LOGON, NOPE,
-    OFFER, OLD_HELLO, OLD_OFFER, PULL_ALL, PULL_THREE, PULL_TWO, PUT, RESET, ROWS, Step, Table,
-    UNAUTHORIZED, begins, converse, goes_on, server,
+    OFFER, OLD_HELLO, OLD_OFFER, PULL_ALL, PULL_THREE, PULL_TWO, PUT, READY, RESET, ROWS, Step,
+    Turn, UNAUTHORIZED, UNKNOWN_TEXT, converse, feeds, plays, server,
 };
 use machine::{Kind, State};
-use packstream::{PackFault, Reason};
-use server::{Cause, What, Worked};
+use packstream::Reason;
+use server::{Cause, Took, What, Worked};
 use std::alloc::Global;
 use std::process::Abort;
 use std::test::Fail;
@@ -20,208 +21,126 @@ const GREETED: Worked = Worked::Wrote {
     entry: None,
 };
 
-const GREETS: &[Step<'static>] = &[
-    Step::Noop(false),
-    Step::Bytes(&[0x60, 0x60, 0xB0, 0x17, 0, 0, 1]),
-    Step::Feed(
+const GREETS: &[Step] = &[
+    Opens,
+    Noop(false),
+    Bytes(&[0x60, 0x60, 0xB0, 0x17, 0, 0, 1]),
+    Feed(
         &[5, 0, 0, 4, 4, 0, 0, 0, 0, 0, 0, 0, 0],
         13,
         What::Handshake(Some(Version::V51)),
     ),
-    Step::Out(&[0, 0, 1, 5]),
-    Step::Feed(&[0, 0, 0], 2, What::Noop),
-    Step::Send(HELLO, What::Message),
-    Step::Work(GREETED),
-    Step::Work(Worked::Idle),
-    Step::Out(GREETING),
-    Step::Noop(true),
-    Step::Out(&[0, 0]),
-    Step::Send(HELLO, What::Message),
-    Step::WorkAll(Worked::Ended(Cause::Invalid)),
-    Step::Fails(INVALID),
-    Step::Stands(State::Defunct),
-    Step::Noop(false),
-    Step::Feed(&[0], 0, What::Closed),
+    Out(&[0, 0, 1, 5]),
+    Feed(&[0, 0, 0], 2, What::Noop),
+    Send(HELLO, What::Message),
+    Work(GREETED),
+    Work(Worked::Idle),
+    Out(GREETING),
+    Noop(true),
+    Out(&[0, 0]),
+    Send(HELLO, What::Message),
+    WorkAll(Worked::Ended(Cause::Invalid)),
+    Out(INVALID),
+    Stands(State::Defunct),
+    Noop(false),
+    Feed(&[0], 0, What::Closed),
 ];
 
-#[test]
-fn greets(rt: HostRuntime) -> Result<(), Fail> {
-    begins(&rt, rt.alloc(), GREETS)
-}
-
-const GREETS_OLD: &[Step<'static>] = &[
-    Step::Feed(OLD_OFFER, 20, What::Handshake(Some(Version::V44))),
-    Step::Out(&[0, 0, 4, 4]),
-    Step::Bytes(&[0, 63]),
-    Step::Bytes(OLD_HELLO),
-    Step::Bytes(&[0]),
-    Step::Feed(&[0, 0, 0], 1, What::Message),
-    Step::WorkAll(Worked::Idle),
-    Step::Out(GREETING),
-    Step::Stands(State::Ready),
-    Step::Send(LOGON, What::Malformed),
-    Step::WorkAll(Worked::Ended(Cause::Malformed)),
-    Step::Out(&[]),
+const GREETS_OLD: &[Step] = &[
+    Opens,
+    Feed(OLD_OFFER, 20, What::Handshake(Some(Version::V44))),
+    Out(&[0, 0, 4, 4]),
+    Bytes(&[0, 63]),
+    Bytes(OLD_HELLO),
+    Bytes(&[0]),
+    Feed(&[0, 0, 0], 1, What::Message),
+    WorkAll(Worked::Idle),
+    Out(GREETING),
+    Stands(State::Ready),
+    Send(LOGON, What::Malformed),
+    WorkAll(Worked::Ended(Cause::Malformed)),
+    Out(&[]),
 ];
 
-#[test]
-fn greets_at_the_older_version(rt: HostRuntime) -> Result<(), Fail> {
-    begins(&rt, rt.alloc(), GREETS_OLD)
-}
-
-/// HELLO of the older version in its chunk, and the end of its message.
-const WHOLE_HELLO: [u8; 67] = [
-    0, 0x3F, 0xB1, 1, 0xA4, 0x8A, 0x75, 0x73, 0x65, 0x72, 0x5F, 0x61, 0x67, 0x65, 0x6E, 0x74, 0x83,
-    0x74, 0x2F, 0x31, 0x86, 0x73, 0x63, 0x68, 0x65, 0x6D, 0x65, 0x85, 0x62, 0x61, 0x73, 0x69, 0x63,
-    0x89, 0x70, 0x72, 0x69, 0x6E, 0x63, 0x69, 0x70, 0x61, 0x6C, 0x84, 0x75, 0x73, 0x65, 0x72, 0x8B,
-    0x63, 0x72, 0x65, 0x64, 0x65, 0x6E, 0x74, 0x69, 0x61, 0x6C, 0x73, 0x84, 0x70, 0x61, 0x73, 0x73,
-    0, 0,
+/// The first of two proposals that is taken, and what is said where none is, or to another magic.
+const PROPOSES_FIVE: &[Step] = &[
+    Opens,
+    Feed(
+        &[
+            0x60, 0x60, 0xB0, 0x17, 0, 0, 0, 5, 0, 0, 4, 4, 0, 0, 0, 0, 0, 0, 0, 0,
+        ],
+        20,
+        What::Handshake(Some(Version::V44)),
+    ),
+    Next(10, &[0, 0, 4, 4]),
+    Ends(None),
 ];
 
-const OFFERS_OLD: &[Step<'static>] = &[
-    Step::Feed(OLD_OFFER, 20, What::Handshake(Some(Version::V44))),
-    Step::Out(&[0, 0, 4, 4]),
+const PROPOSES_A_RANGE: &[Step] = &[
+    Opens,
+    Feed(
+        &[
+            0x60, 0x60, 0xB0, 0x17, 0, 2, 1, 5, 0, 0, 0, 0, 0, 0, 0, 0, 0, 0, 0, 0,
+        ],
+        20,
+        What::Handshake(Some(Version::V51)),
+    ),
+    Next(10, &[0, 0, 1, 5]),
+    Ends(None),
 ];
 
-const GREETS_READY: &[Step<'static>] = &[
-    Step::WorkAll(Worked::Idle),
-    Step::Stands(State::Ready),
-    Step::Out(GREETING),
+const PROPOSES_THREE: &[Step] = &[
+    Opens,
+    Feed(
+        &[
+            0x60, 0x60, 0xB0, 0x17, 0, 0, 0, 3, 0, 0, 0, 0, 0, 0, 0, 0, 0, 0, 0, 0,
+        ],
+        20,
+        What::Handshake(None),
+    ),
+    Next(10, &[0, 0, 0, 0]),
+    Ends(Some(Cause::NoVersion)),
 ];
 
-/// The session that is fed these pieces greets at the end of the last.
-fn greets_at_the_last(
-    rt: &impl Abort,
-    alloc: Global,
-    server: &mut Table,
-    first: &[u8],
-    second: &[u8],
-    last: &[u8],
-) -> Result<(), Fail> {
-    let conn = server.open()?;
-    converse(rt, alloc, server, conn, OFFERS_OLD)?;
-    server.feed(conn, first)?;
-    server.feed(conn, second)?;
-    let ends = [Step::Feed(last, last.len(), What::Message)];
-    converse(rt, alloc, server, conn, &ends)?;
-    converse(rt, alloc, server, conn, GREETS_READY)
-}
-
-#[test]
-fn greets_however_hello_is_cut(rt: HostRuntime) -> Result<(), Fail> {
-    for (one, _) in WHOLE_HELLO.iter().enumerate() {
-        let (first, rest) = WHOLE_HELLO.split_at(one);
-        for (two, _) in rest.iter().enumerate() {
-            let (second, last) = rest.split_at(two);
-            let mut server = server(rt.alloc())?;
-            greets_at_the_last(&rt, rt.alloc(), &mut server, first, second, last)?;
-        }
-    }
-    Ok(())
-}
-
-/// The last byte of the magic, two proposals, and what a session says to them.
-struct Offered {
-    magic: u8,
-    first: [u8; 4],
-    second: [u8; 4],
-    what: What,
-    out: &'static [u8],
-    cause: Option<Cause>,
-}
-
-const OFFERED: &[Offered] = &[
-    Offered {
-        magic: 0x17,
-        first: [0, 0, 0, 5],
-        second: [0, 0, 4, 4],
-        what: What::Handshake(Some(Version::V44)),
-        out: &[0, 0, 4, 4],
-        cause: None,
-    },
-    Offered {
-        magic: 0x17,
-        first: [0, 2, 1, 5],
-        second: [0, 0, 0, 0],
-        what: What::Handshake(Some(Version::V51)),
-        out: &[0, 0, 1, 5],
-        cause: None,
-    },
-    Offered {
-        magic: 0x17,
-        first: [0, 0, 0, 3],
-        second: [0, 0, 0, 0],
-        what: What::Handshake(None),
-        out: &[0, 0, 0, 0],
-        cause: Some(Cause::NoVersion),
-    },
-    Offered {
-        magic: 0x18,
-        first: [0, 0, 1, 5],
-        second: [0, 0, 4, 4],
-        what: What::BadMagic,
-        out: &[],
-        cause: Some(Cause::BadMagic),
-    },
+const HAS_ANOTHER_MAGIC: &[Step] = &[
+    Opens,
+    Feed(
+        &[
+            0x60, 0x60, 0xB0, 0x18, 0, 0, 1, 5, 0, 0, 4, 4, 0, 0, 0, 0, 0, 0, 0, 0,
+        ],
+        20,
+        What::BadMagic,
+    ),
+    Next(10, &[]),
+    Ends(Some(Cause::BadMagic)),
 ];
 
-/// The handshake of a magic and two proposals.
-fn handshake(offered: &Offered) -> [u8; 20] {
-    let mut hand = [0; 20];
-    hand[..4].copy_from_slice(&[0x60, 0x60, 0xB0, offered.magic]);
-    hand[4..8].copy_from_slice(&offered.first);
-    hand[8..12].copy_from_slice(&offered.second);
-    hand
-}
-
-fn answers(rt: &impl Abort, server: &mut Table, offered: &Offered) -> Result<(), Fail> {
-    let conn = server.open()?;
-    assert_eq!(rt; server.feed(conn, &handshake(offered))?.what, offered.what);
-    assert_eq!(rt; server.take_out(conn, 10)?.as_slice(), offered.out);
-    assert_eq!(rt; server.cause(conn), offered.cause);
-    Ok(())
-}
-
-#[test]
-fn takes_the_first_proposal_that_it_has(rt: HostRuntime) -> Result<(), Fail> {
-    let mut server = server(rt.alloc())?;
-    for offered in OFFERED {
-        answers(&rt, &mut server, offered)?;
-    }
-    Ok(())
-}
-
-const LEAVES: &[Step<'static>] = &[
-    Step::Feed(OFFER, 20, What::Handshake(Some(Version::V51))),
-    Step::Send(GOODBYE, What::Message),
-    Step::WorkAll(Worked::Ended(Cause::Goodbye)),
-    Step::Out(&[0, 0, 1, 5]),
+const LEAVES: &[Step] = &[
+    Opens,
+    Feed(OFFER, 20, What::Handshake(Some(Version::V51))),
+    Send(GOODBYE, What::Message),
+    WorkAll(Worked::Ended(Cause::Goodbye)),
+    Out(&[0, 0, 1, 5]),
 ];
 
-const IS_REFUSED: &[Step<'static>] = &[
-    Step::Feed(OFFER, 20, What::Handshake(Some(Version::V51))),
-    Step::Out(&[0, 0, 1, 5]),
-    Step::Send(HELLO, What::Message),
-    Step::WorkAll(Worked::Idle),
-    Step::Out(GREETING),
-    Step::Send(BAD_LOGON, What::Message),
-    Step::WorkAll(Worked::Ended(Cause::AuthRefused)),
-    Step::Fails(UNAUTHORIZED),
-    Step::Stands(State::Defunct),
+const IS_REFUSED: &[Step] = &[
+    Opens,
+    Feed(OFFER, 20, What::Handshake(Some(Version::V51))),
+    Out(&[0, 0, 1, 5]),
+    Send(HELLO, What::Message),
+    WorkAll(Worked::Idle),
+    Out(GREETING),
+    Send(BAD_LOGON, What::Message),
+    WorkAll(Worked::Ended(Cause::AuthRefused)),
+    Out(UNAUTHORIZED),
+    Stands(State::Defunct),
 ];
 
-const IS_INVALID: &[Step<'static>] = &[
-    Step::Send(PULL_ALL, What::Message),
-    Step::WorkAll(Worked::Ended(Cause::Invalid)),
-    Step::Fails(INVALID),
+const IS_INVALID: &[Step] = &[
+    Send(PULL_ALL, What::Message),
+    WorkAll(Worked::Ended(Cause::Invalid)),
+    Out(INVALID),
 ];
-
-#[test]
-fn ends_as_it_is_asked(rt: HostRuntime) -> Result<(), Fail> {
-    begins(&rt, rt.alloc(), LEAVES)?;
-    begins(&rt, rt.alloc(), IS_REFUSED)?;
-    goes_on(&rt, rt.alloc(), Version::V51, IS_INVALID)
-}
 
 const CLOSED: Worked = Worked::Wrote {
     ordinal: 4,
@@ -230,240 +149,281 @@ const CLOSED: Worked = Worked::Wrote {
     entry: Some(1),
 };
 
-const STREAMS: &[Step<'static>] = &[
-    Step::Send(ROWS, What::Message),
-    Step::WorkAll(Worked::Idle),
-    Step::Out(FIELDS),
-    Step::Send(PULL_TWO, What::Message),
-    Step::WorkAll(Worked::Idle),
-    Step::Stands(State::Streaming),
-    Step::Out(&[
+const STREAMS: &[Step] = &[
+    Send(ROWS, What::Message),
+    WorkAll(Worked::Idle),
+    Out(FIELDS),
+    Send(PULL_TWO, What::Message),
+    WorkAll(Worked::Idle),
+    Stands(State::Streaming),
+    Out(&[
         0, 4, 0xB1, 0x71, 0x91, 0x01, 0, 0, 0, 4, 0xB1, 0x71, 0x91, 0x02, 0, 0, 0, 0x0D, 0xB1,
         0x70, 0xA1, 0x88, 0x68, 0x61, 0x73, 0x5F, 0x6D, 0x6F, 0x72, 0x65, 0xC3, 0, 0,
     ]),
-    Step::Send(PULL_TWO, What::Message),
-    Step::Work(Worked::Row),
-    Step::Work(CLOSED),
-    Step::Out(&[
+    Send(PULL_TWO, What::Message),
+    Work(Worked::Row),
+    Work(CLOSED),
+    Out(&[
         0, 4, 0xB1, 0x71, 0x91, 0x03, 0, 0, 0, 0x20, 0xB1, 0x70, 0xA3, 0x88, 0x62, 0x6F, 0x6F,
         0x6B, 0x6D, 0x61, 0x72, 0x6B, 0x84, 0x62, 0x6B, 0x3A, 0x31, 0x84, 0x74, 0x79, 0x70, 0x65,
         0x81, 0x72, 0x86, 0x74, 0x5F, 0x6C, 0x61, 0x73, 0x74, 0x00, 0, 0,
     ]),
-    Step::Send(ROWS, What::Message),
-    Step::Send(DISCARD_ALL, What::Message),
-    Step::Work(Worked::Wrote {
+    Send(ROWS, What::Message),
+    Send(DISCARD_ALL, What::Message),
+    Work(Worked::Wrote {
         ordinal: 5,
         kind: Kind::Run,
         state: State::Streaming,
         entry: None,
     }),
-    Step::Out(FIELDS),
-    Step::WorkAll(Worked::Idle),
-    Step::Out(&[
+    Out(FIELDS),
+    WorkAll(Worked::Idle),
+    Out(&[
         0, 0x20, 0xB1, 0x70, 0xA3, 0x88, 0x62, 0x6F, 0x6F, 0x6B, 0x6D, 0x61, 0x72, 0x6B, 0x84,
         0x62, 0x6B, 0x3A, 0x32, 0x84, 0x74, 0x79, 0x70, 0x65, 0x81, 0x72, 0x86, 0x74, 0x5F, 0x6C,
         0x61, 0x73, 0x74, 0x00, 0, 0,
     ]),
-    Step::Send(ROWS, What::Message),
-    Step::WorkAll(Worked::Idle),
-    Step::Out(FIELDS),
-    Step::Send(PULL_THREE, What::Message),
-    Step::WorkAll(Worked::Idle),
-    Step::Stands(State::Ready),
-    Step::Out(&[
+    Send(ROWS, What::Message),
+    WorkAll(Worked::Idle),
+    Out(FIELDS),
+    Send(PULL_THREE, What::Message),
+    WorkAll(Worked::Idle),
+    Stands(State::Ready),
+    Out(&[
         0, 4, 0xB1, 0x71, 0x91, 0x01, 0, 0, 0, 4, 0xB1, 0x71, 0x91, 0x02, 0, 0, 0, 4, 0xB1, 0x71,
         0x91, 0x03, 0, 0, 0, 0x20, 0xB1, 0x70, 0xA3, 0x88, 0x62, 0x6F, 0x6F, 0x6B, 0x6D, 0x61,
         0x72, 0x6B, 0x84, 0x62, 0x6B, 0x3A, 0x33, 0x84, 0x74, 0x79, 0x70, 0x65, 0x81, 0x72, 0x86,
         0x74, 0x5F, 0x6C, 0x61, 0x73, 0x74, 0x00, 0, 0,
     ]),
-    Step::Entries(3),
+    Entries(3),
 ];
 
-#[test]
-fn streams_rows(rt: HostRuntime) -> Result<(), Fail> {
-    goes_on(&rt, rt.alloc(), Version::V51, STREAMS)
-}
-
-const IS_RESET: &[Step<'static>] = &[
-    Step::Send(ROWS, What::Message),
-    Step::Send(PULL_ALL, What::Message),
-    Step::Work(Worked::Wrote {
+const IS_RESET: &[Step] = &[
+    Send(ROWS, What::Message),
+    Send(PULL_ALL, What::Message),
+    Work(Worked::Wrote {
         ordinal: 2,
         kind: Kind::Run,
         state: State::Streaming,
         entry: None,
     }),
-    Step::Out(FIELDS),
-    Step::Work(Worked::Row),
-    Step::Out(&[0, 4, 0xB1, 0x71, 0x91, 0x01, 0, 0]),
-    Step::Send(RESET, What::Message),
-    Step::Stands(State::Interrupted),
-    Step::Send(ROWS, What::Message),
-    Step::Send(RESET, What::Message),
-    Step::WorkAll(Worked::Idle),
-    Step::Out(&[
+    Out(FIELDS),
+    Work(Worked::Row),
+    Out(&[0, 4, 0xB1, 0x71, 0x91, 0x01, 0, 0]),
+    Send(RESET, What::Message),
+    Stands(State::Interrupted),
+    Send(ROWS, What::Message),
+    Send(RESET, What::Message),
+    WorkAll(Worked::Idle),
+    Out(&[
         0, 2, 0xB0, 0x7E, 0, 0, 0, 3, 0xB1, 0x70, 0xA0, 0, 0, 0, 2, 0xB0, 0x7E, 0, 0, 0, 3, 0xB1,
         0x70, 0xA0, 0, 0,
     ]),
-    Step::Stands(State::Ready),
-    Step::Entries(0),
+    Stands(State::Ready),
+    Entries(0),
 ];
 
-#[test]
-fn a_reset_strikes(rt: HostRuntime) -> Result<(), Fail> {
-    goes_on(&rt, rt.alloc(), Version::V51, IS_RESET)
-}
-
-const FAILS: &[Step<'static>] = &[
-    Step::Send(BEGIN, What::Message),
-    Step::WorkAll(Worked::Idle),
-    Step::Out(&[0, 3, 0xB1, 0x70, 0xA0, 0, 0]),
-    Step::Send(NOPE, What::Message),
-    Step::Send(PULL_ALL, What::Message),
-    Step::Send(COMMIT, What::Message),
-    Step::Work(Worked::Wrote {
+/// BEGIN, a RUN that fails, PULL and COMMIT in one pipeline.
+const FAILS: &[Step] = &[
+    Send(BEGIN, What::Message),
+    WorkAll(Worked::Idle),
+    Out(&[0, 3, 0xB1, 0x70, 0xA0, 0, 0]),
+    Send(NOPE, What::Message),
+    Send(PULL_ALL, What::Message),
+    Send(COMMIT, What::Message),
+    Work(Worked::Wrote {
         ordinal: 3,
         kind: Kind::Run,
         state: State::Failed,
         entry: None,
     }),
-    Step::Fails(("Neo.ClientError.Statement.UnknownText", "unknown text")),
-    Step::WorkAll(Worked::Idle),
-    Step::Out(&[0, 2, 0xB0, 0x7E, 0, 0, 0, 2, 0xB0, 0x7E, 0, 0]),
-    Step::Stands(State::Failed),
-    Step::Entries(0),
+    Out(UNKNOWN_TEXT),
+    WorkAll(Worked::Idle),
+    Out(&[0, 2, 0xB0, 0x7E, 0, 0, 0, 2, 0xB0, 0x7E, 0, 0]),
+    Stands(State::Failed),
+    Entries(0),
 ];
 
-/// BEGIN, a RUN that fails, PULL and COMMIT in one pipeline.
-#[test]
-fn a_failure_is_followed_by_ignored(rt: HostRuntime) -> Result<(), Fail> {
-    goes_on(&rt, rt.alloc(), Version::V51, FAILS)
-}
-
-const ENDS_MALFORMED: &[Step<'static>] = &[
-    Step::Send(BEGIN, What::Message),
-    Step::WorkAll(Worked::Idle),
-    Step::Stands(State::TxReady),
-    Step::Out(&[0, 3, 0xB1, 0x70, 0xA0, 0, 0]),
-    Step::Feed(
+/// What waits is worked before a malformed end.
+const ENDS_MALFORMED: &[Step] = &[
+    Send(BEGIN, What::Message),
+    WorkAll(Worked::Idle),
+    Stands(State::TxReady),
+    Out(&[0, 3, 0xB1, 0x70, 0xA0, 0, 0]),
+    Feed(
         &[0, 2, 0xB0, 0x12, 0, 0, 0, 1, 0xC0, 0, 0],
         6,
         What::Message,
     ),
-    Step::Feed(&[0, 1, 0xC0, 0, 0], 5, What::Malformed),
-    Step::Feed(&[0, 2, 0xB0, 0x0F, 0, 0], 0, What::Closed),
-    Step::Work(Worked::Wrote {
+    Feed(&[0, 1, 0xC0, 0, 0], 5, What::Malformed),
+    Feed(&[0, 2, 0xB0, 0x0F, 0, 0], 0, What::Closed),
+    Work(Worked::Wrote {
         ordinal: 3,
         kind: Kind::Commit,
         state: State::Ready,
         entry: Some(1),
     }),
-    Step::Work(Worked::Ended(Cause::Malformed)),
-    Step::Out(&[
+    Work(Worked::Ended(Cause::Malformed)),
+    Out(&[
         0, 0x11, 0xB1, 0x70, 0xA1, 0x88, 0x62, 0x6F, 0x6F, 0x6B, 0x6D, 0x61, 0x72, 0x6B, 0x84,
         0x62, 0x6B, 0x3A, 0x31, 0, 0,
     ]),
-    Step::Entries(1),
+    Entries(1),
 ];
 
-const CLAIMS_TOO_MUCH: &[Step<'static>] = &[
-    Step::Feed(OFFER, 20, What::Handshake(Some(Version::V51))),
-    Step::Feed(
+/// A list that claims more members than there are bytes.
+const CLAIMS_TOO_MUCH: &[Step] = &[
+    Opens,
+    Feed(OFFER, 20, What::Handshake(Some(Version::V51))),
+    Feed(
         &[0, 5, 0xD6, 0xFF, 0xFF, 0xFF, 0xFF, 0, 0],
         9,
         What::Malformed,
     ),
-    Step::Work(Worked::Ended(Cause::Malformed)),
-];
-
-#[test]
-fn what_waits_is_worked_before_a_malformed_end(rt: HostRuntime) -> Result<(), Fail> {
-    goes_on(&rt, rt.alloc(), Version::V51, ENDS_MALFORMED)?;
-    // A list that claims more members than there are bytes.
-    begins(&rt, rt.alloc(), CLAIMS_TOO_MUCH)
-}
-
-const COMMITS: &[Step<'static>] = &[
-    Step::Send(BEGIN, What::Message),
-    Step::WorkAll(Worked::Idle),
-    Step::Out(&[0, 3, 0xB1, 0x70, 0xA0, 0, 0]),
-    Step::Send(PUT, What::Message),
-    Step::WorkAll(Worked::Idle),
-    Step::Out(&[
-        0, 0x14, 0xB1, 0x70, 0xA2, 0x86, 0x66, 0x69, 0x65, 0x6C, 0x64, 0x73, 0x90, 0x87, 0x74,
-        0x5F, 0x66, 0x69, 0x72, 0x73, 0x74, 0, 0, 0,
-    ]),
-    Step::Stands(State::TxStreaming),
-    Step::Send(PULL_ALL, What::Message),
-    Step::WorkAll(Worked::Idle),
-    Step::Out(&[
-        0, 0x12, 0xB1, 0x70, 0xA2, 0x84, 0x74, 0x79, 0x70, 0x65, 0x81, 0x77, 0x86, 0x74, 0x5F,
-        0x6C, 0x61, 0x73, 0x74, 0, 0, 0,
-    ]),
-    Step::Entries(0),
-    Step::Send(COMMIT, What::Message),
-    Step::WorkAll(Worked::Idle),
-    Step::Out(&[
-        0, 0x11, 0xB1, 0x70, 0xA1, 0x88, 0x62, 0x6F, 0x6F, 0x6B, 0x6D, 0x61, 0x72, 0x6B, 0x84,
-        0x62, 0x6B, 0x3A, 0x31, 0, 0,
-    ]),
-    Step::Stands(State::Ready),
-    Step::Entries(1),
+    Work(Worked::Ended(Cause::Malformed)),
 ];
 
 /// A transaction that puts one value.
+const COMMITS: &[Step] = &[
+    Send(BEGIN, What::Message),
+    WorkAll(Worked::Idle),
+    Out(&[0, 3, 0xB1, 0x70, 0xA0, 0, 0]),
+    Send(PUT, What::Message),
+    WorkAll(Worked::Idle),
+    Out(&[
+        0, 0x14, 0xB1, 0x70, 0xA2, 0x86, 0x66, 0x69, 0x65, 0x6C, 0x64, 0x73, 0x90, 0x87, 0x74,
+        0x5F, 0x66, 0x69, 0x72, 0x73, 0x74, 0, 0, 0,
+    ]),
+    Stands(State::TxStreaming),
+    Send(PULL_ALL, What::Message),
+    WorkAll(Worked::Idle),
+    Out(&[
+        0, 0x12, 0xB1, 0x70, 0xA2, 0x84, 0x74, 0x79, 0x70, 0x65, 0x81, 0x77, 0x86, 0x74, 0x5F,
+        0x6C, 0x61, 0x73, 0x74, 0, 0, 0,
+    ]),
+    Entries(0),
+    Send(COMMIT, What::Message),
+    WorkAll(Worked::Idle),
+    Out(&[
+        0, 0x11, 0xB1, 0x70, 0xA1, 0x88, 0x62, 0x6F, 0x6F, 0x6B, 0x6D, 0x61, 0x72, 0x6B, 0x84,
+        0x62, 0x6B, 0x3A, 0x31, 0, 0,
+    ]),
+    Stands(State::Ready),
+    Entries(1),
+];
+
+/// A message in pieces, of which the reader is lent.
+const LENDS_ITS_READER: &[Step] = &[
+    Opens,
+    Reads(Reason::Short, 0),
+    Feed(OFFER, 20, What::Handshake(Some(Version::V51))),
+    // A structure, its tag, a dictionary, and a key of two bytes of which one has come, in two chunks.
+    Feed(&[0, 2, 0xB1, 0x01, 0, 9, 0xA1, 0x82, 0x61], 9, What::Part),
+    Reads(Reason::Short, 3),
+    // A byte that announces nothing makes every continuation bad, but the message isn't at its end.
+    Feed(&[0x62, 0xC7, 0xA0], 3, What::Part),
+    Reads(Reason::Marker, 6),
+    Feed(&[0xA0, 0xA0, 0xA0], 3, What::Part),
+    Reads(Reason::Marker, 6),
+    Feed(&[0, 0], 2, What::Malformed),
+    Reads(Reason::Short, 0),
+];
+
+/// Conversations, each with a server of its own.
+const CONVERSATIONS: &[(&str, &[Turn])] = &[
+    ("greets", &[(0, 1, GREETS)]),
+    ("greets at the older version", &[(0, 1, GREETS_OLD)]),
+    (
+        "takes the first proposal that it has",
+        &[
+            (0, 1, PROPOSES_FIVE),
+            (1, 1, PROPOSES_A_RANGE),
+            (2, 1, PROPOSES_THREE),
+            (3, 1, HAS_ANOTHER_MAGIC),
+        ],
+    ),
+    ("leaves", &[(0, 1, LEAVES)]),
+    ("is refused", &[(0, 1, IS_REFUSED)]),
+    ("is invalid", &[(0, 1, READY), (0, 1, IS_INVALID)]),
+    ("streams rows", &[(0, 1, READY), (0, 1, STREAMS)]),
+    ("a reset strikes", &[(0, 1, READY), (0, 1, IS_RESET)]),
+    (
+        "a failure is followed by ignored",
+        &[(0, 1, READY), (0, 1, FAILS)],
+    ),
+    ("ends malformed", &[(0, 1, READY), (0, 1, ENDS_MALFORMED)]),
+    ("claims too much", &[(0, 1, CLAIMS_TOO_MUCH)]),
+    ("commits a transaction", &[(0, 1, READY), (0, 1, COMMITS)]),
+    (
+        "lends its reader",
+        &[(99, 1, &[NoReader]), (0, 1, LENDS_ITS_READER)],
+    ),
+];
+
 #[test]
-fn commits_a_transaction(rt: HostRuntime) -> Result<(), Fail> {
-    goes_on(&rt, rt.alloc(), Version::V51, COMMITS)
-}
-
-/// The first fault of what the lent reader has read, and its place.
-fn fault_in(server: &Table, conn: u64) -> Option<(Reason, usize)> {
-    match server.reader(conn)?.finish() {
-        Err(PackFault::Refused(reason, place)) => Some((reason, place)),
-        _ => None,
+fn converses(rt: HostRuntime) -> Result<(), Fail> {
+    for (name, turns) in CONVERSATIONS {
+        plays(&rt, rt.alloc(), name, turns)?;
     }
-}
-
-/// The session says this of a piece, and its reader then has this fault at this place.
-fn then_has(
-    rt: &impl Abort,
-    server: &mut Table,
-    conn: u64,
-    piece: &[u8],
-    what: What,
-    fault: (Reason, usize),
-) -> Result<(), Fail> {
-    assert_eq!(rt; server.feed(conn, piece)?.what, what);
-    assert_eq!(rt; fault_in(server, conn), Some(fault));
     Ok(())
 }
 
-fn lends_its_reader(rt: &impl Abort, server: &mut Table) -> Result<(), Fail> {
-    let conn = server.open()?;
-    assert_eq!(rt; fault_in(server, conn), Some((Reason::Short, 0)));
-    server.feed(conn, OFFER)?;
-    // A structure, its tag, a dictionary, and a key of two bytes of which one has come, in two chunks.
-    let key = [0, 2, 0xB1, 0x01, 0, 9, 0xA1, 0x82, 0x61];
-    then_has(rt, server, conn, &key, What::Part, (Reason::Short, 3))?;
-    // A byte that announces nothing makes every continuation bad, but the message isn't at its end.
-    let bad = [0x62, 0xC7, 0xA0];
-    then_has(rt, server, conn, &bad, What::Part, (Reason::Marker, 6))?;
-    let more = [0xA0, 0xA0, 0xA0];
-    then_has(rt, server, conn, &more, What::Part, (Reason::Marker, 6))?;
-    then_has(
+/// HELLO of the older version in its chunk, and the end of its message.
+const WHOLE_HELLO: &[u8] = &[
+    0, 0x3F, 0xB1, 1, 0xA4, 0x8A, 0x75, 0x73, 0x65, 0x72, 0x5F, 0x61, 0x67, 0x65, 0x6E, 0x74, 0x83,
+    0x74, 0x2F, 0x31, 0x86, 0x73, 0x63, 0x68, 0x65, 0x6D, 0x65, 0x85, 0x62, 0x61, 0x73, 0x69, 0x63,
+    0x89, 0x70, 0x72, 0x69, 0x6E, 0x63, 0x69, 0x70, 0x61, 0x6C, 0x84, 0x75, 0x73, 0x65, 0x72, 0x8B,
+    0x63, 0x72, 0x65, 0x64, 0x65, 0x6E, 0x74, 0x69, 0x61, 0x6C, 0x73, 0x84, 0x70, 0x61, 0x73, 0x73,
+    0, 0,
+];
+
+const OFFERS_OLD: &[Step] = &[
+    Opens,
+    Feed(OLD_OFFER, 20, What::Handshake(Some(Version::V44))),
+    Out(&[0, 0, 4, 4]),
+];
+
+const GREETS_READY: &[Step] = &[WorkAll(Worked::Idle), Stands(State::Ready), Out(GREETING)];
+
+/// The session that is fed HELLO in these pieces greets at the end of the last.
+fn greets_at_the_last(
+    rt: &impl Abort,
+    alloc: Global,
+    first: &[u8],
+    second: &[u8],
+    last: &[u8],
+) -> Result<(), Fail> {
+    let mut server = server(alloc)?;
+    converse(rt, alloc, &mut server, 0, "a HELLO that is cut", OFFERS_OLD)?;
+    let whole = Took {
+        used: last.len(),
+        what: What::Message,
+    };
+    let took = feeds(&mut server, 0, &[first, second, last]);
+    assert!(rt;
+        took == Ok(whole),
+        "at {} and {}",
+        first.len(),
+        second.len()
+    );
+    converse(
         rt,
-        server,
-        conn,
-        &[0, 0],
-        What::Malformed,
-        (Reason::Short, 0),
+        alloc,
+        &mut server,
+        0,
+        "a HELLO that is cut",
+        GREETS_READY,
     )
 }
 
 #[test]
-fn lends_the_reader_of_a_message_in_pieces(rt: HostRuntime) -> Result<(), Fail> {
-    let mut server = server(rt.alloc())?;
-    assert!(rt; server.reader(99).is_none());
-    lends_its_reader(&rt, &mut server)
+fn greets_however_hello_is_cut(rt: HostRuntime) -> Result<(), Fail> {
+    for (one, _) in WHOLE_HELLO.iter().enumerate() {
+        let (first, rest) = WHOLE_HELLO.split_at(one);
+        for (two, _) in rest.iter().enumerate() {
+            let (second, last) = rest.split_at(two);
+            greets_at_the_last(&rt, rt.alloc(), first, second, last)?;
+        }
+    }
+    Ok(())
 }

@@ -2,8 +2,9 @@
 
 use engine::{Engine, FixedTable, OneUser};
 use machine::State;
-use server::{Server, Took, What, Worked};
-use std::alloc::Global;
+use packstream::{PackFault, Reason};
+use server::{Cause, Refused, Server, Took, What, Worked};
+use std::alloc::{AllocError, Global};
 use std::process::Abort;
 use std::test::Fail;
 use wire::Version;
@@ -92,68 +93,92 @@ pub const COMMIT: &[u8] = &[0xB0, 0x12];
 
 pub const GOODBYE: &[u8] = &[0xB0, 0x02];
 
-/// The codes and messages of failures.
-pub const INVALID: (&str, &str) = (
-    "Neo.ClientError.Request.Invalid",
-    "request not valid in this state",
-);
+/// FAILUREs in their chunks, each with a code and a message.
+pub const INVALID: &[u8] =
+    b"\x00\x52\xB1\x7F\xA2\x84code\xD0\x1FNeo.ClientError.Request.Invalid\x87message\xD0\x1Frequest not valid in this state\x00\x00";
 
-pub const UNAUTHORIZED: (&str, &str) = (
-    "Neo.ClientError.Security.Unauthorized",
-    "authentication refused",
-);
+pub const UNAUTHORIZED: &[u8] =
+    b"\x00\x4F\xB1\x7F\xA2\x84code\xD0\x25Neo.ClientError.Security.Unauthorized\x87message\xD0\x16authentication refused\x00\x00";
 
-pub const TOO_MANY_WRITES: (&str, &str) = (
-    "Neo.ClientError.Transaction.TooManyWrites",
-    "more than 1024 writes",
-);
+pub const UNKNOWN_TEXT: &[u8] =
+    b"\x00\x44\xB1\x7F\xA2\x84code\xD0\x25Neo.ClientError.Statement.UnknownText\x87message\x8Cunknown text\x00\x00";
 
-pub const NOT_IN_VERSION: (&str, &str) = (
-    "Neo.ClientError.Statement.NotInVersion",
-    "value not in this version",
-);
+pub const TOO_MANY_WRITES: &[u8] =
+    b"\x00\x52\xB1\x7F\xA2\x84code\xD0\x29Neo.ClientError.Transaction.TooManyWrites\x87message\xD0\x15more than 1024 writes\x00\x00";
 
-pub const ROW_TOO_LARGE: (&str, &str) = (
-    "Neo.ClientError.Statement.RowTooLarge",
-    "row past 65536 bytes",
-);
+pub const NOT_IN_VERSION: &[u8] =
+    b"\x00\x53\xB1\x7F\xA2\x84code\xD0\x26Neo.ClientError.Statement.NotInVersion\x87message\xD0\x19value not in this version\x00\x00";
 
-/// A step of a conversation, and what it tells.
-#[derive(Clone, Copy)]
-pub enum Step<'a> {
+pub const ROW_TOO_LARGE: &[u8] =
+    b"\x00\x4D\xB1\x7F\xA2\x84code\xD0\x25Neo.ClientError.Statement.RowTooLarge\x87message\xD0\x14row past 65536 bytes\x00\x00";
+
+/// A step of a connection, and what it tells.
+pub enum Step {
+    /// A session is opened, of this connection.
+    Opens,
+    OpensNone,
     /// Bytes are fed, so many are used.
-    Feed(&'a [u8], usize, What),
+    Feed(&'static [u8], usize, What),
     /// Each of the bytes is a piece, and ends nothing.
-    Bytes(&'a [u8]),
+    Bytes(&'static [u8]),
+    /// Bytes are fed in one piece, and used: the first, others so many times, and the last.
+    Long(&'static [u8], &'static [u8], usize, &'static [u8], What),
     /// A message of fewer than 256 bytes is fed in one chunk.
-    Send(&'a [u8], What),
+    Send(&'static [u8], What),
     Work(Worked),
     /// Steps until there is nothing to do.
     WorkAll(Worked),
     /// All that waits to go is taken out.
-    Out(&'a [u8]),
-    /// The same, a FAILURE of this code and message.
-    Fails((&'static str, &'static str)),
+    Out(&'static [u8]),
+    /// At most so many bytes are taken out, and these they are.
+    Next(usize, &'static [u8]),
+    /// At most so many bytes are taken out, and so many they are.
+    Takes(usize, usize),
     Noop(bool),
     Stands(State),
+    /// Why the session has ended.
+    Ends(Option<Cause>),
+    /// The session is given up.
+    Loses(Option<Cause>),
+    NoSession,
+    /// The first fault of what the lent reader has read, and its place.
+    Reads(Reason, usize),
+    NoReader,
     /// So many entries are in the ledger.
     Entries(usize),
 }
 
-pub fn server(alloc: Global) -> Result<Table, Fail> {
-    let gate = OneUser::new(alloc, "user", "pass")?;
-    Ok(Server::new(alloc, FixedTable::new(alloc), gate))
-}
+use Step::*;
 
-/// Feeds a message of fewer than 256 bytes.
-pub fn send(server: &mut Table, conn: u64, message: &[u8]) -> Result<What, Fail> {
-    server.feed(conn, &[0, (message.len() % 256) as u8])?;
-    server.feed(conn, message)?;
-    Ok(server.feed(conn, &[0, 0])?.what)
+/// A connection, and steps of it that are taken so many times.
+pub type Turn = (u64, usize, &'static [Step]);
+
+/// A session in Ready at 5.1, with nothing to go.
+pub const READY: &[Step] = &[
+    Opens,
+    Feed(OFFER, 20, What::Handshake(Some(Version::V51))),
+    Send(HELLO, What::Message),
+    Send(LOGON, What::Message),
+    WorkAll(Worked::Idle),
+    Stands(State::Ready),
+    // 4 + 47 + 7 bytes.
+    Takes(1000, 58),
+];
+
+/// Pieces are fed, and so says the session to the last.
+pub fn feeds(server: &mut Table, conn: u64, pieces: &[&[u8]]) -> Result<Took, Refused> {
+    let mut took = Took {
+        used: 0,
+        what: What::Part,
+    };
+    for piece in pieces {
+        took = server.feed(conn, piece)?;
+    }
+    Ok(took)
 }
 
 /// Works until there is nothing to do.
-pub fn work_all(server: &mut Table, conn: u64) -> Result<Worked, Fail> {
+fn work_all(server: &mut Table, conn: u64) -> Result<Worked, Refused> {
     for _step in 0..2000 {
         match server.work(conn)? {
             Worked::Row | Worked::Wrote { .. } => {}
@@ -163,170 +188,111 @@ pub fn work_all(server: &mut Table, conn: u64) -> Result<Worked, Fail> {
     Ok(Worked::Full)
 }
 
-/// The text of a FAILURE.
-fn failure_text(alloc: Global, code: &str, message: &str) -> Result<Vec<u8>, Fail> {
-    let mut bytes = Vec::new(alloc);
-    bytes.extend_from_slice(&[0xB1, 0x7F, 0xA2])?;
-    put_text(&mut bytes, "code")?;
-    put_text(&mut bytes, code)?;
-    put_text(&mut bytes, "message")?;
-    put_text(&mut bytes, message)?;
-    Ok(bytes)
-}
-
-/// The bytes of a FAILURE in its chunk.
-fn failure(alloc: Global, code: &str, message: &str) -> Result<Vec<u8>, Fail> {
-    let text = failure_text(alloc, code, message)?;
-    let mut chunk = Vec::new(alloc);
-    chunk.extend_from_slice(&[0, (text.len() % 256) as u8])?;
-    chunk.extend_from_slice(text.as_slice())?;
-    chunk.extend_from_slice(&[0, 0])?;
-    Ok(chunk)
-}
-
-/// A text of fewer than 256 bytes.
-fn put_text(bytes: &mut Vec<u8>, text: &str) -> Result<(), Fail> {
-    let len = (text.len() % 256) as u8;
-    if len < 16 {
-        bytes.push(0x80 + len)?;
-    } else {
-        bytes.extend_from_slice(&[0xD0, len])?;
-    }
-    bytes.extend_from_slice(text.as_bytes())?;
-    Ok(())
-}
-
-fn take_step(
-    rt: &impl Abort,
-    alloc: Global,
-    server: &mut Table,
-    conn: u64,
-    step: Step<'_>,
-) -> Result<(), Fail> {
-    match step {
-        Step::Feed(bytes, used, what) => feed(rt, server, conn, bytes, Took { used, what }),
-        Step::Bytes(bytes) => feed_bytes(rt, server, conn, bytes),
-        Step::Send(message, what) => same_what(rt, send(server, conn, message)?, what),
-        Step::Work(told) => same_step(rt, server.work(conn)?, told),
-        Step::WorkAll(told) => same_step(rt, work_all(server, conn)?, told),
-        Step::Out(bytes) => take_out(rt, server, conn, bytes),
-        Step::Fails((code, message)) => {
-            let bytes = failure(alloc, code, message)?;
-            take_out(rt, server, conn, bytes.as_slice())
-        }
-        Step::Noop(put) => puts_noop(rt, server, conn, put),
-        Step::Stands(state) => stands(rt, server, conn, state),
-        Step::Entries(count) => has_entries(rt, server, count),
-    }
-}
-
-fn feed(
-    rt: &impl Abort,
-    server: &mut Table,
-    conn: u64,
-    bytes: &[u8],
-    took: Took,
-) -> Result<(), Fail> {
-    assert_eq!(rt; server.feed(conn, bytes)?, took);
-    Ok(())
-}
-
-fn feed_bytes(rt: &impl Abort, server: &mut Table, conn: u64, bytes: &[u8]) -> Result<(), Fail> {
+/// Whether each of the bytes is a piece that ends nothing.
+fn are_parts(server: &mut Table, conn: u64, bytes: &[u8]) -> bool {
     let part = Took {
         used: 1,
         what: What::Part,
     };
     for byte in bytes {
-        feed(rt, server, conn, &[*byte], part)?;
+        if server.feed(conn, &[*byte]) != Ok(part) {
+            return false;
+        }
     }
-    Ok(())
+    true
 }
 
-fn same_what(rt: &impl Abort, what: What, expected: What) -> Result<(), Fail> {
-    assert_eq!(rt; what, expected);
-    Ok(())
+/// The first bytes, others so many times, and the last.
+fn long(
+    alloc: Global,
+    first: &[u8],
+    other: &[u8],
+    times: usize,
+    last: &[u8],
+) -> Result<Vec<u8>, AllocError> {
+    let mut bytes = Vec::new(alloc);
+    bytes.extend_from_slice(first)?;
+    for _time in 0..times {
+        bytes.extend_from_slice(other)?;
+    }
+    bytes.extend_from_slice(last)?;
+    Ok(bytes)
 }
 
-fn same_step(rt: &impl Abort, told: Worked, expected: Worked) -> Result<(), Fail> {
-    assert_eq!(rt; told, expected);
-    Ok(())
+/// The first fault of what the lent reader has read, and its place.
+fn fault_in(server: &Table, conn: u64) -> Option<(Reason, usize)> {
+    match server.reader(conn)?.finish() {
+        Err(PackFault::Refused(reason, place)) => Some((reason, place)),
+        _ => None,
+    }
 }
 
-fn take_out(rt: &impl Abort, server: &mut Table, conn: u64, bytes: &[u8]) -> Result<(), Fail> {
-    let out = server.take_out(conn, 1000000)?;
-    assert_eq!(rt; out.as_slice(), bytes);
-    Ok(())
+/// Whether a step of this connection tells what it should.
+fn is_so(alloc: Global, server: &mut Table, conn: u64, step: &Step) -> Result<bool, Fail> {
+    Ok(match step {
+        Opens => server.open()? == conn,
+        OpensNone => server.open() == Err(Refused::SessionsFull),
+        Feed(bytes, used, what) => {
+            let took = server.feed(conn, bytes)?;
+            took.used == *used && took.what == *what
+        }
+        Bytes(bytes) => are_parts(server, conn, bytes),
+        Long(first, other, times, last, what) => {
+            let bytes = long(alloc, first, other, *times, last)?;
+            let took = server.feed(conn, &bytes)?;
+            took.used == bytes.len() && took.what == *what
+        }
+        Send(message, what) => {
+            let header = [0, (message.len() % 256) as u8];
+            feeds(server, conn, &[&header, message, &[0, 0]])?.what == *what
+        }
+        Work(told) => server.work(conn)? == *told,
+        WorkAll(told) => work_all(server, conn)? == *told,
+        Out(bytes) => server.take_out(conn, 1000000)?.as_slice() == *bytes,
+        Next(most, bytes) => server.take_out(conn, *most)?.as_slice() == *bytes,
+        Takes(most, count) => server.take_out(conn, *most)?.len() == *count,
+        Noop(put) => server.noop(conn)? == *put,
+        Stands(state) => server.state(conn) == Some(*state),
+        Ends(cause) => server.cause(conn) == *cause,
+        Loses(cause) => server.lost(conn) == *cause,
+        NoSession => server.work(conn) == Err(Refused::NoSuchConnection),
+        Reads(reason, place) => fault_in(server, conn) == Some((*reason, *place)),
+        NoReader => server.reader(conn).is_none(),
+        Entries(count) => server.engine().ledger().len() == *count,
+    })
 }
 
-fn puts_noop(rt: &impl Abort, server: &mut Table, conn: u64, put: bool) -> Result<(), Fail> {
-    assert_eq!(rt; server.noop(conn)?, put);
-    Ok(())
-}
-
-fn stands(rt: &impl Abort, server: &Table, conn: u64, state: State) -> Result<(), Fail> {
-    assert_eq!(rt; server.state(conn), Some(state));
-    Ok(())
-}
-
-fn has_entries(rt: &impl Abort, server: &Table, count: usize) -> Result<(), Fail> {
-    assert_eq!(rt; server.engine().ledger().len(), count);
-    Ok(())
-}
-
+/// Steps of a connection of the conversation of this name.
 pub fn converse(
     rt: &impl Abort,
     alloc: Global,
     server: &mut Table,
     conn: u64,
-    steps: &[Step<'_>],
+    name: &str,
+    steps: &[Step],
 ) -> Result<(), Fail> {
-    for step in steps {
-        take_step(rt, alloc, server, conn, *step)?;
+    for (place, step) in steps.iter().enumerate() {
+        assert!(rt;
+            is_so(alloc, server, conn, step)?,
+            "{name}: {conn}, step {place}"
+        );
     }
     Ok(())
 }
 
-const BECOMES_READY: &[Step<'static>] = &[Step::WorkAll(Worked::Idle), Step::Stands(State::Ready)];
+/// A server without sessions, of the user `user` with `pass`.
+pub fn server(alloc: Global) -> Result<Table, AllocError> {
+    let gate = OneUser::new(alloc, "user", "pass")?;
+    Ok(Server::new(alloc, FixedTable::new(alloc), gate))
+}
 
-/// A session in Ready, with nothing to go.
-pub fn ready(
-    rt: &impl Abort,
-    alloc: Global,
-    server: &mut Table,
-    version: Version,
-) -> Result<u64, Fail> {
-    let conn = server.open()?;
-    match version {
-        Version::V51 => {
-            server.feed(conn, OFFER)?;
-            send(server, conn, HELLO)?;
-            send(server, conn, LOGON)?;
-        }
-        Version::V44 => {
-            server.feed(conn, OLD_OFFER)?;
-            send(server, conn, OLD_HELLO)?;
+/// A conversation with a server of its own.
+pub fn plays(rt: &impl Abort, alloc: Global, name: &str, turns: &[Turn]) -> Result<(), Fail> {
+    let mut server = server(alloc)?;
+    for (conn, times, steps) in turns {
+        for _time in 0..*times {
+            converse(rt, alloc, &mut server, *conn, name, steps)?;
         }
     }
-    converse(rt, alloc, server, conn, BECOMES_READY)?;
-    server.take_out(conn, 1000)?;
-    Ok(conn)
-}
-
-/// A conversation on connection 0 from its first byte.
-pub fn begins(rt: &impl Abort, alloc: Global, steps: &[Step<'_>]) -> Result<(), Fail> {
-    let mut server = server(alloc)?;
-    let conn = server.open()?;
-    converse(rt, alloc, &mut server, conn, steps)
-}
-
-/// A conversation on connection 0 from Ready.
-pub fn goes_on(
-    rt: &impl Abort,
-    alloc: Global,
-    version: Version,
-    steps: &[Step<'_>],
-) -> Result<(), Fail> {
-    let mut server = server(alloc)?;
-    let conn = ready(rt, alloc, &mut server, version)?;
-    converse(rt, alloc, &mut server, conn, steps)
+    Ok(())
 }

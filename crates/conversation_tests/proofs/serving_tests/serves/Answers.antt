@@ -4,7 +4,7 @@ use Rattle.streams.proofs.Firsts.{one, one_lives}
 use Rattle.conversation_tests.proofs.serving_tests.serves.Goals as goal
 
 pub serve_one-answered-requires : goal.serve_one-answered-requires
-serve_one-answered-requires c =
+serve_one-answered-requires g c =
     let ledger = ledger_of c.new-2.result in
     let o = c.in_ok-conn.ensures (empty ledger c.in_ok-gate.gate) c.new-server.ensures in
     (one ledger c.in_ok-gate.gate c.in_ok-conn.conn o.number, o.now, one_lives ledger c.in_ok-gate.gate c.in_ok-conn.conn o.number)

@@ -1,0 +1,71 @@
+//! Streams that give and take a little at once, and fail.
+
+use streams::{Failed, Sink, Source};
+
+/// So often, or so much, that it isn't reached.
+pub const MANY: usize = 1000;
+
+/// A source that gives at most so many bytes at once, and fails once it was read so often.
+#[derive(Drop)]
+pub struct Trickle<'a> {
+    pub rest: &'a [u8],
+    pub step: usize,
+    pub reads: usize,
+    pub failed: bool,
+}
+
+impl Source for Trickle<'_> {
+    ghost use Rattle.std.specs.Prelude.{None};
+
+    ghost left = { λ _. None };
+
+    ghost has_failed = { λ s. s.failed };
+
+    ghost reads = { λ s. s.reads };
+
+    fn read(&mut self, buffer: &mut [u8]) -> Result<usize, Failed> {
+        if self.failed || self.reads == 0 {
+            self.failed = true;
+            return Err(Failed);
+        }
+        self.reads -= 1;
+        let n = self.rest.len().min(buffer.len()).min(self.step);
+        let (front, after) = self.rest.split_at(n);
+        buffer[..n].copy_from_slice(front);
+        self.rest = after;
+        Ok(n)
+    }
+}
+
+/// A sink that takes at most so many bytes at once, and fails once it was written so often, or has so many bytes.
+#[derive(Drop)]
+pub struct Drip {
+    pub bytes: Vec<u8>,
+    pub step: usize,
+    pub writes: usize,
+    pub room: usize,
+    pub failed: bool,
+}
+
+impl Sink for Drip {
+    ghost use Rattle.std.specs.Prelude.{None};
+
+    ghost taken = { λ _. None };
+
+    ghost has_failed = { λ s. s.failed };
+
+    fn write(&mut self, bytes: &[u8]) -> Result<usize, Failed> {
+        let n = bytes.len().min(self.step).min(self.room);
+        if self.failed || self.writes == 0 || n == 0 {
+            self.failed = true;
+            return Err(Failed);
+        }
+        if self.bytes.extend_from_slice(&bytes[..n]).is_err() {
+            self.failed = true;
+            return Err(Failed);
+        }
+        self.writes -= 1;
+        self.room -= n;
+        Ok(n)
+    }
+}
