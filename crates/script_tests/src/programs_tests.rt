@@ -2,6 +2,7 @@ ghost use Rattle.std.specs.Prelude.{IfOk};
 ghost use Rattle.engine.specs.Kept.{ledger_of};
 ghost use Rattle.programs.specs.Serving.{IsVacant};
 
+use crate::pieces::Pieces;
 use engine::{FixedTable, OneUser};
 use programs::*;
 use server::{Cause, Server};
@@ -10,7 +11,7 @@ use std::io::{Read, Write};
 use std::net::{Shutdown, TcpListener, TcpStream};
 use std::process::Abort;
 use std::test::*;
-use streams::{Buffer, Failed, Over, Slice, Source, StreamFault, serve_one};
+use streams::{Buffer, Over, Slice, StreamFault, serve_one};
 
 /// What a server at 5.1 answers to the handshake, a HELLO, a LOGON, a RUN, two PULLs and a RUN of an unknown text.
 const ANSWERS: &[&[u8]] = &[
@@ -41,85 +42,93 @@ const LINES: &[u8] =
 const PRINTED: &str =
     "heard 0 Done Unauth\nheard 1 Done Ready\nheard 2 Done Streaming\nrow 9101\nrow 9102\nheard 3 Done Streaming\nrow 9103\nheard 4 Committed Ready\nline 7 C1\nheard 5 Refused Halted\nfault Neo.ClientError.Statement.UnknownText unknown text\n";
 
-/// A source that gives one answer a read, and fails after so many.
-#[derive(Drop)]
-struct Answers {
-    at: usize,
-    most: usize,
-    failed: bool,
-}
-
-impl Source for Answers {
-    ghost use Rattle.std.specs.Prelude.{None, ◌-◌};
-
-    ghost left = { λ _. None };
-
-    ghost has_failed = { λ s. s.failed };
-
-    ghost reads = { λ s. 100 - s.at };
-
-    fn read(&mut self, buffer: &mut [u8]) -> Result<usize, Failed> {
-        if self.failed || self.at >= self.most {
-            self.failed = true;
-            return Err(Failed);
-        }
-        if self.at >= ANSWERS.len() {
-            return Ok(0);
-        }
-        let answer = ANSWERS[self.at];
-        if answer.is_empty() || buffer.len() < answer.len() || self.at >= 100 {
-            return Ok(0);
-        }
-        buffer[..answer.len()].copy_from_slice(answer);
-        self.at += 1;
-        Ok(answer.len())
-    }
-}
-
-/// A shell over these lines and so many answers prints this, and its status is this.
-fn prints(
-    rt: &(impl Abort + AllocGlobal),
-    lines: &[u8],
-    most: usize,
-    out_wanted: &str,
-    err_wanted: &str,
+/// Lines, what is printed and told of them, and the exit status.
+struct Case {
+    lines: &'static [u8],
+    out: &'static str,
+    err: &'static str,
     status: u8,
-) {
-    let mut input = Slice::new(lines);
-    let mut source = Answers {
-        at: 0,
-        most,
-        failed: false,
-    };
-    let mut sink = Buffer::new(Vec::new(rt.alloc()));
-    let mut out = Buffer::new(Vec::new(rt.alloc()));
-    let mut err = Buffer::new(Vec::new(rt.alloc()));
-    let got = shell(
-        rt.alloc(),
-        &mut input,
-        &mut source,
-        &mut sink,
-        &mut out,
-        &mut err,
-    );
-    assert_eq!(rt; got, status);
-    assert_eq!(rt; out.bytes(), out_wanted.as_bytes());
-    assert_eq!(rt; err.bytes(), err_wanted.as_bytes());
 }
 
-#[test]
-fn shell_prints_what_is_heard(rt: HostRuntime) {
-    prints(&rt, LINES, 100, PRINTED, "line 9 unreadable\n", 2);
-    prints(&rt, b"", 100, "", "", 0);
-    prints(&rt, b"\n\nhello", 100, "heard 0 Done Unauth\n", "", 0);
+/// For a shell, whose server gives so many answers before its stream fails.
+const SHELLS: [(usize, Case); 6] = [
+    (
+        100,
+        Case {
+            lines: LINES,
+            out: PRINTED,
+            err: "line 9 unreadable\n",
+            status: 2,
+        },
+    ),
+    (
+        100,
+        Case {
+            lines: b"",
+            out: "",
+            err: "",
+            status: 0,
+        },
+    ),
+    (
+        100,
+        Case {
+            lines: b"\n\nhello",
+            out: "heard 0 Done Unauth\n",
+            err: "",
+            status: 0,
+        },
+    ),
     // The line after a goodbye: the client has ended.
-    prints(&rt, b"goodbye\nreset", 100, "line 2 C4\n", "", 0);
-}
+    (
+        100,
+        Case {
+            lines: b"goodbye\nreset",
+            out: "line 2 C4\n",
+            err: "",
+            status: 0,
+        },
+    ),
+    (
+        0,
+        Case {
+            lines: LINES,
+            out: "",
+            err: "fault I1\n",
+            status: 1,
+        },
+    ),
+    (
+        2,
+        Case {
+            lines: LINES,
+            out: "heard 0 Done Unauth\n",
+            err: "fault I1\n",
+            status: 1,
+        },
+    ),
+];
 
 #[test]
-fn shell_tells_a_failed_stream(rt: HostRuntime) {
-    prints(&rt, LINES, 0, "", "fault I1\n", 1);
-    prints(&rt, LINES, 2, "heard 0 Done Unauth\n", "fault I1\n", 1);
+fn shell_prints(rt: HostRuntime) {
+    for (answers, case) in &SHELLS {
+        let mut input = Slice::new(case.lines);
+        let mut source = Pieces::new(ANSWERS, *answers);
+        let mut sink = Buffer::new(Vec::new(rt.alloc()));
+        let mut out = Buffer::new(Vec::new(rt.alloc()));
+        let mut err = Buffer::new(Vec::new(rt.alloc()));
+        let status = shell(
+            rt.alloc(),
+            &mut input,
+            &mut source,
+            &mut sink,
+            &mut out,
+            &mut err,
+        );
+        assert_eq!(rt; status, case.status);
+        assert_eq!(rt; out.bytes(), case.out.as_bytes());
+        assert_eq!(rt; err.bytes(), case.err.as_bytes());
+    }
 }
 
 /// A server with the user of the scripts, over an empty table.
@@ -139,24 +148,44 @@ fn connected(rt: &HostRuntime) -> Result<(TcpStream, TcpStream), Fail> {
     Ok((near, far))
 }
 
-/// What a loop did: its exit status, and what it printed.
-#[derive(Drop)]
-struct Looped {
-    status: u8,
-    out: Buffer,
-    err: Buffer,
-}
+/// For a loop of both ends.
+const LOOPS: [Case; 3] = [
+    Case {
+        lines: b"hello\nlogon\nrun ROWS A1816E03\npull 2\npull 2\n",
+        out: "heard 0 Done Unauth\nheard 1 Done Ready\nheard 2 Done Streaming\nrow 9101\nrow 9102\nheard 3 Done Streaming\nrow 9103\nheard 4 Committed Ready\nentry 0 4 0\n",
+        err: "",
+        status: 0,
+    },
+    // Further lines after a goodbye.
+    Case {
+        lines: b"hello\ngoodbye\nreset\n\npull 1",
+        out: "heard 0 Done Unauth\nline 3 C1\nline 5 C1\n",
+        err: "",
+        status: 0,
+    },
+    // Nothing is run.
+    Case {
+        lines: b"hello\n\nnothing\n",
+        out: "",
+        err: "line 3 unreadable\n",
+        status: 2,
+    },
+];
 
-/// Runs a loop over these lines, through sockets.
-fn loop_over_sockets(rt: &HostRuntime, lines: &[u8]) -> Result<Looped, Fail> {
-    let (near, far) = connected(rt)?;
+/// Runs a loop over these lines, through the two ends of a connection.
+fn loops(
+    rt: &(impl Abort + AllocGlobal),
+    near: &TcpStream,
+    far: &TcpStream,
+    case: &Case,
+) -> Result<(), Fail> {
     let mut near = Channel {
-        source: Over::new(&near),
-        sink: Over::new(&near),
+        source: Over::new(near),
+        sink: Over::new(near),
     };
     let mut far = Channel {
-        source: Over::new(&far),
-        sink: Over::new(&far),
+        source: Over::new(far),
+        sink: Over::new(far),
     };
     let mut server = served(rt.alloc())?;
     let mut out = Buffer::new(Vec::new(rt.alloc()));
@@ -164,35 +193,24 @@ fn loop_over_sockets(rt: &HostRuntime, lines: &[u8]) -> Result<Looped, Fail> {
     let status = run_loop(
         rt.alloc(),
         &mut server,
-        lines,
+        case.lines,
         &mut near,
         &mut far,
         &mut out,
         &mut err,
     );
-    Ok(Looped { status, out, err })
-}
-
-/// A loop printed this, and its status is this.
-fn assert_looped(rt: &impl Abort, looped: &Looped, out_wanted: &str, err_wanted: &str, status: u8) {
-    assert_eq!(rt; looped.status, status);
-    assert_eq!(rt; looped.out.bytes(), out_wanted.as_bytes());
-    assert_eq!(rt; looped.err.bytes(), err_wanted.as_bytes());
+    assert_eq!(rt; status, case.status);
+    assert_eq!(rt; out.bytes(), case.out.as_bytes());
+    assert_eq!(rt; err.bytes(), case.err.as_bytes());
+    Ok(())
 }
 
 #[test]
 fn loop_prints_what_both_ends_do(rt: HostRuntime) -> Result<(), Fail> {
-    let done = loop_over_sockets(&rt, b"hello\nlogon\nrun ROWS A1816E03\npull 2\npull 2\n")?;
-    let printed =
-        "heard 0 Done Unauth\nheard 1 Done Ready\nheard 2 Done Streaming\nrow 9101\nrow 9102\nheard 3 Done Streaming\nrow 9103\nheard 4 Committed Ready\nentry 0 4 0\n";
-    assert_looped(&rt, &done, printed, "", 0);
-    // Further lines after a goodbye.
-    let parted = loop_over_sockets(&rt, b"hello\ngoodbye\nreset\n\npull 1")?;
-    let printed = "heard 0 Done Unauth\nline 3 C1\nline 5 C1\n";
-    assert_looped(&rt, &parted, printed, "", 0);
-    // Nothing is run.
-    let unread = loop_over_sockets(&rt, b"hello\n\nnothing\n")?;
-    assert_looped(&rt, &unread, "", "line 3 unreadable\n", 2);
+    for case in &LOOPS {
+        let (near, far) = connected(&rt)?;
+        loops(&rt, &near, &far, case)?;
+    }
     Ok(())
 }
 
@@ -201,33 +219,12 @@ const FAREWELL: &[u8] = &[
     0x60, 0x60, 0xB0, 0x17, 0, 0, 4, 4, 0, 0, 0, 0, 0, 0, 0, 0, 0, 0, 0, 0, 0, 2, 0xB0, 0x02, 0, 0,
 ];
 
-/// A source that gives nothing and fails.
-#[derive(Drop)]
-struct Broken {
-    failed: bool,
-}
-
-impl Source for Broken {
-    ghost use Rattle.std.specs.Prelude.{None};
-
-    ghost left = { λ _. None };
-
-    ghost has_failed = { λ s. s.failed };
-
-    ghost reads = { λ _. 0 };
-
-    fn read(&mut self, _buffer: &mut [u8]) -> Result<usize, Failed> {
-        self.failed = true;
-        Err(Failed)
-    }
-}
-
 #[test]
 fn serves_one_after_another(rt: HostRuntime) -> Result<(), Fail> {
     let mut server = served(rt.alloc())?;
     let mut sink = Buffer::new(Vec::new(rt.alloc()));
     let mut out = Buffer::new(Vec::new(rt.alloc()));
-    let mut broken = Broken { failed: false };
+    let mut broken = Pieces::new(&[], 0);
     let lost = serve_next(rt.alloc(), &mut server, &mut broken, &mut sink, &mut out);
     assert_eq!(rt; lost, Ok(Cause::Lost));
     assert_eq!(rt; sink.bytes().len(), 0);

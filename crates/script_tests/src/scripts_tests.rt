@@ -1,8 +1,21 @@
-use messages::Request;
 use scripts::*;
 use std::alloc::{AllocError, Global};
 use std::test::*;
 use wire::Version;
+
+/// Who reads a text.
+enum Reader {
+    /// A line of a world.
+    Line,
+    /// A line that is a request.
+    Request,
+    /// The lines of a world.
+    Script,
+    /// Lines that are requests.
+    Requests,
+    /// A line that is a request, and what it means at a version.
+    Meaning(Version),
+}
 
 /// Lines of a world, and what they say.
 const LINES: &[(&[u8], &str)] = &[
@@ -137,98 +150,92 @@ const NO_REQUESTS: &[&[u8]] = &[
     b"",
 ];
 
-fn told(alloc: Global, line: &[u8]) -> Result<String, AllocError> {
-    match read_line(alloc, line) {
-        Ok(line) => format!(in alloc; "{line:?}"),
-        Err(fault) => format!(in alloc; "{fault}"),
-    }
-}
+/// Whole scripts, with empty lines.
+const WHOLE_SCRIPTS: &[(&[u8], &str)] = &[
+    (
+        b"\nopen 5.1\n\nwork 0 all\n",
+        "Ok([Numbered { number: 2, said: Open(Ours(Only(V51))) }, Numbered { number: 4, said: Work { conn: 0, times: All } }])",
+    ),
+    (b"open 5.1\n\nwork\nwork\n", "Err(Unreadable(3))"),
+];
 
-fn told_request(alloc: Global, line: &[u8]) -> Result<String, AllocError> {
-    match read_request(alloc, line) {
-        Ok(request) => format!(in alloc; "{request:?}"),
-        Err(fault) => format!(in alloc; "{fault}"),
+/// Whole scripts of requests.
+const WHOLE_REQUESTS: &[(&[u8], &str)] = &[
+    (
+        b"hello\npull 2",
+        "Ok([Numbered { number: 1, said: Hello }, Numbered { number: 2, said: Pull(Of(2)) }])",
+    ),
+    (b"\n\nnothing", "Err(Unreadable(3))"),
+];
+
+/// What requests mean at 4.4, where a HELLO has the login, and at 5.1.
+const MEANT_AT_44: &[(&[u8], &str)] = &[(
+    b"hello",
+    "Hello { agent: \"t/1\", auth: Some(Auth { scheme: \"basic\", principal: \"user\", .. }) }",
+)];
+
+const MEANT_AT_51: &[(&[u8], &str)] = &[
+    (b"hello", "Hello { agent: \"t/1\", auth: None }"),
+    (
+        b"logon bad",
+        "Logon(Auth { scheme: \"basic\", principal: \"user\", .. })",
+    ),
+    (b"pull 3", "Pull(Of(3))"),
+];
+
+/// All that is read.
+const READ: [(Reader, &[(&[u8], &str)]); 6] = [
+    (Reader::Line, LINES),
+    (Reader::Request, REQUESTS),
+    (Reader::Script, WHOLE_SCRIPTS),
+    (Reader::Requests, WHOLE_REQUESTS),
+    (Reader::Meaning(Version::V44), MEANT_AT_44),
+    (Reader::Meaning(Version::V51), MEANT_AT_51),
+];
+
+/// All that isn't.
+const UNREAD: [(Reader, &[&[u8]]); 2] = [
+    (Reader::Line, UNREADABLE),
+    (Reader::Request, NO_REQUESTS),
+];
+
+/// What a reader tells of a text.
+fn told(alloc: Global, reader: &Reader, text: &[u8]) -> Result<String, AllocError> {
+    match reader {
+        Reader::Line => match read_line(alloc, text) {
+            Ok(line) => format!(in alloc; "{line:?}"),
+            Err(fault) => format!(in alloc; "{fault}"),
+        },
+        Reader::Request => match read_request(alloc, text) {
+            Ok(request) => format!(in alloc; "{request:?}"),
+            Err(fault) => format!(in alloc; "{fault}"),
+        },
+        Reader::Script => format!(in alloc; "{:?}", read_script(alloc, text)),
+        Reader::Requests => format!(in alloc; "{:?}", read_requests(alloc, text)),
+        Reader::Meaning(version) => match read_request(alloc, text) {
+            Ok(request) => format!(in alloc; "{:?}", request.into_request(alloc, *version)?),
+            Err(fault) => format!(in alloc; "{fault}"),
+        },
     }
 }
 
 #[test]
-fn lines_are_read(rt: HostRuntime) -> Result<(), Fail> {
-    for (line, want) in LINES {
-        assert_eq!(rt; told(rt.alloc(), line)?.as_str(), *want);
+fn texts_are_read(rt: HostRuntime) -> Result<(), Fail> {
+    for (reader, rows) in &READ {
+        for (text, want) in *rows {
+            assert_eq!(rt; told(rt.alloc(), reader, text)?.as_str(), *want);
+        }
     }
-    for line in UNREADABLE {
-        assert_eq!(rt; told(rt.alloc(), line)?.as_str(), "unreadable");
+    for (reader, texts) in &UNREAD {
+        for text in *texts {
+            assert_eq!(rt;
+                told(rt.alloc(), reader, text)?.as_str(),
+                "unreadable",
+                "{text:?}"
+            );
+        }
     }
-    Ok(())
-}
-
-#[test]
-fn requests_are_read(rt: HostRuntime) -> Result<(), Fail> {
-    for (line, want) in REQUESTS {
-        assert_eq!(rt; told_request(rt.alloc(), line)?.as_str(), *want);
-    }
-    for line in NO_REQUESTS {
-        assert_eq!(rt; told_request(rt.alloc(), line)?.as_str(), "unreadable");
-    }
-    Ok(())
-}
-
-#[test]
-fn scripts_are_read(rt: HostRuntime) -> Result<(), Fail> {
-    let read = read_script(rt.alloc(), b"\nopen 5.1\n\nwork 0 all\n");
-    let text = format!(in rt.alloc(); "{read:?}")?;
-    let want =
-        "Ok([Numbered { number: 2, said: Open(Ours(Only(V51))) }, Numbered { number: 4, said: Work { conn: 0, times: All } }])";
-    assert_eq!(rt; text.as_str(), want);
-    let read = read_script(rt.alloc(), b"open 5.1\n\nwork\nwork\n");
-    let text = format!(in rt.alloc(); "{read:?}")?;
-    assert_eq!(rt; text.as_str(), "Err(Unreadable(3))");
-    Ok(())
-}
-
-#[test]
-fn request_scripts_are_read(rt: HostRuntime) -> Result<(), Fail> {
-    let read = read_requests(rt.alloc(), b"hello\npull 2");
-    let text = format!(in rt.alloc(); "{read:?}")?;
-    let want =
-        "Ok([Numbered { number: 1, said: Hello }, Numbered { number: 2, said: Pull(Of(2)) }])";
-    assert_eq!(rt; text.as_str(), want);
-    let read = read_requests(rt.alloc(), b"\n\nnothing");
-    let text = format!(in rt.alloc(); "{read:?}")?;
-    assert_eq!(rt; text.as_str(), "Err(Unreadable(3))");
-    Ok(())
-}
-
-fn meant(alloc: Global, version: Version, line: &[u8]) -> Result<String, AllocError> {
-    let Ok(request) = read_request(alloc, line) else {
-        return format!(in alloc; "unreadable");
-    };
-    let request: Request = request.into_request(alloc, version)?;
-    format!(in alloc; "{request:?}")
-}
-
-#[test]
-fn requests_are_meant(rt: HostRuntime) -> Result<(), Fail> {
-    let want = "Hello { agent: \"t/1\", auth: None }";
-    assert_eq!(rt; meant(rt.alloc(), Version::V51, b"hello")?.as_str(), want);
-    let want =
-        "Hello { agent: \"t/1\", auth: Some(Auth { scheme: \"basic\", principal: \"user\", .. }) }";
-    assert_eq!(rt; meant(rt.alloc(), Version::V44, b"hello")?.as_str(), want);
-    let want = "Logon(Auth { scheme: \"basic\", principal: \"user\", .. })";
-    assert_eq!(rt;
-        meant(rt.alloc(), Version::V51, b"logon bad")?.as_str(),
-        want
-    );
-    assert_eq!(rt;
-        meant(rt.alloc(), Version::V51, b"pull 3")?.as_str(),
-        "Pull(Of(3))"
-    );
-    Ok(())
-}
-
-#[test]
-fn faults_are_printed(rt: HostRuntime) -> Result<(), Fail> {
-    let text = format!(in rt.alloc(); "{}", ScriptFault::Unreadable(4))?;
-    assert_eq!(rt; text.as_str(), "line 4 unreadable");
+    let fault = format!(in rt.alloc(); "{}", ScriptFault::Unreadable(4))?;
+    assert_eq!(rt; fault.as_str(), "line 4 unreadable");
     Ok(())
 }
