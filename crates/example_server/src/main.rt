@@ -1,0 +1,35 @@
+//! Serves a fixed table at a port of this machine, one connection after another, until it is ended.
+#![tactic(auto)]
+
+use engine::{FixedTable, OneUser};
+use programs::serve_next;
+use server::Server;
+use std::io;
+use std::net::TcpListener;
+use streams::Over;
+
+/// The port that the words of the command line name.
+fn port_of(rt: &HostRuntime) -> io::Result<Option<u16>> {
+    let words: Vec<String> = std::env::args(rt)?.collect(rt.alloc())?;
+    let Some(word) = words.get(1) else {
+        return Ok(None);
+    };
+    Ok(word.parse::<u16>().ok())
+}
+
+fn main(rt: HostRuntime) -> io::Result<()> {
+    let alloc = rt.alloc();
+    let Some(port) = port_of(&rt)? else {
+        return println!(rt; "usage: example_server PORT");
+    };
+    let gate = OneUser::new(alloc, "user", "pass")?;
+    let mut server = Server::new(alloc, FixedTable::new(alloc), gate);
+    let listener = TcpListener::bind(&rt, ("127.0.0.1", port))?;
+    let mut out = Over::new(rt.stdout());
+    for stream in listener.incoming() {
+        let stream = stream?;
+        let (mut source, mut sink) = (Over::new(&stream), Over::new(&stream));
+        let _cause = serve_next(alloc, &mut server, &mut source, &mut sink, &mut out);
+    }
+    Ok(())
+}
