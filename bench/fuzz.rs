@@ -107,7 +107,7 @@ fn hoard(start: Instant, places: u32) -> f64 {
 
 fn begin(file: &std::fs::File, what: &str) { file.write_all_at(format!("{what:<60}\n").as_bytes(), 0).expect("a file"); }
 
-/// The program on random words.
+/// The program on random words: a check at the oldest version and at the newest, for 5.0 has the structures of 5.1.
 fn run_program(program: &str, chance: &AtomicU64) {
     let hex: String = (0..next(chance) % 200).map(|_| char::from(b"0123456789ABCDEFabcdef0000011Z"[(next(chance) % 30) as usize])).collect();
     let open = "6060B017000001050000040400000000000000000000000000".to_owned() + &hex;

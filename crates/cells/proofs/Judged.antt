@@ -4,7 +4,7 @@ use Rattle.packstream.specs.Tree.{Tree, int, list, dict, structure, Trees, no_tr
 use Rattle.packstream.specs.Good.{count}
 use Rattle.packstream.specs.View.{trees_of, entries_of}
 use Rattle.wire.specs.declared.Version.{Version}
-use Rattle.wire.specs.declared.Version.TheVariants.{V44, V51}
+use Rattle.wire.specs.declared.Version.TheVariants.{V44, V50, V51}
 use Rattle.cells.specs.declared.cell.ElementIds.{ElementIds}
 use Rattle.cells.specs.declared.table.Field.{Field}
 use Rattle.cells.specs.declared.table.Field.TheVariants.{Nanosecond, DayNanosecond, Offset, UtcSecond}
@@ -142,6 +142,7 @@ counted (t ∷ ts) = ap suc (counted ts)
 
 path_judged : (v : Version) (ns rs : List Tree) (is : List ℤ) → walk_fault (length ns) (length rs) is ≡ fault_of_structure v 0x50 (tree_then (list (trees_of ns)) (tree_then (list (trees_of rs)) (tree_then (numbers_of is) no_trees)))
 path_judged V44 ns rs is = rw (counted ns, counted rs) refl
+path_judged V50 ns rs is = rw (counted ns, counted rs) refl
 path_judged V51 ns rs is = rw (counted ns, counted rs) refl
 
 pub path_ok : (v : Version) (k m n l : ℕ) (ns rs : List Tree) (is : List ℤ) → n ≡ length ns → l ≡ length rs → Ok m ≡ fault_or_rest (walk_fault n l is) k (Ok (next k))

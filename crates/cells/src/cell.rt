@@ -53,13 +53,13 @@ pub enum Cell {
         nanos: i64,
         offset: i64,
     },
-    /// Local seconds in a named zone, which version 4.4 alone has.
+    /// Local seconds in a named zone, where a version has no UTC times.
     ZonedLocal {
         seconds: i64,
         nanos: i64,
         zone: String,
     },
-    /// UTC seconds in a named zone, which version 5.1 alone has.
+    /// UTC seconds in a named zone, where a version has UTC times.
     ZonedUtc {
         seconds: i64,
         nanos: i64,
@@ -86,7 +86,7 @@ pub enum Cell {
     },
 }
 
-/// A node. Its element id is absent in the form of 4.4 and there in the form of 5.1.
+/// A node. Its element id is there in the form of a version that has element ids, and else absent.
 #[derive(Debug, Drop)]
 #[cycle(cells)]
 pub struct Node {
@@ -96,8 +96,7 @@ pub struct Node {
     pub element_id: Option<String>,
 }
 
-/// A relationship with the ids of its nodes. Its element ids are absent in the form of 4.4 and there in the form
-/// of 5.1.
+/// A relationship with the ids of its nodes. Its element ids are there in the form of a version that has them, and else absent.
 #[derive(Debug, Drop)]
 #[cycle(cells)]
 pub struct Relationship {

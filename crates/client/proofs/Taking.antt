@@ -1,5 +1,5 @@
 -- What a client takes of a piece: the answer to its offer, then chunks.
-use Rattle.std.proofs.Common.{◌≡◌, refl, sym, ◌∙◌, ap, subst, inl, inr, ℕ, zero, suc, ◌+◌, ◌-◌, ◌<◌, ◌≤◌, min, Bool, true, false, eqb, Option, Some, None, Err, List, [], ◌∷◌, ◌++◌, length, take, arith, append_assoc, append-nil, length-append}
+use Rattle.std.proofs.Common.{◌≡◌, refl, sym, ◌∙◌, ap, subst, inl, inr, ℕ, zero, suc, ◌+◌, ◌-◌, ◌<◌, ◌≤◌, min, Bool, true, false, eqb, Option, Some, None, Err, List, [], ◌∷◌, ◌++◌, length, take, drop, slice_index_or, arith, append_assoc, append-nil, length-append}
 use Rattle.std.specs.Prelude.{◌⊎◌, if◌then◌else◌}
 use Rattle.std.specs.Str.{bytes_eq}
 use Rattle.std.proofs.Math.Logic.{∥∥₁_map}
@@ -7,7 +7,7 @@ use Rattle.std.proofs.lemmas.List.{take_all}
 use Rattle.std.proofs.lemmas.Bool.{cases_lt}
 use Rattle.std.proofs.lemmas.Bool.Decides.{nat_tests}
 use Rattle.wire.specs.declared.Version.{Version}
-use Rattle.wire.specs.declared.Version.TheVariants.{V44, V51}
+use Rattle.wire.specs.Versions.{versions}
 use Rattle.wire.specs.Offers.{version_answer}
 use Rattle.wire.specs.declared.WireFault.TheVariants as fault
 use Rattle.wire.specs.Place.{Place, start}
@@ -18,7 +18,7 @@ use Rattle.wire.specs.Reader.{Took, takes, one_more, ends_at}
 use Rattle.wire.specs.Framing.{Item, Opening as Opens, chunks, Opened, opening, reading, at_client, took_by}
 use Rattle.wire.proofs.Framed.{answers_take}
 use Rattle.reader.specs.Piecewise.{Point, Points, Reads, fresh as nothing_held}
-use Rattle.messages.specs.Arrivals.{Heard, Chosen, Strange, heard_version}
+use Rattle.messages.specs.Arrivals.{Heard, Chosen, Strange, heard_among, heard_version}
 use Rattle.client.specs.declared.opening.Opening.{Opening}
 use Rattle.client.specs.declared.feeding.Came.{Came}
 use Rattle.client.specs.declared.feeding.Came.TheVariants as came
@@ -64,17 +64,25 @@ whole_taken (suc (suc n)) bytes (b ∷ bs) some l e =
     let no : eqb (length bytes + 1) 4 ≡ false = grind (arith, nat_tests) in
     rw no (ap one_more (whole_taken (suc n) (bytes ++ b ∷ []) bs (omega arith) (omega arith) (omega (arith, length-append bytes (b ∷ [])))) ∙ ap (λ l. record { used = suc (suc n); item = Some (Opens l); rest = reading fresh }) (append_assoc bytes (b ∷ []) (take (suc n) bs)))
 
-abbrev version_by : Bool → Bool → Bool → Heard
-version_by a b c = if a then Chosen (Some V51) else (if b then Chosen (Some V44) else (if c then Chosen None else Strange))
+plain_if : (b : Bool) (x y : Heard) → plain x ≡ x → plain y ≡ y → plain (if b then x else y) ≡ (if b then x else y)
+plain_if true x y h k = h
+plain_if false x y h k = k
 
-plain_by : (a b c : Bool) → plain (version_by a b c) ≡ version_by a b c
-plain_by true b c = refl
-plain_by false true c = refl
-plain_by false false true = refl
-plain_by false false false = refl
+plain_among : (vs : List Version) (bytes : List ℕ) → plain (heard_among vs bytes) ≡ heard_among vs bytes
+plain_among [] bytes = plain_if (bytes_eq bytes (version_answer None)) (Chosen None) Strange refl refl
+plain_among (v ∷ vs) bytes = plain_if (bytes_eq bytes (version_answer (Some v))) (Chosen (Some v)) (heard_among vs bytes) refl (plain_among vs bytes)
 
 plain_version : (bytes : List ℕ) → plain (heard_version bytes) ≡ heard_version bytes
-plain_version bytes = plain_by (bytes_eq bytes (version_answer (Some V51))) (bytes_eq bytes (version_answer (Some V44))) (bytes_eq bytes (version_answer None))
+plain_version bytes = plain_among versions bytes
+
+-- an answer that isn't that of the version at a place is heard among those after it
+among_later : (vs : List Version) (i : ℕ) (v : Version) (bytes : List ℕ) → i < length vs → bytes_eq bytes (version_answer (Some (slice_index_or vs i v))) ≡ false → heard_among (drop i vs) bytes ≡ heard_among (drop (suc i) vs) bytes
+among_later [] i v bytes l e = absurd (omega arith)
+among_later (u ∷ us) zero v bytes l e = rw e refl
+among_later (u ∷ us) (suc i) v bytes l e = among_later us i v bytes (omega arith) e
+
+pub heard_later : (vs : List Version) (i : ℕ) (v : Version) (bytes : List ℕ) → i < length vs → bytes_eq bytes (version_answer (Some (slice_index_or vs i v))) ≡ false → heard_among (drop i vs) bytes ≡ heard_among (drop (i + 1) vs) bytes
+heard_later vs i v bytes l e = let after : suc i ≡ i + 1 = omega arith in among_later vs i v bytes l e ∙ ap (λ n. heard_among (drop n vs) bytes) after
 
 -- where no chunk has come
 pub reads_none : (o : Opening) (place : Place) (p : Point) → 4 ≤ o.len → place ≡ start → Reads p [] → IsItem o place p (reading fresh)

@@ -37,6 +37,8 @@ pub const OLD: &[u8] = &[0, 0, 4, 4];
 
 pub const NEW: &[u8] = &[0, 0, 1, 5];
 
+pub const AT_5_0: &[u8] = &[0, 0, 0, 5];
+
 /// A request.
 pub enum Asked {
     /// HELLO with and without the credentials.

@@ -3,7 +3,7 @@
 use crate::asking::Asked::*;
 use crate::asking::Step::*;
 use crate::asking::{
-    FAILURE, IGNORED, MORE, MORE_OF_ONE, NEW, OLD, ROW, SUCCESS, Step, Told, plays,
+    AT_5_0, FAILURE, IGNORED, MORE, MORE_OF_ONE, NEW, OLD, ROW, SUCCESS, Step, Told, plays,
 };
 use client::*;
 use machine::Phase;
@@ -13,6 +13,8 @@ use wire::{Version, Wish};
 
 const OLD_ALONE: Wish = Wish::Only(Version::V44);
 
+const ALONE_AT_5_0: Wish = Wish::Only(Version::V50);
+
 /// A client of 4.4 is logged on.
 const LOGS_ON: &[Step] = &[
     Feeds(OLD, Told::Version),
@@ -21,6 +23,10 @@ const LOGS_ON: &[Step] = &[
 ];
 
 const ANOTHER_VERSION: &[Step] = &[Feeds(NEW, Told::BadPeer), Feeds(NEW, Told::Closed)];
+
+const AN_OLDER_VERSION: &[Step] = &[Feeds(OLD, Told::BadPeer), Feeds(OLD, Told::Closed)];
+
+const VERSION_5_0: &[Step] = &[Feeds(AT_5_0, Told::BadPeer), Feeds(AT_5_0, Told::Closed)];
 
 const A_STRANGE_VERSION: &[Step] = &[Feeds(&[0, 1, 1, 5], Told::BadPeer)];
 
@@ -34,14 +40,27 @@ const NO_VERSION: &[Step] = &[
 ];
 
 const OFFERS: &[Step] = &[
-    TakesOut(6, &[0x60, 0x60, 0xB0, 0x17, 0, 0]),
-    Takes(100, 14),
+    TakesOut(6, &[0x60, 0x60, 0xB0, 0x17, 0, 1]),
+    TakesOut(100, &[1, 5, 0, 0, 4, 4, 0, 0, 0, 0, 0, 0, 0, 0]),
     Feeds(&[0, 0, 4, 4, 1], Told::Version),
     Asks(Hello, "C7 with M5"),
     Takes(100, 0),
     Asks(Goodbye, "accepted"),
     Stands(1, Phase::Fresh),
     TakesOut(100, &[0, 2, 0xB0, 2, 0, 0]),
+];
+
+/// At 5.0 a HELLO has the login, and there are no LOGON and LOGOFF.
+const LOGS_ON_AT_5_0: &[Step] = &[
+    Takes(100, 20),
+    Feeds(AT_5_0, Told::Version),
+    Asks(Hello, "C7 with M5"),
+    Asks(Logon, "C1"),
+    Asks(HelloOld, "accepted"),
+    Asks(Logon, "C1"),
+    Takes(100, 67),
+    Hears(SUCCESS, Told::Summary(0, Outcome::Done, Phase::Ready)),
+    Asks(Logoff, "C1"),
 ];
 
 /// A session at 5.1, with a result in two parts.
@@ -277,9 +296,27 @@ const PLAYED: &[(&str, Wish, &[&[Step]])] = &[
     ("lost after a COMMIT", OLD_ALONE, &[LOST_AFTER_A_COMMIT]),
 ];
 
+/// Those with an answer of 5.0, or a wish of it.
+const PLAYED_AT_5_0: &[(&str, Wish, &[&[Step]])] = &[
+    ("5.0 for 4.4", OLD_ALONE, &[VERSION_5_0]),
+    ("5.1 for 5.0", ALONE_AT_5_0, &[ANOTHER_VERSION]),
+    ("4.4 for 5.0", ALONE_AT_5_0, &[AN_OLDER_VERSION]),
+    ("5.0 for 5.1", Wish::Only(Version::V51), &[VERSION_5_0]),
+    ("wished 5.0", ALONE_AT_5_0, &[LOGS_ON_AT_5_0]),
+    ("5.0 of all", Wish::Newest, &[LOGS_ON_AT_5_0]),
+];
+
 #[test]
 fn answers(rt: HostRuntime) -> Result<(), Fail> {
     for (name, wish, parts) in PLAYED {
+        plays(&rt, name, *wish, parts)?;
+    }
+    Ok(())
+}
+
+#[test]
+fn answers_at_5_0(rt: HostRuntime) -> Result<(), Fail> {
+    for (name, wish, parts) in PLAYED_AT_5_0 {
         plays(&rt, name, *wish, parts)?;
     }
     Ok(())

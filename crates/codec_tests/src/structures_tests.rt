@@ -54,6 +54,7 @@ const ZONED: &[u8] = &[0xB3, 0x66, 0x00, 0x00, 0x83, 0x55, 0x54, 0x43];
 /// Bytes of a cell at one version, and what the cell is written as at another, or at the same.
 const WRITTEN: &[(Version, &[u8], Version, &[u8])] = &[
     (Version::V44, OLD_NODE, Version::V44, OLD_NODE),
+    (Version::V50, NEW_NODE, Version::V50, NEW_NODE),
     (Version::V51, NEW_NODE, Version::V51, NEW_NODE),
     (
         Version::V44,
@@ -70,6 +71,7 @@ const WRITTEN: &[(Version, &[u8], Version, &[u8])] = &[
     (Version::V44, OLD_PATH, Version::V44, OLD_PATH),
     (Version::V51, NEW_PATH, Version::V51, NEW_PATH),
     (Version::V44, OLD_MOMENT, Version::V51, NEW_MOMENT),
+    (Version::V44, OLD_MOMENT, Version::V50, NEW_MOMENT),
     (Version::V51, NEW_MOMENT, Version::V44, OLD_MOMENT),
     (Version::V44, ZONED, Version::V44, ZONED),
     (Version::V44, DEEPEST, Version::V44, DEEPEST),
@@ -218,6 +220,11 @@ const UNREAD: &[(Version, &[u8], CellFault)] = &[
         CellFault::Refused(Reason::FieldCount, 0),
     ),
     (
+        Version::V50,
+        OLD_NODE,
+        CellFault::Refused(Reason::FieldCount, 0),
+    ),
+    (
         Version::V44,
         &[0x92, 0xB1, 0x44, 0x00, 0xB2, 0x44, 0x00, 0x00],
         CellFault::Refused(Reason::FieldCount, 1),
@@ -263,6 +270,16 @@ const UNREAD: &[(Version, &[u8], CellFault)] = &[
     ),
     (
         Version::V51,
+        ZONED,
+        CellFault::Refused(Reason::NotInVersion, 0),
+    ),
+    (
+        Version::V50,
+        OLD_MOMENT,
+        CellFault::Refused(Reason::NotInVersion, 0),
+    ),
+    (
+        Version::V50,
         ZONED,
         CellFault::Refused(Reason::NotInVersion, 0),
     ),

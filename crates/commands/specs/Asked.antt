@@ -6,7 +6,7 @@ use Rattle.std.specs.Option.{option_and_then}
 use Rattle.std.specs.Str.{bytes_eq}
 use Rattle.scripts.specs.Words.{number_of}
 use Rattle.wire.specs.declared.Version.{Version}
-use Rattle.wire.specs.declared.Version.TheVariants.{V44, V51}
+use Rattle.wire.specs.declared.Version.TheVariants.{V44, V50, V51}
 use Rattle.commands.specs.declared.words.CommandLine.{CommandLine}
 use Rattle.commands.specs.declared.words.CommandLine.TheVariants as words
 use Rattle.commands.specs.declared.commands.Said.{Said}
@@ -35,7 +35,8 @@ pub data Ask : Type 0 where
 -- the version of a word
 abbrev pub version_at : Text → Option Version
 version_at word = if bytes_eq word (codes "4.4") then Some V44
-    else (if bytes_eq word (codes "5.1") then Some V51 else None)
+    else (if bytes_eq word (codes "5.0") then Some V50
+    else (if bytes_eq word (codes "5.1") then Some V51 else None))
 
 -- a check of a text, where there is such a version
 abbrev pub check_at : Option Version → Text → Ask

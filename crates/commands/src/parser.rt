@@ -41,7 +41,7 @@ fn check<'a>(alloc: Global) -> Result<Command<'a>, AllocError> {
     let version = Arg::new(alloc, "VERSION")
         .required(true)
         .action(ArgAction::Set)
-        .value_parser(["4.4", "5.1"].as_slice());
+        .value_parser(["4.4", "5.0", "5.1"].as_slice());
     Command::new(alloc, "check")
         .about("Reads these bytes as a cell, and prints its shortest spelling")
         .arg(version)?

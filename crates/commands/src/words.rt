@@ -219,6 +219,8 @@ fn version_of(word: &str) -> Option<Version>
 {
     if word == "4.4" {
         Some(Version::V44)
+    } else if word == "5.0" {
+        Some(Version::V50)
     } else if word == "5.1" {
         Some(Version::V51)
     } else {

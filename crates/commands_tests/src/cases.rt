@@ -8,7 +8,7 @@ pub(crate) struct Case {
     pub last: &'static str,
 }
 
-pub(crate) const CASES: [Case; 13] = [
+pub(crate) const CASES: [Case; 15] = [
     // A HELLO that comes twice.
     Case {
         text: "6060b017000001050000040400000000000000000012b101a18a757365725f6167656e7483742f3100000012b101a18a757365725f6167656e7483742f310000",
@@ -39,9 +39,21 @@ pub(crate) const CASES: [Case; 13] = [
         out: "00000105002bb170a2867365727665728b426f6c745461626c652f318d636f6e6e656374696f6e5f696486626f6c742d3000000003b170a00000",
         last: "state Ready",
     },
-    // Version 4.4 after one that is unknown.
+    // Version 5.0 before 4.4.
     Case {
         text: "6060b01700000005000004040000000000000000",
+        out: "00000005",
+        last: "state Fresh",
+    },
+    // HELLO of 5.0, which logs on.
+    Case {
+        text: "6060b01700000005000000000000000000000000003fb101a48a757365725f6167656e7483742f3186736368656d65856261736963897072696e636970616c84757365728b63726564656e7469616c7384706173730000",
+        out: "00000005002bb170a2867365727665728b426f6c745461626c652f318d636f6e6e656374696f6e5f696486626f6c742d300000",
+        last: "state Ready",
+    },
+    // Version 4.4 after one that is unknown.
+    Case {
+        text: "6060b01700000003000004040000000000000000",
         out: "00000404",
         last: "state Fresh",
     },

@@ -215,6 +215,16 @@ fn checks_cells(rt: HostRuntime) -> Result<(), Fail> {
     checks(&rt, alloc, "4.4", "B144C948E5", "ok b144c948e5", 0)?;
     checks(&rt, alloc, "5.1", "B144C948E5", "ok b144c948e5", 0)?;
     checks(&rt, alloc, "5.1", "B34E01918141A0", "refused S2 at 0", 1)?;
+    checks(&rt, alloc, "5.0", "B34E01918141A0", "refused S2 at 0", 1)?;
+    checks(&rt, alloc, "5.0", "B3490000C90E10", "ok b3490000c90e10", 0)?;
+    checks(
+        &rt,
+        alloc,
+        "5.0",
+        "B346C90E1000C90E10",
+        "refused S6 at 0",
+        1,
+    )?;
     checks(
         &rt,
         alloc,
@@ -341,7 +351,7 @@ fn refuses_other_words(rt: HostRuntime) -> Result<(), Fail> {
             .ends_with("error: these words are no command\n".as_bytes())
     );
     assert_eq!(rt;
-        status_of(rt.alloc(), &["bolt", "check", "5.0", "01"], &mut told)?,
+        status_of(rt.alloc(), &["bolt", "check", "5.2", "01"], &mut told)?,
         2
     );
     assert_eq!(rt;

@@ -20,7 +20,7 @@ pub(crate) enum Given {
 /// A request.
 pub(crate) enum Asked {
     Hello,
-    /// A HELLO of 4.4, which has the login.
+    /// A HELLO of 4.4 or 5.0, which has the login.
     Login,
     Logon,
     Begin,

@@ -365,12 +365,13 @@ fn greet<G: Gate>(
         (auth_in auth.now))) }
 {
     let greeting = Summary::Greeting(conn);
-    match version {
-        Version::V51 => says(alloc, version, Verdict::Success, greeting, Leaves::Nothing),
-        Version::V44 => match auth {
+    if version.hello_has_login() {
+        match auth {
             None => refuses(alloc, version, Fault::Unauthorized),
             Some(auth) => admit(alloc, version, auth, greeting, gate),
-        },
+        }
+    } else {
+        says(alloc, version, Verdict::Success, greeting, Leaves::Nothing)
     }
 }
 

@@ -15,8 +15,7 @@ pub(crate) fn answer_of(version: Option<Version>) -> [u8; 4]
 {
     match version {
         None => [0, 0, 0, 0],
-        Some(Version::V44) => [0, 0, 4, 4],
-        Some(Version::V51) => [0, 0, 1, 5],
+        Some(version) => [0, 0, version.minor(), version.major()],
     }
 }
 

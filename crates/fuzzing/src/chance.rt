@@ -134,10 +134,11 @@ fn said(
 }
 
 fn any_peer(chance: &mut Chance) -> Peer {
-    match chance.below(5) {
+    match chance.below(6) {
         0 => Peer::Ours(Wish::Newest),
         1 => Peer::Ours(Wish::Only(Version::V44)),
-        2 => Peer::Ours(Wish::Only(Version::V51)),
+        2 => Peer::Ours(Wish::Only(Version::V50)),
+        3 => Peer::Ours(Wish::Only(Version::V51)),
         _ => Peer::Foreign,
     }
 }
@@ -165,7 +166,7 @@ fn any_request(alloc: Global, chance: &mut Chance, sent: usize) -> Result<Reques
     })
 }
 
-/// HELLO with a login, as at 4.4, or without.
+/// HELLO with a login, as at 4.4 and 5.0, or without.
 fn any_hello(alloc: Global, chance: &mut Chance) -> Result<Request, AllocError> {
     if chance.below(2) == 0 {
         return hello(alloc, Some(auth(alloc)?));

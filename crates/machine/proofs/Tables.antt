@@ -27,7 +27,8 @@ every_verdict = Verdict.Success ∷ Verdict.More ∷ Verdict.Failure ∷ Verdict
 
 pub at_version : (t : Version → Bool) → list_all t versions ≡ true → (v : Version) → t v ≡ true
 at_version t h Version.V51 = list_at t versions 0 _ h refl
-at_version t h Version.V44 = list_at t versions 1 _ h refl
+at_version t h Version.V50 = list_at t versions 1 _ h refl
+at_version t h Version.V44 = list_at t versions 2 _ h refl
 
 pub at_bool : (t : Bool → Bool) → list_all t every_bool ≡ true → (b : Bool) → t b ≡ true
 at_bool t h true = list_at t every_bool 0 _ h refl

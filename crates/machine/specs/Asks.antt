@@ -45,9 +45,9 @@ is_with_logon Kind.Logon = true
 is_with_logon Kind.Logoff = true
 is_with_logon _ = false
 
--- whether a version has requests of this kind
+-- whether a version has requests of this kind; the version comes last, as in the table's rows
 abbrev pub is_of : Version → Kind → Bool
-is_of v k = has_logon v || not (is_with_logon k)
+is_of v k = not (is_with_logon k) || has_logon v
 
 -- two names of one version, by its numbers
 abbrev pub same_version : Version → Version → Bool

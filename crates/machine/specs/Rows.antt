@@ -61,10 +61,10 @@ lines =
     (Reset ∷ []) (To Ready) Nowhere Nowhere
     ∷ []
 
--- whether a line is for a request in a state
+-- whether a line is for a request in a state; the versions come last, so that a row which stands at every version computes without one
 abbrev pub covers : Line → Version → State → Kind → Bool
-covers x v s k = x.versions v
-    && (list_any (same_state s) x.states && list_any (same_kind k) x.kinds)
+covers x v s k = list_any (same_state s) x.states
+    && (list_any (same_kind k) x.kinds && x.versions v)
 
 -- the line of a request in a state, where there is one
 abbrev pub line_of : Version → State → Kind → Option Line

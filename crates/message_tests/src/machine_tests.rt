@@ -82,6 +82,7 @@ const ALLOWED: &[(Version, &[Phase], Kind, bool)] = &[
     (Version::V51, &[Phase::Defunct], Kind::Goodbye, false),
     (Version::V51, &[Phase::Unauth], Kind::Reset, false),
     (Version::V44, &[Phase::Halted], Kind::Logon, false),
+    (Version::V50, &[Phase::Halted], Kind::Logon, false),
 ];
 
 #[test]
@@ -120,6 +121,13 @@ const ROWS: &[(Version, State, Kind, Verdict, Option<State>)] = &[
     ),
     (
         Version::V44,
+        State::Fresh,
+        Kind::Hello,
+        Verdict::Success,
+        Some(State::Ready),
+    ),
+    (
+        Version::V50,
         State::Fresh,
         Kind::Hello,
         Verdict::Success,

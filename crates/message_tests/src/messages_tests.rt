@@ -120,12 +120,14 @@ fn is_unwritten(alloc: Global, version: Version, request: &Request, told: &str) 
 fn unwritten_requests(rt: HostRuntime) -> Result<(), Fail> {
     let alloc = rt.alloc();
     assert!(rt; is_unwritten(alloc, Version::V44, &Request::Logoff, "M3"));
+    assert!(rt; is_unwritten(alloc, Version::V50, &Request::Logoff, "M3"));
     assert!(rt; is_unwritten(alloc, Version::V51, &Request::Pull(Count::Of(0)), "M5"));
     let hello = Request::Hello {
         agent: String::from_str(alloc, "t/1")?,
         auth: None,
     };
     assert!(rt; is_unwritten(alloc, Version::V44, &hello, "M5"));
+    assert!(rt; is_unwritten(alloc, Version::V50, &hello, "M5"));
     Ok(())
 }
 
@@ -134,6 +136,8 @@ const READ_REQUESTS: &[(Version, &[u8], &str)] = &[
     (Version::V51, &[0xC0], "M2"),
     (Version::V51, &[0xB1, 0x70, 0xA0], "M3"),
     (Version::V44, &[0xB0, 0x6B], "M3"),
+    (Version::V50, &[0xB0, 0x6B], "M3"),
+    (Version::V50, LOGON_OF_USER, "M3"),
     (Version::V51, &[0xB1, 0x0F, 0xA0], "M4"),
     (Version::V51, &[0xB1, 0x10, 0xA0], "M4"),
     (Version::V51, &[0xB1, 0x3F, 0xA0], "M5"),
@@ -173,11 +177,16 @@ const READ_REQUESTS: &[(Version, &[u8], &str)] = &[
         "read",
     ),
     (Version::V44, HELLO_OF_USER, "read"),
+    (Version::V50, HELLO_OF_USER, "read"),
     (Version::V51, LOGON_OF_USER, "read"),
 ];
 
 /// Requests whose copies are written as they were read.
-const AGAIN: &[(Version, &[u8])] = &[(Version::V44, HELLO_OF_USER), (Version::V51, LOGON_OF_USER)];
+const AGAIN: &[(Version, &[u8])] = &[
+    (Version::V44, HELLO_OF_USER),
+    (Version::V50, HELLO_OF_USER),
+    (Version::V51, LOGON_OF_USER),
+];
 
 /// Whether a copy of the request that is read is written as the same bytes.
 fn is_again(alloc: Global, version: Version, bytes: &[u8]) -> Result<bool, Fail> {
@@ -217,6 +226,7 @@ const RESPONSES: &[(Version, &[u8])] = &[
     (Version::V51, FIELDS_OF_ROWS),
     (Version::V51, UNKNOWN_TEXT),
     (Version::V44, WALK_OLD),
+    (Version::V50, WALK_NEW),
     (Version::V51, WALK_NEW),
     (Version::V51, &[0xB0, 0x7E]),
 ];

@@ -19,7 +19,7 @@ use Rattle.cells.specs.Writing.{fault_of_structure, IsWritable}
 use Rattle.cells.proofs.Fine.{fine_scan}
 use Rattle.structures.specs.Form.{form, typed, typed_all, typed_under}
 use Rattle.structures.proofs.Formed.{form_is}
-use Rattle.wire.specs.declared.Version.TheVariants.{V44, V51}
+use Rattle.wire.specs.declared.Version.TheVariants.{V44, V50, V51}
 use Rattle.messages.specs.declared.request.Mode.TheVariants.{Read, Write}
 use Rattle.messages.specs.declared.request.Count.TheVariants.{All, Of}
 use Rattle.messages.specs.declared.fault.MsgFault.{MsgFault}
@@ -109,13 +109,18 @@ texts_plain l p = (
 asked_plain : (v : Version) (m : RequestView) (t : Tree) → IsRequest v m → form_put v (request_contents m) ≡ Ok t → IsPlain t
 unfolding lib.Utf8.encode
 asked_plain V44 (Hello a None) t p h = absurd cc
+asked_plain V50 (Hello a None) t p h = absurd cc
 asked_plain V51 (Hello a None) t p h = plain_from _ t h (omega arith, (((codes "user_agent", (refl, refl)), p.0, tt), tt))
 asked_plain V44 (Hello a (Some l)) t p h =
     plain_from _ t h (omega arith, (((codes "user_agent", (refl, refl)), p.0, texts_plain l p.1), tt))
+asked_plain V50 (Hello a (Some l)) t p h =
+    plain_from _ t h (omega arith, (((codes "user_agent", (refl, refl)), p.0, texts_plain l p.1), tt))
 asked_plain V51 (Hello a (Some l)) t p h = absurd cc
 asked_plain V44 (Logon l) t p h = absurd cc
+asked_plain V50 (Logon l) t p h = absurd cc
 asked_plain V51 (Logon l) t p h = plain_from _ t h (omega arith, (texts_plain l p, tt))
 asked_plain V44 Logoff t p h = absurd cc
+asked_plain V50 Logoff t p h = absurd cc
 asked_plain V51 Logoff t p h = plain_from _ t h (omega arith, tt)
 asked_plain v Goodbye t p h = plain_from _ t h (omega arith, tt)
 asked_plain v Reset t p h = plain_from _ t h (omega arith, tt)

@@ -2,7 +2,7 @@
 use Rattle.std.proofs.Common.{◌≡◌, ℕ, ◌-◌, Bool, true, false, cond, Some, List, [], ◌∷◌, ◌++◌, length, take, refl, sym, ap, subst, ◌∙◌, arith}
 use Rattle.std.specs.Prelude.{if◌then◌else◌, nat_le, map}
 use Rattle.wire.specs.declared.Version.{Version}
-use Rattle.wire.specs.declared.Version.TheVariants.{V44, V51}
+use Rattle.wire.specs.declared.Version.TheVariants.{V44, V50, V51}
 use Rattle.wire.specs.declared.Wish.{Wish}
 use Rattle.wire.specs.declared.Wish.TheVariants.{Newest, Only}
 use Rattle.wire.specs.Offers.{offer_of, wish_version}
@@ -42,12 +42,12 @@ written_within v n (m ∷ ms) h = go (nat_le (length (request_bytes v m)) n) (wr
 offer_shakes : (wish : Wish) → arrival_of_offer (offer_of wish) ≡ Shook (Some (wish_version wish))
 offer_shakes Newest = refl
 offer_shakes (Only V44) = refl
+offer_shakes (Only V50) = refl
 offer_shakes (Only V51) = refl
 
 offer_length : (wish : Wish) → length (offer_of wish) ≡ 20
 offer_length Newest = refl
-offer_length (Only V44) = refl
-offer_length (Only V51) = refl
+offer_length (Only v) = refl
 
 -- an offer of which this version is taken, then requests
 module _ (start : List ℕ) (v : Version) (long : length start ≡ 20) (shakes : arrival_of_offer start ≡ Shook (Some v)) where

@@ -4,7 +4,7 @@ use Rattle.std.specs.Prelude.{nat_le, map, reverse}
 use Rattle.std.proofs.Math.Seq.{take-nil}
 use Rattle.std.proofs.lemmas.List.{reverse-append, reverse-reverse}
 use Rattle.wire.specs.declared.Version.{Version}
-use Rattle.wire.specs.declared.Version.TheVariants.{V44, V51}
+use Rattle.wire.specs.declared.Version.TheVariants.{V44, V50, V51}
 use Rattle.wire.specs.Offers.{version_answer}
 use Rattle.wire.specs.Framing.{Item, Opening, Noop, Message, items_heard, item_bytes, bytes_newest_first, within_newest_first, Spoken}
 use Rattle.wire.proofs.Opened.{said_text-map, said_within-map, said_arrives}
@@ -30,12 +30,12 @@ same_text v Over = refl
 
 answer_length : (o : Option Version) → length (version_answer o) ≡ 4
 answer_length None = refl
-answer_length (Some V44) = refl
-answer_length (Some V51) = refl
+answer_length (Some v) = refl
 
 answer_heard : (o : Option Version) → heard_version (version_answer o) ≡ Chosen o
 answer_heard None = refl
 answer_heard (Some V44) = refl
+answer_heard (Some V50) = refl
 answer_heard (Some V51) = refl
 
 -- each comes as an item of the wire

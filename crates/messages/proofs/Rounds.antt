@@ -5,7 +5,7 @@ use Rattle.packstream.specs.Tree.{Tree, text, dict, list, structure, no_trees, t
 use Rattle.packstream.specs.View.{entries_of, trees_of}
 use Rattle.packstream.specs.Making.{first_fault, faults_in}
 use Rattle.wire.specs.declared.Version.{Version}
-use Rattle.wire.specs.declared.Version.TheVariants.{V44, V51}
+use Rattle.wire.specs.declared.Version.TheVariants.{V44, V50, V51}
 use Rattle.cells.specs.declared.fault.Reason.{Reason as CellReason}
 use Rattle.cells.specs.Faults.{scan, structures}
 use Rattle.cells.specs.Writing.{fault_of_structure}
@@ -86,12 +86,16 @@ write_back v s ps (Err x) t e p h = let k = rw e at h in absurd cc
 
 pub told_back : (v : Version) (m : RequestView) (t : Tree) → AreBack v m → form_put v (request_contents m) ≡ Ok t → contents_of_message v requests t ≡ Ok (request_contents m)
 told_back V44 (Hello a None) t p h = absurd cc
+told_back V50 (Hello a None) t p h = absurd cc
 told_back V51 (Hello a None) t p h = told_from V51 requests _ _ t h refl
 told_back V44 (Hello a (Some l)) t p h = told_from V44 requests _ _ t h refl
+told_back V50 (Hello a (Some l)) t p h = told_from V50 requests _ _ t h refl
 told_back V51 (Hello a (Some l)) t p h = absurd cc
 told_back V44 (Logon l) t p h = absurd cc
+told_back V50 (Logon l) t p h = absurd cc
 told_back V51 (Logon l) t p h = told_from V51 requests _ _ t h refl
 told_back V44 Logoff t p h = absurd cc
+told_back V50 Logoff t p h = absurd cc
 told_back V51 Logoff t p h = told_from V51 requests _ _ t h refl
 told_back v Goodbye t p h = told_from v requests _ _ t h refl
 told_back v Reset t p h = told_from v requests _ _ t h refl

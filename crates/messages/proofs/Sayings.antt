@@ -3,7 +3,7 @@ use Rattle.std.proofs.Common.{◌≡◌, ℕ, List, [], ◌∷◌, Result, Ok, E
 use Rattle.packstream.specs.Tree.{Tree, text, list, dict, Trees, no_trees, tree_then, Entries, no_entries, entry_then}
 use Rattle.packstream.specs.View.{entries_of, trees_of}
 use Rattle.wire.specs.declared.Version.{Version}
-use Rattle.wire.specs.declared.Version.TheVariants.{V44, V51}
+use Rattle.wire.specs.declared.Version.TheVariants.{V44, V50, V51}
 use Rattle.messages.specs.declared.request.Mode.{Mode}
 use Rattle.messages.specs.declared.request.Mode.TheVariants.{Read, Write}
 use Rattle.messages.specs.declared.request.Count.{Count}
@@ -29,6 +29,7 @@ entries_again (entry_then k t es) = ap (λ l. entry_then k t l) (entries_again e
 
 hello_tells : (v : Version) (es : Entries) → IfOk (contents_of_named v hello es) (λ xs. IsAsk (contents HELLO [] xs))
 hello_tells V44 es = each_text V44 (codes "user_agent") every_version (credentials hello_has_login) es IsLogin (λ xs. IsAsk (contents HELLO [] xs)) refl (login_said V44 hello_has_login es refl) (λ s xs q. rw q.1 refl)
+hello_tells V50 es = each_text V50 (codes "user_agent") every_version (credentials hello_has_login) es IsLogin (λ xs. IsAsk (contents HELLO [] xs)) refl (login_said V50 hello_has_login es refl) (λ s xs q. rw q.1 refl)
 hello_tells V51 es = each_text V51 (codes "user_agent") every_version (credentials hello_has_login) es IsNothing (λ xs. IsAsk (contents HELLO [] xs)) refl refl (λ s xs q. rw q refl)
 
 mode_asks : (xs : List Tree) → IsMode xs → IsAsk (contents BEGIN [] xs)

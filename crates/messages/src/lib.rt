@@ -1,4 +1,4 @@
-//! The messages of Bolt 4.4 and 5.1: requests, responses, and their bytes.
+//! The messages of Bolt 4.4, 5.0 and 5.1: requests, responses, and their bytes.
 //!
 //! What holds of all messages stands in [`laws`]. A server relies on `laws::summaries::short_fits` and `laws::framing::arrives_whole`, both ends at once on
 //! `requests_arrive` and `says_arrive`, and who hands a message on on `texts_read_back`.

@@ -40,7 +40,7 @@ impl fmt::Debug for Auth {
 /// A request.
 #[derive(Debug, Drop)]
 pub enum Request {
-    /// The name of the client; at 4.4 with `auth`, at 5.1 without.
+    /// The name of the client; with `auth` where HELLO carries the login, at 4.4 and 5.0, and without at 5.1.
     Hello {
         agent: String,
         auth: Option<Auth>,

@@ -320,6 +320,13 @@ const ROWS: &[Row] = &[
         ],
         &["conn 0\nheard 0 Done Ready\nserver Ready\n"],
     ),
+    // At 5.0 it has too, and there is no LOGON.
+    (
+        &[
+            "open 5.0\nserver 0 all\nclient 0 all\nsubmit 0 logon\nsubmit 0 hello\nserver 0 all\nwork 0 all\nclient 0 all\n",
+        ],
+        &["line 4 C1\nconn 0\nheard 0 Done Ready\nserver Ready\n"],
+    ),
 ];
 
 #[test]

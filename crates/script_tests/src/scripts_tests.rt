@@ -21,6 +21,7 @@ enum Reader {
 const LINES: &[(&[u8], &str)] = &[
     (b"open newest", "Open(Ours(Newest))"),
     (b"open 4.4", "Open(Ours(Only(V44)))"),
+    (b"open 5.0", "Open(Ours(Only(V50)))"),
     (b"open 5.1", "Open(Ours(Only(V51)))"),
     (b"open foreign", "Open(Foreign)"),
     (b"submit 0 hello", "Submit { conn: 0, request: Hello }"),
@@ -93,7 +94,7 @@ const REQUESTS: &[(&[u8], &str)] = &[
 /// Lines of a world that can't be read.
 const UNREADABLE: &[&[u8]] = &[
     b"open",
-    b"open 5.0",
+    b"open 5.2",
     b"open newest newest",
     b"submit 0",
     b"submit hello",
@@ -168,8 +169,8 @@ const WHOLE_REQUESTS: &[(&[u8], &str)] = &[
     (b"\n\nnothing", "Err(Unreadable(3))"),
 ];
 
-/// What requests mean at 4.4, where a HELLO has the login, and at 5.1.
-const MEANT_AT_44: &[(&[u8], &str)] = &[(
+/// What requests mean at 4.4 and 5.0, where a HELLO has the login, and at 5.1.
+const MEANT_WITH_LOGIN: &[(&[u8], &str)] = &[(
     b"hello",
     "Hello { agent: \"t/1\", auth: Some(Auth { scheme: \"basic\", principal: \"user\", .. }) }",
 )];
@@ -184,12 +185,13 @@ const MEANT_AT_51: &[(&[u8], &str)] = &[
 ];
 
 /// All that is read.
-const READ: [(Reader, &[(&[u8], &str)]); 6] = [
+const READ: [(Reader, &[(&[u8], &str)]); 7] = [
     (Reader::Line, LINES),
     (Reader::Request, REQUESTS),
     (Reader::Script, WHOLE_SCRIPTS),
     (Reader::Requests, WHOLE_REQUESTS),
-    (Reader::Meaning(Version::V44), MEANT_AT_44),
+    (Reader::Meaning(Version::V44), MEANT_WITH_LOGIN),
+    (Reader::Meaning(Version::V50), MEANT_WITH_LOGIN),
     (Reader::Meaning(Version::V51), MEANT_AT_51),
 ];
 

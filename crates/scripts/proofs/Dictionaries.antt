@@ -1,5 +1,5 @@
 -- Parameters are the entries of a dictionary that is a cell.
-use Rattle.std.proofs.Common.{◌≡◌, ◌↔◌, ℕ, List, [], ◌∷◌, Some, Result, Ok, Err, refl, sym, ap, ◌∙◌}
+use Rattle.std.proofs.Common.{◌≡◌, ◌↔◌, ℕ, List, [], ◌∷◌, Option, Some, Result, Ok, Err, refl, sym, ap, ◌∙◌}
 use Rattle.std.specs.Option.{option_and_then, option_or}
 use Rattle.std.specs.Result.{result_ok}
 use Rattle.packstream.proofs.Deciding.{whole_value}
@@ -14,9 +14,10 @@ use Rattle.cells.specs.Faults.{fault, scan, structures}
 use Rattle.cells.specs.declared.fault.Reason.{Reason}
 use Rattle.structures.specs.Form.{Form, typed}
 use Rattle.wire.specs.declared.Version.{Version}
-use Rattle.wire.specs.declared.Version.TheVariants.{V44, V51}
+use Rattle.wire.specs.declared.Version.TheVariants.{V44, V50, V51}
+use Rattle.wire.specs.Versions.{versions}
 use Rattle.messages.specs.Messages.{pairs_of}
-use Rattle.scripts.specs.Params.{cell_by, cell_at, cell_of, entries_in, params_of, IsParams}
+use Rattle.scripts.specs.Params.{cell_by, cell_at, cell_among, cell_of, entries_in, params_of, IsParams}
 use Rattle.scripts.specs.Views.{Params}
 
 pub pairs_back : (es : Params) → pairs_of (entries_of es) ≡ es
@@ -44,29 +45,43 @@ dictionary (structure x y) ps e = absurd cc
 abbrev Judged : Type 0
 Judged = Result ℕ (Reason × ℕ)
 
-formed : (t : Tree) (ps : Params) (new old : Judged) → scan (fault V51) 0 (structures t) ≡ new → scan (fault V44) 0 (structures t) ≡ old
-    → option_and_then entries_in (option_or (cell_by new t) (cell_by old t)) ≡ Some ps → (v : Version) × Form v (dict (entries_of ps)) t
-formed t ps (Ok n) old e f h = (V51, ((n, e), dictionary (typed t) ps h))
-formed t ps (Err x) (Ok n) e f h = (V44, ((n, f), dictionary (typed t) ps h))
-formed t ps (Err x) (Err y) e f h = absurd cc
+-- the version that judged the value so, or one of those after it
+formed_first : (v : Version) (t : Tree) (ps : Params) (j : Judged) (rest : Option Tree) → scan (fault v) 0 (structures t) ≡ j
+    → (option_and_then entries_in rest ≡ Some ps → (w : Version) × Form w (dict (entries_of ps)) t)
+    → option_and_then entries_in (option_or (cell_by j t) rest) ≡ Some ps → (w : Version) × Form w (dict (entries_of ps)) t
+formed_first v t ps (Ok n) rest e k h = (v, ((n, e), dictionary (typed t) ps h))
+formed_first v t ps (Err x) rest e k h = k h
+
+formed_last : (v : Version) (t : Tree) (ps : Params) (j : Judged) → scan (fault v) 0 (structures t) ≡ j → option_and_then entries_in (cell_by j t) ≡ Some ps → (w : Version) × Form w (dict (entries_of ps)) t
+formed_last v t ps (Ok n) e h = (v, ((n, e), dictionary (typed t) ps h))
+formed_last v t ps (Err x) e h = absurd cc
+
+formed_among : (vs : List Version) (t : Tree) (ps : Params) → option_and_then entries_in (cell_among vs t) ≡ Some ps → (w : Version) × Form w (dict (entries_of ps)) t
+formed_among [] t ps h = absurd cc
+formed_among (v ∷ []) t ps h = formed_last v t ps (scan (fault v) 0 (structures t)) refl h
+formed_among (v ∷ (u ∷ us)) t ps h = formed_first v t ps (scan (fault v) 0 (structures t)) (cell_among (u ∷ us) t) refl (formed_among (u ∷ us) t ps) h
 
 entered : (t : Tree) (ps : Params) → dict (entries_of ps) ≡ typed t → entries_in (typed t) ≡ Some ps
 entered t ps e = ap entries_in (sym e) ∙ ap Some (pairs_back ps)
 
--- the oldest version is asked after the newest, and both give the same cell
-at_old : (t : Tree) (ps : Params) (new : Judged) → dict (entries_of ps) ≡ typed t → option_and_then entries_in (option_or (cell_by new t) (Some (typed t))) ≡ Some ps
-at_old t ps (Ok n) e = entered t ps e
-at_old t ps (Err x) e = entered t ps e
+-- an older version is asked after a newer, and both give the same cell
+too : (t : Tree) (new : Judged) (old : Option Tree) → old ≡ Some (typed t) → option_or (cell_by new t) old ≡ Some (typed t)
+too t (Ok n) old e = refl
+too t (Err x) old e = e
+
+of_some : (v : Version) (t : Tree) → cell_at v t ≡ Some (typed t) → cell_of t ≡ Some (typed t)
+of_some V51 t e = ap (λ o. option_or o (option_or (cell_at V50 t) (cell_at V44 t))) e
+of_some V50 t e = too t (scan (fault V51) 0 (structures t)) _ (ap (λ o. option_or o (cell_at V44 t)) e)
+of_some V44 t e = too t (scan (fault V51) 0 (structures t)) _ (too t (scan (fault V50) 0 (structures t)) _ e)
 
 found : (v : Version) (t : Tree) (ps : Params) → Form v (dict (entries_of ps)) t → option_and_then entries_in (cell_of t) ≡ Some ps
-found V51 t ps f = ap (λ j. option_and_then entries_in (option_or (cell_by j t) (cell_at V44 t))) f.0.1 ∙ entered t ps f.1
-found V44 t ps f = ap (λ j. option_and_then entries_in (option_or (cell_at V51 t) (cell_by j t))) f.0.1 ∙ at_old t ps (scan (fault V51) 0 (structures t)) f.1
+found v t ps f = ap (option_and_then entries_in) (of_some v t (ap (λ j. cell_by j t) f.0.1)) ∙ entered t ps f.1
 
 spelled : (b : List ℕ) (ps : Params) (bytes : AreBytes b) (r : Result Tree (PackReason × ℕ)) → whole_of b ≡ r
     → option_and_then entries_in (option_and_then cell_of (result_ok r)) ≡ Some ps → IsParams b ps
 spelled b ps bytes (Ok t) e h =
     let good : IsGood t × Spells t b = (whole_value b bytes t).0 e in
-    let cell = formed t ps (scan (fault V51) 0 (structures t)) (scan (fault V44) 0 (structures t)) refl refl h in
+    let cell = formed_among versions t ps h in
     record { version = cell.0; value = t; good = good.0; spelled = good.1; form = cell.1 }
 spelled b ps bytes (Err x) e h = absurd cc
 

@@ -2,7 +2,7 @@
 use Rattle.std.specs.Prelude.{ℕ, if◌then◌else◌, ◌&&◌, List, [], ◌∷◌, Option, Some, None, codes}
 use Rattle.std.specs.Option.{option_map, option_and_then}
 use Rattle.std.specs.Str.{bytes_eq}
-use Rattle.wire.specs.declared.Version.TheVariants.{V44, V51}
+use Rattle.wire.specs.declared.Version.TheVariants.{V44, V50, V51}
 use Rattle.wire.specs.declared.offers.Wish.TheVariants.{Newest, Only}
 use Rattle.messages.specs.declared.request.Mode.{Mode}
 use Rattle.messages.specs.declared.request.Mode.TheVariants.{Read, Write}
@@ -56,14 +56,15 @@ request_of (name ∷ text ∷ hex ∷ mode ∷ []) =
     if bytes_eq name (codes "run") && bytes_eq mode (codes "r") then run_of text hex Read else None
 request_of (name ∷ text ∷ hex ∷ mode ∷ more ∷ rest) = None
 
--- the peer of a word: a client of ours for `newest`, `4.4` and `5.1`, or a foreign one
+-- the peer of a word: a client of ours for `newest`, `4.4`, `5.0` and `5.1`, or a foreign one
 abbrev pub peer_of : Text → Option Peer
 peer_of word =
     if bytes_eq word (codes "newest") then Some (peer.Ours Newest)
     else (if bytes_eq word (codes "4.4") then Some (peer.Ours (Only V44))
+    else (if bytes_eq word (codes "5.0") then Some (peer.Ours (Only V50))
     else (if bytes_eq word (codes "5.1") then Some (peer.Ours (Only V51))
     else (if bytes_eq word (codes "foreign") then Some peer.Foreign
-    else None)))
+    else None))))
 
 -- how many bytes move, by a word: `all`, or at most so many
 abbrev pub amount_of : Text → Option Amount

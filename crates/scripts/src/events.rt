@@ -63,6 +63,8 @@ fn peer_of(word: &str) -> Option<Peer>
         Some(Peer::Ours(Wish::Newest))
     } else if word == "4.4" {
         Some(Peer::Ours(Wish::Only(Version::V44)))
+    } else if word == "5.0" {
+        Some(Peer::Ours(Wish::Only(Version::V50)))
     } else if word == "5.1" {
         Some(Peer::Ours(Wish::Only(Version::V51)))
     } else if word == "foreign" {

@@ -32,7 +32,7 @@ pub enum Times {
 /// A line. `conn` is the number of its connection, in the order of opening from 0.
 #[derive(Debug, Drop)]
 pub enum Line {
-    /// `open newest`, `open 4.4`, `open 5.1`, `open foreign`.
+    /// `open newest`, `open 4.4`, `open 5.0`, `open 5.1`, `open foreign`.
     Open(Peer),
     /// `submit K REQUEST`.
     Submit { conn: u64, request: ScriptRequest },

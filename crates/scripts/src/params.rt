@@ -9,7 +9,7 @@ use crate::fault::LineFault;
 use packstream::{PackFault, Packed, decode};
 use std::alloc::Global;
 use structures::{Cell, CellFault, read};
-use wire::Version;
+use wire::{VERSIONS, Version};
 
 /// The parameters that bytes spell: a dictionary that is a cell at some version.
 pub(crate) fn params_of(alloc: Global, bytes: &[u8]) -> Result<Vec<(String, Cell)>, LineFault>
@@ -44,10 +44,13 @@ fn entries_in(cell: Cell) -> Result<Vec<(String, Cell)>, LineFault>
 fn cell_of(alloc: Global, packed: &Packed) -> Result<Cell, LineFault>
     ensures { Gives shape result (cell_of packed.now) }
 {
-    match cell_at(alloc, Version::V51, packed) {
-        Err(LineFault::Unreadable) => cell_at(alloc, Version::V44, packed),
-        answer => answer,
+    for version in VERSIONS {
+        match cell_at(alloc, version, packed) {
+            Err(LineFault::Unreadable) => {}
+            answer => return answer,
+        }
     }
+    Err(LineFault::Unreadable)
 }
 
 fn cell_at(alloc: Global, version: Version, packed: &Packed) -> Result<Cell, LineFault>

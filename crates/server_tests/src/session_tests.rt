@@ -3,8 +3,8 @@
 use crate::talking::Step::*;
 use crate::talking::{
     BAD_LOGON, BEGIN, COMMIT, DISCARD_ALL, FIELDS, GOODBYE, GREETING, HELLO, INVALID, LOGON, NOPE,
-    OFFER, OLD_HELLO, OLD_OFFER, PULL_ALL, PULL_THREE, PULL_TWO, PUT, READY, RESET, ROWS, Step,
-    Turn, UNAUTHORIZED, UNKNOWN_TEXT, converse, feeds, plays, server,
+    OFFER, OFFER_OF_5_0, OLD_HELLO, OLD_OFFER, PULL_ALL, PULL_THREE, PULL_TWO, PUT, READY, RESET,
+    ROWS, Step, Turn, UNAUTHORIZED, UNKNOWN_TEXT, converse, feeds, plays, server,
 };
 use machine::{Kind, State};
 use packstream::Reason;
@@ -24,7 +24,7 @@ const GREETED: Worked = Worked::Wrote {
 const GREETS: &[Step] = &[
     Opens,
     Noop(false),
-    Bytes(&[0x60, 0x60, 0xB0, 0x17, 0, 0, 1]),
+    Bytes(&[0x60, 0x60, 0xB0, 0x17, 0, 1, 1]),
     Feed(
         &[5, 0, 0, 4, 4, 0, 0, 0, 0, 0, 0, 0, 0],
         13,
@@ -62,6 +62,29 @@ const GREETS_OLD: &[Step] = &[
     Out(&[]),
 ];
 
+/// A HELLO with the login makes a session of 5.0 ready, and a LOGON is no request of it.
+const GREETS_AT_5_0: &[Step] = &[
+    Opens,
+    Feed(OFFER_OF_5_0, 20, What::Handshake(Some(Version::V50))),
+    Send(OLD_HELLO, What::Message),
+    WorkAll(Worked::Idle),
+    Next(4, &[0, 0, 0, 5]),
+    Out(GREETING),
+    Stands(State::Ready),
+    Send(LOGON, What::Malformed),
+    WorkAll(Worked::Ended(Cause::Malformed)),
+    Out(&[]),
+];
+
+/// Nor is a HELLO without the login.
+const GREETS_WITHOUT_LOGIN: &[Step] = &[
+    Opens,
+    Feed(OFFER_OF_5_0, 20, What::Handshake(Some(Version::V50))),
+    Send(HELLO, What::Malformed),
+    WorkAll(Worked::Ended(Cause::Malformed)),
+    Out(&[0, 0, 0, 5]),
+];
+
 /// The first of two proposals that is taken, and what is said where none is, or to another magic.
 const PROPOSES_FIVE: &[Step] = &[
     Opens,
@@ -70,9 +93,9 @@ const PROPOSES_FIVE: &[Step] = &[
             0x60, 0x60, 0xB0, 0x17, 0, 0, 0, 5, 0, 0, 4, 4, 0, 0, 0, 0, 0, 0, 0, 0,
         ],
         20,
-        What::Handshake(Some(Version::V44)),
+        What::Handshake(Some(Version::V50)),
     ),
-    Next(10, &[0, 0, 4, 4]),
+    Next(10, &[0, 0, 0, 5]),
     Ends(None),
 ];
 
@@ -333,6 +356,10 @@ const LENDS_ITS_READER: &[Step] = &[
 const CONVERSATIONS: &[(&str, &[Turn])] = &[
     ("greets", &[(0, 1, GREETS)]),
     ("greets at the older version", &[(0, 1, GREETS_OLD)]),
+    (
+        "greets at 5.0",
+        &[(0, 1, GREETS_AT_5_0), (1, 1, GREETS_WITHOUT_LOGIN)],
+    ),
     (
         "takes the first proposal that it has",
         &[

@@ -11,13 +11,17 @@ use wire::Version;
 
 pub type Table = Server<FixedTable, OneUser>;
 
-/// A handshake for 5.1 and 4.4, and one for 4.4 alone.
+/// The handshake of the newest, one for 4.4 alone, and one for 5.0 alone.
 pub const OFFER: &[u8] = &[
-    0x60, 0x60, 0xB0, 0x17, 0, 0, 1, 5, 0, 0, 4, 4, 0, 0, 0, 0, 0, 0, 0, 0,
+    0x60, 0x60, 0xB0, 0x17, 0, 1, 1, 5, 0, 0, 4, 4, 0, 0, 0, 0, 0, 0, 0, 0,
 ];
 
 pub const OLD_OFFER: &[u8] = &[
     0x60, 0x60, 0xB0, 0x17, 0, 0, 4, 4, 0, 0, 0, 0, 0, 0, 0, 0, 0, 0, 0, 0,
+];
+
+pub const OFFER_OF_5_0: &[u8] = &[
+    0x60, 0x60, 0xB0, 0x17, 0, 0, 0, 5, 0, 0, 0, 0, 0, 0, 0, 0, 0, 0, 0, 0,
 ];
 
 /// HELLO of the agent `t/1` at 5.1.
@@ -26,7 +30,7 @@ pub const HELLO: &[u8] = &[
     0x2F, 0x31,
 ];
 
-/// HELLO at 4.4: basic, `user`, `pass`.
+/// HELLO at 4.4 and 5.0: basic, `user`, `pass`.
 pub const OLD_HELLO: &[u8] = &[
     0xB1, 0x01, 0xA4, 0x8A, 0x75, 0x73, 0x65, 0x72, 0x5F, 0x61, 0x67, 0x65, 0x6E, 0x74, 0x83, 0x74,
     0x2F, 0x31, 0x86, 0x73, 0x63, 0x68, 0x65, 0x6D, 0x65, 0x85, 0x62, 0x61, 0x73, 0x69, 0x63, 0x89,

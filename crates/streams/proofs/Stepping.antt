@@ -3,7 +3,7 @@ use Rattle.std.proofs.Common.{◌≡◌, ◌⊎◌, inl, inr, refl, sym, ap, sub
 use Rattle.std.specs.Prelude.{◌&&◌, ◌||◌, if◌then◌else◌, nat_le, is_some, Result, Ok, Err}
 use Rattle.packstream.specs.Tree.{Tree}
 use Rattle.wire.specs.declared.Version.{Version}
-use Rattle.wire.specs.declared.Version.TheVariants.{V44, V51}
+use Rattle.wire.specs.Versions.{hello_has_login}
 use Rattle.messages.specs.View.{RequestView, AuthView, ResponseView}
 use Rattle.messages.specs.declared.request.Count.{Count}
 use Rattle.messages.specs.Arrivals.{Arrival, Asked, Unread, TooLong, Shook, NoMagic}
@@ -18,7 +18,7 @@ use Rattle.engine.specs.Views.{EntryView, AnswerView, QueryFault}
 use Rattle.exchange.specs.declared.kinds.Cause.{Cause}
 use Rattle.exchange.specs.declared.fault.Fault.{Fault}
 use Rattle.exchange.specs.Said.{fits}
-use Rattle.exchange.specs.Session.{Setting, Open, no_result, Tx, Reply, OneRow, Summary, Bye, fails, succeeds, close, close_last, if_fits, unwritable, pull, used_up, greets, reply_to_login, reply_to_run, result_of_answer, with_write, no_tx, in_transaction, fields_said, perform, serve, passed_over, is_halted}
+use Rattle.exchange.specs.Session.{Setting, Open, no_result, Tx, Reply, OneRow, Summary, Bye, fails, succeeds, close, close_last, if_fits, unwritable, pull, used_up, greets, reply_to_hello, reply_to_login, reply_to_run, result_of_answer, with_write, no_tx, in_transaction, fields_said, perform, serve, passed_over, is_halted}
 use Rattle.exchange.specs.Rest.{Kept, rests, turns, serves, Done, Idle, Full, WroteRow, Wrote, Ended, Step, work_kept, replies, after_strike, version_of, commit_entries}
 use Rattle.streams.specs.Conversing.{Talk, silent, after_bytes, heard_out, step_then, steps, steps_due}
 use Rattle.streams.specs.Settling.{IsPlaced, due}
@@ -58,11 +58,14 @@ admitted_lessens : (n : ℕ) (S : Setting) (a : AuthView) (m : ResponseView) →
 unfolding Lessens
 admitted_lessens n S a m = either n _ (succeeds m) (fails Fault.Unauthorized) tt tt
 
+hello_lessens : (n : ℕ) (S : Setting) (auth : Option AuthView) (m : ResponseView) → Lessens n (reply_to_hello S auth m)
+unfolding Lessens
+hello_lessens n S None m = tt
+hello_lessens n S (Some a) m = admitted_lessens n S a m
+
 greets_lessens : (n : ℕ) (S : Setting) (v : Version) (c : ℕ) (auth : Option AuthView) → Lessens n (greets S v c auth)
 unfolding Lessens
-greets_lessens n S V51 c auth = tt
-greets_lessens n S V44 c None = tt
-greets_lessens n S V44 c (Some a) = admitted_lessens n S a _
+greets_lessens n S v c auth = either n (hello_has_login v) (reply_to_hello S auth _) (succeeds _) (hello_lessens n S auth _) tt
 
 ran_lessens : (n : ℕ) (v : Version) (s : State) (tx : Tx) (a : Result AnswerView QueryFault) → Lessens n (reply_to_run v s tx a)
 unfolding Lessens

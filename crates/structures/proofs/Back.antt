@@ -4,7 +4,7 @@ use Rattle.std.proofs.lemmas.Int.{ints}
 use Rattle.packstream.specs.Tree.{Tree, null, boolean, int, float, byte_string, text, list, dict, structure, Trees, no_trees, tree_then, Entries, no_entries, entry_then}
 use Rattle.packstream.specs.Good.{count}
 use Rattle.wire.specs.declared.Version.{Version}
-use Rattle.wire.specs.declared.Version.TheVariants.{V44, V51}
+use Rattle.wire.specs.declared.Version.TheVariants.{V44, V50, V51}
 use Rattle.cells.specs.Table.{row_in, table}
 use Rattle.cells.specs.Faults.{moment_fields, is_int, are_kinds, to_utc, fault, structures, structures_in, structures_under}
 use Rattle.cells.specs.Steps.{all_fine}
@@ -27,6 +27,7 @@ local_back us = refl
 
 moment_back : (v : Version) (us : Trees) → typed (moment v us) ≡ structure 0x49 (typed_all us)
 moment_back V44 us = ap (λ ts. structure 0x49 ts) (local_back us)
+moment_back V50 us = refl
 moment_back V51 us = refl
 
 plain_back : (tag : ℕ) (us : Trees) (b : Bool) → (tag == 0x46) ≡ b → not b ≡ true → typed (structure tag us) ≡ structure tag (typed_all us)
@@ -93,10 +94,12 @@ utc_there ts n h =
 
 local_again : (v : Version) (ts : Trees) → fault v 0x46 ts ≡ None → form v (typed (structure 0x46 ts)) ≡ structure 0x46 ts
 local_again V44 ts h = let p = passed V44 0x46 ts moment_fields refl h in ap (λ us. structure 0x46 us) (utc_there ts p.counted p.kinded)
+local_again V50 ts h = absurd cc
 local_again V51 ts h = absurd cc
 
 utc_again : (v : Version) (ts us : Trees) → fault v 0x49 ts ≡ None → us ≡ ts → moment v us ≡ structure 0x49 ts
 utc_again V44 ts us h e = absurd cc
+utc_again V50 ts us h e = ap (λ x. structure 0x49 x) e
 utc_again V51 ts us h e = ap (λ x. structure 0x49 x) e
 
 plain_again : (v : Version) (tag : ℕ) (ts us : Trees) (b : Bool) → (tag == 0x49) ≡ b → fault v tag ts ≡ None → us ≡ ts → cond b (moment v us) (structure tag us) ≡ structure tag ts

@@ -4,7 +4,7 @@ use Rattle.std.proofs.lemmas.Int.{ints}
 use Rattle.packstream.specs.Tree.{Tree, null, boolean, int, float, byte_string, text, list, dict, structure, Trees, no_trees, tree_then, Entries, no_entries, entry_then}
 use Rattle.packstream.specs.Good.{count}
 use Rattle.wire.specs.declared.Version.{Version}
-use Rattle.wire.specs.declared.Version.TheVariants.{V44, V51}
+use Rattle.wire.specs.declared.Version.TheVariants.{V44, V50, V51}
 use Rattle.cells.specs.declared.table.Field.{Field}
 use Rattle.cells.specs.declared.table.Field.TheVariants.{Integer, Nanosecond, DayNanosecond, Offset, UtcSecond, Float, Text, Labels, Properties, Nodes, Relationships, Indices}
 use Rattle.cells.specs.declared.fault.Reason.{Reason}
@@ -25,7 +25,7 @@ use Rattle.structures.proofs.Standing.{stood}
 use Rattle.structures.specs.Form.{Form, form, form_all, form_under, moment}
 use Rattle.structures.specs.Steps.{has_kinds}
 use Rattle.structures.specs.Laying.{date_time_fields as three}
-use Rattle.structures.proofs.Got.{le_true}
+use Rattle.structures.proofs.Got.{le_true, at_both}
 use Rattle.structures.proofs.Back.{back, an_int, Three, three_ints, there_and_back}
 
 int_same : (v : Version) (t : Tree) → is_int t ≡ true → form v t ≡ t
@@ -207,8 +207,7 @@ shape_kept v tag ts true e r (inr n) h = absurd cc
 
 path_count : (v : Version) (tag : ℕ) (ks : List Field) (ts : Trees) (b : Bool) → (tag == 0x50) ≡ b → kinds v tag ≡ Ok ks → (count ts == length ks) ≡ true → count ts ≡ 3 ⊎ (b ≡ false)
 path_count v tag ks ts false e k n = inr refl
-path_count V44 tag ks ts true e k n = inl (let d : kinds V44 0x50 ≡ Ok ks = subst (λ m. kinds V44 m ≡ Ok ks) (eqb-true _ _ e) k in let l : length ks ≡ 3 = cc in eqb-true _ _ n ∙ l)
-path_count V51 tag ks ts true e k n = inl (let d : kinds V51 0x50 ≡ Ok ks = subst (λ m. kinds V51 m ≡ Ok ks) (eqb-true _ _ e) k in let l : length ks ≡ 3 = cc in eqb-true _ _ n ∙ l)
+path_count v tag ks ts true e k n = inl (let f : kinds v 0x50 ≡ Ok (Nodes ∷ Relationships ∷ Indices ∷ []) = at_both v 0x50 _ refl in let d : kinds v 0x50 ≡ Ok ks = subst (λ m. kinds v m ≡ Ok ks) (eqb-true _ _ e) k in let l : length ks ≡ 3 = cc in eqb-true _ _ n ∙ l)
 
 is_not : (b : Bool) → not b ≡ true → b ≡ false
 is_not true h = absurd cc
@@ -218,10 +217,12 @@ moment_three : (v : Version) (a b d : ℤ) → are_in_range moment_fields (three
 moment_three V44 a b d h =
     let e = ap (λ z. are_in_range moment_fields (three z b d)) (there_and_back a d) ∙ h in
     ap (λ x. is_none (first_failed ((true, FieldCount) ∷ (true, FieldKind) ∷ (x, Range) ∷ (true, PathShape) ∷ [])) && true) e
+moment_three V50 a b d h = ap (λ x. is_none (first_failed ((true, FieldCount) ∷ (true, FieldKind) ∷ (x, Range) ∷ (true, PathShape) ∷ [])) && true) h
 moment_three V51 a b d h = ap (λ x. is_none (first_failed ((true, FieldCount) ∷ (true, FieldKind) ∷ (x, Range) ∷ (true, PathShape) ∷ [])) && true) h
 
 moment_unwritten : (v : Version) (ts : Trees) → fault_of_structure v 0x49 ts ≡ None → fault_of_structure_by (Ok moment_fields) 0x49 ts ≡ None
 moment_unwritten V44 ts h = h
+moment_unwritten V50 ts h = h
 moment_unwritten V51 ts h = h
 
 moment_from : (v : Version) (ts : Trees) → Three ts → are_in_range moment_fields ts ≡ true → all_fine (fault v) (structures (moment v (form_all v ts))) ≡ true

@@ -1,16 +1,17 @@
 -- The fields of a structure.
-use Rattle.std.proofs.Common.{◌≡◌, ◌++◌, take, Result, IfOk, add-one, ℤ, pos, neg_ℤ, ◌-ℤ◌, ◌≤ℤ◌, int_le, ℕ, suc, zero, ◌+◌, ◌<◌, ◌≤◌, List, [], ◌∷◌, map, length, get_or, Bool, true, false, ◌&&◌, ◌==◌, cond, Option, Some, None, Ok, Err, refl, sym, ap, ◌∙◌, arith, eqb-true, subst}
+use Rattle.std.proofs.Common.{◌≡◌, ◌++◌, take, Result, IfOk, add-one, ℤ, pos, neg_ℤ, ◌-ℤ◌, ◌≤ℤ◌, int_le, ℕ, suc, zero, ◌+◌, ◌<◌, ◌≤◌, List, [], ◌∷◌, map, length, get_or, append-nil, Bool, true, false, ◌&&◌, ◌==◌, cond, Option, Some, None, Ok, Err, refl, sym, ap, ◌∙◌, arith, eqb-true, subst}
 use Rattle.std.proofs.lemmas.Int.{ints}
 use Rattle.packstream.specs.Tree.{Tree, null, int, structure, Trees, no_trees, tree_then, entry_then}
 use Rattle.packstream.specs.Good.{count}
 use Rattle.packstream.specs.View.{tree, trees, trees_of, entries_of}
 use Rattle.packstream.specs.declared.value.Value.{Value}
 use Rattle.wire.specs.declared.Version.{Version}
-use Rattle.wire.specs.declared.Version.TheVariants.{V44, V51}
+use Rattle.wire.specs.Versions.{has_element_ids, has_utc_times, every_version, lacks}
 use Rattle.cells.specs.declared.table.Field.{Field}
 use Rattle.cells.specs.declared.table.Field.TheVariants.{Integer, Text, Properties, Nodes, Relationships, Indices}
 use Rattle.cells.specs.declared.fault.Reason.{Reason}
-use Rattle.cells.specs.Table.{kinds}
+use Rattle.cells.specs.declared.fault.Reason.TheVariants.{NotInVersion}
+use Rattle.cells.specs.Table.{row, row_in, table, fields_in, fields_of, kinds}
 use Rattle.cells.specs.Faults.{moment_fields, to_utc, each, is_kind, are_kinds, are_in_range, utc_fields, is_path, wrong, fault, fault_by}
 use Rattle.cells.proofs.Both.{and_left, and_right}
 use Rattle.cells.proofs.Faulty.{count_seen}
@@ -69,22 +70,30 @@ passed v tag ts ks e h =
     let s = first_none (cond (tag == 0x50) (is_path ts) true) _ _ d.1 in
     record { counted = eqb-true _ _ a.0; kinded = b.0; ranged = d.0; shaped = s.0 }
 
-pub at_both : (v : Version) (tag : ℕ) (ks : List Field) → kinds V44 tag ≡ Ok ks → kinds V51 tag ≡ Ok ks → kinds v tag ≡ Ok ks
-at_both V44 tag ks a b = a
-at_both V51 tag ks a b = b
+-- the fields of a row that adds none, at a version where it stands
+at_row : (v : Version) (tag : ℕ) (stands : Version → Bool) (fs : List Field) → row_in tag table ≡ Some (row tag stands fs []) → stands v ≡ true → kinds v tag ≡ Ok fs
+at_row v tag stands fs e s = ap (fields_of v) e ∙ ap (λ b. cond b (Ok (fields_in v fs [])) (Err NotInVersion)) s ∙ ap Ok (go (has_element_ids v))
+  where
+    go : (b : Bool) → cond b (fs ++ []) fs ≡ fs
+    go true = append-nil fs
+    go false = refl
+
+pub at_both : (v : Version) (tag : ℕ) (fs : List Field) → row_in tag table ≡ Some (row tag every_version fs []) → kinds v tag ≡ Ok fs
+at_both v tag fs e = at_row v tag every_version fs e refl
 
 -- no fault, at the tag by another name
 pub fine_at : (v : Version) (tag k : ℕ) (ts : Trees) → tag ≡ k → fault v tag ts ≡ None → fault v k ts ≡ None
 fine_at v tag k ts is h = subst (λ m. fault v m ts ≡ None) is h
 
--- a tag that stands at one version alone
-pub at_old : (v : Version) (tag : ℕ) (ks : List Field) (r : Reason) (ts : Trees) → kinds V44 tag ≡ Ok ks → kinds V51 tag ≡ Err r → fault v tag ts ≡ None → kinds v tag ≡ Ok ks
-at_old V44 tag ks r ts a b h = a
-at_old V51 tag ks r ts a b h = absurd (let e : Some r ≡ None = sym (ap (λ k. fault_by k tag ts) b) ∙ h in cc)
-
-pub at_new : (v : Version) (tag : ℕ) (ks : List Field) (r : Reason) (ts : Trees) → kinds V51 tag ≡ Ok ks → kinds V44 tag ≡ Err r → fault v tag ts ≡ None → kinds v tag ≡ Ok ks
-at_new V51 tag ks r ts a b h = a
-at_new V44 tag ks r ts a b h = absurd (let e : Some r ≡ None = sym (ap (λ k. fault_by k tag ts) b) ∙ h in cc)
+-- a row stands where a structure of its tag has no fault
+pub at_fine : (v : Version) (tag : ℕ) (stands : Version → Bool) (fs : List Field) (ts : Trees) → row_in tag table ≡ Some (row tag stands fs []) → fault v tag ts ≡ None → kinds v tag ≡ Ok fs
+at_fine v tag stands fs ts e h = go (stands v) refl
+  where
+    go : (b : Bool) → stands v ≡ b → kinds v tag ≡ Ok fs
+    go true s = at_row v tag stands fs e s
+    go false s =
+        let k : kinds v tag ≡ Err NotInVersion = ap (fields_of v) e ∙ ap (λ b. cond b (Ok (fields_in v fs [])) (Err NotInVersion)) s in
+        absurd (let n : Some NotInVersion ≡ None = sym (ap (λ r. fault_by r tag ts) k) ∙ h in cc)
 
 pub read_by : (v : Version) (tag : ℕ) (ts us : Trees) (ks : List Field) → kinds v tag ≡ Ok ks → fault v tag ts ≡ None → count us ≡ length ks → Got 0 ks us ts → us ≡ typed_all ts
 read_by v tag ts us ks e h n g = let p = passed v tag ts ks e h in fields_are ks us ts p.counted n p.kinded g
@@ -111,7 +120,7 @@ dated_range s n o h =
 pub dated_by : (v : Version) (ts : Trees) (s n o : ℤ) → fault v 0x46 ts ≡ None → Got 0 moment_fields (tree_then (int s) (tree_then (int n) (tree_then (int o) no_trees))) ts
     → (typed_all ts ≡ tree_then (int s) (tree_then (int n) (tree_then (int o) no_trees))) × Utc s n o
 dated_by v ts s n o h g =
-    let e = at_old v 0x46 moment_fields _ ts refl refl h in
+    let e = at_fine v 0x46 (lacks has_utc_times) moment_fields ts refl h in
     let p = passed v 0x46 ts moment_fields e h in
     let us = read_by v 0x46 ts (tree_then (int s) (tree_then (int n) (tree_then (int o) no_trees))) moment_fields e h refl g in
     let same = us ∙ same_dated ts p.counted p.kinded in
@@ -182,26 +191,29 @@ kind_at zero k (x ∷ ks) (tree_then t ts) n h e = let same : x ≡ k = cc in ap
 kind_at (suc i) k (x ∷ ks) (tree_then t ts) n h e = kind_at i k ks ts (omega arith) (and_right _ _ h) e
 
 -- three fields, and an element id where the version adds one
-pub named_by : (v : Version) (tag : ℕ) (ts : Trees) (k0 k1 k2 : Field) (u0 u1 u2 : Tree) (element : Trees) → kinds V44 tag ≡ Ok (k0 ∷ k1 ∷ k2 ∷ []) → kinds V51 tag ≡ Ok (k0 ∷ k1 ∷ k2 ∷ Text ∷ []) → fault v tag ts ≡ None
+pub named_by : (v : Version) (tag : ℕ) (ts : Trees) (k0 k1 k2 : Field) (u0 u1 u2 : Tree) (element : Trees) → row_in tag table ≡ Some (row tag every_version (k0 ∷ k1 ∷ k2 ∷ []) (Text ∷ [])) → fault v tag ts ≡ None
     → Got 0 (k0 ∷ k1 ∷ k2 ∷ []) (tree_then u0 (tree_then u1 (tree_then u2 no_trees))) ts
     → (count ts ≡ 3 → element ≡ no_trees) → (3 < count ts → is_kind Text (tree_at 3 ts) ≡ true → element ≡ tree_then (typed (tree_at 3 ts)) no_trees)
     → tree_then u0 (tree_then u1 (tree_then u2 element)) ≡ typed_all ts
-named_by V44 tag ts k0 k1 k2 u0 u1 u2 element a b h g absent there =
-    let p = passed V44 tag ts (k0 ∷ k1 ∷ k2 ∷ []) a h in
-    ap (λ x. tree_then u0 (tree_then u1 (tree_then u2 x))) (absent p.counted) ∙ read_by V44 tag ts _ (k0 ∷ k1 ∷ k2 ∷ []) a h refl g
-named_by V51 tag ts k0 k1 k2 u0 u1 u2 element a b h g absent there =
-    let p = passed V51 tag ts (k0 ∷ k1 ∷ k2 ∷ Text ∷ []) b h in
-    let here : is_kind Text (tree_at 3 ts) ≡ true = kind_at 3 Text (k0 ∷ k1 ∷ k2 ∷ Text ∷ []) ts p.counted p.kinded refl in
-    ap (λ x. tree_then u0 (tree_then u1 (tree_then u2 x))) (there (omega (arith, p.counted)) here) ∙ read_by V51 tag ts _ (k0 ∷ k1 ∷ k2 ∷ Text ∷ []) b h refl (g.0, (g.1.0, (g.1.1.0, ((λ z. refl), tt))))
+named_by v tag ts k0 k1 k2 u0 u1 u2 element e h g absent there = go (has_element_ids v) (ap (fields_of v) e)
+  where
+    go : (b : Bool) → kinds v tag ≡ Ok (cond b (k0 ∷ k1 ∷ k2 ∷ Text ∷ []) (k0 ∷ k1 ∷ k2 ∷ [])) → tree_then u0 (tree_then u1 (tree_then u2 element)) ≡ typed_all ts
+    go false a =
+        let p = passed v tag ts (k0 ∷ k1 ∷ k2 ∷ []) a h in
+        ap (λ x. tree_then u0 (tree_then u1 (tree_then u2 x))) (absent p.counted) ∙ read_by v tag ts _ (k0 ∷ k1 ∷ k2 ∷ []) a h refl g
+    go true a =
+        let p = passed v tag ts (k0 ∷ k1 ∷ k2 ∷ Text ∷ []) a h in
+        let here : is_kind Text (tree_at 3 ts) ≡ true = kind_at 3 Text (k0 ∷ k1 ∷ k2 ∷ Text ∷ []) ts p.counted p.kinded refl in
+        ap (λ x. tree_then u0 (tree_then u1 (tree_then u2 x))) (there (omega (arith, p.counted)) here) ∙ read_by v tag ts _ (k0 ∷ k1 ∷ k2 ∷ Text ∷ []) a h refl (g.0, (g.1.0, (g.1.1.0, ((λ z. refl), tt))))
 
 pub path_length : (v : Version) (xs : List Value) → fault v 0x50 (trees_of (trees xs)) ≡ None → length xs ≡ 3
 path_length v xs h =
-    let p = passed v 0x50 (trees_of (trees xs)) (Nodes ∷ Relationships ∷ Indices ∷ []) (at_both v 0x50 _ refl refl) h in
+    let p = passed v 0x50 (trees_of (trees xs)) (Nodes ∷ Relationships ∷ Indices ∷ []) (at_both v 0x50 _ refl) h in
     sym (count_seen xs) ∙ p.counted
 
 pub path_field : (v : Version) (xs : List Value) (i : ℕ) (d : Value) (k : Field) → fault v 0x50 (trees_of (trees xs)) ≡ None → d ≡ get_or xs i d → i < length xs → field_at i (Nodes ∷ Relationships ∷ Indices ∷ []) ≡ Some k → is_kind k (tree d) ≡ true
 path_field v xs i d k h e lt f =
-    let p = passed v 0x50 (trees_of (trees xs)) (Nodes ∷ Relationships ∷ Indices ∷ []) (at_both v 0x50 _ refl refl) h in
+    let p = passed v 0x50 (trees_of (trees xs)) (Nodes ∷ Relationships ∷ Indices ∷ []) (at_both v 0x50 _ refl) h in
     sym (ap (is_kind k) (at_some xs i d lt e)) ∙ kind_at i k (Nodes ∷ Relationships ∷ Indices ∷ []) (trees_of (trees xs)) p.counted p.kinded f
 
 -- the five fields of a relationship, and three element ids where the version adds them
@@ -209,13 +221,16 @@ pub bound_by : (v : Version) (ts : Trees) (u0 u1 u2 u3 u4 : Tree) (es : Trees) �
     → Got 0 (Integer ∷ Integer ∷ Integer ∷ Text ∷ Properties ∷ []) (tree_then u0 (tree_then u1 (tree_then u2 (tree_then u3 (tree_then u4 no_trees))))) ts
     → (count ts ≡ 5 → es ≡ no_trees) → (5 < count ts → ReadElements ts es)
     → tree_then u0 (tree_then u1 (tree_then u2 (tree_then u3 (tree_then u4 es)))) ≡ typed_all ts
-bound_by V44 ts u0 u1 u2 u3 u4 es h g absent there =
-    let p = passed V44 0x52 ts (Integer ∷ Integer ∷ Integer ∷ Text ∷ Properties ∷ []) refl h in
-    ap (λ x. tree_then u0 (tree_then u1 (tree_then u2 (tree_then u3 (tree_then u4 x))))) (absent p.counted) ∙ read_by V44 0x52 ts _ (Integer ∷ Integer ∷ Integer ∷ Text ∷ Properties ∷ []) refl h refl g
-bound_by V51 ts u0 u1 u2 u3 u4 es h g absent there =
-    let p = passed V51 0x52 ts (Integer ∷ Integer ∷ Integer ∷ Text ∷ Properties ∷ Text ∷ Text ∷ Text ∷ []) refl h in
-    let k5 : is_kind Text (tree_at 5 ts) ≡ true = kind_at 5 Text (Integer ∷ Integer ∷ Integer ∷ Text ∷ Properties ∷ Text ∷ Text ∷ Text ∷ []) ts p.counted p.kinded refl in
-    let k6 : is_kind Text (tree_at 6 ts) ≡ true = kind_at 6 Text (Integer ∷ Integer ∷ Integer ∷ Text ∷ Properties ∷ Text ∷ Text ∷ Text ∷ []) ts p.counted p.kinded refl in
-    let k7 : is_kind Text (tree_at 7 ts) ≡ true = kind_at 7 Text (Integer ∷ Integer ∷ Integer ∷ Text ∷ Properties ∷ Text ∷ Text ∷ Text ∷ []) ts p.counted p.kinded refl in
-    ap (λ x. tree_then u0 (tree_then u1 (tree_then u2 (tree_then u3 (tree_then u4 x))))) (there (omega (arith, p.counted)) k5 k6 k7)
-    ∙ read_by V51 0x52 ts _ (Integer ∷ Integer ∷ Integer ∷ Text ∷ Properties ∷ Text ∷ Text ∷ Text ∷ []) refl h refl (g.0, (g.1.0, (g.1.1.0, (g.1.1.1.0, (g.1.1.1.1.0, ((λ z. refl), ((λ z. refl), ((λ z. refl), tt))))))))
+bound_by v ts u0 u1 u2 u3 u4 es h g absent there = go (has_element_ids v) refl
+  where
+    go : (b : Bool) → kinds v 0x52 ≡ Ok (cond b (Integer ∷ Integer ∷ Integer ∷ Text ∷ Properties ∷ Text ∷ Text ∷ Text ∷ []) (Integer ∷ Integer ∷ Integer ∷ Text ∷ Properties ∷ [])) → tree_then u0 (tree_then u1 (tree_then u2 (tree_then u3 (tree_then u4 es)))) ≡ typed_all ts
+    go false a =
+        let p = passed v 0x52 ts (Integer ∷ Integer ∷ Integer ∷ Text ∷ Properties ∷ []) a h in
+        ap (λ x. tree_then u0 (tree_then u1 (tree_then u2 (tree_then u3 (tree_then u4 x))))) (absent p.counted) ∙ read_by v 0x52 ts _ (Integer ∷ Integer ∷ Integer ∷ Text ∷ Properties ∷ []) a h refl g
+    go true a =
+        let p = passed v 0x52 ts (Integer ∷ Integer ∷ Integer ∷ Text ∷ Properties ∷ Text ∷ Text ∷ Text ∷ []) a h in
+        let k5 : is_kind Text (tree_at 5 ts) ≡ true = kind_at 5 Text (Integer ∷ Integer ∷ Integer ∷ Text ∷ Properties ∷ Text ∷ Text ∷ Text ∷ []) ts p.counted p.kinded refl in
+        let k6 : is_kind Text (tree_at 6 ts) ≡ true = kind_at 6 Text (Integer ∷ Integer ∷ Integer ∷ Text ∷ Properties ∷ Text ∷ Text ∷ Text ∷ []) ts p.counted p.kinded refl in
+        let k7 : is_kind Text (tree_at 7 ts) ≡ true = kind_at 7 Text (Integer ∷ Integer ∷ Integer ∷ Text ∷ Properties ∷ Text ∷ Text ∷ Text ∷ []) ts p.counted p.kinded refl in
+        ap (λ x. tree_then u0 (tree_then u1 (tree_then u2 (tree_then u3 (tree_then u4 x))))) (there (omega (arith, p.counted)) k5 k6 k7)
+        ∙ read_by v 0x52 ts _ (Integer ∷ Integer ∷ Integer ∷ Text ∷ Properties ∷ Text ∷ Text ∷ Text ∷ []) a h refl (g.0, (g.1.0, (g.1.1.0, (g.1.1.1.0, (g.1.1.1.1.0, ((λ z. refl), ((λ z. refl), ((λ z. refl), tt))))))))

@@ -2,7 +2,7 @@
 use Rattle.std.proofs.Common.{◌≡◌, ◌≢◌, ◌↔◌, ℕ, ℤ, ◌+ℤ◌, ◌-ℤ◌, List, [], ◌∷◌, Bool, true, false, cond, ◌==◌, None, is_none, Result, Ok, Err, refl, ap, sym, subst, ◌∙◌, eqb-true, eq-eqb, ne_eqb}
 use Rattle.packstream.specs.Tree.{Tree, null, boolean, int, float, byte_string, text, list, dict, structure, Trees, no_trees, tree_then, Entries, no_entries, entry_then}
 use Rattle.wire.specs.declared.Version.{Version}
-use Rattle.wire.specs.declared.Version.TheVariants.{V44, V51}
+use Rattle.wire.specs.declared.Version.TheVariants.{V44, V50, V51}
 use Rattle.cells.specs.declared.table.Field.{Field}
 use Rattle.cells.specs.declared.table.Field.TheVariants.{Nodes, Relationships, Indices}
 use Rattle.cells.specs.declared.fault.Reason.{Reason}
@@ -28,6 +28,7 @@ local_from ts x h = subst (λ us. IsForm V44 (structure 0x49 (to_utc (typed_all 
 
 moment_laid : (v : Version) (ts : Trees) → fault v 0x46 ts ≡ None → IsForm v (structure 0x49 (to_utc (typed_all ts))) (structure 0x46 ts)
 moment_laid V44 ts h = let p = passed V44 0x46 ts moment_fields refl h in local_from ts (three_ints ts p.counted p.kinded) p.ranged
+moment_laid V50 ts h = absurd cc
 moment_laid V51 ts h = absurd cc
 
 -- what a value is read as, and that no structure of the value has a fault
@@ -35,6 +36,7 @@ abbrev IsRead : Version → Tree → Tree → Type 0
 IsRead v s t = (all_fine (fault v) (structures t) ≡ true) × (s ≡ typed t)
 
 moment_is : (v : Version) (ks : List Field) (u n o : ℤ) → kinds v 0x46 ≡ Ok ks → AreOf ks (three u n o) → IsRead v (structure 0x49 (three u n o)) (structure 0x46 (three (u +ℤ o) n o))
+moment_is V50 ks u n o k h = absurd cc
 moment_is V51 ks u n o k h = absurd cc
 moment_is V44 ks u n o k h =
     let same : ks ≡ moment_fields = cc in
@@ -47,7 +49,7 @@ shape_laid : (v : Version) (tag : ℕ) (ts : Trees) (b : Bool) → (tag == 0x50)
 shape_laid v tag ts false e h = no_path tag ts (λ same. let t : (tag == 0x50) ≡ true = eq-eqb _ _ same in absurd cc)
 shape_laid v tag ts true e h =
     let is = eqb-true tag 0x50 e in
-    let p = passed v 0x50 ts (Nodes ∷ Relationships ∷ Indices ∷ []) (at_both v 0x50 _ refl refl) (subst (λ n. fault v n ts ≡ None) is h) in
+    let p = passed v 0x50 ts (Nodes ∷ Relationships ∷ Indices ∷ []) (at_both v 0x50 _ refl) (subst (λ n. fault v n ts ≡ None) is h) in
     subst (λ n. IsShaped n ts) (sym is) (path_laid ts p.counted p.kinded p.shaped)
 
 plain_laid : (v : Version) (tag : ℕ) (ts : Trees) (r : Result (List Field) Reason) → kinds v tag ≡ r → (tag == 0x46) ≡ false → fault v tag ts ≡ None → AreForms v (typed_all ts) ts → IsForm v (structure tag (typed_all ts)) (structure tag ts)

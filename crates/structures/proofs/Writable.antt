@@ -3,7 +3,7 @@ use Rattle.std.proofs.Common.{◌≡◌, ℕ, suc, ℤ, List, [], ◌∷◌, len
 use Rattle.packstream.specs.Tree.{Tree, null, boolean, int, float, byte_string, text, list, dict, structure, Trees, no_trees, tree_then, Entries, no_entries, entry_then}
 use Rattle.packstream.specs.Good.{count}
 use Rattle.wire.specs.declared.Version.{Version}
-use Rattle.wire.specs.declared.Version.TheVariants.{V44, V51}
+use Rattle.wire.specs.declared.Version.TheVariants.{V44, V50, V51}
 use Rattle.cells.specs.declared.table.Field.{Field}
 use Rattle.cells.specs.declared.table.Field.TheVariants.{Nanosecond, DayNanosecond, Offset, UtcSecond, Nodes, Relationships, Indices}
 use Rattle.cells.specs.declared.fault.Reason.{Reason}
@@ -17,7 +17,7 @@ use Rattle.cells.proofs.Both.{and_left, and_right, both_true}
 use Rattle.cells.proofs.Fine.{scan_fine, fine_scan, fine_append, fine_itself, fine_within, fine_left, fine_right}
 use Rattle.structures.specs.Form.{Form, typed, typed_all, typed_under}
 use Rattle.structures.specs.Laying.{date_time_fields as three}
-use Rattle.structures.proofs.Got.{passed}
+use Rattle.structures.proofs.Got.{passed, at_both}
 use Rattle.structures.proofs.Back.{an_int, Three, three_ints}
 use Rattle.structures.proofs.Formed.{a_list}
 
@@ -68,8 +68,7 @@ path_kept (tree_then t (tree_then u (tree_then w no_trees))) n h =
 path_kept (tree_then t (tree_then u (tree_then w (tree_then x ts)))) n h = absurd (omega (arith, n))
 
 shape_kept : (v : Version) (ts : Trees) → fault v 0x50 ts ≡ None → is_path (typed_all ts) ≡ true
-shape_kept V44 ts h = let p = passed V44 0x50 ts (Nodes ∷ Relationships ∷ Indices ∷ []) refl h in path_kept ts p.counted p.kinded ∙ p.shaped
-shape_kept V51 ts h = let p = passed V51 0x50 ts (Nodes ∷ Relationships ∷ Indices ∷ []) refl h in path_kept ts p.counted p.kinded ∙ p.shaped
+shape_kept v ts h = let p = passed v 0x50 ts (Nodes ∷ Relationships ∷ Indices ∷ []) (at_both v 0x50 _ refl) h in path_kept ts p.counted p.kinded ∙ p.shaped
 
 walk_kept : (v : Version) (tag : ℕ) (ts : Trees) (b : Bool) → (tag == 0x50) ≡ b → fault v tag ts ≡ None → cond b (is_path (typed_all ts)) true ≡ true
 walk_kept v tag ts true e h = shape_kept v ts (subst (λ m. fault v m ts ≡ None) (eqb-true _ _ e) h)
@@ -77,6 +76,7 @@ walk_kept v tag ts false e h = refl
 
 -- the tag that reading gave is written as it was
 tag_back : (v : Version) (tag : ℕ) (ts : Trees) (b : Bool) → (tag == 0x49) ≡ b → fault v tag ts ≡ None → cond b (moment_tag v) tag ≡ tag
+tag_back V50 tag ts true e h = sym (eqb-true _ _ e)
 tag_back V51 tag ts true e h = sym (eqb-true _ _ e)
 tag_back V44 tag ts true e h = absurd (let g : fault V44 0x49 ts ≡ None = subst (λ m. fault V44 m ts ≡ None) (eqb-true _ _ e) h in cc)
 tag_back v tag ts false e h = refl
@@ -104,6 +104,7 @@ moment_from ts x h = subst (λ us. all_fine (fault_of_structure V44) (structures
 
 moment_writable : (v : Version) (ts : Trees) → fault v 0x46 ts ≡ None → all_fine (fault_of_structure v) (structures (structure 0x49 (to_utc (typed_all ts)))) ≡ true
 moment_writable V44 ts h = let p = passed V44 0x46 ts moment_fields refl h in moment_from ts (three_ints ts p.counted p.kinded) p.ranged
+moment_writable V50 ts h = absurd cc
 moment_writable V51 ts h = absurd cc
 
 structure_writable : (v : Version) (tag : ℕ) (ts : Trees) (b : Bool) → (tag == 0x46) ≡ b → fault v tag ts ≡ None → all_fine (fault_of_structure v) (structures_in (typed_all ts)) ≡ true

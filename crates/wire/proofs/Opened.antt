@@ -4,7 +4,6 @@ use Rattle.std.specs.Prelude.{if◌then◌else◌, map, reverse, nat_le}
 use Rattle.std.proofs.lemmas.List.{take-append-le, take_all, reverse-append, reverse-reverse}
 use Rattle.std.proofs.Math.Seq.{take-append-add}
 use Rattle.std.proofs.lemmas.Bool.Decides.{nat_tests}
-use Rattle.wire.specs.declared.versions.Version.TheVariants.{V44, V51}
 use Rattle.wire.specs.declared.offers.Wish.{Wish}
 use Rattle.wire.specs.declared.offers.Wish.TheVariants.{Newest, Only}
 use Rattle.wire.specs.Unfinished.{Unfinished, fresh}
@@ -115,8 +114,7 @@ ours_after start ms n len h =
 
 offered_length : (wish : Wish) → length (offer_of wish) ≡ 20
 offered_length Newest = refl
-offered_length (Only V44) = refl
-offered_length (Only V51) = refl
+offered_length (Only v) = refl
 
 pub ours_arrives : OursArrives
 ours_arrives wish ms n h = ours_after (offer_of wish) ms n (offered_length wish) h

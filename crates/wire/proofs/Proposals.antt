@@ -3,7 +3,7 @@ use Rattle.std.proofs.Common.{◌≡◌, ℕ, zero, suc, ◌+◌, ◌≤◌, Lis
 use Rattle.std.specs.Prelude.{is_some}
 use Rattle.std.specs.Option.{option_or}
 use Rattle.wire.specs.declared.versions.Version.{Version}
-use Rattle.wire.specs.declared.versions.Version.TheVariants.{V44, V51}
+use Rattle.wire.specs.declared.versions.Version.TheVariants.{V44, V50, V51}
 use Rattle.wire.specs.declared.offers.Wish.{Wish}
 use Rattle.wire.specs.declared.offers.Wish.TheVariants.{Newest, Only}
 use Rattle.wire.specs.Offers.{choice_of, covered_by, version_answer, Taken, OffersTaken}
@@ -31,22 +31,29 @@ chosen-past xs k j (Some v) fits e covered none = cc
 taken : (wish : Wish) → Taken wish
 taken Newest = record { long = refl; magical = refl; version = refl }
 taken (Only V44) = record { long = refl; magical = refl; version = refl }
+taken (Only V50) = record { long = refl; magical = refl; version = refl }
 taken (Only V51) = record { long = refl; magical = refl; version = refl }
 
 answer_length : (v : Option Version) → length (version_answer v) ≡ 4
 answer_length None = refl
-answer_length (Some V44) = refl
-answer_length (Some V51) = refl
+answer_length (Some v) = refl
 
 answer_tells : (v w : Option Version) → version_answer v ≡ version_answer w → v ≡ w
 answer_tells None None e = refl
 answer_tells None (Some V44) e = cc
+answer_tells None (Some V50) e = cc
 answer_tells None (Some V51) e = cc
 answer_tells (Some V44) None e = cc
 answer_tells (Some V44) (Some V44) e = refl
+answer_tells (Some V44) (Some V50) e = cc
 answer_tells (Some V44) (Some V51) e = cc
+answer_tells (Some V50) None e = cc
+answer_tells (Some V50) (Some V44) e = cc
+answer_tells (Some V50) (Some V50) e = refl
+answer_tells (Some V50) (Some V51) e = cc
 answer_tells (Some V51) None e = cc
 answer_tells (Some V51) (Some V44) e = cc
+answer_tells (Some V51) (Some V50) e = cc
 answer_tells (Some V51) (Some V51) e = refl
 
 pub offers_taken : OffersTaken

@@ -1,9 +1,9 @@
 //! What a client offers and what a server takes ("Bolt handshake").
 
 ghost use Rattle.std.specs.Prelude.{◌≡◌, ◌≢◌, ◌+◌, take, drop, Option, Some, None, IfOk, IsErr, OnOk, ◌↔◌};
-ghost use Rattle.wire.specs.Offers.{magic, choice_of, covered_by, offer_of};
+ghost use Rattle.wire.specs.Offers.{magic, choice_of, covered_by, is_covered, offer_of};
 
-use crate::versions::Version;
+use crate::versions::{VERSIONS, Version};
 use thiserror::Error;
 
 /// Which versions a client offers.
@@ -22,17 +22,20 @@ pub struct BadMagic;
 const MAGIC: [u8; 4] = [0x60, 0x60, 0xB0, 0x17];
 
 /// The bytes with which a client opens a connection: `60 60 B0 17` and four proposals of four bytes, each `00`, a range, a minor
-/// version and a major version ("Bolt handshake"). `Newest` proposes 5.1, then 4.4; `Only` its version alone. A proposal that is
-/// left is four zero bytes. It takes no memory.
+/// version and a major version ("Bolt handshake"). `Newest` proposes a range for each major version, 5.1 with the minor version
+/// below it and then 4.4; `Only` its version alone. A proposal that is left is four zero bytes. It takes no memory.
 pub fn offer(wish: Wish) -> [u8; 20]
     ensures { result ≡ offer_of wish }
 {
     match wish {
         Wish::Newest => [
-            0x60, 0x60, 0xB0, 0x17, 0, 0, 1, 5, 0, 0, 4, 4, 0, 0, 0, 0, 0, 0, 0, 0,
+            0x60, 0x60, 0xB0, 0x17, 0, 1, 1, 5, 0, 0, 4, 4, 0, 0, 0, 0, 0, 0, 0, 0,
         ],
         Wish::Only(Version::V51) => [
             0x60, 0x60, 0xB0, 0x17, 0, 0, 1, 5, 0, 0, 0, 0, 0, 0, 0, 0, 0, 0, 0, 0,
+        ],
+        Wish::Only(Version::V50) => [
+            0x60, 0x60, 0xB0, 0x17, 0, 0, 0, 5, 0, 0, 0, 0, 0, 0, 0, 0, 0, 0, 0, 0,
         ],
         Wish::Only(Version::V44) => [
             0x60, 0x60, 0xB0, 0x17, 0, 0, 4, 4, 0, 0, 0, 0, 0, 0, 0, 0, 0, 0, 0, 0,
@@ -72,13 +75,20 @@ pub fn choose(offer: &[u8; 20]) -> Result<Option<Version>, BadMagic>
 fn covered(first: u8, range: u8, minor: u8, major: u8) -> Option<Version>
     ensures { result ≡ covered_by first range minor major }
 {
-    if first != 0 {
-        None
-    } else if major == 5 && minor >= 1 && minor - range.min(minor) <= 1 {
-        Some(Version::V51)
-    } else if major == 4 && minor >= 4 && minor - range.min(minor) <= 4 {
-        Some(Version::V44)
-    } else {
-        None
+    for version in VERSIONS {
+        if covers(first, range, minor, major, version) {
+            return Some(version);
+        }
     }
+    None
+}
+
+/// Whether a proposal covers the version.
+fn covers(first: u8, range: u8, minor: u8, major: u8, version: Version) -> bool
+    ensures { result ≡ is_covered first range minor major version }
+{
+    first == 0
+        && major == version.major()
+        && minor - range.min(minor) <= version.minor()
+        && version.minor() <= minor
 }

@@ -7,8 +7,12 @@ ghost use Rattle.wire.specs.Versions.{major_of, minor_of, has_element_ids, has_u
 #[derive(Clone, Copy, Debug, PartialEq, Eq)]
 pub enum Version {
     V44,
+    V50,
     V51,
 }
+
+/// The versions that this product speaks, the newest first.
+pub const VERSIONS: [Version; 3] = [Version::V51, Version::V50, Version::V44];
 
 impl Version {
     /// The major number by which the handshake knows it.
@@ -17,6 +21,7 @@ impl Version {
     {
         match self {
             Version::V44 => 4,
+            Version::V50 => 5,
             Version::V51 => 5,
         }
     }
@@ -27,6 +32,7 @@ impl Version {
     {
         match self {
             Version::V44 => 4,
+            Version::V50 => 0,
             Version::V51 => 1,
         }
     }
@@ -37,6 +43,7 @@ impl Version {
     {
         match self {
             Version::V44 => false,
+            Version::V50 => true,
             Version::V51 => true,
         }
     }
@@ -47,6 +54,7 @@ impl Version {
     {
         match self {
             Version::V44 => false,
+            Version::V50 => true,
             Version::V51 => true,
         }
     }
@@ -57,6 +65,7 @@ impl Version {
     {
         match self {
             Version::V44 => true,
+            Version::V50 => true,
             Version::V51 => false,
         }
     }
@@ -67,6 +76,7 @@ impl Version {
     {
         match self {
             Version::V44 => false,
+            Version::V50 => false,
             Version::V51 => true,
         }
     }

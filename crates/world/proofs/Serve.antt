@@ -1,18 +1,19 @@
 -- What one answer of the session keeps, for a request that its phase allows.
-use Rattle.std.proofs.Common.{Bool, Err, List, MatchOption, None, Ok, Option, Result, Some, [], ap, arith, bytes_eq, codes, false, if◌then◌else◌, is_some, length, nat_le, not, option_to_list, refl, slice_get, subst, suc, sym, true, true≢false, ℕ, ◌&&◌, ◌+◌, ◌<◌, ◌^◌, ◌∙◌, ◌∷◌, ◌≡◌}
+use Rattle.std.proofs.Common.{Bool, Err, List, MatchOption, None, Ok, Option, Result, Some, [], ap, arith, bytes_eq, codes, false, if◌then◌else◌, is_some, length, nat_le, not, option_to_list, refl, slice_get, subst, sym, true, true≢false, ℕ, ◌&&◌, ◌+◌, ◌<◌, ◌^◌, ◌∙◌, ◌∷◌, ◌≡◌}
+use Rattle.std.specs.List.{list_all}
 use Rattle.packstream.specs.Tree.{Tree}
 use Rattle.wire.specs.Framing.{bytes_in_order}
 use Rattle.wire.specs.declared.Version.{Version}
-use Rattle.wire.specs.declared.Version.TheVariants.{V44, V51}
+use Rattle.wire.specs.Versions.{versions, hello_has_login}
 use Rattle.messages.specs.declared.MsgFault.TheVariants as msg_fault
 use Rattle.messages.specs.Summaries as summaries
 use Rattle.messages.specs.Summaries.{HasTexts, IsShort, response_of_summary}
-use Rattle.messages.specs.View.{RequestView, ResponseView}
+use Rattle.messages.specs.View.{AuthView, RequestView, ResponseView}
 use Rattle.messages.specs.Writing.{response_spelling}
 use Rattle.messages.specs.declared.Count.{Count}
 use Rattle.messages.specs.declared.Mode.{Mode}
 use Rattle.messages.specs.declared.MsgFault.{MsgFault}
-use Rattle.machine.proofs.Tables.{at_rows, implies, implies_at}
+use Rattle.machine.proofs.Tables.{at_rows, at_version, implies, implies_at}
 use Rattle.machine.specs.Asks.{in_part, is_part, kind_of, is_goodbye, is_reset}
 use Rattle.machine.specs.Following.{allows, commits}
 use Rattle.machine.specs.Rows.{row_at}
@@ -26,7 +27,7 @@ use Rattle.client.specs.Client.{outcome_of, verdict_of}
 use Rattle.client.specs.declared.Outcome.{Outcome}
 use Rattle.exchange.specs.Faults.{failure, of_query}
 use Rattle.exchange.specs.Said.{fits}
-use Rattle.exchange.specs.Session.{Bye, OneRow, Open, Reply, Setting, Summary, Tx, close, no_result, fails, fields_said, is_halted, if_fits, left_after, no_tx, perform, pull, query_mode, reply_to_run, serve, succeeds, unwritable, used_up}
+use Rattle.exchange.specs.Session.{Bye, OneRow, Open, Reply, Setting, Summary, Tx, close, no_result, fails, fields_said, is_halted, if_fits, left_after, no_tx, perform, pull, query_mode, reply_to_hello, reply_to_login, reply_to_run, serve, succeeds, unwritable, used_up}
 use Rattle.exchange.specs.declared.fault.Fault.{Fault}
 use Rattle.world.proofs.Trace.{outcome_by}
 use Rattle.world.proofs.Writing.{failure_fits, short_fits}
@@ -90,6 +91,28 @@ is_state : (o : Option State) (s : State) → option_is o s ≡ true → o ≡ S
 is_state None s h = cc
 is_state (Some x) s h = ap (λ y. Some y) (same_state-true x s h)
 
+-- a request with a row of Success has this other one, at each version
+row_beside : (s : State) (k : Kind) (d : Verdict) (to : State) → list_all (λ v. implies (is_some (row_at v s k Verdict.Success)) (option_is (row_at v s k d) to)) versions ≡ true
+    → (v : Version) → is_some (row_at v s k Verdict.Success) ≡ true → row_at v s k d ≡ Some to
+row_beside s k d to all v r =
+    is_state (row_at v s k d) to
+    (implies_at (is_some (row_at v s k Verdict.Success)) _ (at_version (λ v. implies (is_some (row_at v s k Verdict.Success)) (option_is (row_at v s k d) to)) all v) r)
+
+-- a request with a row of Success at no version
+no_row : (s : State) (k : Kind) → list_all (λ v. not (is_some (row_at v s k Verdict.Success))) versions ≡ true
+    → (v : Version) → is_some (row_at v s k Verdict.Success) ≡ true → true ≡ false
+no_row s k all v r = sym (at_version (λ v. not (is_some (row_at v s k Verdict.Success))) all v) ∙ ap not r
+
+-- where a HELLO leads, by whether it carries who the client is
+abbrev after_hello : Bool → State
+after_hello b = if b then State.Ready else State.Unauth
+
+hello_row : (v : Version) (b : Bool) → hello_has_login v ≡ b → row_at v State.Fresh Kind.Hello Verdict.Success ≡ Some (after_hello b)
+hello_row v b e =
+    is_state (row_at v State.Fresh Kind.Hello Verdict.Success) (after_hello (hello_has_login v))
+    (at_version (λ v. option_is (row_at v State.Fresh Kind.Hello Verdict.Success) (after_hello (hello_has_login v))) refl v)
+    ∙ ap (λ b. Some (after_hello b)) e
+
 module _ (S : Setting) (c : ℕ) (numbered : c < 2 ^ 64) (front : List EntryView) where
   keeps_if : (v : Version) (s : State) (q : RequestView) (t : Tx) (w : List WriteView) (tx : Tx) (b : Bool) (x y : Reply)
       → (b ≡ true → Keeps S v front s q t w tx x) → (b ≡ false → Keeps S v front s q t w tx y) → Keeps S v front s q t w tx (if b then x else y)
@@ -112,24 +135,18 @@ module _ (S : Setting) (c : ℕ) (numbered : c < 2 ^ 64) (front : List EntryView
       → option_to_list left.write ≡ w → (is_some (slice_get rows 0) ≡ true → is_part n ≡ true)
       → Keeps S v front State.Streaming (RequestView.Pull n) t w tx (close State.Streaming (length front) rows left tx)
       × Keeps S v front State.Streaming (RequestView.Discard n) t w tx (close State.Streaming (length front) rows left tx)
-  close_alone V44 n [] left tx t w h part = (record { told = refl; written = λ n. short_fits V44 (summaries.Closing (Some (length front + 1)) left.mode) (wider (length front + 1) n) tt; valid = refl; state = State.Ready; rows = refl; holds = tt; outcome = refl; commit = (h, refl, refl) }, record { told = refl; written = λ n. short_fits V44 (summaries.Closing (Some (length front + 1)) left.mode) (wider (length front + 1) n) tt; valid = refl; state = State.Ready; rows = refl; holds = tt; outcome = refl; commit = (h, refl, refl) })
-  close_alone V44 Count.All (r ∷ rs) left tx t w h part = let no : false ≡ true = part refl in cc
-  close_alone V44 (Count.Of m) (r ∷ rs) left tx t w h part = (record { told = refl; written = λ _. short_fits V44 (summaries.RowsLeft) tt tt; valid = refl; state = State.Streaming; rows = refl; holds = h; outcome = refl; commit = tt }, record { told = refl; written = λ _. short_fits V44 (summaries.RowsLeft) tt tt; valid = refl; state = State.Streaming; rows = refl; holds = h; outcome = refl; commit = tt })
-  close_alone V51 n [] left tx t w h part = (record { told = refl; written = λ n. short_fits V51 (summaries.Closing (Some (length front + 1)) left.mode) (wider (length front + 1) n) tt; valid = refl; state = State.Ready; rows = refl; holds = tt; outcome = refl; commit = (h, refl, refl) }, record { told = refl; written = λ n. short_fits V51 (summaries.Closing (Some (length front + 1)) left.mode) (wider (length front + 1) n) tt; valid = refl; state = State.Ready; rows = refl; holds = tt; outcome = refl; commit = (h, refl, refl) })
-  close_alone V51 Count.All (r ∷ rs) left tx t w h part = let no : false ≡ true = part refl in cc
-  close_alone V51 (Count.Of m) (r ∷ rs) left tx t w h part = (record { told = refl; written = λ _. short_fits V51 (summaries.RowsLeft) tt tt; valid = refl; state = State.Streaming; rows = refl; holds = h; outcome = refl; commit = tt }, record { told = refl; written = λ _. short_fits V51 (summaries.RowsLeft) tt tt; valid = refl; state = State.Streaming; rows = refl; holds = h; outcome = refl; commit = tt })
+  close_alone v n [] left tx t w h part = (record { told = refl; written = λ n. short_fits v (summaries.Closing (Some (length front + 1)) left.mode) (wider (length front + 1) n) tt; valid = refl; state = State.Ready; rows = refl; holds = tt; outcome = refl; commit = (h, refl, refl) }, record { told = refl; written = λ n. short_fits v (summaries.Closing (Some (length front + 1)) left.mode) (wider (length front + 1) n) tt; valid = refl; state = State.Ready; rows = refl; holds = tt; outcome = refl; commit = (h, refl, refl) })
+  close_alone v Count.All (r ∷ rs) left tx t w h part = let no : false ≡ true = part refl in cc
+  close_alone v (Count.Of m) (r ∷ rs) left tx t w h part = (record { told = refl; written = λ _. short_fits v (summaries.RowsLeft) tt tt; valid = refl; state = State.Streaming; rows = refl; holds = h; outcome = refl; commit = tt }, record { told = refl; written = λ _. short_fits v (summaries.RowsLeft) tt tt; valid = refl; state = State.Streaming; rows = refl; holds = h; outcome = refl; commit = tt })
 
   -- and inside one
   close_inside : (v : Version) (n : Count) (rows : List (List Tree)) (left : Open) (tx t : Tx) (w : List WriteView)
       → tx ≡ t → (is_some (slice_get rows 0) ≡ true → is_part n ≡ true)
       → Keeps S v front State.TxStreaming (RequestView.Pull n) t w tx (close State.TxStreaming (length front) rows left tx)
       × Keeps S v front State.TxStreaming (RequestView.Discard n) t w tx (close State.TxStreaming (length front) rows left tx)
-  close_inside V44 n [] left tx t w h part = (record { told = refl; written = λ _. short_fits V44 (summaries.Closing None left.mode) tt tt; valid = refl; state = State.TxReady; rows = refl; holds = h; outcome = refl; commit = tt }, record { told = refl; written = λ _. short_fits V44 (summaries.Closing None left.mode) tt tt; valid = refl; state = State.TxReady; rows = refl; holds = h; outcome = refl; commit = tt })
-  close_inside V44 Count.All (r ∷ rs) left tx t w h part = let no : false ≡ true = part refl in cc
-  close_inside V44 (Count.Of m) (r ∷ rs) left tx t w h part = (record { told = refl; written = λ _. short_fits V44 (summaries.RowsLeft) tt tt; valid = refl; state = State.TxStreaming; rows = refl; holds = h; outcome = refl; commit = tt }, record { told = refl; written = λ _. short_fits V44 (summaries.RowsLeft) tt tt; valid = refl; state = State.TxStreaming; rows = refl; holds = h; outcome = refl; commit = tt })
-  close_inside V51 n [] left tx t w h part = (record { told = refl; written = λ _. short_fits V51 (summaries.Closing None left.mode) tt tt; valid = refl; state = State.TxReady; rows = refl; holds = h; outcome = refl; commit = tt }, record { told = refl; written = λ _. short_fits V51 (summaries.Closing None left.mode) tt tt; valid = refl; state = State.TxReady; rows = refl; holds = h; outcome = refl; commit = tt })
-  close_inside V51 Count.All (r ∷ rs) left tx t w h part = let no : false ≡ true = part refl in cc
-  close_inside V51 (Count.Of m) (r ∷ rs) left tx t w h part = (record { told = refl; written = λ _. short_fits V51 (summaries.RowsLeft) tt tt; valid = refl; state = State.TxStreaming; rows = refl; holds = h; outcome = refl; commit = tt }, record { told = refl; written = λ _. short_fits V51 (summaries.RowsLeft) tt tt; valid = refl; state = State.TxStreaming; rows = refl; holds = h; outcome = refl; commit = tt })
+  close_inside v n [] left tx t w h part = (record { told = refl; written = λ _. short_fits v (summaries.Closing None left.mode) tt tt; valid = refl; state = State.TxReady; rows = refl; holds = h; outcome = refl; commit = tt }, record { told = refl; written = λ _. short_fits v (summaries.Closing None left.mode) tt tt; valid = refl; state = State.TxReady; rows = refl; holds = h; outcome = refl; commit = tt })
+  close_inside v Count.All (r ∷ rs) left tx t w h part = let no : false ≡ true = part refl in cc
+  close_inside v (Count.Of m) (r ∷ rs) left tx t w h part = (record { told = refl; written = λ _. short_fits v (summaries.RowsLeft) tt tt; valid = refl; state = State.TxStreaming; rows = refl; holds = h; outcome = refl; commit = tt }, record { told = refl; written = λ _. short_fits v (summaries.RowsLeft) tt tt; valid = refl; state = State.TxStreaming; rows = refl; holds = h; outcome = refl; commit = tt })
 
   used_part : (n : Count) (k : ℕ) → used_up n k ≡ true → is_part n ≡ true
   used_part Count.All k h = cc
@@ -141,11 +158,7 @@ module _ (S : Setting) (c : ℕ) (numbered : c < 2 ^ 64) (front : List EntryView
   pull_alone v n (r ∷ rs) left tx t w h =
       keeps_if v _ _ t w tx (used_up n left.written) _ _
       (λ used. (close_alone v n (r ∷ rs) left tx t w h (λ e. used_part n left.written used)).0)
-      (λ on. fit v)
-    where
-      fit : (v : Version) → Keeps S v front State.Streaming (RequestView.Pull n) t w tx (if_fits v (ResponseView.Record r) (OneRow r (record { rows = rs; mode = left.mode; write = left.write; written = suc left.written })))
-      fit V44 = keeps_fits V44 State.Streaming State.Failed _ t w tx (ResponseView.Record r) _ refl tt refl (λ f. ((n, refl), f, h))
-      fit V51 = keeps_fits V51 State.Streaming State.Failed _ t w tx (ResponseView.Record r) _ refl tt refl (λ f. ((n, refl), f, h))
+      (λ on. keeps_fits v State.Streaming State.Failed _ t w tx (ResponseView.Record r) _ refl tt refl (λ f. ((n, refl), f, h)))
 
   pull_inside : (v : Version) (n : Count) (rows : List (List Tree)) (left : Open) (tx t : Tx) (w : List WriteView) → tx ≡ t
       → Keeps S v front State.TxStreaming (RequestView.Pull n) t w tx (pull v State.TxStreaming (length front) n rows left tx)
@@ -153,11 +166,7 @@ module _ (S : Setting) (c : ℕ) (numbered : c < 2 ^ 64) (front : List EntryView
   pull_inside v n (r ∷ rs) left tx t w h =
       keeps_if v _ _ t w tx (used_up n left.written) _ _
       (λ used. (close_inside v n (r ∷ rs) left tx t w h (λ e. used_part n left.written used)).0)
-      (λ on. fit v)
-    where
-      fit : (v : Version) → Keeps S v front State.TxStreaming (RequestView.Pull n) t w tx (if_fits v (ResponseView.Record r) (OneRow r (record { rows = rs; mode = left.mode; write = left.write; written = suc left.written })))
-      fit V44 = keeps_fits V44 State.TxStreaming State.Failed _ t w tx (ResponseView.Record r) _ refl tt refl (λ f. ((n, refl), f, h))
-      fit V51 = keeps_fits V51 State.TxStreaming State.Failed _ t w tx (ResponseView.Record r) _ refl tt refl (λ f. ((n, refl), f, h))
+      (λ on. keeps_fits v State.TxStreaming State.Failed _ t w tx (ResponseView.Record r) _ refl tt refl (λ f. ((n, refl), f, h)))
 
   discard_part : (n : Count) (rows : List (List Tree)) → is_some (slice_get (left_after n rows) 0) ≡ true → is_part n ≡ true
   discard_part Count.All rows h = cc
@@ -165,28 +174,18 @@ module _ (S : Setting) (c : ℕ) (numbered : c < 2 ^ 64) (front : List EntryView
 
   ran_alone : (v : Version) (query : List ℕ) (params : List ParameterView) (mode : Mode) (tx t : Tx) (w : List WriteView) (res : Result AnswerView QueryFault) → S.run front [] query params (query_mode mode) ≡ res
       → Keeps S v front State.Ready (RequestView.Run query params mode) t w tx (reply_to_run v State.Ready tx res)
-  ran_alone V44 query params mode tx t w (Err e) h = keeps_fails V44 State.Ready State.Failed _ t w tx (of_query e) (query_valid e) refl tt refl
-  ran_alone V44 query params mode tx t w (Ok a) h =
-      keeps_fits V44 State.Ready State.Failed _ t w tx (fields_said a.fields) _ refl tt refl
-      (λ f. record { told = refl; written = λ _. f; valid = refl; state = State.Streaming; rows = refl; holds = rw h refl; outcome = refl; commit = tt })
-  ran_alone V51 query params mode tx t w (Err e) h = keeps_fails V51 State.Ready State.Failed _ t w tx (of_query e) (query_valid e) refl tt refl
-  ran_alone V51 query params mode tx t w (Ok a) h =
-      keeps_fits V51 State.Ready State.Failed _ t w tx (fields_said a.fields) _ refl tt refl
+  ran_alone v query params mode tx t w (Err e) h = keeps_fails v State.Ready State.Failed _ t w tx (of_query e) (query_valid e) refl tt refl
+  ran_alone v query params mode tx t w (Ok a) h =
+      keeps_fits v State.Ready State.Failed _ t w tx (fields_said a.fields) _ refl tt refl
       (λ f. record { told = refl; written = λ _. f; valid = refl; state = State.Streaming; rows = refl; holds = rw h refl; outcome = refl; commit = tt })
 
   ran_inside : (v : Version) (query : List ℕ) (params : List ParameterView) (mode : Mode) (t : Tx) (w : List WriteView) (res : Result AnswerView QueryFault) → S.run front t.writes query params (query_mode t.mode) ≡ res
       → Keeps S v front State.TxReady (RequestView.Run query params mode) t w t (reply_to_run v State.TxReady t res)
-  ran_inside V44 query params mode t w (Err e) h = keeps_fails V44 State.TxReady State.Failed _ t w t (of_query e) (query_valid e) refl tt refl
-  ran_inside V44 query params mode t w (Ok a) h =
-      keeps_if V44 _ _ t w t (is_some a.write && nat_le 1024 (length t.writes)) _ _
-      (λ f. keeps_fails V44 State.TxReady State.Failed _ t w t Fault.TooManyWrites refl refl tt refl)
-      (λ few. keeps_fits V44 State.TxReady State.Failed _ t w t (fields_said a.fields) _ refl tt refl
-      (λ f. record { told = refl; written = λ _. f; valid = refl; state = State.TxStreaming; rows = refl; holds = rw h refl; outcome = refl; commit = tt }))
-  ran_inside V51 query params mode t w (Err e) h = keeps_fails V51 State.TxReady State.Failed _ t w t (of_query e) (query_valid e) refl tt refl
-  ran_inside V51 query params mode t w (Ok a) h =
-      keeps_if V51 _ _ t w t (is_some a.write && nat_le 1024 (length t.writes)) _ _
-      (λ f. keeps_fails V51 State.TxReady State.Failed _ t w t Fault.TooManyWrites refl refl tt refl)
-      (λ few. keeps_fits V51 State.TxReady State.Failed _ t w t (fields_said a.fields) _ refl tt refl
+  ran_inside v query params mode t w (Err e) h = keeps_fails v State.TxReady State.Failed _ t w t (of_query e) (query_valid e) refl tt refl
+  ran_inside v query params mode t w (Ok a) h =
+      keeps_if v _ _ t w t (is_some a.write && nat_le 1024 (length t.writes)) _ _
+      (λ f. keeps_fails v State.TxReady State.Failed _ t w t Fault.TooManyWrites refl refl tt refl)
+      (λ few. keeps_fits v State.TxReady State.Failed _ t w t (fields_said a.fields) _ refl tt refl
       (λ f. record { told = refl; written = λ _. f; valid = refl; state = State.TxStreaming; rows = refl; holds = rw h refl; outcome = refl; commit = tt }))
 
   keeps_succeeds : (v : Version) (s s2 : State) (q : RequestView) (t : Tx) (w : List WriteView) (tx : Tx) (x : summaries.Summary) → IsShort x → HasTexts x
@@ -196,47 +195,61 @@ module _ (S : Setting) (c : ℕ) (numbered : c < 2 ^ 64) (front : List EntryView
   keeps_succeeds v s s2 q t w tx x short bytes_in_order told valid e h o =
       record { told = told; written = λ _. short_fits v x short bytes_in_order; valid = valid; state = s2; rows = e; holds = h; outcome = o; commit = tt }
 
+  logs_on : (v : Version) (s : State) (q : RequestView) (a : AuthView) (tx t : Tx) (w : List WriteView) (x : summaries.Summary) → Keeps S v front s q t w tx (succeeds (response_of_summary x)) → Keeps S v front s q t w tx (fails Fault.Unauthorized)
+      → Keeps S v front s q t w tx (reply_to_login S a (response_of_summary x))
+  logs_on v s q a tx t w x let_in refused = keeps_if v s q t w tx (bytes_eq a.scheme (codes "basic") && S.check a.principal a.credentials) _ _ (λ e. let_in) (λ e. refused)
+
+  -- a HELLO, by whether it carries who the client is
+  greets_keep : (v : Version) (b : Bool) (agent : List ℕ) (auth : Option AuthView) (tx t : Tx) (w : List WriteView) → hello_has_login v ≡ b
+      → Keeps S v front State.Fresh (RequestView.Hello agent auth) t w tx (if b then reply_to_hello S auth (response_of_summary (summaries.Greeting c)) else succeeds (response_of_summary (summaries.Greeting c)))
+  greets_keep v false agent auth tx t w e = keeps_succeeds v State.Fresh State.Unauth (RequestView.Hello agent auth) t w tx (summaries.Greeting c) numbered tt refl refl (hello_row v false e) tt refl
+  greets_keep v true agent None tx t w e = keeps_fails v State.Fresh State.Defunct (RequestView.Hello agent None) t w tx Fault.Unauthorized refl refl tt refl
+  greets_keep v true agent (Some a) tx t w e =
+      logs_on v State.Fresh (RequestView.Hello agent (Some a)) a tx t w (summaries.Greeting c)
+      (keeps_succeeds v State.Fresh State.Ready (RequestView.Hello agent (Some a)) t w tx (summaries.Greeting c) numbered tt refl refl (hello_row v true e) tt refl)
+      (keeps_fails v State.Fresh State.Defunct (RequestView.Hello agent (Some a)) t w tx Fault.Unauthorized refl refl tt refl)
+
   performs : (v : Version) (s : State) (left : Open) (tx t : Tx) (w : List WriteView) (q : RequestView) → Held s left tx t w
       → is_some (row_at v s (kind_of q) Verdict.Success) ≡ true → Keeps S v front s q t w tx (perform S v c front s left tx q)
-  performs V51 State.Fresh left tx t w (RequestView.Hello agent auth) h r = keeps_succeeds V51 State.Fresh State.Unauth _ t w tx (summaries.Greeting c) numbered tt refl refl refl tt refl
-  performs V44 State.Fresh left tx t w (RequestView.Hello agent None) h r = keeps_fails V44 State.Fresh State.Defunct _ t w tx Fault.Unauthorized refl refl tt refl
-  performs V44 State.Fresh left tx t w (RequestView.Hello agent (Some a)) h r = keeps_if V44 _ _ t w tx (bytes_eq a.scheme (codes "basic") && S.check a.principal a.credentials) _ _ (λ e. keeps_succeeds V44 State.Fresh State.Ready _ t w tx (summaries.Greeting c) numbered tt refl refl refl tt refl) (λ e. keeps_fails V44 State.Fresh State.Defunct _ t w tx Fault.Unauthorized refl refl tt refl)
-  performs V51 State.Unauth left tx t w (RequestView.Logon a) h r = keeps_if V51 _ _ t w tx (bytes_eq a.scheme (codes "basic") && S.check a.principal a.credentials) _ _ (λ e. keeps_succeeds V51 State.Unauth State.Ready _ t w tx summaries.Plain tt tt refl refl refl tt refl) (λ e. keeps_fails V51 State.Unauth State.Defunct _ t w tx Fault.Unauthorized refl refl tt refl)
-  performs V51 State.Ready left tx t w RequestView.Logoff h r = keeps_succeeds V51 State.Ready State.Unauth _ t w tx summaries.Plain tt tt refl refl refl tt refl
-  performs V44 State.Ready left tx t w (RequestView.Run query params mode) h r = ran_alone V44 query params mode tx t w _ refl
-  performs V44 State.Ready left tx t w (RequestView.Begin mode) h r = record { told = refl; written = λ _. short_fits V44 (summaries.Plain) tt tt; valid = refl; state = State.TxReady; rows = refl; holds = refl; outcome = refl; commit = tt }
-  performs V44 State.Streaming left tx t w (RequestView.Pull n) h r = pull_alone V44 n left.rows left tx t w h
-  performs V44 State.Streaming left tx t w (RequestView.Discard n) h r = (close_alone V44 n (left_after n left.rows) left tx t w h (discard_part n left.rows)).1
-  performs V44 State.TxReady left tx t w (RequestView.Run query params mode) h r = subst (λ (u : Tx). Keeps S V44 front State.TxReady (RequestView.Run query params mode) u w tx (reply_to_run V44 State.TxReady tx (S.run front tx.writes query params (query_mode tx.mode)))) h (ran_inside V44 query params mode tx w _ refl)
-  performs V44 State.TxReady left tx t w RequestView.Commit h r = record { told = refl; written = λ n. short_fits V44 (summaries.Committed (length front + 1)) (wider (length front + 1) n) tt; valid = refl; state = State.Ready; rows = refl; holds = tt; outcome = refl; commit = (ap (λ (u : Tx). u.writes) h, refl, refl) }
-  performs V44 State.TxReady left tx t w RequestView.Rollback h r = keeps_succeeds V44 State.TxReady State.Ready _ t w tx summaries.Plain tt tt refl refl refl tt refl
-  performs V44 State.TxStreaming left tx t w (RequestView.Pull n) h r = pull_inside V44 n left.rows left tx t w h
-  performs V44 State.TxStreaming left tx t w (RequestView.Discard n) h r = (close_inside V44 n (left_after n left.rows) left tx t w h (discard_part n left.rows)).1
-  performs V44 State.Ready left tx t w RequestView.Reset h r = keeps_succeeds V44 State.Ready State.Ready _ t w tx summaries.Plain tt tt refl refl refl tt refl
-  performs V44 State.Streaming left tx t w RequestView.Reset h r = keeps_succeeds V44 State.Streaming State.Ready _ t w tx summaries.Plain tt tt refl refl refl tt refl
-  performs V44 State.TxReady left tx t w RequestView.Reset h r = keeps_succeeds V44 State.TxReady State.Ready _ t w tx summaries.Plain tt tt refl refl refl tt refl
-  performs V44 State.TxStreaming left tx t w RequestView.Reset h r = keeps_succeeds V44 State.TxStreaming State.Ready _ t w tx summaries.Plain tt tt refl refl refl tt refl
-  performs V44 State.Failed left tx t w RequestView.Reset h r = keeps_succeeds V44 State.Failed State.Ready _ t w tx summaries.Plain tt tt refl refl refl tt refl
-  performs V44 State.Interrupted left tx t w RequestView.Reset h r = keeps_succeeds V44 State.Interrupted State.Ready _ t w tx summaries.Plain tt tt refl refl refl tt refl
-  performs V51 State.Ready left tx t w (RequestView.Run query params mode) h r = ran_alone V51 query params mode tx t w _ refl
-  performs V51 State.Ready left tx t w (RequestView.Begin mode) h r = record { told = refl; written = λ _. short_fits V51 (summaries.Plain) tt tt; valid = refl; state = State.TxReady; rows = refl; holds = refl; outcome = refl; commit = tt }
-  performs V51 State.Streaming left tx t w (RequestView.Pull n) h r = pull_alone V51 n left.rows left tx t w h
-  performs V51 State.Streaming left tx t w (RequestView.Discard n) h r = (close_alone V51 n (left_after n left.rows) left tx t w h (discard_part n left.rows)).1
-  performs V51 State.TxReady left tx t w (RequestView.Run query params mode) h r = subst (λ (u : Tx). Keeps S V51 front State.TxReady (RequestView.Run query params mode) u w tx (reply_to_run V51 State.TxReady tx (S.run front tx.writes query params (query_mode tx.mode)))) h (ran_inside V51 query params mode tx w _ refl)
-  performs V51 State.TxReady left tx t w RequestView.Commit h r = record { told = refl; written = λ n. short_fits V51 (summaries.Committed (length front + 1)) (wider (length front + 1) n) tt; valid = refl; state = State.Ready; rows = refl; holds = tt; outcome = refl; commit = (ap (λ (u : Tx). u.writes) h, refl, refl) }
-  performs V51 State.TxReady left tx t w RequestView.Rollback h r = keeps_succeeds V51 State.TxReady State.Ready _ t w tx summaries.Plain tt tt refl refl refl tt refl
-  performs V51 State.TxStreaming left tx t w (RequestView.Pull n) h r = pull_inside V51 n left.rows left tx t w h
-  performs V51 State.TxStreaming left tx t w (RequestView.Discard n) h r = (close_inside V51 n (left_after n left.rows) left tx t w h (discard_part n left.rows)).1
-  performs V51 State.Ready left tx t w RequestView.Reset h r = keeps_succeeds V51 State.Ready State.Ready _ t w tx summaries.Plain tt tt refl refl refl tt refl
-  performs V51 State.Streaming left tx t w RequestView.Reset h r = keeps_succeeds V51 State.Streaming State.Ready _ t w tx summaries.Plain tt tt refl refl refl tt refl
-  performs V51 State.TxReady left tx t w RequestView.Reset h r = keeps_succeeds V51 State.TxReady State.Ready _ t w tx summaries.Plain tt tt refl refl refl tt refl
-  performs V51 State.TxStreaming left tx t w RequestView.Reset h r = keeps_succeeds V51 State.TxStreaming State.Ready _ t w tx summaries.Plain tt tt refl refl refl tt refl
-  performs V51 State.Failed left tx t w RequestView.Reset h r = keeps_succeeds V51 State.Failed State.Ready _ t w tx summaries.Plain tt tt refl refl refl tt refl
-  performs V51 State.Interrupted left tx t w RequestView.Reset h r = keeps_succeeds V51 State.Interrupted State.Ready _ t w tx summaries.Plain tt tt refl refl refl tt refl
-  performs V44 State.Unauth left tx t w RequestView.Logoff h r = cc
-  performs V44 State.Defunct left tx t w RequestView.Logoff h r = cc
-  performs V51 State.Defunct left tx t w RequestView.Logoff h r = cc
-  performs _ _ left tx t w _ h r = cc
+  performs v State.Fresh left tx t w (RequestView.Hello agent auth) h r = greets_keep v (hello_has_login v) agent auth tx t w refl
+  performs v State.Unauth left tx t w (RequestView.Logon a) h r =
+      logs_on v State.Unauth (RequestView.Logon a) a tx t w summaries.Plain
+      (keeps_succeeds v State.Unauth State.Ready (RequestView.Logon a) t w tx summaries.Plain tt tt refl refl (row_beside State.Unauth Kind.Logon Verdict.Success State.Ready refl v r) tt refl)
+      (keeps_fails v State.Unauth State.Defunct (RequestView.Logon a) t w tx Fault.Unauthorized refl (row_beside State.Unauth Kind.Logon Verdict.Failure State.Defunct refl v r) tt refl)
+  performs v State.Ready left tx t w RequestView.Logoff h r =
+      keeps_succeeds v State.Ready State.Unauth RequestView.Logoff t w tx summaries.Plain tt tt refl refl (row_beside State.Ready Kind.Logoff Verdict.Success State.Unauth refl v r) tt refl
+  performs v State.Ready left tx t w (RequestView.Run query params mode) h r = ran_alone v query params mode tx t w _ refl
+  performs v State.Ready left tx t w (RequestView.Begin mode) h r = record { told = refl; written = λ _. short_fits v (summaries.Plain) tt tt; valid = refl; state = State.TxReady; rows = refl; holds = refl; outcome = refl; commit = tt }
+  performs v State.Streaming left tx t w (RequestView.Pull n) h r = pull_alone v n left.rows left tx t w h
+  performs v State.Streaming left tx t w (RequestView.Discard n) h r = (close_alone v n (left_after n left.rows) left tx t w h (discard_part n left.rows)).1
+  performs v State.TxReady left tx t w (RequestView.Run query params mode) h r = subst (λ (u : Tx). Keeps S v front State.TxReady (RequestView.Run query params mode) u w tx (reply_to_run v State.TxReady tx (S.run front tx.writes query params (query_mode tx.mode)))) h (ran_inside v query params mode tx w _ refl)
+  performs v State.TxReady left tx t w RequestView.Commit h r = record { told = refl; written = λ n. short_fits v (summaries.Committed (length front + 1)) (wider (length front + 1) n) tt; valid = refl; state = State.Ready; rows = refl; holds = tt; outcome = refl; commit = (ap (λ (u : Tx). u.writes) h, refl, refl) }
+  performs v State.TxReady left tx t w RequestView.Rollback h r = keeps_succeeds v State.TxReady State.Ready _ t w tx summaries.Plain tt tt refl refl refl tt refl
+  performs v State.TxStreaming left tx t w (RequestView.Pull n) h r = pull_inside v n left.rows left tx t w h
+  performs v State.TxStreaming left tx t w (RequestView.Discard n) h r = (close_inside v n (left_after n left.rows) left tx t w h (discard_part n left.rows)).1
+  performs v State.Ready left tx t w RequestView.Reset h r = keeps_succeeds v State.Ready State.Ready _ t w tx summaries.Plain tt tt refl refl refl tt refl
+  performs v State.Streaming left tx t w RequestView.Reset h r = keeps_succeeds v State.Streaming State.Ready _ t w tx summaries.Plain tt tt refl refl refl tt refl
+  performs v State.TxReady left tx t w RequestView.Reset h r = keeps_succeeds v State.TxReady State.Ready _ t w tx summaries.Plain tt tt refl refl refl tt refl
+  performs v State.TxStreaming left tx t w RequestView.Reset h r = keeps_succeeds v State.TxStreaming State.Ready _ t w tx summaries.Plain tt tt refl refl refl tt refl
+  performs v State.Failed left tx t w RequestView.Reset h r = keeps_succeeds v State.Failed State.Ready _ t w tx summaries.Plain tt tt refl refl refl tt refl
+  performs v State.Interrupted left tx t w RequestView.Reset h r = keeps_succeeds v State.Interrupted State.Ready _ t w tx summaries.Plain tt tt refl refl refl tt refl
+  performs v State.Fresh left tx t w (RequestView.Logon a) h r = absurd (true≢false (no_row State.Fresh Kind.Logon refl v r))
+  performs v State.Ready left tx t w (RequestView.Logon a) h r = absurd (true≢false (no_row State.Ready Kind.Logon refl v r))
+  performs v State.Streaming left tx t w (RequestView.Logon a) h r = absurd (true≢false (no_row State.Streaming Kind.Logon refl v r))
+  performs v State.TxReady left tx t w (RequestView.Logon a) h r = absurd (true≢false (no_row State.TxReady Kind.Logon refl v r))
+  performs v State.TxStreaming left tx t w (RequestView.Logon a) h r = absurd (true≢false (no_row State.TxStreaming Kind.Logon refl v r))
+  performs v State.Failed left tx t w (RequestView.Logon a) h r = absurd (true≢false (no_row State.Failed Kind.Logon refl v r))
+  performs v State.Interrupted left tx t w (RequestView.Logon a) h r = absurd (true≢false (no_row State.Interrupted Kind.Logon refl v r))
+  performs v State.Defunct left tx t w (RequestView.Logon a) h r = absurd (true≢false (no_row State.Defunct Kind.Logon refl v r))
+  performs v State.Fresh left tx t w RequestView.Logoff h r = absurd (true≢false (no_row State.Fresh Kind.Logoff refl v r))
+  performs v State.Unauth left tx t w RequestView.Logoff h r = absurd (true≢false (no_row State.Unauth Kind.Logoff refl v r))
+  performs v State.Streaming left tx t w RequestView.Logoff h r = absurd (true≢false (no_row State.Streaming Kind.Logoff refl v r))
+  performs v State.TxReady left tx t w RequestView.Logoff h r = absurd (true≢false (no_row State.TxReady Kind.Logoff refl v r))
+  performs v State.TxStreaming left tx t w RequestView.Logoff h r = absurd (true≢false (no_row State.TxStreaming Kind.Logoff refl v r))
+  performs v State.Failed left tx t w RequestView.Logoff h r = absurd (true≢false (no_row State.Failed Kind.Logoff refl v r))
+  performs v State.Interrupted left tx t w RequestView.Logoff h r = absurd (true≢false (no_row State.Interrupted Kind.Logoff refl v r))
+  performs v State.Defunct left tx t w RequestView.Logoff h r = absurd (true≢false (no_row State.Defunct Kind.Logoff refl v r))
+  performs v _ left tx t w _ h r = cc
 
   ignored_keeps : (v : Version) (s : State) (q : RequestView) (tx t : Tx) (w : List WriteView) → row_at v s (kind_of q) Verdict.Ignored ≡ Some s → Held s no_result no_tx t w
       → Keeps S v front s q t w tx (Summary Verdict.Ignored (response_of_summary summaries.Passed) no_result no_tx None)
@@ -262,10 +275,8 @@ module _ (S : Setting) (c : ℕ) (numbered : c < 2 ^ 64) (front : List EntryView
   halted_held _ tx t w h = cc
 
   reset_keeps : (v : Version) (s : State) (q : RequestView) (tx t : Tx) (w : List WriteView) → is_halted s ≡ true → is_reset (kind_of q) ≡ true → Keeps S v front s q t w tx (succeeds (response_of_summary summaries.Plain))
-  reset_keeps V44 State.Failed RequestView.Reset tx t w h r = keeps_succeeds V44 State.Failed State.Ready _ t w tx summaries.Plain tt tt refl refl refl tt refl
-  reset_keeps V44 State.Interrupted RequestView.Reset tx t w h r = keeps_succeeds V44 State.Interrupted State.Ready _ t w tx summaries.Plain tt tt refl refl refl tt refl
-  reset_keeps V51 State.Failed RequestView.Reset tx t w h r = keeps_succeeds V51 State.Failed State.Ready _ t w tx summaries.Plain tt tt refl refl refl tt refl
-  reset_keeps V51 State.Interrupted RequestView.Reset tx t w h r = keeps_succeeds V51 State.Interrupted State.Ready _ t w tx summaries.Plain tt tt refl refl refl tt refl
+  reset_keeps v State.Failed RequestView.Reset tx t w h r = keeps_succeeds v State.Failed State.Ready _ t w tx summaries.Plain tt tt refl refl refl tt refl
+  reset_keeps v State.Interrupted RequestView.Reset tx t w h r = keeps_succeeds v State.Interrupted State.Ready _ t w tx summaries.Plain tt tt refl refl refl tt refl
   reset_keeps _ _ _ tx t w h r = cc
 
   pub serves : (v : Version) (s : State) (left : Open) (tx t : Tx) (w : List WriteView) (q : RequestView) → Held s left tx t w

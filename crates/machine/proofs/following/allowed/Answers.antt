@@ -1,7 +1,7 @@
-use Rattle.std.proofs.Common.{◌+◌, sym, subst, ◌∙◌, ◌≡◌, arith, get_or, true}
+use Rattle.std.proofs.Common.{◌+◌, sym, subst, ◌∙◌, ◌≡◌, arith, get_or, refl, true}
 use Rattle.machine.specs.declared.states.Phase.{Phase}
 use Rattle.machine.specs.Following.{allows}
-use Rattle.machine.proofs.Gathered.{Checked, checked-some, checked-none, checked-all, live}
+use Rattle.machine.proofs.Gathered.{Checked, checked-some, checked-none, checked-all, checked-refused, live, live-defunct}
 use Rattle.machine.proofs.following.allowed.Goals as goal
 use Rattle.machine.proofs.following.allowed.Goals.{then-has+else-not-is_allowed, else-has}
 
@@ -17,6 +17,11 @@ loop-phase-preserved c =
           subst (λ some. Checked c.args.version c.args.set c.args.kind some (i + 1)) (sym w.some-is)
           (checked-none c.args.version c.args.set c.args.kind c.loop-phase.some i Phase.Fresh c.loop-phase-test.true (sym c.has.ensures ∙ w.if-has.false) c.loop-phase.invariant)
     ]
+
+pub returns-then-not-is_allowed : goal.returns-then-not-is_allowed
+returns-then-not-is_allowed c =
+    let i = c.loop-phase.phase-index in
+    sym (checked-refused c.args.version c.args.set c.args.kind (get_or live i Phase.Fresh) (live-defunct i Phase.Fresh refl) (sym c.has.ensures ∙ c.if-has.true) (sym c.is_allowed.ensures ∙ c.if-not-is_allowed.true))
 
 pub returns : goal.returns
 returns c =

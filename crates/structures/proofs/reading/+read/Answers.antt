@@ -70,7 +70,7 @@ node_of-returns t c =
     let a1 = rw c.deref-2.ensures.value at c.in_ok-labels.ensures in
     let a3 = rw c.deref-3.ensures.value at c.in_ok-element_id.ensures.absent in
     let a4 = rw c.deref-3.ensures.value at c.in_ok-element_id.ensures.there in
-    let e = named_by c.args.version 0x4E (trees_of (trees xs)) Integer Labels Properties (int c.int_at-id.result) (texts_of c.in_ok-labels.labels.items) (dict (entries_of (entries c.in_ok-properties.properties.items))) (element_of c.in_ok-element_id.element_id) refl refl c.requires.fine (a0, (a1, (c.in_ok-properties.ensures, tt)))
+    let e = named_by c.args.version 0x4E (trees_of (trees xs)) Integer Labels Properties (int c.int_at-id.result) (texts_of c.in_ok-labels.labels.items) (dict (entries_of (entries c.in_ok-properties.properties.items))) (element_of c.in_ok-element_id.element_id) refl c.requires.fine (a0, (a1, (c.in_ok-properties.ensures, tt)))
     (λ n. a3 (sym (count_seen xs) ∙ n)) (λ n. a4 (omega (arith, count_seen xs))) in
     node-roll _ ∙ ap (λ (n : ℤ). structure 0x4E (tree_then (int n) (tree_then (texts_of c.in_ok-labels.labels.items) (tree_then (dict (entries_of (entries c.in_ok-properties.properties.items))) (element_of c.in_ok-element_id.element_id))))) z ∙ ap (λ (x : Trees). structure 0x4E x) e
 
@@ -82,7 +82,7 @@ unbound_of-returns t c =
     let a1 = rw c.deref-2.ensures.value at c.in_ok-kind.ensures in
     let a3 = rw c.deref-3.ensures.value at c.in_ok-element_id.ensures.absent in
     let a4 = rw c.deref-3.ensures.value at c.in_ok-element_id.ensures.there in
-    let e = named_by c.args.version 0x72 (trees_of (trees xs)) Integer Text Properties (int c.int_at-id.result) (text_of c.in_ok-kind.kind) (dict (entries_of (entries c.in_ok-properties.properties.items))) (element_of c.in_ok-element_id.element_id) refl refl c.requires.fine (a0, (a1, (c.in_ok-properties.ensures, tt)))
+    let e = named_by c.args.version 0x72 (trees_of (trees xs)) Integer Text Properties (int c.int_at-id.result) (text_of c.in_ok-kind.kind) (dict (entries_of (entries c.in_ok-properties.properties.items))) (element_of c.in_ok-element_id.element_id) refl c.requires.fine (a0, (a1, (c.in_ok-properties.ensures, tt)))
     (λ n. a3 (sym (count_seen xs) ∙ n)) (λ n. a4 (omega (arith, count_seen xs))) in
     unbound-roll _ ∙ ap (λ (n : ℤ). structure 0x72 (tree_then (int n) (tree_then (text_of c.in_ok-kind.kind) (tree_then (dict (entries_of (entries c.in_ok-properties.properties.items))) (element_of c.in_ok-element_id.element_id))))) z ∙ ap (λ (x : Trees). structure 0x72 x) e
 
@@ -148,7 +148,7 @@ path_of-returns t c =
     let s1 = at_some xs 1 c.index-2.result.now (omega (arith, n)) c.index-2.ensures in
     let s2 = at_some xs 2 c.index-3.result.now (omega (arith, n)) c.index-3.ensures in
     let k2 = path_field c.args.version xs 2 c.index-3.result.now Indices c.requires.fine c.index-3.ensures (omega (arith, n)) refl in
-    let e = read_by c.args.version 0x50 (trees_of (trees xs)) (tree_then (list (trees_of (map node_shape c.in_ok-nodes.nodes.items))) (tree_then (list (trees_of (map unbound_shape c.in_ok-relationships.relationships.items))) (tree_then (numbers_of c.in_ok-indices.indices.items) no_trees))) (Nodes ∷ Relationships ∷ Indices ∷ []) (at_both c.args.version 0x50 _ refl refl) c.requires.fine refl
+    let e = read_by c.args.version 0x50 (trees_of (trees xs)) (tree_then (list (trees_of (map node_shape c.in_ok-nodes.nodes.items))) (tree_then (list (trees_of (map unbound_shape c.in_ok-relationships.relationships.items))) (tree_then (numbers_of c.in_ok-indices.indices.items) no_trees))) (Nodes ∷ Relationships ∷ Indices ∷ []) (at_both c.args.version 0x50 _ refl) c.requires.fine refl
     ((λ h. c.in_ok-nodes.ensures ∙ ap typed (sym s0)), ((λ h. c.in_ok-relationships.ensures ∙ ap typed (sym s1)), ((λ h. c.in_ok-indices.ensures k2 ∙ ap typed (sym s2)), tt))) in
     shape-Path c.in_ok-nodes.nodes c.in_ok-relationships.relationships c.in_ok-indices.indices ∙ ap (λ (x : Trees). structure 0x50 x) e
 

@@ -1,0 +1,7 @@
+use Rattle.std.proofs.Common.{◌≡◌, drop}
+use Rattle.wire.specs.Versions.{versions}
+use Rattle.scripts.specs.Params.{cell_among, cell_of}
+use Rattle.scripts.proofs.params.cell_of.Given as goal
+
+abbrev pub invariant-loop-version : goal.invariant-loop-version
+invariant-loop-version l = cell_of l.packed ≡ cell_among (drop l.version-index versions) l.packed
