@@ -22,7 +22,7 @@ use Rattle.world.specs.Seeing.{IsOpens, IsWrong, ComesWrong}
 use Rattle.world.proofs.Seeing.{refuses_exactly}
 use Rattle.world.specs.declared.kinds.Refused.TheVariants.{NoSuchConnection, WrongPeer, SessionsFull}
 use Rattle.world.specs.Contract.{Answers}
-use Rattle.world.proofs.Headline.{reached_keeps, headline}
+use Rattle.world.proofs.Headline.{reached_keeps, all_good}
 use Rattle.world.proofs.Sound.{Sound, reached_sound}
 use Rattle.world.proofs.Giving.{refused_same}
 use Rattle.world.proofs.Fitting.{some_is}
@@ -38,7 +38,7 @@ answers S brought w r e seen Now h f counted =
     record {
       after = h.0;
       steps = s;
-      good = headline S brought h.0 (goes_on w h.0 e seen r s);
+      good = all_good S brought h.0 (goes_on w h.0 e seen r s);
       now = h.2;
     }
 

@@ -24,6 +24,7 @@ use Rattle.client.specs.Moments.{tellings_in}
 use Rattle.client.proofs.Steps as steps
 use Rattle.client.proofs.Steps.{item_tells}
 use Rattle.client.proofs.Later.{reading_later, reading_count}
+use Rattle.client.proofs.Hears.{step_keeps}
 use Rattle.world.specs.Connections.{Connection, output, bytes_delivered, client, wish_of, input}
 use Rattle.world.specs.World.{Seen, Gave, give, taken_for, note_now, tells_newest, note_given, tells_of, newest}
 use Rattle.world.specs.Rests.{client_rest}
@@ -170,6 +171,21 @@ module _ (k : Connection) (out n : ℕ) (lives : k.client_lost ≡ false) (on : 
 
   heard_more : hears (bytes_delivered k2) ≡ option_to_list (option_map (heard_as (client k).version) t.item) ++ hears (bytes_delivered k)
   heard_more = ap hears given_more ∙ more_heard (wish_of k.peer) k.sent (bytes_delivered k) on piece
+
+  -- one item at most, and a version that is known stays
+  pub one_heard : length (hears (bytes_delivered k2)) ≤ suc (length (hears (bytes_delivered k)))
+  one_heard = at (option_map (heard_as (client k).version) t.item) (ap length heard_more)
+    where
+      at : (o : Option Heard) → length (hears (bytes_delivered k2)) ≡ length (option_to_list o ++ hears (bytes_delivered k)) → length (hears (bytes_delivered k2)) ≤ suc (length (hears (bytes_delivered k)))
+      at None e = omega arith
+      at (Some x) e = omega arith
+
+  pub version_stays : (v : Version) → (client k).version ≡ Some v → (client k2).version ≡ Some v
+  version_stays v e = ap (λ ys. (reading (wish_of k.peer) k.sent ys).version) heard_more ∙ go (option_map (heard_as (client k).version) t.item)
+    where
+      go : (o : Option Heard) → (reading (wish_of k.peer) k.sent (option_to_list o ++ hears (bytes_delivered k))).version ≡ Some v
+      go None = e
+      go (Some x) = step_keeps (wish_of k.peer) k.sent (client k) v x e
 
   abbrev held : asking.Rest
   held = record { wish = wish_of k.peer; knows = knows_of (client k) k.sent false; item = state at_client at_client.start (bytes_delivered k); unsent = drop out (input (wish_of k.peer) k.sent) }

@@ -10,6 +10,7 @@ pub mod Kept
 pub mod Sending
 pub mod Feeding
 pub mod Working
+pub mod Listing
 pub mod Suffices
 pub mod Written
 pub mod Headline
@@ -41,5 +42,7 @@ pub mod Holding
 pub mod Followed
 pub mod Told
 pub mod Limits
+pub mod Doing
 pub mod Clients
+pub mod Telling
 pub mod Commits

@@ -17,7 +17,7 @@ use Rattle.world.specs.Views.{link_of, waiting_at}
 use Rattle.world.specs.Turns.{Definition, setting_of, Holds, HoldLinks, IsWorld}
 use Rattle.world.specs.Reported.{standing_seen, StandsBy}
 use Rattle.world.proofs.Sound.{Sound, reached_sound}
-use Rattle.world.proofs.Headline.{headline}
+use Rattle.world.proofs.Headline.{all_good}
 use Rattle.world.proofs.Answering.{link_at, link_none}
 use Rattle.world.proofs.Reporting.{standing_lives, standing_gone, waits_are}
 use Rattle.world.proofs.Placed.{held_at, held_past}
@@ -83,7 +83,7 @@ module _ {E G : Type 0} (entries : E → List EntryView) (answer : Definition) (
         go (Ours wish) p g =
             let old : FitsClient (Ours wish) m.client m.up k = subst (λ q. FitsClient q m.client m.up k) p g in
             let y = client_rest old.out k in
-            let good : Good (setting_of answer accepts gate) w c k = headline (setting_of answer accepts gate) brought w reached c k wish there.1 p in
+            let good : Good (setting_of answer accepts gate) w c k = all_good (setting_of answer accepts gate) brought w reached c k wish there.1 p in
             let n : length (summaries_told k) ≡ (client k).count =
             ap (λ q. length (by_peer q (read_after (client k).told []))) p ∙ ap (λ ts. length (read_after ts [])) good.told ∙ read_long (delivered_whole k) [] ∙ sym (good.count_told ∙ plus_none (answer_count (delivered_whole k))) in
             waits_are m k there.2 wish p y old.client_is ∙ ap₂ (λ i j. ordinals i j) (sym n ∙ long) (ap waiting_at (sym old.client_is))

@@ -1,5 +1,6 @@
 pub mod Connections
 pub mod World
+pub mod Runs
 pub mod Good
 pub mod Rests
 pub mod Reports
