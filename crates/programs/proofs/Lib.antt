@@ -1,3 +1,4 @@
+pub mod Escapings
 pub mod Lines
 pub mod Stops
 pub mod Served

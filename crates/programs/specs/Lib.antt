@@ -1,4 +1,5 @@
 pub mod Names
+pub mod Escaping
 pub mod Telling
 pub mod Stopping
 pub mod Serving

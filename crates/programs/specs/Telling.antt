@@ -9,6 +9,7 @@ use Rattle.structures.specs.Form.{Form}
 use Rattle.wire.specs.declared.Version.{Version}
 use Rattle.messages.specs.View.{ResponseView, Success, Record, Ignored, Failure}
 use Rattle.client.specs.Rest.{Note, Nothing, Chose, Row, Summary}
+use Rattle.programs.specs.Escaping.{escaped}
 use Rattle.programs.specs.Names.{outcome_name, phase_name}
 
 -- the shortest spelling of a cell in hex
@@ -29,9 +30,10 @@ abbrev pub heard_line : ℕ → List ℕ → List ℕ → List ℕ
 heard_line ordinal outcome phase =
     codes "heard " ++ decimal ordinal ++ codes " " ++ outcome ++ codes " " ++ phase ++ 10 ∷ []
 
--- a failure by its code and its message
+-- a failure by its code and its message, of which no control character is printed as it is
 abbrev pub fault_line : List ℕ → List ℕ → List ℕ
-fault_line code message = codes "fault " ++ code ++ codes " " ++ message ++ 10 ∷ []
+fault_line code message =
+    codes "fault " ++ escaped code ++ codes " " ++ escaped message ++ 10 ∷ []
 
 -- what is printed of a note
 abbrev pub IsTold : Version → Note → List ℕ → Type 0

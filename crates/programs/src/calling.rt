@@ -73,7 +73,7 @@ impl Caller {
             return Err(StreamFault::Memory);
         };
         match self.put_heard(heard, out) {
-            Ok(()) => put(failure.as_bytes(), out),
+            Ok(()) => put(failure.as_slice(), out),
             Err(fault) => Err(fault),
         }
     }

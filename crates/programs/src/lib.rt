@@ -2,6 +2,7 @@
 #![tactic(auto)]
 
 mod calling;
+mod escaping;
 mod looping;
 mod names;
 mod printing;
@@ -10,6 +11,7 @@ mod shells;
 mod stop;
 mod telling;
 
+pub use escaping::escape;
 pub use looping::{Channel, run_loop};
 pub use names::{cause_code, outcome_name, phase_name, refusal_code, state_name};
 pub use serves::serve_next;

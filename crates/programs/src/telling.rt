@@ -6,6 +6,7 @@ ghost use Rattle.client.specs.Notes.{note};
 ghost use Rattle.programs.specs.Telling.{IsSpelled, IsTold, IsRowLine, row_line, heard_line, fault_line, failure_line, failure_told};
 ghost use Rattle.programs.specs.Names.{outcome_name, phase_name};
 
+use crate::escaping::escape;
 use crate::names::{outcome_name, phase_name};
 use bytes::BytesMut;
 use client::{Heard, Outcome};
@@ -91,29 +92,37 @@ fn summary_text(
 }
 
 /// `fault CODE MESSAGE` on a line, of the summary that is a FAILURE alone.
-pub(crate) fn failure_of(alloc: Global, heard: &Heard) -> Result<String, AllocError>
-    ensures { IfOk result (λ t. string_bytes t ≡ failure_told (note heard.now)) }
+pub(crate) fn failure_of(alloc: Global, heard: &Heard) -> Result<Vec<u8>, AllocError>
+    ensures { IfOk result (λ t. t.items ≡ failure_told (note heard.now)) }
 {
     match heard {
         Heard::Summary { response, .. } => failure(alloc, response),
-        _ => Ok(String::new(alloc)),
+        _ => Ok(Vec::new(alloc)),
     }
 }
 
-fn failure(alloc: Global, response: &Response) -> Result<String, AllocError>
-    ensures { IfOk result (λ t. string_bytes t ≡ failure_line (response_view response.now)) }
+fn failure(alloc: Global, response: &Response) -> Result<Vec<u8>, AllocError>
+    ensures { IfOk result (λ t. t.items ≡ failure_line (response_view response.now)) }
 {
     match response {
         Response::Failure { code, message } => {
             failure_text(alloc, code.as_str(), message.as_str())
         }
-        _ => Ok(String::new(alloc)),
+        _ => Ok(Vec::new(alloc)),
     }
 }
 
-fn failure_text(alloc: Global, code: &str, message: &str) -> Result<String, AllocError>
-    ensures { IfOk result (λ t. string_bytes t ≡ fault_line code.now message.now) }
+/// The code and the message are a stranger's.
+fn failure_text(alloc: Global, code: &str, message: &str) -> Result<Vec<u8>, AllocError>
+    ensures { IfOk result (λ t. t.items ≡ fault_line code.now message.now) }
 {
-    let text = format!(in alloc; "fault {code} {message}\n")?;
-    Ok(text)
+    let code = escape(alloc, code.as_bytes())?;
+    let message = escape(alloc, message.as_bytes())?;
+    let mut line = Vec::new(alloc);
+    line.extend_from_slice(b"fault ")?;
+    line.extend_from_slice(code.as_slice())?;
+    line.extend_from_slice(b" ")?;
+    line.extend_from_slice(message.as_slice())?;
+    line.extend_from_slice(b"\n")?;
+    Ok(line)
 }

@@ -254,6 +254,29 @@ fn serves_a_socket(rt: HostRuntime) -> Result<(), Fail> {
     Ok(())
 }
 
+/// What a stranger says, and what is printed of it.
+const ESCAPES: [(&[u8], &[u8]); 6] = [
+    (b"unknown text", b"unknown text"),
+    (b"", b""),
+    (
+        b"no\nheard 4 Committed Ready",
+        b"no\\nheard 4 Committed Ready",
+    ),
+    (b"\x1B[2J\x7F\r\0", b"\\u{1b}[2J\\u{7f}\\u{0d}\\u{00}"),
+    // U+0085 is a control character, U+00A0 and U+0145 are none.
+    (b"\xC2\x85\xC2\xA0\xC5\x85", b"\\u{85}\xC2\xA0\xC5\x85"),
+    // A backslash stays as it is, and so does a byte that begins a character which doesn't come.
+    (b"a\\n\xC2", b"a\\n\xC2"),
+];
+
+#[test]
+fn escapes_control_characters(rt: HostRuntime) -> Result<(), Fail> {
+    for (said, printed) in &ESCAPES {
+        assert_eq!(rt; escape(rt.alloc(), said)?.as_slice(), *printed);
+    }
+    Ok(())
+}
+
 #[test]
 fn tells_a_fault(rt: HostRuntime) {
     for (fault, text, status) in [

@@ -10,4 +10,4 @@ returns-in-Ok-put_heard-clause-told g c =
     let old = g.O.Sink.taken c.args.out.now in
     let mid = g.O.Sink.taken c.put_heard.new.out in
     let new = g.O.Sink.taken c.put.new.out in
-    on_ok_then c.put.result _ _ (λ a. (p.0, p.1, Appends-trans old mid new p.0 _ p.2 (subst (λ (t : List ℕ). Appends mid new t) (c.as_bytes.ensures.value ∙ c.in-Ok.ensures) a))) c.put.ensures.text
+    on_ok_then c.put.result _ _ (λ a. (p.0, p.1, Appends-trans old mid new p.0 _ p.2 (subst (λ (t : List ℕ). Appends mid new t) (c.as_slice.ensures.value ∙ c.in-Ok.ensures) a))) c.put.ensures.text
