@@ -30,6 +30,7 @@ pub(crate) fn shell_at(rt: &HostRuntime, host: &str, port: u16) -> u8 {
         Ok(stream) => stream,
         Err(error) => return put_fault(unread(&error), &mut err),
     };
+    send_at_once(&stream);
     let mut source = Over::new(&stream);
     let mut sink = Over::new(&stream);
     shell(
@@ -75,6 +76,7 @@ pub(crate) fn serve_count<O: Sink>(
         let Ok((stream, _)) = listener.accept() else {
             return Err(StreamFault::ReadFailed);
         };
+        send_at_once(&stream);
         let mut source = Over::new(&stream);
         let mut sink = Over::new(&stream);
         serve_next(alloc, &mut server, &mut source, &mut sink, out)?;
@@ -182,5 +184,13 @@ fn connected(rt: &HostRuntime) -> io::Result<(TcpStream, TcpStream)> {
     let address = listener.local_addr()?;
     let near = TcpStream::connect(rt, address)?;
     let (far, _) = listener.accept()?;
+    send_at_once(&near);
+    send_at_once(&far);
     Ok((near, far))
+}
+
+/// Has the stream send each write at once, and not wait for the acknowledgement of the one before (TCP_NODELAY). One that can't is slower, and
+/// no worse.
+fn send_at_once(stream: &TcpStream) {
+    let _set = stream.set_nodelay(true);
 }
