@@ -6,6 +6,11 @@
 ///
 /// Nothing bounds how deep a program nests one, and a level takes a call: writing, fitting, cloning and dropping one that is
 /// many thousands deep runs out of stack. What `read` gives is at most 32 deep.
+///
+/// ```rust
+/// let packed = decode(alloc, input)?;
+/// Ok(read(alloc, version, &packed)?)
+/// ```
 #[derive(Debug, Drop)]
 #[cycle(cells)]
 pub enum Cell {

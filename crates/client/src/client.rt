@@ -9,6 +9,14 @@ use std::alloc::Global;
 use wire::Wish;
 
 /// One end of a connection: it puts out an offer and the requests that it accepts, and tells what it hears of a server.
+///
+/// ```rust
+/// let Ok(mut client) = Client::new(alloc, Wish::Only(Version::V51)) else {
+///     return Ok(());
+/// };
+/// // The version has to be heard before the first request is submitted.
+/// let _version = ask_all(alloc, &mut client, &mut source, &mut sink);
+/// ```
 #[derive(Drop)]
 pub struct Client {
     pub(crate) wish: Wish,

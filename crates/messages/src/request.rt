@@ -38,6 +38,14 @@ impl fmt::Debug for Auth {
 }
 
 /// A request.
+///
+/// ```rust
+/// Request::Hello {
+///     agent: text("example/1")?,
+///     auth: None
+/// },
+/// Request::Logon(auth),
+/// ```
 #[derive(Debug, Drop)]
 pub enum Request {
     /// The name of the client; with `auth` where HELLO carries the login, at 4.4 and 5.0, and without at 5.1.

@@ -16,6 +16,14 @@ use std::marker::Model;
 
 /// Reads one value from bytes that come in pieces. It has the bytes that it was fed; or, once each continuation of them
 /// has one fault at one place, that fault. And it holds a point to which it can return.
+///
+/// ```rust
+/// let mut reader = Reader::new(alloc);
+/// for byte in bytes {
+///     reader.feed(&[*byte])?;
+/// }
+/// Ok(reader)
+/// ```
 #[derive(Drop)]
 pub struct Reader {
     reading: Reading,

@@ -21,6 +21,11 @@ const MAX_SESSIONS: usize = 16;
 const MAX_NUMBERS: u64 = 1 << 63;
 
 /// A server: its live sessions in the order in which they were opened, over one engine and one gate.
+///
+/// ```rust
+/// let gate = OneUser::new(alloc, "user", "pass")?;
+/// let mut server = Server::new(alloc, FixedTable::new(alloc), gate);
+/// ```
 #[derive(Drop)]
 pub struct Server<E, G> {
     engine: E,

@@ -8,6 +8,14 @@ ghost use Rattle.std.specs.Io.KnownBytes.{ReadConsumes, WriteAppends};
 pub struct Failed;
 
 /// Where bytes come from.
+///
+/// ```rust
+/// let n = self.rest.len().min(buffer.len()).min(self.step);
+/// let (front, after) = self.rest.split_at(n);
+/// buffer[..n].copy_from_slice(front);
+/// self.rest = after;
+/// Ok(n)
+/// ```
 pub trait Source {
     // The bytes that are left, where they are known.
     ghost left: { Self → Option (List ℕ) };

@@ -9,6 +9,11 @@ use server::Server;
 use std::alloc::Global;
 
 /// A server, the clients of its connections, and the bytes on their way between them.
+///
+/// ```rust
+/// let gate = OneUser::new(alloc, "user", "pass")?;
+/// let mut world = World::new(alloc, FixedTable::new(alloc), gate);
+/// ```
 #[derive(Drop)]
 pub struct World<E, G> {
     links: Vec<Link>,
