@@ -2,6 +2,7 @@
 //! put each, over so many keys in turn; each figure is the time of a call that puts or asks, less that of one that only makes
 //! the table. Linked with the static library `bench` of the workspace:
 //!   bench_table_puts(keys, puts): makes a table by so many puts, each its own commit, answers the ledger's length
+//!   bench_table_tokens(keys, puts): the same, each commit under a token of its own
 //!   bench_table_gets(keys, puts, key, gets): then gets a key's value so many times, answers the rows read
 //!   bench_table_keys(keys, puts, times): then reads all keys so many times, answers the rows read
 // Other programs use the rest of these.
@@ -18,13 +19,14 @@ use twin::Value;
 
 unsafe extern "C" {
     fn bench_table_puts(keys: u32, puts: u32) -> u64;
+    fn bench_table_tokens(keys: u32, puts: u32) -> u64;
     fn bench_table_gets(keys: u32, puts: u32, key: u32, gets: u32) -> u64;
     fn bench_table_keys(keys: u32, puts: u32, times: u32) -> u64;
 }
 
 /// What a call does after it has made its table of so many entries.
 #[derive(Clone, Copy)]
-enum Ask { Puts(u32), Gets { key: u32, gets: u32 }, Keys(u32) }
+enum Ask { Puts(u32), Tokens(u32), Gets { key: u32, gets: u32 }, Keys(u32) }
 
 #[derive(Clone, Copy)]
 struct Call { keys: u32, entries: u32, ask: Ask }
@@ -34,16 +36,21 @@ fn product(call: Call) -> u64 {
     unsafe {
         match ask {
             Ask::Puts(more) => bench_table_puts(keys, entries + more),
+            Ask::Tokens(more) => bench_table_tokens(keys, entries + more),
             Ask::Gets { key, gets } => bench_table_gets(keys, entries, key, gets),
             Ask::Keys(times) => bench_table_keys(keys, entries, times),
         }
     }
 }
 
-fn put(table: &mut FixedTable, number: u32, ordinal: u32) {
+fn put(table: &mut FixedTable, number: u32, ordinal: u32, token: Option<String>) {
     let params = [("key".to_string(), Value::Text(key(number))), ("value".to_string(), Value::Int(ordinal as i64))];
-    let answer = table.run(&[], "PUT", &params, Mode::Write).unwrap();
-    table.commit(EntryId { conn: 0, ordinal: ordinal as u64 }, answer.write.into_iter().collect());
+    let writes = table.run(&[], "PUT", &params, Mode::Write).unwrap().write.into_iter().collect();
+    let id = EntryId { conn: 0, ordinal: ordinal as u64 };
+    match token {
+        None => { table.commit(id, writes); }
+        Some(token) => { table.commit_once(id, token, writes); }
+    }
 }
 
 fn rows_read(table: &FixedTable, text: &str, params: &[(String, Value)], times: u32) -> u64 {
@@ -53,10 +60,10 @@ fn rows_read(table: &FixedTable, text: &str, params: &[(String, Value)], times: 
 fn plain(call: Call) -> u64 {
     let Call { keys, entries, ask } = call;
     let mut table = FixedTable::new();
-    let puts = if let Ask::Puts(more) = ask { entries + more } else { entries };
-    for ordinal in 0..puts { put(&mut table, ordinal % keys, ordinal); }
+    let puts = if let Ask::Puts(more) | Ask::Tokens(more) = ask { entries + more } else { entries };
+    for ordinal in 0..puts { put(&mut table, ordinal % keys, ordinal, matches!(ask, Ask::Tokens(_)).then(|| key(ordinal))); }
     match ask {
-        Ask::Puts(_) => table.ledger().len() as u64,
+        Ask::Puts(_) | Ask::Tokens(_) => table.ledger().len() as u64,
         Ask::Gets { key: number, gets } => rows_read(&table, "GET", &[("key".to_string(), Value::Text(key(number)))], gets),
         Ask::Keys(times) => rows_read(&table, "KEYS", &[], times),
     }
@@ -75,6 +82,7 @@ fn lines() -> Vec<Line> {
     for (keys, entries, repeats, more, times) in [(10, 10, 1000, 10, 5000), (1000, 1000, 10, 1000, 50), (1000, 10_000, 1, 10_000, 50)] {
         let gets = |key| Ask::Gets { key, gets: 20_000 };
         lines.push(line("PUT and commit", more, repeats, keys, entries, Ask::Puts(more)));
+        lines.push(line("PUT and commit under a token", more, repeats, keys, entries, Ask::Tokens(more)));
         lines.push(line("GET of the first key", 20_000, 1, keys, entries, gets(0)));
         lines.push(line("GET of the last key", 20_000, 1, keys, entries, gets(keys - 1)));
         lines.push(line("KEYS, a row", keys * times, 1, keys, entries, Ask::Keys(times)));
@@ -85,6 +93,7 @@ fn lines() -> Vec<Line> {
 fn nothing(ask: Ask) -> Ask {
     match ask {
         Ask::Puts(_) => Ask::Puts(0),
+        Ask::Tokens(_) => Ask::Tokens(0),
         Ask::Gets { key, .. } => Ask::Gets { key, gets: 0 },
         Ask::Keys(_) => Ask::Keys(0),
     }

@@ -4,13 +4,23 @@ use engine::{Answer, Engine, EntryId, FixedTable, Mode, Write};
 use std::alloc::{AllocError, Global};
 use structures::Cell;
 
+/// The tokens of commits.
+#[derive(Clone, Copy)]
+enum Tokens {
+    Without,
+    OfTheirOwn,
+}
+
 /// A table after so many puts, over so many keys in turn, and answers the ledger's length.
 #[unsafe(no_mangle)]
 pub extern "C" fn bench_table_puts(alloc: Global, keys: u32, puts: u32) -> u64 {
-    match table_of(alloc, keys, puts) {
-        Ok(table) => table.ledger().len() as u64,
-        Err(_) => 0,
-    }
+    length_after(alloc, keys, puts, Tokens::Without)
+}
+
+/// The same, each commit under a token of its own.
+#[unsafe(no_mangle)]
+pub extern "C" fn bench_table_tokens(alloc: Global, keys: u32, puts: u32) -> u64 {
+    length_after(alloc, keys, puts, Tokens::OfTheirOwn)
 }
 
 /// Gets the value of a key so many times, and answers how many rows were read.
@@ -28,7 +38,7 @@ pub extern "C" fn bench_table_gets(
 /// Reads all keys so many times, and answers how many rows were read.
 #[unsafe(no_mangle)]
 pub extern "C" fn bench_table_keys(alloc: Global, keys: u32, puts: u32, times: u32) -> u64 {
-    match table_of(alloc, keys, puts) {
+    match table_of(alloc, keys, puts, Tokens::Without) {
         Ok(table) => rows_read(&table, "KEYS", &[], times),
         Err(_) => 0,
     }
@@ -41,7 +51,7 @@ fn rows_of_gets(
     key: u32,
     gets: u32,
 ) -> Result<u64, AllocError> {
-    let table = table_of(alloc, keys, puts)?;
+    let table = table_of(alloc, keys, puts, Tokens::Without)?;
     let mut params = Vec::new(alloc);
     params.push(parameter(alloc, "key", Cell::Text(key_of(alloc, key)?))?)?;
     Ok(rows_read(&table, "GET", &params, gets))
@@ -58,17 +68,34 @@ fn rows_read(table: &FixedTable, text: &str, params: &[(String, Cell)], times: u
     rows
 }
 
-/// A table after so many puts, over so many keys in turn.
-fn table_of(alloc: Global, keys: u32, puts: u32) -> Result<FixedTable, AllocError> {
+fn length_after(alloc: Global, keys: u32, puts: u32, tokens: Tokens) -> u64 {
+    match table_of(alloc, keys, puts, tokens) {
+        Ok(table) => table.ledger().len() as u64,
+        Err(_) => 0,
+    }
+}
+
+/// A table after so many puts, over so many keys in turn, with these tokens.
+fn table_of(alloc: Global, keys: u32, puts: u32, tokens: Tokens) -> Result<FixedTable, AllocError> {
     let mut table = FixedTable::new(alloc);
     for ordinal in 0..puts {
-        put(alloc, &mut table, ordinal % keys.max(1), ordinal)?;
+        let token = match tokens {
+            Tokens::Without => None,
+            Tokens::OfTheirOwn => Some(key_of(alloc, ordinal)?),
+        };
+        put(alloc, &mut table, ordinal % keys.max(1), ordinal, token)?;
     }
     Ok(table)
 }
 
 /// Asks for a put of the ordinal as the key's value, and commits it.
-fn put(alloc: Global, table: &mut FixedTable, key: u32, ordinal: u32) -> Result<(), AllocError> {
+fn put(
+    alloc: Global,
+    table: &mut FixedTable,
+    key: u32,
+    ordinal: u32,
+    token: Option<String>,
+) -> Result<(), AllocError> {
     let mut params = Vec::new(alloc);
     params.push(parameter(alloc, "key", Cell::Text(key_of(alloc, key)?))?)?;
     params.push(parameter(alloc, "value", Cell::Int(i64::from(ordinal)))?)?;
@@ -77,7 +104,7 @@ fn put(alloc: Global, table: &mut FixedTable, key: u32, ordinal: u32) -> Result<
         conn: 0,
         ordinal: u64::from(ordinal),
     };
-    match table.commit(id, writes) {
+    match table.commit(id, token, writes) {
         Ok(_) => Ok(()),
         Err(_) => Err(AllocError),
     }

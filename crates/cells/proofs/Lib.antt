@@ -5,3 +5,6 @@ pub mod Scanning
 pub mod Fine
 pub mod Judged
 pub mod Typed
+pub mod Equality
+pub mod Walking
+pub mod Alike

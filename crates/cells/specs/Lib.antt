@@ -1,4 +1,5 @@
 pub mod Table
+pub mod Same
 pub mod Shape
 pub mod Faults
 pub mod Writing

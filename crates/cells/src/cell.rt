@@ -124,7 +124,7 @@ pub struct UnboundRelationship {
 }
 
 /// The element ids of a relationship, its start and its end.
-#[derive(Debug, Drop)]
+#[derive(Debug, PartialEq, Drop)]
 pub struct ElementIds {
     pub own: String,
     pub start: String,

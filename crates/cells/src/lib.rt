@@ -4,6 +4,7 @@
 mod cell;
 mod checking;
 mod clone;
+mod comparing;
 mod fault;
 mod judging;
 mod kinds;
@@ -15,6 +16,7 @@ mod wrong;
 
 pub use cell::{Cell, ElementIds, Node, Relationship, UnboundRelationship};
 pub use checking::check_value;
+pub use comparing::same;
 pub use fault::Reason;
 pub use judging::{check_cell, check_cells, check_entries};
 pub use table::Field;

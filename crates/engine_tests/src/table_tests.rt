@@ -3,6 +3,7 @@
 use Plain::*;
 use Step::*;
 use Told::*;
+use engine::Commit::*;
 use engine::laws::{commit_and_get, commit_and_run};
 use engine::*;
 use std::alloc::{AllocError, Global};
@@ -33,8 +34,10 @@ enum Told {
 
 /// A call of a table, and what it tells.
 enum Step {
-    /// Values of keys are committed, and the ledger has so many entries then.
-    Commits(EntryId, Named, u64),
+    /// Values of keys are committed, under a token or under none.
+    Commits(EntryId, Option<&'static str>, Named, Commit),
+    /// What is known of a token and values of keys.
+    Knows(&'static str, Named, Option<Commit>),
     Entries(usize),
     /// The table's pairs, in their order.
     Pairs(Named),
@@ -69,9 +72,9 @@ const CALLER: EntryId = EntryId {
 
 /// Entries that put b 1, a 2 and b 3.
 const THREE_PUTS: &[Step] = &[
-    Commits(FIRST, &[("b", Int(1))], 1),
-    Commits(FIRST, &[("a", Int(2))], 2),
-    Commits(FIRST, &[("b", Int(3))], 3),
+    Commits(FIRST, None, &[("b", Int(1))], Added(1)),
+    Commits(FIRST, None, &[("a", Int(2))], Added(2)),
+    Commits(FIRST, None, &[("b", Int(3))], Added(3)),
 ];
 
 const KEYS_AND_VALUES: &[Step] = &[
@@ -110,11 +113,34 @@ const OWN_WRITES: &[Step] = &[
 ];
 
 const KEY_TWICE_IN_A_COMMIT: &[Step] = &[
-    Commits(FIFTH, &[("a", Int(1)), ("b", Int(2)), ("a", Int(3))], 1),
+    Commits(
+        FIFTH,
+        None,
+        &[("a", Int(1)), ("b", Int(2)), ("a", Int(3))],
+        Added(1),
+    ),
     Pairs(&[("a", Int(3)), ("b", Int(2))]),
 ];
 
-const COMMIT_OF_NO_WRITES: &[Step] = &[Commits(OTHER, &[], 4), Entries(4)];
+const COMMIT_OF_NO_WRITES: &[Step] = &[Commits(OTHER, None, &[], Added(4)), Entries(4)];
+
+const TOKENS: &[Step] = &[
+    Commits(FIRST, Some("t"), &[("a", Int(1))], Added(1)),
+    Commits(OTHER, Some("t"), &[("a", Int(1))], Repeat(1)),
+    Commits(FIFTH, Some("t"), &[("a", Int(2))], Clash),
+    Knows("t", &[("a", Int(1))], Some(Repeat(1))),
+    Knows("t", &[("a", Int(1)), ("a", Int(1))], Some(Clash)),
+    Knows("u", &[("a", Int(1))], None),
+    Commits(FIFTH, Some("u"), &[], Added(2)),
+    Commits(OTHER, Some("u"), &[], Repeat(2)),
+    Commits(OTHER, Some("u"), &[("a", Int(1))], Clash),
+    Commits(OTHER, Some("t"), &[("a", Int(1))], Repeat(1)),
+    Commits(FIRST, Some("t"), &[], Clash),
+    Commits(FIFTH, None, &[("a", Int(3))], Added(3)),
+    Commits(FIFTH, None, &[("a", Int(3))], Added(4)),
+    Entries(4),
+    Pairs(&[("a", Int(3))]),
+];
 
 const ROWS: &[Step] = &[
     Asks(
@@ -205,6 +231,7 @@ const ASKED: &[(&str, &[Step], &[Step])] = &[
     ("own writes", THREE_PUTS, OWN_WRITES),
     ("a key twice in a commit", &[], KEY_TWICE_IN_A_COMMIT),
     ("a commit of no writes", THREE_PUTS, COMMIT_OF_NO_WRITES),
+    ("tokens", &[], TOKENS),
     ("rows", &[], ROWS),
     ("bad counts", &[], BAD_COUNTS),
     ("faults in order", &[], FAULTS_IN_ORDER),
@@ -236,6 +263,13 @@ fn writes(alloc: Global, named: Named) -> Result<Vec<Write>, AllocError> {
         writes.push(Write { key, value })?;
     }
     Ok(writes)
+}
+
+fn text(alloc: Global, text: &Option<&str>) -> Result<Option<String>, AllocError> {
+    match text {
+        None => Ok(None),
+        Some(text) => Ok(Some(String::from_str(alloc, text)?)),
+    }
 }
 
 /// Nodes 1 and 2, relationship 7 and two indices of 1.
@@ -319,10 +353,11 @@ fn has_pairs(table: &FixedTable, wanted: Named) -> bool {
 /// Whether a call of the table tells what it should.
 fn is_so(alloc: Global, table: &mut FixedTable, step: &Step) -> Result<bool, AllocError> {
     match step {
-        Commits(id, named, len) => {
-            let told = table.commit(*id, writes(alloc, named)?);
-            Ok(matches!(told, Ok(told) if told == *len))
+        Commits(id, token, named, wanted) => {
+            let told = table.commit(*id, text(alloc, token)?, writes(alloc, named)?);
+            Ok(matches!(told, Ok(told) if told == *wanted))
         }
+        Knows(token, named, wanted) => Ok(table.known(token, &writes(alloc, named)?) == *wanted),
         Entries(count) => Ok(table.ledger().len() == *count),
         Pairs(named) => Ok(has_pairs(table, named)),
         Asks(own, query, named, mode, told) => {
@@ -332,13 +367,14 @@ fn is_so(alloc: Global, table: &mut FixedTable, step: &Step) -> Result<bool, All
         }
         CommitsAndGets(own, named, told) => {
             let params = params(alloc, named)?;
-            match commit_and_get(table, CALLER, writes(alloc, own)?, &params) {
+            match commit_and_get(table, CALLER, None, writes(alloc, own)?, &params) {
                 Ok(answer) => Ok(is_told(&answer, told)),
                 Err(_) => Ok(false),
             }
         }
         CommitsAndRuns(told) => {
-            match commit_and_run(table, CALLER, Vec::new(alloc), "KEYS", &[], Mode::Read) {
+            let none = Vec::new(alloc);
+            match commit_and_run(table, CALLER, None, none, "KEYS", &[], Mode::Read) {
                 Ok(answer) => Ok(is_told(&answer, told)),
                 Err(_) => Ok(false),
             }
@@ -357,6 +393,25 @@ fn a_table_answers(rt: HostRuntime) -> Result<(), Fail> {
             );
         }
     }
+    Ok(())
+}
+
+/// Commits without writes, each second one under a token of its own; and then under the first of these tokens.
+#[test]
+fn many_commits(rt: HostRuntime) -> Result<(), Fail> {
+    let alloc = rt.alloc();
+    let mut table = FixedTable::new(alloc);
+    for n in 0..2_000 {
+        let token = if n % 2 == 0 {
+            Some(format!(in alloc; "{n}")?)
+        } else {
+            None
+        };
+        let told = table.commit(FIRST, token, Vec::new(alloc));
+        assert!(rt; matches!(told, Ok(told) if told == Added(n + 1)), "{n}");
+    }
+    let again = table.commit(OTHER, Some(format!(in alloc; "0")?), Vec::new(alloc));
+    assert!(rt; matches!(again, Ok(told) if told == Repeat(1)));
     Ok(())
 }
 

@@ -12,7 +12,7 @@ mod plain;
 mod reading;
 mod writing;
 
-pub use cells::{Cell, ElementIds, Node, Reason, Relationship, UnboundRelationship};
+pub use cells::{Cell, ElementIds, Node, Reason, Relationship, UnboundRelationship, same};
 pub use codec::{read, read_value, write, write_entries, write_members};
 pub use fault::CellFault;
 pub use fitting::fit;
