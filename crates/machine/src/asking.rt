@@ -16,7 +16,7 @@ pub fn kind(request: &Request) -> Kind
         Request::Goodbye => Kind::Goodbye,
         Request::Reset => Kind::Reset,
         Request::Run { .. } => Kind::Run,
-        Request::Begin(_) => Kind::Begin,
+        Request::Begin { .. } => Kind::Begin,
         Request::Commit => Kind::Commit,
         Request::Rollback => Kind::Rollback,
         Request::Discard(_) => Kind::Discard,

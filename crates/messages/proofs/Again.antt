@@ -1,5 +1,6 @@
 -- A spelling reads back as the message that it was written of.
-use Rattle.std.proofs.Common.{◌≡◌, ℕ, ℤ, pos, int_le, ◌≤◌, List, [], ◌∷◌, ◌++◌, length, Bool, true, false, Some, None, Result, Ok, Err, codes, refl, ap, sym, subst, ◌∙◌, arith}
+use Rattle.std.proofs.Common.{◌≡◌, ℕ, ℤ, pos, int_le, ◌≤◌, List, [], ◌∷◌, ◌++◌, length, Bool, true, false, Option, Some, None, IfSome, Result, Ok, Err, codes, refl, ap, sym, subst, ◌∙◌, arith}
+use Rattle.std.specs.Str.{IsUtf8}
 use Rattle.packstream.specs.declared.fault.Reason.{Reason}
 use Rattle.packstream.specs.Tree.{Tree, null, boolean, int, float, byte_string, text, dict, list, structure, Trees, no_trees, tree_then, Entries, no_entries, entry_then}
 use Rattle.packstream.specs.View.{entries_of, trees_of}
@@ -20,17 +21,18 @@ use Rattle.cells.proofs.Fine.{fine_scan}
 use Rattle.structures.specs.Form.{form, typed, typed_all, typed_under}
 use Rattle.structures.proofs.Formed.{form_is}
 use Rattle.wire.specs.declared.Version.TheVariants.{V44, V50, V51}
+use Rattle.messages.specs.declared.request.Mode.{Mode}
 use Rattle.messages.specs.declared.request.Mode.TheVariants.{Read, Write}
 use Rattle.messages.specs.declared.request.Count.TheVariants.{All, Of}
 use Rattle.messages.specs.declared.fault.MsgFault.{MsgFault}
 use Rattle.messages.specs.View.{AuthView, RequestView, Hello, Logon, Logoff, Goodbye, Reset, Run, Begin, Commit, Rollback, Discard, Pull, ResponseView, Success, Record, Ignored, Failure}
-use Rattle.messages.specs.Reading.{◌>>=◌, cell_of_field, cell_by, request_contents, response_contents}
+use Rattle.messages.specs.Reading.{◌>>=◌, is_token, cell_of_field, cell_by, request_contents, response_contents}
 use Rattle.messages.specs.Messages.{Req, Resp}
 use Rattle.messages.specs.Cells.{cell_put}
 use Rattle.messages.specs.Writing.{form_put, packed_by, spelling_within, spelling_of_tree, request_spelling, response_spelling}
 use Rattle.messages.specs.Sound.{IsCell, HasTexts, IsRequest, IsResponse, RequestsReadBack, ResponsesReadBack}
 use Rattle.messages.proofs.Forms.{form_again}
-use Rattle.messages.proofs.Rounds.{IsBack, AreBack, AreAnsweredBack, put_is, told_back, answered_back_told}
+use Rattle.messages.proofs.Rounds.{IsBack, AreBack, AreAnsweredBack, transaction_put, token_entry, put_is, told_back, answered_back_told}
 use Rattle.messages.proofs.Sent.{short_packed, request_is, response_is}
 use Rattle.messages.proofs.Texts.{canon_is}
 
@@ -46,13 +48,13 @@ cell_plain : (v : Version) (s u : Tree) → IsCell v s → cell_put v s ≡ Ok u
 cell_plain v s u c h = subst IsPlain (sym (written_form v s u c h)) c.1
 
 pub asked_again : (v : Version) (m : RequestView) → IsRequest v m → AreBack v m
-asked_again v (Run s ps m) h = cell_again v (dict (entries_of ps)) h.1
+asked_again v (Run s ps m token) h = cell_again v (dict (entries_of ps)) h.1
 asked_again v (Hello a o) h = tt
 asked_again v (Logon l) h = tt
 asked_again v Logoff h = tt
 asked_again v Goodbye h = tt
 asked_again v Reset h = tt
-asked_again v (Begin m) h = tt
+asked_again v (Begin m token) h = tt
 asked_again v Commit h = tt
 asked_again v Rollback h = tt
 asked_again v (Discard c) h = tt
@@ -78,14 +80,35 @@ unfolding lib.Utf8.encode
 discard_plain v z true t e p h = plain_from _ t (rw e at h) (omega arith, (((codes "n", (refl, refl)), p, tt), tt))
 discard_plain v z false t e p h = let k = rw e at h in absurd cc
 
-read_plain : (v : Version) (s : List ℕ) (ps : List (List ℕ × Tree)) (r : Result Tree MsgFault) (t : Tree) → cell_put v (dict (entries_of ps)) ≡ r → IsRequest v (Run s ps Read) → form_put v (request_contents (Run s ps Read)) ≡ Ok t → IsPlain t
-unfolding lib.Utf8.encode
-read_plain v s ps (Ok u) t e p h = plain_from _ t (rw e at h) (omega arith, (p.0, (cell_plain v _ u p.1 e, (((codes "mode", (refl, refl)), (codes "r", (refl, refl)), tt), tt))))
-read_plain v s ps (Err x) t e p h = let k = rw e at h in absurd cc
+-- the entries of a transaction
+same_plain : (x es : Entries) → ◌≡◌ {A = Result Entries MsgFault} (Ok x) (Ok es) → HavePlain x → HavePlain es
+same_plain x es e p = let same : x ≡ es = cc in subst HavePlain same p
 
-write_plain : (v : Version) (s : List ℕ) (ps : List (List ℕ × Tree)) (r : Result Tree MsgFault) (t : Tree) → cell_put v (dict (entries_of ps)) ≡ r → IsRequest v (Run s ps Write) → form_put v (request_contents (Run s ps Write)) ≡ Ok t → IsPlain t
-write_plain v s ps (Ok u) t e p h = plain_from _ t (rw e at h) (omega arith, (p.0, (cell_plain v _ u p.1 e, (tt, tt))))
-write_plain v s ps (Err x) t e p h = let k = rw e at h in absurd cc
+entry_plain : (s : List ℕ) → IsUtf8 s → HavePlain (token_entry s)
+unfolding lib.Utf8.encode
+entry_plain s u = ((codes "tx_metadata", (refl, refl)), ((codes "token", (refl, refl)), u, tt), tt)
+
+token_plain : (v : Version) (m : Mode) (s : List ℕ) (b : Bool) (es : Entries) → is_token s ≡ b → IsUtf8 s → transaction_put v m (Some s) ≡ Ok es → HavePlain es
+unfolding lib.Utf8.encode
+token_plain v Read s true es w u h = same_plain (entry_then (codes "mode") (text (codes "r")) (token_entry s)) es (rw w at h) ((codes "mode", (refl, refl)), (codes "r", (refl, refl)), entry_plain s u)
+token_plain v Write s true es w u h = same_plain (token_entry s) es (rw w at h) (entry_plain s u)
+token_plain v Read s false es w u h = let k = rw w at h in absurd cc
+token_plain v Write s false es w u h = let k = rw w at h in absurd cc
+
+transaction_plain : (v : Version) (m : Mode) (token : Option (List ℕ)) (es : Entries) → IfSome token IsUtf8 → transaction_put v m token ≡ Ok es → HavePlain es
+unfolding lib.Utf8.encode
+transaction_plain v Read None es u h = same_plain (entry_then (codes "mode") (text (codes "r")) no_entries) es h ((codes "mode", (refl, refl)), (codes "r", (refl, refl)), tt)
+transaction_plain v Write None es u h = same_plain no_entries es h tt
+transaction_plain v m (Some s) es u h = token_plain v m s (is_token s) es refl u h
+
+begin_plain : (v : Version) (m : Mode) (token : Option (List ℕ)) (q : Result Entries MsgFault) (t : Tree) → transaction_put v m token ≡ q → IfSome token IsUtf8 → form_put v (request_contents (Begin m token)) ≡ Ok t → IsPlain t
+begin_plain v m token (Ok es) t w u h = plain_from _ t (rw w at h) (omega arith, (transaction_plain v m token es u w, tt))
+begin_plain v m token (Err x) t w u h = let k = rw w at h in absurd cc
+
+run_plain : (v : Version) (s : List ℕ) (ps : List (List ℕ × Tree)) (m : Mode) (token : Option (List ℕ)) (q : Result Entries MsgFault) (r : Result Tree MsgFault) (t : Tree) → transaction_put v m token ≡ q → cell_put v (dict (entries_of ps)) ≡ r → IsRequest v (Run s ps m token) → form_put v (request_contents (Run s ps m token)) ≡ Ok t → IsPlain t
+run_plain v s ps m token (Ok es) (Ok c) t w e p h = plain_from _ t (rw (w, e) at h) (omega arith, (p.0, (cell_plain v _ c p.1 e, (transaction_plain v m token es p.2 w, tt))))
+run_plain v s ps m token (Ok es) (Err x) t w e p h = let k = rw (w, e) at h in absurd cc
+run_plain v s ps m token (Err x) r t w e p h = let k = rw w at h in absurd cc
 
 -- the entries of a login
 abbrev login_entries : AuthView → Entries
@@ -124,10 +147,8 @@ asked_plain V50 Logoff t p h = absurd cc
 asked_plain V51 Logoff t p h = plain_from _ t h (omega arith, tt)
 asked_plain v Goodbye t p h = plain_from _ t h (omega arith, tt)
 asked_plain v Reset t p h = plain_from _ t h (omega arith, tt)
-asked_plain v (Run s ps Read) t p h = read_plain v s ps (cell_put v (dict (entries_of ps))) t refl p h
-asked_plain v (Run s ps Write) t p h = write_plain v s ps (cell_put v (dict (entries_of ps))) t refl p h
-asked_plain v (Begin Read) t p h = plain_from _ t h (omega arith, (((codes "mode", (refl, refl)), (codes "r", (refl, refl)), tt), tt))
-asked_plain v (Begin Write) t p h = plain_from _ t h (omega arith, (tt, tt))
+asked_plain v (Run s ps m token) t p h = run_plain v s ps m token (transaction_put v m token) (cell_put v (dict (entries_of ps))) t refl refl p h
+asked_plain v (Begin m token) t p h = begin_plain v m token (transaction_put v m token) t refl p h
 asked_plain v Commit t p h = plain_from _ t h (omega arith, tt)
 asked_plain v Rollback t p h = plain_from _ t h (omega arith, tt)
 asked_plain v (Discard All) t p h = plain_from _ t h (omega arith, (((codes "n", (refl, refl)), fits_neg 0 (omega arith), tt), tt))

@@ -1,5 +1,5 @@
 -- What is told of a value by reading it is what the table lays out.
-use Rattle.std.proofs.Common.{◌≡◌, ◌↔◌, ℕ, zero, suc, ℤ, pos, negsuc, int_le, List, [], ◌∷◌, ◌++◌, append-nil, Bool, true, false, cond, ◌||◌, ◌&&◌, ◌==◌, Option, None, Some, Result, Ok, Err, codes, refl, ap, sym, subst, ◌∙◌, arith}
+use Rattle.std.proofs.Common.{◌≡◌, ◌↔◌, ℕ, zero, suc, ℤ, pos, negsuc, int_le, List, [], ◌∷◌, ◌++◌, append-nil, length, nat_le, ◌≤◌, Bool, true, false, cond, ◌||◌, ◌&&◌, ◌==◌, Option, None, Some, Result, Ok, Err, codes, refl, ap, sym, subst, ◌∙◌, arith}
 use Rattle.std.specs.Prelude.{All, Any, Contains}
 use Rattle.std.specs.List.{list_any}
 use Rattle.std.specs.Str.{bytes_eq}
@@ -16,9 +16,9 @@ use Rattle.cells.specs.Faults.{scan, fault as structure_fault, structures}
 use Rattle.structures.specs.Form.{Form, typed}
 use Rattle.messages.specs.declared.fault.MsgFault.{MsgFault}
 use Rattle.messages.specs.declared.fault.MsgFault.TheVariants as fault
-use Rattle.messages.specs.Table.{Holds, a_text, a_mode, a_count, last_query, Named, Others, ignored, refused, Field, text_field, cells, cell_list, extra, Row, requests, responses, layout, row_in}
-use Rattle.messages.specs.Reading.{◌>>=◌, Contents, contents, are_kinds, lookup, contents_of_entry, contents_of_named, is_named, all_named, contents_of_extra, contents_of_entries, cell_by, cell_of_field, contents_of_fields, contents_of_row, row_at, contents_by_row, contents_of_message}
-use Rattle.messages.specs.Saying.{IsEntry, absent, here, further, SaysEntry, the_text, reads, writes, writes_unsaid, all_rows, some_rows, of_last, of_last_unsaid, SaysNamed, no_more, passed_over, then_named, HasOnly, SaysField, of_text, of_cells, of_list, of_extra, SaysFields, no_fields, then_field, SaysRow, of_row, SaysMessage, IsSpelled}
+use Rattle.messages.specs.Table.{Holds, a_text, a_mode, a_count, last_query, a_token, Named, Others, ignored, refused, Field, text_field, cells, cell_list, extra, Row, requests, responses, layout, row_in}
+use Rattle.messages.specs.Reading.{◌>>=◌, Contents, contents, are_kinds, lookup, is_token, contents_of_token, contents_of_entry, contents_of_named, is_named, all_named, contents_of_extra, contents_of_entries, cell_by, cell_of_field, contents_of_fields, contents_of_row, row_at, contents_by_row, contents_of_message}
+use Rattle.messages.specs.Saying.{IsEntry, absent, here, further, SaysEntry, the_text, reads, writes, writes_unsaid, all_rows, some_rows, of_last, of_last_unsaid, the_token, token_unsaid, metadata_unsaid, SaysNamed, no_more, passed_over, then_named, HasOnly, SaysField, of_text, of_cells, of_list, of_extra, SaysFields, no_fields, then_field, SaysRow, of_row, SaysMessage, IsSpelled}
 use Rattle.messages.specs.Messages.{Means}
 
 bind_ok : {A B : Type 0} (r : Result A MsgFault) (f : A → Result B MsgFault) (y : B) → (r >>= f) ≡ Ok y → (x : A) × (r ≡ Ok x) × (f x ≡ Ok y)
@@ -83,6 +83,24 @@ query_says : (z : ℤ) (xs : List Tree) (b : Bool) → int_eq z (negsuc 0) ≡ b
 query_says z xs true e h = minus_says z xs last_query [] e of_last h
 query_says z xs false e h = absurd cc
 
+-- a text of 1 to 64 bytes is a token
+token_bounds : (s : List ℕ) → is_token s ≡ true → (1 ≤ length s) × (length s ≤ 64)
+token_bounds s e =
+    let p = both_true (nat_le 1 (length s)) (nat_le (length s) 64) e in
+    (leb-true 1 (length s) p.0, leb-true (length s) 64 p.1)
+
+is_token_by : (s : List ℕ) → 1 ≤ length s → length s ≤ 64 → is_token s ≡ true
+is_token_by s low high = ap (λ b. b && nat_le (length s) 64) (le-leb 1 (length s) low) ∙ le-leb (length s) 64 high
+
+token_by : (es : Entries) (s : List ℕ) (xs : List Tree) (b : Bool) → is_token s ≡ b → IsEntry (codes "token") es (Some (text s)) → cond {A = Result (List Tree) MsgFault} b (Ok (text s ∷ [])) (Err fault.Extra) ≡ Ok xs → SaysEntry a_token (Some (dict es)) xs
+token_by es s xs true e at h = let p = token_bounds s e in says_too a_token (Some (dict es)) (text s ∷ []) xs (the_token es s at p.0 p.1) h
+token_by es s xs false e at h = absurd cc
+
+token_says : (es : Entries) (o : Option Tree) (xs : List Tree) → IsEntry (codes "token") es o → contents_of_token o ≡ Ok xs → SaysEntry a_token (Some (dict es)) xs
+token_says es None xs at h = says_too a_token (Some (dict es)) (null ∷ []) xs (token_unsaid es at) h
+token_says es (Some (text s)) xs at h = token_by es s xs (is_token s) refl at h
+token_says es o xs at h = absurd cc
+
 entry_says : (h : Holds) (o : Option Tree) (xs : List Tree) → contents_of_entry h o ≡ Ok xs → SaysEntry h o xs
 entry_says a_text (Some (text s)) xs e = says_too a_text (Some (text s)) (text s ∷ []) xs (the_text s) e
 entry_says a_text o xs e = absurd cc
@@ -94,6 +112,9 @@ entry_says a_count o xs e = absurd cc
 entry_says last_query None xs e = says_too last_query None [] xs of_last_unsaid e
 entry_says last_query (Some (int z)) xs e = query_says z xs (int_eq z (negsuc 0)) refl e
 entry_says last_query o xs e = absurd cc
+entry_says a_token None xs e = says_too a_token None (null ∷ []) xs metadata_unsaid e
+entry_says a_token (Some (dict es)) xs e = token_says es (lookup (codes "token") es) xs (looked_up (codes "token") es) e
+entry_says a_token o xs e = absurd cc
 
 entry_told : (h : Holds) (o : Option Tree) (xs : List Tree) → SaysEntry h o xs → contents_of_entry h o ≡ Ok xs
 entry_told _ _ _ (the_text s) = refl
@@ -104,6 +125,11 @@ entry_told _ _ _ all_rows = refl
 entry_told _ _ _ (some_rows n h) = ap (λ b. cond {A = Result (List Tree) MsgFault} b (Ok (int (pos n) ∷ [])) (Err fault.Extra)) (le-leb 1 n h)
 entry_told _ _ _ of_last = refl
 entry_told _ _ _ of_last_unsaid = refl
+entry_told _ _ _ (the_token es s at low high) =
+    ap contents_of_token (entry_is (codes "token") es (Some (text s)) at)
+    ∙ ap (λ b. cond {A = Result (List Tree) MsgFault} b (Ok (text s ∷ [])) (Err fault.Extra)) (is_token_by s low high)
+entry_told _ _ _ (token_unsaid es at) = ap contents_of_token (entry_is (codes "token") es None at)
+entry_told _ _ _ metadata_unsaid = refl
 
 -- What the named entries say.
 one_says : (v : Version) (es : Entries) (n : Named) (ns : List Named) (x xs : List Tree) (b : Bool) → n.stands v ≡ b → cond b (contents_of_entry n.holds (lookup n.name es)) (Ok []) ≡ Ok x → SaysNamed v es ns xs → SaysNamed v es (n ∷ ns) (x ++ xs)

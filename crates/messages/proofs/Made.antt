@@ -10,9 +10,9 @@ use Rattle.cells.specs.Faults.{scan, fault as structure_fault, structures}
 use Rattle.messages.specs.declared.request.Count.TheVariants.{All, Of}
 use Rattle.messages.specs.declared.fault.MsgFault.{MsgFault}
 use Rattle.messages.specs.declared.fault.MsgFault.TheVariants as fault
-use Rattle.messages.specs.Table.{Holds, a_text, a_mode, a_count, last_query, Named, Field, text_field, cells, cell_list, extra, Name, Row, layout, requests, responses, row_in, HELLO, LOGON, LOGOFF, GOODBYE, RESET, RUN, BEGIN, COMMIT, ROLLBACK, DISCARD, PULL, SUCCESS, RECORD, IGNORED, FAILURE}
+use Rattle.messages.specs.Table.{Holds, a_text, a_mode, a_count, last_query, a_token, Named, Field, text_field, cells, cell_list, extra, Name, Row, layout, requests, responses, row_in, HELLO, LOGON, LOGOFF, GOODBYE, RESET, RUN, BEGIN, COMMIT, ROLLBACK, DISCARD, PULL, SUCCESS, RECORD, IGNORED, FAILURE}
 use Rattle.messages.specs.View.{AuthView, RequestView, Hello, Logon, Logoff, Goodbye, Reset, Run, Begin, Commit, Rollback, Discard, Pull, ResponseView, Success, Record, Ignored, Failure}
-use Rattle.messages.specs.Reading.{◌>>=◌, Contents, contents, is_mode, lookup, contents_of_entry, contents_of_text, contents_of_mode, contents_of_count, contents_of_query, contents_of_named, contents_of_entries, cell_by, cell_of_field, contents_of_fields, are_kinds, contents_of_row, row_at, contents_by_row, contents_of_message, login_trees, request_contents, response_contents}
+use Rattle.messages.specs.Reading.{◌>>=◌, Contents, contents, is_mode, lookup, contents_of_entry, contents_of_text, contents_of_mode, contents_of_count, contents_of_query, is_token, contents_of_token, contents_of_metadata, contents_of_named, contents_of_entries, cell_by, cell_of_field, contents_of_fields, are_kinds, contents_of_row, row_at, contents_by_row, contents_of_message, login_trees, request_contents, response_contents}
 use Rattle.messages.specs.Sound.{IsCell, HasTexts, IsRequest, IsResponse, RequestsAreMade, ResponsesAreMade}
 use Rattle.messages.proofs.Telling.{if_bind, extra_said}
 
@@ -81,14 +81,14 @@ text_plain : (o : Option Tree) → PlainIn o → IfOk (contents_of_text o) AllPl
 text_plain (Some (text s)) h = (h, tt)
 text_plain o h = tt
 
-mode_by : (s : List ℕ) (b : Bool) → IsPlain (text s) → IfOk (cond {A = Result (List Tree) MsgFault} b (Ok (text s ∷ [])) (Err fault.Extra)) AllPlain
-mode_by s true h = (h, tt)
-mode_by s false h = tt
+text_by : (s : List ℕ) (b : Bool) → IsPlain (text s) → IfOk (cond {A = Result (List Tree) MsgFault} b (Ok (text s ∷ [])) (Err fault.Extra)) AllPlain
+text_by s true h = (h, tt)
+text_by s false h = tt
 
 mode_plain : (o : Option Tree) → PlainIn o → IfOk (contents_of_mode o) AllPlain
 unfolding lib.Utf8.encode
 mode_plain None h = ((codes "w", (refl, refl)), tt)
-mode_plain (Some (text s)) h = mode_by s (is_mode s) h
+mode_plain (Some (text s)) h = text_by s (is_mode s) h
 mode_plain o h = tt
 
 number_by : (z : ℤ) (a b : Bool) → IsPlain (int z) → IfOk (cond {A = Result (List Tree) MsgFault} a (Ok (null ∷ [])) (cond b (Ok (int z ∷ [])) (Err fault.Extra))) AllPlain
@@ -109,11 +109,22 @@ query_plain None h = tt
 query_plain (Some (int z)) h = query_by (int_eq z (negsuc 0))
 query_plain o h = tt
 
+token_plain : (o : Option Tree) → PlainIn o → IfOk (contents_of_token o) AllPlain
+token_plain None h = (tt, tt)
+token_plain (Some (text s)) h = text_by s (is_token s) h
+token_plain o h = tt
+
+metadata_plain : (o : Option Tree) → PlainIn o → IfOk (contents_of_metadata o) AllPlain
+metadata_plain None h = (tt, tt)
+metadata_plain (Some (dict es)) h = token_plain (lookup (codes "token") es) (lookup_plain (codes "token") es h)
+metadata_plain o h = tt
+
 told_plain : (k : Holds) (o : Option Tree) → PlainIn o → IfOk (contents_of_entry k o) AllPlain
 told_plain a_text o h = text_plain o h
 told_plain a_mode o h = mode_plain o h
 told_plain a_count o h = count_plain o h
 told_plain last_query o h = query_plain o h
+told_plain a_token o h = metadata_plain o h
 
 standing_plain : (b : Bool) (k : Holds) (o : Option Tree) → PlainIn o → IfOk (cond b (contents_of_entry k o) (Ok [])) AllPlain
 standing_plain true k o h = told_plain k o h
@@ -197,8 +208,10 @@ request_made v (Logon l) h = login_made l h.1
 request_made v Logoff h = tt
 request_made v Goodbye h = tt
 request_made v Reset h = tt
-request_made v (Run s ps m) h = (h.0.0, h.0.1.0)
-request_made v (Begin m) h = tt
+request_made v (Run s ps m None) h = (h.0.0, h.0.1.0, tt)
+request_made v (Run s ps m (Some token)) h = (h.0.0, h.0.1.0, h.1.1.0)
+request_made v (Begin m None) h = tt
+request_made v (Begin m (Some token)) h = h.1.1.0
 request_made v Commit h = tt
 request_made v Rollback h = tt
 request_made v (Discard All) h = tt

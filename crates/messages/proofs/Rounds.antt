@@ -1,5 +1,5 @@
 -- What is written is told again.
-use Rattle.std.proofs.Common.{◌≡◌, ℕ, ℤ, pos, negsuc, int_le, ◌++◌, Bool, true, false, List, [], ◌∷◌, None, Some, Result, Ok, Err, codes, refl, ap, sym, subst, ◌∙◌}
+use Rattle.std.proofs.Common.{◌≡◌, ℕ, ℤ, pos, negsuc, int_le, ◌++◌, Bool, true, false, cond, List, [], ◌∷◌, Option, None, Some, Result, Ok, Err, codes, refl, ap, sym, subst, ◌∙◌}
 use Rattle.packstream.specs.declared.fault.Reason.{Reason as PackReason}
 use Rattle.packstream.specs.Tree.{Tree, text, dict, list, structure, no_trees, tree_then, Entries, entry_then, no_entries}
 use Rattle.packstream.specs.View.{entries_of, trees_of}
@@ -20,21 +20,24 @@ use Rattle.messages.specs.declared.request.Request.{Request}
 use Rattle.messages.specs.declared.request.Request.TheVariants as request
 use Rattle.messages.specs.declared.response.Response.{Response}
 use Rattle.messages.specs.declared.response.Response.TheVariants as response
+use Rattle.messages.specs.declared.request.Mode.{Mode}
 use Rattle.messages.specs.declared.request.Mode.TheVariants.{Read, Write}
 use Rattle.messages.specs.declared.request.Count.TheVariants.{All, Of}
 use Rattle.messages.specs.declared.fault.MsgFault.{MsgFault}
-use Rattle.messages.specs.Table.{Row, requests, responses, RUN}
+use Rattle.messages.specs.declared.fault.MsgFault.TheVariants as fault
+use Rattle.messages.specs.Table.{Row, requests, responses, RUN, of_transaction}
 use Rattle.messages.specs.View.{request_view, response_view, RequestView, Hello, Logon, Logoff, Goodbye, Reset, Run, Begin, Commit, Rollback, Discard, Pull, ResponseView, Success, Record, Ignored, Failure}
-use Rattle.messages.specs.Reading.{Contents, contents, contents_of_message, contents_of_mode, lookup, cell_of_field, cell_by, request_contents, response_contents}
+use Rattle.messages.specs.Reading.{◌>>=◌, Answers, Contents, contents, contents_of_message, contents_of_mode, is_token, contents_of_metadata, lookup, mode_tree, token_tree, cell_of_field, cell_by, request_contents, response_contents}
 use Rattle.messages.specs.Cells.{value_by, form_by, cell_put}
-use Rattle.messages.specs.Writing.{form_put}
+use Rattle.messages.specs.Writing.{named_put, form_put}
+use Rattle.messages.specs.Parts.{mode_pairs, token_dict, token_pairs}
 
 -- a field of cells that is written is told as these cells again
 abbrev pub IsBack : Version → Tree → Type 0
 IsBack v c = (u : Tree) → cell_put v c ≡ Ok u → cell_of_field v u ≡ Ok c
 
 abbrev pub AreBack : Version → RequestView → Type 0
-AreBack v (Run s ps m) = IsBack v (dict (entries_of ps))
+AreBack v (Run s ps m token) = IsBack v (dict (entries_of ps))
 AreBack v m = Unit {0}
 
 abbrev pub AreAnsweredBack : Version → ResponseView → Type 0
@@ -69,20 +72,77 @@ discard_back : (v : Version) (z : ℤ) (b : Bool) (t : Tree) → int_le (pos 1) 
 discard_back v z true t e h = told_from v requests _ _ t (rw e at h) (rw (not_minus z e, e) refl)
 discard_back v z false t e h = let k = rw e at h in absurd cc
 
+-- the entries that are written of a mode and a token
+abbrev pub transaction_put : Version → Mode → Option (List ℕ) → Result Entries MsgFault
+transaction_put v m token = named_put v of_transaction (mode_tree m ∷ token_tree token ∷ [])
+
+-- entries that say this mode and this token
+abbrev TellTransaction : Entries → Mode → Option (List ℕ) → Type 0
+TellTransaction es m token =
+    (contents_of_mode (lookup (codes "mode") es) ≡ Ok (mode_tree m ∷ []))
+    × (contents_of_metadata (lookup (codes "tx_metadata") es) ≡ Ok (token_tree token ∷ []))
+
+-- the entry of a token
+abbrev pub token_entry : List ℕ → Entries
+token_entry s = entry_then (codes "tx_metadata") (dict (entry_then (codes "token") (text s) no_entries)) no_entries
+
+-- a mode is written alone, and with a token before it
+pub put_alone : (v : Version) (m : Mode) → transaction_put v m None ≡ Ok (entries_of (mode_pairs m))
+put_alone v Read = refl
+put_alone v Write = refl
+
+put_by : (v : Version) (m : Mode) (s : List ℕ) (b : Bool) → is_token s ≡ b → transaction_put v m (Some s) ≡ cond b (Ok (entries_of (mode_pairs m ++ (codes "tx_metadata", token_dict s) ∷ []))) (Err fault.Extra)
+put_by v Read s true e = rw e refl
+put_by v Write s true e = rw e refl
+put_by v Read s false e = rw e refl
+put_by v Write s false e = rw e refl
+
+pub put_with : (v : Version) (m : Mode) (s : List ℕ) → transaction_put v m (Some s) ≡ (token_pairs m s >>= λ ps. Ok (entries_of ps))
+put_with v m s = go (is_token s) refl
+  where
+    go : (b : Bool) → is_token s ≡ b → transaction_put v m (Some s) ≡ (cond b (Ok (mode_pairs m ++ (codes "tx_metadata", token_dict s) ∷ [])) (Err fault.Extra) >>= λ ps. Ok (entries_of ps))
+    go true e = put_by v m s true e
+    go false e = put_by v m s false e
+
+-- what was answered by a list of entries is answered by the entries
+pub answered_entries : {X : Type 0} (view : X → List (List ℕ × Tree)) (r : Result X MsgFault) (s : Result (List (List ℕ × Tree)) MsgFault) (w : Result Entries MsgFault)
+    → w ≡ (s >>= λ ps. Ok (entries_of ps)) → Answers view r s → Answers (λ x. entries_of (view x)) r w
+answered_entries view (Ok x) s w e h = e ∙ ap (λ r. r >>= λ ps. Ok (entries_of ps)) h
+answered_entries view (Err x) s w e h = λ n. e ∙ ap (λ r. r >>= λ ps. Ok (entries_of ps)) (h n)
+
+same_entries : (m : Mode) (token : Option (List ℕ)) (x es : Entries) → ◌≡◌ {A = Result Entries MsgFault} (Ok x) (Ok es) → TellTransaction x m token → TellTransaction es m token
+same_entries m token x es e t = let same : x ≡ es = cc in subst (λ (y : Entries). TellTransaction y m token) same t
+
+token_told : (v : Version) (m : Mode) (s : List ℕ) (b : Bool) (es : Entries) → is_token s ≡ b → transaction_put v m (Some s) ≡ Ok es → TellTransaction es m (Some s)
+token_told v Read s true es w h = same_entries Read (Some s) (entry_then (codes "mode") (text (codes "r")) (token_entry s)) es (rw w at h) (refl, rw w refl)
+token_told v Write s true es w h = same_entries Write (Some s) (token_entry s) es (rw w at h) (refl, rw w refl)
+token_told v Read s false es w h = let k = rw w at h in absurd cc
+token_told v Write s false es w h = let k = rw w at h in absurd cc
+
+transaction_told : (v : Version) (m : Mode) (token : Option (List ℕ)) (es : Entries) → transaction_put v m token ≡ Ok es → TellTransaction es m token
+transaction_told v Read None es h = same_entries Read None (entry_then (codes "mode") (text (codes "r")) no_entries) es h (refl, refl)
+transaction_told v Write None es h = same_entries Write None no_entries es h (refl, refl)
+transaction_told v m (Some s) es h = token_told v m s (is_token s) es refl h
+
+begin_back : (v : Version) (m : Mode) (token : Option (List ℕ)) (q : Result Entries MsgFault) (t : Tree) → transaction_put v m token ≡ q → form_put v (request_contents (Begin m token)) ≡ Ok t → contents_of_message v requests t ≡ Ok (request_contents (Begin m token))
+begin_back v m token (Ok es) t w h =
+    let k = transaction_told v m token es w in
+    told_from v requests _ _ t (rw w at h) (rw (k.0, k.1) refl)
+begin_back v m token (Err x) t w h = let k = rw w at h in absurd cc
+
 -- a RUN whose entries are these, and one whose parameters are told
-run_told_as : (v : Version) (s : List ℕ) (es : Entries) (x : List Tree) (u c : Tree) (f : Entries) → u ≡ dict f → cell_of_field v u ≡ Ok c → (contents_of_mode (lookup (codes "mode") es) ≡ Ok x)
-    → contents_of_message v requests (structure 0x10 (tree_then (text s) (tree_then u (tree_then (dict es) no_trees)))) ≡ Ok (contents RUN (text s ∷ c ∷ []) (x ++ []))
-run_told_as v s es x u c f is k m =
+run_told_as : (v : Version) (s : List ℕ) (es : Entries) (m : Mode) (token : Option (List ℕ)) (u c : Tree) (f : Entries) → u ≡ dict f → cell_of_field v u ≡ Ok c → TellTransaction es m token
+    → contents_of_message v requests (structure 0x10 (tree_then (text s) (tree_then u (tree_then (dict es) no_trees)))) ≡ Ok (contents RUN (text s ∷ c ∷ []) (mode_tree m ∷ token_tree token ∷ []))
+run_told_as v s es m token u c f is k t =
     let k' : cell_of_field v (dict f) ≡ Ok c = ap (cell_of_field v) (sym is) ∙ k in
-    rw is (rw (m, k') refl)
+    rw is (rw (t.0, t.1, k') refl)
 
-read_back : (v : Version) (s : List ℕ) (ps : List (List ℕ × Tree)) (r : Result Tree MsgFault) (t : Tree) → cell_put v (dict (entries_of ps)) ≡ r → IsBack v (dict (entries_of ps)) → form_put v (request_contents (Run s ps Read)) ≡ Ok t → contents_of_message v requests t ≡ Ok (request_contents (Run s ps Read))
-read_back v s ps (Ok u) t e p h = told_from v requests _ _ t (rw e at h) (run_told_as v s (entry_then (codes "mode") (text (codes "r")) no_entries) (text (codes "r") ∷ []) u (dict (entries_of ps)) (form_under v (entries_of ps)) (put_is v (dict (entries_of ps)) u e) (p u e) refl)
-read_back v s ps (Err x) t e p h = let k = rw e at h in absurd cc
-
-write_back : (v : Version) (s : List ℕ) (ps : List (List ℕ × Tree)) (r : Result Tree MsgFault) (t : Tree) → cell_put v (dict (entries_of ps)) ≡ r → IsBack v (dict (entries_of ps)) → form_put v (request_contents (Run s ps Write)) ≡ Ok t → contents_of_message v requests t ≡ Ok (request_contents (Run s ps Write))
-write_back v s ps (Ok u) t e p h = told_from v requests _ _ t (rw e at h) (run_told_as v s no_entries (text (codes "w") ∷ []) u (dict (entries_of ps)) (form_under v (entries_of ps)) (put_is v (dict (entries_of ps)) u e) (p u e) refl)
-write_back v s ps (Err x) t e p h = let k = rw e at h in absurd cc
+run_back : (v : Version) (s : List ℕ) (ps : List (List ℕ × Tree)) (m : Mode) (token : Option (List ℕ)) (q : Result Entries MsgFault) (r : Result Tree MsgFault) (t : Tree) → transaction_put v m token ≡ q → cell_put v (dict (entries_of ps)) ≡ r → IsBack v (dict (entries_of ps))
+    → form_put v (request_contents (Run s ps m token)) ≡ Ok t → contents_of_message v requests t ≡ Ok (request_contents (Run s ps m token))
+run_back v s ps m token (Ok es) (Ok u) t w e p h =
+    told_from v requests _ _ t (rw (w, e) at h) (run_told_as v s es m token u (dict (entries_of ps)) (form_under v (entries_of ps)) (put_is v (dict (entries_of ps)) u e) (p u e) (transaction_told v m token es w))
+run_back v s ps m token (Ok es) (Err x) t w e p h = let k = rw (w, e) at h in absurd cc
+run_back v s ps m token (Err x) r t w e p h = let k = rw w at h in absurd cc
 
 pub told_back : (v : Version) (m : RequestView) (t : Tree) → AreBack v m → form_put v (request_contents m) ≡ Ok t → contents_of_message v requests t ≡ Ok (request_contents m)
 told_back V44 (Hello a None) t p h = absurd cc
@@ -99,10 +159,8 @@ told_back V50 Logoff t p h = absurd cc
 told_back V51 Logoff t p h = told_from V51 requests _ _ t h refl
 told_back v Goodbye t p h = told_from v requests _ _ t h refl
 told_back v Reset t p h = told_from v requests _ _ t h refl
-told_back v (Run s ps Read) t p h = read_back v s ps (cell_put v (dict (entries_of ps))) t refl p h
-told_back v (Run s ps Write) t p h = write_back v s ps (cell_put v (dict (entries_of ps))) t refl p h
-told_back v (Begin Read) t p h = told_from v requests _ _ t h refl
-told_back v (Begin Write) t p h = told_from v requests _ _ t h refl
+told_back v (Run s ps m token) t p h = run_back v s ps m token (transaction_put v m token) (cell_put v (dict (entries_of ps))) t refl refl p h
+told_back v (Begin m token) t p h = begin_back v m token (transaction_put v m token) t refl h
 told_back v Commit t p h = told_from v requests _ _ t h refl
 told_back v Rollback t p h = told_from v requests _ _ t h refl
 told_back v (Discard All) t p h = told_from v requests _ _ t h refl
@@ -142,13 +200,13 @@ cell_back v c u h =
     ap (cell_of_field v) (put_is v (shape c) u h) ∙ ap (λ r. cell_by r (form v (shape c))) f.0.1 ∙ ap Ok (sym f.1)
 
 pub request_back : (v : Version) (r : Request) → AreBack v (request_view r)
-request_back v (request.Run s ps m) = subst (IsBack v) (shape-Dict ps) (cell_back v (DictCell ps))
+request_back v (request.Run s ps m token) = subst (IsBack v) (shape-Dict ps) (cell_back v (DictCell ps))
 request_back v (request.Hello a o) = tt
 request_back v (request.Logon l) = tt
 request_back v request.Logoff = tt
 request_back v request.Goodbye = tt
 request_back v request.Reset = tt
-request_back v (request.Begin m) = tt
+request_back v (request.Begin m token) = tt
 request_back v request.Commit = tt
 request_back v request.Rollback = tt
 request_back v (request.Discard c) = tt

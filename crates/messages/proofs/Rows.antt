@@ -4,9 +4,9 @@ use Rattle.packstream.specs.Tree.{Tree, text, list, dict, Trees, no_trees, tree_
 use Rattle.wire.specs.declared.Version.{Version}
 use Rattle.wire.specs.Versions.{hello_has_login}
 use Rattle.messages.specs.declared.fault.MsgFault.{MsgFault}
-use Rattle.messages.specs.Table.{Name, Others, Named, ignored, extra, text_field, cells, cell_list, credentials, hello, HELLO, RUN, mode_alone}
+use Rattle.messages.specs.Table.{Name, Others, Named, ignored, extra, text_field, cells, cell_list, credentials, hello, HELLO, RUN, of_transaction}
 use Rattle.structures.specs.Form.{typed_under}
-use Rattle.messages.specs.Reading.{◌>>=◌, Contents, contents, contents_of_named, contents_of_text, contents_of_row, contents_of_extra, cell_of_field, contents_of_mode, lookup, cell_by}
+use Rattle.messages.specs.Reading.{◌>>=◌, Contents, contents, contents_of_named, contents_of_text, contents_of_row, contents_of_extra, cell_of_field, contents_of_mode, contents_of_metadata, lookup, cell_by}
 use Rattle.messages.specs.Parts.{no_field, one_field, entries_of_dict, members_of_list, only_dict, contents_of_login, run_parts, contents_of_run, as_dict, as_list}
 use Rattle.cells.specs.declared.fault.Reason.{Reason as CellReason}
 use Rattle.cells.specs.Faults.{scan, fault as structure_fault, structures}
@@ -69,14 +69,16 @@ list_row v n (tree_then t no_trees) = refl
 list_row v n (tree_then t (tree_then u ts)) = refl
 list_row v n no_trees = refl
 
-text_and_dict : (n : Name) (t : Tree) (es : Entries) (a : Result (List Tree) MsgFault) (r : Result ℕ (CellReason × ℕ))
-    → ((a >>= λ x. Ok (x ++ [])) >>= λ x. ((cell_by r (dict es) >>= λ x. Ok (x ∷ [])) >>= λ xs. Ok (t ∷ xs)) >>= λ fs. Ok (contents n fs x)) ≡ (a >>= λ x. (cell_by r (dict es) >>= as_dict) >>= λ c. Ok (contents n (t ∷ c ∷ []) x))
-text_and_dict n t es (Ok a) (Ok b) = ap (λ x. Ok (contents n (t ∷ dict (typed_under es) ∷ []) x)) (append-nil a)
-text_and_dict n t es (Ok a) (Err b) = refl
-text_and_dict n t es (Err a) b = refl
+text_and_dict : (n : Name) (t : Tree) (es : Entries) (a b : Result (List Tree) MsgFault) (r : Result ℕ (CellReason × ℕ))
+    → ((a >>= λ x. (b >>= λ y. Ok (y ++ [])) >>= λ xs. Ok (x ++ xs)) >>= λ x. ((cell_by r (dict es) >>= λ x. Ok (x ∷ [])) >>= λ xs. Ok (t ∷ xs)) >>= λ fs. Ok (contents n fs x))
+    ≡ (a >>= λ x. b >>= λ y. (cell_by r (dict es) >>= as_dict) >>= λ c. Ok (contents n (t ∷ c ∷ []) (x ++ y)))
+text_and_dict n t es (Ok a) (Ok b) (Ok k) = ap (λ y. Ok (contents n (t ∷ dict (typed_under es) ∷ []) (a ++ y))) (append-nil b)
+text_and_dict n t es (Ok a) (Ok b) (Err e) = refl
+text_and_dict n t es (Ok a) (Err e) r = refl
+text_and_dict n t es (Err e) b r = refl
 
 pub run_row : (v : Version) (ts : Trees)
-    → contents_of_row v RUN (text_field ∷ cells ∷ extra ignored mode_alone ∷ []) ts
+    → contents_of_row v RUN (text_field ∷ cells ∷ extra ignored of_transaction ∷ []) ts
     ≡ (run_parts ts >>= λ p. contents_of_run v p.text p.parameters p.entries)
-run_row v (tree_then (text s) (tree_then (dict ps) (tree_then (dict es) no_trees))) = text_and_dict RUN (text s) ps (contents_of_mode (lookup (codes "mode") es)) (scan (structure_fault v) 0 (structures (dict ps)))
+run_row v (tree_then (text s) (tree_then (dict ps) (tree_then (dict es) no_trees))) = text_and_dict RUN (text s) ps (contents_of_mode (lookup (codes "mode") es)) (contents_of_metadata (lookup (codes "tx_metadata") es)) (scan (structure_fault v) 0 (structures (dict ps)))
 run_row v ts = refl

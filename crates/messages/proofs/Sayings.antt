@@ -1,5 +1,5 @@
 -- What the table tells of a value is what some message holds.
-use Rattle.std.proofs.Common.{◌≡◌, ℕ, List, [], ◌∷◌, Result, Ok, Err, IfOk, codes, refl, ap, sym, subst, ◌∙◌}
+use Rattle.std.proofs.Common.{◌≡◌, ℕ, List, [], ◌∷◌, ◌++◌, Option, None, Some, Result, Ok, Err, IfOk, codes, refl, ap, sym, subst, ◌∙◌}
 use Rattle.packstream.specs.Tree.{Tree, text, list, dict, Trees, no_trees, tree_then, Entries, no_entries, entry_then}
 use Rattle.packstream.specs.View.{entries_of, trees_of}
 use Rattle.wire.specs.declared.Version.{Version}
@@ -10,14 +10,14 @@ use Rattle.messages.specs.declared.request.Count.{Count}
 use Rattle.messages.specs.declared.request.Count.TheVariants.{All, Of}
 use Rattle.messages.specs.declared.fault.MsgFault.{MsgFault}
 use Rattle.wire.specs.Versions.{every_version, hello_has_login}
-use Rattle.messages.specs.Table.{ignored, refused, credentials, mode_alone, how_many, of_error, hello, Row, requests, responses, HELLO, LOGON, LOGOFF, GOODBYE, RESET, RUN, BEGIN, COMMIT, ROLLBACK, DISCARD, PULL, SUCCESS, RECORD, IGNORED, FAILURE, layout}
-use Rattle.messages.specs.Reading.{◌>>=◌, Contents, contents, lookup, contents_of_mode, contents_of_named, cell_of_field, contents_of_message, mode_tree, count_tree, request_contents, response_contents}
+use Rattle.messages.specs.Table.{ignored, refused, credentials, of_transaction, how_many, of_error, hello, Row, requests, responses, HELLO, LOGON, LOGOFF, GOODBYE, RESET, RUN, BEGIN, COMMIT, ROLLBACK, DISCARD, PULL, SUCCESS, RECORD, IGNORED, FAILURE, layout}
+use Rattle.messages.specs.Reading.{◌>>=◌, Contents, contents, lookup, contents_of_mode, contents_of_metadata, contents_of_named, cell_of_field, contents_of_message, mode_tree, token_tree, count_tree, request_contents, response_contents}
 use Rattle.messages.specs.Parts.{one_field, entries_of_dict, members_of_list, RunParts, run_parts, contents_of_run, as_dict, as_list, dict_of_cells}
 use Rattle.packstream.specs.Plain.{AreBytes}
 use Rattle.messages.specs.Messages.{Means, contents_in, request_held, response_held, pairs_of, list_of}
 use Rattle.messages.proofs.Meanings.{said_means}
 use Rattle.messages.proofs.Rows.{cells_row, list_row, run_row}
-use Rattle.messages.proofs.Telling.{if_bind, if_any, IsMode, IsCount, IsNothing, IsTwo, IsLogin, each_text, two_said, login_said, mode_alone_said, how_many_said, IsDict, IsList, dict_said, list_said, Tells, none_tells, extra_tells, AllTell, message_tells, mode_said}
+use Rattle.messages.proofs.Telling.{if_bind, if_any, IsMode, IsToken, IsTransaction, IsCount, IsNothing, IsTwo, IsLogin, each_text, two_said, login_said, both_said, transaction_said, how_many_said, IsDict, IsList, dict_said, list_said, Tells, none_tells, extra_tells, AllTell, message_tells, mode_said, metadata_said}
 
 -- Requests.
 abbrev IsAsk : Contents → Type 0
@@ -32,12 +32,14 @@ hello_tells V44 es = each_text V44 (codes "user_agent") every_version (credentia
 hello_tells V50 es = each_text V50 (codes "user_agent") every_version (credentials hello_has_login) es IsLogin (λ xs. IsAsk (contents HELLO [] xs)) refl (login_said V50 hello_has_login es refl) (λ s xs q. rw q.1 refl)
 hello_tells V51 es = each_text V51 (codes "user_agent") every_version (credentials hello_has_login) es IsNothing (λ xs. IsAsk (contents HELLO [] xs)) refl refl (λ s xs q. rw q refl)
 
-mode_asks : (xs : List Tree) → IsMode xs → IsAsk (contents BEGIN [] xs)
-mode_asks xs p = rw p.1 (go p.0)
+begin_asks : (xs : List Tree) → IsTransaction xs → IsAsk (contents BEGIN [] xs)
+begin_asks xs p = rw p.2 (go p.0 p.1)
   where
-    go : (m : Mode) → IsAsk (contents BEGIN [] (mode_tree m ∷ []))
-    go Read = refl
-    go Write = refl
+    go : (m : Mode) (token : Option (List ℕ)) → IsAsk (contents BEGIN [] (mode_tree m ∷ token_tree token ∷ []))
+    go Read None = refl
+    go Read (Some s) = refl
+    go Write None = refl
+    go Write (Some s) = refl
 
 discard_asks : (xs : List Tree) → IsCount xs → IsAsk (contents DISCARD [] xs)
 discard_asks xs p = rw p.1 (go p.0)
@@ -53,12 +55,17 @@ pull_asks xs p = rw p.1 (go p.0)
     go All = refl
     go (Of z) = refl
 
-run_asks : (s : List ℕ) (c : Tree) (xs : List Tree) → IsDict c → IsMode xs → IsAsk (contents RUN (text s ∷ c ∷ []) xs)
-run_asks s c xs d p = rw (d.1, p.1) (go p.0)
+run_asks : (s : List ℕ) (c : Tree) (xs : List Tree) → IsDict c → IsTransaction xs → IsAsk (contents RUN (text s ∷ c ∷ []) xs)
+run_asks s c xs d p = rw (d.1, p.2) (go p.0 p.1)
   where
-    go : (m : Mode) → IsAsk (contents RUN (text s ∷ dict d.0 ∷ []) (mode_tree m ∷ []))
-    go Read = ap (λ es. contents RUN (text s ∷ dict es ∷ []) (mode_tree Read ∷ [])) (entries_again d.0)
-    go Write = ap (λ es. contents RUN (text s ∷ dict es ∷ []) (mode_tree Write ∷ [])) (entries_again d.0)
+    seen : (m : Mode) (token : Option (List ℕ)) → contents RUN (text s ∷ dict (entries_of (pairs_of d.0)) ∷ []) (mode_tree m ∷ token_tree token ∷ []) ≡ contents RUN (text s ∷ dict d.0 ∷ []) (mode_tree m ∷ token_tree token ∷ [])
+    seen m token = ap (λ es. contents RUN (text s ∷ dict es ∷ []) (mode_tree m ∷ token_tree token ∷ [])) (entries_again d.0)
+
+    go : (m : Mode) (token : Option (List ℕ)) → IsAsk (contents RUN (text s ∷ dict d.0 ∷ []) (mode_tree m ∷ token_tree token ∷ []))
+    go Read None = seen Read None
+    go Read (Some s) = seen Read (Some s)
+    go Write None = seen Write None
+    go Write (Some s) = seen Write (Some s)
 
 run_tells : (v : Version) → Tells IsAsk v (layout RUN)
 run_tells v ts =
@@ -69,14 +76,18 @@ run_tells v ts =
     asks : (p : RunParts) → IfOk (contents_of_run v p.text p.parameters p.entries) IsAsk
     asks p =
         let mode = lookup (codes "mode") p.entries in
+        let metadata = lookup (codes "tx_metadata") p.entries in
         let cell = cell_of_field v p.parameters in
         if_bind (contents_of_mode mode)
-        (λ m. dict_of_cells v p.parameters >>= λ c. Ok (contents RUN (text p.text ∷ c ∷ []) m))
+        (λ m. contents_of_metadata metadata >>= λ k. dict_of_cells v p.parameters >>= λ c. Ok (contents RUN (text p.text ∷ c ∷ []) (m ++ k)))
         IsMode IsAsk (mode_said mode) (λ m q.
-        if_bind (dict_of_cells v p.parameters) (λ c. Ok (contents RUN (text p.text ∷ c ∷ []) m))
+        if_bind (contents_of_metadata metadata)
+        (λ k. dict_of_cells v p.parameters >>= λ c. Ok (contents RUN (text p.text ∷ c ∷ []) (m ++ k)))
+        IsToken IsAsk (metadata_said metadata) (λ k w.
+        if_bind (dict_of_cells v p.parameters) (λ c. Ok (contents RUN (text p.text ∷ c ∷ []) (m ++ k)))
         IsDict IsAsk
-        (if_bind cell as_dict (λ x. Unit {0}) IsDict (if_any cell) (λ c w. dict_said c))
-        (λ c d. run_asks p.text c m d q))
+        (if_bind cell as_dict (λ x. Unit {0}) IsDict (if_any cell) (λ c u. dict_said c))
+        (λ c d. run_asks p.text c (m ++ k) d (both_said m k q w))))
 
 requests_tell : (v : Version) → AllTell IsAsk v requests
 requests_tell v = (
@@ -92,7 +103,7 @@ requests_tell v = (
           (
             run_tells v,
             (
-              λ ts. extra_tells IsAsk v BEGIN ignored mode_alone ts IsMode (mode_alone_said v) mode_asks,
+              λ ts. extra_tells IsAsk v BEGIN ignored of_transaction ts IsTransaction (transaction_said v) begin_asks,
               (
                 λ ts. none_tells IsAsk v COMMIT ts refl,
                 (

@@ -11,9 +11,9 @@ use Rattle.messages.specs.declared.request.Count.{Count}
 use Rattle.messages.specs.declared.request.Count.TheVariants.{All, Of}
 use Rattle.messages.specs.declared.fault.MsgFault.{MsgFault}
 use Rattle.messages.specs.declared.fault.MsgFault.TheVariants as fault
-use Rattle.messages.specs.Table.{a_text, Named, Others, ignored, refused, extra, Name, Row, named_entry, credentials, mode_alone, how_many, row_in}
+use Rattle.messages.specs.Table.{a_text, Named, Others, ignored, refused, extra, Name, Row, named_entry, credentials, of_transaction, how_many, row_in}
 use Rattle.messages.specs.View.{AuthView}
-use Rattle.messages.specs.Reading.{◌>>=◌, Contents, contents, lookup, contents_of_text, contents_of_mode, contents_of_count, contents_of_query, contents_of_named, all_named, contents_of_extra, contents_of_row, row_at, contents_by_row, contents_of_message, mode_tree, count_tree, login_trees}
+use Rattle.messages.specs.Reading.{◌>>=◌, Contents, contents, lookup, contents_of_text, contents_of_mode, contents_of_count, contents_of_query, is_token, contents_of_token, contents_of_metadata, contents_of_named, all_named, contents_of_extra, contents_of_row, row_at, contents_by_row, contents_of_message, mode_tree, token_tree, count_tree, login_trees}
 use Rattle.messages.specs.Parts.{no_field, only_dict, as_dict, as_list}
 use Rattle.messages.proofs.Rows.{none_row, extra_row}
 
@@ -32,6 +32,9 @@ IsText xs = (s : List ℕ) × (xs ≡ text s ∷ [])
 
 abbrev pub IsMode : List Tree → Type 0
 IsMode xs = (m : Mode) × (xs ≡ mode_tree m ∷ [])
+
+abbrev pub IsToken : List Tree → Type 0
+IsToken xs = (token : Option (List ℕ)) × (xs ≡ token_tree token ∷ [])
 
 abbrev pub IsCount : List Tree → Type 0
 IsCount xs = (c : Count) × (xs ≡ count_tree c ∷ [])
@@ -52,6 +55,20 @@ pub mode_said : (o : Option Tree) → IfOk (contents_of_mode o) IsMode
 mode_said None = (Write, refl)
 mode_said (Some (text s)) = mode_by s (bytes_eq s (codes "r")) (bytes_eq s (codes "w")) refl refl
 mode_said o = tt
+
+token_by : (s : List ℕ) (a : Bool) → IfOk (cond {A = Result (List Tree) MsgFault} a (Ok (text s ∷ [])) (Err fault.Extra)) IsToken
+token_by s true = (Some s, refl)
+token_by s false = tt
+
+token_said : (o : Option Tree) → IfOk (contents_of_token o) IsToken
+token_said None = (None, refl)
+token_said (Some (text s)) = token_by s (is_token s)
+token_said o = tt
+
+pub metadata_said : (o : Option Tree) → IfOk (contents_of_metadata o) IsToken
+metadata_said None = (None, refl)
+metadata_said (Some (dict es)) = token_said (lookup (codes "token") es)
+metadata_said o = tt
 
 count_by : (z : ℤ) (a b : Bool) → IfOk (cond {A = Result (List Tree) MsgFault} a (Ok (null ∷ [])) (cond b (Ok (int z ∷ [])) (Err fault.Extra))) IsCount
 count_by z true b = (All, refl)
@@ -97,8 +114,19 @@ login_said v stands es e =
     (two_said v (codes "principal") (codes "credentials") stands es e)
     (λ s xs q. (record { scheme = s; principal = q.0; credentials = q.1 }, ap (λ l. text s ∷ l) q.2))
 
-pub mode_alone_said : (v : Version) (es : Entries) → IfOk (contents_of_named v mode_alone es) IsMode
-mode_alone_said v es = if_bind (contents_of_mode (lookup (codes "mode") es)) (λ x. Ok (x ++ [])) IsMode IsMode (mode_said (lookup (codes "mode") es)) (λ x p. (p.0, ap (λ l. l ++ []) p.1))
+abbrev pub IsTransaction : List Tree → Type 0
+IsTransaction xs = (m : Mode) × (token : Option (List ℕ)) × (xs ≡ mode_tree m ∷ token_tree token ∷ [])
+
+-- a mode and then a token
+pub both_said : (xs ys : List Tree) → IsMode xs → IsToken ys → IsTransaction (xs ++ ys)
+both_said xs ys p q = (p.0, q.0, ap (λ l. l ++ ys) p.1 ∙ ap (λ l. mode_tree p.0 ∷ l) q.1)
+
+pub transaction_said : (v : Version) (es : Entries) → IfOk (contents_of_named v of_transaction es) IsTransaction
+transaction_said v es =
+    if_bind (contents_of_mode (lookup (codes "mode") es)) (λ x. (contents_of_metadata (lookup (codes "tx_metadata") es) >>= λ y. Ok (y ++ [])) >>= λ xs. Ok (x ++ xs)) IsMode IsTransaction (mode_said (lookup (codes "mode") es)) (λ x p.
+    if_bind (contents_of_metadata (lookup (codes "tx_metadata") es) >>= λ y. Ok (y ++ [])) (λ xs. Ok (x ++ xs)) IsToken IsTransaction
+    (if_bind (contents_of_metadata (lookup (codes "tx_metadata") es)) (λ y. Ok (y ++ [])) IsToken IsToken (metadata_said (lookup (codes "tx_metadata") es)) (λ y q. (q.0, ap (λ l. l ++ []) q.1)))
+    (λ xs q. both_said x xs p q))
 
 pub how_many_said : (v : Version) (es : Entries) → IfOk (contents_of_named v how_many es) IsCount
 how_many_said v es =

@@ -1,5 +1,5 @@
 -- Which bytes stand for a message, and what is wrong with those that stand for none.
-use Rattle.std.specs.Prelude.{if◌then◌else◌, ◌≡◌, ◌⊎◌, ℕ, List, [], ◌∷◌, codes, None, Some, Result, Ok, Err}
+use Rattle.std.specs.Prelude.{if◌then◌else◌, ◌≡◌, ◌⊎◌, ℕ, List, [], ◌∷◌, codes, Option, None, Some, Result, Ok, Err}
 use Rattle.std.specs.Str.{bytes_eq}
 use Rattle.packstream.specs.declared.fault.Reason.{Reason}
 use Rattle.packstream.specs.Tree.{Tree, null, int, text, list, dict, Trees, no_trees, tree_then, Entries, no_entries, entry_then}
@@ -131,6 +131,11 @@ abbrev pub mode_in : Tree → Mode
 mode_in (text s) = if bytes_eq s (codes "r") then Read else Write
 mode_in t = Write
 
+-- the token that a text is, and none of every other value
+abbrev pub token_in : Tree → Option (List ℕ)
+token_in (text s) = Some s
+token_in t = None
+
 -- at most so many rows for a number, and all for every other value
 abbrev pub count_in : Tree → Count
 count_in (int z) = Of z
@@ -144,8 +149,8 @@ request_held (contents LOGON fs es) = Logon (login_in es)
 request_held (contents LOGOFF fs es) = Logoff
 request_held (contents GOODBYE fs es) = Goodbye
 request_held (contents RUN fs es) =
-    Run (bytes_of (first fs)) (dict_pairs (second fs)) (mode_in (first es))
-request_held (contents BEGIN fs es) = Begin (mode_in (first es))
+    Run (bytes_of (first fs)) (dict_pairs (second fs)) (mode_in (first es)) (token_in (second es))
+request_held (contents BEGIN fs es) = Begin (mode_in (first es)) (token_in (second es))
 request_held (contents COMMIT fs es) = Commit
 request_held (contents ROLLBACK fs es) = Rollback
 request_held (contents DISCARD fs es) = Discard (count_in (first es))

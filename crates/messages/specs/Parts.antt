@@ -1,15 +1,17 @@
 -- Messages a part at a time, as the code reads and builds them. Private functions and proofs alone need it: what it says is compared with the table.
-use Rattle.std.specs.Prelude.{if◌then◌else◌, ◌≡◌, ℕ, pos, negsuc, int_le, List, [], ◌∷◌, codes, Option, None, Some, Result, Ok, Err}
+use Rattle.std.specs.Prelude.{if◌then◌else◌, ◌≡◌, ℕ, pos, negsuc, int_le, List, [], ◌∷◌, ◌++◌, codes, Option, None, Some, Result, Ok, Err}
 use Rattle.std.specs.Borrow.{Bor}
 use Rattle.packstream.specs.declared.value.Value.{Value}
 use Rattle.packstream.specs.Tree.{Tree, null, int, text, list, dict, structure, Trees, no_trees, tree_then, Entries}
-use Rattle.packstream.specs.View.{tree}
+use Rattle.packstream.specs.View.{tree, entries_of}
 use Rattle.wire.specs.declared.Version.{Version}
 use Rattle.messages.specs.declared.fault.MsgFault.{MsgFault}
 use Rattle.messages.specs.declared.fault.MsgFault.TheVariants as fault
+use Rattle.messages.specs.declared.request.Mode.{Mode}
+use Rattle.messages.specs.declared.request.Mode.TheVariants.{Read, Write}
 use Rattle.wire.specs.Versions.{every_version}
 use Rattle.messages.specs.Table.{credentials, RUN}
-use Rattle.messages.specs.Reading.{◌>>=◌, Contents, contents, lookup, contents_of_mode, contents_of_named, cell_of_field}
+use Rattle.messages.specs.Reading.{◌>>=◌, Contents, contents, is_token, lookup, contents_of_mode, contents_of_metadata, contents_of_named, cell_of_field}
 
 -- a value that may be there, seen as its tree
 abbrev pub Seen : Option (Bor Value) → Option Tree → Type 0
@@ -92,12 +94,27 @@ contents_of_plain s ts = no_field ts >>= λ x. Ok s
 -- a RUN of its text, its parameters as they stand, and its other entries
 abbrev pub contents_of_run : Version → List ℕ → Tree → Entries → Result Contents MsgFault
 contents_of_run v s t es =
-    contents_of_mode (lookup (codes "mode") es) >>= λ m. dict_of_cells v t
-    >>= λ c. Ok (contents RUN (text s ∷ c ∷ []) m)
+    contents_of_mode (lookup (codes "mode") es) >>= λ m. contents_of_metadata (lookup (codes "tx_metadata") es)
+    >>= λ k. dict_of_cells v t >>= λ c. Ok (contents RUN (text s ∷ c ∷ []) (m ++ k))
 
 -- a structure of one dictionary with these entries
 abbrev pub with_dict : ℕ → Result Entries MsgFault → Result Tree MsgFault
 with_dict tag r = r >>= λ es. Ok (structure tag (tree_then (dict es) no_trees))
+
+-- the entry of a mode, where it is written
+abbrev pub mode_pairs : Mode → List (List ℕ × Tree)
+mode_pairs Read = (codes "mode", text (codes "r")) ∷ []
+mode_pairs Write = []
+
+-- a dictionary of a token alone
+abbrev pub token_dict : List ℕ → Tree
+token_dict s = dict (entries_of ((codes "token", text s) ∷ []))
+
+-- the entries of a transaction with a token
+abbrev pub token_pairs : Mode → List ℕ → Result (List (List ℕ × Tree)) MsgFault
+token_pairs m s =
+    if is_token s then Ok (mode_pairs m ++ (codes "tx_metadata", token_dict s) ∷ [])
+    else Err fault.Extra
 
 -- the number that a count is written as
 abbrev pub count_number : Tree → Result Tree MsgFault

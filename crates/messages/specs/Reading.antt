@@ -1,6 +1,6 @@
 -- What a value says as a message, by the table of the messages; or its fault, the first in this order: no structure, no row
 -- for the tag at the version, other fields, other entries, a fault of the cells in a field.
-use Rattle.std.specs.Prelude.{if◌then◌else◌, ◌≡◌, ℕ, ℤ, pos, negsuc, int_le, List, [], ◌∷◌, ◌++◌, Bool, true, false, ◌&&◌, ◌||◌, Option, None, Some, Result, Ok, Err, codes}
+use Rattle.std.specs.Prelude.{if◌then◌else◌, ◌≡◌, ℕ, ℤ, pos, negsuc, int_le, nat_le, length, List, [], ◌∷◌, ◌++◌, Bool, true, false, ◌&&◌, ◌||◌, Option, None, Some, Result, Ok, Err, codes}
 use Rattle.std.specs.Ordering.{int_eq}
 use Rattle.std.specs.Str.{bytes_eq}
 use Rattle.packstream.specs.Tree.{Tree, null, int, text, list, dict, structure, Trees, no_trees, tree_then, Entries, no_entries, entry_then}
@@ -16,7 +16,7 @@ use Rattle.messages.specs.declared.request.Mode.TheVariants.{Read, Write}
 use Rattle.messages.specs.declared.request.Count.{Count}
 use Rattle.messages.specs.declared.request.Count.TheVariants.{All, Of}
 use Rattle.messages.specs.View.{AuthView, RequestView, Hello, Logon, Logoff, Goodbye, Reset, Run, Begin, Commit, Rollback, Discard, Pull, ResponseView, Success, Record, Ignored, Failure}
-use Rattle.messages.specs.Table.{HELLO, LOGON, LOGOFF, GOODBYE, RESET, RUN, BEGIN, COMMIT, ROLLBACK, DISCARD, PULL, SUCCESS, RECORD, IGNORED, FAILURE, Holds, a_text, a_mode, a_count, last_query, Named, Others, ignored, refused, Field, text_field, cells, cell_list, extra, Name, Row, row_in}
+use Rattle.messages.specs.Table.{HELLO, LOGON, LOGOFF, GOODBYE, RESET, RUN, BEGIN, COMMIT, ROLLBACK, DISCARD, PULL, SUCCESS, RECORD, IGNORED, FAILURE, Holds, a_text, a_mode, a_count, last_query, a_token, Named, Others, ignored, refused, Field, text_field, cells, cell_list, extra, Name, Row, row_in}
 
 infixl 10 ◌>>=◌
 -- what a function makes of a result; a fault is handed on
@@ -83,12 +83,29 @@ contents_of_query None = Ok []
 contents_of_query (Some (int z)) = if int_eq z (negsuc 0) then Ok [] else Err fault.Extra
 contents_of_query o = Err fault.Extra
 
+-- a token has 1 to 64 bytes
+abbrev pub is_token : List ℕ → Bool
+is_token s = nat_le 1 (length s) && nat_le (length s) 64
+
+-- what a token says: itself, and null where there is none
+abbrev pub contents_of_token : Option Tree → Result (List Tree) MsgFault
+contents_of_token None = Ok (null ∷ [])
+contents_of_token (Some (text s)) = if is_token s then Ok (text s ∷ []) else Err fault.Extra
+contents_of_token o = Err fault.Extra
+
+-- what a client's words of its transaction say: the token among them; its other words are ignored
+abbrev pub contents_of_metadata : Option Tree → Result (List Tree) MsgFault
+contents_of_metadata None = Ok (null ∷ [])
+contents_of_metadata (Some (dict es)) = contents_of_token (lookup (codes "token") es)
+contents_of_metadata o = Err fault.Extra
+
 -- what an entry says by what it holds, where it is there or absent
 abbrev pub contents_of_entry : Holds → Option Tree → Result (List Tree) MsgFault
 contents_of_entry a_text o = contents_of_text o
 contents_of_entry a_mode o = contents_of_mode o
 contents_of_entry a_count o = contents_of_count o
 contents_of_entry last_query o = contents_of_query o
+contents_of_entry a_token o = contents_of_metadata o
 
 -- What the named entries say that the version has.
 abbrev pub contents_of_named : Version → List Named → Entries → Result (List Tree) MsgFault
@@ -175,6 +192,11 @@ abbrev pub count_tree : Count → Tree
 count_tree All = null
 count_tree (Of n) = int n
 
+-- what a token says: its text, and null where there is none
+abbrev pub token_tree : Option (List ℕ) → Tree
+token_tree None = null
+token_tree (Some s) = text s
+
 -- what it says who a client is: three texts, the scheme, the principal and the credentials
 abbrev pub login_trees : AuthView → List Tree
 login_trees a = text a.scheme ∷ text a.principal ∷ text a.credentials ∷ []
@@ -187,8 +209,9 @@ request_contents (Logon l) = contents LOGON [] (login_trees l)
 request_contents Logoff = contents LOGOFF [] []
 request_contents Goodbye = contents GOODBYE [] []
 request_contents Reset = contents RESET [] []
-request_contents (Run s ps m) = contents RUN (text s ∷ dict (entries_of ps) ∷ []) (mode_tree m ∷ [])
-request_contents (Begin m) = contents BEGIN [] (mode_tree m ∷ [])
+request_contents (Run s ps m token) =
+    contents RUN (text s ∷ dict (entries_of ps) ∷ []) (mode_tree m ∷ token_tree token ∷ [])
+request_contents (Begin m token) = contents BEGIN [] (mode_tree m ∷ token_tree token ∷ [])
 request_contents Commit = contents COMMIT [] []
 request_contents Rollback = contents ROLLBACK [] []
 request_contents (Discard c) = contents DISCARD [] (count_tree c ∷ [])

@@ -1,10 +1,10 @@
 -- What a value says as a message, as the table lays it out, and not how it is read.
-use Rattle.std.specs.Prelude.{◌≡◌, ◌≢◌, ◌≤◌, ℕ, pos, negsuc, List, [], ◌∷◌, ◌++◌, true, false, Option, None, Some, All, Any, Contains, codes}
+use Rattle.std.specs.Prelude.{◌≡◌, ◌≢◌, ◌≤◌, ℕ, pos, negsuc, List, [], ◌∷◌, ◌++◌, length, true, false, Option, None, Some, All, Any, Contains, codes}
 use Rattle.packstream.specs.Tree.{Tree, null, int, text, list, dict, structure, Trees, no_trees, tree_then, Entries, no_entries, entry_then}
 use Rattle.packstream.specs.Faults.{keys_of}
 use Rattle.wire.specs.declared.Version.{Version}
 use Rattle.structures.specs.Form.{Form}
-use Rattle.messages.specs.Table.{Holds, a_text, a_mode, a_count, last_query, Named, Others, ignored, refused, Field, text_field, cells, cell_list, extra, Name, Row, layout}
+use Rattle.messages.specs.Table.{Holds, a_text, a_mode, a_count, last_query, a_token, Named, Others, ignored, refused, Field, text_field, cells, cell_list, extra, Name, Row, layout}
 use Rattle.messages.specs.Reading.{Contents, contents}
 use Rattle.messages.specs.Messages.{SpellsWhere}
 
@@ -25,6 +25,11 @@ pub data SaysEntry : Holds → Option Tree → List Tree → Type 0 where
   some_rows : (n : ℕ) → 1 ≤ n → SaysEntry a_count (Some (int (pos n))) (int (pos n) ∷ [])
   of_last : SaysEntry last_query (Some (int (negsuc 0))) []
   of_last_unsaid : SaysEntry last_query None []
+  the_token : (es : Entries) (s : List ℕ) → IsEntry (codes "token") es (Some (text s)) → 1 ≤ length s
+      → length s ≤ 64 → SaysEntry a_token (Some (dict es)) (text s ∷ [])
+  token_unsaid : (es : Entries) → IsEntry (codes "token") es None
+      → SaysEntry a_token (Some (dict es)) (null ∷ [])
+  metadata_unsaid : SaysEntry a_token None (null ∷ [])
 
 -- what those of the named entries say, in order, that the version has
 pub data SaysNamed (v : Version) (es : Entries) : List Named → List Tree → Type 0 where

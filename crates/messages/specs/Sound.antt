@@ -1,6 +1,6 @@
 -- Which requests and responses are made of texts, of numbers in their ranges and of cells of a version. Each that was made in
 -- memory and written is, and each that was read.
-use Rattle.std.specs.Prelude.{◌≡◌, ℕ, List, FitsSigned, Option, None, Some, Ok}
+use Rattle.std.specs.Prelude.{◌≡◌, ℕ, List, FitsSigned, Option, None, Some, Ok, IfSome}
 use Rattle.std.specs.Int.{w64}
 use Rattle.std.specs.Str.{IsUtf8}
 use Rattle.packstream.specs.Plain.{IsPlain}
@@ -41,8 +41,8 @@ IsRequest v (Logon l) = HasTexts l
 IsRequest v Logoff = Unit {0}
 IsRequest v Goodbye = Unit {0}
 IsRequest v Reset = Unit {0}
-IsRequest v (Run s ps m) = IsUtf8 s × IsCell v (dict (entries_of ps))
-IsRequest v (Begin m) = Unit {0}
+IsRequest v (Run s ps m token) = IsUtf8 s × IsCell v (dict (entries_of ps)) × IfSome token IsUtf8
+IsRequest v (Begin m token) = IfSome token IsUtf8
 IsRequest v Commit = Unit {0}
 IsRequest v Rollback = Unit {0}
 IsRequest v (Discard c) = IsCount c

@@ -16,9 +16,9 @@ pub data Summary : Type 0 where
   Greeting : ℕ → Summary
   -- of a PULL after which rows are left
   RowsLeft : Summary
-  -- of the last PULL or DISCARD of a result, with the length of the ledger where it committed, and what the result was for
+  -- of the last PULL or DISCARD of a result, with the place of its entry in the ledger, from 1, where it committed, and what the result was for
   Closing : Option ℕ → Mode → Summary
-  -- of a COMMIT, with the length of the ledger
+  -- of a COMMIT, with the place of its entry in the ledger, from 1
   Committed : ℕ → Summary
   -- with nothing to tell
   Plain : Summary
@@ -31,11 +31,11 @@ pub data Summary : Type 0 where
 abbrev pub Metadata : Type 0
 Metadata = List (List ℕ × Tree)
 
--- the bookmark of the ledger when it is so long
+-- the bookmark of the ledger's entry at this place, from 1
 abbrev pub bookmark : ℕ → Metadata
 bookmark n = (codes "bookmark", text (codes "bk:" ++ decimal n)) ∷ []
 
--- the bookmark where the ledger's length is told, and else no entry
+-- the bookmark where an entry's place is told, and else none
 abbrev pub bookmark_of : Option ℕ → Metadata
 bookmark_of None = []
 bookmark_of (Some n) = bookmark n

@@ -65,12 +65,13 @@ abbrev pub failure_tag : ℕ
 failure_tag = 0x7F
 
 -- what a named entry holds: a text, which has to be there; `r` or `w`, where absent means `w`, which isn't written; -1 for
--- all or a number from 1, which has to be there; -1 or nothing, which isn't written
+-- all or a number from 1, which has to be there; -1 or nothing, which isn't written; a dictionary that may have a token
 pub data Holds : Type 0 where
   a_text : Holds
   a_mode : Holds
   a_count : Holds
   last_query : Holds
+  a_token : Holds
 
 -- a named entry stands at the versions that pass its test
 pub record Named : Type 0 where
@@ -131,9 +132,10 @@ credentials s =
     ∷ named_entry (codes "credentials") s a_text
     ∷ []
 
--- the named entries of RUN and BEGIN: the mode alone
-abbrev pub mode_alone : List Named
-mode_alone = named_entry (codes "mode") every_version a_mode ∷ []
+-- the named entries of RUN and BEGIN: the mode, and what a client says of its transaction
+abbrev pub of_transaction : List Named
+of_transaction = named_entry (codes "mode") every_version a_mode
+    ∷ named_entry (codes "tx_metadata") every_version a_token ∷ []
 
 -- the named entries of PULL and DISCARD: a count of rows, and the number of the query
 abbrev pub how_many : List Named
@@ -156,8 +158,8 @@ layout LOGON = row LOGON logon_tag has_logon (extra ignored (credentials every_v
 layout LOGOFF = row LOGOFF logoff_tag has_logon []
 layout GOODBYE = row GOODBYE goodbye_tag every_version []
 layout RESET = row RESET reset_tag every_version []
-layout RUN = row RUN run_tag every_version (text_field ∷ cells ∷ extra ignored mode_alone ∷ [])
-layout BEGIN = row BEGIN begin_tag every_version (extra ignored mode_alone ∷ [])
+layout RUN = row RUN run_tag every_version (text_field ∷ cells ∷ extra ignored of_transaction ∷ [])
+layout BEGIN = row BEGIN begin_tag every_version (extra ignored of_transaction ∷ [])
 layout COMMIT = row COMMIT commit_tag every_version []
 layout ROLLBACK = row ROLLBACK rollback_tag every_version []
 layout DISCARD = row DISCARD discard_tag every_version (extra refused how_many ∷ [])

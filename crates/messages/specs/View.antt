@@ -1,5 +1,6 @@
 -- Requests and responses as plain data: texts by their bytes, cells by their trees.
-use Rattle.std.specs.Prelude.{ℕ, List, string_bytes, Option, None, Some}
+use Rattle.std.specs.Prelude.{ℕ, List, String, string_bytes, Option, None, Some, option_map}
+use Rattle.std.specs.declared.alloc.Global.{Global}
 use Rattle.packstream.specs.Tree.{Tree}
 use Rattle.cells.specs.Shape.{shapes, entries}
 use Rattle.messages.specs.declared.request.Mode.{Mode}
@@ -23,8 +24,8 @@ pub data RequestView : Type 0 where
   Logoff : RequestView
   Goodbye : RequestView
   Reset : RequestView
-  Run : List ℕ → List (List ℕ × Tree) → Mode → RequestView
-  Begin : Mode → RequestView
+  Run : List ℕ → List (List ℕ × Tree) → Mode → Option (List ℕ) → RequestView
+  Begin : Mode → Option (List ℕ) → RequestView
   Commit : RequestView
   Rollback : RequestView
   Discard : Count → RequestView
@@ -50,6 +51,10 @@ abbrev pub auth_in : Option Auth → Option AuthView
 auth_in None = None
 auth_in (Some a) = Some (auth_view a)
 
+-- a token by its bytes, where there is one
+abbrev pub token_view : Option (String Global) → Option (List ℕ)
+token_view token = option_map string_bytes token
+
 -- the view of a request
 abbrev pub request_view : Request → RequestView
 request_view (request.Hello agent auth) = Hello (string_bytes agent) (auth_in auth)
@@ -57,8 +62,9 @@ request_view (request.Logon auth) = Logon (auth_view auth)
 request_view request.Logoff = Logoff
 request_view request.Goodbye = Goodbye
 request_view request.Reset = Reset
-request_view (request.Run text params mode) = Run (string_bytes text) (entries params.items) mode
-request_view (request.Begin mode) = Begin mode
+request_view (request.Run text params mode token) =
+    Run (string_bytes text) (entries params.items) mode (token_view token)
+request_view (request.Begin mode token) = Begin mode (token_view token)
 request_view request.Commit = Commit
 request_view request.Rollback = Rollback
 request_view (request.Discard count) = Discard count

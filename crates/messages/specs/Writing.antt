@@ -9,9 +9,9 @@ use Rattle.packstream.specs.Making.{first_fault, faults_in}
 use Rattle.wire.specs.declared.Version.{Version}
 use Rattle.messages.specs.declared.fault.MsgFault.{MsgFault}
 use Rattle.messages.specs.declared.fault.MsgFault.TheVariants as fault
-use Rattle.messages.specs.Table.{Holds, a_text, a_mode, a_count, last_query, Named, Field, text_field, cells, cell_list, extra, Row, layout}
+use Rattle.messages.specs.Table.{Holds, a_text, a_mode, a_count, last_query, a_token, Named, Field, text_field, cells, cell_list, extra, Row, layout}
 use Rattle.messages.specs.View.{RequestView, ResponseView}
-use Rattle.messages.specs.Reading.{◌>>=◌, Contents, contents, request_contents, response_contents}
+use Rattle.messages.specs.Reading.{◌>>=◌, is_token, Contents, contents, request_contents, response_contents}
 use Rattle.messages.specs.Cells.{cell_put}
 
 -- Entries, from what they say in order.
@@ -40,12 +40,22 @@ count_put k (int z ∷ xs) rest =
     if int_le (pos 1) z then with_entry k (int z) (rest xs) else Err fault.Extra
 count_put k xs rest = Err fault.Extra
 
+-- a token is written in a dictionary of its own; without one there is no entry
+abbrev pub token_put : List ℕ → List Tree → Onward → Result Entries MsgFault
+token_put k (null ∷ xs) rest = rest xs
+token_put k (text s ∷ xs) rest =
+    if is_token s then
+    with_entry k (dict (entry_then (codes "token") (text s) no_entries)) (rest xs)
+    else Err fault.Extra
+token_put k xs rest = Err fault.Extra
+
 -- an entry by what it holds, and those after it; the number of a query isn't written
 abbrev pub entry_put : Holds → List ℕ → List Tree → Onward → Result Entries MsgFault
 entry_put a_text k xs rest = text_put k xs rest
 entry_put a_mode k xs rest = mode_put k xs rest
 entry_put a_count k xs rest = count_put k xs rest
 entry_put last_query k xs rest = rest xs
+entry_put a_token k xs rest = token_put k xs rest
 
 -- no entry more; what is left to say is a fault
 abbrev pub none_put : List Tree → Result Entries MsgFault

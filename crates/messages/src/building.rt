@@ -3,15 +3,16 @@ ghost use Rattle.std.specs.Prelude.{◌≡◌, true, false, ◌∷◌, [], ◌++
 ghost use Rattle.packstream.specs.Tree.{int, text, dict, list, structure, no_trees, tree_then};
 ghost use Rattle.packstream.specs.View.{tree, trees_of, entries as value_entries, entries_of};
 ghost use Rattle.cells.specs.Shape.{entries, shapes, text_of};
-ghost use Rattle.messages.specs.View.{request_view, response_view, auth_in, auth_view, Hello, Logon, Logoff, Run, Success, Record, Failure};
-ghost use Rattle.messages.specs.Table.{how_many, mode_alone, run_tag, begin_tag};
-ghost use Rattle.messages.specs.Reading.{Answers, request_contents, response_contents, mode_tree, count_tree};
+ghost use Rattle.messages.specs.View.{request_view, response_view, auth_in, auth_view, token_view, Hello, Logon, Logoff, Run, Success, Record, Failure};
+ghost use Rattle.messages.specs.Table.{how_many, of_transaction, run_tag, begin_tag};
+ghost use Rattle.messages.specs.Reading.{Answers, request_contents, response_contents, mode_tree, token_tree, count_tree};
 ghost use Rattle.messages.specs.Writing.{form_put, named_put};
-ghost use Rattle.messages.specs.Parts.{with_dict, count_number};
+ghost use Rattle.messages.specs.Parts.{with_dict, mode_pairs, token_dict, token_pairs, count_number};
 ghost use Rattle.messages.specs.Cells.{cell_put};
 ghost use Rattle.wire.specs.declared.Version.{Version as AnyVersion};
 ghost use Rattle.wire.specs.Versions.{hello_has_login};
 
+use crate::entries::is_token;
 use crate::fault::MsgFault;
 use crate::request::{Auth, Count, Mode, Request};
 use crate::response::Response;
@@ -130,11 +131,9 @@ fn logoff_value(alloc: Global, version: Version) -> Result<Value, MsgFault>
     }
 }
 
-/// The entries of a mode; that of writing isn't written.
+/// The entry of a mode; that of writing isn't written.
 fn mode_entries(alloc: Global, mode: Mode) -> Result<Vec<(String, Value)>, AllocError>
-    ensures { IfOk result (λ pairs. (v : AnyVersion)
-        → named_put v mode_alone (mode_tree mode ∷ [])
-        ≡ Ok (entries_of (value_entries pairs.items))) }
+    ensures { IfOk result (λ pairs. value_entries pairs.items ≡ mode_pairs mode) }
 {
     let mut pairs = Vec::new(alloc);
     if mode == Mode::Read {
@@ -144,11 +143,52 @@ fn mode_entries(alloc: Global, mode: Mode) -> Result<Vec<(String, Value)>, Alloc
     Ok(pairs)
 }
 
-fn begin_value(alloc: Global, mode: Mode) -> Result<Value, MsgFault>
-    ensures { (v : AnyVersion)
-        → Answers tree result (with_dict begin_tag (named_put v mode_alone (mode_tree mode ∷ []))) }
+/// A dictionary of a token alone.
+#[tactic(auto, using(crate::proofs::Fields::tree_of_dict))]
+fn token_value(alloc: Global, token: &String) -> Result<Value, AllocError>
+    ensures { IfOk result (λ w. tree w ≡ token_dict (string_bytes token.now)) }
 {
-    let pairs = mode_entries(alloc, mode)?;
+    let mut words = Vec::new(alloc);
+    push_text(&mut words, "token", token)?;
+    Ok(Value::Dict(words))
+}
+
+/// The entries of a transaction with a token.
+fn with_token(alloc: Global, mode: Mode, token: &String) -> Result<Vec<(String, Value)>, MsgFault>
+    ensures { Answers (λ pairs. value_entries pairs.items) result
+        (token_pairs mode (string_bytes token.now)) }
+{
+    if !is_token(token.as_str()) {
+        return Err(MsgFault::Extra);
+    }
+    let mut pairs = mode_entries(alloc, mode)?;
+    let words = token_value(alloc, token)?;
+    push(&mut pairs, "tx_metadata", words)?;
+    Ok(pairs)
+}
+
+/// The entries of a transaction: its mode, and its token where it has one.
+fn transaction_entries(
+    alloc: Global,
+    mode: Mode,
+    token: &Option<String>,
+) -> Result<Vec<(String, Value)>, MsgFault>
+    ensures { (v : AnyVersion)
+        → Answers (λ pairs. entries_of (value_entries pairs.items)) result
+        (named_put v of_transaction (mode_tree mode ∷ token_tree (token_view token.now) ∷ [])) }
+{
+    match token {
+        None => Ok(mode_entries(alloc, mode)?),
+        Some(token) => with_token(alloc, mode, token),
+    }
+}
+
+fn begin_value(alloc: Global, mode: Mode, token: &Option<String>) -> Result<Value, MsgFault>
+    ensures { (v : AnyVersion)
+        → Answers tree result (with_dict begin_tag
+        (named_put v of_transaction (mode_tree mode ∷ token_tree (token_view token.now) ∷ []))) }
+{
+    let pairs = transaction_entries(alloc, mode, token)?;
     Ok(of_dict(alloc, tags::BEGIN, pairs)?)
 }
 
@@ -236,12 +276,13 @@ fn run_value(
     text: &String,
     params: &Vec<(String, Cell)>,
     mode: Mode,
+    token: &Option<String>,
 ) -> Result<Value, MsgFault>
     ensures { Answers tree result
         (form_put version (request_contents
-        (Run (string_bytes text.now) (entries params.now.items) mode))) }
+        (Run (string_bytes text.now) (entries params.now.items) mode (token_view token.now)))) }
 {
-    let pairs = mode_entries(alloc, mode)?;
+    let pairs = transaction_entries(alloc, mode, token)?;
     let field = cells_value(alloc, version, params)?;
     Ok(of_run(alloc, text, field, pairs)?)
 }
@@ -298,8 +339,13 @@ pub(crate) fn request_value(
         Request::Logoff => logoff_value(alloc, version),
         Request::Goodbye => plain(alloc, tags::GOODBYE),
         Request::Reset => plain(alloc, tags::RESET),
-        Request::Run { text, params, mode } => run_value(alloc, version, text, params, *mode),
-        Request::Begin(mode) => begin_value(alloc, *mode),
+        Request::Run {
+            text,
+            params,
+            mode,
+            token,
+        } => run_value(alloc, version, text, params, *mode, token),
+        Request::Begin { mode, token } => begin_value(alloc, *mode, token),
         Request::Commit => plain(alloc, tags::COMMIT),
         Request::Rollback => plain(alloc, tags::ROLLBACK),
         Request::Discard(count) => count_value(alloc, tags::DISCARD, *count),

@@ -1,7 +1,7 @@
 //! `clone` of requests, written out since a derived one says nothing of types that hold cells.
 ghost use Rattle.std.specs.Prelude.{◌≡◌, IfOk};
 ghost use Rattle.cells.specs.Shape.{entries};
-ghost use Rattle.messages.specs.View.{request_view, auth_view, auth_in};
+ghost use Rattle.messages.specs.View.{request_view, auth_view, auth_in, token_view};
 
 use crate::request::{Auth, Request};
 use std::alloc::AllocError;
@@ -39,6 +39,15 @@ fn copy_cells(cells: &Vec<(String, Cell)>) -> Result<Vec<(String, Cell)>, AllocE
     Ok(copies)
 }
 
+fn copy_token(token: &Option<String>) -> Result<Option<String>, AllocError>
+    ensures { IfOk result (λ t. token_view t ≡ token_view token.now) }
+{
+    match token {
+        None => Ok(None),
+        Some(token) => Ok(Some(token.clone()?)),
+    }
+}
+
 impl Clone for Request {
     ghost is_clone = { λ r s. request_view s ≡ request_view r };
 
@@ -52,12 +61,21 @@ impl Clone for Request {
             Request::Logoff => Ok(Request::Logoff),
             Request::Goodbye => Ok(Request::Goodbye),
             Request::Reset => Ok(Request::Reset),
-            Request::Run { text, params, mode } => Ok(Request::Run {
+            Request::Run {
+                text,
+                params,
+                mode,
+                token,
+            } => Ok(Request::Run {
                 text: text.clone()?,
                 params: copy_cells(params)?,
                 mode: *mode,
+                token: copy_token(token)?,
             }),
-            Request::Begin(mode) => Ok(Request::Begin(*mode)),
+            Request::Begin { mode, token } => Ok(Request::Begin {
+                mode: *mode,
+                token: copy_token(token)?,
+            }),
             Request::Commit => Ok(Request::Commit),
             Request::Rollback => Ok(Request::Rollback),
             Request::Discard(count) => Ok(Request::Discard(*count)),

@@ -3,10 +3,10 @@ ghost use Rattle.std.specs.Prelude.{◌≡◌, codes, Some, None, ◌∷◌, []}
 ghost use Rattle.packstream.specs.View.{tree, entries, entries_of};
 ghost use Rattle.packstream.specs.Tree.{text};
 ghost use Rattle.cells.specs.Shape.{text_of};
-ghost use Rattle.messages.specs.Reading.{Answers, lookup, contents_of_text, contents_of_mode, contents_of_count, contents_of_query, mode_tree, count_tree, login_trees, all_named, contents_of_extra};
+ghost use Rattle.messages.specs.Reading.{Answers, lookup, contents_of_text, contents_of_mode, contents_of_count, contents_of_query, contents_of_token, contents_of_metadata, is_token, token_tree, mode_tree, count_tree, login_trees, all_named, contents_of_extra};
 ghost use Rattle.messages.specs.Parts.{contents_of_login, Seen};
 ghost use Rattle.messages.specs.Table.{refused, how_many};
-ghost use Rattle.messages.specs.View.{auth_view as login};
+ghost use Rattle.messages.specs.View.{auth_view as login, token_view};
 ghost use Rattle.wire.specs.declared.Version.{Version as AnyVersion};
 
 use crate::fault::MsgFault;
@@ -59,6 +59,58 @@ pub(crate) fn mode_in(pairs: &[(String, Value)]) -> Result<Mode, MsgFault>
     match entry(pairs, "mode") {
         None => Ok(Mode::Write),
         Some(value) => mode_of(value),
+    }
+}
+
+/// A token: a text of 1 to 64 bytes.
+fn token_of(value: &Value) -> Result<String, MsgFault>
+    ensures { Answers (λ t. text_of t ∷ []) result (contents_of_token (Some (tree value.now))) }
+{
+    let Value::Text(text) = value else {
+        return Err(MsgFault::Extra);
+    };
+    if !is_token(text.as_str()) {
+        return Err(MsgFault::Extra);
+    }
+    Ok(text.clone()?)
+}
+
+/// Whether a text may be a token.
+pub(crate) fn is_token(text: &str) -> bool
+    ensures { result ≡ is_token text.now }
+{
+    1 <= text.len() && text.len() <= 64
+}
+
+/// The token among a client's words of its transaction; its other words are ignored.
+fn token_among(words: &[(String, Value)]) -> Result<Option<String>, MsgFault>
+    ensures { Answers (λ t. token_tree (token_view t) ∷ []) result
+        (contents_of_token (lookup (codes "token") (entries_of (entries words.now)))) }
+{
+    match entry(words, "token") {
+        None => Ok(None),
+        Some(value) => Ok(Some(token_of(value)?)),
+    }
+}
+
+fn token_within(value: &Value) -> Result<Option<String>, MsgFault>
+    ensures { Answers (λ t. token_tree (token_view t) ∷ []) result
+        (contents_of_metadata (Some (tree value.now))) }
+{
+    match value {
+        Value::Dict(words) => token_among(words),
+        _ => Err(MsgFault::Extra),
+    }
+}
+
+/// The token of a transaction, none where it is absent.
+pub(crate) fn token_in(pairs: &[(String, Value)]) -> Result<Option<String>, MsgFault>
+    ensures { Answers (λ t. token_tree (token_view t) ∷ []) result
+        (contents_of_metadata (lookup (codes "tx_metadata") (entries_of (entries pairs.now)))) }
+{
+    match entry(pairs, "tx_metadata") {
+        None => Ok(None),
+        Some(value) => token_within(value),
     }
 }
 

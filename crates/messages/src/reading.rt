@@ -5,12 +5,12 @@ ghost use Rattle.packstream.specs.View.{tree, trees, trees_of, entries as value_
 ghost use Rattle.cells.specs.Shape.{entries};
 ghost use Rattle.wire.specs.declared.Version.{Version as AnyVersion};
 ghost use Rattle.wire.specs.Versions.{every_version};
-ghost use Rattle.messages.specs.Table.{ignored, refused, extra, text_field, cells, cell_list, hello, credentials, mode_alone, how_many, of_error, HELLO, LOGON, LOGOFF, GOODBYE, RESET, RUN, BEGIN, COMMIT, ROLLBACK, DISCARD, PULL, SUCCESS, RECORD, IGNORED, FAILURE, requests, responses};
+ghost use Rattle.messages.specs.Table.{ignored, refused, extra, text_field, cells, cell_list, hello, credentials, of_transaction, how_many, of_error, HELLO, LOGON, LOGOFF, GOODBYE, RESET, RUN, BEGIN, COMMIT, ROLLBACK, DISCARD, PULL, SUCCESS, RECORD, IGNORED, FAILURE, requests, responses};
 ghost use Rattle.messages.specs.View.{request_view, response_view};
 ghost use Rattle.messages.specs.Reading.{contents, Answers, contents_of_row, contents_at_tag, request_contents, response_contents};
 ghost use Rattle.messages.specs.Parts.{contents_of_plain, contents_of_run, entries_of_dict, members_of_list, only_dict, parts, run_parts, field_text, no_field, one_field};
 
-use crate::entries::{auth_of, count_in, mode_in, text_in};
+use crate::entries::{auth_of, count_in, mode_in, text_in, token_in};
 use crate::fault::MsgFault;
 use crate::of_fields::{cells_in, row_in};
 use crate::request::Request;
@@ -115,11 +115,13 @@ fn logon_of(fields: &[Value]) -> Result<Request, MsgFault>
 fn begin_of(fields: &[Value]) -> Result<Request, MsgFault>
     ensures { (v : AnyVersion)
         → Answers (λ r. request_contents (request_view r)) result
-        (contents_of_row v BEGIN (extra ignored mode_alone ∷ [])
+        (contents_of_row v BEGIN (extra ignored of_transaction ∷ [])
         (trees_of (trees fields.now))) }
 {
     let pairs = extra_in(fields)?;
-    Ok(Request::Begin(mode_in(pairs)?))
+    let mode = mode_in(pairs)?;
+    let token = token_in(pairs)?;
+    Ok(Request::Begin { mode, token })
 }
 
 #[tactic(auto, using(crate::proofs::Rows::extra_row))]
@@ -220,15 +222,21 @@ fn run_with(
         (entries_of (value_entries pairs.now))) }
 {
     let mode = mode_in(pairs)?;
+    let token = token_in(pairs)?;
     let params = cells_in(alloc, version, field)?;
     let text = String::from_str(alloc, text)?;
-    Ok(Request::Run { text, params, mode })
+    Ok(Request::Run {
+        text,
+        params,
+        mode,
+        token,
+    })
 }
 
 #[tactic(auto, using(crate::proofs::Rows::run_row))]
 fn run_of(alloc: Global, version: Version, fields: &[Value]) -> Result<Request, MsgFault>
     ensures { Answers (λ r. request_contents (request_view r)) result
-        (contents_of_row version RUN (text_field ∷ cells ∷ extra ignored mode_alone ∷ [])
+        (contents_of_row version RUN (text_field ∷ cells ∷ extra ignored of_transaction ∷ [])
         (trees_of (trees fields.now))) }
 {
     let (text, field, pairs) = run_fields(fields)?;

@@ -64,8 +64,14 @@ pub enum Request {
         /// The parameters in their order.
         params: Vec<(String, Cell)>,
         mode: Mode,
+        /// Of 1 to 64 bytes, or it can't be written. A server heeds it outside a transaction alone.
+        token: Option<String>,
     },
-    Begin(Mode),
+    Begin {
+        mode: Mode,
+        /// Of 1 to 64 bytes, or it can't be written. By it a server knows a repeated transaction again.
+        token: Option<String>,
+    },
     Commit,
     Rollback,
     Discard(Count),

@@ -23,38 +23,50 @@ of_one name =
     else (if bytes_eq name (codes "logoff") then Some Logoff
     else (if bytes_eq name (codes "goodbye") then Some Goodbye
     else (if bytes_eq name (codes "reset") then Some Reset
-    else (if bytes_eq name (codes "begin") then Some (Begin Write)
     else (if bytes_eq name (codes "commit") then Some Commit
     else (if bytes_eq name (codes "rollback") then Some Rollback
-    else None)))))))
+    else None))))))
 
 -- Requests of two words.
 abbrev pub of_two : Text → Text → Option ScriptRequestView
 of_two name word =
     if bytes_eq name (codes "logon") then
     (if bytes_eq word (codes "bad") then Some LogonBad else None)
-    else (if bytes_eq name (codes "begin") then
-    (if bytes_eq word (codes "r") then Some (Begin Read) else None)
     else (if bytes_eq name (codes "discard") then
     option_map (λ z. Discard (count_of z)) (whole_of word)
     else (if bytes_eq name (codes "pull") then option_map (λ z. Pull (count_of z)) (whole_of word)
-    else None)))
+    else None))
+
+-- what ends a `begin` and a `run`: `r` or nothing, and then `token T` or nothing
+abbrev pub ending_of : List Text → Option (Mode × Option Text)
+ending_of [] = Some (Write, None)
+ending_of (word ∷ []) = if bytes_eq word (codes "r") then Some (Read, None) else None
+ending_of (word ∷ token ∷ []) =
+    if bytes_eq word (codes "token") then Some (Write, Some token) else None
+ending_of (mode ∷ word ∷ token ∷ []) =
+    if bytes_eq mode (codes "r") && bytes_eq word (codes "token") then Some (Read, Some token)
+    else None
+ending_of (mode ∷ word ∷ token ∷ more ∷ rest) = None
 
 -- a run of a text with the parameters in hex
-abbrev pub run_of : Text → Text → Mode → Option ScriptRequestView
-run_of text hex mode = option_map (λ ps. Run text ps mode)
-    (option_and_then params_of (bytes_of hex))
+abbrev pub run_of : List Text → Option ScriptRequestView
+run_of (text ∷ hex ∷ rest) =
+    option_and_then (λ e. option_map (λ ps. Run text ps e.0 e.1)
+    (option_and_then params_of (bytes_of hex))) (ending_of rest)
+run_of words = None
+
+-- requests of one word or two
+abbrev pub of_words : Text → List Text → Option ScriptRequestView
+of_words name [] = of_one name
+of_words name (word ∷ []) = of_two name word
+of_words name (word ∷ more ∷ rest) = None
 
 -- Requests.
 abbrev pub request_of : List Text → Option ScriptRequestView
 request_of [] = None
-request_of (name ∷ []) = of_one name
-request_of (name ∷ word ∷ []) = of_two name word
-request_of (name ∷ text ∷ hex ∷ []) =
-    if bytes_eq name (codes "run") then run_of text hex Write else None
-request_of (name ∷ text ∷ hex ∷ mode ∷ []) =
-    if bytes_eq name (codes "run") && bytes_eq mode (codes "r") then run_of text hex Read else None
-request_of (name ∷ text ∷ hex ∷ mode ∷ more ∷ rest) = None
+request_of (name ∷ words) =
+    if bytes_eq name (codes "begin") then option_map (λ e. Begin e.0 e.1) (ending_of words)
+    else (if bytes_eq name (codes "run") then run_of words else of_words name words)
 
 -- the peer of a word: a client of ours for `newest`, `4.4`, `5.0` and `5.1`, or a foreign one
 abbrev pub peer_of : Text → Option Peer

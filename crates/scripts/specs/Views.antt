@@ -1,9 +1,10 @@
 -- What a line says, as plain data: texts by their bytes, parameters by the trees of their cells.
-use Rattle.std.specs.Prelude.{ℕ, List, string_bytes}
+use Rattle.std.specs.Prelude.{ℕ, List, Option, string_bytes}
 use Rattle.packstream.specs.Tree.{Tree}
 use Rattle.cells.specs.Shape.{entries}
 use Rattle.messages.specs.declared.request.Mode.{Mode}
 use Rattle.messages.specs.declared.request.Count.{Count}
+use Rattle.messages.specs.View.{token_view}
 use Rattle.scripts.specs.declared.request.ScriptRequest.{ScriptRequest}
 use Rattle.scripts.specs.declared.request.ScriptRequest.TheVariants as request
 use Rattle.scripts.specs.declared.line.Peer.{Peer}
@@ -28,8 +29,8 @@ pub data ScriptRequestView : Type 0 where
   Logoff : ScriptRequestView
   Goodbye : ScriptRequestView
   Reset : ScriptRequestView
-  Run : Text → Params → Mode → ScriptRequestView
-  Begin : Mode → ScriptRequestView
+  Run : Text → Params → Mode → Option Text → ScriptRequestView
+  Begin : Mode → Option Text → ScriptRequestView
   Commit : ScriptRequestView
   Rollback : ScriptRequestView
   Discard : Count → ScriptRequestView
@@ -56,9 +57,9 @@ script_request_view request.LogonBad = LogonBad
 script_request_view request.Logoff = Logoff
 script_request_view request.Goodbye = Goodbye
 script_request_view request.Reset = Reset
-script_request_view (request.Run text params mode) =
-    Run (string_bytes text) (entries params.items) mode
-script_request_view (request.Begin mode) = Begin mode
+script_request_view (request.Run text params mode token) =
+    Run (string_bytes text) (entries params.items) mode (token_view token)
+script_request_view (request.Begin mode token) = Begin mode (token_view token)
 script_request_view request.Commit = Commit
 script_request_view request.Rollback = Rollback
 script_request_view (request.Discard count) = Discard count

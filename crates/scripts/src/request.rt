@@ -18,15 +18,21 @@ pub enum ScriptRequest {
     Goodbye,
     /// `reset`.
     Reset,
-    /// `run TEXT HEX`, `run TEXT HEX r`.
+    /// `run TEXT HEX`, `run TEXT HEX r`, and either with `token T` behind it.
     Run {
         text: String,
         /// The parameters in their order.
         params: Vec<(String, Cell)>,
         mode: Mode,
+        /// One with more than 64 bytes can't be sent.
+        token: Option<String>,
     },
-    /// `begin`, `begin r`.
-    Begin(Mode),
+    /// `begin`, `begin r`, and either with `token T` behind it.
+    Begin {
+        mode: Mode,
+        /// The same.
+        token: Option<String>,
+    },
     /// `commit`.
     Commit,
     /// `rollback`.

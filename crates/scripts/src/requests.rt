@@ -1,11 +1,10 @@
 //! What the words of a request say.
-ghost use Rattle.std.specs.Prelude.{◌&&◌, map, codes, if◌then◌else◌, Some, None};
+ghost use Rattle.std.specs.Prelude.{◌∷◌, [], map};
 ghost use Rattle.std.specs.Option.{option_map};
-ghost use Rattle.std.specs.Str.{bytes_eq};
-ghost use Rattle.messages.specs.declared.request.Mode.TheVariants.{Read, Write};
+ghost use Rattle.messages.specs.View.{token_view};
 ghost use Rattle.scripts.specs.Answers.{Gives};
-ghost use Rattle.scripts.specs.Rows.{of_one, of_two, run_of, request_of};
-ghost use Rattle.scripts.specs.Views.{script_request_view};
+ghost use Rattle.scripts.specs.Rows.{of_one, of_two, of_words, ending_of, run_of, request_of};
+ghost use Rattle.scripts.specs.Views.{script_request_view, Begin};
 ghost use Rattle.scripts.specs.Words.{whole_of, count_of};
 
 use crate::fault::LineFault;
@@ -19,12 +18,33 @@ use std::alloc::Global;
 pub(crate) fn request_of(alloc: Global, words: &[&str]) -> Result<ScriptRequest, LineFault>
     ensures { Gives script_request_view result (request_of (map (λ w. w.now) words.now)) }
 {
-    match words {
-        [] => Err(LineFault::Unreadable),
-        [name] => of_one(name),
-        [name, word] => of_two(name, word),
-        [name, text, hex] => of_three(alloc, name, text, hex),
-        [name, text, hex, mode] => of_four(alloc, name, text, hex, mode),
+    let Some((name, after)) = words.split_first() else {
+        return Err(LineFault::Unreadable);
+    };
+    named(alloc, name, after)
+}
+
+/// A request by its first word.
+fn named(alloc: Global, name: &str, after: &[&str]) -> Result<ScriptRequest, LineFault>
+    ensures { Gives script_request_view result
+        (request_of (name.now ∷ map (λ w. w.now) after.now)) }
+{
+    if name == "begin" {
+        return begin_of(alloc, after);
+    }
+    if name == "run" {
+        return run_of(alloc, after);
+    }
+    of_words(name, after)
+}
+
+/// A request of one word or two.
+fn of_words(name: &str, after: &[&str]) -> Result<ScriptRequest, LineFault>
+    ensures { Gives script_request_view result (of_words name.now (map (λ w. w.now) after.now)) }
+{
+    match after {
+        [] => of_one(name),
+        [word] => of_two(name, word),
         _ => Err(LineFault::Unreadable),
     }
 }
@@ -48,9 +68,6 @@ fn of_one(name: &str) -> Result<ScriptRequest, LineFault>
     if name == "reset" {
         return Ok(ScriptRequest::Reset);
     }
-    if name == "begin" {
-        return Ok(ScriptRequest::Begin(Mode::Write));
-    }
     if name == "commit" {
         return Ok(ScriptRequest::Commit);
     }
@@ -67,12 +84,6 @@ fn of_two(name: &str, word: &str) -> Result<ScriptRequest, LineFault>
     if name == "logon" {
         return match word {
             "bad" => Ok(ScriptRequest::LogonBad),
-            _ => Err(LineFault::Unreadable),
-        };
-    }
-    if name == "begin" {
-        return match word {
-            "r" => Ok(ScriptRequest::Begin(Mode::Read)),
             _ => Err(LineFault::Unreadable),
         };
     }
@@ -94,43 +105,98 @@ fn count_in(word: &str) -> Result<Count, LineFault>
     }
 }
 
-/// `run TEXT HEX`.
-fn of_three(alloc: Global, name: &str, text: &str, hex: &str) -> Result<ScriptRequest, LineFault>
-    ensures { Gives script_request_view result
-        (if bytes_eq name.now (codes "run") then run_of text.now hex.now Write else None) }
+/// What ends a `begin` and a `run`: `r` or nothing, and then `token T` or nothing.
+fn ending_of(alloc: Global, words: &[&str]) -> Result<(Mode, Option<String>), LineFault>
+    ensures { Gives (λ e. (e.0, token_view e.1)) result (ending_of (map (λ w. w.now) words.now)) }
 {
-    if name != "run" {
-        return Err(LineFault::Unreadable);
+    match words {
+        [] => Ok((Mode::Write, None)),
+        [word] => mode_alone(word),
+        [word, token] => token_alone(alloc, word, token),
+        [mode, word, token] => mode_and_token(alloc, mode, word, token),
+        _ => Err(LineFault::Unreadable),
     }
-    run_of(alloc, text, hex, Mode::Write)
 }
 
-/// `run TEXT HEX r`.
-fn of_four(
+/// `r`.
+fn mode_alone(word: &str) -> Result<(Mode, Option<String>), LineFault>
+    ensures { Gives (λ e. (e.0, token_view e.1)) result (ending_of (word.now ∷ [])) }
+{
+    if word != "r" {
+        return Err(LineFault::Unreadable);
+    }
+    Ok((Mode::Read, None))
+}
+
+/// `token T`.
+fn token_alone(alloc: Global, word: &str, token: &str) -> Result<(Mode, Option<String>), LineFault>
+    ensures { Gives (λ e. (e.0, token_view e.1)) result (ending_of (word.now ∷ token.now ∷ [])) }
+{
+    if word != "token" {
+        return Err(LineFault::Unreadable);
+    }
+    let Ok(token) = String::from_str(alloc, token) else {
+        return Err(LineFault::Memory);
+    };
+    Ok((Mode::Write, Some(token)))
+}
+
+/// `r token T`.
+fn mode_and_token(
     alloc: Global,
-    name: &str,
-    text: &str,
-    hex: &str,
     mode: &str,
-) -> Result<ScriptRequest, LineFault>
-    ensures { Gives script_request_view result
-        (if bytes_eq name.now (codes "run") && bytes_eq mode.now (codes "r") then
-        run_of text.now hex.now Read else None) }
+    word: &str,
+    token: &str,
+) -> Result<(Mode, Option<String>), LineFault>
+    ensures { Gives (λ e. (e.0, token_view e.1)) result
+        (ending_of (mode.now ∷ word.now ∷ token.now ∷ [])) }
 {
-    if name != "run" || mode != "r" {
+    if mode != "r" || word != "token" {
         return Err(LineFault::Unreadable);
     }
-    run_of(alloc, text, hex, Mode::Read)
+    let Ok(token) = String::from_str(alloc, token) else {
+        return Err(LineFault::Memory);
+    };
+    Ok((Mode::Read, Some(token)))
 }
 
-/// A run of a text with the parameters that the hex spells.
-fn run_of(alloc: Global, text: &str, hex: &str, mode: Mode) -> Result<ScriptRequest, LineFault>
-    ensures { Gives script_request_view result (run_of text.now hex.now mode) }
+/// A begin, by the words behind it.
+fn begin_of(alloc: Global, words: &[&str]) -> Result<ScriptRequest, LineFault>
+    ensures { Gives script_request_view result
+        (option_map (λ e. Begin e.0 e.1) (ending_of (map (λ w. w.now) words.now))) }
 {
+    let (mode, token) = ending_of(alloc, words)?;
+    Ok(ScriptRequest::Begin { mode, token })
+}
+
+/// A run, by the words behind it.
+fn run_of(alloc: Global, words: &[&str]) -> Result<ScriptRequest, LineFault>
+    ensures { Gives script_request_view result (run_of (map (λ w. w.now) words.now)) }
+{
+    let Some((text, after)) = words.split_first() else {
+        return Err(LineFault::Unreadable);
+    };
+    let Some((hex, rest)) = after.split_first() else {
+        return Err(LineFault::Unreadable);
+    };
+    run_with(alloc, text, hex, rest)
+}
+
+/// A run of a text with the parameters that the hex spells, and what ends it.
+fn run_with(alloc: Global, text: &str, hex: &str, rest: &[&str]) -> Result<ScriptRequest, LineFault>
+    ensures { Gives script_request_view result
+        (run_of (text.now ∷ hex.now ∷ map (λ w. w.now) rest.now)) }
+{
+    let (mode, token) = ending_of(alloc, rest)?;
     let bytes = bytes_of(alloc, hex)?;
     let params = params_of(alloc, &bytes)?;
     let Ok(text) = String::from_str(alloc, text) else {
         return Err(LineFault::Memory);
     };
-    Ok(ScriptRequest::Run { text, params, mode })
+    Ok(ScriptRequest::Run {
+        text,
+        params,
+        mode,
+        token,
+    })
 }
