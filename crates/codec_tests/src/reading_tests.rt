@@ -1,7 +1,7 @@
 // What is read of bytes: by both decoders of packstream, and by the reader.
 use crate::telling::{gives, is_refused};
 use packstream::{PackFault, Packed, Reason, Value, decode, decode_front};
-use reader::{Reader, decode_and_read, read_piece};
+use reader::{Reader, read_piece};
 use std::alloc::{AllocError, Global};
 use std::test::*;
 
@@ -112,14 +112,12 @@ fn by_bytes(alloc: Global, bytes: &[u8]) -> Result<Reader, AllocError> {
     Ok(reader)
 }
 
-/// Whether the reader, fed byte by byte, as one piece, or beside the decoder, gives the value that is written as these bytes.
+/// Whether the decoder, and the reader, fed byte by byte or as one piece, give the value that is written as these bytes.
 fn is_read(alloc: Global, input: &[u8], output: &[u8]) -> Result<bool, AllocError> {
     let of_bytes = gives(alloc, by_bytes(alloc, input)?.finish(), output);
     let of_piece = gives(alloc, read_piece(alloc, input), output);
-    let (decoded, read) = decode_and_read(alloc, input);
-    let of_decoder = gives(alloc, decoded, output);
-    let beside = gives(alloc, read, output);
-    Ok(of_bytes && of_piece && of_decoder && beside)
+    let of_decoder = gives(alloc, decode(alloc, input), output);
+    Ok(of_bytes && of_piece && of_decoder)
 }
 
 /// Whether decoders and reader read the bytes as the value that is written as these.

@@ -1,19 +1,20 @@
 -- Of which bytes a reader tells.
-use Rattle.std.proofs.Common.{◌≡◌, ℕ, List, [], ◌++◌, Option, Some, None, Result, Ok, Err, refl, sym, ap, subst, ◌∙◌, append_assoc, inl, inr}
+use Rattle.std.proofs.Common.{◌≡◌, ℕ, List, [], ◌∷◌, ◌++◌, length, Option, Some, None, Result, Ok, Err, refl, sym, ap, subst, ◌∙◌, append_assoc, arith, inl, inr}
 use Rattle.std.specs.Prelude.{◌↔◌, MatchOption}
 use Rattle.std.proofs.lemmas.List.{append-nil}
 use Rattle.packstream.specs.declared.fault.Reason.{Reason}
+use Rattle.packstream.specs.declared.fault.Reason.TheVariants as reason
 use Rattle.packstream.specs.declared.fault.PackFault.{PackFault}
 use Rattle.packstream.specs.declared.fault.PackFault.TheVariants as fault
 use Rattle.packstream.specs.Tree.{Tree}
 use Rattle.packstream.specs.Good.{IsGood}
 use Rattle.packstream.specs.Plain.{AreBytes}
 use Rattle.packstream.specs.Spelling.{Spells}
-use Rattle.packstream.specs.Faults.{Bad, IsBadAlways}
+use Rattle.packstream.specs.Faults.{Place, Bad, IsBadAlways, fault_at, innermost, outside}
 use Rattle.packstream.specs.Answers.{UnlessMemory, Tells, whole_of}
 use Rattle.packstream.proofs.Ranges.{both_bytes}
 use Rattle.packstream.proofs.Deciding.{whole_value, whole_fault, err_parts}
-use Rattle.reader.specs.Piecewise.{Point, Joins, TurnsBad, Takes, Reads, TellsValue, TellsFault, Finishes}
+use Rattle.reader.specs.Piecewise.{Point, Joins, TurnsBad, Takes, Reads, MayGoOn, TellsValue, TellsFault, Finishes}
 
 abbrev Told : Type 0
 Told = Result Tree PackFault
@@ -119,3 +120,34 @@ pub whole_read : (p : Point) (b : List ℕ) (told : Told) → Reads p b → Fini
     → Tells (λ t. t) told (whole_of b)
 whole_read p b told reads f =
     told_whole b told reads.0 (value_read p b told reads f) (fault_read p b told reads f)
+
+-- ---- a reader that isn't bad
+
+none_after : (front after : List ℕ) → [] ≡ front ++ after → after ≡ []
+none_after [] after e = sym e
+none_after (x ∷ front) after e = absurd cc
+
+short_by : (p : Place) (r : Reason) (after : List ℕ) → after ≡ [] → fault_at p after ≡ Some r → r ≡ reason.Short
+unfolding fault_at
+short_by p r after none broken = let e : ◌≡◌ {A = Option Reason} (Some reason.Short) (Some r) = ap (fault_at p) (sym none) ∙ broken in cc
+
+-- of no bytes, all are missing
+pub nothing_goes_on : MayGoOn []
+nothing_goes_on r o (inl f) = short_by (innermost outside f.opened) r f.after (none_after f.before f.after f.whole) f.broken
+nothing_goes_on r o (inr t) = let none : t.1.more ≡ [] = none_after t.1.front t.1.more t.1.whole in absurd (omega (arith, t.1.some, ap length none))
+
+good_by : (bytes : List ℕ) (bad : Option (Reason × ℕ)) (b : List ℕ) → Keeps bytes bad b → bad ≡ None → MayGoOn bytes → MayGoOn b
+good_by bytes None b same good may = subst MayGoOn same may
+good_by bytes (Some f) b same good may = absurd cc
+
+-- what it has read is its bytes
+pub good_data : (p : Point) (b : List ℕ) → Reads p b → p.bad ≡ None → MayGoOn p.bytes → MayGoOn b
+good_data p b reads good may = good_by p.bytes p.bad b reads.1 good may
+
+before_by : (bytes : List ℕ) (bad : Option (Reason × ℕ)) (piece : List ℕ) (new : Point) → Takes (record { bytes = bytes; bad = bad }) piece new → new.bad ≡ None → bad ≡ None
+before_by bytes None piece new takes good = refl
+before_by bytes (Some f) piece new same good = sym (ap (λ (p : Point). p.bad) same) ∙ good
+
+-- it wasn't before
+pub good_before : (old new : Point) (piece : List ℕ) → Takes old piece new → new.bad ≡ None → old.bad ≡ None
+good_before old new piece takes good = before_by old.bytes old.bad piece new takes good

@@ -13,5 +13,5 @@ mod reading;
 mod stop;
 mod texts;
 
-pub use piece::{decode_and_read, read_piece};
+pub use piece::read_piece;
 pub use reader::Reader;

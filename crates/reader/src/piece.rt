@@ -9,7 +9,7 @@ ghost use Rattle.packstream.specs.declared.fault.Reason.{Reason};
 ghost use Rattle.packstream.specs.declared.fault.PackFault.TheVariants as fault;
 
 use crate::reader::Reader;
-use packstream::{PackFault, Packed, decode};
+use packstream::{PackFault, Packed};
 use std::alloc::Global;
 
 /// What `decode` tells of the bytes, by a reader that is fed them as one piece: its contract is that of `decode`, and
@@ -28,23 +28,4 @@ pub fn read_piece(alloc: Global, bytes: &[u8]) -> Result<Packed, PackFault>
         return Err(PackFault::Memory);
     };
     reader.finish()
-}
-
-/// What `decode` tells of the bytes, and what a reader tells that is fed them as one piece: want of memory aside, the same.
-pub fn decode_and_read(
-    alloc: Global,
-    bytes: &[u8],
-) -> (Result<Packed, PackFault>, Result<Packed, PackFault>)
-    // The first is what `decode` tells ..
-    ensures value { (t : Tree)
-        → UnlessMemory result.0 ((result.0 ≡ Ok t) ↔ (IsGood t × Spells t bytes.now)) }
-    ensures fault { (r : Reason) (o : ℕ)
-        → UnlessMemory result.0 ((result.0 ≡ Err (fault.Refused r o)) ↔ Bad bytes.now o r) }
-
-    // .. and the second is the first.
-    ensures same { UnlessMemory result.0 (UnlessMemory result.1 (result.0 ≡ result.1)) }
-{
-    let decoded = decode(alloc, bytes);
-    let read = read_piece(alloc, bytes);
-    (decoded, read)
 }

@@ -7,7 +7,7 @@ ghost use Rattle.packstream.specs.Faults.{Bad};
 ghost use Rattle.packstream.specs.Answers.{UnlessMemory};
 ghost use Rattle.packstream.specs.declared.fault.Reason.{Reason};
 ghost use Rattle.packstream.specs.declared.fault.PackFault.TheVariants as fault;
-ghost use Rattle.reader.specs.Piecewise.{fresh, Takes, IsBeginning};
+ghost use Rattle.reader.specs.Piecewise.{fresh, Takes, IsBeginning, MayGoOn};
 
 use crate::reading::{Mark, Reading};
 use packstream::{PackFault, Packed};
@@ -59,11 +59,12 @@ impl Reader {
 
     /// Joins the piece to the bytes, where they then have no fault but missing bytes. Else each continuation of them has
     /// one fault at one place: the reader is bad from then on, keeps the bytes that it had, and takes no more. The held
-    /// point stays. For want of memory nothing changes.
+    /// point stays. For want of memory nothing changes; a bad reader takes no memory.
     pub fn feed(&mut self, piece: &[u8]) -> Result<(), AllocError>
         ensures here { OnOk result (Takes self.old.here piece.now self.new.here) }
         ensures held { self.new.held ≡ self.old.held }
         ensures err { OnErr result (self.new ≡ self.old) }
+        ensures memory { OnErr result (self.old.here.bad ≡ None) }
     {
         if self.reading.bad().is_some() {
             return Ok(());
@@ -79,11 +80,12 @@ impl Reader {
     }
 
     /// Joins the piece as `feed` does, and makes the point behind it the held one; in a text or a byte string that goes on
-    /// behind the piece, at the cost of its bytes alone. For want of memory nothing changes.
+    /// behind the piece, at the cost of its bytes alone. For want of memory nothing changes; a bad reader takes no memory.
     pub fn advance(&mut self, piece: &[u8]) -> Result<(), AllocError>
         ensures here { OnOk result (Takes self.old.here piece.now self.new.here) }
         ensures held { OnOk result (self.new.held ≡ self.new.here) }
         ensures err { OnErr result (self.new ≡ self.old) }
+        ensures memory { OnErr result (self.old.here.bad ≡ None) }
     {
         if self.reading.take_within(piece)? {
             self.hold();
@@ -106,9 +108,6 @@ impl Reader {
             ↔ Bad self.now.here.bytes o r) }
         ensures bad { (r : Reason) (o : ℕ) → self.now.here.bad ≡ Some (r, o)
             → result ≡ Err (fault.Refused r o) }
-
-        // The bytes of the held point are a beginning of the reader's.
-        ensures held { IsBeginning self.now.held.bytes self.now.here.bytes }
     {
         match self.reading.bad() {
             Some((reason, place)) => Err(PackFault::Refused(reason, place)),
@@ -133,5 +132,13 @@ impl Reader {
         if !self.is_still {
             self.reading.cut(&self.held);
         }
+    }
+
+    /// What holds of every reader, for the laws. It does nothing.
+    pub(crate) fn stands(&self)
+        ensures held { IsBeginning self.now.held.bytes self.now.here.bytes }
+        ensures good { self.now.here.bad ≡ None → MayGoOn self.now.here.bytes }
+    {
+        let _is_still = self.is_still;
     }
 }

@@ -153,6 +153,7 @@ impl Reading {
         ensures grown { HasGrown (holds self.old) (holds self.new) }
         ensures other { result ≡ Ok false → self.new ≡ self.old }
         ensures err { OnErr result (self.new ≡ self.old) }
+        ensures memory { OnErr result ((holds self.old).standing.bad ≡ None) }
     {
         if self.standing.bad.is_some() {
             return Ok(false);

@@ -1,0 +1,7 @@
+use Rattle.reader.proofs.Pieces.{value_read, fault_read}
+use Rattle.reader.proofs.Alike.{alike}
+use Rattle.reader.proofs.laws.decodes_alike.Goals as goal
+
+pub returns : goal.returns
+returns c = λ b p decoded read value fault reads told.
+    alike b decoded read value fault (value_read p b read reads told) (fault_read p b read reads told)

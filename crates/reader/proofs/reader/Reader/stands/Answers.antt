@@ -1,0 +1,17 @@
+use Rattle.std.proofs.Common.{ap, sym, subst, ◌∙◌}
+use Rattle.reader.specs.Piecewise.{Point, Points, IsBeginning, MayGoOn}
+use Rattle.reader.specs.Holding.{Holds, holds}
+use Rattle.reader.proofs.Held.{keeps_at, here_at, begins_at, may_go_on}
+use Rattle.reader.proofs.reader.Reader.stands.Goals as goal
+
+pub returns-clause-held : goal.returns-clause-held
+returns-clause-held c =
+    let i = c.self.inside in
+    subst (λ (p : Points). IsBeginning p.held.bytes p.here.bytes) c.self.view_is (begins_at i.is_still (holds i.reading) i.held c.self.invariant)
+
+pub returns-clause-good : goal.returns-clause-good
+returns-clause-good c = λ good.
+    let i = c.self.inside in
+    let h : Holds = holds i.reading in
+    let here = sym (here_at i.is_still h i.held) ∙ ap (λ (p : Points). p.here) c.self.view_is in
+    subst (λ (p : Point). MayGoOn p.bytes) here (may_go_on h (keeps_at i.is_still h i.held c.self.invariant))
