@@ -9,6 +9,7 @@ use Rattle.messages.specs.declared.request.Count.TheVariants as counts
 use Rattle.messages.specs.Summaries.{response_of_summary, RowsLeft}
 use Rattle.machine.specs.declared.states.State.{State}
 use Rattle.machine.specs.declared.rows.Verdict.{Verdict}
+use Rattle.engine.specs.Views.{EntryView}
 use Rattle.exchange.specs.declared.acts.Act.{Act}
 use Rattle.exchange.specs.Session.{Open, Tx, Reply, Summary, close, close_last, used_up, count_at, left_after, pull}
 use Rattle.exchange.specs.declared.acts.Act.TheVariants as acts
@@ -20,23 +21,23 @@ acts_same v left tx r x y e h = subst (λ z. IfOk r (λ act. ActsAs v left tx ac
 
 -- with these rows left
 abbrev pub more_left : List (List Tree) → Open → Tx → Reply
-more_left rows left tx = Summary Verdict.More (response_of_summary RowsLeft) (record { rows = rows; mode = left.mode; write = left.write; written = 0 }) tx None
+more_left rows left tx = Summary Verdict.More (response_of_summary RowsLeft) (record left { rows = rows; written = 0 }) tx None
 
 -- the same, where the version has another name too
 pub acts_at : (v w : Version) (left : Open) (tx : Tx) (r : Result Act AllocError) (x y : Reply) → v ≡ w → x ≡ y → IfOk r (λ act. ActsAs v left tx act x) → IfOk r (λ act. ActsAs w left tx act y)
 acts_at v w left tx r x y e f h = acts_same w left tx r x y f (subst (λ u. IfOk r (λ act. ActsAs u left tx act x)) e h)
 
-pub close_more : (s : State) (len : ℕ) (rows : List (List Tree)) (left : Open) (tx : Tx) → 0 < length rows → more_left rows left tx ≡ close s len rows left tx
-close_more s len [] left tx h = absurd (omega arith)
-close_more s len (r ∷ rs) left tx h = refl
+pub close_more : (s : State) (ledger : List EntryView) (rows : List (List Tree)) (left : Open) (tx : Tx) → 0 < length rows → more_left rows left tx ≡ close s ledger rows left tx
+close_more s ledger [] left tx h = absurd (omega arith)
+close_more s ledger (r ∷ rs) left tx h = refl
 
-pub close_none : (s : State) (len : ℕ) (rows : List (List Tree)) (left : Open) (tx : Tx) → length rows ≡ 0 → close_last s len left tx ≡ close s len rows left tx
-close_none s len [] left tx h = refl
-close_none s len (r ∷ rs) left tx h = absurd (omega arith)
+pub close_none : (s : State) (ledger : List EntryView) (rows : List (List Tree)) (left : Open) (tx : Tx) → length rows ≡ 0 → close_last s ledger left tx ≡ close s ledger rows left tx
+close_none s ledger [] left tx h = refl
+close_none s ledger (r ∷ rs) left tx h = absurd (omega arith)
 
-pub pull_used : (v : Version) (s : State) (len : ℕ) (count : Count) (rows : List (List Tree)) (left : Open) (tx : Tx) → 0 < length rows → used_up count left.written ≡ true → more_left rows left tx ≡ pull v s len count rows left tx
-pull_used v s len count [] left tx h u = absurd (omega arith)
-pull_used v s len count (r ∷ rs) left tx h u = rw u refl
+pub pull_used : (v : Version) (s : State) (ledger : List EntryView) (count : Count) (rows : List (List Tree)) (left : Open) (tx : Tx) → 0 < length rows → used_up count left.written ≡ true → more_left rows left tx ≡ pull v s ledger count rows left tx
+pull_used v s ledger count [] left tx h u = absurd (omega arith)
+pull_used v s ledger count (r ∷ rs) left tx h u = rw u refl
 
 drop-all : (rows : List (List Tree)) → drop (length rows) rows ≡ []
 drop-all [] = refl
@@ -47,13 +48,13 @@ left_is counts.All rows n e = ap (λ k. drop k rows) e ∙ drop-all rows
 left_is (counts.Of z) rows n e = ap (λ k. drop k rows) e
 
 -- a DISCARD that leaves rows, and one that leaves none
-pub discard_more : (s : State) (len n : ℕ) (count : Count) (rows : List (List Tree)) (left : Open) (tx : Tx) → n ≡ count_at count (length rows) → n < length rows → more_left (drop n rows) left tx ≡ close s len (left_after count rows) left tx
-discard_more s len n count rows left tx e h =
-    close_more s len (drop n rows) left tx (omega (arith, length-drop n rows)) ∙ ap (λ rs. close s len rs left tx) (left_is count rows n e)
+pub discard_more : (s : State) (ledger : List EntryView) (n : ℕ) (count : Count) (rows : List (List Tree)) (left : Open) (tx : Tx) → n ≡ count_at count (length rows) → n < length rows → more_left (drop n rows) left tx ≡ close s ledger (left_after count rows) left tx
+discard_more s ledger n count rows left tx e h =
+    close_more s ledger (drop n rows) left tx (omega (arith, length-drop n rows)) ∙ ap (λ rs. close s ledger rs left tx) (left_is count rows n e)
 
-pub discard_last : (s : State) (len n : ℕ) (count : Count) (rows : List (List Tree)) (left : Open) (tx : Tx) → n ≡ count_at count (length rows) → length rows ≤ n → close_last s len left tx ≡ close s len (left_after count rows) left tx
-discard_last s len n count rows left tx e h =
-    close_none s len (drop n rows) left tx (omega (arith, length-drop n rows)) ∙ ap (λ rs. close s len rs left tx) (left_is count rows n e)
+pub discard_last : (s : State) (ledger : List EntryView) (n : ℕ) (count : Count) (rows : List (List Tree)) (left : Open) (tx : Tx) → n ≡ count_at count (length rows) → length rows ≤ n → close_last s ledger left tx ≡ close s ledger (left_after count rows) left tx
+discard_last s ledger n count rows left tx e h =
+    close_none s ledger (drop n rows) left tx (omega (arith, length-drop n rows)) ∙ ap (λ rs. close s ledger rs left tx) (left_is count rows n e)
 
 -- what acts as a reply can be written
 pub acts_writable : (v : Version) (left : Open) (tx : Tx) (a : Act) (reply : Reply) → ActsAs v left tx a reply → IsWritable left.rows a

@@ -1,12 +1,11 @@
 -- What is written of a response can be written.
 use Rattle.std.proofs.Common.{◌≡◌, refl, sym, ◌∙◌, ap, subst, ℕ, Bool, true, false, List, [], ◌∷◌, ◌++◌, Result, Ok, Err, arith}
-use Rattle.std.specs.Prelude.{is_err, ◌&&◌, ◌==◌, ℤ, nat_lt}
-use Rattle.std.specs.Ordering.{int_eq}
+use Rattle.std.specs.Prelude.{is_err, ◌&&◌, nat_lt}
 use Rattle.std.specs.Str.{bytes_eq}
 use Rattle.std.proofs.lemmas.Bool.Decides.{nat_tests}
-use Rattle.std.proofs.lemmas.Int.{ints}
-use Rattle.std.proofs.lemmas.Slice.Eq.{bytes_eq-Decides}
-use Rattle.packstream.specs.Tree.{Tree, null, boolean, int, float, byte_string, text, list, dict, structure, Trees, no_trees, tree_then, Entries, no_entries, entry_then}
+use Rattle.packstream.specs.Tree.{Tree}
+use Rattle.cells.specs.Same.{same_tree}
+use Rattle.cells.proofs.Equality.{tree_is, bytes_is}
 use Rattle.wire.specs.declared.Version.{Version}
 use Rattle.messages.specs.declared.fault.MsgFault.{MsgFault}
 use Rattle.messages.specs.declared.fault.MsgFault.TheVariants as writer
@@ -15,7 +14,7 @@ use Rattle.messages.specs.View.{ResponseView, Success, Record, Ignored, Failure}
 use Rattle.messages.specs.Messages.{Resp, response_of}
 use Rattle.messages.specs.Writing.{response_spelling}
 use Rattle.messages.proofs.Sent.{response_fits, response_is}
-use Rattle.exchange.specs.Said.{same_bool, same_tree, same_trees, same_entries, same_cells, same_metadata, same_say, is_reading, are_bytes, is_text, fits}
+use Rattle.exchange.specs.Said.{same_cells, same_metadata, same_say, is_reading, are_bytes, is_text, fits}
 use Rattle.exchange.specs.declared.fault.Fault.{Fault}
 use Rattle.exchange.specs.declared.texts.Unwritten.{Unwritten}
 use Rattle.exchange.specs.declared.texts.Unwritten.TheVariants as unwritten
@@ -28,58 +27,25 @@ both_true true b p q = q
 both_true false b p q = p
 
 -- Each is the same as itself.
-same_bool-refl : (b : Bool) → same_bool b b ≡ true
-same_bool-refl true = refl
-same_bool-refl false = refl
-
-eq-refl : (n : ℕ) → (n == n) ≡ true
-eq-refl n = grind (arith, nat_tests)
-
-int_eq-refl : (z : ℤ) → int_eq z z ≡ true
-int_eq-refl z = grind (arith, ints, nat_tests)
-
-bytes_eq-refl : (b : List ℕ) → bytes_eq b b ≡ true
-bytes_eq-refl b = (bytes_eq-Decides b b).1 refl
-
-mutual
-  same_tree-refl : (t : Tree) → same_tree t t ≡ true
-  same_tree-refl null = refl
-  same_tree-refl (boolean b) = same_bool-refl b
-  same_tree-refl (int z) = int_eq-refl z
-  same_tree-refl (float n) = eq-refl n
-  same_tree-refl (byte_string s) = bytes_eq-refl s
-  same_tree-refl (text s) = bytes_eq-refl s
-  same_tree-refl (list ts) = same_trees-refl ts
-  same_tree-refl (dict es) = same_entries-refl es
-  same_tree-refl (structure tag ts) = both_true (tag == tag) (same_trees ts ts) (eq-refl tag) (same_trees-refl ts)
-
-  same_trees-refl : (ts : Trees) → same_trees ts ts ≡ true
-  same_trees-refl no_trees = refl
-  same_trees-refl (tree_then t ts) = both_true (same_tree t t) (same_trees ts ts) (same_tree-refl t) (same_trees-refl ts)
-
-  same_entries-refl : (es : Entries) → same_entries es es ≡ true
-  same_entries-refl no_entries = refl
-  same_entries-refl (entry_then k t es) = both_true (bytes_eq k k) (same_tree t t && same_entries es es) (bytes_eq-refl k) (both_true (same_tree t t) (same_entries es es) (same_tree-refl t) (same_entries-refl es))
-
 same_cells-refl : (ts : List Tree) → same_cells ts ts ≡ true
 same_cells-refl [] = refl
-same_cells-refl (t ∷ ts) = both_true (same_tree t t) (same_cells ts ts) (same_tree-refl t) (same_cells-refl ts)
+same_cells-refl (t ∷ ts) = both_true (same_tree t t) (same_cells ts ts) (tree_is t) (same_cells-refl ts)
 
 same_metadata-refl : (es : List (List ℕ × Tree)) → same_metadata es es ≡ true
 same_metadata-refl [] = refl
-same_metadata-refl (e ∷ es) = both_true (bytes_eq e.0 e.0) (same_tree e.1 e.1 && same_metadata es es) (bytes_eq-refl e.0) (both_true (same_tree e.1 e.1) (same_metadata es es) (same_tree-refl e.1) (same_metadata-refl es))
+same_metadata-refl (e ∷ es) = both_true (bytes_eq e.0 e.0) (same_tree e.1 e.1 && same_metadata es es) (bytes_is e.0) (both_true (same_tree e.1 e.1) (same_metadata es es) (tree_is e.1) (same_metadata-refl es))
 
 same_say-refl : (m : ResponseView) → same_say m m ≡ true
 same_say-refl (Success es) = same_metadata-refl es
 same_say-refl (Record ts) = same_cells-refl ts
 same_say-refl Ignored = refl
-same_say-refl (Failure c m) = both_true (bytes_eq c c) (bytes_eq m m) (bytes_eq-refl c) (bytes_eq-refl m)
+same_say-refl (Failure c m) = both_true (bytes_eq c c) (bytes_eq m m) (bytes_is c) (bytes_is m)
 
 bytes_if : (b : List ℕ) → AreBytes b → are_bytes b ≡ true
 bytes_if [] h = refl
 bytes_if (x ∷ b) h = both_true (nat_lt x 256) (are_bytes b) (grind (arith, nat_tests, h.0)) (bytes_if b h.1)
 
-said_fits : (v : Version) (m : ResponseView) (b : List ℕ) → response_spelling v m ≡ Ok b → Resp v m b → fits v m ≡ true
+pub said_fits : (v : Version) (m : ResponseView) (b : List ℕ) → response_spelling v m ≡ Ok b → Resp v m b → fits v m ≡ true
 unfolding fits
 said_fits v m b e h =
     ap (is_text v m) e

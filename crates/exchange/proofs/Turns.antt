@@ -11,7 +11,7 @@ use Rattle.machine.specs.declared.states.State.{State}
 use Rattle.machine.specs.declared.rows.Verdict.{Verdict}
 use Rattle.machine.specs.Asks.{kind_of, is_goodbye, is_reset}
 use Rattle.machine.specs.Following.{interruptible}
-use Rattle.engine.specs.Views.{EntryView, AnswerView}
+use Rattle.engine.specs.Views.{Token, EntryView, AnswerView}
 use Rattle.exchange.specs.declared.acts.Turn.TheVariants as turn
 use Rattle.exchange.specs.declared.acts.Leaves.{Leaves}
 use Rattle.exchange.specs.declared.kinds.Worked.{Worked}
@@ -76,13 +76,13 @@ cond_false true x y e = cc
 cond_false false x y e = refl
 
 -- what an answer opens, where its fields can be said
-pub opens_as : (v : Version) (s : State) (left : Open) (tx : Tx) (a : AnswerView) (l : Leaves) → (in_transaction s && (is_some a.write && nat_le 1024 (length tx.writes))) ≡ false → fits v (fields_said a.fields) ≡ true
-    → left_result l left ≡ result_of_answer v s a → left_tx l tx ≡ (if in_transaction s then with_write tx a.write else no_tx) → left_entry l left tx ≡ None
-    → reply_to_run v s tx (Ok a) ≡ Summary Verdict.Success (fields_said a.fields) (left_result l left) (left_tx l tx) (left_entry l left tx)
-opens_as v s left tx a l few fit o t e =
+pub opens_as : (v : Version) (s : State) (left : Open) (tx : Tx) (token : Token) (a : AnswerView) (l : Leaves) → (in_transaction s && (is_some a.write && nat_le 1024 (length tx.writes))) ≡ false → fits v (fields_said a.fields) ≡ true
+    → left_result l left ≡ result_of_answer v s token a → left_tx l tx ≡ (if in_transaction s then with_write tx a.write else no_tx) → left_entry l left tx ≡ None
+    → reply_to_run v s tx token (Ok a) ≡ Summary Verdict.Success (fields_said a.fields) (left_result l left) (left_tx l tx) (left_entry l left tx)
+opens_as v s left tx token a l few fit o t e =
     let m = fields_said a.fields in
     let after : Tx = if in_transaction s then with_write tx a.write else no_tx in
-    let done : Reply = Summary Verdict.Success m (result_of_answer v s a) after None in
+    let done : Reply = Summary Verdict.Success m (result_of_answer v s token a) after None in
     cond_false (in_transaction s && (is_some a.write && nat_le 1024 (length tx.writes))) (fails fault.TooManyWrites) (cond (fits v m) done (fails (unwritable (response_spelling v m)))) few
     ∙ cond_true (fits v m) done (fails (unwritable (response_spelling v m))) fit
-    ∙ sym (ap (λ x. Summary Verdict.Success m x (left_tx l tx) (left_entry l left tx)) o ∙ ap (λ x. Summary Verdict.Success m (result_of_answer v s a) x (left_entry l left tx)) t ∙ ap (λ x. Summary Verdict.Success m (result_of_answer v s a) after x) e)
+    ∙ sym (ap (λ x. Summary Verdict.Success m x (left_tx l tx) (left_entry l left tx)) o ∙ ap (λ x. Summary Verdict.Success m (result_of_answer v s token a) x (left_entry l left tx)) t ∙ ap (λ x. Summary Verdict.Success m (result_of_answer v s token a) after x) e)

@@ -1,5 +1,5 @@
 -- What a step decides before it changes anything, and what it leaves.
-use Rattle.std.specs.Prelude.{◌≡◌, if◌then◌else◌, ℕ, suc, ◌+◌, ◌^◌, ◌<◌, ◌≤◌, List, [], ◌∷◌, ◌++◌, length, drop, Option, Some, None, option_map, option_to_list, Ok, is_err, true, false}
+use Rattle.std.specs.Prelude.{◌≡◌, if◌then◌else◌, ℕ, suc, ◌+◌, ◌^◌, ◌<◌, ◌≤◌, List, [], ◌∷◌, ◌++◌, length, drop, Option, Some, None, option_map, Ok, is_err, true, false}
 use Rattle.packstream.specs.Tree.{Tree}
 use Rattle.wire.specs.declared.Version.{Version}
 use Rattle.messages.specs.View.{ResponseView}
@@ -9,12 +9,16 @@ use Rattle.wire.specs.Texts.{written_run}
 use Rattle.messages.specs.Arrivals.{Arrival, Asked, Unread, TooLong}
 use Rattle.machine.specs.declared.states.State.{State}
 use Rattle.machine.specs.declared.kinds.Kind.{Kind}
+use Rattle.machine.specs.declared.rows.Verdict.{Verdict}
 use Rattle.std.specs.declared.alloc.Global.{Global}
 use Rattle.std.specs.declared.vec.Vec.{Vec}
 use Rattle.cells.specs.declared.cell.Cell.{Cell}
 use Rattle.engine.specs.declared.answer.Mode.{Mode as QueryMode}
 use Rattle.engine.specs.declared.ledger.Write.{Write}
-use Rattle.engine.specs.Views.{WriteView, EntryView, write_view, rows_view}
+use Rattle.engine.specs.declared.ledger.Commit.{Commit}
+use Rattle.engine.specs.declared.ledger.Commit.TheVariants.{Added, Repeat, Clash}
+use Rattle.engine.specs.Tokens.{Free, found_in}
+use Rattle.engine.specs.Views.{Token, WriteView, EntryView, token_view, write_view, rows_view}
 use Rattle.exchange.specs.declared.exchange.Waiting.{Waiting}
 use Rattle.exchange.specs.declared.exchange.Waiting.TheVariants as waiting
 use Rattle.exchange.specs.declared.kinds.Cause.{Cause}
@@ -37,7 +41,7 @@ use Rattle.exchange.specs.declared.texts.Unwritten.TheVariants as unwritten
 use Rattle.exchange.specs.Faults.{failure}
 use Rattle.exchange.specs.Said.{fits}
 use Rattle.machine.specs.Asks.{is_goodbye, is_reset}
-use Rattle.exchange.specs.Session.{Open, no_result, Tx, no_tx, Reply, with_write, unwritable, rows_fitted, result_mode, in_transaction, passed_over}
+use Rattle.exchange.specs.Session.{Open, no_result, Tx, no_tx, Change, change_alone, change_inside, Reply, fails, with_write, unwritable, rows_fitted, result_mode, in_transaction, passed_over}
 use Rattle.exchange.specs.Rest.{Kept, Step, worked_of, commit_entries}
 use Rattle.exchange.specs.Views.{open_of}
 
@@ -77,11 +81,11 @@ Refuses v m (unwritten.Because f) = IsRefused v m f
 -- the result that is open after a summary, by the one that was open before
 abbrev pub left_result : Leaves → Open → Open
 left_result leaves.Nothing left = no_result
-left_result (leaves.Begun mode) left = no_result
+left_result (leaves.Begun mode token) left = no_result
 left_result (leaves.Opened r) left = open_of r
 left_result (leaves.Joined r write) left = open_of r
 left_result (leaves.Rest n) left =
-    record { rows = drop n left.rows; mode = left.mode; write = left.write; written = 0 }
+    record left { rows = drop n left.rows; written = 0 }
 left_result leaves.Transaction left = no_result
 left_result leaves.CommitsResult left = no_result
 left_result leaves.CommitsTransaction left = no_result
@@ -89,7 +93,7 @@ left_result leaves.CommitsTransaction left = no_result
 -- the transaction that is open after a summary, by the one that was open before
 abbrev pub left_tx : Leaves → Tx → Tx
 left_tx leaves.Nothing tx = no_tx
-left_tx (leaves.Begun mode) tx = record { mode = mode; writes = [] }
+left_tx (leaves.Begun mode token) tx = record { mode = mode; writes = []; token = token_view token }
 left_tx (leaves.Opened r) tx = no_tx
 left_tx (leaves.Joined r write) tx = with_write tx (option_map write_view write)
 left_tx (leaves.Rest n) tx = tx
@@ -97,20 +101,36 @@ left_tx leaves.Transaction tx = tx
 left_tx leaves.CommitsResult tx = no_tx
 left_tx leaves.CommitsTransaction tx = no_tx
 
--- the writes that a summary commits, where it does: those of the result or transaction open before
-abbrev pub left_entry : Leaves → Open → Tx → Option (List WriteView)
-left_entry leaves.CommitsResult left tx = Some (option_to_list left.write)
-left_entry leaves.CommitsTransaction left tx = Some tx.writes
+-- what a summary adds to the ledger, where it does: the change of the result or of the transaction open before
+abbrev pub left_entry : Leaves → Open → Tx → Option Change
+left_entry leaves.CommitsResult left tx = Some (change_alone left)
+left_entry leaves.CommitsTransaction left tx = Some (change_inside tx)
 left_entry _ left tx = None
+
+-- these writes under this token, as a change
+abbrev pub change_of : List WriteView → Token → Change
+change_of writes token = record { writes = writes; token = token }
+
+-- how a commit is answered, by what its engine would answer to it
+abbrev pub commits_by : Change → (ℕ → ResponseView) → Commit → Reply
+commits_by change said (Added n) = Reply.Summary Verdict.Success (said n) no_result no_tx (Some change)
+commits_by change said (Repeat n) = Reply.Summary Verdict.Success (said n) no_result no_tx None
+commits_by change said Clash = fails fault.TokenClash
+
+-- What is to be added is free: the ledger has nothing under its token.
+abbrev pub IsFree : List EntryView → Option Change → Type 0
+IsFree ledger None = Unit {0}
+IsFree ledger (Some change) = found_in change.token change.writes ledger ≡ Free
+
+-- the same of what an act adds
+abbrev pub AddsFree : List EntryView → Open → Tx → Act → Type 0
+AddsFree ledger left tx (act.Sends body) = Unit {0}
+AddsFree ledger left tx (act.Says d body l) = IsFree ledger (left_entry l left tx)
+AddsFree ledger left tx act.Leaves = Unit {0}
 
 -- one row fewer
 abbrev pub one_less : Open → Open
-one_less left = record {
-  rows = drop 1 left.rows;
-  mode = left.mode;
-  write = left.write;
-  written = suc left.written;
-}
+one_less left = record left { rows = drop 1 left.rows; written = suc left.written }
 
 -- A row is there, its text is this, and it is the reply.
 pub record IsRow (v : Version) (left : Open) (reply : Reply) (b : List ℕ) : Type 0 where
@@ -175,7 +195,7 @@ abbrev pub after_bytes : List ℕ → Kept → Kept
 after_bytes body k = record k { result = one_less k.result; unsent = k.unsent ++ written_run body }
 
 -- the ledger's length after it, where it commits
-abbrev pub length_after : List EntryView → Option (List WriteView) → Option ℕ
+abbrev pub length_after : List EntryView → Option Change → Option ℕ
 length_after ledger entry = option_map (λ _. length ledger + 1) entry
 
 -- a length is below 2^63, where there is one
@@ -184,19 +204,20 @@ IsBelow None = Unit {0}
 IsBelow (Some n) = n < 2 ^ 63
 
 -- the result that an answer opens
-abbrev pub opened_by : Version → State → List (Vec Cell Global) → QueryMode → Option Write → Open
-opened_by v s rows mode write =
+abbrev pub opened_by : Version → State → List (Vec Cell Global) → QueryMode → Option Write → Token → Open
+opened_by v s rows mode write token =
     record {
       rows = rows_fitted v (rows_view rows);
       mode = result_mode mode;
       write = if in_transaction s then None else option_map write_view write;
       written = 0;
+      token = if in_transaction s then None else token;
     }
 
 -- Whatever was open before, this is left open; in a transaction its write is among the transaction's; nothing is committed.
 pub record LeavesOpen (v : Version) (s : State) (rows : List (Vec Cell Global)) (mode : QueryMode)
-    (write : Option Write) (l : Leaves) : Type 0 where
-  pub result : (left : Open) → left_result l left ≡ opened_by v s rows mode write
+    (write : Option Write) (token : Token) (l : Leaves) : Type 0 where
+  pub result : (left : Open) → left_result l left ≡ opened_by v s rows mode write token
   pub tx :
       (before : Tx)
       → left_tx l before

@@ -10,12 +10,12 @@ use Rattle.machine.specs.declared.rows.Verdict.{Verdict}
 use Rattle.machine.specs.Asks.{kind_of, is_reset}
 use Rattle.machine.specs.Rows.{row_at}
 use Rattle.machine.specs.Following.{interruptible}
-use Rattle.engine.specs.Views.{WriteView, EntryView}
+use Rattle.engine.specs.Views.{EntryView}
 use Rattle.exchange.specs.declared.kinds.Cause.{Cause}
 use Rattle.exchange.specs.declared.kinds.What.{What}
 use Rattle.exchange.specs.declared.kinds.Worked.{Worked}
 use Rattle.exchange.specs.declared.kinds.Worked.TheVariants as worked
-use Rattle.exchange.specs.Session.{Setting, Open, no_result, Tx, no_tx, Reply, OneRow, Summary, Bye, serve}
+use Rattle.exchange.specs.Session.{Setting, Open, no_result, Tx, no_tx, Change, Reply, OneRow, Summary, Bye, serve}
 
 -- what a session keeps; the bytes of its unfinished item stand beside it
 pub record Kept : Type 0 where
@@ -53,8 +53,8 @@ pub record Written : Type 0 where
   pub state : State
   -- the ledger's length before its step
   pub length_before : ℕ
-  -- the writes that its step committed
-  pub entry : Option (List WriteView)
+  -- what its step added to the ledger
+  pub entry : Option Change
 
 -- what a step did
 pub data Done : Type 0 where
@@ -65,7 +65,7 @@ pub data Done : Type 0 where
 -- one step: what is kept then, what it commits, what it did
 pub record Step : Type 0 where
   pub kept : Kept
-  pub commit : Option (List WriteView)
+  pub commit : Option Change
   pub answer : Done
 
 -- a step that commits nothing
@@ -73,10 +73,10 @@ abbrev pub rests : Kept → Done → Step
 rests s answer = record { kept = s; commit = None; answer = answer }
 
 -- the entry that a step adds
-abbrev pub commit_entries : ℕ → ℕ → Option (List WriteView) → List EntryView
+abbrev pub commit_entries : ℕ → ℕ → Option Change → List EntryView
 commit_entries conn ordinal None = []
-commit_entries conn ordinal (Some writes) =
-    record { conn = conn; ordinal = ordinal; writes = writes } ∷ []
+commit_entries conn ordinal (Some change) =
+    record { conn = conn; ordinal = ordinal; writes = change.writes; token = change.token } ∷ []
 
 -- the version that was taken, and V51 where none was
 abbrev pub version_of : Kept → Version

@@ -20,7 +20,8 @@ use Rattle.machine.specs.Asks.{kind_of, is_reset, is_goodbye}
 use Rattle.machine.specs.Rows.{row_at}
 use Rattle.engine.specs.declared.answer.Mode.{Mode as QueryMode}
 use Rattle.engine.specs.declared.answer.Mode.TheVariants as query
-use Rattle.engine.specs.Views.{WriteView, ParameterView, EntryView, AnswerView, QueryFault}
+use Rattle.engine.specs.Views.{WriteView, ParameterView, Token, EntryView, AnswerView, QueryFault}
+use Rattle.engine.specs.Tokens.{Found, Free, There, Other, found_in}
 use Rattle.exchange.specs.declared.fault.Fault.{Fault}
 use Rattle.exchange.specs.declared.fault.Fault.TheVariants as fault
 use Rattle.exchange.specs.Faults.{failure, of_query, of_writer}
@@ -39,24 +40,41 @@ pub record Open : Type 0 where
   pub mode : Mode
   pub write : Option WriteView
   pub written : ℕ
+  -- the token of its RUN; in a transaction none, for there the token is the transaction's
+  pub token : Token
 
--- the result where none is open: no rows, mode `r`, no write
+-- the result where none is open: no rows, mode `r`, no write, no token
 abbrev pub no_result : Open
-no_result = record { rows = []; mode = Read; write = None; written = 0 }
+no_result = record { rows = []; mode = Read; write = None; written = 0; token = None }
 
 -- the open transaction
 pub record Tx : Type 0 where
   pub mode : Mode
   pub writes : List WriteView
+  -- the token of its BEGIN
+  pub token : Token
 
--- the transaction where none is open: mode `w`, no writes
+-- the transaction where none is open: mode `w`, no writes, no token
 abbrev pub no_tx : Tx
-no_tx = record { mode = Write; writes = [] }
+no_tx = record { mode = Write; writes = []; token = None }
 
--- one step's answer: a row, or a verdict with its response, what is open then, and the writes that it commits; or none at all
+-- what a step commits: writes, and the token under which they are known again
+pub record Change : Type 0 where
+  pub writes : List WriteView
+  pub token : Token
+
+-- what the last summary of a result commits outside a transaction
+abbrev pub change_alone : Open → Change
+change_alone left = record { writes = option_to_list left.write; token = left.token }
+
+-- what a COMMIT commits
+abbrev pub change_inside : Tx → Change
+change_inside tx = record { writes = tx.writes; token = tx.token }
+
+-- one step's answer: a row, or a verdict with its response, what is open then, and what it commits; or none at all
 pub data Reply : Type 0 where
   OneRow : List Tree → Open → Reply
-  Summary : Verdict → ResponseView → Open → Tx → Option (List WriteView) → Reply
+  Summary : Verdict → ResponseView → Open → Tx → Option Change → Reply
   Bye : Reply
 
 -- the FAILURE of this fault, after which nothing is open
@@ -93,20 +111,32 @@ in_transaction State.TxReady = true
 in_transaction State.TxStreaming = true
 in_transaction _ = false
 
--- the last summary of a result; len is the ledger's length
-abbrev pub close_last : State → ℕ → Open → Tx → Reply
-close_last State.Streaming len left tx =
-    Summary Verdict.Success (response_of_summary (Closing (Some (len + 1)) left.mode)) no_result
-    no_tx (Some (option_to_list left.write))
-close_last _ len left tx =
+-- How a commit is answered, by what a ledger of so many entries has of it: where it adds an entry, or the entry was there, by the
+-- SUCCESS that tells the entry's place; where other writes have its token, by a FAILURE.
+abbrev pub commits_as : ℕ → Change → (ℕ → ResponseView) → Found → Reply
+commits_as len change said Free = Summary Verdict.Success (said (len + 1)) no_result no_tx (Some change)
+commits_as len change said (There n) = Summary Verdict.Success (said n) no_result no_tx None
+commits_as len change said Other = fails fault.TokenClash
+
+-- a commit over a ledger
+abbrev pub commits_over : List EntryView → Change → (ℕ → ResponseView) → Reply
+commits_over ledger change said =
+    commits_as (length ledger) change said (found_in change.token change.writes ledger)
+
+-- the last summary of a result
+abbrev pub close_last : State → List EntryView → Open → Tx → Reply
+close_last State.Streaming ledger left tx =
+    commits_over ledger (change_alone left)
+    (λ n. response_of_summary (Closing (Some n) left.mode))
+close_last _ ledger left tx =
     Summary Verdict.Success (response_of_summary (Closing None left.mode)) no_result tx None
 
 -- the summary of a PULL or DISCARD that leaves these rows
-abbrev pub close : State → ℕ → List (List Tree) → Open → Tx → Reply
-close s len (r ∷ rs) left tx =
+abbrev pub close : State → List EntryView → List (List Tree) → Open → Tx → Reply
+close s ledger (r ∷ rs) left tx =
     Summary Verdict.More (response_of_summary RowsLeft)
-    (record { rows = r ∷ rs; mode = left.mode; write = left.write; written = 0 }) tx None
-close s len [] left tx = close_last s len left tx
+    (record left { rows = r ∷ rs; written = 0 }) tx None
+close s ledger [] left tx = close_last s ledger left tx
 
 -- why a response isn't written
 abbrev pub unwritable : Result (List ℕ) MsgFault → Fault
@@ -119,17 +149,12 @@ if_fits v m reply = if fits v m then reply else fails (unwritable (response_spel
 
 -- a step of a PULL: the next row, or a failure where it can't be written; the summary where no row is left or
 -- the count is used up
-abbrev pub pull : Version → State → ℕ → Count → List (List Tree) → Open → Tx → Reply
-pull v s len n [] left tx = close s len [] left tx
-pull v s len n (r ∷ rs) left tx =
-    if used_up n left.written then close s len (r ∷ rs) left tx
+abbrev pub pull : Version → State → List EntryView → Count → List (List Tree) → Open → Tx → Reply
+pull v s ledger n [] left tx = close s ledger [] left tx
+pull v s ledger n (r ∷ rs) left tx =
+    if used_up n left.written then close s ledger (r ∷ rs) left tx
     else if_fits v (ResponseView.Record r)
-    (OneRow r (record {
-      rows = rs;
-      mode = left.mode;
-      write = left.write;
-      written = suc left.written;
-    }))
+    (OneRow r (record left { rows = rs; written = suc left.written }))
 
 -- the answer to who the client is: this response where the gate lets it in, by the one scheme of this product
 abbrev pub reply_to_login : Setting → AuthView → ResponseView → Reply
@@ -139,7 +164,7 @@ reply_to_login S a m =
 
 -- a transaction with one more write
 abbrev pub with_write : Tx → Option WriteView → Tx
-with_write tx w = record { mode = tx.mode; writes = tx.writes ++ option_to_list w }
+with_write tx w = record tx { writes = tx.writes ++ option_to_list w }
 
 -- a request's mode, as the engine has it
 abbrev pub query_mode : Mode → QueryMode
@@ -161,23 +186,24 @@ abbrev pub rows_fitted : Version → List (List Tree) → List (List Tree)
 rows_fitted v rows = map (map (fitted v)) rows
 
 -- the result that an answer opens
-abbrev pub result_of_answer : Version → State → AnswerView → Open
-result_of_answer v s a =
+abbrev pub result_of_answer : Version → State → Token → AnswerView → Open
+result_of_answer v s token a =
     record {
       rows = rows_fitted v a.rows;
       mode = result_mode a.mode;
       write = if in_transaction s then None else a.write;
       written = 0;
+      token = if in_transaction s then None else token;
     }
 
 -- the reply to a RUN, by what the engine answers
-abbrev pub reply_to_run : Version → State → Tx → Result AnswerView QueryFault → Reply
-reply_to_run v s tx (Err e) = fails (of_query e)
-reply_to_run v s tx (Ok a) =
+abbrev pub reply_to_run : Version → State → Tx → Token → Result AnswerView QueryFault → Reply
+reply_to_run v s tx token (Err e) = fails (of_query e)
+reply_to_run v s tx token (Ok a) =
     if in_transaction s && (is_some a.write && nat_le 1024 (length tx.writes)) then
     fails fault.TooManyWrites
     else if_fits v (fields_said a.fields)
-    (Summary Verdict.Success (fields_said a.fields) (result_of_answer v s a)
+    (Summary Verdict.Success (fields_said a.fields) (result_of_answer v s token a)
     (if in_transaction s then with_write tx a.write else no_tx) None)
 
 -- the reply to a HELLO that logs on, by who the client says it is
@@ -197,19 +223,18 @@ abbrev pub perform : Setting → Version → ℕ → List EntryView → State �
 perform S v c ledger s left tx (RequestView.Hello agent auth) = greets S v c auth
 perform S v c ledger s left tx (RequestView.Logon a) =
     reply_to_login S a (response_of_summary Plain)
-perform S v c ledger s left tx (RequestView.Run query params mode) =
+perform S v c ledger s left tx (RequestView.Run query params mode token) =
     if in_transaction s
-    then reply_to_run v s tx (S.run ledger tx.writes query params (query_mode tx.mode))
-    else reply_to_run v s tx (S.run ledger [] query params (query_mode mode))
-perform S v c ledger s left tx (RequestView.Begin mode) =
+    then reply_to_run v s tx token (S.run ledger tx.writes query params (query_mode tx.mode))
+    else reply_to_run v s tx token (S.run ledger [] query params (query_mode mode))
+perform S v c ledger s left tx (RequestView.Begin mode token) =
     Summary Verdict.Success (response_of_summary Plain) no_result
-    (record { mode = mode; writes = [] }) None
+    (record { mode = mode; writes = []; token = token }) None
 perform S v c ledger s left tx RequestView.Commit =
-    Summary Verdict.Success (response_of_summary (Committed (length ledger + 1))) no_result no_tx
-    (Some tx.writes)
-perform S v c ledger s left tx (RequestView.Pull n) = pull v s (length ledger) n left.rows left tx
+    commits_over ledger (change_inside tx) (λ n. response_of_summary (Committed n))
+perform S v c ledger s left tx (RequestView.Pull n) = pull v s ledger n left.rows left tx
 perform S v c ledger s left tx (RequestView.Discard n) =
-    close s (length ledger) (left_after n left.rows) left tx
+    close s ledger (left_after n left.rows) left tx
 perform S v c ledger s left tx _ = succeeds (response_of_summary Plain)
 
 -- Failed and Interrupted

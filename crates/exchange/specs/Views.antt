@@ -1,9 +1,11 @@
 -- What contracts see of an exchange: what it keeps.
-use Rattle.std.specs.Prelude.{Bool, true, false, List, [], ◌∷◌, map, Option, Some, None}
+use Rattle.std.specs.Prelude.{Bool, true, false, List, [], ◌∷◌, map, Option, Some, None, Result, Ok, Err}
+use Rattle.messages.specs.declared.fault.MsgFault.{MsgFault}
+use Rattle.messages.specs.declared.request.Request.{Request}
 use Rattle.messages.specs.View.{request_view}
 use Rattle.messages.specs.Arrivals.{Arrival, Asked, Unread, TooLong}
 use Rattle.machine.specs.Asks.{kind_of, is_reset}
-use Rattle.engine.specs.Views.{writes_view}
+use Rattle.engine.specs.Views.{token_view, writes_view}
 use Rattle.exchange.specs.declared.exchange.Exchange.{Exchange}
 use Rattle.exchange.specs.declared.exchange.Waiting.{Waiting}
 use Rattle.exchange.specs.declared.exchange.Waiting.TheVariants as waiting
@@ -17,6 +19,11 @@ abbrev pub arrival_of : Waiting → Arrival
 arrival_of (waiting.Asked request) = Asked (request_view request)
 arrival_of (waiting.Unread e) = Unread e
 arrival_of waiting.TooLong = TooLong
+
+-- what was asked, as it arrives
+abbrev pub arrival_told : Result Request MsgFault → Arrival
+arrival_told (Ok request) = Asked (request_view request)
+arrival_told (Err e) = Unread e
 
 -- what waits stands for no request
 abbrev pub is_unread : Waiting → Bool
@@ -46,11 +53,12 @@ open_of r = record {
   mode = r.mode;
   write = first_of (writes_view r.writes.items);
   written = r.written;
+  token = token_view r.token;
 }
 
 -- the open transaction, by what is held of it
 abbrev pub tx_of : Transaction → Tx
-tx_of t = record { mode = t.mode; writes = writes_view t.writes.items }
+tx_of t = record { mode = t.mode; writes = writes_view t.writes.items; token = token_view t.token }
 
 -- what a session keeps, by what is held of it
 abbrev pub kept_of : Exchange → Kept

@@ -1,25 +1,26 @@
 //! What the first request does, decided before anything is changed.
-ghost use Rattle.std.specs.Prelude.{◌≡◌, ℕ, ◌+◌, ◌^◌, ◌<◌, ◌≤◌, if◌then◌else◌, ◌&&◌, is_some, option_map, nat_le, List, length, Ok, Result, IfOk, []};
+ghost use Rattle.std.specs.Prelude.{◌≡◌, ℕ, ◌≤◌, if◌then◌else◌, ◌&&◌, is_some, option_map, nat_le, List, length, Ok, Result, IfOk, []};
 ghost use Rattle.messages.specs.View.{request_view, auth_view, auth_in};
 ghost use Rattle.messages.specs.Summaries.{response_of_summary, IsShort};
 ghost use Rattle.engine.specs.declared.answer.Mode.{Mode as QueryMode};
 ghost use Rattle.engine.specs.Laws.{Runs};
-ghost use Rattle.engine.specs.Views.{WriteView, ParameterView, EntryView, AnswerView, QueryFault, write_view, parameters_view, answer_view};
-ghost use Rattle.exchange.specs.Session.{Open, Tx, Summary as Replies, serve, perform, greets, reply_to_login, close, close_last, left_after, passed_over, pull, reply_to_run, query_mode, fails, in_transaction};
+ghost use Rattle.engine.specs.Views.{WriteView, ParameterView, EntryView, AnswerView, QueryFault, token_view, write_view, parameters_view, answer_view};
+ghost use Rattle.exchange.specs.Session.{Open, Tx, Summary as Replies, serve, perform, greets, reply_to_login, passed_over, reply_to_run, query_mode, fails, in_transaction};
 ghost use Rattle.exchange.specs.Rest.{version_of};
 ghost use Rattle.exchange.specs.Views.{kept_of};
 ghost use Rattle.exchange.specs.Acts.{ActsAs, IsWritable, summary_of, left_result, left_tx, left_entry};
 
 use crate::acts::{Act, Leaves};
+use crate::closing::commit_of;
 use crate::exchange::Exchange;
 use crate::fault::Fault;
-use crate::opening::{fields_text, leaves_open};
+use crate::opening::{copy_token, fields_text, leaves_open};
 use crate::summary::Summary;
-use crate::texts::{Unwritten, summary_text, text_of};
-use crate::words::{count_of, is_halted, is_in_transaction, is_used_up, query_mode};
+use crate::texts::{Unwritten, summary_text};
+use crate::words::{is_halted, is_in_transaction, query_mode};
 use engine::{Answer, Engine, EngineFault, Gate, Write};
-use machine::{State, Verdict, is_goodbye, is_reset, kind, row};
-use messages::{Auth, Count, Mode, Request};
+use machine::{Verdict, is_goodbye, is_reset, kind, row};
+use messages::{Auth, Mode, Request};
 use std::alloc::{AllocError, Global};
 use structures::Cell;
 use wire::Version;
@@ -27,11 +28,8 @@ use wire::Version;
 /// The most writes of a transaction.
 const MAX_WRITES: usize = 1024;
 
-/// The ledger stays shorter than this.
-const MAX_ENTRIES: u64 = 1 << 63;
-
 /// A summary.
-fn says(
+pub(crate) fn says(
     alloc: Global,
     version: Version,
     verdict: Verdict,
@@ -53,7 +51,7 @@ fn says(
 }
 
 /// A failure.
-fn refuses(alloc: Global, version: Version, fault: Fault) -> Result<Act, AllocError>
+pub(crate) fn refuses(alloc: Global, version: Version, fault: Fault) -> Result<Act, AllocError>
     ensures acts { (left : Open) (tx : Tx)
         → IfOk result (λ act. ActsAs version left tx act (fails fault)) }
 {
@@ -64,17 +62,6 @@ fn refuses(alloc: Global, version: Version, fault: Fault) -> Result<Act, AllocEr
         Summary::Failure(fault),
         Leaves::Nothing,
     )
-}
-
-/// The length of the ledger after a commit. A ledger that would be as long as it may not be is refused as want of memory.
-fn next_len<E: Engine>(engine: &E) -> Result<u64, AllocError>
-    ensures { IfOk result (λ n. (n ≡ length (E.entries engine.now) + 1) × (n < 2 ^ 63)) }
-{
-    let len = engine.ledger().len() as u64 + 1;
-    if len >= MAX_ENTRIES {
-        return Err(AllocError);
-    }
-    Ok(len)
 }
 
 impl Exchange {
@@ -130,28 +117,25 @@ impl Exchange {
         match request {
             Request::Hello { auth, .. } => greet(alloc, version, conn, auth, gate),
             Request::Logon(auth) => admit(alloc, version, auth, Summary::Plain, gate),
-            Request::Run { text, params, mode } => self.run(
-                text.as_str(),
-                params.as_slice(),
-                *mode,
-                engine,
-            ),
-            Request::Begin(mode) => says(
+            Request::Run {
+                text,
+                params,
+                mode,
+                token,
+            } => self.run(text.as_str(), params.as_slice(), *mode, token, engine),
+            Request::Begin { mode, token } => says(
                 alloc,
                 version,
                 Verdict::Success,
                 Summary::Plain,
-                Leaves::Begun(*mode),
+                Leaves::Begun(*mode, copy_token(token)?),
             ),
-            Request::Commit => says(
-                alloc,
-                version,
-                Verdict::Success,
-                Summary::Committed(next_len(engine)?),
-                Leaves::CommitsTransaction,
-            ),
-            Request::Pull(count) => self.pull(*count, next_len(engine)?),
-            Request::Discard(count) => self.discard(*count, next_len(engine)?),
+            Request::Commit => {
+                let commit = commit_of(engine, &self.tx.token, &self.tx.writes)?;
+                self.committed(commit)
+            }
+            Request::Pull(count) => self.pull(*count, engine),
+            Request::Discard(count) => self.discard(*count, engine),
             Request::Logoff | Request::Goodbye | Request::Reset | Request::Rollback => says(
                 alloc,
                 version,
@@ -167,37 +151,42 @@ impl Exchange {
         text: &str,
         params: &[(String, Cell)],
         mode: Mode,
+        token: &Option<String>,
         engine: &E,
     ) -> Result<Act, AllocError>
         ensures { let k = kept_of self.now in
             let asked = parameters_view params.now in
             IfOk result (λ act. ActsAs (version_of k) k.result k.tx act (
             if in_transaction k.state
-            then reply_to_run (version_of k) k.state k.tx
+            then reply_to_run (version_of k) k.state k.tx (token_view token.now)
             (E.answer (E.entries engine.now) k.tx.writes text.now asked (query_mode k.tx.mode))
-            else reply_to_run (version_of k) k.state k.tx
+            else reply_to_run (version_of k) k.state k.tx (token_view token.now)
             (E.answer (E.entries engine.now) [] text.now asked (query_mode mode)))) }
     {
         if is_in_transaction(self.state) {
             let own = self.tx.writes.as_slice();
             let answered = engine.run(own, text, params, query_mode(self.tx.mode));
-            return self.ran(answered);
+            return self.ran(answered, token);
         }
         let answered = engine.run(&[], text, params, query_mode(mode));
-        self.ran(answered)
+        self.ran(answered, token)
     }
 
     /// What an engine's answer opens, or the failure of its refusal.
-    fn ran(&self, answered: Result<Answer, EngineFault>) -> Result<Act, AllocError>
+    fn ran(
+        &self,
+        answered: Result<Answer, EngineFault>,
+        token: &Option<String>,
+    ) -> Result<Act, AllocError>
         requires { IfOk answered (λ a. length a.rows.items ≤ 1024) }
         ensures { (defined : Result AnswerView QueryFault) → Runs answered defined
             → let k = kept_of self.now in IfOk result
             (λ act. ActsAs (version_of k) k.result k.tx act
-            (reply_to_run (version_of k) k.state k.tx defined)) }
+            (reply_to_run (version_of k) k.state k.tx (token_view token.now) defined)) }
     {
         let (alloc, version) = (self.alloc, self.version());
         match answered {
-            Ok(answer) => self.open(answer),
+            Ok(answer) => self.open(answer, token),
             Err(EngineFault::UnknownText) => refuses(alloc, version, Fault::UnknownText),
             Err(EngineFault::Parameter) => refuses(alloc, version, Fault::Parameter),
             Err(EngineFault::ReadOnly) => refuses(alloc, version, Fault::ReadOnly),
@@ -206,11 +195,12 @@ impl Exchange {
         }
     }
 
-    fn open(&self, answer: Answer) -> Result<Act, AllocError>
+    fn open(&self, answer: Answer, token: &Option<String>) -> Result<Act, AllocError>
         requires { length answer.rows.items ≤ 1024 }
         ensures { let k = kept_of self.now in IfOk result
             (λ act. ActsAs (version_of k) k.result k.tx act
-            (reply_to_run (version_of k) k.state k.tx (Ok (answer_view answer)))) }
+            (reply_to_run (version_of k) k.state k.tx (token_view token.now)
+            (Ok (answer_view answer)))) }
     {
         let (alloc, version) = (self.alloc, self.version());
         if self.has_too_many(&answer.write) {
@@ -224,7 +214,7 @@ impl Exchange {
         } = answer;
         match fields_text(alloc, version, fields) {
             Ok(body) => {
-                let leaves = leaves_open(alloc, version, self.state, rows, mode, write)?;
+                let leaves = leaves_open(alloc, version, self.state, rows, mode, write, token)?;
                 Ok(Act::Says {
                     verdict: Verdict::Success,
                     body,
@@ -245,84 +235,6 @@ impl Exchange {
             && nat_le 1024 (length k.tx.writes))) }
     {
         is_in_transaction(self.state) && write.is_some() && self.tx.writes.len() >= MAX_WRITES
-    }
-
-    /// The next row, or a summary where the count or the rows are used up. `next` is the ledger's length after a commit.
-    fn pull(&self, count: Count, next: u64) -> Result<Act, AllocError>
-        requires { next < 2 ^ 63 }
-        ensures { (len : ℕ) → next ≡ len + 1
-            → let k = kept_of self.now in IfOk result
-            (λ act. ActsAs (version_of k) k.result k.tx act
-            (pull (version_of k) k.state len count k.result.rows k.result k.tx)) }
-    {
-        let (alloc, version) = (self.alloc, self.version());
-        match self.result.rows.front() {
-            None => self.last(next),
-            Some(row) => {
-                if is_used_up(count, self.result.written) {
-                    return says(
-                        alloc,
-                        version,
-                        Verdict::More,
-                        Summary::RowsLeft,
-                        Leaves::Rest(0),
-                    );
-                }
-                match text_of(alloc, version, row.record()) {
-                    Ok(body) => Ok(Act::Sends(body)),
-                    Err(Unwritten::Memory) => Err(AllocError),
-                    Err(Unwritten::Because(fault)) => refuses(alloc, version, fault),
-                }
-            }
-        }
-    }
-
-    /// Drops as many rows as the count takes.
-    fn discard(&self, count: Count, next: u64) -> Result<Act, AllocError>
-        requires { next < 2 ^ 63 }
-        ensures { (len : ℕ) → next ≡ len + 1
-            → let k = kept_of self.now in IfOk result
-            (λ act. ActsAs (version_of k) k.result k.tx act
-            (close k.state len (left_after count k.result.rows) k.result k.tx)) }
-    {
-        let dropped = count_of(count, self.result.rows.len());
-        if dropped < self.result.rows.len() {
-            return says(
-                self.alloc,
-                self.version(),
-                Verdict::More,
-                Summary::RowsLeft,
-                Leaves::Rest(dropped),
-            );
-        }
-        self.last(next)
-    }
-
-    /// The last summary of a result, which commits outside a transaction.
-    fn last(&self, next: u64) -> Result<Act, AllocError>
-        requires { next < 2 ^ 63 }
-        ensures { (len : ℕ) → next ≡ len + 1
-            → let k = kept_of self.now in IfOk result
-            (λ act. ActsAs (version_of k) k.result k.tx act
-            (close_last k.state len k.result k.tx)) }
-    {
-        let (alloc, version, mode) = (self.alloc, self.version(), self.result.mode);
-        match self.state {
-            State::Streaming => says(
-                alloc,
-                version,
-                Verdict::Success,
-                Summary::Closing(Some(next), mode),
-                Leaves::CommitsResult,
-            ),
-            _ => says(
-                alloc,
-                version,
-                Verdict::Success,
-                Summary::Closing(None, mode),
-                Leaves::Transaction,
-            ),
-        }
     }
 }
 

@@ -87,14 +87,11 @@ impl Waiting {
 }
 
 impl Exchange {
-    ghost use Rattle.std.specs.Prelude.{◌≡◌, ◌<◌, ℕ, List, Some, None, true, false, length, IfOk, OnErr};
-    ghost use Rattle.messages.specs.View.{request_view};
-    ghost use Rattle.messages.specs.Reading.{Answers};
-    ghost use Rattle.messages.specs.Messages.{request_of as request_by};
+    ghost use Rattle.std.specs.Prelude.{◌≡◌, ◌<◌, Some, None, Err, true, false, length, IsErr, IfOk, OnErr};
     ghost use Rattle.messages.specs.Arrivals.{arrival_of_offer, TooLong};
     ghost use Rattle.exchange.specs.Session.{no_result, no_tx};
-    ghost use Rattle.exchange.specs.Rest.{begun, shut, full, ends, arrival_by, version_of, taken_out, take_kept, puts_noop, noop_kept, after_strike, Receives};
-    ghost use Rattle.exchange.specs.Views.{kept_of};
+    ghost use Rattle.exchange.specs.Rest.{begun, shut, full, ends, version_of, taken_out, take_kept, puts_noop, noop_kept, after_strike, Receives};
+    ghost use Rattle.exchange.specs.Views.{kept_of, arrival_told};
 
     /// Before the first byte. Room is made for the 32 places; `Err` is want of memory.
     pub fn new(alloc: Global) -> Result<Exchange, AllocError>
@@ -127,12 +124,14 @@ impl Exchange {
         self.queue.len() >= MAX_WAITING || self.first + self.queue.len() as u64 >= MAX_ORDINALS
     }
 
-    /// Takes out as many bytes as the smaller of `max` and what waits to go, in order. An `Err` is want of memory, and changes nothing.
+    /// Takes out as many bytes as the smaller of `max` and what waits to go, in order; where that is none, without memory. An `Err` is
+    /// want of memory, and changes nothing.
     pub fn take_out(&mut self, max: usize) -> Result<Bytes, AllocError>
         ensures ok { IfOk result
             (λ b. (b ≡ taken_out max (kept_of self.old))
             × (kept_of self.new ≡ take_kept max (kept_of self.old))) }
         ensures err { OnErr result (kept_of self.new ≡ kept_of self.old) }
+        ensures memory { OnErr result (0 < length (taken_out max (kept_of self.old))) }
     {
         let count = max.min(self.out.len());
         self.out.freeze_to(count)
@@ -175,13 +174,13 @@ impl Exchange {
     }
 
     /// Takes what was asked, by a message at its version: a request takes a place, and a RESET strikes; what stands for no request takes a
-    /// place too. Want of memory in `asked` is handed on as an `Err`, and changes nothing.
+    /// place too. Want of memory in `asked`, and no other, is handed on as an `Err`, and changes nothing. It takes no memory.
     pub fn receive(&mut self, asked: Result<Request, MsgFault>) -> Result<What, AllocError>
         requires { full (kept_of self.old) ≡ false }
-        ensures ok { (b : List ℕ)
-            → Answers request_view asked (request_by (version_of (kept_of self.old)) b)
-            → IfOk result (λ what. Receives what (kept_of self.old) (kept_of self.new)
-            (arrival_by (request_by (version_of (kept_of self.old)) b))) }
+        ensures taken { IfOk result
+            (λ what. Receives what (kept_of self.old) (kept_of self.new) (arrival_told asked)) }
+        ensures wants { asked ≡ Err MsgFault.Memory → IsErr result }
+        ensures memory { OnErr result (asked ≡ Err MsgFault.Memory) }
         ensures err { OnErr result (kept_of self.new ≡ kept_of self.old) }
     {
         self.take_asked(asked)
@@ -191,10 +190,10 @@ impl Exchange {
     fn take_asked(&mut self, asked: Result<Request, MsgFault>) -> Result<What, AllocError>
         requires place { length self.old.queue.items < 32 }
         requires ordinal { self.old.first + length self.old.queue.items < 2 ^ 63 }
-        ensures ok { (b : List ℕ)
-            → Answers request_view asked (request_by (version_of (kept_of self.old)) b)
-            → IfOk result (λ what. Receives what (kept_of self.old) (kept_of self.new)
-            (arrival_by (request_by (version_of (kept_of self.old)) b))) }
+        ensures taken { IfOk result
+            (λ what. Receives what (kept_of self.old) (kept_of self.new) (arrival_told asked)) }
+        ensures wants { asked ≡ Err MsgFault.Memory → IsErr result }
+        ensures memory { OnErr result (asked ≡ Err MsgFault.Memory) }
         ensures err { OnErr result (kept_of self.new ≡ kept_of self.old) }
     {
         match asked {

@@ -13,6 +13,8 @@ pub enum Fault {
     TooManyRows,
     /// The transaction would have more than 1,024 writes.
     TooManyWrites,
+    /// Other writes were committed under the transaction's token.
+    TokenClash,
     /// A row, or the SUCCESS of a RUN, that has no form at the version.
     NotInVersion,
     /// A row, or the SUCCESS of a RUN, past 65,536 bytes.
@@ -36,6 +38,7 @@ impl Fault {
             Fault::ReadOnly => "Neo.ClientError.Statement.ReadOnly",
             Fault::TooManyRows => "Neo.ClientError.Statement.TooManyRows",
             Fault::TooManyWrites => "Neo.ClientError.Transaction.TooManyWrites",
+            Fault::TokenClash => "Neo.ClientError.Transaction.TokenClash",
             Fault::NotInVersion => "Neo.ClientError.Statement.NotInVersion",
             Fault::RowTooLarge => "Neo.ClientError.Statement.RowTooLarge",
             Fault::Unauthorized => "Neo.ClientError.Security.Unauthorized",
@@ -52,6 +55,7 @@ impl Fault {
             Fault::ReadOnly => "write in read mode",
             Fault::TooManyRows => "more than 1024 rows",
             Fault::TooManyWrites => "more than 1024 writes",
+            Fault::TokenClash => "token used with other writes",
             Fault::NotInVersion => "value not in this version",
             Fault::RowTooLarge => "row past 65536 bytes",
             Fault::Unauthorized => "authentication refused",

@@ -1,20 +1,21 @@
 //! What is open after a summary, and the commit of it.
 ghost use Rattle.std.specs.Prelude.{◌≡◌, ◌+◌, ◌^◌, ◌<◌, ◌≤◌, ◌++◌, length, drop, Some, option_map, option_to_list, IfOk, OnOk, OnErr};
-ghost use Rattle.engine.specs.Views.{write_view, writes_view};
-ghost use Rattle.exchange.specs.Session.{no_result};
+ghost use Rattle.engine.specs.Tokens.{Free, found_in};
+ghost use Rattle.engine.specs.Views.{token_view, write_view, writes_view};
+ghost use Rattle.exchange.specs.Session.{no_result, change_alone};
 ghost use Rattle.exchange.specs.Rest.{commit_entries};
 ghost use Rattle.exchange.specs.Views.{open_of, tx_of};
-ghost use Rattle.exchange.specs.Acts.{left_result, left_tx, left_entry, length_after, IsBelow};
+ghost use Rattle.exchange.specs.Acts.{left_result, left_tx, left_entry, length_after, change_of, IsBelow, IsFree};
 
 use crate::acts::Leaves;
 use crate::result::{OpenResult, Row, Transaction};
-use engine::{Engine, EntryId, NoMemory, Write};
+use engine::{Commit, Engine, EntryId, NoMemory, Write};
 use std::alloc::{AllocError, Global};
 use std::collections::VecDeque;
 use std::mem;
 
-/// Leaves open what is to be left, and commits what is to be committed: the ledger's length where it did. An `Err`
-/// changes nothing.
+/// Leaves open what is to be left, and commits what is to be committed, of which the ledger has nothing: the ledger's length where
+/// it did. An `Err` changes nothing.
 pub(crate) fn leave<E: Engine>(
     alloc: Global,
     open: &mut OpenResult,
@@ -23,6 +24,8 @@ pub(crate) fn leave<E: Engine>(
     id: EntryId,
     engine: &mut E,
 ) -> Result<Option<u64>, AllocError>
+    requires { IsFree (E.entries engine.old)
+        (left_entry leaves (open_of open.old) (tx_of tx.old)) }
     ensures open { OnOk result (open_of open.new ≡ left_result leaves (open_of open.old)) }
     ensures tx { OnOk result (tx_of tx.new ≡ left_tx leaves (tx_of tx.old)) }
     ensures ledger { OnOk result
@@ -43,9 +46,9 @@ pub(crate) fn leave<E: Engine>(
             *tx = Transaction::none(alloc);
             Ok(None)
         }
-        Leaves::Begun(mode) => {
+        Leaves::Begun(mode, token) => {
             *open = OpenResult::closed(alloc);
-            *tx = Transaction::begun(alloc, mode);
+            *tx = Transaction::begun(alloc, mode, token);
             Ok(None)
         }
         Leaves::Opened(next) => {
@@ -72,7 +75,7 @@ pub(crate) fn leave<E: Engine>(
             Ok(Some(len))
         }
         Leaves::CommitsTransaction => {
-            let len = commit_writes(alloc, &mut tx.writes, id, engine)?;
+            let len = commit_writes(alloc, &mut tx.writes, &mut tx.token, id, engine)?;
             *open = OpenResult::closed(alloc);
             *tx = Transaction::none(alloc);
             Ok(Some(len))
@@ -113,49 +116,62 @@ fn drop_front(rows: &mut VecDeque<Row>, count: usize)
     }
 }
 
-/// Commits the write of an open result, or none, and closes it.
+/// Commits the write of an open result, or none, under its token, and closes it.
 fn commit_result<E: Engine>(
     alloc: Global,
     open: &mut OpenResult,
     id: EntryId,
     engine: &mut E,
 ) -> Result<u64, AllocError>
+    requires { IsFree (E.entries engine.old) (Some (change_alone (open_of open.old))) }
     ensures open { OnOk result (open_of open.new ≡ no_result) }
     ensures ledger { OnOk result
         (E.entries engine.new ≡ E.entries engine.old
-        ++ commit_entries id.conn id.ordinal (Some (option_to_list (open_of open.old).write))) }
+        ++ commit_entries id.conn id.ordinal (Some (change_alone (open_of open.old)))) }
     ensures len { IfOk result (λ n. n ≡ length (E.entries engine.old) + 1) }
     ensures below { IfOk result (λ n. n < 2 ^ 63) }
     ensures err { OnErr result
         ((open_of open.new ≡ open_of open.old)
         × (E.entries engine.new ≡ E.entries engine.old)) }
 {
-    let len = commit_writes(alloc, &mut open.writes, id, engine)?;
+    let len = commit_writes(alloc, &mut open.writes, &mut open.token, id, engine)?;
     *open = OpenResult::closed(alloc);
     Ok(len)
 }
 
-/// Commits writes. An `Err` leaves them.
+/// Commits writes under a token, of which the ledger has nothing. An `Err` leaves both.
 fn commit_writes<E: Engine>(
     alloc: Global,
     writes: &mut Vec<Write>,
+    token: &mut Option<String>,
     id: EntryId,
     engine: &mut E,
 ) -> Result<u64, AllocError>
+    requires { found_in (token_view token.old) (writes_view writes.old.items)
+        (E.entries engine.old) ≡ Free }
     ensures ledger { OnOk result
         (E.entries engine.new ≡ E.entries engine.old
-        ++ commit_entries id.conn id.ordinal (Some (writes_view writes.old.items))) }
+        ++ commit_entries id.conn id.ordinal
+        (Some (change_of (writes_view writes.old.items) (token_view token.old)))) }
     ensures len { IfOk result (λ n. n ≡ length (E.entries engine.old) + 1) }
     ensures below { IfOk result (λ n. n < 2 ^ 63) }
     ensures err { OnErr result
         ((writes_view writes.new.items ≡ writes_view writes.old.items)
+        × (token_view token.new ≡ token_view token.old)
         × (E.entries engine.new ≡ E.entries engine.old)) }
     ensures few { length writes.new.items ≤ length writes.old.items }
 {
     let taken = mem::replace(writes, Vec::new(alloc));
-    match engine.commit(id, taken) {
-        Ok(len) => Ok(len),
-        Err(NoMemory { writes: returned }) => {
+    match engine.commit(id, token.take(), taken) {
+        Ok(Commit::Added(len)) => Ok(len),
+        Ok(Commit::Repeat(_) | Commit::Clash) => unreachable!(),
+        Err(
+            NoMemory {
+                token: held,
+                writes: returned,
+            },
+        ) => {
+            *token = held;
             *writes = returned;
             Err(AllocError)
         }

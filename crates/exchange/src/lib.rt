@@ -3,10 +3,12 @@
 #![tactic(auto)]
 
 mod acts;
+mod closing;
 mod deciding;
 mod exchange;
 mod fault;
 mod kinds;
+pub mod laws;
 mod leaving;
 mod opening;
 mod performing;

@@ -3,7 +3,7 @@ ghost use Rattle.std.specs.Prelude.{◌≡◌, ◌≤◌, true, false, length, m
 ghost use Rattle.messages.specs.View.{response_view};
 ghost use Rattle.cells.specs.Shape.{shapes};
 ghost use Rattle.packstream.specs.Tree.{text};
-ghost use Rattle.engine.specs.Views.{rows_view, write_view, writes_view};
+ghost use Rattle.engine.specs.Views.{Token, rows_view, token_view, write_view, writes_view};
 ghost use Rattle.machine.specs.declared.states.State.{State as AnyState};
 ghost use Rattle.exchange.specs.Session.{fields_said, rows_fitted, in_transaction};
 ghost use Rattle.exchange.specs.Views.{first_of};
@@ -62,7 +62,8 @@ fn texts(alloc: Global, names: Vec<String>) -> Result<Vec<Cell>, AllocError>
     Ok(cells)
 }
 
-/// What an answer leaves open: its result, and in a transaction its write among the transaction's.
+/// What an answer leaves open: its result, and in a transaction its write among the transaction's. The token is that of its RUN: in a
+/// transaction it is ignored.
 pub(crate) fn leaves_open(
     alloc: Global,
     version: Version,
@@ -70,14 +71,16 @@ pub(crate) fn leaves_open(
     rows: Vec<Vec<Cell>>,
     mode: QueryMode,
     write: Option<Write>,
+    token: &Option<String>,
 ) -> Result<Leaves, AllocError>
     requires { length rows.items ≤ 1024 }
-    ensures { IfOk result (LeavesOpen version state rows.items mode write) }
+    ensures { IfOk result
+        (LeavesOpen version state rows.items mode write (token_view token.now)) }
 {
     if is_in_transaction(state) {
         return joined(alloc, version, rows, mode, write);
     }
-    opened(alloc, version, rows, mode, write)
+    opened(alloc, version, rows, mode, write, token)
 }
 
 /// A result outside a transaction.
@@ -87,21 +90,24 @@ fn opened(
     rows: Vec<Vec<Cell>>,
     mode: QueryMode,
     write: Option<Write>,
+    token: &Option<String>,
 ) -> Result<Leaves, AllocError>
     requires { length rows.items ≤ 1024 }
     ensures { (state : AnyState) → in_transaction state ≡ false
-        → IfOk result (LeavesOpen version state rows.items mode write) }
+        → IfOk result (LeavesOpen version state rows.items mode write (token_view token.now)) }
 {
     let writes = writes_of(alloc, write)?;
+    let token = copy_token(token)?;
     Ok(Leaves::Opened(OpenResult {
         rows: fitted_rows(alloc, version, rows)?,
         mode: result_mode(mode),
         writes,
+        token,
         written: 0,
     }))
 }
 
-/// A result in the transaction.
+/// A result in the transaction, for any token of its RUN.
 fn joined(
     alloc: Global,
     version: Version,
@@ -110,16 +116,27 @@ fn joined(
     write: Option<Write>,
 ) -> Result<Leaves, AllocError>
     requires { length rows.items ≤ 1024 }
-    ensures { (state : AnyState) → in_transaction state ≡ true
-        → IfOk result (LeavesOpen version state rows.items mode write) }
+    ensures { (state : AnyState) (token : Token) → in_transaction state ≡ true
+        → IfOk result (LeavesOpen version state rows.items mode write token) }
 {
     let result = OpenResult {
         rows: fitted_rows(alloc, version, rows)?,
         mode: result_mode(mode),
         writes: Vec::new(alloc),
+        token: None,
         written: 0,
     };
     Ok(Leaves::Joined(result, write))
+}
+
+/// A copy of a token, where there is one.
+pub(crate) fn copy_token(token: &Option<String>) -> Result<Option<String>, AllocError>
+    ensures { IfOk result (λ t. token_view t ≡ token_view token.now) }
+{
+    match token {
+        None => Ok(None),
+        Some(token) => Ok(Some(token.clone()?)),
+    }
 }
 
 fn writes_of(alloc: Global, write: Option<Write>) -> Result<Vec<Write>, AllocError>

@@ -9,7 +9,7 @@ ghost use Rattle.messages.specs.Summaries.{response_of_summary, IsShort};
 ghost use Rattle.exchange.specs.Session.{Reply, Summary as Replies, no_result, no_tx};
 ghost use Rattle.exchange.specs.Rest.{version_of, cause_of, replies, reset_among, after_strike, turns, work_kept, commit_entries, IsCounted, MayStep};
 ghost use Rattle.exchange.specs.Views.{kept_of};
-ghost use Rattle.exchange.specs.Acts.{ActsAs, IsSized, IsWritable, Steps, served_struck, summary_of, length_after, left_result, left_tx, left_entry, after_bytes, after_summary, turn_in};
+ghost use Rattle.exchange.specs.Acts.{ActsAs, AddsFree, IsFree, IsSized, IsWritable, Steps, served_struck, summary_of, length_after, left_result, left_tx, left_entry, after_bytes, after_summary, turn_in};
 
 use crate::acts::{Act, Leaves, Turn};
 use crate::exchange::{Exchange, MAX_OUT};
@@ -103,6 +103,8 @@ impl Exchange {
     ) -> Result<Worked, AllocError>
         requires some { 0 < length self.old.queue.items }
         requires writable { IsWritable self.old.result.rows.items act }
+        requires free { let k = kept_of self.old in
+            AddsFree (E.entries engine.old) k.result k.tx act }
         ensures ok { let k = kept_of self.old in
             (q : RequestView) (later : List Arrival) (reply : Reply) → k.waiting ≡ Asked q ∷ later
             → kind ≡ kind_of q → ActsAs (version_of k) k.result k.tx act reply
@@ -156,6 +158,8 @@ impl Exchange {
     ) -> Result<Worked, AllocError>
         requires some { 0 < length self.old.queue.items }
         requires fits { IsSized body.now }
+        requires free { let k = kept_of self.old in
+            IsFree (E.entries engine.old) (left_entry leaves k.result k.tx) }
         ensures told { let k = kept_of self.old in
             let next = unwrap_or (row_at (version_of k) worked_in kind verdict) State.Defunct in
             IfOk result (λ w. w ≡ Worked.Wrote k.first kind next

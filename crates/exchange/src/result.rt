@@ -33,22 +33,25 @@ impl Model for Row {
     ghost invariant = { λ r. is_record r.record ≡ true };
 }
 
-/// The open result: its rows left, its mode, the write that its last summary commits, or none, and how many rows were
-/// written for the PULL that waits. In a transaction the write is among the transaction's.
+/// The open result: its rows left, its mode, the write that its last summary commits, or none, the token of its RUN, and how many
+/// rows were written for the PULL that waits. In a transaction the write is among the transaction's, and the token is the
+/// transaction's.
 #[derive(Drop)]
 pub(crate) struct OpenResult {
     pub rows: VecDeque<Row>,
     pub mode: Mode,
     pub writes: Vec<Write>,
+    pub token: Option<String>,
     pub written: usize,
     ghost few: { written + length rows.items ≤ 1024 },
     ghost one: { length writes.items ≤ 1 },
 }
 
-/// The open transaction: the mode of its BEGIN, and its writes.
+/// The open transaction: the mode and the token of its BEGIN, and its writes.
 #[derive(Drop)]
 pub(crate) struct Transaction {
     pub mode: Mode,
+    pub token: Option<String>,
     pub writes: Vec<Write>,
 }
 
@@ -100,6 +103,7 @@ impl OpenResult {
             rows: VecDeque::new(alloc),
             mode: Mode::Read,
             writes: Vec::new(alloc),
+            token: None,
             written: 0,
         }
     }
@@ -116,6 +120,7 @@ impl OpenResult {
 
 impl Transaction {
     ghost use Rattle.std.specs.Prelude.{◌≡◌, []};
+    ghost use Rattle.engine.specs.Views.{token_view};
     ghost use Rattle.exchange.specs.Session.{no_tx};
     ghost use Rattle.exchange.specs.Views.{tx_of};
 
@@ -125,16 +130,19 @@ impl Transaction {
     {
         Transaction {
             mode: Mode::Write,
+            token: None,
             writes: Vec::new(alloc),
         }
     }
 
-    /// One of a mode, without writes.
-    pub(crate) fn begun(alloc: Global, mode: Mode) -> Transaction
-        ensures { tx_of result ≡ record { mode = mode; writes = [] } }
+    /// One of a mode and with a token, without writes.
+    pub(crate) fn begun(alloc: Global, mode: Mode, token: Option<String>) -> Transaction
+        ensures { tx_of result
+            ≡ record { mode = mode; writes = []; token = token_view token } }
     {
         Transaction {
             mode,
+            token,
             writes: Vec::new(alloc),
         }
     }

@@ -16,9 +16,10 @@ pub(crate) enum Summary {
     Greeting(u64),
     /// Of a PULL or DISCARD after which rows are left.
     RowsLeft,
-    /// Of the last PULL or DISCARD of a result, with the length of the ledger where it commits, and the result's mode.
+    /// Of the last PULL or DISCARD of a result, with the place of its entry in the ledger, from 1, where it commits, and the result's
+    /// mode.
     Closing(Option<u64>, Mode),
-    /// Of a COMMIT, with the length of the ledger.
+    /// Of a COMMIT, with the place of its entry.
     Committed(u64),
     /// Of a request that has nothing to tell.
     Plain,
@@ -36,8 +37,8 @@ impl Summary {
         match self {
             Summary::Greeting(conn) => greeting(alloc, conn),
             Summary::RowsLeft => rows_left(alloc),
-            Summary::Closing(len, mode) => closing(alloc, len, mode),
-            Summary::Committed(len) => committed(alloc, len),
+            Summary::Closing(place, mode) => closing(alloc, place, mode),
+            Summary::Committed(place) => committed(alloc, place),
             Summary::Plain => Ok(Response::Success(Vec::new(alloc))),
             Summary::Failure(fault) => failure(alloc, fault),
             Summary::Passed => Ok(Response::Ignored),
@@ -65,12 +66,12 @@ fn rows_left(alloc: Global) -> Result<Response, AllocError>
     Ok(Response::Success(metadata))
 }
 
-fn closing(alloc: Global, len: Option<u64>, mode: Mode) -> Result<Response, AllocError>
-    ensures { IfOk result (λ r. response_view r ≡ Success (bookmark_of len ++ ending mode)) }
+fn closing(alloc: Global, place: Option<u64>, mode: Mode) -> Result<Response, AllocError>
+    ensures { IfOk result (λ r. response_view r ≡ Success (bookmark_of place ++ ending mode)) }
 {
     let mut metadata = Vec::with_capacity(alloc, 3)?;
-    if let Some(len) = len {
-        put_bookmark(&mut metadata, len)?;
+    if let Some(place) = place {
+        put_bookmark(&mut metadata, place)?;
     }
     let word = match mode {
         Mode::Read => "r",
@@ -85,11 +86,11 @@ fn closing(alloc: Global, len: Option<u64>, mode: Mode) -> Result<Response, Allo
     Ok(Response::Success(metadata))
 }
 
-fn committed(alloc: Global, len: u64) -> Result<Response, AllocError>
-    ensures { IfOk result (λ r. response_view r ≡ Success (bookmark len)) }
+fn committed(alloc: Global, place: u64) -> Result<Response, AllocError>
+    ensures { IfOk result (λ r. response_view r ≡ Success (bookmark place)) }
 {
     let mut metadata = Vec::with_capacity(alloc, 1)?;
-    put_bookmark(&mut metadata, len)?;
+    put_bookmark(&mut metadata, place)?;
     Ok(Response::Success(metadata))
 }
 
@@ -103,12 +104,12 @@ fn failure(alloc: Global, fault: Fault) -> Result<Response, AllocError>
     })
 }
 
-/// The bookmark of a ledger of this length.
-fn put_bookmark(metadata: &mut Entries, len: u64) -> Result<(), AllocError>
+/// The bookmark of the entry at this place.
+fn put_bookmark(metadata: &mut Entries, place: u64) -> Result<(), AllocError>
     ensures { OnOk result (entries metadata.new.items
-        ≡ entries metadata.old.items ++ bookmark len) }
+        ≡ entries metadata.old.items ++ bookmark place) }
 {
-    let text = format!(in *metadata.allocator(); "bk:{len}")?;
+    let text = format!(in *metadata.allocator(); "bk:{place}")?;
     put(metadata, "bookmark", Cell::Text(text))
 }
 

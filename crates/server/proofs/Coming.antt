@@ -1,5 +1,5 @@
 -- How a scan of a piece goes on, and where it stops.
-use Rattle.std.proofs.Common.{◌≡◌, refl, sym, ◌∙◌, ap, subst, ℕ, zero, suc, ◌+◌, ◌-◌, ◌*◌, ◌<◌, ◌≤◌, Bool, true, false, cond, eqb, ltb, ◌⊎◌, inl, inr, List, [], ◌∷◌, length, drop, take, Option, Some, None, Result, Ok, Err, arith, length-drop}
+use Rattle.std.proofs.Common.{◌≡◌, refl, sym, ◌∙◌, ap, subst, ℕ, zero, suc, ◌+◌, ◌-◌, ◌*◌, ◌<◌, ◌≤◌, Bool, true, false, cond, eqb, ltb, ◌⊎◌, inl, inr, List, [], ◌∷◌, length, drop, take, Option, Some, None, Result, Ok, Err, arith, length-append, length-drop}
 use Rattle.std.specs.Prelude.{min}
 use Rattle.std.proofs.lemmas.List.{drop-drop, take_all, drop_all}
 use Rattle.wire.specs.declared.parts.Cut.{Cut}
@@ -12,7 +12,7 @@ use Rattle.wire.specs.declared.faults.WireFault.TheVariants.{TooBig}
 use Rattle.wire.specs.Place.{Place, start}
 use Rattle.wire.specs.Parts.{Bite, bite, inside, past, on_length, on_header, on_data, cut_at}
 use Rattle.wire.specs.Unfinished.{Unfinished, fresh, unfinished_at}
-use Rattle.wire.specs.Items.{answer_from, answer_to, further, item_of}
+use Rattle.wire.specs.Items.{answer_from, answer_to, further, item_of, wants_room}
 use Rattle.wire.specs.Reader.{Took, takes}
 use Rattle.wire.specs.Framing.{Item, Noop, Message, Opened, at_server, reading, took_by, item_in}
 use Rattle.wire.specs.Scanning.{Taken, After, with_data}
@@ -21,6 +21,7 @@ use Rattle.reader.specs.Piecewise.{Point, Reads}
 use Rattle.server.specs.declared.incoming.Stream.{Stream}
 use Rattle.server.specs.Incoming.{IsAt, Scans, Comes, item_ended, rest_ended}
 use Rattle.server.proofs.Readings.{lifted, takes_fed, fed_big}
+use Rattle.server.proofs.Room.{comes_end}
 
 -- before the first byte of the piece
 pub comes_none : (s : Stream) (u : Unfinished) (piece : List ℕ) → IsAt s u → s.is_over ≡ false → Comes u piece 0 s.chunks s.reader.here
@@ -30,13 +31,14 @@ comes_none s u piece at going =
     record {
       within = omega arith;
       body = u.body;
+      longer = omega arith;
       reads = at.reads;
       holds = p.1;
       going = sym (ap (λ (v : Unfinished). v.too_big) p.0) ∙ small;
       ahead = ap (λ v. answer_from v piece) p.0 ∙ sym (further-zero _);
     }
 
-from_here : (u : Unfinished) (piece : List ℕ) → u.too_big ≡ false → answer_to u piece ≡ answer_from u piece
+pub from_here : (u : Unfinished) (piece : List ℕ) → u.too_big ≡ false → answer_to u piece ≡ answer_from u piece
 from_here u piece small = rw small refl
 
 -- what is taken, where this is answered
@@ -61,7 +63,7 @@ comes_all u piece used s small h all =
     let rest : Unfinished = unfinished_at s.chunks h.body in
     let e : answer_from u piece ≡ record { answer = Ok (record { used = used + 0; what = Nothing }); rest = rest } = h.ahead ∙ ap (λ b. further used (answer_from rest b)) none in
     let same : used + 0 ≡ used = omega arith in
-    record { body = h.body; reads = h.reads; after = (h.holds, h.going); refuses = λ e. cc; takes = taken_as u rest piece (Ok (record { used = used + 0; what = Nothing })) small e ∙ ap (λ n. as_taken n None rest) same }
+    record { body = h.body; reads = h.reads; after = (h.holds, h.going); refuses = λ e. cc; wants = λ e. cc; takes = taken_as u rest piece (Ok (record { used = used + 0; what = Nothing })) small e ∙ ap (λ n. as_taken n None rest) same }
 
 -- ---- a part of a piece uses some bytes, wherever it stands
 
@@ -101,6 +103,13 @@ part_used p (b ∷ bs) some w =
 pub cut_used : (p : Place) (piece : List ℕ) (c : Cut) → c ≡ (cut_at p piece).cut → 0 < length piece → (c.what ≡ part.Head) ⊎ (c.what ≡ part.Data) → 0 < c.used
 cut_used p piece c e some w = subst (λ (k : Cut). (k.what ≡ part.Head) ⊎ (k.what ≡ part.Data) → 0 < k.used) (sym e) (part_used p piece some) w
 
+data_longer : (what : Part) (n : ℕ) (piece body : List ℕ) → length body ≤ length (with_data what n piece body)
+data_longer part.Head n piece body = omega arith
+data_longer part.Data n piece body = omega (arith, length-append body (take n piece))
+data_longer part.Noop n piece body = omega arith
+data_longer part.End n piece body = omega arith
+data_longer part.TooBig n piece body = omega arith
+
 pub neither : (what : Part) → (what ≡ part.Head → ⊥) → (what ≡ part.Data → ⊥) → (what ≡ part.Head) ⊎ (what ≡ part.Data) → ⊥
 neither what h d (inl e) = h e
 neither what h d (inr e) = d e
@@ -134,6 +143,7 @@ module _ (u : Unfinished) (bytes : List ℕ) (used : ℕ) (place new : Place) (h
   goes part.Head w t a = record {
     within = omega (arith, length-drop used bytes, t.within);
     body = body;
+    longer = omega (arith, h.longer, data_longer c.what c.used (drop used bytes) h.body);
     reads = reads;
     holds = a.0;
     going = a.1;
@@ -142,6 +152,7 @@ module _ (u : Unfinished) (bytes : List ℕ) (used : ℕ) (place new : Place) (h
   goes part.Data w t a = record {
     within = omega (arith, length-drop used bytes, t.within);
     body = body;
+    longer = omega (arith, h.longer, data_longer c.what c.used (drop used bytes) h.body);
     reads = reads;
     holds = a.0;
     going = a.1;
@@ -175,6 +186,13 @@ module _ (u : Unfinished) (bytes : List ℕ) (used : ℕ) (place new : Place) (h
   refused part.End t e = cc
   refused part.TooBig t e = fed_big u (unfinished_at new body) bytes (Err (TooBig (used + c.used))) (from_here u bytes small ∙ h.ahead ∙ ap (further used) t)
 
+  wanted : (what : Part) → Taken (unfinished_at place h.body) (drop used bytes) c.used what (unfinished_at new body) → After what new body → what ≡ part.End → wants_room (length u.body) (answer_from u bytes) ≡ true
+  wanted part.Head t a e = absurd cc
+  wanted part.Data t a e = absurd cc
+  wanted part.Noop t a e = absurd cc
+  wanted part.End t a e = comes_end u bytes used c.used body _ h.ahead t.0 a.1
+  wanted part.TooBig t a e = absurd cc
+
   -- where it does
   pub comes_to : (s : Stream) → s.chunks ≡ new → s.reader.here ≡ there → ((c.what ≡ part.Head) ⊎ (c.what ≡ part.Data) → ⊥) → Scans u bytes (record { used = used + c.used; what = c.what }) s
   comes_to s at_new at_there never = record {
@@ -182,5 +200,6 @@ module _ (u : Unfinished) (bytes : List ℕ) (used : ℕ) (place new : Place) (h
     reads = rw at_there reads;
     after = rw at_new part_after;
     refuses = λ e. rw at_new (refused c.what part_took e);
+    wants = λ e. wanted c.what part_took part_after e;
     takes = rw at_new (ends c.what never part_took part_after);
   }

@@ -19,9 +19,8 @@ use Rattle.server.specs.declared.incoming.Stream.{Stream}
 use Rattle.server.specs.declared.kinds.Took.{Took}
 use Rattle.exchange.specs.declared.kinds.What.{What}
 use Rattle.exchange.specs.Rest.{Kept, Receives, arrival_by, version_of}
-use Rattle.server.specs.Feeding.{Feeding, takes_item}
+use Rattle.server.specs.Feeding.{Feeding, takes_item, data_of}
 use Rattle.server.specs.Incoming.{IsAt, HasCome, IsOpened, IsFedBy, IsFedAt, Scans}
-use Rattle.server.specs.Views.{data_of}
 use Rattle.server.proofs.Readings.{takes_gone, TakesAll, offer_short, offer_whole}
 
 pub empty_is : (b : List ℕ) → length b ≡ 0 → b ≡ []

@@ -77,7 +77,7 @@ is_first None view s piece going found = tt
 is_first (Some x) view s piece going found = let f = (found (view x)).0 refl in record { going = going; place = f.0; begins = f.1 }
 
 -- where none is begun nothing has come
-none_come : (s : Stream) (u : Unfinished) → IsAt s u → s.is_over ≡ false → s.chunks ≡ start → u ≡ fresh
+pub none_come : (s : Stream) (u : Unfinished) → IsAt s u → s.is_over ≡ false → s.chunks ≡ start → u ≡ fresh
 none_come s u is going at =
     let p : (u ≡ unfinished_at s.chunks u.body) × Holds u.body s.chunks = is.place (is.over ∙ going) in
     let sum : s.chunks.sum ≡ 0 = ap (λ (q : Place). q.sum) at in

@@ -1,5 +1,6 @@
 pub mod Readings
 pub mod Requests
+pub mod Room
 pub mod Coming
 pub mod Feeds
 pub mod Fronts
@@ -11,3 +12,4 @@ pub mod Ledgers
 pub mod Arriving
 pub mod Following
 pub mod Pasts
+pub mod Wanting

@@ -7,7 +7,7 @@ use Rattle.wire.specs.declared.parts.Part.TheVariants as part
 use Rattle.wire.specs.Place.{Place, start}
 use Rattle.wire.specs.Texts.{BeginsWith}
 use Rattle.wire.specs.Unfinished.{Unfinished, fresh, unfinished_at}
-use Rattle.wire.specs.Items.{answer_from, further}
+use Rattle.wire.specs.Items.{answer_from, further, wants_room}
 use Rattle.wire.specs.Scanning.{Holds, After}
 use Rattle.wire.specs.Reader.{takes}
 use Rattle.wire.specs.Framing.{Item, Noop, Message, TooBig, Opened, opening, reading, at_server}
@@ -82,6 +82,7 @@ pub record Scans (u : Unfinished) (piece : List ℕ) (cut : Cut) (s : Stream) : 
   pub reads : Reads s.reader.here body
   pub after : After cut.what s.chunks body
   pub refuses : cut.what ≡ part.TooBig → s.chunks.too_big ≡ true
+  pub wants : cut.what ≡ part.End → wants_room (length u.body) (answer_from u piece) ≡ true
   pub takes : takes at_server (reading u) piece
       ≡ record {
         used = cut.used;
@@ -94,6 +95,7 @@ pub record Comes (u : Unfinished) (piece : List ℕ) (used : ℕ) (place : Place
     : Type 0 where
   pub within : used ≤ length piece
   pub body : List ℕ
+  pub longer : length u.body ≤ length body
   pub reads : Reads here body
   pub holds : Holds body place
   pub going : place.too_big ≡ false

@@ -2,13 +2,13 @@
 use Rattle.std.specs.Prelude.{◌≡◌, ℕ, List, [], ◌∷◌, ◌++◌, Option, Some, None}
 use Rattle.std.specs.Borrow.{Bor}
 use Rattle.reader.specs.Piecewise.{Points, Reads}
-use Rattle.wire.specs.Framing.{Opened, opening, reading}
 use Rattle.engine.specs.Views.{EntryView}
 use Rattle.exchange.specs.declared.kinds.Worked.{Worked}
 use Rattle.server.specs.declared.server.Server.{Server}
 use Rattle.server.specs.declared.session.Session.{Session}
 use Rattle.exchange.specs.Rest.{Step, worked_of, commit_entries}
 use Rattle.exchange.specs.Views.{kept_of}
+use Rattle.server.specs.Feeding.{data_of}
 use Rattle.server.specs.Serving.{Live, Rest, with_kept}
 use Rattle.server.specs.Incoming.{IsOpened}
 
@@ -35,11 +35,6 @@ pub record Works (d : Step) (l : Live) (w : Worked) (s : Session) (before after 
   pub told : worked_of d.answer ≡ w
   pub live : IsLive s (with_kept l d.kept)
   pub ledger : after ≡ before ++ commit_entries l.conn l.kept.first d.commit
-
--- the data of a message that isn't whole
-abbrev pub data_of : Opened → List ℕ
-data_of (opening bytes) = []
-data_of (reading u) = u.body
 
 -- A session lives; the reader has read the data of its message that isn't whole, and stands at the point that it holds.
 pub record IsLent (r : Points) (live : Option Live) : Type 0 where

@@ -49,7 +49,7 @@ impl Incoming {
     ghost use Rattle.std.specs.Prelude.{◌<◌, false, IfOk, OnErr};
     ghost use Rattle.wire.specs.Framing.{Opened, at_server};
     ghost use Rattle.wire.specs.Reader.{takes};
-    ghost use Rattle.server.specs.Feeding.{takes_item};
+    ghost use Rattle.server.specs.Feeding.{takes_item, WantsRoom};
     ghost use Rattle.exchange.specs.Rest.{full};
     ghost use Rattle.exchange.specs.Views.{kept_of};
     ghost use Rattle.server.specs.Incoming.{IsOpened, IsFed, IsSame};
@@ -81,6 +81,7 @@ impl Incoming {
             (kept_of exchange.new) self.new) }
         ensures err { OnErr result
             (IsSame self.old self.new × (kept_of exchange.new ≡ kept_of exchange.old)) }
+        ensures memory { (u : Opened) → IsOpened self.old u → OnErr result (WantsRoom u piece.now) }
     {
         if self.offer.len < HANDSHAKE {
             return self.take_offer(exchange, piece);
@@ -97,6 +98,7 @@ impl Incoming {
             (kept_of exchange.new) self.new) }
         ensures err { OnErr result
             (IsSame self.old self.new × (kept_of exchange.new ≡ kept_of exchange.old)) }
+        ensures memory { (u : Opened) → IsOpened self.old u → OnErr result (WantsRoom u piece.now) }
     {
         let Filled { used, offer } = self.offer.with(piece);
         if offer.len < HANDSHAKE {
@@ -121,8 +123,10 @@ impl Incoming {
             (kept_of exchange.new) self.new) }
         ensures err { OnErr result
             (IsSame self.old self.new × (kept_of exchange.new ≡ kept_of exchange.old)) }
+        ensures memory { (u : Opened) → IsOpened self.old u → OnErr result (WantsRoom u piece.now) }
     {
         reader::laws::reads_more();
+        reader::laws::good_may_go_on(&self.stream.reader);
         if let Some(behind) = self.stream.behind_data(piece) {
             self.stream.reader.advance(piece)?;
             self.stream.chunks = behind;
@@ -152,7 +156,9 @@ impl Incoming {
             (kept_of exchange.new) self.new) }
         ensures err { OnErr result
             (IsSame self.old self.new × (kept_of exchange.new ≡ kept_of exchange.old)) }
+        ensures memory { (u : Opened) → IsOpened self.old u → OnErr result (WantsRoom u piece.now) }
     {
+        reader::laws::good_may_go_on(&self.stream.reader);
         let place = self.stream.chunks;
         let Ok(took) = self.stream.take(exchange, piece) else {
             self.stream.chunks = place;
@@ -189,8 +195,10 @@ impl Offer {
 }
 
 impl Stream {
-    ghost use Rattle.std.specs.Prelude.{ℕ, List, false, IfOk, IfSome, OnErr};
+    ghost use Rattle.std.specs.Prelude.{ℕ, List, None, true, false, IfOk, IfSome, OnOk, OnErr};
     ghost use Rattle.wire.specs.Unfinished.{Unfinished};
+    ghost use Rattle.wire.specs.Items.{answer_from, wants_room};
+    ghost use Rattle.wire.specs.declared.parts.Part.TheVariants as part;
     ghost use Rattle.wire.specs.Framing.{at_server, reading};
     ghost use Rattle.wire.specs.Reader.{takes};
     ghost use Rattle.wire.specs.Parts.{cut_at, IsData};
@@ -233,6 +241,10 @@ impl Stream {
         ensures err { OnErr result (kept_of exchange.new ≡ kept_of exchange.old) }
         ensures held { OnErr result (self.new.reader.held ≡ self.old.reader.held) }
         ensures over { OnErr result (self.new.is_over ≡ self.old.is_over) }
+        ensures good { OnErr result (self.old.reader.here.bad ≡ None) }
+        ensures room { (u : Unfinished) → IsAt self.old u
+            → OnErr result (u.too_big ≡ false
+            × (wants_room (length u.body) (answer_from u piece.now) ≡ true)) }
     {
         if self.is_over {
             return Ok(Took {
@@ -264,6 +276,11 @@ impl Stream {
             → IfOk result (λ cut. Scans u piece.now cut self.new) }
         ensures held { self.new.reader.held ≡ self.old.reader.held }
         ensures over { self.new.is_over ≡ self.old.is_over }
+        ensures good { OnOk result
+            (self.new.reader.here.bad ≡ None → self.old.reader.here.bad ≡ None) }
+        ensures memory { OnErr result (self.old.reader.here.bad ≡ None) }
+        ensures room { (u : Unfinished) → IsAt self.old u
+            → OnErr result (wants_room (length u.body) (answer_from u piece.now) ≡ true) }
     {
         let mut used = 0;
         while used < piece.len() {
@@ -290,6 +307,10 @@ impl Stream {
             (with_data cut.what cut.used piece.now body)) }
         ensures held { self.new.reader.held ≡ self.old.reader.held }
         ensures over { self.new.is_over ≡ self.old.is_over }
+        ensures good { OnOk result
+            (self.new.reader.here.bad ≡ None → self.old.reader.here.bad ≡ None) }
+        ensures memory { OnErr result (self.old.reader.here.bad ≡ None) }
+        ensures data { OnErr result ((cut_at self.old.chunks piece.now).cut.what ≡ part.Data) }
     {
         reader::laws::reads_more();
         let cut = self.chunks.next(piece);

@@ -1,6 +1,6 @@
 //! Up to sixteen sessions over one engine and one gate.
 ghost use Rattle.std.specs.Prelude.{◌≡◌, IfOk, IfSome, IsErrOf};
-ghost use Rattle.server.specs.Serving.{Rest, empty, find, feed_at, work_at, take_out_at, noop_at, lost_at, state_at, cause_at, is_full, Answers, Opens, MayFeed, MayWork, MayPutNoop};
+ghost use Rattle.server.specs.Serving.{Rest, empty, find, feed_at, work_at, take_out_at, noop_at, lost_at, state_at, cause_at, is_full, Answers, Opens, MayFeed, MayTakeOut, MayWork, MayPutNoop};
 ghost use Rattle.exchange.specs.Rest.{IsCounted};
 ghost use Rattle.server.specs.Views.{Fits, Lends};
 
@@ -78,13 +78,15 @@ impl<E: Engine, G: Gate> Server<E, G> {
         Ok(conn)
     }
 
-    /// Takes at most one handshake, no-op or message of the piece, else all of it.
+    /// Takes at most one handshake, no-op or message of the piece, else all of it. Memory is wanted where a handshake is answered, where
+    /// data of the piece is kept, and where a message ends: never for headers and no-ops, and never once the message that isn't whole is
+    /// known to be bad.
     #[tactic(auto, unfolding(crate::specs::Views::Fits))]
     pub fn feed(&mut self, conn: u64, piece: &[u8]) -> Result<Took, Refused>
         ensures answers { (r : Rest G) → Fits E.entries self.old r
             → Answers result (feed_at conn piece.now r) r (Fits E.entries self.new) }
         ensures memory { (r : Rest G) → Fits E.entries self.old r → IsErrOf result Refused.Memory
-            → IfSome (find conn r.sessions) MayFeed }
+            → IfSome (find conn r.sessions) (MayFeed piece.now) }
     {
         let Some(at) = place_of(&self.sessions, conn) else {
             return Err(Refused::NoSuchConnection);
@@ -115,11 +117,13 @@ impl<E: Engine, G: Gate> Server<E, G> {
         Ok(worked)
     }
 
-    /// Takes out the smaller of `max` and what waits to go, in order.
+    /// Takes out the smaller of `max` and what waits to go, in order; where that is none, without memory.
     #[tactic(auto, unfolding(crate::specs::Views::Fits))]
     pub fn take_out(&mut self, conn: u64, max: usize) -> Result<Bytes, Refused>
-        ensures { (r : Rest G) → Fits E.entries self.old r
+        ensures answers { (r : Rest G) → Fits E.entries self.old r
             → Answers result (take_out_at conn max r) r (Fits E.entries self.new) }
+        ensures memory { (r : Rest G) → Fits E.entries self.old r → IsErrOf result Refused.Memory
+            → IfSome (find conn r.sessions) (MayTakeOut max) }
     {
         let Some(at) = place_of(&self.sessions, conn) else {
             return Err(Refused::NoSuchConnection);

@@ -18,7 +18,7 @@ pub(crate) struct Session {
 
 impl Session {
     ghost use Rattle.std.specs.Prelude.{◌≡◌, IfOk, OnErr};
-    ghost use Rattle.server.specs.Serving.{Live, fresh, fed_live, taken_from, noop_put, MayFeed, MayPutNoop, MayWork};
+    ghost use Rattle.server.specs.Serving.{Live, fresh, fed_live, taken_from, noop_put, MayFeed, MayTakeOut, MayPutNoop, MayWork};
     ghost use Rattle.exchange.specs.Rest.{IsCounted, work_kept};
     ghost use Rattle.server.specs.Views.{IsLive, Gives, Works};
 
@@ -37,7 +37,7 @@ impl Session {
         ensures ok { (l : Live) → IsLive self.old l
             → IfOk result (λ took. Gives (fed_live l piece.now) took self.new) }
         ensures err { (l : Live) → IsLive self.old l
-            → OnErr result (IsLive self.new l × MayFeed l) }
+            → OnErr result (IsLive self.new l × MayFeed piece.now l) }
     {
         if self.exchange.is_shut() {
             return Ok(Took {
@@ -58,7 +58,8 @@ impl Session {
     pub(crate) fn take_out(&mut self, max: usize) -> Result<Bytes, AllocError>
         ensures ok { (l : Live) → IsLive self.old l
             → IfOk result (λ b. Gives (taken_from max l) b self.new) }
-        ensures err { (l : Live) → IsLive self.old l → OnErr result (IsLive self.new l) }
+        ensures err { (l : Live) → IsLive self.old l
+            → OnErr result (IsLive self.new l × MayTakeOut max l) }
     {
         self.exchange.take_out(max)
     }

@@ -4,6 +4,8 @@
 #[cfg(test)]
 mod limit_tests;
 #[cfg(test)]
+mod repeating;
+#[cfg(test)]
 mod session_tests;
 #[cfg(test)]
 mod talking;

@@ -1,5 +1,9 @@
 //! What a session answers, by its bytes.
 
+use crate::repeating::{
+    ADDS_FIRST, ADDS_SECOND, CLASHES, COMMITS_FIRST, PUTS_ALONE, PUTS_INSIDE, PUTS_UNDER_T1,
+    TELLS_FIRST,
+};
 use crate::talking::Step::*;
 use crate::talking::{
     BAD_LOGON, BEGIN, COMMIT, DISCARD_ALL, FIELDS, GOODBYE, GREETING, HELLO, INVALID, LOGON, NOPE,
@@ -381,6 +385,31 @@ const CONVERSATIONS: &[(&str, &[Turn])] = &[
     ("ends malformed", &[(0, 1, READY), (0, 1, ENDS_MALFORMED)]),
     ("claims too much", &[(0, 1, CLAIMS_TOO_MUCH)]),
     ("commits a transaction", &[(0, 1, READY), (0, 1, COMMITS)]),
+    (
+        "a repeated transaction commits once",
+        &[
+            (0, 1, READY),
+            (0, 1, PUTS_UNDER_T1),
+            (0, 1, COMMITS_FIRST),
+            (0, 2, PUTS_ALONE),
+            (1, 1, READY),
+            (1, 1, PUTS_UNDER_T1),
+            (1, 1, TELLS_FIRST),
+            (1, 2, PUTS_ALONE),
+            (2, 1, READY),
+            (2, 1, CLASHES),
+        ],
+    ),
+    (
+        "a token of a RUN inside a transaction",
+        &[
+            (0, 1, READY),
+            (0, 1, PUTS_INSIDE),
+            (0, 1, ADDS_FIRST),
+            (0, 1, PUTS_INSIDE),
+            (0, 1, ADDS_SECOND),
+        ],
+    ),
     (
         "lends its reader",
         &[(99, 1, &[NoReader]), (0, 1, LENDS_ITS_READER)],
