@@ -60,7 +60,7 @@ going_behind o old new p q bytes opened going is more (reading u) at = (takes_al
 -- ---- a message whole
 
 -- where none is begun nothing has come
-none_come : (place : Place) (u : Unfinished) → u ≡ unfinished_at place u.body → Holds u.body place → place ≡ start → u ≡ fresh
+pub none_come : (place : Place) (u : Unfinished) → u ≡ unfinished_at place u.body → Holds u.body place → place ≡ start → u ≡ fresh
 none_come place u is counts at =
     let sum : place.sum ≡ 0 = ap (λ (s : Place). s.sum) at in
     let none : u.body ≡ [] = is_none u.body (omega (arith, counts.0, sum)) in

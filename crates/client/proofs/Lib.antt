@@ -11,3 +11,4 @@ pub mod Hears
 pub mod Runs
 pub mod Few
 pub mod Refusing
+pub mod Wanting

@@ -1,5 +1,5 @@
 -- From one part of a piece to the next: what they make of the item, and what is read of its data.
-use Rattle.std.proofs.Common.{◌≡◌, refl, sym, ◌∙◌, ap, subst, ℕ, ◌+◌, ◌<◌, ◌≤◌, false, Ok, List, [], ◌∷◌, ◌++◌, length, take, drop, arith, ◌⊎◌, ⊎_elim}
+use Rattle.std.proofs.Common.{◌≡◌, refl, sym, ◌∙◌, ap, subst, ℕ, ◌+◌, ◌<◌, ◌≤◌, false, Ok, List, [], ◌∷◌, ◌++◌, length, take, drop, arith, length-append, ◌⊎◌, ⊎_elim}
 use Rattle.std.proofs.lemmas.List.{take-append-drop, drop-drop, drop_all}
 use Rattle.packstream.specs.Plain.{AreBytes}
 use Rattle.packstream.proofs.Ranges.{front_bytes}
@@ -42,11 +42,19 @@ module _ (old new : Place) (body bytes : List ℕ) (cut : Cut) (p q : Point) (co
   pub takes_data : cut.what ≡ part.Data → Reads q (body ++ take cut.used bytes) → TakesPart old body bytes cut new q
   takes_data is more = record { took = took; reads = subst (λ (what : Part). Reads q (with_data what cut.used bytes body)) (sym is) more }
 
+data_longer : (what : Part) (n : ℕ) (piece body : List ℕ) → length body ≤ length (with_data what n piece body)
+data_longer part.Head n piece body = omega arith
+data_longer part.Data n piece body = omega (arith, length-append body (take n piece))
+data_longer part.Noop n piece body = omega arith
+data_longer part.End n piece body = omega arith
+data_longer part.TooBig n piece body = omega arith
+
 -- ---- the parts of a piece
 
 -- Some bytes of a piece complete nothing; this is the place after them, and their data was read.
 pub record Reached (s : Unfinished) (bytes : List ℕ) (used : ℕ) (place : Place) (p : Point) : Type 0 where
   pub body : List ℕ
+  pub longer : length s.body ≤ length body
   pub counts : Holds body place
   pub going : place.too_big ≡ false
   pub reads : Reads p body
@@ -61,7 +69,7 @@ Goes s bytes used n place p part.End = TakesItem s bytes (record { used = used +
 Goes s bytes used n place p part.TooBig = TakesItem s bytes (record { used = used + n; end = end.TooBig }) place p
 
 pub reached_start : (place : Place) (body bytes : List ℕ) (p : Point) → Holds body place → place.too_big ≡ false → Reads p body → Reached (unfinished_at place body) bytes 0 place p
-reached_start place body bytes p counts going reads = record { body = body; counts = counts; going = going; reads = reads; ahead = sym (further-zero _) }
+reached_start place body bytes p counts going reads = record { body = body; longer = omega arith; counts = counts; going = going; reads = reads; ahead = sym (further-zero _) }
 
 pub is_none : (body : List ℕ) → length body ≡ 0 → body ≡ []
 is_none [] h = refl
@@ -72,28 +80,29 @@ is_message [] h = absurd (omega arith)
 is_message (b ∷ body) h = refl
 
 module _ (s : Unfinished) (bytes : List ℕ) (used : ℕ) (place : Place) (p : Point) (r : Reached s bytes used place p) where
-  goes_on : (n : ℕ) (next : Place) (q : Point) (more : List ℕ) → Holds more next → next.too_big ≡ false → Reads q more
+  goes_on : (n : ℕ) (next : Place) (q : Point) (more : List ℕ) → length r.body ≤ length more → Holds more next → next.too_big ≡ false → Reads q more
       → answer_from (unfinished_at place r.body) (drop used bytes) ≡ further n (answer_from (unfinished_at next more) (drop n (drop used bytes))) → Reached s bytes (used + n) next q
-  goes_on n next q more counts going reads a = record {
+  goes_on n next q more longer counts going reads a = record {
     body = more;
+    longer = omega (arith, r.longer, longer);
     counts = counts;
     going = going;
     reads = reads;
     ahead = r.ahead ∙ ap (further used) a ∙ further-further used n _ ∙ ap (λ l. further (used + n) (answer_from (unfinished_at next more) l)) (drop-drop n used bytes);
   }
 
-  goes_by : (n : ℕ) (what : Part) (next : Place) (q : Point) (more : List ℕ) → Taken (unfinished_at place r.body) (drop used bytes) n what (unfinished_at next more) → After what next more → Reads q more → Goes s bytes used n next q what
-  goes_by n part.Head next q more t a reads = (t.some, goes_on n next q more a.0 a.1 reads t.ahead)
-  goes_by n part.Data next q more t a reads = (t.some, goes_on n next q more a.0 a.1 reads t.ahead)
-  goes_by n part.Noop next q more t a reads =
+  goes_by : (n : ℕ) (what : Part) (next : Place) (q : Point) (more : List ℕ) → length r.body ≤ length more → Taken (unfinished_at place r.body) (drop used bytes) n what (unfinished_at next more) → After what next more → Reads q more → Goes s bytes used n next q what
+  goes_by n part.Head next q more longer t a reads = (t.some, goes_on n next q more longer a.0 a.1 reads t.ahead)
+  goes_by n part.Data next q more longer t a reads = (t.some, goes_on n next q more longer a.0 a.1 reads t.ahead)
+  goes_by n part.Noop next q more longer t a reads =
       let none : more ≡ [] = is_none more a.1 in
       record { body = more; reads = reads; ends = record { answer = r.ahead ∙ ap (further used) (t.0 ∙ ap (λ (l : List ℕ). record { answer = Ok (record { used = n; what = item_of l }); rest = fresh }) none); begins = a.0.0; none = none } }
-  goes_by n part.End next q more t a reads =
+  goes_by n part.End next q more longer t a reads =
       record { body = more; reads = reads; ends = (r.ahead ∙ ap (further used) (t.0 ∙ ap (λ (i : Piece). record { answer = Ok (record { used = n; what = i }); rest = fresh }) (is_message more a.1)), a.0.0) }
-  goes_by n part.TooBig next q more t a reads = record { body = more; reads = reads; ends = (r.ahead ∙ ap (further used) t, a) }
+  goes_by n part.TooBig next q more longer t a reads = record { body = more; reads = reads; ends = (r.ahead ∙ ap (further used) t, a) }
 
   goes : (c : Cut) (next : Place) (q : Point) → TakesPart place r.body (drop used bytes) c next q → Goes s bytes used c.used next q c.what
-  goes c next q t = goes_by c.used c.what next q (with_data c.what c.used (drop used bytes) r.body) t.took.took t.took.after t.reads
+  goes c next q t = goes_by c.used c.what next q (with_data c.what c.used (drop used bytes) r.body) (data_longer c.what c.used (drop used bytes) r.body) t.took.took t.took.after t.reads
 
   -- the same of what was cut off the rest of the piece
   module _ (rest : List ℕ) (rest-is : rest ≡ drop used bytes) (c : Cut) (next : Place) (q : Point) (t : TakesPart place r.body rest c next q) where

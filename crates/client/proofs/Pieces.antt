@@ -33,7 +33,7 @@ ok_note : (used : ℕ) (n m : Note) (b : Bool) → ◌≡◌ {A = Result Note Cl
 ok_note used n m true h = absurd cc
 ok_note used n m false h = let e : n ≡ m = cc in ap (λ z. Ok (used, z)) e
 
-err_note : (used : ℕ) (e : ClientFault) (m : Note) (b : Bool) → ◌≡◌ {A = Result Note ClientFault} (Err e) (if b then Err client_fault.BadPeer else Ok m)
+pub err_note : (used : ℕ) (e : ClientFault) (m : Note) (b : Bool) → ◌≡◌ {A = Result Note ClientFault} (Err e) (if b then Err client_fault.BadPeer else Ok m)
     → (e ≡ client_fault.BadPeer) × (◌≡◌ {A = Result (ℕ × Note) ClientFault} (Err client_fault.BadPeer) (if b then Err client_fault.BadPeer else Ok (used, m)))
 err_note used e m true h = (cc, refl)
 err_note used e m false h = absurd cc

@@ -8,7 +8,7 @@ ghost use Rattle.wire.specs.Framing.{at_client};
 ghost use Rattle.wire.specs.Reader.{takes};
 ghost use Rattle.reader.specs.Piecewise.{Reads};
 ghost use Rattle.client.specs.Hearings.{Feeds};
-ghost use Rattle.client.specs.Held.{data_of};
+ghost use Rattle.client.specs.Held.{data_of, WantsRoom};
 ghost use Rattle.client.specs.Fits.{Fits, IsAccepted, UnlessMemory};
 
 use crate::client::Client;
@@ -26,7 +26,7 @@ use messages::Request;
 use reader::Reader;
 use std::alloc::Global;
 use std::collections::VecDeque;
-use wire::{Chunks, Wish, offer, put_reserved, text_len};
+use wire::{Chunks, Version, Wish, offer, put_reserved, text_len};
 
 /// All of a piece was used, and nothing ended with it. A call of its own writes the answer once, where the caller reads it.
 #[inline(never)]
@@ -93,14 +93,16 @@ impl Client {
         Ok(self.pipeline.place(request))
     }
 
-    /// The next bytes that aren't taken out, the smaller of `max` and what waits, after the client's end too; or C5, and nothing
-    /// has changed.
+    /// The next bytes that aren't taken out, the smaller of `max` and what waits, after the client's end too; where that is none, without
+    /// memory. Or C5, and nothing has changed.
     pub fn take_out(&mut self, max: usize) -> Result<Bytes, ClientFault>
         ensures ok { (r : Rest) → Fits self.old r
             → IfOk result (λ bytes. (bytes ≡ take max r.unsent) × Fits self.new (taken_out r max)) }
         ensures err { (r : Rest) → Fits self.old r → OnErr result (Fits self.new r) }
         ensures fault { IfErr result (λ e. e ≡ ClientFault.Memory) }
         ensures short { IfOk result (λ bytes. length bytes < 2 ^ 63) }
+        ensures memory { (r : Rest) → Fits self.old r
+            → OnErr result (0 < length (take max r.unsent)) }
     {
         let count = max.min(self.out.len());
         let Ok(bytes) = self.out.freeze_to(count) else {
@@ -114,14 +116,15 @@ impl Client {
     ///
     /// C4 where the client has ended; C6 at a bad answer, with which it has ended: one that can't be read or is past 65,536 bytes, a
     /// row where the first waiting request is no PULL, a summary that isn't accepted, a version that wasn't offered. C5 for want
-    /// of memory: nothing was used, nothing has changed.
+    /// of memory: nothing was used, nothing has changed. Memory is wanted where data of the piece is kept and where a message ends: never
+    /// for the version answer, headers and no-ops, and never once the message that isn't whole is known to be bad.
     #[inline(always)]
     pub fn feed(&mut self, piece: &[u8]) -> Result<(usize, Heard), ClientFault>
         ensures told { (r : Rest) → Fits self.old r
             → UnlessMemory result ((note_result result ≡ (feed_of r piece.now).answer)
             × Fits self.new (feed_of r piece.now).rest) }
         ensures memory { (r : Rest) → Fits self.old r → IsErrOf result ClientFault.Memory
-            → Fits self.new r × (r.knows.over ≡ false) }
+            → Fits self.new r × (r.knows.over ≡ false) × WantsRoom r.item piece.now }
         ensures within { IfOk result (λ t. t.0 ≤ length piece.now) }
         ensures goes_on { 0 < length piece.now → IfOk result (λ t. 0 < t.0) }
     {
@@ -135,8 +138,10 @@ impl Client {
     #[inline(always)]
     fn feed_open(&mut self, piece: &[u8]) -> Result<(usize, Heard), ClientFault>
         requires { self.old.pipeline.over ≡ false }
-        ensures { (r : Rest) → Fits self.old r
+        ensures feeds { (r : Rest) → Fits self.old r
             → Feeds (Fits self.new) r (fed_open r (takes at_client r.item piece.now)) result }
+        ensures room { (r : Rest) → Fits self.old r → IsErrOf result ClientFault.Memory
+            → WantsRoom r.item piece.now }
     {
         match self.stream.take_data(piece) {
             Ok(true) => used_up(piece.len()),
@@ -149,8 +154,10 @@ impl Client {
     #[inline(never)]
     fn feed_item(&mut self, piece: &[u8]) -> Result<(usize, Heard), ClientFault>
         requires { self.old.pipeline.over ≡ false }
-        ensures { (r : Rest) → Fits self.old r
+        ensures feeds { (r : Rest) → Fits self.old r
             → Feeds (Fits self.new) r (fed_open r (takes at_client r.item piece.now)) result }
+        ensures room { (r : Rest) → Fits self.old r → IsErrOf result ClientFault.Memory
+            → WantsRoom r.item piece.now }
     {
         let taken = self.stream.take(self.alloc, self.pipeline.version, piece)?;
         let Taken { used, came } = taken;
@@ -175,6 +182,13 @@ impl Client {
             → (result ≡ losses r.knows) × Fits self.new (after_drop r) }
     {
         self.pipeline.lose()
+    }
+
+    /// The version that the server took, none before its answer. It takes no memory.
+    pub fn version(&self) -> Option<Version>
+        ensures { (r : Rest) → Fits self.now r → result ≡ r.knows.version }
+    {
+        self.pipeline.version
     }
 
     /// The phase that the last summary told, Fresh before one. It takes no memory.

@@ -1,9 +1,11 @@
 //! What comes of the pieces of a server's bytes.
 
-ghost use Rattle.std.specs.Prelude.{◌≡◌, ℕ, List, length, ◌+◌, ◌<◌, ◌≤◌, true, false, Option, IfOk, IfErr, OnErr};
+ghost use Rattle.std.specs.Prelude.{◌≡◌, ℕ, List, length, ◌+◌, ◌<◌, ◌≤◌, true, false, Option, None, IfOk, IfErr, OnErr};
 ghost use Rattle.packstream.specs.Spelling.{Spells};
 ghost use Rattle.wire.specs.Framing.{Opened, at_client};
 ghost use Rattle.wire.specs.Reader.{takes};
+ghost use Rattle.wire.specs.Unfinished.{unfinished_at};
+ghost use Rattle.wire.specs.Items.{answer_from, wants_room};
 ghost use Rattle.wire.specs.Scanning.{Holds};
 ghost use Rattle.reader.specs.Piecewise.{Reads};
 ghost use Rattle.messages.specs.Arrivals.{heard_version};
@@ -12,7 +14,7 @@ ghost use Rattle.client.specs.declared.opening.Opening.{Opening as AnyOpening};
 ghost use Rattle.client.specs.Answers.{held_bytes};
 ghost use Rattle.client.specs.Rest.{heard_response, heard_message};
 ghost use Rattle.client.specs.Hearings.{plain, came_as, TakesPiece, TakesNothing};
-ghost use Rattle.client.specs.Held.{IsItem};
+ghost use Rattle.client.specs.Held.{IsItem, WantsRoom};
 
 use crate::faults::ClientFault;
 use crate::items::{Bite, End, take_item};
@@ -21,7 +23,7 @@ use crate::stream::Stream;
 use messages::{MsgFault, Response, read_response, response_of};
 use packstream::{PackFault, Packed};
 use reader::Reader;
-use reader::laws::{finish_reads, reads_more};
+use reader::laws::{finish_reads, good_may_go_on, reads_more};
 use std::alloc::Global;
 use wire::{Chunks, Version};
 
@@ -56,11 +58,12 @@ fn came_of_value(alloc: Global, version: Version, packed: &Packed) -> Result<Cam
     }
 }
 
-/// What a message says, by the version that is known. All of its data was read.
+/// What a message says, by the version that is known. All of its data was read. One that is bad takes no memory.
 fn came_of(alloc: Global, version: Option<Version>, reader: &Reader) -> Result<Came, ClientFault>
     ensures ok { (b : List ℕ) → Reads reader.now.here b
         → IfOk result (λ came. came_as came ≡ plain (heard_message version b)) }
     ensures err { IfErr result (λ e. e ≡ ClientFault.Memory) }
+    ensures memory { OnErr result (reader.now.here.bad ≡ None) }
 {
     finish_reads();
     let Some(version) = version else {
@@ -138,6 +141,10 @@ fn read_chunks(
         reader.new.here) }
     ensures err { IfErr result (λ e. e ≡ ClientFault.Memory) }
     ensures held { OnErr result (reader.new.held ≡ reader.old.held) }
+    ensures memory { OnErr result (reader.old.here.bad ≡ None) }
+    ensures room { (body : List ℕ) → Holds body chunks.old → Reads reader.old.here body
+        → OnErr result (wants_room (length body)
+        (answer_from (unfinished_at chunks.old body) piece.now) ≡ true) }
 {
     let Ok(bite) = take_item(chunks, reader, piece) else {
         return Err(ClientFault::Memory);
@@ -186,8 +193,12 @@ impl Stream {
         ensures other { result ≡ Ok false → TakesNothing self.old self.new }
         ensures err { IfErr result (λ e. e ≡ ClientFault.Memory) }
         ensures same { OnErr result (TakesNothing self.old self.new) }
+        ensures room { (item : Opened)
+            → IsItem self.old.opening self.old.chunks self.old.reader.here item
+            → OnErr result (WantsRoom item piece.now) }
     {
         reads_more();
+        good_may_go_on(&self.reader);
         if self.opening.len < LENGTH {
             return Ok(false);
         }
@@ -215,6 +226,9 @@ impl Stream {
             self.new.opening self.new.chunks self.new.reader.here) }
         ensures err { IfErr result (λ e. e ≡ ClientFault.Memory) }
         ensures same { OnErr result (TakesNothing self.old self.new) }
+        ensures room { (item : Opened)
+            → IsItem self.old.opening self.old.chunks self.old.reader.here item
+            → OnErr result (WantsRoom item piece.now) }
     {
         if self.opening.len < LENGTH {
             Ok(self.take_answer(piece))
@@ -259,6 +273,9 @@ impl Stream {
             self.new.opening self.new.chunks self.new.reader.here) }
         ensures err { IfErr result (λ e. e ≡ ClientFault.Memory) }
         ensures same { OnErr result (TakesNothing self.old self.new) }
+        ensures room { (item : Opened)
+            → IsItem self.old.opening self.old.chunks self.old.reader.here item
+            → OnErr result (WantsRoom item piece.now) }
     {
         match self.chunks.message_in(piece) {
             Some(message) => take_message(alloc, version, message),
@@ -280,7 +297,11 @@ impl Stream {
             self.new.opening self.new.chunks self.new.reader.here) }
         ensures err { IfErr result (λ e. e ≡ ClientFault.Memory) }
         ensures same { OnErr result (TakesNothing self.old self.new) }
+        ensures room { (item : Opened)
+            → IsItem self.old.opening self.old.chunks self.old.reader.here item
+            → OnErr result (WantsRoom item piece.now) }
     {
+        good_may_go_on(&self.reader);
         let before = self.chunks;
         match read_chunks(alloc, version, &mut self.chunks, &mut self.reader, piece) {
             Ok(taken) => {

@@ -1,7 +1,10 @@
 //! Takes the parts of a piece, and reads the data among them.
 
-ghost use Rattle.std.specs.Prelude.{◌≡◌, ℕ, ◌<◌, ◌≤◌, List, length, false, IfOk};
+ghost use Rattle.std.specs.Prelude.{◌≡◌, ℕ, ◌<◌, ◌≤◌, List, length, None, true, false, IfOk, OnOk, OnErr};
+ghost use Rattle.wire.specs.declared.Part.TheVariants as part;
+ghost use Rattle.wire.specs.Parts.{cut_at};
 ghost use Rattle.wire.specs.Unfinished.{unfinished_at};
+ghost use Rattle.wire.specs.Items.{answer_from, wants_room};
 ghost use Rattle.wire.specs.Scanning.{Holds};
 ghost use Rattle.reader.specs.Piecewise.{Reads};
 ghost use Rattle.client.specs.Taking.{TakesPart, TakesItem};
@@ -38,6 +41,9 @@ fn take_part(chunks: &mut Chunks, reader: &mut Reader, piece: &[u8]) -> Result<C
         → IfOk result (λ cut. TakesPart chunks.old body piece.now cut chunks.new reader.new.here) }
     ensures held { reader.new.held ≡ reader.old.held }
     ensures within { IfOk result (λ cut. cut.used ≤ length piece.now) }
+    ensures good { OnOk result (reader.new.here.bad ≡ None → reader.old.here.bad ≡ None) }
+    ensures memory { OnErr result (reader.old.here.bad ≡ None) }
+    ensures data { OnErr result ((cut_at chunks.old piece.now).cut.what ≡ part.Data) }
 {
     reads_more();
     let cut = chunks.next(piece);
@@ -61,6 +67,11 @@ pub(crate) fn take_item(
         → IfOk result (λ bite. TakesItem (unfinished_at chunks.old body) piece.now bite chunks.new
         reader.new.here) }
     ensures held { reader.new.held ≡ reader.old.held }
+    ensures good { OnOk result (reader.new.here.bad ≡ None → reader.old.here.bad ≡ None) }
+    ensures memory { OnErr result (reader.old.here.bad ≡ None) }
+    ensures room { (body : List ℕ) → Holds body chunks.old → Reads reader.old.here body
+        → OnErr result (wants_room (length body)
+        (answer_from (unfinished_at chunks.old body) piece.now) ≡ true) }
 {
     let mut used = 0;
     while used < piece.len() {

@@ -153,6 +153,7 @@ fn run(alloc: Global, query: &str, params: Vec<(String, Cell)>) -> Result<Reques
         text: String::from_str(alloc, query)?,
         params,
         mode: Mode::Write,
+        token: None,
     })
 }
 
@@ -176,7 +177,10 @@ fn request(alloc: Global, asked: &Asked) -> Result<Request, AllocError> {
         Goodbye => Ok(Request::Goodbye),
         Reset => Ok(Request::Reset),
         Run => run(alloc, "ONE", Vec::new(alloc)),
-        Begin => Ok(Request::Begin(Mode::Write)),
+        Begin => Ok(Request::Begin {
+            mode: Mode::Write,
+            token: None,
+        }),
         Commit => Ok(Request::Commit),
         Pull(count) => Ok(Request::Pull(*count)),
         Echo(len) => run(alloc, "ECHO", long_param(alloc, *len)?),

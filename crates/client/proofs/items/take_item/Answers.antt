@@ -3,7 +3,9 @@ use Rattle.std.proofs.Math.Logic.{∥∥₁_elim}
 use Rattle.std.proofs.Props.{props}
 use Rattle.std.proofs.lemmas.List.{take_all}
 use Rattle.wire.specs.declared.Part.TheVariants as part
+use Rattle.wire.specs.Unfinished.{unfinished_at}
 use Rattle.client.proofs.Parts.{cut_goes, cut_goes_on, used_up}
+use Rattle.client.proofs.Wanting.{reached_data, err_holds}
 use Rattle.client.proofs.items.take_item.Goals as goal
 
 -- a slice from a place on is what is left of the piece
@@ -33,7 +35,19 @@ loop-used-preserved c =
       reached = λ body counts reads.
           let r = c.loop-used.invariant.reached body counts reads in
           (cut_goes_on _ bytes used _ _ r _ (rest_of used bytes) c.in_ok-cut.cut _ _ (c.in_ok-cut.ensures.part r.body r.counts r.reads) c.in-Head.is).1;
+      good = λ e. c.loop-used.invariant.good (c.in_ok-cut.ensures.good e);
     }
+
+pub returns-in_err-cut-clause-memory : goal.returns-in_err-cut-clause-memory
+returns-in_err-cut-clause-memory c = err_holds c.from_residual.result _ (c.loop-used.invariant.good c.in_err-cut.ensures.memory)
+
+pub returns-in_err-cut-clause-room : goal.returns-in_err-cut-clause-room
+returns-in_err-cut-clause-room c = λ body counts reads.
+    let used = c.loop-used.used in
+    let bytes = c.args.piece.now in
+    err_holds c.from_residual.result _
+    (reached_data (unfinished_at c.args.chunks.now body) bytes used c.loop-used.chunks c.loop-used.reader.here (c.loop-used.invariant.reached body counts reads) c.loop-used-test.true
+    (rw (rest_of used bytes) at c.in_err-cut.ensures.data))
 
 pub returns-in-Noop-clause-item : goal.returns-in-Noop-clause-item
 returns-in-Noop-clause-item c = λ body counts reads.

@@ -1,4 +1,4 @@
-use Rattle.std.proofs.Common.{◌≡◌, ℕ, ◌-◌, ◌≤◌, List, length}
+use Rattle.std.proofs.Common.{◌≡◌, ℕ, ◌-◌, ◌≤◌, List, length, None}
 use Rattle.wire.specs.Unfinished.{unfinished_at}
 use Rattle.wire.specs.Scanning.{Holds}
 use Rattle.reader.specs.Piecewise.{Reads}
@@ -10,6 +10,7 @@ invariant-loop-used l = record {
   within : l.used ≤ length l.piece;
   held : l.reader.held ≡ l.fn.reader.held;
   reached : (body : List ℕ) → Holds body l.fn.chunks → Reads l.fn.reader.here body → Reached (unfinished_at l.fn.chunks body) l.piece l.used l.chunks l.reader.here;
+  good : l.reader.here.bad ≡ None → l.fn.reader.here.bad ≡ None;
 }
 
 abbrev pub decreases-loop-used : goal.decreases-loop-used

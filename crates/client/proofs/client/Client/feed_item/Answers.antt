@@ -8,7 +8,8 @@ use Rattle.client.specs.Rest.{Knows}
 use Rattle.client.specs.Hearings.{came_as, came_in}
 use Rattle.client.specs.Fits.{Fits, knowledge_of}
 use Rattle.client.proofs.Taking.{same_item}
-use Rattle.client.proofs.Pieces.{heard_feeds, refused_feeds, memory_feeds, hears_by, spoils_going}
+use Rattle.client.specs.Rest.{hears_item, note_of}
+use Rattle.client.proofs.Pieces.{err_note, heard_feeds, refused_feeds, memory_feeds, hears_by, spoils_going}
 use Rattle.client.proofs.client.Client.feed_item.Goals as goal
 
 pub invariant_of-self-2 : goal.invariant_of-self-2
@@ -21,15 +22,15 @@ invariant_of-self-2 c =
           spoils_going s.wish (knowledge_of s.pipeline) x n.chunks.too_big (c.in_ok-taken.ensures.ok h.0 h.1).goes_on (sym (ap (λ (k : Knows). k.over) c.hear.ensures.1) ∙ o));
     }
 
-pub returns-in_err-taken : goal.returns-in_err-taken
-returns-in_err-taken c = λ r f.
+pub returns-in_err-taken-clause-feeds : goal.returns-in_err-taken-clause-feeds
+returns-in_err-taken-clause-feeds c = λ r f.
     let e = c.in_err-taken.ensures in
     let is : c.from_residual.result ≡ Err c.in_err-taken.field-0.0 = search rules in
     memory_feeds r (takes at_client r.item c.args.piece.now) (Fits _) c.from_residual.result (is ∙ ap (λ (z : ClientFault). Err z) e.err)
     (record { wish = f.wish; knows = f.knows; item = same_item c.args.self.now.stream c.take.new.self r.item e.same f.item; unsent = f.unsent })
 
-pub returns-in-Ok : goal.returns-in-Ok
-returns-in-Ok c = λ r f.
+pub returns-in-Ok-clause-feeds : goal.returns-in-Ok-clause-feeds
+returns-in-Ok-clause-feeds c = λ r f.
     let s = c.args.self.now in
     let t = c.in_ok-taken.taken in
     let m = takes at_client r.item c.args.piece.now in
@@ -38,8 +39,8 @@ returns-in-Ok c = λ r f.
     heard_feeds r m (came_as t.came) (took.came ∙ ap (λ (k : Knows). came_in k.version m.item) f.knows) (Fits _) knows (λ k e. record { wish = f.wish; knows = e; item = took.rest; unsent = f.unsent }) t.used c.in-Ok.heard took.used
     (hears_by s.wish r.wish (knowledge_of s.pipeline) r.knows (came_as t.came) (Ok c.in-Ok.heard) knows f.wish f.knows c.in-Ok.ensures)
 
-pub returns-in-Err : goal.returns-in-Err
-returns-in-Err c = λ r f.
+pub returns-in-Err-clause-feeds : goal.returns-in-Err-clause-feeds
+returns-in-Err-clause-feeds c = λ r f.
     let s = c.args.self.now in
     let t = c.in_ok-taken.taken in
     let m = takes at_client r.item c.args.piece.now in
@@ -47,3 +48,14 @@ returns-in-Err c = λ r f.
     let knows = knowledge_of c.hear.new.self in
     refused_feeds r m (came_as t.came) (took.came ∙ ap (λ (k : Knows). came_in k.version m.item) f.knows) (Fits _) knows (λ k e. record { wish = f.wish; knows = e; item = took.rest; unsent = f.unsent }) c.in-Err.fault
     (hears_by s.wish r.wish (knowledge_of s.pipeline) r.knows (came_as t.came) (Err c.in-Err.fault) knows f.wish f.knows c.in-Err.ensures)
+
+pub returns-in_err-taken-clause-room : goal.returns-in_err-taken-clause-room
+returns-in_err-taken-clause-room c = λ r f e. c.in_err-taken.ensures.room r.item f.item
+
+pub returns-in-Err-clause-room : goal.returns-in-Err-clause-room
+returns-in-Err-clause-room c = λ r f e.
+    let s = c.args.self.now in
+    let x = came_as c.in_ok-taken.taken.came in
+    let h = hears_item s.wish (knowledge_of s.pipeline) x in
+    let bad = (err_note 0 c.in-Err.fault (note_of x h) h.bad c.in-Err.ensures.0).0 in
+    absurd cc

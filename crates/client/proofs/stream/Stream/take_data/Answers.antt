@@ -6,6 +6,7 @@ use Rattle.reader.specs.Piecewise.{Points, Reads}
 use Rattle.client.specs.declared.feeding.Came.TheVariants as came
 use Rattle.client.proofs.Taking.{stands_then, held_at}
 use Rattle.client.proofs.Fronts.{data_taken, going_behind}
+use Rattle.client.proofs.Wanting.{chunks_want, data_wants}
 use Rattle.client.proofs.stream.Stream.take_data.Goals as goal
 
 pub invariant_of-self : goal.invariant_of-self
@@ -49,3 +50,9 @@ returns-clause-going c =
     let q = c.advance.new.self.here in
     let more : (b : List ℕ) → Reads p b → Reads q (b ++ bytes) = λ b reads. c.reads_more.ensures p q b bytes reads (bytes_from_each bytes c.type_inv.piece) c.in-Ok.ensures.here in
     ∥∥₁_elim s.stands (hlevel props) (λ h. going_behind s.opening s.chunks c.in-Some.behind p q bytes c.if-self-lt-LENGTH.false c.requires ((c.in-Some.ensures c.in-Some.behind).0 refl) more h.0 h.1)
+
+pub returns-in_default-advance-clause-room : goal.returns-in_default-advance-clause-room
+returns-in_default-advance-clause-room c =
+    let s = c.args.self.now in
+    chunks_want s.opening s.chunks s.reader.here c.args.piece.now c.if-self-lt-LENGTH.false c.requires c.in_default-advance.ensures.memory c.good_may_go_on.ensures
+    (λ body counts reads. data_wants s.chunks c.in-Some.behind c.args.piece.now c.requires ((c.in-Some.ensures c.in-Some.behind).0 refl) body)

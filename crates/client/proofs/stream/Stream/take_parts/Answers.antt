@@ -5,6 +5,7 @@ use Rattle.wire.specs.Reader.{takes}
 use Rattle.reader.specs.Piecewise.{Point}
 use Rattle.client.specs.Hearings.{TakesPiece}
 use Rattle.client.proofs.Taking.{stands_then, body_of, held_at}
+use Rattle.client.proofs.Wanting.{chunks_want}
 use Rattle.client.proofs.stream.Stream.take_parts.Goals as goal
 
 pub read_chunks-requires-clause-begun : goal.read_chunks-requires-clause-begun
@@ -36,3 +37,8 @@ invariant_of-self-in-Err c =
       stands = held_at s.opening s.chunks s.reader.here c.back.new.self.here (c.back.ensures.here ∙ c.in-Err.ensures.held ∙ s.still) s.stands;
       still = c.back.ensures.held ∙ sym c.back.ensures.here;
     }
+
+pub returns-in-Err-clause-room : goal.returns-in-Err-clause-room
+returns-in-Err-clause-room c =
+    let s = c.args.self.now in
+    chunks_want s.opening s.chunks s.reader.here c.args.piece.now c.requires.0 c.requires.1 c.in-Err.ensures.memory c.good_may_go_on.ensures c.in-Err.ensures.room
