@@ -172,7 +172,7 @@ module _ (S : Setting) (w : World) (sound : (c : ℕ) (k : Connection) → slice
           set_follows c k k2 g (alike_follows k k2 (record { peer = refl; sent = refl; lost = refl; given = refl }) (all c k g))
 
 pub reached_follow : (S : Setting) (brought : List EntryView) {w : World} → Reached S brought w → AllFollow w
-reached_follow S brought begins = λ c k g. cc
+reached_follow S brought (begins l) = λ c k g. cc
 reached_follow S brought (goes_on w w2 e seen r t) = step_follows S w (reached_sound S brought r) (reached_follow S brought r) seen w2 e t.steps
 reached_follow S brought (takes_out w c n r) = takes_follow S w (reached_sound S brought r) (reached_follow S brought r) c n
 

@@ -6,6 +6,7 @@ use Rattle.machine.specs.Asks.{kind_of}
 use Rattle.machine.specs.Following.{commits}
 use Rattle.engine.specs.Views.{EntryView}
 use Rattle.exchange.specs.declared.Cause.{Cause}
+use Rattle.exchange.specs.Rest.{commit_entries}
 use Rattle.exchange.specs.Session.{Setting}
 use Rattle.server.specs.Serving as serving
 use Rattle.server.specs.Serving.{Live, find}
@@ -67,19 +68,19 @@ module _ {G : Type 0} (answer : Definition) (accepts : G → List ℕ → List �
 
       go : (more : List EntryView) → ledger w2 ≡ ledger w ++ more → (ev : running.Event) → ev ≡ running.works c → Adds (rest w) ev more → Comes w2
       go more h ev e (nothing x) = inl (h ∙ append-nil (ledger w))
-      go more h ev e (one conn t q later writes found first row) =
+      go more h ev e (one conn t q later change found first row) =
           let same : t ≡ live_of c k = session conn t (works_is conn c e) found in
           inr
           (record {
             conn = c;
             connection = k;
             request = q;
-            writes = writes;
+            change = change;
             works = refl;
             here = here;
             first = first_of (answer_count k.says) (arrivals_at k) later (Asked q) (ap (λ (z : Live). z.kept.waiting) (sym same) ∙ first);
             row = ap (λ (z : Live). commits (phase_of z.kept.state) (kind_of q)) (sym same) ∙ row;
-            entry = h ∙ ap (λ (z : Live). ledger w ++ record { conn = z.conn; ordinal = z.kept.first; writes = writes } ∷ []) same;
+            entry = h ∙ ap (λ (z : Live). ledger w ++ commit_entries z.conn z.kept.first (Some change)) same;
           })
 
   comes : Comes w2

@@ -4,8 +4,9 @@ pub mod Rows
 pub mod Trace
 pub mod Tails
 pub mod Outcomes
-pub mod Serve
 pub mod Growth
+pub mod Under
+pub mod Serve
 pub mod Kept
 pub mod Sending
 pub mod Feeding
@@ -13,6 +14,8 @@ pub mod Working
 pub mod Listing
 pub mod Suffices
 pub mod Written
+pub mod Freeing
+pub mod Others
 pub mod Headline
 pub mod Rests
 pub mod Reaching
@@ -29,7 +32,6 @@ pub mod Stepping
 pub mod Becoming
 pub mod Answering
 pub mod Reporting
-pub mod Others
 pub mod Drawn
 pub mod Held
 pub mod Turning

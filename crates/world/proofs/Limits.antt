@@ -254,7 +254,7 @@ module _ {G : Type 0} (answer : Definition) (accepts : G → List ℕ → List �
   one_more brought w w2 (inr m) h = (h.0 ++ m.0 ∷ [], m.1 ∙ ap (after_event answer accepts m.0) h.1 ∙ sym (events_more h.0 m.0 (serving.empty brought gate)))
 
   reached_calls : (brought : List EntryView) {w : World} → Reached S brought w → Calls brought w
-  reached_calls brought begins = ([], ap (λ es. serving.empty es gate) (append-nil brought))
+  reached_calls brought (begins l) = ([], ap (λ es. serving.empty es gate) (append-nil brought))
   reached_calls brought (goes_on w w2 e seen r t) = one_more brought w w2 (moves w (reached_sound S brought r) seen w2 e t.steps) (reached_calls brought r)
   reached_calls brought (takes_out w c n r) = one_more brought w (taken_out w c n (slice_get w.conns c)) (go (slice_get w.conns c) refl) (reached_calls brought r)
     where

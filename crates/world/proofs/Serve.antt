@@ -1,5 +1,5 @@
 -- What one answer of the session keeps, for a request that its phase allows.
-use Rattle.std.proofs.Common.{Bool, Err, List, MatchOption, None, Ok, Option, Result, Some, [], ap, arith, bytes_eq, codes, false, if◌then◌else◌, is_some, length, nat_le, not, option_to_list, refl, slice_get, subst, sym, true, true≢false, ℕ, ◌&&◌, ◌+◌, ◌<◌, ◌^◌, ◌∙◌, ◌∷◌, ◌≡◌}
+use Rattle.std.proofs.Common.{Bool, Err, List, None, Ok, Option, Result, Some, [], ap, arith, bytes_eq, codes, false, if◌then◌else◌, is_some, length, nat_le, not, refl, slice_get, subst, sym, true, true≢false, ℕ, ◌&&◌, ◌+◌, ◌<◌, ◌^◌, ◌∙◌, ◌∷◌, ◌≡◌}
 use Rattle.std.specs.List.{list_all}
 use Rattle.packstream.specs.Tree.{Tree}
 use Rattle.wire.specs.Framing.{bytes_in_order}
@@ -21,21 +21,23 @@ use Rattle.machine.specs.States.{phase_of, same_state}
 use Rattle.machine.specs.declared.Kind.{Kind}
 use Rattle.machine.specs.declared.State.{State}
 use Rattle.machine.specs.declared.Verdict.{Verdict}
-use Rattle.engine.specs.Views.{AnswerView, EntryView, ParameterView, QueryFault, WriteView, bad_parameter, too_many_rows, unknown_text, write_in_read_mode}
+use Rattle.engine.specs.Tokens.{Found, Free, There, Other, found_in}
+use Rattle.engine.specs.Views.{AnswerView, EntryView, ParameterView, QueryFault, Token, bad_parameter, too_many_rows, unknown_text, write_in_read_mode}
 use Rattle.world.specs.Good.{alone_after, commit_of, is_invalid, is_success, tx_after}
 use Rattle.client.specs.Client.{outcome_of, verdict_of}
 use Rattle.client.specs.declared.Outcome.{Outcome}
 use Rattle.exchange.specs.Faults.{failure, of_query}
 use Rattle.exchange.specs.Said.{fits}
-use Rattle.exchange.specs.Session.{Bye, OneRow, Open, Reply, Setting, Summary, Tx, close, no_result, fails, fields_said, is_halted, if_fits, left_after, no_tx, perform, pull, query_mode, reply_to_hello, reply_to_login, reply_to_run, serve, succeeds, unwritable, used_up}
+use Rattle.exchange.specs.Session.{Bye, Change, OneRow, Open, Reply, Setting, Summary, Tx, change_alone, change_inside, close, commits_as, commits_over, no_result, fails, fields_said, is_halted, if_fits, left_after, no_tx, perform, pull, query_mode, reply_to_hello, reply_to_login, reply_to_run, serve, succeeds, unwritable, used_up}
 use Rattle.exchange.specs.declared.fault.Fault.{Fault}
-use Rattle.world.proofs.Trace.{outcome_by}
+use Rattle.world.proofs.Trace.{Pays}
+use Rattle.world.proofs.Under.{place_within}
 use Rattle.world.proofs.Writing.{failure_fits, short_fits}
 use Rattle.machine.proofs.Leading.{same_state-true}
 
--- what is open agrees with the transaction t and the write w that the summaries tell
-abbrev pub Held : State → Open → Tx → Tx → List WriteView → Type 0
-Held State.Streaming left tx t w = option_to_list left.write ≡ w
+-- what is open agrees with the transaction t and the change w that the summaries tell
+abbrev pub Held : State → Open → Tx → Tx → Change → Type 0
+Held State.Streaming left tx t w = change_alone left ≡ w
 Held State.TxReady left tx t w = tx ≡ t
 Held State.TxStreaming left tx t w = tx ≡ t
 Held _ left tx t w = Unit {0}
@@ -43,26 +45,26 @@ Held _ left tx t w = Unit {0}
 abbrev pub tx_then : Setting → List EntryView → RequestView → ResponseView → Tx → Tx
 tx_then S front q a t = if is_success a then tx_after S front t q else t
 
-abbrev pub alone_then : Setting → List EntryView → RequestView → ResponseView → List WriteView → List WriteView
+abbrev pub alone_then : Setting → List EntryView → RequestView → ResponseView → Change → Change
 alone_then S front q a w = if is_success a then alone_after S front w q else w
 
 -- a commit after this ledger leaves one shorter than 2^63
-abbrev pub Counted : List EntryView → Option (List WriteView) → Type 0
+abbrev pub Counted : List EntryView → Option Change → Type 0
 Counted front None = Unit {0}
 Counted front (Some u) = length front + 1 < 2 ^ 63
 
-pub record Closes (S : Setting) (v : Version) (front : List EntryView) (s : State) (q : RequestView) (t : Tx) (w : List WriteView)
-    (d : Verdict) (a : ResponseView) (left : Open) (tx : Tx) (entry : Option (List WriteView)) : Type 0 where
+pub record Closes (S : Setting) (v : Version) (front : List EntryView) (s : State) (q : RequestView) (t : Tx) (w : Change)
+    (d : Verdict) (a : ResponseView) (left : Open) (tx : Tx) (entry : Option Change) : Type 0 where
   pub told : verdict_of (in_part q) a ≡ Some d
   pub written : Counted front entry → fits v a ≡ true
   pub valid : is_invalid a ≡ false
   pub state : State
   pub rows : row_at v s (kind_of q) d ≡ Some state
   pub holds : Held state left tx (tx_then S front q a t) (alone_then S front q a w)
-  pub outcome : outcome_of (phase_of s) (kind_of q) d ≡ outcome_by a entry
-  pub commit : MatchOption entry (Unit {0}) (λ u. (u ≡ commit_of (Some q) t w) × (commits (phase_of s) (kind_of q) ≡ true) × (is_success a ≡ true))
+  pub paid : Pays front (commit_of (Some q) t w) (outcome_of (phase_of s) (kind_of q) d) entry
+  pub commit : is_some entry ≡ true → commits (phase_of s) (kind_of q) ≡ true
 
-abbrev pub Keeps : Setting → Version → List EntryView → State → RequestView → Tx → List WriteView → Tx → Reply → Type 0
+abbrev pub Keeps : Setting → Version → List EntryView → State → RequestView → Tx → Change → Tx → Reply → Type 0
 Keeps S v front s q t w tx (OneRow row left) = ((n : Count) × (q ≡ RequestView.Pull n)) × (fits v (ResponseView.Record row) ≡ true) × Held s left tx t w
 Keeps S v front s q t w tx Bye = Unit {0}
 Keeps S v front s q t w tx (Summary d a left tx2 entry) = Closes S v front s q t w d a left tx2 entry
@@ -113,117 +115,145 @@ hello_row v b e =
     (at_version (λ v. option_is (row_at v State.Fresh Kind.Hello Verdict.Success) (after_hello (hello_has_login v))) refl v)
     ∙ ap (λ b. Some (after_hello b)) e
 
-module _ (S : Setting) (c : ℕ) (numbered : c < 2 ^ 64) (front : List EntryView) where
-  keeps_if : (v : Version) (s : State) (q : RequestView) (t : Tx) (w : List WriteView) (tx : Tx) (b : Bool) (x y : Reply)
+module _ (S : Setting) (c : ℕ) (numbered : c < 2 ^ 64) (front : List EntryView) (few : length front < 2 ^ 64) where
+  keeps_if : (v : Version) (s : State) (q : RequestView) (t : Tx) (w : Change) (tx : Tx) (b : Bool) (x y : Reply)
       → (b ≡ true → Keeps S v front s q t w tx x) → (b ≡ false → Keeps S v front s q t w tx y) → Keeps S v front s q t w tx (if b then x else y)
   keeps_if v s q t w tx true x y f g = f refl
   keeps_if v s q t w tx false x y f g = g refl
 
-  keeps_fails : (v : Version) (s s2 : State) (q : RequestView) (t : Tx) (w : List WriteView) (tx : Tx) (f : Fault) → is_invalid (response_of_summary (failure f)) ≡ false
-      → row_at v s (kind_of q) Verdict.Failure ≡ Some s2 → Held s2 no_result no_tx t w → outcome_of (phase_of s) (kind_of q) Verdict.Failure ≡ Outcome.Refused
-      → Keeps S v front s q t w tx (fails f)
-  keeps_fails v s s2 q t w tx f ok e h o =
-      record { told = refl; written = λ _. failure_fits v f; valid = ok; state = s2; rows = e; holds = h; outcome = o; commit = tt }
+  keeps_fails : (v : Version) (s s2 : State) (q : RequestView) (t : Tx) (w : Change) (tx : Tx) (f : Fault) → is_invalid (response_of_summary (failure f)) ≡ false
+      → row_at v s (kind_of q) Verdict.Failure ≡ Some s2 → Held s2 no_result no_tx t w → Keeps S v front s q t w tx (fails f)
+  keeps_fails v s s2 q t w tx f ok e h =
+      record { told = refl; written = λ _. failure_fits v f; valid = ok; state = s2; rows = e; holds = h; paid = λ p. cc; commit = λ p. cc }
 
-  keeps_fits : (v : Version) (s s2 : State) (q : RequestView) (t : Tx) (w : List WriteView) (tx : Tx) (a : ResponseView) (x : Reply) → row_at v s (kind_of q) Verdict.Failure ≡ Some s2 → Held s2 no_result no_tx t w
-      → outcome_of (phase_of s) (kind_of q) Verdict.Failure ≡ Outcome.Refused → (fits v a ≡ true → Keeps S v front s q t w tx x) → Keeps S v front s q t w tx (if_fits v a x)
-  keeps_fits v s s2 q t w tx a x e h o f =
-      keeps_if v s q t w tx (fits v a) _ _ f (λ _. keeps_fails v s s2 q t w tx (unwritable (response_spelling v a)) (unwritable_valid (response_spelling v a)) e h o)
+  keeps_fits : (v : Version) (s s2 : State) (q : RequestView) (t : Tx) (w : Change) (tx : Tx) (a : ResponseView) (x : Reply) → row_at v s (kind_of q) Verdict.Failure ≡ Some s2 → Held s2 no_result no_tx t w
+      → (fits v a ≡ true → Keeps S v front s q t w tx x) → Keeps S v front s q t w tx (if_fits v a x)
+  keeps_fits v s s2 q t w tx a x e h f =
+      keeps_if v s q t w tx (fits v a) _ _ f (λ _. keeps_fails v s s2 q t w tx (unwritable (response_spelling v a)) (unwritable_valid (response_spelling v a)) e h)
+
+  -- a commit of what the summaries tell, by what the ledger has of it; said is the SUCCESS, by the place that it tells
+  keeps_commit : (v : Version) (s : State) (q : RequestView) (t : Tx) (w : Change) (tx : Tx) (its : Change) (said : ℕ → ResponseView) → its ≡ commit_of (Some q) t w
+      → ((n : ℕ) → verdict_of (in_part q) (said n) ≡ Some Verdict.Success) → ((n : ℕ) → is_invalid (said n) ≡ false) → ((n : ℕ) → n < 2 ^ 64 → fits v (said n) ≡ true)
+      → row_at v s (kind_of q) Verdict.Success ≡ Some State.Ready → row_at v s (kind_of q) Verdict.Failure ≡ Some State.Failed → commits (phase_of s) (kind_of q) ≡ true
+      → Keeps S v front s q t w tx (commits_over front its said)
+  keeps_commit v s q t w tx its said same told valid fit done failed comes = go (found_in its.token its.writes front) refl
+    where
+      committed : outcome_of (phase_of s) (kind_of q) Verdict.Success ≡ Outcome.Committed
+      committed = ap (λ b. if b then Outcome.Committed else Outcome.Done) comes
+
+      go : (f : Found) → found_in its.token its.writes front ≡ f → Keeps S v front s q t w tx (commits_as (length front) its said f)
+      go Free h = record { told = told (length front + 1); written = λ n. fit (length front + 1) (wider (length front + 1) n); valid = valid (length front + 1); state = State.Ready; rows = done; holds = tt; paid = (same, committed); commit = λ p. comes }
+      go (There n) h =
+          record { told = told n; written = λ _. fit n (omega (arith, few, place_within its.token its.writes front n h)); valid = valid n; state = State.Ready; rows = done; holds = tt; paid = λ _. (n, subst (λ z. found_in z.token z.writes front ≡ There n) same h); commit = λ p. cc }
+      go Other h = keeps_fails v s State.Failed q t w tx Fault.TokenClash refl failed tt
 
   -- a PULL or DISCARD closes outside a transaction
-  close_alone : (v : Version) (n : Count) (rows : List (List Tree)) (left : Open) (tx t : Tx) (w : List WriteView)
-      → option_to_list left.write ≡ w → (is_some (slice_get rows 0) ≡ true → is_part n ≡ true)
-      → Keeps S v front State.Streaming (RequestView.Pull n) t w tx (close State.Streaming (length front) rows left tx)
-      × Keeps S v front State.Streaming (RequestView.Discard n) t w tx (close State.Streaming (length front) rows left tx)
-  close_alone v n [] left tx t w h part = (record { told = refl; written = λ n. short_fits v (summaries.Closing (Some (length front + 1)) left.mode) (wider (length front + 1) n) tt; valid = refl; state = State.Ready; rows = refl; holds = tt; outcome = refl; commit = (h, refl, refl) }, record { told = refl; written = λ n. short_fits v (summaries.Closing (Some (length front + 1)) left.mode) (wider (length front + 1) n) tt; valid = refl; state = State.Ready; rows = refl; holds = tt; outcome = refl; commit = (h, refl, refl) })
+  close_alone : (v : Version) (n : Count) (rows : List (List Tree)) (left : Open) (tx t : Tx) (w : Change)
+      → change_alone left ≡ w → (is_some (slice_get rows 0) ≡ true → is_part n ≡ true)
+      → Keeps S v front State.Streaming (RequestView.Pull n) t w tx (close State.Streaming front rows left tx)
+      × Keeps S v front State.Streaming (RequestView.Discard n) t w tx (close State.Streaming front rows left tx)
+  close_alone v n [] left tx t w h part = (closed (RequestView.Pull n) h (λ m. refl) refl refl refl, closed (RequestView.Discard n) h (λ m. refl) refl refl refl)
+    where
+      said : ℕ → ResponseView
+      said m = response_of_summary (summaries.Closing (Some m) left.mode)
+
+      closed : (q : RequestView) → change_alone left ≡ commit_of (Some q) t w → ((m : ℕ) → verdict_of (in_part q) (said m) ≡ Some Verdict.Success)
+          → row_at v State.Streaming (kind_of q) Verdict.Success ≡ Some State.Ready → row_at v State.Streaming (kind_of q) Verdict.Failure ≡ Some State.Failed → commits (phase_of State.Streaming) (kind_of q) ≡ true
+          → Keeps S v front State.Streaming q t w tx (commits_over front (change_alone left) said)
+      closed q same told done failed comes =
+          keeps_commit v State.Streaming q t w tx (change_alone left) said same told (λ m. refl) (λ m l. short_fits v (summaries.Closing (Some m) left.mode) l tt) done failed comes
   close_alone v Count.All (r ∷ rs) left tx t w h part = let no : false ≡ true = part refl in cc
-  close_alone v (Count.Of m) (r ∷ rs) left tx t w h part = (record { told = refl; written = λ _. short_fits v (summaries.RowsLeft) tt tt; valid = refl; state = State.Streaming; rows = refl; holds = h; outcome = refl; commit = tt }, record { told = refl; written = λ _. short_fits v (summaries.RowsLeft) tt tt; valid = refl; state = State.Streaming; rows = refl; holds = h; outcome = refl; commit = tt })
+  close_alone v (Count.Of m) (r ∷ rs) left tx t w h part = (record { told = refl; written = λ _. short_fits v (summaries.RowsLeft) tt tt; valid = refl; state = State.Streaming; rows = refl; holds = h; paid = λ p. cc; commit = λ p. cc }, record { told = refl; written = λ _. short_fits v (summaries.RowsLeft) tt tt; valid = refl; state = State.Streaming; rows = refl; holds = h; paid = λ p. cc; commit = λ p. cc })
 
   -- and inside one
-  close_inside : (v : Version) (n : Count) (rows : List (List Tree)) (left : Open) (tx t : Tx) (w : List WriteView)
+  close_inside : (v : Version) (n : Count) (rows : List (List Tree)) (left : Open) (tx t : Tx) (w : Change)
       → tx ≡ t → (is_some (slice_get rows 0) ≡ true → is_part n ≡ true)
-      → Keeps S v front State.TxStreaming (RequestView.Pull n) t w tx (close State.TxStreaming (length front) rows left tx)
-      × Keeps S v front State.TxStreaming (RequestView.Discard n) t w tx (close State.TxStreaming (length front) rows left tx)
-  close_inside v n [] left tx t w h part = (record { told = refl; written = λ _. short_fits v (summaries.Closing None left.mode) tt tt; valid = refl; state = State.TxReady; rows = refl; holds = h; outcome = refl; commit = tt }, record { told = refl; written = λ _. short_fits v (summaries.Closing None left.mode) tt tt; valid = refl; state = State.TxReady; rows = refl; holds = h; outcome = refl; commit = tt })
+      → Keeps S v front State.TxStreaming (RequestView.Pull n) t w tx (close State.TxStreaming front rows left tx)
+      × Keeps S v front State.TxStreaming (RequestView.Discard n) t w tx (close State.TxStreaming front rows left tx)
+  close_inside v n [] left tx t w h part = (record { told = refl; written = λ _. short_fits v (summaries.Closing None left.mode) tt tt; valid = refl; state = State.TxReady; rows = refl; holds = h; paid = λ p. cc; commit = λ p. cc }, record { told = refl; written = λ _. short_fits v (summaries.Closing None left.mode) tt tt; valid = refl; state = State.TxReady; rows = refl; holds = h; paid = λ p. cc; commit = λ p. cc })
   close_inside v Count.All (r ∷ rs) left tx t w h part = let no : false ≡ true = part refl in cc
-  close_inside v (Count.Of m) (r ∷ rs) left tx t w h part = (record { told = refl; written = λ _. short_fits v (summaries.RowsLeft) tt tt; valid = refl; state = State.TxStreaming; rows = refl; holds = h; outcome = refl; commit = tt }, record { told = refl; written = λ _. short_fits v (summaries.RowsLeft) tt tt; valid = refl; state = State.TxStreaming; rows = refl; holds = h; outcome = refl; commit = tt })
+  close_inside v (Count.Of m) (r ∷ rs) left tx t w h part = (record { told = refl; written = λ _. short_fits v (summaries.RowsLeft) tt tt; valid = refl; state = State.TxStreaming; rows = refl; holds = h; paid = λ p. cc; commit = λ p. cc }, record { told = refl; written = λ _. short_fits v (summaries.RowsLeft) tt tt; valid = refl; state = State.TxStreaming; rows = refl; holds = h; paid = λ p. cc; commit = λ p. cc })
 
   used_part : (n : Count) (k : ℕ) → used_up n k ≡ true → is_part n ≡ true
   used_part Count.All k h = cc
   used_part (Count.Of m) k h = refl
 
-  pull_alone : (v : Version) (n : Count) (rows : List (List Tree)) (left : Open) (tx t : Tx) (w : List WriteView) → option_to_list left.write ≡ w
-      → Keeps S v front State.Streaming (RequestView.Pull n) t w tx (pull v State.Streaming (length front) n rows left tx)
+  pull_alone : (v : Version) (n : Count) (rows : List (List Tree)) (left : Open) (tx t : Tx) (w : Change) → change_alone left ≡ w
+      → Keeps S v front State.Streaming (RequestView.Pull n) t w tx (pull v State.Streaming front n rows left tx)
   pull_alone v n [] left tx t w h = (close_alone v n [] left tx t w h (λ e. cc)).0
   pull_alone v n (r ∷ rs) left tx t w h =
       keeps_if v _ _ t w tx (used_up n left.written) _ _
       (λ used. (close_alone v n (r ∷ rs) left tx t w h (λ e. used_part n left.written used)).0)
-      (λ on. keeps_fits v State.Streaming State.Failed _ t w tx (ResponseView.Record r) _ refl tt refl (λ f. ((n, refl), f, h)))
+      (λ on. keeps_fits v State.Streaming State.Failed _ t w tx (ResponseView.Record r) _ refl tt (λ f. ((n, refl), f, h)))
 
-  pull_inside : (v : Version) (n : Count) (rows : List (List Tree)) (left : Open) (tx t : Tx) (w : List WriteView) → tx ≡ t
-      → Keeps S v front State.TxStreaming (RequestView.Pull n) t w tx (pull v State.TxStreaming (length front) n rows left tx)
+  pull_inside : (v : Version) (n : Count) (rows : List (List Tree)) (left : Open) (tx t : Tx) (w : Change) → tx ≡ t
+      → Keeps S v front State.TxStreaming (RequestView.Pull n) t w tx (pull v State.TxStreaming front n rows left tx)
   pull_inside v n [] left tx t w h = (close_inside v n [] left tx t w h (λ e. cc)).0
   pull_inside v n (r ∷ rs) left tx t w h =
       keeps_if v _ _ t w tx (used_up n left.written) _ _
       (λ used. (close_inside v n (r ∷ rs) left tx t w h (λ e. used_part n left.written used)).0)
-      (λ on. keeps_fits v State.TxStreaming State.Failed _ t w tx (ResponseView.Record r) _ refl tt refl (λ f. ((n, refl), f, h)))
+      (λ on. keeps_fits v State.TxStreaming State.Failed _ t w tx (ResponseView.Record r) _ refl tt (λ f. ((n, refl), f, h)))
 
   discard_part : (n : Count) (rows : List (List Tree)) → is_some (slice_get (left_after n rows) 0) ≡ true → is_part n ≡ true
   discard_part Count.All rows h = cc
   discard_part (Count.Of m) rows h = refl
 
-  ran_alone : (v : Version) (query : List ℕ) (params : List ParameterView) (mode : Mode) (tx t : Tx) (w : List WriteView) (res : Result AnswerView QueryFault) → S.run front [] query params (query_mode mode) ≡ res
-      → Keeps S v front State.Ready (RequestView.Run query params mode) t w tx (reply_to_run v State.Ready tx res)
-  ran_alone v query params mode tx t w (Err e) h = keeps_fails v State.Ready State.Failed _ t w tx (of_query e) (query_valid e) refl tt refl
-  ran_alone v query params mode tx t w (Ok a) h =
-      keeps_fits v State.Ready State.Failed _ t w tx (fields_said a.fields) _ refl tt refl
-      (λ f. record { told = refl; written = λ _. f; valid = refl; state = State.Streaming; rows = refl; holds = rw h refl; outcome = refl; commit = tt })
+  ran_alone : (v : Version) (query : List ℕ) (params : List ParameterView) (mode : Mode) (token : Token) (tx t : Tx) (w : Change) (res : Result AnswerView QueryFault) → S.run front [] query params (query_mode mode) ≡ res
+      → Keeps S v front State.Ready (RequestView.Run query params mode token) t w tx (reply_to_run v State.Ready tx token res)
+  ran_alone v query params mode token tx t w (Err e) h = keeps_fails v State.Ready State.Failed _ t w tx (of_query e) (query_valid e) refl tt
+  ran_alone v query params mode token tx t w (Ok a) h =
+      keeps_fits v State.Ready State.Failed _ t w tx (fields_said a.fields) _ refl tt
+      (λ f. record { told = refl; written = λ _. f; valid = refl; state = State.Streaming; rows = refl; holds = rw h refl; paid = λ p. cc; commit = λ p. cc })
 
-  ran_inside : (v : Version) (query : List ℕ) (params : List ParameterView) (mode : Mode) (t : Tx) (w : List WriteView) (res : Result AnswerView QueryFault) → S.run front t.writes query params (query_mode t.mode) ≡ res
-      → Keeps S v front State.TxReady (RequestView.Run query params mode) t w t (reply_to_run v State.TxReady t res)
-  ran_inside v query params mode t w (Err e) h = keeps_fails v State.TxReady State.Failed _ t w t (of_query e) (query_valid e) refl tt refl
-  ran_inside v query params mode t w (Ok a) h =
+  ran_inside : (v : Version) (query : List ℕ) (params : List ParameterView) (mode : Mode) (token : Token) (t : Tx) (w : Change) (res : Result AnswerView QueryFault) → S.run front t.writes query params (query_mode t.mode) ≡ res
+      → Keeps S v front State.TxReady (RequestView.Run query params mode token) t w t (reply_to_run v State.TxReady t token res)
+  ran_inside v query params mode token t w (Err e) h = keeps_fails v State.TxReady State.Failed _ t w t (of_query e) (query_valid e) refl tt
+  ran_inside v query params mode token t w (Ok a) h =
       keeps_if v _ _ t w t (is_some a.write && nat_le 1024 (length t.writes)) _ _
-      (λ f. keeps_fails v State.TxReady State.Failed _ t w t Fault.TooManyWrites refl refl tt refl)
-      (λ few. keeps_fits v State.TxReady State.Failed _ t w t (fields_said a.fields) _ refl tt refl
-      (λ f. record { told = refl; written = λ _. f; valid = refl; state = State.TxStreaming; rows = refl; holds = rw h refl; outcome = refl; commit = tt }))
+      (λ f. keeps_fails v State.TxReady State.Failed _ t w t Fault.TooManyWrites refl refl tt)
+      (λ few. keeps_fits v State.TxReady State.Failed _ t w t (fields_said a.fields) _ refl tt
+      (λ f. record { told = refl; written = λ _. f; valid = refl; state = State.TxStreaming; rows = refl; holds = rw h refl; paid = λ p. cc; commit = λ p. cc }))
 
-  keeps_succeeds : (v : Version) (s s2 : State) (q : RequestView) (t : Tx) (w : List WriteView) (tx : Tx) (x : summaries.Summary) → IsShort x → HasTexts x
+  keeps_succeeds : (v : Version) (s s2 : State) (q : RequestView) (t : Tx) (w : Change) (tx : Tx) (x : summaries.Summary) → IsShort x → HasTexts x
       → verdict_of (in_part q) (response_of_summary x) ≡ Some Verdict.Success → is_invalid (response_of_summary x) ≡ false
       → row_at v s (kind_of q) Verdict.Success ≡ Some s2 → Held s2 no_result no_tx (tx_then S front q (response_of_summary x) t) (alone_then S front q (response_of_summary x) w)
-      → outcome_of (phase_of s) (kind_of q) Verdict.Success ≡ outcome_by (response_of_summary x) None → Keeps S v front s q t w tx (succeeds (response_of_summary x))
-  keeps_succeeds v s s2 q t w tx x short bytes_in_order told valid e h o =
-      record { told = told; written = λ _. short_fits v x short bytes_in_order; valid = valid; state = s2; rows = e; holds = h; outcome = o; commit = tt }
+      → commits (phase_of s) (kind_of q) ≡ false → Keeps S v front s q t w tx (succeeds (response_of_summary x))
+  keeps_succeeds v s s2 q t w tx x short bytes_in_order told valid e h none =
+      record { told = told; written = λ _. short_fits v x short bytes_in_order; valid = valid; state = s2; rows = e; holds = h; paid = λ p. absurd (not_committed p); commit = λ p. cc }
+    where
+      not_committed : outcome_of (phase_of s) (kind_of q) Verdict.Success ≡ Outcome.Committed → ⊥
+      not_committed p = let no : Outcome.Done ≡ Outcome.Committed = sym (ap (λ b. if b then Outcome.Committed else Outcome.Done) none) ∙ p in absurd cc
 
-  logs_on : (v : Version) (s : State) (q : RequestView) (a : AuthView) (tx t : Tx) (w : List WriteView) (x : summaries.Summary) → Keeps S v front s q t w tx (succeeds (response_of_summary x)) → Keeps S v front s q t w tx (fails Fault.Unauthorized)
+  logs_on : (v : Version) (s : State) (q : RequestView) (a : AuthView) (tx t : Tx) (w : Change) (x : summaries.Summary) → Keeps S v front s q t w tx (succeeds (response_of_summary x)) → Keeps S v front s q t w tx (fails Fault.Unauthorized)
       → Keeps S v front s q t w tx (reply_to_login S a (response_of_summary x))
   logs_on v s q a tx t w x let_in refused = keeps_if v s q t w tx (bytes_eq a.scheme (codes "basic") && S.check a.principal a.credentials) _ _ (λ e. let_in) (λ e. refused)
 
   -- a HELLO, by whether it carries who the client is
-  greets_keep : (v : Version) (b : Bool) (agent : List ℕ) (auth : Option AuthView) (tx t : Tx) (w : List WriteView) → hello_has_login v ≡ b
+  greets_keep : (v : Version) (b : Bool) (agent : List ℕ) (auth : Option AuthView) (tx t : Tx) (w : Change) → hello_has_login v ≡ b
       → Keeps S v front State.Fresh (RequestView.Hello agent auth) t w tx (if b then reply_to_hello S auth (response_of_summary (summaries.Greeting c)) else succeeds (response_of_summary (summaries.Greeting c)))
   greets_keep v false agent auth tx t w e = keeps_succeeds v State.Fresh State.Unauth (RequestView.Hello agent auth) t w tx (summaries.Greeting c) numbered tt refl refl (hello_row v false e) tt refl
-  greets_keep v true agent None tx t w e = keeps_fails v State.Fresh State.Defunct (RequestView.Hello agent None) t w tx Fault.Unauthorized refl refl tt refl
+  greets_keep v true agent None tx t w e = keeps_fails v State.Fresh State.Defunct (RequestView.Hello agent None) t w tx Fault.Unauthorized refl refl tt
   greets_keep v true agent (Some a) tx t w e =
       logs_on v State.Fresh (RequestView.Hello agent (Some a)) a tx t w (summaries.Greeting c)
       (keeps_succeeds v State.Fresh State.Ready (RequestView.Hello agent (Some a)) t w tx (summaries.Greeting c) numbered tt refl refl (hello_row v true e) tt refl)
-      (keeps_fails v State.Fresh State.Defunct (RequestView.Hello agent (Some a)) t w tx Fault.Unauthorized refl refl tt refl)
+      (keeps_fails v State.Fresh State.Defunct (RequestView.Hello agent (Some a)) t w tx Fault.Unauthorized refl refl tt)
 
-  performs : (v : Version) (s : State) (left : Open) (tx t : Tx) (w : List WriteView) (q : RequestView) → Held s left tx t w
+  performs : (v : Version) (s : State) (left : Open) (tx t : Tx) (w : Change) (q : RequestView) → Held s left tx t w
       → is_some (row_at v s (kind_of q) Verdict.Success) ≡ true → Keeps S v front s q t w tx (perform S v c front s left tx q)
   performs v State.Fresh left tx t w (RequestView.Hello agent auth) h r = greets_keep v (hello_has_login v) agent auth tx t w refl
   performs v State.Unauth left tx t w (RequestView.Logon a) h r =
       logs_on v State.Unauth (RequestView.Logon a) a tx t w summaries.Plain
       (keeps_succeeds v State.Unauth State.Ready (RequestView.Logon a) t w tx summaries.Plain tt tt refl refl (row_beside State.Unauth Kind.Logon Verdict.Success State.Ready refl v r) tt refl)
-      (keeps_fails v State.Unauth State.Defunct (RequestView.Logon a) t w tx Fault.Unauthorized refl (row_beside State.Unauth Kind.Logon Verdict.Failure State.Defunct refl v r) tt refl)
+      (keeps_fails v State.Unauth State.Defunct (RequestView.Logon a) t w tx Fault.Unauthorized refl (row_beside State.Unauth Kind.Logon Verdict.Failure State.Defunct refl v r) tt)
   performs v State.Ready left tx t w RequestView.Logoff h r =
       keeps_succeeds v State.Ready State.Unauth RequestView.Logoff t w tx summaries.Plain tt tt refl refl (row_beside State.Ready Kind.Logoff Verdict.Success State.Unauth refl v r) tt refl
-  performs v State.Ready left tx t w (RequestView.Run query params mode) h r = ran_alone v query params mode tx t w _ refl
-  performs v State.Ready left tx t w (RequestView.Begin mode) h r = record { told = refl; written = λ _. short_fits v (summaries.Plain) tt tt; valid = refl; state = State.TxReady; rows = refl; holds = refl; outcome = refl; commit = tt }
+  performs v State.Ready left tx t w (RequestView.Run query params mode token) h r = ran_alone v query params mode token tx t w _ refl
+  performs v State.Ready left tx t w (RequestView.Begin mode token) h r = record { told = refl; written = λ _. short_fits v (summaries.Plain) tt tt; valid = refl; state = State.TxReady; rows = refl; holds = refl; paid = λ p. cc; commit = λ p. cc }
   performs v State.Streaming left tx t w (RequestView.Pull n) h r = pull_alone v n left.rows left tx t w h
   performs v State.Streaming left tx t w (RequestView.Discard n) h r = (close_alone v n (left_after n left.rows) left tx t w h (discard_part n left.rows)).1
-  performs v State.TxReady left tx t w (RequestView.Run query params mode) h r = subst (λ (u : Tx). Keeps S v front State.TxReady (RequestView.Run query params mode) u w tx (reply_to_run v State.TxReady tx (S.run front tx.writes query params (query_mode tx.mode)))) h (ran_inside v query params mode tx w _ refl)
-  performs v State.TxReady left tx t w RequestView.Commit h r = record { told = refl; written = λ n. short_fits v (summaries.Committed (length front + 1)) (wider (length front + 1) n) tt; valid = refl; state = State.Ready; rows = refl; holds = tt; outcome = refl; commit = (ap (λ (u : Tx). u.writes) h, refl, refl) }
+  performs v State.TxReady left tx t w (RequestView.Run query params mode token) h r = subst (λ (u : Tx). Keeps S v front State.TxReady (RequestView.Run query params mode token) u w tx (reply_to_run v State.TxReady tx token (S.run front tx.writes query params (query_mode tx.mode)))) h (ran_inside v query params mode token tx w _ refl)
+  performs v State.TxReady left tx t w RequestView.Commit h r =
+      keeps_commit v State.TxReady RequestView.Commit t w tx (change_inside tx) (λ n. response_of_summary (summaries.Committed n)) (ap (λ (u : Tx). change_inside u) h) (λ n. refl) (λ n. refl) (λ n l. short_fits v (summaries.Committed n) l tt) refl refl refl
   performs v State.TxReady left tx t w RequestView.Rollback h r = keeps_succeeds v State.TxReady State.Ready _ t w tx summaries.Plain tt tt refl refl refl tt refl
   performs v State.TxStreaming left tx t w (RequestView.Pull n) h r = pull_inside v n left.rows left tx t w h
   performs v State.TxStreaming left tx t w (RequestView.Discard n) h r = (close_inside v n (left_after n left.rows) left tx t w h (discard_part n left.rows)).1
@@ -251,9 +281,9 @@ module _ (S : Setting) (c : ℕ) (numbered : c < 2 ^ 64) (front : List EntryView
   performs v State.Defunct left tx t w RequestView.Logoff h r = absurd (true≢false (no_row State.Defunct Kind.Logoff refl v r))
   performs v _ left tx t w _ h r = cc
 
-  ignored_keeps : (v : Version) (s : State) (q : RequestView) (tx t : Tx) (w : List WriteView) → row_at v s (kind_of q) Verdict.Ignored ≡ Some s → Held s no_result no_tx t w
+  ignored_keeps : (v : Version) (s : State) (q : RequestView) (tx t : Tx) (w : Change) → row_at v s (kind_of q) Verdict.Ignored ≡ Some s → Held s no_result no_tx t w
       → Keeps S v front s q t w tx (Summary Verdict.Ignored (response_of_summary summaries.Passed) no_result no_tx None)
-  ignored_keeps v s q tx t w r h = record { told = refl; written = λ _. short_fits v summaries.Passed tt tt; valid = refl; state = s; rows = r; holds = h; outcome = refl; commit = tt }
+  ignored_keeps v s q tx t w r h = record { told = refl; written = λ _. short_fits v summaries.Passed tt tt; valid = refl; state = s; rows = r; holds = h; paid = λ p. cc; commit = λ p. cc }
 
   -- a request that its phase allows has a row
   has_row : (v : Version) (s : State) (k : Kind) → allows v (phase_of s) k ≡ true → is_goodbye k ≡ false → is_halted s ≡ false → is_some (row_at v s k Verdict.Success) ≡ true
@@ -269,17 +299,17 @@ module _ (S : Setting) (c : ℕ) (numbered : c < 2 ^ 64) (front : List EntryView
       is_state (row_at v s k Verdict.Ignored) s
       (implies_at (not (is_reset k)) _ (implies_at (is_halted s) _ (implies_at (not (is_goodbye k)) _ (implies_at (allows v (phase_of s) k) _ (at_rows (λ v s k. implies (allows v (phase_of s) k) (implies (not (is_goodbye k)) (implies (is_halted s) (implies (not (is_reset k)) (option_is (row_at v s k Verdict.Ignored) s))))) refl v s k) a) g2) h) r2)
 
-  halted_held : (s : State) (tx t : Tx) (w : List WriteView) → is_halted s ≡ true → Held s no_result no_tx t w
+  halted_held : (s : State) (tx t : Tx) (w : Change) → is_halted s ≡ true → Held s no_result no_tx t w
   halted_held State.Failed tx t w h = tt
   halted_held State.Interrupted tx t w h = tt
   halted_held _ tx t w h = cc
 
-  reset_keeps : (v : Version) (s : State) (q : RequestView) (tx t : Tx) (w : List WriteView) → is_halted s ≡ true → is_reset (kind_of q) ≡ true → Keeps S v front s q t w tx (succeeds (response_of_summary summaries.Plain))
+  reset_keeps : (v : Version) (s : State) (q : RequestView) (tx t : Tx) (w : Change) → is_halted s ≡ true → is_reset (kind_of q) ≡ true → Keeps S v front s q t w tx (succeeds (response_of_summary summaries.Plain))
   reset_keeps v State.Failed RequestView.Reset tx t w h r = keeps_succeeds v State.Failed State.Ready _ t w tx summaries.Plain tt tt refl refl refl tt refl
   reset_keeps v State.Interrupted RequestView.Reset tx t w h r = keeps_succeeds v State.Interrupted State.Ready _ t w tx summaries.Plain tt tt refl refl refl tt refl
   reset_keeps _ _ _ tx t w h r = cc
 
-  pub serves : (v : Version) (s : State) (left : Open) (tx t : Tx) (w : List WriteView) (q : RequestView) → Held s left tx t w
+  pub serves : (v : Version) (s : State) (left : Open) (tx t : Tx) (w : Change) (q : RequestView) → Held s left tx t w
       → allows v (phase_of s) (kind_of q) ≡ true → Keeps S v front s q t w tx (serve S v c front s left tx q)
   serves v s left tx t w q h a =
       keeps_if v s q t w tx (is_goodbye (kind_of q)) _ _ (λ g. tt)

@@ -14,7 +14,7 @@ use Rattle.engine.specs.declared.Mode.{Mode as QueryMode}
 use Rattle.engine.specs.Views.{EntryView, WriteView, ParameterView, AnswerView, QueryFault}
 use Rattle.exchange.specs.declared.Cause.{Cause}
 use Rattle.exchange.specs.declared.Worked.{Worked}
-use Rattle.exchange.specs.Session.{Setting, no_result, no_tx, Reply, OneRow, Summary, Bye, serve}
+use Rattle.exchange.specs.Session.{Change, Setting, no_result, no_tx, Reply, OneRow, Summary, Bye, serve}
 use Rattle.server.specs.declared.Took.{Took}
 use Rattle.exchange.specs.Rest as serving_rest
 use Rattle.exchange.specs.Rest.{reset_among, unread_among, worked_of, Step, work_kept, commit_entries}
@@ -286,7 +286,7 @@ module _ (G : Type 0) (gate : G) (w : World) (c : ℕ) (k : Connection) (here : 
       stepped e d ke co up lo =
           let l : ◌≡◌ {A = Live} (record { conn = c; kept = d.kept; unfinished = state at_server at_server.start k.up }) (live_of c e.conn) =
           ap₂ (λ (x : serving_rest.Kept) (y : List ℕ). record { conn = c; kept = x; unfinished = state at_server at_server.start y }) (sym ke) (sym up) in
-          ap₂ (λ (ss : List Live) (o : Option (List WriteView)). record { sessions = ss; next = length w.conns; ledger = ledger w ++ commit_entries c (answer_count k.says) o; gate = gate }) (replace_at w.conns 0 c c k e.conn _ (omega arith) here lives lo l) (sym co)
+          ap₂ (λ (ss : List Live) (o : Option Change). record { sessions = ss; next = length w.conns; ledger = ledger w ++ commit_entries c (answer_count k.says) o; gate = gate }) (replace_at w.conns 0 c c k e.conn _ (omega arith) here lives lo l) (sym co)
           ∙ ap₂ (λ (n : ℕ) (es : List EntryView). record { sessions = sessions_from 0 (slice_set w.conns c e.conn); next = n; ledger = es; gate = gate }) (sym (length-set w.conns c e.conn)) (append_assoc w.brought w.since (commit_entries c (answer_count k.says) e.commit))
 
   -- `feed`, where no cut stands between

@@ -22,7 +22,7 @@ use Rattle.world.proofs.Doing.{client_alike, Does, stays, asks, loses, gives, st
 
 -- a run without what was seen of it
 pub ran_reached : {S : Setting} {brought : List EntryView} {past : List (Event × Seen)} {w : World} → Ran S brought past w → Reached S brought w
-ran_reached begins = world.begins
+ran_reached (begins l) = world.begins l
 ran_reached (goes_on w w2 e seen past r t) = world.goes_on w w2 e seen (ran_reached r) t
 ran_reached (takes_out w c n past r) = world.takes_out w c n (ran_reached r)
 
@@ -148,6 +148,6 @@ module _ (S : Setting) (w : World) (sound : (c : ℕ) (k : Connection) → slice
           pick j false h = all j ∙ ap told_of (sym (set_other w.conns c j k2 (eqb-false c j h)))
 
 pub reached_tell : {S : Setting} {brought : List EntryView} {past : List (Event × Seen)} {w : World} → Ran S brought past w → AllTold past w
-reached_tell begins = λ j. refl
+reached_tell (begins l) = λ j. refl
 reached_tell {S = S} {brought = brought} (goes_on w w2 e seen past r t) = step_tells S w (reached_sound S brought (ran_reached r)) past (reached_tell r) seen w2 e t.steps
 reached_tell {S = S} {brought = brought} (takes_out w c n past r) = takes_tell S w (reached_sound S brought (ran_reached r)) past (reached_tell r) c n

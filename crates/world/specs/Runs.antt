@@ -4,11 +4,11 @@ use Rattle.engine.specs.Views.{EntryView}
 use Rattle.exchange.specs.Session.{Setting}
 use Rattle.client.specs.Client.{Told}
 use Rattle.client.specs.Moments.{tellings}
-use Rattle.world.specs.World.{World, Event, Seen, Gave, WStep, place, empty, taken_out}
+use Rattle.world.specs.World.{World, Event, Seen, Gave, WStep, IsLedger, place, empty, taken_out}
 
--- the worlds that a list of steps reaches from one without connections, with its events and what was seen of each, the newest first
+-- the worlds that a list of steps reaches from one without connections, over the ledger that the engine brought, with its events and what was seen of each, the newest first
 pub data Ran (S : Setting) (brought : List EntryView) : List (Event × Seen) → World → Type 0 where
-  begins : Ran S brought [] (empty brought)
+  begins : IsLedger brought → Ran S brought [] (empty brought)
   goes_on : (w w2 : World) (e : Event) (seen : Seen) (past : List (Event × Seen))
       → Ran S brought past w → WStep S w e seen w2 → Ran S brought ((e, seen) ∷ past) w2
   takes_out : (w : World) (c n : ℕ) (past : List (Event × Seen)) → Ran S brought past w

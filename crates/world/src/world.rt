@@ -32,11 +32,15 @@ impl<E: Engine, G: Gate> World<E, G> {
     ghost use Rattle.world.specs.Seeing.{IsOpens};
     ghost use Rattle.world.specs.Turns.{FitsWorld, setting_of, seen_in};
 
-    /// A world without connections, over what the engine brings. Takes no memory.
+    /// A world without connections, over the ledger that the engine brings. Takes no memory.
     pub fn new(alloc: Global, engine: E, gate: G) -> World<E, G>
         ensures fits { FitsWorld E.entries result gate (empty (E.entries engine)) }
+        ensures reached { Reached (setting_of E.answer G.accepts gate) (E.entries engine)
+            (empty (E.entries engine)) }
         ensures good { AllGood (setting_of E.answer G.accepts gate) (empty (E.entries engine)) }
     {
+        // What the engine brings is a ledger: no two of its entries have one token.
+        let _count = engine.ledger().len();
         World {
             links: Vec::new(alloc),
             server: Server::new(alloc, engine, gate),

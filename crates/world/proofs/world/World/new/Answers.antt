@@ -1,6 +1,10 @@
-use Rattle.std.proofs.Common.{sym, subst, refl, List, []}
+use Rattle.std.proofs.lemmas.List.{length-map}
+use Rattle.engine.specs.Views.{entry_view}
+use Rattle.std.proofs.Common.{sym, subst, ap, refl, length, List, [], arith}
 use Rattle.world.specs.declared.link.Link.{Link as LinkHeld}
+use Rattle.engine.specs.Views.{EntryView}
 use Rattle.world.specs.Turns.{FitsWorld, HoldLinks}
+use Rattle.world.specs.World.{begins}
 use Rattle.world.proofs.Placed.{new_fits}
 use Rattle.world.proofs.world.World.new.Goals as goal
 
@@ -15,3 +19,7 @@ returns-clause-fits g c =
       gated = refl;
       fits = new_fits c.args.gate (g.E.Engine.entries c.args.engine);
     }
+
+pub returns-clause-reached : goal.returns-clause-reached
+returns-clause-reached g c =
+    begins (record { once = c.ledger-count.ensures.once; counted = omega (arith, length-map (c.ledger-count.result.now) entry_view, ap (λ (es : List EntryView). length es) c.ledger-count.ensures.lends) })
