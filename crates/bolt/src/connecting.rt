@@ -1,17 +1,17 @@
 //! What the program does over sockets.
-ghost use Rattle.std.specs.Prelude.{◌≡◌, ◌⊎◌, ◌↔◌, true, None, string_bytes, IfOk, IfErr, OnOk, IsErrOf};
+ghost use Rattle.std.specs.Prelude.{◌≡◌, true, None, string_bytes, IfOk, IfErr, OnOk, IsErrOf};
 ghost use Rattle.std.specs.Io.KnownBytes.{Appends};
-ghost use Rattle.std.specs.IoError.{error_kind};
 ghost use Rattle.scripts.specs.Rows.{request_line_of};
 ghost use Rattle.scripts.specs.Script.{filled_lines, unreadable};
 ghost use Rattle.bolt.specs.Served.{IsServing, HasServedAll, listening_line};
 
+use crate::reasons::{put_connected, put_unreached, put_unread};
 use engine::{FixedTable, OneUser};
-use programs::{Channel, put_fault, run_loop, serve_next, shell};
+use programs::{Channel, drain, put_fault, run_loop, serve_next, shell};
 use server::Server;
 use std::alloc::{AllocError, Global};
-use std::io::ErrorKind;
-use std::net::{TcpListener, TcpStream};
+use std::net::{Shutdown, TcpListener, TcpStream};
+use std::time::Duration;
 use std::{fs, io};
 use streams::{Over, Sink, StreamFault, write_all};
 
@@ -21,15 +21,23 @@ mod tests;
 /// The address of this machine for itself.
 const HERE: &str = "127.0.0.1";
 
-/// A client at a shell, with the server at this port of the host: `fault I1` where it can't be reached.
+/// How many seconds `serve` waits for a peer that says nothing, or takes nothing of what it is sent. Then the connection is lost.
+const SILENCE: u64 = 60;
+
+/// How many seconds each read waits for what a peer still sends after the end.
+const LAST_WAIT: u64 = 1;
+
+/// A client at a shell, with the server at this port of the host: `fault I1` where it can't be reached, and on the next line why. Where it
+/// can, that is said on standard error.
 pub(crate) fn shell_at(rt: &HostRuntime, host: &str, port: u16) -> u8 {
     let mut input = Over::new(rt.stdin());
     let mut out = Over::new(rt.stdout());
     let mut err = Over::new(rt.stderr());
     let stream = match TcpStream::connect(rt, (host, port)) {
         Ok(stream) => stream,
-        Err(error) => return put_fault(unread(&error), &mut err),
+        Err(error) => return put_unreached(rt.alloc(), host, port, &error, &mut err),
     };
+    put_connected(rt.alloc(), host, port, &mut err);
     send_at_once(&stream);
     let mut source = Over::new(&stream);
     let mut sink = Over::new(&stream);
@@ -50,7 +58,7 @@ pub(crate) fn serve_on(rt: &HostRuntime, port: u16, count: u32) -> u8 {
     let mut err = Over::new(rt.stderr());
     let listener = match TcpListener::bind(rt, (HERE, port)) {
         Ok(listener) => listener,
-        Err(error) => return put_fault(unread(&error), &mut err),
+        Err(error) => return put_unreached(rt.alloc(), HERE, port, &error, &mut err),
     };
     match serve_count(rt.alloc(), &listener, port, count, &mut out) {
         Ok(()) => 0,
@@ -77,9 +85,11 @@ pub(crate) fn serve_count<O: Sink>(
             return Err(StreamFault::ReadFailed);
         };
         send_at_once(&stream);
+        wait_at_most(&stream, SILENCE);
         let mut source = Over::new(&stream);
         let mut sink = Over::new(&stream);
         serve_next(alloc, &mut server, &mut source, &mut sink, out)?;
+        close(&stream);
     }
     Ok(())
 }
@@ -131,7 +141,7 @@ pub(crate) fn loop_through(rt: &HostRuntime, file: &str) -> u8 {
     let mut err = Over::new(rt.stderr());
     let script = match fs::read(rt, file) {
         Ok(script) => script,
-        Err(error) => return put_fault(unread(&error), &mut err),
+        Err(error) => return put_unread(rt.alloc(), file, &error, &mut err),
     };
     loop_lines(rt, script.as_slice(), &mut out, &mut err)
 }
@@ -149,7 +159,7 @@ pub(crate) fn loop_lines<O: Sink, E: Sink>(
     let alloc = rt.alloc();
     let (near, far) = match connected(rt) {
         Ok(ends) => ends,
-        Err(error) => return put_fault(unread(&error), err),
+        Err(error) => return put_unreached(alloc, HERE, 0, &error, err),
     };
     let mut server = match server_of(alloc) {
         Ok(server) => server,
@@ -164,18 +174,6 @@ pub(crate) fn loop_lines<O: Sink, E: Sink>(
         sink: Over::new(&far),
     };
     run_loop(alloc, &mut server, script, &mut near, &mut far, out, err)
-}
-
-/// The fault of a file that isn't read, and of a connection that isn't had: want of memory, or I1.
-pub(crate) fn unread(error: &io::Error) -> StreamFault
-    ensures memory { (result ≡ StreamFault.Memory)
-        ↔ (error_kind error.now ≡ ErrorKind.OutOfMemory) }
-    ensures read { (result ≡ StreamFault.Memory) ⊎ (result ≡ StreamFault.ReadFailed) }
-{
-    if error.kind() == ErrorKind::OutOfMemory {
-        return StreamFault::Memory;
-    }
-    StreamFault::ReadFailed
 }
 
 /// The two ends of a connection of this machine with itself.
@@ -193,4 +191,18 @@ fn connected(rt: &HostRuntime) -> io::Result<(TcpStream, TcpStream)> {
 /// no worse.
 fn send_at_once(stream: &TcpStream) {
     let _set = stream.set_nodelay(true);
+}
+
+/// Has each read and write of the stream fail that waits for more than so many seconds. One that can't waits for as long as its peer likes.
+fn wait_at_most(stream: &TcpStream, seconds: u64) {
+    let wait = Some(Duration::from_secs(seconds));
+    let _read = stream.set_read_timeout(wait);
+    let _written = stream.set_write_timeout(wait);
+}
+
+/// Lets what was written arrive before the stream is closed: stops writing, and takes what the peer still sends.
+fn close(stream: &TcpStream) {
+    let _stopped = stream.shutdown(Shutdown::Write);
+    wait_at_most(stream, LAST_WAIT);
+    drain(&mut Over::new(stream));
 }

@@ -3,6 +3,7 @@
 
 mod connecting;
 mod opening;
+mod reasons;
 mod starting;
 
 use commands::{CommandLine, asked, command};

@@ -5,6 +5,8 @@
 #[cfg(test)]
 mod asking_tests;
 #[cfg(test)]
+mod retrying_tests;
+#[cfg(test)]
 mod serving_tests;
 #[cfg(test)]
 mod streams_of;

@@ -31,6 +31,27 @@ const ANSWER: &[u8] = &[
     0x74, 0x5F, 0x6C, 0x61, 0x73, 0x74, 0x00, 0x00, 0x00,
 ];
 
+/// RUN of ROWS with a thousand rows, and PULL of all.
+const MANY_ROWS: &[u8] = &[
+    0x00, 0x0E, 0xB3, 0x10, 0x84, 0x52, 0x4F, 0x57, 0x53, 0xA1, 0x81, 0x6E, 0xC9, 0x03, 0xE8, 0xA0,
+    0x00, 0x00, 0x00, 0x06, 0xB1, 0x3F, 0xA1, 0x81, 0x6E, 0xFF, 0x00, 0x00,
+];
+
+/// The bytes of the handshake and the HELLO at the front of the conversation.
+const GREETING: usize = 87;
+
+/// Serves a client of a server of its own.
+fn served(
+    alloc: Global,
+    source: &mut Trickle<'_>,
+    sink: &mut Drip,
+) -> Result<Result<Cause, StreamFault>, Fail> {
+    let gate = OneUser::new(alloc, "user", "pass")?;
+    let mut server = Server::new(alloc, FixedTable::new(alloc), gate);
+    let conn = server.open()?;
+    Ok(serve_one(alloc, &mut server, conn, source, sink))
+}
+
 /// Serves the conversation over streams that fail after so many reads and writes, and answers how much was written of the answer.
 fn serves(
     rt: &impl Abort,
@@ -39,9 +60,6 @@ fn serves(
     writes: usize,
     wanted: Result<Cause, StreamFault>,
 ) -> Result<usize, Fail> {
-    let gate = OneUser::new(alloc, "user", "pass")?;
-    let mut server = Server::new(alloc, FixedTable::new(alloc), gate);
-    let conn = server.open()?;
     let mut source = Trickle {
         rest: TALK,
         step: 5,
@@ -55,7 +73,7 @@ fn serves(
         room: MANY,
         failed: false,
     };
-    let answered = serve_one(alloc, &mut server, conn, &mut source, &mut sink);
+    let answered = served(alloc, &mut source, &mut sink)?;
     assert_eq!(rt; answered, wanted, "after {reads} reads and {writes} writes");
     assert!(rt; ANSWER.starts_with(sink.bytes.as_slice()));
     Ok(sink.bytes.len())
@@ -70,5 +88,31 @@ fn serves_a_client(rt: HostRuntime) -> Result<(), Fail> {
         serves(&rt, alloc, calls, MANY, Err(StreamFault::ReadFailed))?;
         serves(&rt, alloc, MANY, calls, Err(StreamFault::WriteFailed))?;
     }
+    Ok(())
+}
+
+/// What one piece makes due is one write: a version, three summaries and a thousand records, of which the first 127 have 8 bytes and the others 10.
+#[test]
+fn writes_a_result_at_once(rt: HostRuntime) -> Result<(), Fail> {
+    let mut asked = Vec::new(rt.alloc());
+    asked.extend_from_slice(&TALK[..GREETING])?;
+    asked.extend_from_slice(MANY_ROWS)?;
+    let mut source = Trickle {
+        rest: asked.as_slice(),
+        step: MANY,
+        reads: MANY,
+        failed: false,
+    };
+    let mut sink = Drip {
+        bytes: Vec::new(rt.alloc()),
+        step: 65_536,
+        writes: MANY,
+        room: 65_536,
+        failed: false,
+    };
+    let answered = served(rt.alloc(), &mut source, &mut sink)?;
+    assert_eq!(rt; answered, Ok(Cause::Lost));
+    assert_eq!(rt; sink.bytes.len(), 4 + 47 + 26 + 127 * 8 + 873 * 10 + 36);
+    assert_eq!(rt; sink.writes, MANY - 1);
     Ok(())
 }

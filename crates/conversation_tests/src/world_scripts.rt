@@ -24,6 +24,8 @@ pub(crate) enum Asked {
     Login,
     Logon,
     Begin,
+    /// BEGIN under a token.
+    BeginUnder(&'static str),
     /// RUN of a text with these parameters.
     Run(&'static str, &'static [(&'static str, Given)]),
     PullAll,
@@ -76,6 +78,7 @@ fn run(alloc: Global, text: &str, params: &[(&'static str, Given)]) -> Result<Re
         text: String::from_str(alloc, text)?,
         params: list,
         mode: Mode::Write,
+        token: None,
     })
 }
 
@@ -98,7 +101,14 @@ pub(crate) fn request(alloc: Global, asked: &Asked) -> Result<Request, AllocErro
             auth: Some(auth(alloc)?),
         }),
         Asked::Logon => Ok(Request::Logon(auth(alloc)?)),
-        Asked::Begin => Ok(Request::Begin(Mode::Write)),
+        Asked::Begin => Ok(Request::Begin {
+            mode: Mode::Write,
+            token: None,
+        }),
+        Asked::BeginUnder(token) => Ok(Request::Begin {
+            mode: Mode::Write,
+            token: Some(String::from_str(alloc, token)?),
+        }),
         Asked::Run(text, params) => run(alloc, text, params),
         Asked::PullAll => Ok(Request::Pull(Count::All)),
         Asked::Commit => Ok(Request::Commit),
@@ -143,15 +153,25 @@ fn add_line(
     Ok(())
 }
 
-/// The world after the lines of a script's parts, by `replay`.
-pub(crate) fn play(alloc: Global, script: &[&[Line]]) -> Result<Table, Fail> {
+/// The world after the lines of a script's parts over this table, and their events.
+pub(crate) fn play_over(
+    alloc: Global,
+    table: FixedTable,
+    script: &[&[Line]],
+) -> Result<(Table, Vec<Event>), Fail> {
     let gate = OneUser::new(alloc, "user", "pass")?;
-    let mut world = World::new(alloc, FixedTable::new(alloc), gate);
+    let mut world = World::new(alloc, table, gate);
     let mut events = Vec::new(alloc);
     for part in script {
         for line in *part {
             add_line(alloc, &mut world, &mut events, line)?;
         }
     }
+    Ok((world, events))
+}
+
+/// The world after the lines of a script's parts, by `replay`.
+pub(crate) fn play(alloc: Global, script: &[&[Line]]) -> Result<Table, Fail> {
+    let (_world, events) = play_over(alloc, FixedTable::new(alloc), script)?;
     Ok(replay(alloc, &events)?)
 }

@@ -1,10 +1,12 @@
 use crate::world_scripts::Line::*;
-use crate::world_scripts::{Asked, Line, PUT, ROWS, Table, play};
+use crate::world_scripts::{Asked, Line, PUT, ROWS, Table, play, play_over};
 use client::Outcome::{self, *};
+use engine::{Commit, Engine, EntryId, FixedTable, Write};
 use machine::{Phase, State};
 use server::Cause;
 use std::process::Abort;
 use std::test::*;
+use structures::Cell;
 use world::{Connection, Standing};
 
 /// What is reported of a connection.
@@ -353,5 +355,46 @@ fn worlds_report(rt: HostRuntime) -> Result<(), Fail> {
         let world = play(rt.alloc(), case.script)?;
         expect(&rt, &world, case, at);
     }
+    Ok(())
+}
+
+/// A transaction under a token.
+const UNDER_TOKEN: &[Line] = &[
+    Submit(Asked::BeginUnder("t1")),
+    Submit(PUT),
+    Submit(Asked::PullAll),
+    Submit(Asked::Commit),
+    AllServer,
+    AllWork,
+    AllClient,
+];
+
+/// What is reported where its writes were there before.
+const BROUGHT: Case = Case {
+    script: &[],
+    connections: &[HEARD_AND_READY],
+    entries: &[(9, 1)],
+};
+
+/// What the engine brought under a token is told as committed, and stays alone.
+#[test]
+fn repeats_what_was_brought(rt: HostRuntime) -> Result<(), Fail> {
+    let id = EntryId {
+        conn: 0,
+        ordinal: 9,
+    };
+    let mut writes = Vec::new(rt.alloc());
+    writes.push(Write {
+        key: String::from_str(rt.alloc(), "k")?,
+        value: Cell::Int(1),
+    })?;
+    let mut table = FixedTable::new(rt.alloc());
+    let token = Some(String::from_str(rt.alloc(), "t1")?);
+    let Ok(Commit::Added(1)) = table.commit(id, token, writes) else {
+        assert!(rt; false);
+        return Ok(());
+    };
+    let (world, _) = play_over(rt.alloc(), table, &[LOGGED_ON, UNDER_TOKEN])?;
+    expect(&rt, &world, &BROUGHT, 0);
     Ok(())
 }

@@ -28,11 +28,15 @@ fn asked(alloc: Global) -> Result<Vec<Request>, AllocError> {
             auth: None
         },
         Request::Logon(auth),
-        Request::Begin(Mode::Write),
+        Request::Begin {
+            mode: Mode::Write,
+            token: None
+        },
         Request::Run {
             text: text("PUT")?,
             params,
-            mode: Mode::Write
+            mode: Mode::Write,
+            token: None
         },
         Request::Pull(Count::All),
         Request::Commit,

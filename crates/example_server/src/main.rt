@@ -2,10 +2,11 @@
 #![tactic(auto)]
 
 use engine::{FixedTable, OneUser};
-use programs::serve_next;
+use programs::{drain, serve_next};
 use server::Server;
 use std::io;
-use std::net::TcpListener;
+use std::net::{Shutdown, TcpListener};
+use std::time::Duration;
 use streams::Over;
 
 /// The port that the words of the command line name.
@@ -28,8 +29,13 @@ fn main(rt: HostRuntime) -> io::Result<()> {
     let mut out = Over::new(rt.stdout());
     for stream in listener.incoming() {
         let stream = stream?;
+        // A peer that says nothing for long is given up.
+        stream.set_read_timeout(Some(Duration::from_secs(10)))?;
         let (mut source, mut sink) = (Over::new(&stream), Over::new(&stream));
         let _cause = serve_next(alloc, &mut server, &mut source, &mut sink, &mut out);
+        // A close with bytes unread would throw away what hasn't arrived.
+        let _stopped = stream.shutdown(Shutdown::Write);
+        drain(&mut Over::new(&stream));
     }
     Ok(())
 }

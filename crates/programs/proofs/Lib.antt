@@ -1,4 +1,9 @@
 pub mod Escapings
 pub mod Lines
 pub mod Stops
+pub mod Moved
+pub mod Printed
+pub mod Heard
+pub mod Followed
+pub mod Looped
 pub mod Served

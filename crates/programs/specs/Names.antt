@@ -7,6 +7,8 @@ use Rattle.client.specs.declared.SubmitFault.TheVariants as refusal
 use Rattle.machine.specs.declared.Phase.{Phase}
 use Rattle.machine.specs.declared.Phase.TheVariants as phase
 use Rattle.machine.specs.declared.State.{State}
+use Rattle.wire.specs.declared.Version.{Version}
+use Rattle.wire.specs.declared.Version.TheVariants.{V44, V50, V51}
 use Rattle.exchange.specs.declared.kinds.Cause.{Cause}
 
 -- the name of what became of a request
@@ -60,3 +62,9 @@ cause_code Cause.Invalid = codes "E5"
 cause_code Cause.AuthRefused = codes "E6"
 cause_code Cause.Goodbye = codes "E7"
 cause_code Cause.Lost = codes "E8"
+
+-- the name of a version
+abbrev pub version_name : Version → List ℕ
+version_name V44 = codes "4.4"
+version_name V50 = codes "5.0"
+version_name V51 = codes "5.1"

@@ -3,11 +3,11 @@ use Rattle.std.specs.Prelude.{◌≡◌, ◌⊎◌, ℕ, ◌+◌, Bool, List, []
 use Rattle.std.specs.Fmt.{decimal}
 use Rattle.engine.specs.Views.{EntryView}
 use Rattle.exchange.specs.declared.kinds.Cause.{Cause}
+use Rattle.exchange.specs.Session.{Setting}
 use Rattle.server.specs.declared.server.Server.{Server}
 use Rattle.server.specs.Serving.{Rest}
 use Rattle.server.specs.Views.{Fits}
 use Rattle.streams.specs.declared.fault.StreamFault.{StreamFault}
-use Rattle.streams.specs.Conversing.{Talk}
 use Rattle.streams.specs.Settling.{IsDueTo}
 use Rattle.streams.specs.Serving.{Serves}
 use Rattle.programs.specs.Names.{cause_code}
@@ -35,9 +35,10 @@ module _ {G : Type 0} (r : Rest G) where
   abbrev pub MayHaveServed : (Rest G → Type 0) → Type 0
   MayHaveServed Now = Now r ⊎ HasServed Now
 
-  -- The connection was served as this conversation has it, whole or up to a fault of a stream, and this cause is told of it.
-  abbrev pub ServesSo : ℕ → Talk → (Rest G → Type 0) → Option (List ℕ) → Option (List ℕ) → Bool
-      → Bool → Cause → Type 0
-  ServesSo conn t Now old new input output cause =
-      (served : Result Cause StreamFault) × Serves r conn t Now old new served
+  -- The connection was served as the conversation for what was read has it, whole or up to a fault of a stream, and this cause is told
+  -- of it.
+  abbrev pub ServesSo : ℕ → Setting → (Rest G → Type 0) → Option (List ℕ) → Option (List ℕ)
+      → Option (List ℕ) → Option (List ℕ) → Bool → Bool → Cause → Type 0
+  ServesSo conn S Now left left_now old new input output cause =
+      (served : Result Cause StreamFault) × Serves r conn S Now left left_now old new served
       × IsCauseOf cause served input output

@@ -13,9 +13,10 @@ stop_status (Broken ReadFailed) = 1
 stop_status (Broken WriteFailed) = 1
 stop_status (Broken Memory) = 3
 
--- the line of why a program stops: the number of a line, from 1, or the code of a fault
+-- why a program stops: the number of a line, from 1, and then what is expected there; or the code of a fault
 abbrev pub stop_text : Stop → List ℕ
-stop_text (Unreadable n) = codes "line " ++ decimal n ++ codes " unreadable" ++ 10 ∷ []
+stop_text (Unreadable n) = codes "line " ++ decimal n
+    ++ codes " unreadable\nexpected hello, logon [bad], logoff, goodbye, reset, run TEXT HEX [r], begin [r], commit, rollback, discard N or pull N\n"
 stop_text (Broken ReadFailed) = codes "fault I1" ++ 10 ∷ []
 stop_text (Broken WriteFailed) = codes "fault I2" ++ 10 ∷ []
 stop_text (Broken Memory) = codes "fault I3" ++ 10 ∷ []
@@ -45,10 +46,15 @@ pub record Ends (status : ℕ) (read written : Type 0) (err_failed : Bool)
   pub cause : IfSome stop (λ s. IsStopOf s read written)
   pub text : err_failed ≡ false → Appends before after (said_of stop)
 
--- The status of why a program stops, and what standard error got then, unless it failed; or those of want of memory.
-pub record TellsStop (stop : Stop) (status : ℕ) (err_failed : Bool)
+-- Standard error got a text, unless it has failed by then.
+abbrev pub Gets : Bool → Bool → Option (List ℕ) → Option (List ℕ) → List ℕ → Type 0
+Gets had_failed has_failed before after text =
+    has_failed ≡ false → (had_failed ≡ false) × Appends before after text
+
+-- The status of why a program stops, and what standard error got then; or, for a line that can't be read, those of want of memory.
+pub record TellsStop (stop : Stop) (status : ℕ) (had_failed has_failed : Bool)
     (before after : Option (List ℕ)) : Type 0 where
   pub told : Stop
-  pub which : (told ≡ stop) ⊎ (told ≡ Broken Memory)
+  pub which : (told ≡ stop) ⊎ ((told ≡ Broken Memory) × (stop_status stop ≡ 2))
   pub ends : status ≡ stop_status told
-  pub text : err_failed ≡ false → Appends before after (stop_text told)
+  pub text : Gets had_failed has_failed before after (stop_text told)

@@ -8,6 +8,7 @@ use Rattle.packstream.specs.View.{trees_of}
 use Rattle.structures.specs.Form.{Form}
 use Rattle.wire.specs.declared.Version.{Version}
 use Rattle.messages.specs.View.{ResponseView, Success, Record, Ignored, Failure}
+use Rattle.client.specs.declared.Outcome.{Outcome}
 use Rattle.client.specs.Rest.{Note, Nothing, Chose, Row, Summary}
 use Rattle.programs.specs.Escaping.{escaped}
 use Rattle.programs.specs.Names.{outcome_name, phase_name}
@@ -65,3 +66,24 @@ refused_line number code = codes "line " ++ decimal number ++ codes " " ++ code 
 abbrev pub version_after : Version → Note → Version
 version_after v (Chose (Some w)) = w
 version_after v _ = v
+
+-- what is printed of a note at a shell: the line of a failure tells why
+abbrev pub IsExplained : Version → Note → List ℕ → Type 0
+IsExplained v n text =
+    (line : List ℕ) × IsTold v n line × (text ≡ line ++ failure_told n)
+
+-- the version that rows are printed at after notes
+abbrev pub versions_after : Version → List Note → Version
+versions_after v [] = v
+versions_after v (n ∷ ns) = versions_after (version_after v n) ns
+
+-- what is printed of notes at a shell, one after the other, each at the version that was heard by then
+abbrev pub AreTold : Version → List Note → List ℕ → Type 0
+AreTold v [] text = text ≡ []
+AreTold v (n ∷ ns) text =
+    (front : List ℕ) × (rest : List ℕ) × IsExplained (version_after v n) n front
+    × AreTold (version_after v n) ns rest × (text ≡ front ++ rest)
+
+-- what became of a request that has no answer: its ordinal, and the outcome at the client's loss
+abbrev pub lost_line : ℕ × Outcome → List ℕ
+lost_line x = codes "lost " ++ decimal x.0 ++ codes " " ++ outcome_name x.1 ++ 10 ∷ []

@@ -1,8 +1,14 @@
 //! A client that takes its requests from the lines of a script.
-ghost use Rattle.std.specs.Prelude.{◌≡◌, ℕ, List, ◌++◌, true, IfErr, OnOk, IsErrOf};
+ghost use Rattle.std.specs.Prelude.{◌≡◌, ◌⊎◌, ℕ, List, true, IfOk, IfErr, OnOk, OnErr, IsErrOf};
 ghost use Rattle.std.specs.Io.KnownBytes.{Appends};
 ghost use Rattle.client.specs.Notes.{note};
-ghost use Rattle.programs.specs.Telling.{IsTold, failure_told, version_after};
+ghost use Rattle.streams.specs.Fronts.{AppendsFront};
+ghost use Rattle.scripts.specs.Meant.{meant};
+ghost use Rattle.scripts.specs.Views.{script_request_view};
+ghost use Rattle.programs.specs.Telling.{IsExplained, IsTold, version_after};
+ghost use Rattle.programs.specs.Talking.{IsAt, Place, first_place};
+ghost use Rattle.programs.specs.Looping.{PrintsSome};
+ghost use Rattle.programs.specs.Shelling.{PrintsPart, Submits};
 
 use crate::names::refusal_code;
 use crate::printing::{put, put_heard, put_refused};
@@ -24,7 +30,8 @@ pub(crate) struct Caller {
 
 impl Caller {
     pub fn new(alloc: Global) -> Result<Caller, StreamFault>
-        ensures { IfErr result (λ e. e ≡ StreamFault.Memory) }
+        ensures new { IfOk result (λ c. IsAt c first_place) }
+        ensures memory { IfErr result (λ e. e ≡ StreamFault.Memory) }
     {
         let Ok(client) = Client::new(alloc, Wish::Newest) else {
             return Err(StreamFault::Memory);
@@ -53,6 +60,10 @@ impl Caller {
             text × Appends (O.taken out.old) (O.taken out.new) text) }
         ensures read { IsErrOf result StreamFault.ReadFailed → ⊥ }
         ensures written { IsErrOf result StreamFault.WriteFailed → O.has_failed out.new ≡ true }
+        ensures part { OnErr result
+            ((O.taken out.new ≡ O.taken out.old)
+            ⊎ ((text : List ℕ) × IsTold (version_after self.old.version (note heard)) (note heard) text × AppendsFront (O.taken out.old) (O.taken out.new) text)) }
+        ensures version { self.new.version ≡ version_after self.old.version (note heard) }
         ensures client { self.new.client ≡ self.old.client }
     {
         self.keep_version(&heard);
@@ -62,9 +73,13 @@ impl Caller {
     /// The same, and after the line of a FAILURE `fault CODE MESSAGE`.
     pub fn put_explained<O: Sink>(&mut self, heard: Heard, out: &mut O) -> Result<(), StreamFault>
         ensures told { OnOk result
-            ((text : List ℕ) × IsTold (version_after self.old.version (note heard)) (note heard)
-            text × Appends (O.taken out.old) (O.taken out.new)
-            (text ++ failure_told (note heard))) }
+            ((text : List ℕ) × IsExplained (version_after self.old.version (note heard)) (note heard) text × Appends (O.taken out.old) (O.taken out.new) text) }
+        ensures part { OnErr result
+            ((O.taken out.new ≡ O.taken out.old)
+            ⊎ PrintsPart (version_after self.old.version (note heard)) (note heard) (O.taken out.old)
+            (O.taken out.new)) }
+        ensures version { OnOk result
+            (self.new.version ≡ version_after self.old.version (note heard)) }
         ensures read { IsErrOf result StreamFault.ReadFailed → ⊥ }
         ensures written { IsErrOf result StreamFault.WriteFailed → O.has_failed out.new ≡ true }
         ensures client { self.new.client ≡ self.old.client }
@@ -85,6 +100,10 @@ impl Caller {
         request: ScriptRequest,
         out: &mut O,
     ) -> Result<bool, StreamFault>
+        ensures submits { (p : Place) → IsAt self.old p
+            → Submits p (meant p.version (script_request_view request)) number (O.taken out.old)
+            (O.taken out.new) (IsAt self.new) result }
+        ensures prints { OnOk result (PrintsSome (O.taken out.old) (O.taken out.new)) }
         ensures read { IsErrOf result StreamFault.ReadFailed → ⊥ }
         ensures written { IsErrOf result StreamFault.WriteFailed → O.has_failed out.new ≡ true }
     {

@@ -1,7 +1,9 @@
 //! The programs over streams: a client at a shell, a server of one connection after another, and both in one process.
 #![tactic(auto)]
 
+mod asking;
 mod calling;
+mod errors;
 mod escaping;
 mod looping;
 mod names;
@@ -13,8 +15,9 @@ mod telling;
 
 pub use escaping::escape;
 pub use looping::{Channel, run_loop};
-pub use names::{cause_code, outcome_name, phase_name, refusal_code, state_name};
-pub use serves::serve_next;
+pub use names::{cause_code, outcome_name, phase_name, refusal_code, state_name, version_name};
+pub use printing::entry_text;
+pub use serves::{drain, serve_next};
 pub use shells::shell;
 pub use stop::put_fault;
 pub use telling::summary;

@@ -3,7 +3,7 @@ ghost use Rattle.std.specs.Prelude.{◌≡◌, ◌⊎◌, [], length, true, None
 ghost use Rattle.server.specs.Serving.{Rest};
 ghost use Rattle.server.specs.Views.{Fits};
 ghost use Rattle.streams.specs.Settling.{IsLive, LivesOn};
-ghost use Rattle.programs.specs.Looping.{GivesNoMore, HasLooped, RunsNothing};
+ghost use Rattle.programs.specs.Looping.{EndsWith, GivesNoMore, HasLooped, Numbers, PrintsSome, RunsNothing, TellsLine};
 ghost use Rattle.programs.specs.Serving.{IsVacant};
 ghost use Rattle.scripts.specs.Rows.{request_line_of};
 ghost use Rattle.scripts.specs.Script.{filled_lines, unreadable};
@@ -79,6 +79,7 @@ fn pass<S: Source, T: Sink>(
 fn hear<O: Sink>(caller: &mut Caller, part: &[u8], out: &mut O) -> Result<(), StreamFault>
     ensures read { IsErrOf result StreamFault.ReadFailed → ⊥ }
     ensures written { IsErrOf result StreamFault.WriteFailed → O.has_failed out.new ≡ true }
+    ensures prints { OnOk result (PrintsSome (O.taken out.old) (O.taken out.new)) }
 {
     let mut heard = Vec::new(caller.alloc);
     if feed_piece(&mut caller.client, part, &mut heard).is_err() {
@@ -90,6 +91,7 @@ fn hear<O: Sink>(caller: &mut Caller, part: &[u8], out: &mut O) -> Result<(), St
 fn put_all<O: Sink>(caller: &mut Caller, heard: Vec<Heard>, out: &mut O) -> Result<(), StreamFault>
     ensures read { IsErrOf result StreamFault.ReadFailed → ⊥ }
     ensures written { IsErrOf result StreamFault.WriteFailed → O.has_failed out.new ≡ true }
+    ensures prints { OnOk result (PrintsSome (O.taken out.old) (O.taken out.new)) }
 {
     for one in heard {
         match caller.put_heard(one, out) {
@@ -112,6 +114,7 @@ fn hand_over<S: Source, T: Sink, O: Sink>(
         → GivesNoMore (S.has_failed source.new) (S.left source.new) }
     ensures written { IsErrOf result StreamFault.WriteFailed
         → (T.has_failed sink.new ≡ true) ⊎ (O.has_failed out.new ≡ true) }
+    ensures prints { OnOk result (PrintsSome (O.taken out.old) (O.taken out.new)) }
 {
     let mut rest = bytes;
     while !rest.is_empty() {
@@ -148,6 +151,7 @@ fn turn<E: Engine, G: Gate, A: Source, B: Sink, C: Source, D: Sink, O: Sink>(
     ensures written { IsErrOf result StreamFault.WriteFailed
         → (B.has_failed near.new.sink ≡ true) ⊎ (D.has_failed far.new.sink ≡ true)
         ⊎ (O.has_failed out.new ≡ true) }
+    ensures prints { OnOk result (PrintsSome (O.taken out.old) (O.taken out.new)) }
 {
     let Ok(bytes) = caller.client.take_out(PIECE) else {
         return Err(StreamFault::Memory);
@@ -162,7 +166,7 @@ fn turn<E: Engine, G: Gate, A: Source, B: Sink, C: Source, D: Sink, O: Sink>(
         Err(fault) => return Err(fault),
     };
     let mut said = Buffer::new(Vec::new(caller.alloc));
-    if take_piece(server, conn, piece.as_slice(), &mut said).is_err() {
+    if take_piece(caller.alloc, server, conn, piece.as_slice(), &mut said).is_err() {
         return Err(StreamFault::Memory);
     }
     match hand_over(caller, said.bytes(), &mut far.sink, &mut near.source, out) {
@@ -189,6 +193,7 @@ fn exchange<E: Engine, G: Gate, A: Source, B: Sink, C: Source, D: Sink, O: Sink>
     ensures written { IsErrOf result StreamFault.WriteFailed
         → (B.has_failed near.new.sink ≡ true) ⊎ (D.has_failed far.new.sink ≡ true)
         ⊎ (O.has_failed out.new ≡ true) }
+    ensures prints { OnOk result (PrintsSome (O.taken out.old) (O.taken out.new)) }
 {
     for _ in 0..MOST_TURNS {
         let moved = match turn(caller, server, conn, near, far, out) {
@@ -223,6 +228,7 @@ fn run_lines<E: Engine, G: Gate, A: Source, B: Sink, C: Source, D: Sink, O: Sink
     ensures written { IsErrOf result StreamFault.WriteFailed
         → (B.has_failed near.new.sink ≡ true) ⊎ (D.has_failed far.new.sink ≡ true)
         ⊎ (O.has_failed out.new ≡ true) }
+    ensures prints { OnOk result (PrintsSome (O.taken out.old) (O.taken out.new)) }
 {
     match exchange(caller, server, conn, near, far, out) {
         Ok(()) => {}
@@ -256,6 +262,7 @@ fn run_line<E: Engine, G: Gate, A: Source, B: Sink, C: Source, D: Sink, O: Sink>
     ensures written { IsErrOf result StreamFault.WriteFailed
         → (B.has_failed near.new.sink ≡ true) ⊎ (D.has_failed far.new.sink ≡ true)
         ⊎ (O.has_failed out.new ≡ true) }
+    ensures prints { OnOk result (PrintsSome (O.taken out.old) (O.taken out.new)) }
 {
     match caller.submit(line.number, line.said, out) {
         Ok(true) => exchange(caller, server, conn, near, far, out),
@@ -282,6 +289,9 @@ fn run_opened<E: Engine, G: Gate, A: Source, B: Sink, C: Source, D: Sink, O: Sin
     ensures written { IsErrOf result StreamFault.WriteFailed
         → (B.has_failed near.new.sink ≡ true) ⊎ (D.has_failed far.new.sink ≡ true)
         ⊎ (O.has_failed out.new ≡ true) }
+    // At last the ledger is printed.
+    ensures entries { (r : Rest G) → Fits E.entries server.new r
+        → OnOk result (EndsWith (O.taken out.old) (O.taken out.new) r.ledger) }
 {
     let mut caller = match Caller::new(alloc) {
         Ok(caller) => caller,
@@ -321,6 +331,10 @@ fn run<E: Engine, G: Gate, A: Source, B: Sink, C: Source, D: Sink, O: Sink>(
         → RunsNothing script.now server.old server.new near.old near.new far.old far.new out.old
         out.new) }
     ensures readable { OnOk result (unreadable request_line_of (filled_lines script.now) ≡ None) }
+    // At last the ledger is printed.
+    ensures entries { (r : Rest G) → Fits E.entries server.new r
+        → OnOk result (EndsWith (O.taken out.old) (O.taken out.new) r.ledger) }
+    ensures number { IfErr result (λ stop. Numbers script.now stop) }
 {
     let lines = match read_requests(alloc, script) {
         Ok(lines) => lines,
@@ -340,7 +354,7 @@ fn run<E: Engine, G: Gate, A: Source, B: Sink, C: Source, D: Sink, O: Sink>(
 /// written. So neither reads where nothing is known to wait.
 ///
 /// It prints on `out` each `row HEX` and `heard ORDINAL OUTCOME PHASE`, and `line I C1` for a request that the client refuses; at last
-/// `entry CONN ORDINAL COUNT` for each entry of the ledger. The exit status is 0; 1 for a stream that has failed (`fault I1` for a
+/// `entry CONN ORDINAL COUNT` for each entry of the ledger, with ` token HEX` behind it where it has a token. The exit status is 0; 1 for a stream that has failed (`fault I1` for a
 /// source, also where it ends before the bytes that were written came, `fault I2` for a sink), 3 for want of memory (`fault I3`); 2 for
 /// a line that can't be read: then nothing was run, and `line I unreadable` stands on `err`.
 pub fn run_loop<E: Engine, G: Gate, A: Source, B: Sink, C: Source, D: Sink, O: Sink, F: Sink>(
@@ -368,6 +382,12 @@ pub fn run_loop<E: Engine, G: Gate, A: Source, B: Sink, C: Source, D: Sink, O: S
     // At most one session is opened, and the ledger has at most grown.
     ensures grows { (r : Rest G) → Fits E.entries server.old r → r.sessions ≡ []
         → HasLooped r (Fits E.entries server.new) }
+    // With 0 the ledger is printed at last; with 2 the number that is told is that of the first line that can't be read.
+    ensures entries { result ≡ 0 → (r : Rest G) → Fits E.entries server.new r
+        → EndsWith (O.taken out.old) (O.taken out.new) r.ledger }
+    ensures number { result ≡ 2
+        → TellsLine script.now (F.has_failed err.old) (F.has_failed err.new) (F.taken err.old)
+        (F.taken err.new) }
 {
     match run(alloc, server, script, near, far, out) {
         Ok(()) => 0,

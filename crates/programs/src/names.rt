@@ -1,11 +1,12 @@
 //! How outcomes, phases, refusals, states and causes are printed.
 ghost use Rattle.std.specs.Prelude.{◌≡◌};
 ghost use Rattle.std.specs.Option.{option_map};
-ghost use Rattle.programs.specs.Names.{cause_code, outcome_name, phase_name, refusal_code, state_name};
+ghost use Rattle.programs.specs.Names.{cause_code, outcome_name, phase_name, refusal_code, state_name, version_name};
 
 use client::{Outcome, SubmitFault};
 use machine::{Phase, State};
 use server::Cause;
+use wire::Version;
 
 /// What became of a request, by its name: `Done`, `Committed`.
 pub fn outcome_name(outcome: Outcome) -> &'static str
@@ -81,5 +82,16 @@ pub fn cause_code(cause: Cause) -> &'static str
         Cause::AuthRefused => "E6",
         Cause::Goodbye => "E7",
         Cause::Lost => "E8",
+    }
+}
+
+/// A version by its name: `5.1`.
+pub fn version_name(version: Version) -> &'static str
+    ensures { result.now ≡ version_name version }
+{
+    match version {
+        Version::V44 => "4.4",
+        Version::V50 => "5.0",
+        Version::V51 => "5.1",
     }
 }

@@ -1,10 +1,11 @@
 //! Lines that are printed.
-ghost use Rattle.std.specs.Prelude.{◌≡◌, ℕ, List, [], ◌∷◌, ◌++◌, true, codes, IfOk, OnOk, string_bytes, IsErrOf};
+ghost use Rattle.std.specs.Prelude.{◌≡◌, ◌⊎◌, ℕ, List, [], ◌∷◌, ◌++◌, true, codes, IfOk, OnOk, OnErr, string_bytes, IsErrOf};
 ghost use Rattle.std.specs.Fmt.{decimal};
 ghost use Rattle.std.specs.Io.KnownBytes.{Appends};
 ghost use Rattle.client.specs.Notes.{note};
-ghost use Rattle.engine.specs.Views.{entry_view};
-ghost use Rattle.programs.specs.Looping.{entry_line};
+ghost use Rattle.engine.specs.Views.{entries_view, entry_view};
+ghost use Rattle.streams.specs.Fronts.{AppendsFront};
+ghost use Rattle.programs.specs.Looping.{entries_text, entry_line};
 ghost use Rattle.programs.specs.Serving.{conn_line};
 ghost use Rattle.programs.specs.Telling.{IsTold, refused_line};
 
@@ -20,6 +21,7 @@ use wire::Version;
 /// Writes a text.
 pub(crate) fn put<O: Sink>(text: &[u8], out: &mut O) -> Result<(), StreamFault>
     ensures text { OnOk result (Appends (O.taken out.old) (O.taken out.new) text.now) }
+    ensures front { OnErr result (AppendsFront (O.taken out.old) (O.taken out.new) text.now) }
     ensures read { IsErrOf result StreamFault.ReadFailed → ⊥ }
     ensures written { IsErrOf result StreamFault.WriteFailed → O.has_failed out.new ≡ true }
 {
@@ -39,6 +41,10 @@ pub(crate) fn put_heard<O: Sink>(
     ensures told { OnOk result
         ((text : List ℕ) × IsTold version (note heard) text
         × Appends (O.taken out.old) (O.taken out.new) text) }
+    ensures part { OnErr result
+        ((O.taken out.new ≡ O.taken out.old)
+        ⊎ ((text : List ℕ) × IsTold version (note heard) text
+        × AppendsFront (O.taken out.old) (O.taken out.new) text)) }
     ensures read { IsErrOf result StreamFault.ReadFailed → ⊥ }
     ensures written { IsErrOf result StreamFault.WriteFailed → O.has_failed out.new ≡ true }
 {
@@ -57,6 +63,9 @@ pub(crate) fn put_refused<O: Sink>(
 ) -> Result<(), StreamFault>
     ensures told { OnOk result
         (Appends (O.taken out.old) (O.taken out.new) (refused_line number code.now)) }
+    ensures part { OnErr result
+        ((O.taken out.new ≡ O.taken out.old)
+        ⊎ AppendsFront (O.taken out.old) (O.taken out.new) (refused_line number code.now)) }
     ensures read { IsErrOf result StreamFault.ReadFailed → ⊥ }
     ensures written { IsErrOf result StreamFault.WriteFailed → O.has_failed out.new ≡ true }
 {
@@ -99,12 +108,14 @@ fn end_text(alloc: Global, conn: u64, cause: Cause) -> Result<String, AllocError
     Ok(text)
 }
 
-/// Prints `entry CONN ORDINAL COUNT` for each entry of the ledger.
+/// Prints the line of each entry of the ledger.
 pub(crate) fn put_entries<O: Sink>(
     alloc: Global,
     entries: &[Entry],
     out: &mut O,
 ) -> Result<(), StreamFault>
+    ensures told { OnOk result (Appends (O.taken out.old) (O.taken out.new)
+        (entries_text (entries_view entries.now))) }
     ensures read { IsErrOf result StreamFault.ReadFailed → ⊥ }
     ensures written { IsErrOf result StreamFault.WriteFailed → O.has_failed out.new ≡ true }
 {
@@ -123,17 +134,25 @@ fn put_entry<O: Sink>(alloc: Global, entry: &Entry, out: &mut O) -> Result<(), S
     ensures read { IsErrOf result StreamFault.ReadFailed → ⊥ }
     ensures written { IsErrOf result StreamFault.WriteFailed → O.has_failed out.new ≡ true }
 {
-    let Ok(text) = entry_text(alloc, entry.id.conn, entry.id.ordinal, entry.writes.len()) else {
+    let Ok(text) = entry_text(alloc, entry) else {
         return Err(StreamFault::Memory);
     };
     put(text.as_bytes(), out)
 }
 
-fn entry_text(alloc: Global, conn: u64, ordinal: u64, count: usize) -> Result<String, AllocError>
-    ensures { IfOk result (λ t. string_bytes t
-        ≡ codes "entry " ++ decimal conn ++ codes " " ++ decimal ordinal ++ codes " "
-        ++ decimal count ++ 10 ∷ []) }
+/// The line `entry CONN ORDINAL COUNT` of an entry of a ledger, with the count of its writes; of one with a token it ends with
+/// ` token HEX`, the token's bytes.
+pub fn entry_text(alloc: Global, entry: &Entry) -> Result<String, AllocError>
+    ensures { IfOk result (λ t. string_bytes t ≡ entry_line (entry_view entry.now)) }
 {
-    let text = format!(in alloc; "entry {conn} {ordinal} {count}\n")?;
+    let conn = entry.id.conn;
+    let ordinal = entry.id.ordinal;
+    let count = entry.writes.len();
+    let Some(token) = &entry.token else {
+        let text = format!(in alloc; "entry {conn} {ordinal} {count}\n")?;
+        return Ok(text);
+    };
+    let token = hex::encode(alloc, token.as_bytes())?;
+    let text = format!(in alloc; "entry {conn} {ordinal} {count} token {token}\n")?;
     Ok(text)
 }

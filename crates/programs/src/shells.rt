@@ -1,13 +1,17 @@
 //! A client at a shell: request lines go in, and what a server answers comes out.
-ghost use Rattle.std.specs.Prelude.{◌≡◌, ◌<◌, ◌⊎◌, true, IfOk, IfErr, IsErrOf};
-ghost use Rattle.programs.specs.Stopping.{Ends};
+ghost use Rattle.std.specs.Prelude.{◌≡◌, ◌⊎◌, [], List, ℕ, true, Some, None, IfOk, IfErr, IsErrOf};
+ghost use Rattle.std.specs.Result.{result_err};
+ghost use Rattle.scripts.specs.Rows.{request_line_of};
+ghost use Rattle.scripts.specs.Views.{Text, script_request_view};
+ghost use Rattle.programs.specs.Talking.{IsAt, Stands, Streams, first_place, streams_at};
+ghost use Rattle.programs.specs.Shelling.{Begins, DoesLine, Progress, Runs, Sends, Shells, Takes, TakesByte};
 
 use crate::calling::Caller;
+use crate::errors::greet;
 use crate::stop::{Stop, put_stop};
-use client::Heard;
 use scripts::{LineFault, ScriptRequest, read_request};
 use std::alloc::Global;
-use streams::{Sink, Source, StreamFault, give_up, hear_piece, write_out};
+use streams::{Sink, Source, StreamFault};
 
 /// How many bytes a read asks for.
 const PIECE: usize = 4096;
@@ -24,7 +28,8 @@ struct Conversation {
 
 impl Conversation {
     fn new(alloc: Global) -> Result<Conversation, StreamFault>
-        ensures { IfErr result (λ e. e ≡ StreamFault.Memory) }
+        ensures new { IfOk result (λ c. IsAt c.caller first_place × (c.begun.items ≡ []) × (c.number ≡ 1)) }
+        ensures memory { IfErr result (λ e. e ≡ StreamFault.Memory) }
     {
         match Caller::new(alloc) {
             Ok(caller) => Ok(Conversation {
@@ -37,116 +42,101 @@ impl Conversation {
         }
     }
 
-    /// Writes what the client puts out, and hears and prints up to the last answer that it waits for.
-    fn ask<S: Source, T: Sink, O: Sink>(
+    /// Hears the version, and tells it with how a line looks.
+    fn begin<S: Source, T: Sink, O: Sink, E: Sink>(
         &mut self,
         source: &mut S,
         sink: &mut T,
         out: &mut O,
+        err: &mut E,
     ) -> Result<(), StreamFault>
+        ensures begins { IsAt self.old.caller first_place
+            → Begins (streams_at (S.left source.old) (T.taken sink.old) (O.taken out.old) (E.taken err.old) (E.has_failed err.old)) (streams_at (S.left source.new) (T.taken sink.new) (O.taken out.new) (E.taken err.new) (E.has_failed err.new)) self.new.caller result }
+        ensures begun { self.new.begun ≡ self.old.begun }
+        ensures number { self.new.number ≡ self.old.number }
         ensures read { IsErrOf result StreamFault.ReadFailed → S.has_failed source.new ≡ true }
         ensures written { IsErrOf result StreamFault.WriteFailed
             → (T.has_failed sink.new ≡ true) ⊎ (O.has_failed out.new ≡ true) }
     {
-        match write_out(&mut self.caller.client, sink) {
+        match self.caller.ask(source, sink, out, err) {
             Ok(()) => {}
             Err(fault) => return Err(fault),
         }
-        match self.hear_all(source, out) {
-            Ok(()) => {}
-            Err(fault) => return Err(fault),
-        }
-        let _losses = give_up(&mut self.caller.client);
-        Ok(())
-    }
-
-    /// Hears and prints, a piece at a time, as long as an answer is still to come, to the end of the input.
-    fn hear_all<S: Source, O: Sink>(
-        &mut self,
-        source: &mut S,
-        out: &mut O,
-    ) -> Result<(), StreamFault>
-        ensures read { IsErrOf result StreamFault.ReadFailed → S.has_failed source.new ≡ true }
-        ensures written { IsErrOf result StreamFault.WriteFailed → O.has_failed out.new ≡ true }
-    {
-        while self.caller.client.awaits() {
-            match self.hear_some(source, out) {
-                Ok(true) => {}
-                Ok(false) => return Ok(()),
-                Err(fault) => return Err(fault),
-            }
-        }
-        Ok(())
-    }
-
-    /// Hears a piece and prints what it tells; whether there was one.
-    fn hear_some<S: Source, O: Sink>(
-        &mut self,
-        source: &mut S,
-        out: &mut O,
-    ) -> Result<bool, StreamFault>
-        ensures read { IsErrOf result StreamFault.ReadFailed → S.has_failed source.new ≡ true }
-        ensures written { IsErrOf result StreamFault.WriteFailed → O.has_failed out.new ≡ true }
-        ensures lowers { IfOk result
-            (λ some. some ≡ true → S.reads source.new < S.reads source.old) }
-    {
-        let mut heard = Vec::new(self.alloc);
-        let done = hear_piece(&mut self.caller.client, source, &mut heard);
-        // What was heard before a fault is printed too.
-        match self.put_all(heard, out) {
-            Ok(()) => done,
-            Err(fault) => Err(fault),
-        }
-    }
-
-    fn put_all<O: Sink>(&mut self, heard: Vec<Heard>, out: &mut O) -> Result<(), StreamFault>
-        ensures read { IsErrOf result StreamFault.ReadFailed → ⊥ }
-        ensures written { IsErrOf result StreamFault.WriteFailed → O.has_failed out.new ≡ true }
-    {
-        for one in heard {
-            match self.caller.put_explained(one, out) {
-                Ok(()) => {}
-                Err(fault) => return Err(fault),
-            }
-        }
+        greet(self.caller.client.has_ended(), self.caller.version, err);
         Ok(())
     }
 
     /// Takes a piece of the input: each line that ends in it is sent.
-    fn take<S: Source, T: Sink, O: Sink>(
+    fn take<S: Source, T: Sink, O: Sink, E: Sink>(
         &mut self,
         piece: &[u8],
         source: &mut S,
         sink: &mut T,
         out: &mut O,
+        err: &mut E,
     ) -> Result<(), Stop>
+        ensures takes { (start : Streams) (script : List ℕ)
+            → Progress start (streams_at (S.left source.old) (T.taken sink.old) (O.taken out.old) (E.taken err.old) (E.has_failed err.old)) script self.old → Takes start (streams_at (S.left source.new) (T.taken sink.new) (O.taken out.new) (E.taken err.new) (E.has_failed err.new)) script piece.now self.new result }
         ensures read { IsErrOf result (Stop.Broken StreamFault.ReadFailed)
             → S.has_failed source.new ≡ true }
         ensures written { IsErrOf result (Stop.Broken StreamFault.WriteFailed)
             → (T.has_failed sink.new ≡ true) ⊎ (O.has_failed out.new ≡ true) }
     {
         for byte in piece {
-            if *byte == b'\n' {
-                match self.send(source, sink, out) {
-                    Ok(()) => {}
-                    Err(stop) => return Err(stop),
-                }
-                self.begun.clear();
-                self.number = self.number.saturating_add(1);
-            } else if self.begun.push(*byte).is_err() {
-                return Err(Stop::Broken(StreamFault::Memory));
+            match self.take_byte(*byte, source, sink, out, err) {
+                Ok(()) => {}
+                Err(stop) => return Err(stop),
             }
         }
         Ok(())
     }
 
+    /// Takes a byte of the input: a newline ends the line that was begun, which is sent; any other is one more of it.
+    fn take_byte<S: Source, T: Sink, O: Sink, E: Sink>(
+        &mut self,
+        byte: u8,
+        source: &mut S,
+        sink: &mut T,
+        out: &mut O,
+        err: &mut E,
+    ) -> Result<(), Stop>
+        ensures takes { (start : Streams) (script : List ℕ)
+            → Progress start (streams_at (S.left source.old) (T.taken sink.old) (O.taken out.old) (E.taken err.old) (E.has_failed err.old)) script self.old → TakesByte start (streams_at (S.left source.new) (T.taken sink.new) (O.taken out.new) (E.taken err.new) (E.has_failed err.new)) script byte self.new result }
+        ensures read { IsErrOf result (Stop.Broken StreamFault.ReadFailed)
+            → S.has_failed source.new ≡ true }
+        ensures written { IsErrOf result (Stop.Broken StreamFault.WriteFailed)
+            → (T.has_failed sink.new ≡ true) ⊎ (O.has_failed out.new ≡ true) }
+    {
+        if byte != b'\n' {
+            return match self.begun.push(byte) {
+                Ok(()) => Ok(()),
+                Err(_) => Err(Stop::Broken(StreamFault::Memory)),
+            };
+        }
+        match self.send(source, sink, out, err) {
+            Ok(()) => {}
+            Err(stop) => return Err(stop),
+        }
+        let Some(next) = self.number.checked_add(1) else {
+            return Err(Stop::Broken(StreamFault::Memory));
+        };
+        self.begun.clear();
+        self.number = next;
+        Ok(())
+    }
+
     /// Sends the line that was begun, unless it is empty.
-    fn send<S: Source, T: Sink, O: Sink>(
+    fn send<S: Source, T: Sink, O: Sink, E: Sink>(
         &mut self,
         source: &mut S,
         sink: &mut T,
         out: &mut O,
+        err: &mut E,
     ) -> Result<(), Stop>
+        ensures sends { (start : Streams) (done : List (ℕ × Text))
+            → Stands None start (streams_at (S.left source.old) (T.taken sink.old) (O.taken out.old) (E.taken err.old) (E.has_failed err.old)) done (IsAt self.old.caller) → Sends start (streams_at (S.left source.new) (T.taken sink.new) (O.taken out.new) (E.taken err.new) (E.has_failed err.new)) done self.old.number self.old.begun.items self.new.caller result }
+        ensures begun { self.new.begun ≡ self.old.begun }
+        ensures number { self.new.number ≡ self.old.number }
         ensures read { IsErrOf result (Stop.Broken StreamFault.ReadFailed)
             → S.has_failed source.new ≡ true }
         ensures written { IsErrOf result (Stop.Broken StreamFault.WriteFailed)
@@ -160,26 +150,32 @@ impl Conversation {
             Err(LineFault::Unreadable) => return Err(Stop::Unreadable(self.number)),
             Err(LineFault::Memory) => return Err(Stop::Broken(StreamFault::Memory)),
         };
-        match self.submit(request, source, sink, out) {
+        match self.submit(request, source, sink, out, err) {
             Ok(()) => Ok(()),
             Err(fault) => Err(Stop::Broken(fault)),
         }
     }
 
-    /// Submits a request and asks for its answer, or prints why it is refused.
-    fn submit<S: Source, T: Sink, O: Sink>(
+    /// Submits the request of the line that was begun and asks for its answer, or prints why it is refused.
+    fn submit<S: Source, T: Sink, O: Sink, E: Sink>(
         &mut self,
         request: ScriptRequest,
         source: &mut S,
         sink: &mut T,
         out: &mut O,
+        err: &mut E,
     ) -> Result<(), StreamFault>
+        ensures submits { (start : Streams) (done : List (ℕ × Text)) (line : Text)
+            → request_line_of line ≡ Some (script_request_view request)
+            → Stands None start (streams_at (S.left source.old) (T.taken sink.old) (O.taken out.old) (E.taken err.old) (E.has_failed err.old)) done (IsAt self.old.caller) → DoesLine start (streams_at (S.left source.new) (T.taken sink.new) (O.taken out.new) (E.taken err.new) (E.has_failed err.new)) done self.old.number line self.new.caller result }
+        ensures begun { self.new.begun ≡ self.old.begun }
+        ensures number { self.new.number ≡ self.old.number }
         ensures read { IsErrOf result StreamFault.ReadFailed → S.has_failed source.new ≡ true }
         ensures written { IsErrOf result StreamFault.WriteFailed
             → (T.has_failed sink.new ≡ true) ⊎ (O.has_failed out.new ≡ true) }
     {
         match self.caller.submit(self.number, request, out) {
-            Ok(true) => self.ask(source, sink, out),
+            Ok(true) => self.caller.ask(source, sink, out, err),
             Ok(false) => Ok(()),
             Err(fault) => Err(fault),
         }
@@ -187,13 +183,15 @@ impl Conversation {
 }
 
 /// Takes the input to its end.
-fn run<I: Source, S: Source, T: Sink, O: Sink>(
+fn run<I: Source, S: Source, T: Sink, O: Sink, E: Sink>(
     alloc: Global,
     input: &mut I,
     source: &mut S,
     sink: &mut T,
     out: &mut O,
+    err: &mut E,
 ) -> Result<(), Stop>
+    ensures runs { Runs (result_err result) (I.left input.old) (I.left input.new) (streams_at (S.left source.old) (T.taken sink.old) (O.taken out.old) (E.taken err.old) (E.has_failed err.old)) (streams_at (S.left source.new) (T.taken sink.new) (O.taken out.new) (E.taken err.new) (E.has_failed err.new)) }
     ensures read { IsErrOf result (Stop.Broken StreamFault.ReadFailed)
         → (I.has_failed input.new ≡ true) ⊎ (S.has_failed source.new ≡ true) }
     ensures written { IsErrOf result (Stop.Broken StreamFault.WriteFailed)
@@ -203,7 +201,7 @@ fn run<I: Source, S: Source, T: Sink, O: Sink>(
         Ok(conversation) => conversation,
         Err(fault) => return Err(Stop::Broken(fault)),
     };
-    match conversation.ask(source, sink, out) {
+    match conversation.begin(source, sink, out, err) {
         Ok(()) => {}
         Err(fault) => return Err(Stop::Broken(fault)),
     }
@@ -213,9 +211,9 @@ fn run<I: Source, S: Source, T: Sink, O: Sink>(
             return Err(Stop::Broken(StreamFault::ReadFailed));
         };
         if len == 0 {
-            return conversation.send(source, sink, out);
+            return conversation.send(source, sink, out, err);
         }
-        match conversation.take(&buffer[..len], source, sink, out) {
+        match conversation.take(&buffer[..len], source, sink, out, err) {
             Ok(()) => {}
             Err(stop) => return Err(stop),
         }
@@ -227,6 +225,10 @@ fn run<I: Source, S: Source, T: Sink, O: Sink>(
 /// `heard ORDINAL OUTCOME PHASE`, and after that of a FAILURE `fault CODE MESSAGE`. A request that the client refuses is printed as
 /// `line I C1`, with its number and the code. A line that can't be read ends it, with `line I unreadable` on `err`.
 ///
+/// On `err` it says the version that was taken and how a line looks, before it reads one. Whatever ends the conversation (the server is
+/// gone, a bad answer, a stream that fails, want of memory), each request that waited for an answer is told as `lost ORDINAL OUTCOME`
+/// there, before the fault.
+///
 /// The exit status is 0; 1 for a stream that has failed (`fault I1` where it is a source, `fault I2` where it is a sink), 2 for an
 /// unreadable line, 3 for want of memory (`fault I3`).
 pub fn shell<I: Source, S: Source, T: Sink, O: Sink, E: Sink>(
@@ -237,12 +239,13 @@ pub fn shell<I: Source, S: Source, T: Sink, O: Sink, E: Sink>(
     out: &mut O,
     err: &mut E,
 ) -> u8
-    // The status and the text on standard error are those of why it stops; I1 only where a source has failed, I2 only where a sink has.
-    ensures { Ends result ((I.has_failed input.new ≡ true) ⊎ (S.has_failed source.new ≡ true))
-        ((T.has_failed sink.new ≡ true) ⊎ (O.has_failed out.new ≡ true)) (E.has_failed err.new)
-        (E.taken err.old) (E.taken err.new) }
+    // The status says why it stops. Its lines are those of the input, up to its end or to the first that can't be read, whose number is told;
+    // what was sent, read, printed and told is what the conversation over them has, each outcome at a loss with it.
+    ensures { Shells result ((I.has_failed input.new ≡ true) ⊎ (S.has_failed source.new ≡ true))
+        ((T.has_failed sink.new ≡ true) ⊎ (O.has_failed out.new ≡ true)) (I.left input.old)
+        (I.left input.new) (streams_at (S.left source.old) (T.taken sink.old) (O.taken out.old) (E.taken err.old) (E.has_failed err.old)) (streams_at (S.left source.new) (T.taken sink.new) (O.taken out.new) (E.taken err.new) (E.has_failed err.new)) }
 {
-    match run(alloc, input, source, sink, out) {
+    match run(alloc, input, source, sink, out, err) {
         Ok(()) => 0,
         Err(stop) => put_stop(alloc, stop, err),
     }

@@ -1,10 +1,10 @@
 //! Why a program stops before its lines end.
-ghost use Rattle.std.specs.Prelude.{◌≡◌, false, string_bytes, IfOk};
-ghost use Rattle.std.specs.Io.KnownBytes.{Appends};
-ghost use Rattle.programs.specs.Stopping.{TellsStop, stop_status, stop_text};
+ghost use Rattle.std.specs.Prelude.{◌≡◌, string_bytes, IfOk};
+ghost use Rattle.programs.specs.Stopping.{Gets, TellsStop, stop_status, stop_text};
 
+use crate::errors::tell;
 use std::alloc::{AllocError, Global};
-use streams::{Sink, StreamFault, write_all};
+use streams::{Sink, StreamFault};
 
 /// Why a program stops before its lines end.
 #[derive(Clone, Copy, Debug, PartialEq, Eq)]
@@ -15,10 +15,11 @@ pub(crate) enum Stop {
     Broken(StreamFault),
 }
 
-/// Writes why a program stops, and answers its exit status: 2 for a line that can't be read, 1 for a stream that has failed, 3
+/// Writes why a program stops, of a line that can't be read also what is expected there, and answers its exit status: 2 for such a line, 1 for a stream that has failed, 3
 /// for want of memory. Where there is no memory for the text, that is why.
 pub(crate) fn put_stop<E: Sink>(alloc: Global, stop: Stop, err: &mut E) -> u8
-    ensures { TellsStop stop result (E.has_failed err.new) (E.taken err.old) (E.taken err.new) }
+    ensures { TellsStop stop result (E.has_failed err.old) (E.has_failed err.new) (E.taken err.old)
+        (E.taken err.new) }
 {
     match stop {
         Stop::Unreadable(number) => put_unreadable(alloc, number, err),
@@ -27,8 +28,8 @@ pub(crate) fn put_stop<E: Sink>(alloc: Global, stop: Stop, err: &mut E) -> u8
 }
 
 fn put_unreadable<E: Sink>(alloc: Global, number: usize, err: &mut E) -> u8
-    ensures { TellsStop (Stop.Unreadable number) result (E.has_failed err.new) (E.taken err.old)
-        (E.taken err.new) }
+    ensures { TellsStop (Stop.Unreadable number) result (E.has_failed err.old)
+        (E.has_failed err.new) (E.taken err.old) (E.taken err.new) }
 {
     match unreadable_text(alloc, number) {
         Ok(text) => put(text.as_bytes(), 2, err),
@@ -39,15 +40,17 @@ fn put_unreadable<E: Sink>(alloc: Global, number: usize, err: &mut E) -> u8
 fn unreadable_text(alloc: Global, number: usize) -> Result<String, AllocError>
     ensures { IfOk result (λ t. string_bytes t ≡ stop_text (Stop.Unreadable number)) }
 {
-    let text = format!(in alloc; "line {number} unreadable\n")?;
+    let text = format!(in alloc;
+        "line {number} unreadable\nexpected hello, logon [bad], logoff, goodbye, reset, run TEXT HEX [r], begin [r], commit, rollback, discard N or pull N\n"
+    )?;
     Ok(text)
 }
 
 /// Writes a fault on a line, `fault I1` and the like, and answers the exit status: 3 for want of memory, else 1. It takes no memory.
 pub fn put_fault<E: Sink>(fault: StreamFault, err: &mut E) -> u8
     ensures status { result ≡ stop_status (Stop.Broken fault) }
-    ensures text { E.has_failed err.new ≡ false
-        → Appends (E.taken err.old) (E.taken err.new) (stop_text (Stop.Broken fault)) }
+    ensures text { Gets (E.has_failed err.old) (E.has_failed err.new) (E.taken err.old)
+        (E.taken err.new) (stop_text (Stop.Broken fault)) }
 {
     match fault {
         StreamFault::ReadFailed => put(b"fault I1\n", 1, err),
@@ -59,9 +62,9 @@ pub fn put_fault<E: Sink>(fault: StreamFault, err: &mut E) -> u8
 /// Writes a text, and answers the status.
 fn put<E: Sink>(text: &[u8], status: u8, err: &mut E) -> u8
     ensures status { result ≡ status }
-    ensures text { E.has_failed err.new ≡ false
-        → Appends (E.taken err.old) (E.taken err.new) text.now }
+    ensures text { Gets (E.has_failed err.old) (E.has_failed err.new) (E.taken err.old)
+        (E.taken err.new) text.now }
 {
-    let _ = write_all(err, text);
+    tell(text, err);
     status
 }

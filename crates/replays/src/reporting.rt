@@ -14,13 +14,14 @@ ghost use Rattle.replays.specs.Texts.{conn_line, connection_text, connections_te
 use crate::running::connection_at;
 use client::Outcome;
 use engine::{Engine, Entry, Gate};
-use programs::{cause_code, outcome_name, state_name, summary};
+use programs::{cause_code, entry_text, outcome_name, state_name, summary};
 use std::alloc::{AllocError, Global};
 use world::{Connection, Read, Standing, World};
 
 /// What is printed of a world: `conn K` for each connection and after it `heard ORDINAL OUTCOME PHASE` for each summary that its
 /// client read, `lost ORDINAL OUTCOME` for each outcome at its loss, `waits ORDINAL` for each request that waits, and `server STATE`
-/// or `server ended E1`; then `entry K ORDINAL COUNT` for each entry of the ledger, with the count of its writes.
+/// or `server ended E1`; then `entry K ORDINAL COUNT` for each entry of the ledger, with the count of its writes, and ` token HEX` behind it
+/// where the entry has a token.
 pub fn report<E: Engine, G: Gate>(alloc: Global, world: &World<E, G>) -> Result<String, AllocError>
     ensures { (gate : G) (brought : List EntryView) (w : WorldSeen)
         → Reached (setting_of E.answer G.accepts gate) brought w
@@ -182,9 +183,6 @@ fn push_entry(alloc: Global, text: &mut String, entry: &Entry) -> Result<(), All
     ensures { OnOk result (string_bytes text.new
         ≡ string_bytes text.old ++ entry_line (entry_view entry.now)) }
 {
-    let conn = entry.id.conn;
-    let ordinal = entry.id.ordinal;
-    let count = entry.writes.len();
-    let line = format!(in alloc; "entry {conn} {ordinal} {count}\n")?;
+    let line = entry_text(alloc, entry)?;
     text.push_str(line.as_str())
 }

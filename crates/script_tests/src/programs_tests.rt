@@ -50,19 +50,62 @@ struct Case {
     status: u8,
 }
 
-/// For a shell, whose server gives so many answers before its stream fails.
-const SHELLS: [(usize, Case); 6] = [
+/// What a server at 5.1 answers to a HELLO, a LOGON and a BEGIN, before it is gone.
+const GONE: &[&[u8]] = &[
+    &[0, 0, 1, 5],
+    &[0, 3, 0xB1, 0x70, 0xA0, 0, 0],
+    &[0, 3, 0xB1, 0x70, 0xA0, 0, 0],
+    &[0, 3, 0xB1, 0x70, 0xA0, 0, 0],
+];
+
+/// The same, and the beginning of an answer to a COMMIT.
+const GONE_IN_AN_ANSWER: &[&[u8]] = &[
+    &[0, 0, 1, 5],
+    &[0, 3, 0xB1, 0x70, 0xA0, 0, 0],
+    &[0, 3, 0xB1, 0x70, 0xA0, 0, 0],
+    &[0, 3, 0xB1, 0x70, 0xA0, 0, 0, 0, 3, 0xB1],
+];
+
+/// The same, and a RECORD, which is no answer to a COMMIT.
+const BAD: &[&[u8]] = &[
+    &[0, 0, 1, 5],
+    &[0, 3, 0xB1, 0x70, 0xA0, 0, 0],
+    &[0, 3, 0xB1, 0x70, 0xA0, 0, 0],
+    &[0, 3, 0xB1, 0x70, 0xA0, 0, 0],
+    &[0, 4, 0xB1, 0x71, 0x91, 1, 0, 0],
+];
+
+const NO_VERSION: &[&[u8]] = &[&[0, 0, 0, 0]];
+
+const BEGUN: &str = "heard 0 Done Unauth\nheard 1 Done Ready\nheard 2 Done TxReady\n";
+
+const COMMITS: &[u8] = b"hello\nlogon\nbegin\ncommit\n";
+
+/// What is told where a version is taken, and where none is.
+const GREETED: &str =
+    "version 5.1; each line is a request: hello, logon [bad], logoff, goodbye, reset, run TEXT HEX [r], begin [r], commit, rollback, discard N or pull N\n";
+
+const NOT_GREETED: &str = "no conversation: no version was taken, or the server is gone\n";
+
+/// A shell: the answers of its server, how many of them come before its stream fails, what is told at the start, and the case.
+type Shell = (&'static [&'static [u8]], usize, &'static str, Case);
+
+const SHELLS: [Shell; 12] = [
     (
+        ANSWERS,
         100,
+        GREETED,
         Case {
             lines: LINES,
             out: PRINTED,
-            err: "line 9 unreadable\n",
+            err: "line 9 unreadable\nexpected hello, logon [bad], logoff, goodbye, reset, run TEXT HEX [r], begin [r], commit, rollback, discard N or pull N\n",
             status: 2,
         },
     ),
     (
+        ANSWERS,
         100,
+        GREETED,
         Case {
             lines: b"",
             out: "",
@@ -71,7 +114,9 @@ const SHELLS: [(usize, Case); 6] = [
         },
     ),
     (
+        ANSWERS,
         100,
+        GREETED,
         Case {
             lines: b"\n\nhello",
             out: "heard 0 Done Unauth\n",
@@ -79,9 +124,11 @@ const SHELLS: [(usize, Case); 6] = [
             status: 0,
         },
     ),
-    // The line after a goodbye: the client has ended.
+    // The line after a goodbye: the client has ended, and the goodbye is no loss.
     (
+        ANSWERS,
         100,
+        GREETED,
         Case {
             lines: b"goodbye\nreset",
             out: "line 2 C4\n",
@@ -90,7 +137,9 @@ const SHELLS: [(usize, Case); 6] = [
         },
     ),
     (
+        ANSWERS,
         0,
+        "",
         Case {
             lines: LINES,
             out: "",
@@ -99,21 +148,91 @@ const SHELLS: [(usize, Case); 6] = [
         },
     ),
     (
+        ANSWERS,
         2,
+        GREETED,
         Case {
             lines: LINES,
             out: "heard 0 Done Unauth\n",
-            err: "fault I1\n",
+            err: "lost 1 Lost\nfault I1\n",
             status: 1,
+        },
+    ),
+    // What became of a commit that the server took with it, whichever way it went.
+    (
+        GONE,
+        100,
+        GREETED,
+        Case {
+            lines: COMMITS,
+            out: BEGUN,
+            err: "lost 3 Unknown\n",
+            status: 0,
+        },
+    ),
+    (
+        GONE_IN_AN_ANSWER,
+        100,
+        GREETED,
+        Case {
+            lines: COMMITS,
+            out: BEGUN,
+            err: "lost 3 Unknown\n",
+            status: 0,
+        },
+    ),
+    (
+        BAD,
+        100,
+        GREETED,
+        Case {
+            lines: COMMITS,
+            out: BEGUN,
+            err: "lost 3 Unknown\n",
+            status: 0,
+        },
+    ),
+    (
+        GONE,
+        4,
+        GREETED,
+        Case {
+            lines: COMMITS,
+            out: BEGUN,
+            err: "lost 3 Unknown\nfault I1\n",
+            status: 1,
+        },
+    ),
+    // A request that can't have committed, and one behind it, which isn't sent.
+    (
+        GONE,
+        100,
+        GREETED,
+        Case {
+            lines: b"hello\nlogon\nbegin\nrun PUT A0\ncommit\n",
+            out: "heard 0 Done Unauth\nheard 1 Done Ready\nheard 2 Done TxReady\nline 5 C4\n",
+            err: "lost 3 Lost\n",
+            status: 0,
+        },
+    ),
+    (
+        NO_VERSION,
+        100,
+        NOT_GREETED,
+        Case {
+            lines: b"hello",
+            out: "line 1 C4\n",
+            err: "",
+            status: 0,
         },
     ),
 ];
 
 #[test]
 fn shell_prints(rt: HostRuntime) {
-    for (answers, case) in &SHELLS {
+    for (answers, most, greeting, case) in &SHELLS {
         let mut input = Slice::new(case.lines);
-        let mut source = Pieces::new(ANSWERS, *answers);
+        let mut source = Pieces::new(answers, *most);
         let mut sink = Buffer::new(Vec::new(rt.alloc()));
         let mut out = Buffer::new(Vec::new(rt.alloc()));
         let mut err = Buffer::new(Vec::new(rt.alloc()));
@@ -127,7 +246,9 @@ fn shell_prints(rt: HostRuntime) {
         );
         assert_eq!(rt; status, case.status);
         assert_eq!(rt; out.bytes(), case.out.as_bytes());
-        assert_eq!(rt; err.bytes(), case.err.as_bytes());
+        assert!(rt; err.bytes().starts_with(greeting.as_bytes()));
+        assert!(rt; err.bytes().ends_with(case.err.as_bytes()));
+        assert_eq!(rt; err.bytes().len(), greeting.len() + case.err.len());
     }
 }
 
@@ -149,10 +270,24 @@ fn connected(rt: &HostRuntime) -> Result<(TcpStream, TcpStream), Fail> {
 }
 
 /// For a loop of both ends.
-const LOOPS: [Case; 3] = [
+const LOOPS: [Case; 5] = [
     Case {
         lines: b"hello\nlogon\nrun ROWS A1816E03\npull 2\npull 2\n",
         out: "heard 0 Done Unauth\nheard 1 Done Ready\nheard 2 Done Streaming\nrow 9101\nrow 9102\nheard 3 Done Streaming\nrow 9103\nheard 4 Committed Ready\nentry 0 4 0\n",
+        err: "",
+        status: 0,
+    },
+    // A result under a token again, and another under it.
+    Case {
+        lines: b"hello\nlogon\nrun PUT A2836B657981618576616C756501 token t1\npull -1\nrun PUT A2836B657981618576616C756501 token t1\npull -1\nrun ONE A0 r token t1\npull -1\n",
+        out: "heard 0 Done Unauth\nheard 1 Done Ready\nheard 2 Done Streaming\nheard 3 Committed Ready\nheard 4 Done Streaming\nheard 5 Committed Ready\nheard 6 Done Streaming\nrow 9101\nheard 7 Refused Halted\nentry 0 3 1 token 7431\n",
+        err: "",
+        status: 0,
+    },
+    // A query in mode r uses its token up.
+    Case {
+        lines: b"hello\nlogon\nrun ONE A0 r token t\npull -1\n",
+        out: "heard 0 Done Unauth\nheard 1 Done Ready\nheard 2 Done Streaming\nrow 9101\nheard 3 Committed Ready\nentry 0 3 0 token 74\n",
         err: "",
         status: 0,
     },
@@ -167,7 +302,7 @@ const LOOPS: [Case; 3] = [
     Case {
         lines: b"hello\n\nnothing\n",
         out: "",
-        err: "line 3 unreadable\n",
+        err: "line 3 unreadable\nexpected hello, logon [bad], logoff, goodbye, reset, run TEXT HEX [r], begin [r], commit, rollback, discard N or pull N\n",
         status: 2,
     },
 ];

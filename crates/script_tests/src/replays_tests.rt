@@ -135,6 +135,104 @@ const ENDED: &str = "server ended E8\n";
 
 const ENDED_AFTER: &str = "server ended E8\nentry 0 5 1\n";
 
+/// The same pipeline under the token `t1`.
+const UNDER_TOKEN: &str = "open 5.1
+server 0 all
+client 0 all
+submit 0 hello
+submit 0 logon
+submit 0 begin token t1
+submit 0 run PUT A2836B657981618576616C756501
+submit 0 pull -1
+submit 0 commit
+";
+
+/// The same transaction on the next connection, without a loss.
+const AGAIN: &str = "open 5.1
+server 1 all
+client 1 all
+submit 1 hello
+submit 1 logon
+submit 1 begin token t1
+submit 1 run PUT A2836B657981618576616C756501
+submit 1 pull -1
+submit 1 commit
+server 1 all
+work 1 all
+client 1 all
+";
+
+const AGAIN_HEARD: &str = "conn 1
+heard 0 Done Unauth
+heard 1 Done Ready
+heard 2 Done TxReady
+heard 3 Done TxStreaming
+heard 4 Done TxReady
+heard 5 Committed Ready
+server Ready
+";
+
+/// One with another value under the token.
+const OTHER: &str = "open 5.1
+server 1 all
+client 1 all
+submit 1 hello
+submit 1 logon
+submit 1 begin token t1
+submit 1 run PUT A2836B657981618576616C756502
+submit 1 pull -1
+submit 1 commit
+server 1 all
+work 1 all
+client 1 all
+";
+
+const OTHER_HEARD: &str = "conn 1
+heard 0 Done Unauth
+heard 1 Done Ready
+heard 2 Done TxReady
+heard 3 Done TxStreaming
+heard 4 Done TxReady
+heard 5 Refused Halted
+server Failed
+";
+
+/// The same transaction by a foreign peer, and then by a client of ours.
+const FOREIGN_FIRST: &str = "open foreign
+foreign 1 6060B01700000105000000000000000000000000
+foreign 1 0012B101A18A757365725F6167656E7483742F310000
+foreign 1 0030B16AA386736368656D65856261736963897072696E636970616C84757365728B63726564656E7469616C7384706173730000
+foreign 1 0019B111A18B74785F6D65746164617461A185746F6B656E8274310000
+foreign 1 0015B31083505554A2836B657981618576616C756501A00000
+foreign 1 0006B13FA1816EFF0000
+foreign 1 0002B0120000
+work 1 all
+open 5.1
+server 2 all
+client 2 all
+submit 2 hello
+submit 2 logon
+submit 2 begin token t1
+submit 2 run PUT A2836B657981618576616C756501
+submit 2 pull -1
+submit 2 commit
+server 2 all
+work 2 all
+client 2 all
+";
+
+const FOREIGN_FIRST_HEARD: &str = "conn 1
+server Ready
+conn 2
+heard 0 Done Unauth
+heard 1 Done Ready
+heard 2 Done TxReady
+heard 3 Done TxStreaming
+heard 4 Done TxReady
+heard 5 Committed Ready
+server Ready
+";
+
 const EIGHT_OPENINGS: &str = "open foreign
 open foreign
 open foreign
@@ -278,6 +376,44 @@ const ROWS: &[Row] = &[
     (
         &[PIPELINE, SERVER, WORK, SERVER_LOST, CLIENT],
         &[ALL_HEARD, ENDED_AFTER],
+    ),
+    // A transaction that is sent again under its token after a loss stands once, whichever attempt the server works first.
+    (
+        &[UNDER_TOKEN, CLIENT_LOST, SERVER, WORK, CLIENT, AGAIN],
+        &[
+            ALL_LOST,
+            "server Ready\n",
+            AGAIN_HEARD,
+            "entry 0 5 1 token 7431\n",
+        ],
+    ),
+    (
+        &[UNDER_TOKEN, CLIENT_LOST, SERVER, CLIENT, AGAIN, WORK],
+        &[
+            ALL_LOST,
+            "server Ready\n",
+            AGAIN_HEARD,
+            "entry 1 5 1 token 7431\n",
+        ],
+    ),
+    (
+        &[UNDER_TOKEN, CLIENT_LOST, FOREIGN_FIRST, SERVER, WORK],
+        &[
+            ALL_LOST,
+            "server Ready\n",
+            FOREIGN_FIRST_HEARD,
+            "entry 1 5 1 token 7431\n",
+        ],
+    ),
+    // Other writes under the token clash.
+    (
+        &[UNDER_TOKEN, CLIENT_LOST, SERVER, WORK, CLIENT, OTHER],
+        &[
+            ALL_LOST,
+            "server Ready\n",
+            OTHER_HEARD,
+            "entry 0 5 1 token 7431\n",
+        ],
     ),
     // What is refused is noted: a request at the wrong time, no such connection, the wrong peer.
     (

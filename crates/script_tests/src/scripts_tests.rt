@@ -55,28 +55,53 @@ const REQUESTS: &[(&[u8], &str)] = &[
     (b"reset", "Reset"),
     (
         b"run ROWS A1816E03",
-        "Run { text: \"ROWS\", params: [(\"n\", Int(3))], mode: Write }",
+        "Run { text: \"ROWS\", params: [(\"n\", Int(3))], mode: Write, token: None }",
     ),
     (
         b"run ONE a0 r",
-        "Run { text: \"ONE\", params: [], mode: Read }",
+        "Run { text: \"ONE\", params: [], mode: Read, token: None }",
     ),
     (
         b"run E A1817890",
-        "Run { text: \"E\", params: [(\"x\", List([]))], mode: Write }",
+        "Run { text: \"E\", params: [(\"x\", List([]))], mode: Write, token: None }",
     ),
     // A node in the form of 4.4, which 5.1 doesn't read.
     (
         b"run E A18178B34E0190A0",
-        "Run { text: \"E\", params: [(\"x\", Node(Node { id: 1, labels: [], properties: [], element_id: None }))], mode: Write }",
+        "Run { text: \"E\", params: [(\"x\", Node(Node { id: 1, labels: [], properties: [], element_id: None }))], mode: Write, token: None }",
     ),
     // The text é.
     (
         b"run \xC3\xA9 A0",
-        "Run { text: \"é\", params: [], mode: Write }",
+        "Run { text: \"é\", params: [], mode: Write, token: None }",
     ),
-    (b"begin", "Begin(Write)"),
-    (b"begin r", "Begin(Read)"),
+    (
+        b"run ONE A0 token t1",
+        "Run { text: \"ONE\", params: [], mode: Write, token: Some(\"t1\") }",
+    ),
+    (
+        b"run token A0 r token token",
+        "Run { text: \"token\", params: [], mode: Read, token: Some(\"token\") }",
+    ),
+    (
+        b"run token A0",
+        "Run { text: \"token\", params: [], mode: Write, token: None }",
+    ),
+    (b"begin", "Begin { mode: Write, token: None }"),
+    (b"begin r", "Begin { mode: Read, token: None }"),
+    (
+        b"begin token r",
+        "Begin { mode: Write, token: Some(\"r\") }",
+    ),
+    (
+        b"begin r token r",
+        "Begin { mode: Read, token: Some(\"r\") }",
+    ),
+    // A token of 65 bytes, which no message has.
+    (
+        b"begin token aaaaaaaaaaaaaaaaaaaaaaaaaaaaaaaaaaaaaaaaaaaaaaaaaaaaaaaaaaaaaaaaa",
+        "Begin { mode: Write, token: Some(\"aaaaaaaaaaaaaaaaaaaaaaaaaaaaaaaaaaaaaaaaaaaaaaaaaaaaaaaaaaaaaaaaa\") }",
+    ),
     (b"commit", "Commit"),
     (b"rollback", "Rollback"),
     (b"discard 1", "Discard(Of(1))"),
@@ -130,6 +155,11 @@ const NO_REQUESTS: &[&[u8]] = &[
     b"logon good",
     b"logoff now",
     b"begin w",
+    b"begin token",
+    b"begin r token",
+    b"begin token t r",
+    b"begin r token t t",
+    b"commit token t",
     b"pull",
     b"pull +1",
     b"pull 9223372036854775808",
@@ -142,6 +172,8 @@ const NO_REQUESTS: &[&[u8]] = &[
     b"run ROWS 01",
     b"run ROWS A0 w",
     b"run ROWS A0 r r",
+    b"run ROWS A0 token",
+    b"run ROWS token t A0",
     b"run ROWS A0A0",
     // Two equal keys; a structure that no version has.
     b"run ROWS A2816101816102",
@@ -182,6 +214,10 @@ const MEANT_AT_51: &[(&[u8], &str)] = &[
         "Logon(Auth { scheme: \"basic\", principal: \"user\", .. })",
     ),
     (b"pull 3", "Pull(Of(3))"),
+    (
+        b"begin token t1",
+        "Begin { mode: Write, token: Some(\"t1\") }",
+    ),
 ];
 
 /// All that is read.

@@ -3,6 +3,7 @@ use Rattle.std.proofs.Common.{◌≡◌, refl, sym, ◌∙◌, ap, subst, ℕ, �
 use Rattle.std.specs.Prelude.{not, ◌&&◌, ◌==◌, is_err, OnErr, IfErr}
 use Rattle.std.specs.Result.{result_err}
 use Rattle.std.specs.Io.KnownBytes.{Appends, Consumes, IsAtEnd, Keeps}
+use Rattle.std.proofs.KnownBytes.{Consumes-trans}
 use Rattle.std.proofs.lemmas.Bool.Decides.{nat_tests}
 use Rattle.client.specs.declared.Outcome.{Outcome}
 use Rattle.client.specs.Rest.{Knows, Note, Rest, losses, after_drop, taken_out, awaits}
@@ -33,19 +34,13 @@ unanswered_waits k l =
 pub loses : (r : Rest) (Now : Rest → Type 0) (lost : List (ℕ × Outcome)) → all_answered r.knows ≡ false → (lost ≡ losses r.knows) × Now (after_drop r) → GivesUp Now lost r
 loses r Now lost e h = rw e (h.1, h.0)
 
--- bytes that are consumed in turn
-consumes_more : (a b c : Option (List ℕ)) (xs ys : List ℕ) → Consumes a b xs → Consumes b c ys → Consumes a c (xs ++ ys)
-consumes_more None b c xs ys h k = tt
-consumes_more (Some zs) None c xs ys h k = absurd h
-consumes_more (Some zs) (Some ws) None xs ys h k = absurd k
-consumes_more (Some zs) (Some ws) (Some vs) xs ys h k = h ∙ ap (λ l. xs ++ l) k ∙ sym (append_assoc xs ys vs)
-
+-- what is kept is consumed by no byte
 keeps_consumes : (a b : Option (List ℕ)) → Keeps a b → Consumes a b []
 keeps_consumes None b h = tt
 keeps_consumes (Some zs) None h = absurd h
 keeps_consumes (Some zs) (Some ws) h = sym h
 
-consumes_none : (a : Option (List ℕ)) → Consumes a a []
+pub consumes_none : (a : Option (List ℕ)) → Consumes a a []
 consumes_none None = tt
 consumes_none (Some zs) = refl
 
@@ -61,7 +56,7 @@ module _ (r : Rest) (left mid : Option (List ℕ)) (before notes : List Note) (W
   stops left_now fault h e = record {
     fed = so.fed;
     unheard = so.unheard;
-    input = subst (Consumes left left_now) (append-nil (so.fed ++ so.unheard)) (consumes_more left mid left_now (so.fed ++ so.unheard) [] so.input h);
+    input = subst (Consumes left left_now) (append-nil (so.fed ++ so.unheard)) (Consumes-trans left mid left_now (so.fed ++ so.unheard) [] so.input h);
     told = so.told;
     now = so.now;
     needed = so.needed;
@@ -92,7 +87,7 @@ module _ (r : Rest) (left mid : Option (List ℕ)) (before notes : List Note) (W
     input_more : Consumes left left_now ((so.fed ++ f.fed) ++ f.unheard)
     input_more =
         let was : so.fed ++ so.unheard ≡ so.fed = ap (λ l. so.fed ++ l) none_unheard ∙ append-nil so.fed in
-        subst (Consumes left left_now) (ap (λ l. l ++ piece) was ∙ all_read) (consumes_more left mid left_now (so.fed ++ so.unheard) piece so.input read)
+        subst (Consumes left left_now) (ap (λ l. l ++ piece) was ∙ all_read) (Consumes-trans left mid left_now (so.fed ++ so.unheard) piece so.input read)
 
     told_more : after ≡ before ++ (hears_all r (so.fed ++ f.fed)).notes
     told_more =

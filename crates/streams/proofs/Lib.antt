@@ -11,6 +11,7 @@ pub mod Telling
 pub mod Feeding
 pub mod Talks
 pub mod Pieces
+pub mod Holdings
 pub mod Arriving
 pub mod Conversings
 pub mod Losing

@@ -1,6 +1,6 @@
 -- What a step of a session with one place at most makes, and what follows it.
 use Rattle.std.proofs.Common.{◌≡◌, ◌⊎◌, inl, inr, refl, sym, ap, subst, ◌∙◌, ℕ, zero, suc, ◌<◌, ◌≤◌, List, [], ◌∷◌, ◌++◌, length, append-nil, append_assoc, Bool, true, false, cond, Option, Some, None, arith}
-use Rattle.std.specs.Prelude.{◌&&◌, ◌||◌, if◌then◌else◌, nat_le, is_some, Result, Ok, Err}
+use Rattle.std.specs.Prelude.{◌&&◌, ◌||◌, if◌then◌else◌, nat_le, is_some, option_to_list, Result, Ok, Err}
 use Rattle.packstream.specs.Tree.{Tree}
 use Rattle.wire.specs.declared.Version.{Version}
 use Rattle.wire.specs.Versions.{hello_has_login}
@@ -9,16 +9,18 @@ use Rattle.messages.specs.declared.request.Count.{Count}
 use Rattle.messages.specs.Arrivals.{Arrival, Asked, Unread, TooLong, Shook, NoMagic}
 use Rattle.messages.specs.Arrivals as arrival
 use Rattle.messages.specs.Writing.{response_spelling}
+use Rattle.messages.specs.Summaries.{Closing, Committed, response_of_summary}
 use Rattle.machine.specs.declared.states.State.{State}
 use Rattle.machine.specs.declared.rows.Verdict.{Verdict}
 use Rattle.machine.specs.Asks.{kind_of, is_goodbye, is_reset}
 use Rattle.machine.specs.Rows.{row_at}
 use Rattle.machine.specs.Following.{interruptible}
-use Rattle.engine.specs.Views.{EntryView, AnswerView, QueryFault}
+use Rattle.engine.specs.Tokens.{Found, Free, There, Other, found_in}
+use Rattle.engine.specs.Views.{Token, EntryView, AnswerView, QueryFault}
 use Rattle.exchange.specs.declared.kinds.Cause.{Cause}
 use Rattle.exchange.specs.declared.fault.Fault.{Fault}
 use Rattle.exchange.specs.Said.{fits}
-use Rattle.exchange.specs.Session.{Setting, Open, no_result, Tx, Reply, OneRow, Summary, Bye, fails, succeeds, close, close_last, if_fits, unwritable, pull, used_up, greets, reply_to_hello, reply_to_login, reply_to_run, result_of_answer, with_write, no_tx, in_transaction, fields_said, perform, serve, passed_over, is_halted}
+use Rattle.exchange.specs.Session.{Setting, Open, no_result, Tx, Change, change_alone, change_inside, commits_as, Reply, OneRow, Summary, Bye, fails, succeeds, close, close_last, if_fits, unwritable, pull, used_up, greets, reply_to_hello, reply_to_login, reply_to_run, result_of_answer, with_write, no_tx, in_transaction, fields_said, perform, serve, passed_over, is_halted}
 use Rattle.exchange.specs.Rest.{Kept, rests, turns, serves, Done, Idle, Full, WroteRow, Wrote, Ended, Step, work_kept, replies, after_strike, version_of, commit_entries}
 use Rattle.streams.specs.Conversing.{Talk, silent, after_bytes, heard_out, step_then, steps, steps_due}
 use Rattle.streams.specs.Settling.{IsPlaced, due}
@@ -37,22 +39,28 @@ if_fits_lessens : (n : ℕ) (v : Version) (m : ResponseView) (reply : Reply) →
 unfolding Lessens
 if_fits_lessens n v m reply h = either n (fits v m) reply (fails (unwritable (response_spelling v m))) h tt
 
-last_lessens : (n : ℕ) (s : State) (len : ℕ) (left : Open) (tx : Tx) → Lessens n (close_last s len left tx)
+commits_lessens : (n len : ℕ) (change : Change) (said : ℕ → ResponseView) (f : Found) → Lessens n (commits_as len change said f)
 unfolding Lessens
-last_lessens n State.Streaming len left tx = tt
-last_lessens n s len left tx = tt
+commits_lessens n len change said Free = tt
+commits_lessens n len change said (There m) = tt
+commits_lessens n len change said Other = tt
 
-close_lessens : (n : ℕ) (s : State) (len : ℕ) (rows : List (List Tree)) (left : Open) (tx : Tx) → Lessens n (close s len rows left tx)
+last_lessens : (n : ℕ) (s : State) (ledger : List EntryView) (left : Open) (tx : Tx) → Lessens n (close_last s ledger left tx)
 unfolding Lessens
-close_lessens n s len [] left tx = last_lessens n s len left tx
-close_lessens n s len (r ∷ rs) left tx = tt
+last_lessens n State.Streaming ledger left tx = commits_lessens n (length ledger) (change_alone left) (λ m. response_of_summary (Closing (Some m) left.mode)) (found_in left.token (option_to_list left.write) ledger)
+last_lessens n s ledger left tx = tt
 
-pull_lessens : (v : Version) (s : State) (len : ℕ) (count : Count) (rows : List (List Tree)) (left : Open) (tx : Tx) → Lessens (length rows) (pull v s len count rows left tx)
+close_lessens : (n : ℕ) (s : State) (ledger : List EntryView) (rows : List (List Tree)) (left : Open) (tx : Tx) → Lessens n (close s ledger rows left tx)
 unfolding Lessens
-pull_lessens v s len count [] left tx = last_lessens 0 s len left tx
-pull_lessens v s len count (r ∷ rs) left tx =
-    let row : Reply = OneRow r (record { rows = rs; mode = left.mode; write = left.write; written = suc left.written }) in
-    either (suc (length rs)) (used_up count left.written) (close s len (r ∷ rs) left tx) (if_fits v (ResponseView.Record r) row) tt (if_fits_lessens (suc (length rs)) v (ResponseView.Record r) row (omega arith))
+close_lessens n s ledger [] left tx = last_lessens n s ledger left tx
+close_lessens n s ledger (r ∷ rs) left tx = tt
+
+pull_lessens : (v : Version) (s : State) (ledger : List EntryView) (count : Count) (rows : List (List Tree)) (left : Open) (tx : Tx) → Lessens (length rows) (pull v s ledger count rows left tx)
+unfolding Lessens
+pull_lessens v s ledger count [] left tx = last_lessens 0 s ledger left tx
+pull_lessens v s ledger count (r ∷ rs) left tx =
+    let row : Reply = OneRow r (record left { rows = rs; written = suc left.written }) in
+    either (suc (length rs)) (used_up count left.written) (close s ledger (r ∷ rs) left tx) (if_fits v (ResponseView.Record r) row) tt (if_fits_lessens (suc (length rs)) v (ResponseView.Record r) row (omega arith))
 
 admitted_lessens : (n : ℕ) (S : Setting) (a : AuthView) (m : ResponseView) → Lessens n (reply_to_login S a m)
 unfolding Lessens
@@ -67,11 +75,11 @@ greets_lessens : (n : ℕ) (S : Setting) (v : Version) (c : ℕ) (auth : Option 
 unfolding Lessens
 greets_lessens n S v c auth = either n (hello_has_login v) (reply_to_hello S auth _) (succeeds _) (hello_lessens n S auth _) tt
 
-ran_lessens : (n : ℕ) (v : Version) (s : State) (tx : Tx) (a : Result AnswerView QueryFault) → Lessens n (reply_to_run v s tx a)
+ran_lessens : (n : ℕ) (v : Version) (s : State) (tx : Tx) (token : Token) (a : Result AnswerView QueryFault) → Lessens n (reply_to_run v s tx token a)
 unfolding Lessens
-ran_lessens n v s tx (Err e) = tt
-ran_lessens n v s tx (Ok a) =
-    let ok : Reply = Summary Verdict.Success (fields_said a.fields) (result_of_answer v s a) (if in_transaction s then with_write tx a.write else no_tx) None in
+ran_lessens n v s tx token (Err e) = tt
+ran_lessens n v s tx token (Ok a) =
+    let ok : Reply = Summary Verdict.Success (fields_said a.fields) (result_of_answer v s token a) (if in_transaction s then with_write tx a.write else no_tx) None in
     either n (in_transaction s && (is_some a.write && nat_le 1024 (length tx.writes))) (fails Fault.TooManyWrites) (if_fits v (fields_said a.fields) ok) tt (if_fits_lessens n v (fields_said a.fields) ok tt)
 
 perform_lessens : (S : Setting) (v : Version) (c : ℕ) (ledger : List EntryView) (s : State) (left : Open) (tx : Tx) (q : RequestView) → Lessens (length left.rows) (perform S v c ledger s left tx q)
@@ -81,12 +89,12 @@ perform_lessens S v c ledger s left tx (RequestView.Logon a) = admitted_lessens 
 perform_lessens S v c ledger s left tx RequestView.Logoff = tt
 perform_lessens S v c ledger s left tx RequestView.Goodbye = tt
 perform_lessens S v c ledger s left tx RequestView.Reset = tt
-perform_lessens S v c ledger s left tx (RequestView.Run query params mode) = either _ (in_transaction s) _ _ (ran_lessens _ v s tx _) (ran_lessens _ v s tx _)
-perform_lessens S v c ledger s left tx (RequestView.Begin mode) = tt
-perform_lessens S v c ledger s left tx RequestView.Commit = tt
+perform_lessens S v c ledger s left tx (RequestView.Run query params mode token) = either _ (in_transaction s) _ _ (ran_lessens _ v s tx token _) (ran_lessens _ v s tx token _)
+perform_lessens S v c ledger s left tx (RequestView.Begin mode token) = tt
+perform_lessens S v c ledger s left tx RequestView.Commit = commits_lessens _ (length ledger) (change_inside tx) (λ m. response_of_summary (Committed m)) (found_in tx.token tx.writes ledger)
 perform_lessens S v c ledger s left tx RequestView.Rollback = tt
-perform_lessens S v c ledger s left tx (RequestView.Discard n) = close_lessens _ s (length ledger) _ left tx
-perform_lessens S v c ledger s left tx (RequestView.Pull n) = pull_lessens v s (length ledger) n left.rows left tx
+perform_lessens S v c ledger s left tx (RequestView.Discard n) = close_lessens _ s ledger _ left tx
+perform_lessens S v c ledger s left tx (RequestView.Pull n) = pull_lessens v s ledger n left.rows left tx
 
 passed_lessens : (n : ℕ) (b : Bool) → Lessens n (passed_over b)
 unfolding Lessens

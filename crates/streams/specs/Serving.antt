@@ -1,41 +1,96 @@
 -- What a whole conversation does to a server and to a sink, with or without a fault.
-use Rattle.std.specs.Prelude.{◌≡◌, ℕ, List, ◌++◌, Option, Result, Ok, Err}
-use Rattle.std.specs.Io.KnownBytes.{Appends}
+use Rattle.std.specs.Prelude.{◌≡◌, ◌≤◌, ◌⊎◌, ℕ, List, ◌++◌, Option, None, IsSome, Result, Ok, Err}
+use Rattle.std.specs.Io.KnownBytes.{Appends, Consumes, IsAtEnd}
 use Rattle.wire.specs.Framing.{Opened}
 use Rattle.engine.specs.Views.{EntryView}
 use Rattle.exchange.specs.declared.kinds.Cause.{Cause}
+use Rattle.exchange.specs.Session.{Setting}
+use Rattle.exchange.specs.Rest.{Kept}
 use Rattle.server.specs.Serving.{cause_or, Rest}
 use Rattle.streams.specs.declared.fault.StreamFault.{StreamFault}
+use Rattle.streams.specs.declared.fault.StreamFault.TheVariants as stream_fault
 use Rattle.streams.specs.Fronts.{AppendsFront}
-use Rattle.streams.specs.Conversing.{Talk, with_talk, without_talk}
-use Rattle.streams.specs.Settling.{Breaks}
+use Rattle.streams.specs.Conversing.{Talk, conversation, with_talk, without_talk}
 
-module _ {G : Type 0} (r : Rest G) (conn : ℕ) (t : Talk) (Now : Rest G → Type 0)
-    (old new : Option (List ℕ)) where
-  -- the sink took all of it, and the session is as it leaves it; or a fault came
-  abbrev pub Converses : Result (Unit {0}) StreamFault → Type 0
-  Converses (Ok done) = (u : Opened) × Now (with_talk r conn u t.ledger t.kept)
-      × Appends old new t.out
-  Converses (Err fault) = Breaks r conn t Now old new
+-- A source lets itself be read, of at most 4,096 bytes at once, whenever it is the client's turn.
+abbrev pub LetsRead : {I : Type 0} → (I → Option (List ℕ) → ℕ → Type 0)
+    → (I → Option (List ℕ) → Type 0) → Type 0
+LetsRead {I = I} MayRead IsItsTurn =
+    (s : I) (taken : Option (List ℕ)) (n : ℕ) → n ≤ 4096 → IsItsTurn s taken → MayRead s taken n
 
-  -- The sink took all of it, the cause is that of its end, and the session lives no more.
-  pub record ServesWhole (cause : Cause) : Type 0 where
-    pub ended : cause ≡ cause_or t.kept.ended
-    pub now : Now (without_talk r conn t.ledger)
-    pub took : Appends old new t.out
+module _ {G : Type 0} (r : Rest G) (conn : ℕ) (S : Setting) where
+  -- what the session does with these bytes of its client
+  abbrev pub talk_for : List ℕ → Talk
+  talk_for bytes = conversation S conn r.ledger bytes
 
-  -- The sink took a beginning, the ledger is one, and the session lives no more.
-  pub record ServesFront : Type 0 where
-    pub ledger : List EntryView
-    pub more : List EntryView
-    pub now : Now (without_talk r conn ledger)
-    pub grown : ledger ++ more ≡ t.ledger
-    pub took : AppendsFront old new t.out
+  -- It is the client's turn: the session goes on after the bytes that were read, and the sink took all that they make due.
+  pub record IsTurn (left left_now old taken : Option (List ℕ)) : Type 0 where
+    pub read : List ℕ
+    pub input : Consumes left left_now read
+    pub goes_on : (talk_for read).kept.ended ≡ None
+    pub answered : Appends old taken (talk_for read).out
 
-  -- all of it went well, or a fault came
-  abbrev pub Serves : Result Cause StreamFault → Type 0
-  Serves (Ok cause) = ServesWhole cause
-  Serves (Err fault) = ServesFront
+  -- The reading ended with the input or with the session.
+  abbrev pub EndsReading : List ℕ → Option (List ℕ) → Type 0
+  EndsReading read left_now = IsAtEnd left_now ⊎ IsSome (talk_for read).kept.ended
+
+  module _ (Now : Rest G → Type 0) (left left_now old new : Option (List ℕ)) where
+    -- The sink took all that is due for the bytes that were read, and the session is as they leave it.
+    pub record ConversesWhole : Type 0 where
+      pub read : List ℕ
+      pub unfinished : Opened
+      pub input : Consumes left left_now read
+      pub ends : EndsReading read left_now
+      pub now : Now (with_talk r conn unfinished (talk_for read).ledger (talk_for read).kept)
+      pub took : Appends old new (talk_for read).out
+
+    -- A fault came: the sink took a beginning of what is due for the bytes that were read, and the ledger is a beginning of the one
+    -- that they lead to. Where the source failed, it is all of both.
+    pub record ConversesFront (fault : StreamFault) : Type 0 where
+      pub read : List ℕ
+      pub unfinished : Opened
+      pub kept : Kept
+      pub ledger : List EntryView
+      pub more : List EntryView
+      pub input : Consumes left left_now read
+      pub now : Now (with_talk r conn unfinished ledger kept)
+      pub grown : ledger ++ more ≡ (talk_for read).ledger
+      pub took : AppendsFront old new (talk_for read).out
+      pub whole : fault ≡ stream_fault.ReadFailed
+          → (ledger ≡ (talk_for read).ledger) × Appends old new (talk_for read).out
+
+    -- all of it went well, or a fault came
+    abbrev pub Converses : Result (Unit {0}) StreamFault → Type 0
+    Converses (Ok done) = ConversesWhole
+    Converses (Err fault) = ConversesFront fault
+
+    -- The sink took all that is due for the bytes that were read, the cause is that of the end to which they lead, and the session lives
+    -- no more.
+    pub record ServesWhole (cause : Cause) : Type 0 where
+      pub read : List ℕ
+      pub input : Consumes left left_now read
+      pub ends : EndsReading read left_now
+      pub ended : cause ≡ cause_or (talk_for read).kept.ended
+      pub now : Now (without_talk r conn (talk_for read).ledger)
+      pub took : Appends old new (talk_for read).out
+
+    -- A fault came: the sink took a beginning of what is due for the bytes that were read, and the ledger is a beginning of the one
+    -- that they lead to. Where the source failed, it is all of both. The session lives no more.
+    pub record ServesFront (fault : StreamFault) : Type 0 where
+      pub read : List ℕ
+      pub ledger : List EntryView
+      pub more : List EntryView
+      pub input : Consumes left left_now read
+      pub now : Now (without_talk r conn ledger)
+      pub grown : ledger ++ more ≡ (talk_for read).ledger
+      pub took : AppendsFront old new (talk_for read).out
+      pub whole : fault ≡ stream_fault.ReadFailed
+          → (ledger ≡ (talk_for read).ledger) × Appends old new (talk_for read).out
+
+    -- all of it went well, or a fault came
+    abbrev pub Serves : Result Cause StreamFault → Type 0
+    Serves (Ok cause) = ServesWhole cause
+    Serves (Err fault) = ServesFront fault
 
 -- The session is given up: the others are as before, so is the next number, and the ledger has grown by some entries, or by none.
 abbrev pub LeavesOthers : {G : Type 0} → Rest G → ℕ → (Rest G → Type 0) → Type 0

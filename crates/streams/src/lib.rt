@@ -3,6 +3,7 @@
 
 mod asking;
 mod fault;
+mod holding;
 mod memory;
 mod over;
 mod responding;
@@ -19,5 +20,5 @@ pub use over::Over;
 pub use responding::{End, Responded, respond};
 pub use serving::{converse, serve_one};
 pub use taking::take_piece;
-pub use traits::{Failed, Sink, Source};
+pub use traits::{Failed, Peer, Sink, Source};
 pub use writing::write_all;

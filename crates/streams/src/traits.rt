@@ -51,3 +51,40 @@ pub trait Sink {
         ensures some { IfOk result (λ n. 0 < length bytes.now → 0 < n) }
         ensures bytes { WriteAppends (taken self.old) (taken self.new) result bytes.now };
 }
+
+/// Where the bytes of a peer come from that is answered: a source that may say when it is read. Every `Source` is one that may be read always.
+pub trait Peer {
+    // The bytes that are left, where they are known.
+    ghost left: { Self → Option (List ℕ) };
+
+    ghost has_failed: { Self → Bool };
+
+    // How many more reads may give bytes.
+    ghost reads: { Self → ℕ };
+
+    // That so many bytes may be asked for once the sink of its answers has taken these.
+    ghost may_read: { Self → Option (List ℕ) → ℕ → Type 0 };
+
+    /// Reads as a source does. The sink is that of the answers, and is left as it is.
+    fn read_after<O: Sink>(&mut self, sink: &O, buffer: &mut [u8]) -> Result<usize, Failed>
+        requires turn { may_read self.old (O.taken sink.now) (length buffer.old) }
+        ensures failed { IsErr result ↔ (has_failed self.new ≡ true) }
+        ensures stays { has_failed self.old ≡ true → has_failed self.new ≡ true }
+        ensures bound { ReadsAtMost result buffer.new }
+        ensures bytes { ReadConsumes (left self.old) (left self.new) result buffer.new }
+        ensures lowers { IfOk result (λ n. 0 < n → reads self.new < reads self.old) };
+}
+
+impl<I: Source> Peer for I {
+    ghost left = { λ s. I.left s };
+
+    ghost has_failed = { λ s. I.has_failed s };
+
+    ghost reads = { λ s. I.reads s };
+
+    ghost may_read = { λ _ _ _. Unit {0} };
+
+    fn read_after<O: Sink>(&mut self, _sink: &O, buffer: &mut [u8]) -> Result<usize, Failed> {
+        self.read(buffer)
+    }
+}

@@ -68,7 +68,9 @@ fn loops_past_refused_lines(rt: HostRuntime) {
 
 #[test]
 fn loops_through_no_unreadable_line(rt: HostRuntime) {
-    loops(&rt, &rt, "hello\n\nlogon 1\n", "", "line 3 unreadable\n", 2);
+    let told =
+        "line 3 unreadable\nexpected hello, logon [bad], logoff, goodbye, reset, run TEXT HEX [r], begin [r], commit, rollback, discard N or pull N\n";
+    loops(&rt, &rt, "hello\n\nlogon 1\n", "", told, 2);
 }
 
 /// A port in use, a host that doesn't answer, and files that aren't there.

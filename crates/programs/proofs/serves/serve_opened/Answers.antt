@@ -1,12 +1,11 @@
 use Rattle.std.proofs.Common.{refl, Ok, Err}
-use Rattle.streams.specs.declared.fault.StreamFault.TheVariants.{ReadFailed, WriteFailed}
 use Rattle.programs.proofs.serves.serve_opened.Goals as goal
 
+pub serve_one-requires : goal.serve_one-requires
+serve_one-requires g c = record { live = c.requires; turns = λ s taken n few turn. tt }
+
 pub returns-in-Ok-clause-serves : goal.returns-in-Ok-clause-serves
-returns-in-Ok-clause-serves g c = λ r bytes f e l. (Ok c.in-Ok.cause, c.in-Ok.ensures.serves r bytes f e l, refl)
+returns-in-Ok-clause-serves g c = λ r f e. (Ok c.in-Ok.cause, c.in-Ok.ensures.serves r f e, refl)
 
-pub returns-in-Err-ReadFailed-clause-serves : goal.returns-in-Err-ReadFailed-clause-serves
-returns-in-Err-ReadFailed-clause-serves g c = λ r bytes f e l. (Err ReadFailed, c.in-Err-ReadFailed.ensures.serves r bytes f e l, (refl, rw c.in-Err-ReadFailed.field-0-is at c.in-Err-ReadFailed.ensures.failed))
-
-pub returns-in-Err-WriteFailed-clause-serves : goal.returns-in-Err-WriteFailed-clause-serves
-returns-in-Err-WriteFailed-clause-serves g c = λ r bytes f e l. (Err WriteFailed, c.in-Err-WriteFailed.ensures.serves r bytes f e l, (refl, rw c.in-Err-WriteFailed.field-0-is at c.in-Err-WriteFailed.ensures.failed))
+pub returns-in-Err-clause-serves : goal.returns-in-Err-clause-serves
+returns-in-Err-clause-serves g c = λ r f e. (Err c.in-Err.field-0, c.in-Err.ensures.serves r f e, (refl, c.in-Err.ensures.failed))

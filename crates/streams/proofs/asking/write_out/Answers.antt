@@ -1,7 +1,8 @@
-use Rattle.std.proofs.Common.{◌≡◌, sym, ◌∙◌, subst, rules, arith, List, ℕ}
+use Rattle.std.proofs.Common.{◌≡◌, refl, sym, ◌∙◌, subst, rules, arith, List, [], ℕ}
 use Rattle.std.specs.Io.KnownBytes.{Appends}
 use Rattle.streams.specs.Fronts.{AppendsFront}
 use Rattle.streams.proofs.Asked.{all_taken, on_err}
+use Rattle.std.proofs.KnownBytes.{Appends-nil}
 use Rattle.streams.proofs.asking.write_out.Goals as goal
 
 pub returns-then-is_err-clause-out : goal.returns-then-is_err-clause-out
@@ -21,3 +22,7 @@ returns-clause-out g c =
     let w : Appends (g.O.Sink.taken c.args.sink.now) (g.O.Sink.taken c.write_all.new.sink) c.as_slice.result.now = search rules in
     let same : c.as_slice.result.now ≡ r.unsent = c.as_slice.ensures ∙ t.0 in
     (18446744073709551615, (subst (λ (z : List ℕ). Appends (g.O.Sink.taken c.args.sink.now) (g.O.Sink.taken c.write_all.new.sink) z) same w, t.1), h.1)
+
+pub returns-in_default-clause-out : goal.returns-in_default-clause-out
+returns-in_default-clause-out g c =
+    λ r f. (0, ([], r.unsent, refl, Appends-nil (g.O.Sink.taken c.args.sink.now)), c.in_default.ensures.err r f)

@@ -1,0 +1,11 @@
+use Rattle.programs.specs.Talking.{Place, IsAt}
+use Rattle.programs.proofs.Heard.{HeardSo}
+use Rattle.programs.proofs.calling.Caller.hear_all.Given as goal
+
+-- what was heard so far is printed
+abbrev pub invariant-loop-self : goal.invariant-loop-self
+invariant-loop-self g l = (p : Place) → IsAt l.fn.self p → HeardSo p (g.S.Source.left l.fn.source) (g.S.Source.left l.source) (g.O.Sink.taken l.fn.out) (g.O.Sink.taken l.out) l.self
+
+-- how many more reads may give bytes
+abbrev pub decreases-loop-self : goal.decreases-loop-self
+decreases-loop-self g l = g.S.Source.reads l.source

@@ -1,0 +1,12 @@
+use Rattle.std.proofs.Common.{◌++◌, ◌+◌, take, drop, subst, Some}
+use Rattle.programs.specs.Talking.{streams_at}
+use Rattle.programs.specs.Shelling.{Does}
+use Rattle.programs.proofs.Followed.{at_place}
+use Rattle.programs.proofs.shells.Conversation.take.Goals as goal
+
+pub returns-in-Err-clause-takes : goal.returns-in-Err-clause-takes
+returns-in-Err-clause-takes g c = λ start script p.
+    let t = c.args.piece.now in
+    let i = c.loop-byte.byte-index in
+    subst (λ xs. Does (Some c.in-Err.stop) start (streams_at (g.S.Source.left c.take_byte.new.source) (g.T.Sink.taken c.take_byte.new.sink) (g.O.Sink.taken c.take_byte.new.out) (g.E.Sink.taken c.take_byte.new.err) (g.E.Sink.has_failed c.take_byte.new.err)) xs)
+    (at_place script t i c.loop-byte-test.true) (c.in-Err.ensures.takes start (script ++ take i t) (c.loop-byte.invariant start script p) (drop (i + 1) t))

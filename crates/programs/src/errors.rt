@@ -1,0 +1,61 @@
+//! What a shell tells on standard error. None of it takes memory.
+ghost use Rattle.std.specs.Prelude.{◌≡◌};
+ghost use Rattle.programs.specs.Stopping.{Gets};
+ghost use Rattle.programs.specs.Telling.{lost_line};
+ghost use Rattle.programs.specs.Talking.{greeting_of, losses_text};
+
+use crate::names::{outcome_name, version_name};
+use client::Outcome;
+use itoa::Buffer;
+use streams::{Sink, write_all};
+use wire::Version;
+
+/// Writes a text, as far as it is taken.
+pub(crate) fn tell<E: Sink>(text: &[u8], err: &mut E)
+    ensures { Gets (E.has_failed err.old) (E.has_failed err.new) (E.taken err.old) (E.taken err.new)
+        text.now }
+{
+    let _ = write_all(err, text);
+}
+
+/// Tells the version that was taken and how a line looks, or that there is no conversation.
+pub(crate) fn greet<E: Sink>(has_ended: bool, version: Version, err: &mut E)
+    ensures { Gets (E.has_failed err.old) (E.has_failed err.new) (E.taken err.old) (E.taken err.new)
+        (greeting_of has_ended version) }
+{
+    if has_ended {
+        tell(
+            b"no conversation: no version was taken, or the server is gone\n",
+            err,
+        );
+        return;
+    }
+    tell(b"version ", err);
+    tell(version_name(version).as_bytes(), err);
+    tell(
+        b"; each line is a request: hello, logon [bad], logoff, goodbye, reset, run TEXT HEX [r], begin [r], commit, rollback, discard N or pull N\n",
+        err,
+    );
+}
+
+/// Tells `lost ORDINAL OUTCOME` of each request that has no answer.
+pub(crate) fn put_losses<E: Sink>(losses: &[(u64, Outcome)], err: &mut E)
+    ensures { Gets (E.has_failed err.old) (E.has_failed err.new) (E.taken err.old) (E.taken err.new)
+        (losses_text losses.now) }
+{
+    for (ordinal, outcome) in losses {
+        put_loss(*ordinal, *outcome, err);
+    }
+}
+
+fn put_loss<E: Sink>(ordinal: u64, outcome: Outcome, err: &mut E)
+    ensures { Gets (E.has_failed err.old) (E.has_failed err.new) (E.taken err.old) (E.taken err.new)
+        (lost_line (ordinal, outcome)) }
+{
+    let mut digits = Buffer::new();
+    tell(b"lost ", err);
+    tell(digits.format(ordinal).as_bytes(), err);
+    tell(b" ", err);
+    tell(outcome_name(outcome).as_bytes(), err);
+    tell(b"\n", err);
+}
