@@ -47,7 +47,7 @@ impl Chance {
     }
 }
 
-/// A handshake for 5.1 and 4.4, and whole messages in their chunks: HELLO, LOGON, RESET, BEGIN, COMMIT, ROLLBACK, GOODBYE, RUN PUT of a
+/// A handshake for 5.1 and 4.4, and whole messages in their chunks: HELLO, LOGON, RESET, BEGIN without a token and with one, COMMIT, ROLLBACK, GOODBYE, RUN PUT of a
 /// number, RUN ROWS of three, PULL of all, DISCARD of all, LOGOFF, a no-op.
 const SAID: &[&[u8]] = &[
     &[
@@ -65,6 +65,10 @@ const SAID: &[&[u8]] = &[
     ],
     &[0, 2, 0xB0, 0x0F, 0, 0],
     &[0, 3, 0xB1, 0x11, 0xA0, 0, 0],
+    &[
+        0, 25, 0xB1, 0x11, 0xA1, 0x8B, 0x74, 0x78, 0x5F, 0x6D, 0x65, 0x74, 0x61, 0x64, 0x61, 0x74,
+        0x61, 0xA1, 0x85, 0x74, 0x6F, 0x6B, 0x65, 0x6E, 0x82, 0x74, 0x31, 0, 0,
+    ],
     &[0, 2, 0xB0, 0x12, 0, 0],
     &[0, 2, 0xB0, 0x13, 0, 0],
     &[0, 2, 0xB0, 0x02, 0, 0],
@@ -157,7 +161,10 @@ fn any_request(alloc: Global, chance: &mut Chance, sent: usize) -> Result<Reques
         2 => Request::Logoff,
         3 => Request::Goodbye,
         4..8 => Request::Reset,
-        8..15 => Request::Begin(any_mode(chance)),
+        8..15 => Request::Begin {
+            mode: any_mode(chance),
+            token: any_token(alloc, chance)?,
+        },
         15..23 => Request::Commit,
         23..26 => Request::Rollback,
         26..30 => Request::Discard(any_count(chance)),
@@ -176,6 +183,15 @@ fn any_hello(alloc: Global, chance: &mut Chance) -> Result<Request, AllocError> 
 
 fn any_mode(chance: &mut Chance) -> Mode {
     chance.one_of(&[Mode::Write, Mode::Write, Mode::Read], Mode::Write)
+}
+
+/// One of two tokens now and then, so that they are met again.
+fn any_token(alloc: Global, chance: &mut Chance) -> Result<Option<String>, AllocError> {
+    match chance.below(6) {
+        0 => Ok(Some(String::from_str(alloc, "t1")?)),
+        1 => Ok(Some(String::from_str(alloc, "t2")?)),
+        _ => Ok(None),
+    }
 }
 
 fn any_count(chance: &mut Chance) -> Count {
@@ -212,6 +228,7 @@ fn any_run(alloc: Global, chance: &mut Chance) -> Result<Request, AllocError> {
         text: String::from_str(alloc, text)?,
         params,
         mode: any_mode(chance),
+        token: any_token(alloc, chance)?,
     })
 }
 

@@ -6,25 +6,33 @@ use messages::Request;
 use std::alloc::{AllocError, Global};
 use structures::Cell;
 
-/// The queries that run since the last end of a transaction or a result.
+/// The queries that run since the last end of a transaction or a result, and the token that these have.
 #[derive(Drop)]
 pub(crate) struct Account<'a> {
     runs: Vec<&'a Request>,
+    token: Option<&'a str>,
 }
 
 impl<'a> Account<'a> {
     pub fn new(alloc: Global) -> Account<'a> {
         Account {
             runs: Vec::new(alloc),
+            token: None,
         }
     }
 
     /// A request is answered, with the phase that its summary leads to; whether that commits the queries that are kept.
     pub fn commits(&mut self, request: &'a Request, phase: Phase) -> Result<bool, AllocError> {
         match (request, phase) {
-            (Request::Run { .. }, Phase::Streaming) => {
-                self.runs.clear();
+            (Request::Run { token, .. }, Phase::Streaming) => {
+                self.clear();
+                self.token = name_of(token);
                 self.runs.push(request)?;
+                Ok(false)
+            }
+            (Request::Begin { token, .. }, Phase::TxReady) => {
+                self.clear();
+                self.token = name_of(token);
                 Ok(false)
             }
             (Request::Run { .. }, Phase::TxStreaming) => {
@@ -35,14 +43,22 @@ impl<'a> Account<'a> {
             (_, Phase::Streaming | Phase::TxStreaming) => Ok(false),
             (Request::Pull(_) | Request::Discard(_), Phase::TxReady) => Ok(false),
             _ => {
-                self.runs.clear();
+                self.clear();
                 Ok(false)
             }
         }
     }
 
-    /// Whether an entry has just the writes of the queries that are kept.
+    /// The token of the queries that are kept.
+    pub fn token(&self) -> Option<&'a str> {
+        self.token
+    }
+
+    /// Whether an entry has just the writes of the queries that are kept, under their token.
     pub fn is_entry(&self, entry: &Entry) -> bool {
+        if name_of(&entry.token) != self.token {
+            return false;
+        }
         let mut writes = entry.writes.iter();
         for run in &self.runs {
             let Some((key, value)) = put(run) else {
@@ -61,6 +77,15 @@ impl<'a> Account<'a> {
     /// Nothing is kept.
     pub fn clear(&mut self) {
         self.runs.clear();
+        self.token = None;
+    }
+}
+
+/// The text of a token, where there is one.
+pub(crate) fn name_of(token: &Option<String>) -> Option<&str> {
+    match token {
+        None => None,
+        Some(token) => Some(token.as_str()),
     }
 }
 
@@ -79,7 +104,8 @@ fn put(request: &Request) -> Option<(&str, &Cell)> {
     Some((key.as_str(), value))
 }
 
-fn named<'a>(params: &'a [(String, Cell)], name: &str) -> Option<&'a Cell> {
+/// The cell of a name.
+pub(crate) fn named<'a>(params: &'a [(String, Cell)], name: &str) -> Option<&'a Cell> {
     for (key, cell) in params {
         if key.as_str() == name {
             return Some(cell);
@@ -89,7 +115,7 @@ fn named<'a>(params: &'a [(String, Cell)], name: &str) -> Option<&'a Cell> {
 }
 
 /// Whether two cells are the same, where they are numbers or texts.
-fn is_same(one: &Cell, other: &Cell) -> bool {
+pub(crate) fn is_same(one: &Cell, other: &Cell) -> bool {
     match (one, other) {
         (Cell::Int(one), Cell::Int(other)) => one == other,
         (Cell::Text(one), Cell::Text(other)) => one.as_str() == other.as_str(),

@@ -68,6 +68,7 @@ fn run(alloc: Global, text: &str, params: Vec<(String, Cell)>) -> Result<Request
         text: String::from_str(alloc, text)?,
         params,
         mode: Mode::Write,
+        token: None,
     })
 }
 
@@ -93,7 +94,10 @@ fn log_on(alloc: Global, requests: &mut Vec<Request>) -> Result<(), AllocError> 
 }
 
 fn commit_a_put(alloc: Global, requests: &mut Vec<Request>) -> Result<(), AllocError> {
-    requests.push(Request::Begin(Mode::Write))?;
+    requests.push(Request::Begin {
+        mode: Mode::Write,
+        token: None,
+    })?;
     requests.push(put(alloc)?)?;
     requests.push(Request::Pull(Count::All))?;
     requests.push(Request::Commit)?;

@@ -4,14 +4,16 @@
 
 mod account;
 mod asked;
+mod doubt;
 mod good;
+mod listening;
 mod play;
 mod playing;
 mod script;
 mod scripts_of;
 
 pub use asked::{Table, Unplayed, asking, requests, server};
-pub use good::{Broken, fault_in};
+pub use good::{Broken, fault_in, fault_of};
 pub use play::{Play, mixed, moved};
 pub use playing::{NOT_PLAYED, checked, plays_script};
 pub use script::{Step, Unplayable, steps};

@@ -1,5 +1,6 @@
 //! A world that is played on, and what its clients were asked.
 
+use crate::listening::Listening;
 use crate::script::Step;
 use client::{Heard, Outcome};
 use engine::{FixedTable, OneUser};
@@ -7,7 +8,7 @@ use machine::{Phase, State};
 use messages::Request;
 use server::{Cause, Worked};
 use std::alloc::{AllocError, Global};
-use world::{Connection, Event, Refused, Seen, Standing, World};
+use world::{Connection, Event, Peer, Refused, Seen, Standing, World};
 
 /// A world over an empty table and the gate of `user` with `pass`.
 #[derive(Drop)]
@@ -15,6 +16,8 @@ pub struct Play {
     pub world: World<FixedTable, OneUser>,
     /// Of each connection, the requests that its client accepted.
     pub sent: Vec<Vec<Request>>,
+    /// Of each connection, what its client was seen to hear.
+    pub(crate) heard: Vec<Listening>,
     /// How often an event was refused for want of memory.
     pub wants: usize,
     /// Whether a refused event changed what is reported.
@@ -38,6 +41,7 @@ impl Play {
         Ok(Play {
             world: World::new(alloc, FixedTable::new(alloc), gate),
             sent: Vec::new(alloc),
+            heard: Vec::new(alloc),
             wants: 0,
             is_torn: false,
             alloc,
@@ -104,6 +108,9 @@ impl Play {
         }
         for entry in self.world.ledger() {
             sum = mixed(mixed(sum, entry.id.conn), entry.id.ordinal);
+            if let Some(token) = &entry.token {
+                sum = mixed_bytes(sum, token.as_bytes());
+            }
             for write in &entry.writes {
                 sum = mixed_bytes(sum, write.key.as_bytes());
             }
@@ -116,6 +123,13 @@ impl Play {
         match event {
             Event::Open(_) => {
                 self.sent.reserve(1)?;
+                self.heard.reserve(1)?;
+                Ok(None)
+            }
+            Event::ToClient(conn, _) => {
+                if let Some(heard) = self.heard.get_mut(*conn as usize) {
+                    heard.told.reserve(1)?;
+                }
                 Ok(None)
             }
             Event::Submit(conn, request) => {
@@ -129,12 +143,10 @@ impl Play {
         }
     }
 
-    /// Keeps the request that was accepted. There is room.
+    /// Keeps what came of an event. There is room.
     fn keep(&mut self, event: &Event, request: Option<Request>, seen: &Seen) {
         match (event, seen) {
-            (Event::Open(_), _) => {
-                self.is_torn |= self.sent.push(Vec::new(self.alloc)).is_err();
-            }
+            (Event::Open(peer), _) => self.opens(*peer),
             (Event::Submit(conn, _), Seen::Submitted(Ok(_))) => {
                 let (Some(sent), Some(request)) = (self.sent.get_mut(*conn as usize), request)
                 else {
@@ -142,7 +154,50 @@ impl Play {
                 };
                 self.is_torn |= sent.push(request).is_err();
             }
+            (Event::ToClient(conn, max), Seen::Gave { used, heard }) => {
+                self.hears(*conn, heard);
+                if *used == 0 && *max > 0 {
+                    self.ends(*conn);
+                }
+            }
+            (Event::Work(conn), Seen::Worked(Worked::Row)) => {
+                if let Some(heard) = self.heard.get_mut(*conn as usize) {
+                    heard.says_row();
+                }
+            }
+            (Event::Cut(conn) | Event::ClientLost(conn), Seen::Nothing) => {
+                if let Some(heard) = self.heard.get_mut(*conn as usize) {
+                    heard.is_deaf = true;
+                }
+            }
             _ => {}
+        }
+    }
+
+    fn opens(&mut self, peer: Peer) {
+        self.is_torn |= self.sent.push(Vec::new(self.alloc)).is_err();
+        let heard = Listening::new(self.alloc, peer == Peer::Foreign);
+        self.is_torn |= self.heard.push(heard).is_err();
+    }
+
+    /// Keeps what the client of a connection was seen to hear.
+    pub fn hears(&mut self, conn: u64, heard: &Heard) {
+        let (Some(sent), Some(listening)) = (
+            self.sent.get(conn as usize),
+            self.heard.get_mut(conn as usize),
+        ) else {
+            return;
+        };
+        if let Some(told) = listening.hears(sent, heard) {
+            self.is_torn |= listening.told.push(told).is_err();
+        }
+    }
+
+    /// No byte is left to be delivered to the peer of a connection.
+    fn ends(&mut self, conn: u64) {
+        let wrote = self.told(conn).map_or(0, |told| told.wrote.len());
+        if let Some(listening) = self.heard.get_mut(conn as usize) {
+            listening.ends(wrote);
         }
     }
 }

@@ -22,6 +22,8 @@ fn code(broken: Broken) -> u64 {
         Broken::Ledger => 3,
         Broken::Outcome => 4,
         Broken::End => 5,
+        Broken::Rows => 6,
+        Broken::Token => 11,
         Broken::Memory => 0,
     }
 }

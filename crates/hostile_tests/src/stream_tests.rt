@@ -184,16 +184,17 @@ fn writes_and_fails(
         return Ok(true);
     }
     assert_eq!(rt; served.answer, Err(StreamFault::WriteFailed));
-    assert!(rt; is_front(&served.out, &talk.answered));
-    assert_eq!(rt;
-        served.entries,
-        talk.begun(served.out.len()),
-        "after {writes} writes"
-    );
+    let read = &talk.asked[..served.read.min(talk.asked.len())];
+    let alone = serves(alloc, read, MANY, MANY)?;
+    assert!(rt; is_front(&served.out, &alone.out) && served.out.len() < alone.out.len());
+    assert_eq!(rt; served.entries, alone.entries, "after {writes} writes");
+    assert!(rt; is_front(&alone.out, &talk.answered));
+    assert!(rt; talk.begun(served.out.len()) <= served.entries);
     Ok(false)
 }
 
-/// The kth write fails, for each k: what was written is a beginning, and the ledger has the commits whose summaries were begun.
+/// The kth write fails, for each k: what was written is a beginning of what the bytes that were read make due, and the ledger is that of
+/// these bytes, with each commit whose summary was begun.
 #[test]
 fn each_write_fails_when_served(rt: HostRuntime) -> Result<(), Fail> {
     let talk = conversation(rt.alloc())?;

@@ -83,7 +83,10 @@ fn clients_answer(client: &mut Client, many: &mut Client) -> bool {
     let is_refused = matches!(client.submit(Request::Commit), Err(SubmitFault::NotAllowed));
     let is_full = matches!(many.submit(Request::Reset), Err(SubmitFault::PipelineFull));
     let losses = client.lost();
-    let closed = client.submit(Request::Begin(Mode::Read));
+    let closed = client.submit(Request::Begin {
+        mode: Mode::Read,
+        token: None,
+    });
     is_refused
         && is_full
         && losses.as_slice().len() == 8

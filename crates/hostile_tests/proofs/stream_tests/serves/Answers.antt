@@ -7,4 +7,4 @@ pub serve_one-answer-requires : goal.serve_one-answer-requires
 serve_one-answer-requires c =
     let ledger = ledger_of c.new-2.result in
     let o = c.in_ok-conn.ensures (empty ledger c.in_ok-gate.gate) c.new-server.ensures in
-    (one ledger c.in_ok-gate.gate c.in_ok-conn.conn o.number, o.now, one_lives ledger c.in_ok-gate.gate c.in_ok-conn.conn o.number)
+    record { live = (one ledger c.in_ok-gate.gate c.in_ok-conn.conn o.number, o.now, one_lives ledger c.in_ok-gate.gate c.in_ok-conn.conn o.number); turns = λ s taken n few turn. tt }
