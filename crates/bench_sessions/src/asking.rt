@@ -74,7 +74,10 @@ pub(crate) fn ask(
 
 /// Submits a transaction of one put: the value of a number for its key.
 pub(crate) fn ask_put(alloc: Global, link: &mut Link, number: u32) -> Result<(), Stopped> {
-    link.client.submit(Request::Begin(Mode::Write))?;
+    link.client.submit(Request::Begin {
+        mode: Mode::Write,
+        token: None,
+    })?;
     ask(alloc, link, "PUT", put_parameters(alloc, number)?)?;
     link.client.submit(Request::Commit)?;
     Ok(())
@@ -91,6 +94,7 @@ fn run(alloc: Global, text: &str, params: Vec<(String, Cell)>) -> Result<Request
         text: String::from_str(alloc, text)?,
         params,
         mode: Mode::Write,
+        token: None,
     })
 }
 

@@ -5,6 +5,7 @@
 mod asking;
 mod batches;
 mod growth;
+mod hearing;
 mod link;
 mod moving;
 mod pieces;
@@ -13,6 +14,7 @@ mod workload;
 
 use crate::batches::sessions;
 use crate::growth::{pieces_taken, records_read, records_written};
+use crate::hearing::rows_heard;
 use crate::pieces::Long;
 use crate::workload::{Workload, run};
 use std::alloc::Global;
@@ -99,4 +101,10 @@ pub extern "C" fn bench_records_written(alloc: Global, keys: u32, turns: u32) ->
 #[unsafe(no_mangle)]
 pub extern "C" fn bench_pieces_taken(alloc: Global, bytes: u32, turns: u32) -> u64 {
     pieces_taken(alloc, bytes, turns).unwrap_or(0)
+}
+
+/// A client alone hears so many rows so many times, and answers how many these were.
+#[unsafe(no_mangle)]
+pub extern "C" fn bench_rows_heard(alloc: Global, rows: u32, turns: u32) -> u64 {
+    rows_heard(alloc, rows, turns).unwrap_or(0)
 }

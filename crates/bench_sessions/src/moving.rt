@@ -6,7 +6,7 @@ use crate::tally::Tally;
 use server::Worked;
 
 /// The most bytes of a piece.
-const PIECE: usize = 4096;
+pub(crate) const PIECE: usize = 4096;
 
 /// More pieces than a server's output has.
 const MAX_PIECES: usize = 64;
@@ -54,7 +54,7 @@ fn hear(link: &mut Link, piece: &[u8], tally: &mut Tally) -> Result<(), Stopped>
 }
 
 /// What is left of a piece, which is to be shorter.
-fn after(piece: &[u8], used: usize) -> Result<&[u8], Stopped>
+pub(crate) fn after(piece: &[u8], used: usize) -> Result<&[u8], Stopped>
     ensures { IfOk result (λ rest. length rest.now < length piece.now) }
 {
     if used == 0 || used > piece.len() {

@@ -1,0 +1,183 @@
+//! What C sees: codes for what Rust names, and the structs that calls fill in.
+
+ghost use Rattle.std.specs.Prelude.{◌≡◌, ℕ, Ok, Err};
+ghost use Rattle.bolt_c.specs.declared.codes.Heard.{Heard as AnyHeard};
+ghost use Rattle.bolt_c.specs.Codes.{wish_of, version_code, phase_code, outcome_code, submit_answer, take_answer, feed_answer, message_answer};
+
+use crate::answers::{Event, MessageFault, Refusal};
+use client::{ClientFault, Outcome};
+use machine::Phase;
+use wire::{Version, Wish};
+
+/// The call did what it is for.
+pub(crate) const OK: u32 = 0;
+
+/// `malloc` gave none.
+pub(crate) const MEMORY: u32 = 5;
+
+/// The wish names no version.
+pub(crate) const NO_WISH: u32 = 10;
+
+/// There isn't room for 32 outcomes.
+pub(crate) const NO_ROOM: u32 = 11;
+
+/// The handle is null.
+pub(crate) const NO_CLIENT: u32 = 100;
+
+/// What a call of `feed` used, and what ended with it.
+#[repr(C)]
+#[derive(Drop)]
+pub struct Heard {
+    pub used: usize,
+    pub ordinal: u64,
+    pub kind: u32,
+    pub version: u32,
+    pub outcome: u32,
+    pub phase: u32,
+}
+
+/// A request that waited when the client was lost.
+#[repr(C)]
+#[derive(Clone, Copy, Drop)]
+pub struct Loss {
+    pub ordinal: u64,
+    pub outcome: u64,
+}
+
+/// Where a client stands.
+#[repr(C)]
+#[derive(Drop)]
+pub struct Standing {
+    pub first: u64,
+    pub pending: u32,
+    pub phase: u32,
+    pub version: u32,
+    pub has_ended: u32,
+    pub awaits: u32,
+    pub padding: u32,
+}
+
+/// The wish of a number: 0 for the newest of all, else a version.
+pub(crate) fn wish(number: u32) -> Option<Wish>
+    ensures { result ≡ wish_of number }
+{
+    match number {
+        0 => Some(Wish::Newest),
+        44 => Some(Wish::Only(Version::V44)),
+        50 => Some(Wish::Only(Version::V50)),
+        51 => Some(Wish::Only(Version::V51)),
+        _ => None,
+    }
+}
+
+/// The number of a version, 0 for none.
+pub(crate) fn version_code(version: Option<Version>) -> u32
+    ensures { result ≡ version_code version }
+{
+    match version {
+        None => 0,
+        Some(Version::V44) => 44,
+        Some(Version::V50) => 50,
+        Some(Version::V51) => 51,
+    }
+}
+
+pub(crate) fn phase_code(phase: Phase) -> u32
+    ensures { result ≡ phase_code phase }
+{
+    match phase {
+        Phase::Fresh => 0,
+        Phase::Unauth => 1,
+        Phase::Ready => 2,
+        Phase::Streaming => 3,
+        Phase::TxReady => 4,
+        Phase::TxStreaming => 5,
+        Phase::Halted => 6,
+        Phase::Defunct => 7,
+    }
+}
+
+pub(crate) fn outcome_code(outcome: Outcome) -> u32
+    ensures { result ≡ outcome_code outcome }
+{
+    match outcome {
+        Outcome::Done => 0,
+        Outcome::Committed => 1,
+        Outcome::Refused => 2,
+        Outcome::Ignored => 3,
+        Outcome::Lost => 4,
+        Outcome::Unknown => 5,
+    }
+}
+
+/// The code of a refusal.
+pub(crate) fn refusal_code(refusal: Refusal) -> u32
+    ensures { (n : ℕ) → submit_answer result n ≡ Err refusal }
+{
+    match refusal {
+        Refusal::NotAllowed => 1,
+        Refusal::PipelineFull => 2,
+        Refusal::Size => 3,
+        Refusal::Closed => 4,
+        Refusal::Memory => 5,
+        Refusal::Unwritable => 7,
+        Refusal::NoRequest => 8,
+    }
+}
+
+/// The code of a fault of the client.
+pub(crate) fn fault_code(fault: ClientFault) -> u32
+    ensures take { (n : ℕ) → take_answer result n ≡ Err fault }
+    ensures feed { (heard : AnyHeard) → feed_answer result heard ≡ Err fault }
+{
+    match fault {
+        ClientFault::Closed => 4,
+        ClientFault::Memory => 5,
+        ClientFault::BadPeer => 6,
+    }
+}
+
+/// The code of a message that isn't told.
+pub(crate) fn message_code(fault: MessageFault) -> u32
+    ensures { (n : ℕ) → message_answer result n ≡ Err fault }
+{
+    match fault {
+        MessageFault::Memory => 5,
+        MessageFault::Unwritable => 7,
+        MessageFault::NotHeard => 9,
+    }
+}
+
+/// What a feed tells.
+pub(crate) fn as_heard(used: usize, event: Event) -> Heard
+    ensures { feed_answer 0 result ≡ Ok (used, event) }
+{
+    let nothing = Heard {
+        used,
+        ordinal: 0,
+        kind: 0,
+        version: 0,
+        outcome: 0,
+        phase: 0,
+    };
+    match event {
+        Event::Nothing => nothing,
+        Event::Version(version) => Heard {
+            kind: 1,
+            version: version_code(version),
+            ..nothing
+        },
+        Event::Row => Heard { kind: 2, ..nothing },
+        Event::Summary {
+            ordinal,
+            phase,
+            outcome,
+        } => Heard {
+            kind: 3,
+            ordinal,
+            outcome: outcome_code(outcome),
+            phase: phase_code(phase),
+            ..nothing
+        },
+    }
+}

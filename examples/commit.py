@@ -1,0 +1,33 @@
+"""commit.py ADDRESS PORT KEY: puts a key in a transaction, all of it in one pipeline, and prints what became of each of its requests.
+
+It finds the module in ../python, and libbolt.so beside it or where BOLT_SO says; bench/build_c makes it.
+"""
+import os
+import sys
+
+sys.path.insert(0, os.path.join(os.path.dirname(os.path.abspath(__file__)), "..", "python"))
+import bolt
+
+
+def commit(address, port, key):
+    with bolt.Connection(address, port, auth=("basic", "user", "pass")) as connection:
+        connection.ask_begin()
+        connection.ask_run("PUT", {"key": key, "value": 1})
+        connection.ask_commit()
+        return connection.settle()
+
+
+def main(address, port, key):
+    try:
+        requests = commit(address, int(port), key)
+    except bolt.Broken as broken:
+        print("the connection broke")
+        requests = broken.requests
+    for request in requests:
+        print(f"{request.text}: {request.outcome}")
+
+
+if __name__ == "__main__":
+    if len(sys.argv) != 4:
+        sys.exit(__doc__)
+    main(*sys.argv[1:])
