@@ -1,5 +1,5 @@
 -- From an answer of an end of a connection to the whole answer of `step`: the model steps, every connection is good then, and what is held fits.
-use Rattle.std.proofs.Common.{◌≡◌, refl, sym, ◌∙◌, ap, subst, ℕ, ◌+◌, ◌≤◌, Bool, true, false, if◌then◌else◌, Option, Some, None, option_map, Result, Ok, Err, List, [], ◌∷◌, length, drop, slice_get, slice_set, ⊎_elim, arith, length-drop, zero, suc, is_some, true≢false}
+use Rattle.std.proofs.Common.{◌≡◌, refl, sym, ◌∙◌, ap, subst, ℕ, ◌+◌, ◌≤◌, Bool, true, false, if◌then◌else◌, Some, None, option_map, Result, Ok, Err, List, [], ◌∷◌, length, drop, slice_get, slice_set, ⊎_elim, arith, length-drop, zero, suc, is_some, true≢false}
 use Rattle.wire.specs.declared.Wish.{Wish}
 use Rattle.wire.specs.Offers.{wish_version}
 use Rattle.messages.specs.View.{RequestView}
@@ -8,8 +8,6 @@ use Rattle.engine.specs.declared.Mode.{Mode as QueryMode}
 use Rattle.engine.specs.Views.{EntryView, WriteView, ParameterView, AnswerView, QueryFault}
 use Rattle.exchange.specs.Session.{Setting}
 use Rattle.server.specs.Serving as serving
-use Rattle.client.specs.declared.SubmitFault.{SubmitFault}
-use Rattle.client.specs.declared.SubmitFault.TheVariants as submit_fault
 use Rattle.client.specs.Client.{refusal_of}
 use Rattle.client.specs.Fits.{IsWrittenBy, IsAccepted}
 use Rattle.client.specs.Rest as asking
@@ -22,32 +20,25 @@ use Rattle.world.specs.Seeing.{IsOpens, IsWrong, ComesWrong}
 use Rattle.world.proofs.Seeing.{refuses_exactly}
 use Rattle.world.specs.declared.kinds.Refused.TheVariants.{NoSuchConnection, WrongPeer, SessionsFull}
 use Rattle.world.specs.Contract.{Answers}
-use Rattle.world.proofs.Headline.{reached_keeps, all_good}
+use Rattle.world.proofs.Headline.{all_good}
 use Rattle.world.proofs.Sound.{Sound, reached_sound}
 use Rattle.world.proofs.Giving.{refused_same}
-use Rattle.world.proofs.Fitting.{some_is}
+use Rattle.world.proofs.Deeds.{some_is}
 use Rattle.world.proofs.Becoming.{becomes, knows_wished, accepts_written}
 use Rattle.world.proofs.Written.{TellsWritten, accepting}
 use Rattle.world.proofs.Stepping.{submit_fits, opens_not}
 
 -- what a lemma of an event gives is the whole answer
 pub answers : (S : Setting) (brought : List EntryView) (w : World) → (r : Reached S brought w) → (e : Event) (seen : Seen) (Now : World → Type 0)
-    → ((w2 : World) × (step S w e ≡ Ok (w2, seen)) × Now w2) → ((w2 : World) → TellsWritten S w (reached_keeps S brought r).1 seen w2 e) → IsCountedIn seen → Answers S w e (Ok seen) Now
+    → ((w2 : World) × (step S w e ≡ Ok (w2, seen)) × Now w2) → TellsWritten w e → IsCountedIn seen → Answers S w e (Ok seen) Now
 answers S brought w r e seen Now h f counted =
-    let s : WStep S w e seen h.0 = becomes S brought w r e seen h.0 (f h.0) counted h.1 in
+    let s : WStep S w e seen h.0 = becomes S brought w r e seen h.0 f counted h.1 in
     record {
       after = h.0;
       steps = s;
       good = all_good S brought h.0 (goes_on w h.0 e seen r s);
       now = h.2;
     }
-
-one_conn : (a b : Connection) → Some a ≡ Some b → a ≡ b
-one_conn a b e = ap (λ o. or_that o) e
-  where
-    or_that : Option Connection → Connection
-    or_that (Some k) = k
-    or_that None = a
 
 module _ (G : Type 0) (answer : List EntryView → List WriteView → List ℕ → List ParameterView → QueryMode → Result AnswerView QueryFault) (accepts : G → List ℕ → List ℕ → Bool)
     (r : Rest G) (w : World) (fits : Fits r w) (brought : List EntryView) (reached : Reached (serving.setting answer accepts r.server) brought w) (c : ℕ) (k : Connection) (here : slice_get w.conns c ≡ Some k) where
@@ -61,7 +52,7 @@ module _ (G : Type 0) (answer : List EntryView → List WriteView → List ℕ �
       subst (λ n. Answers S w (Submit c q) (Ok (Submitted (Ok n))) (Fits (record { links = slice_set r.links c (record l { client = option_map (λ y. asking.after_submit y q) l.client }); server = r.server }))) (sym (accepted.next ∙ ordinal_is))
       (answers S brought w reached (Submit c q) (Submitted (Ok (length k.sent))) _
       (submit_fits G answer accepts r w fits (reached_sound S brought reached) c k here l at wish ours q none open_now.1 open_now.0 version_is)
-      (λ w2 k2 g wish2 p no. subst (λ wi. IsWritten (wish_version wi) q) (same_wish k2 wish2 g p) (accepts_written S brought w reached c k wish here ours q written)) tt)
+      (λ k2 g wish2 p no. subst (λ wi. IsWritten (wish_version wi) q) (same_wish k2 wish2 g p) (accepts_written S brought w reached c k wish here ours q written)) tt)
     where
       old : FitsClient (Ours wish) l.client l.up k
       old = subst (λ p. FitsClient p l.client l.up k) ours f.client
@@ -85,7 +76,7 @@ module _ (G : Type 0) (answer : List EntryView → List WriteView → List ℕ �
       written = subst (λ z. IsWrittenBy z.knows.version q) is accepted.written
 
       same_wish : (k2 : Connection) (wish2 : Wish) → slice_get w.conns c ≡ Some k2 → k2.peer ≡ Ours wish2 → wish ≡ wish2
-      same_wish k2 wish2 g p = ap wish_of (sym ours ∙ ap (λ y. y.peer) (one_conn k k2 (sym here ∙ g)) ∙ p)
+      same_wish k2 wish2 g p = ap wish_of (sym ours ∙ ap (λ y. y.peer) (some_is k k2 (sym here ∙ g)) ∙ p)
 
       ordinal_is : asking.next_ordinal x ≡ length k.sent
       ordinal_is = ap asking.next_ordinal is ∙ ap (λ b. (client k).count + length (if b then [] else drop (client k).count k.sent)) open_now.0 ∙ counted

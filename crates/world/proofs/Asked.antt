@@ -22,7 +22,7 @@ use Rattle.world.specs.declared.kinds.Seen.{Seen as SeenTold}
 use Rattle.world.specs.Views.{link_of, event_of}
 use Rattle.world.specs.Turns.{Definition, Turns, Now, Before, Holds, Submits, LosesClient, after_loss}
 use Rattle.world.proofs.Sound.{Sound}
-use Rattle.world.proofs.Written.{ok_parts}
+use Rattle.world.proofs.Deeds.{ok_parts, some_is}
 use Rattle.world.proofs.Seeing.{refuses_exactly}
 use Rattle.world.proofs.Answering.{submit_answers}
 use Rattle.world.proofs.Turning.{same_set, ok_of, found, all_sound, done}
@@ -32,13 +32,6 @@ use Rattle.world.proofs.Stepping.{submit_step, refused_fits, lost_fits, lost_onc
 ours_of : (p : Peer) (o : Option asking.Rest) (up : List ℕ) (k : Connection) (y : asking.Rest) → FitsClient p o up k → o ≡ Some y → (wish : Wish) × (p ≡ Ours wish)
 ours_of (Ours wish) o up k y f is = (wish, refl)
 ours_of Foreign o up k y f is = let no : None ≡ Some y = sym f.0 ∙ is in cc
-
-one_conn : (a b : Connection) → Some a ≡ Some b → a ≡ b
-one_conn a b e = ap (λ o. or_that o) e
-  where
-    or_that : Option Connection → Connection
-    or_that (Some k) = k
-    or_that None = a
 
 module _ {E G : Type 0} (entries : E → List EntryView) (answer : Definition) (accepts : G → List ℕ → List ℕ → Bool)
     (c : ℕ) (l : LinkHeld) (s : Server E G) (r : Rest G) (w : World) where
@@ -99,7 +92,7 @@ module _ {E G : Type 0} (entries : E → List EntryView) (answer : Definition) (
         let h = refused_fits G answer accepts r w b.fits sound c k here.1 m b.at o.0 o.1 q x.client x.here fault x.refused in
         done entries answer accepts (Submit c q) l s r w b (Submitted (Err fault)) l2 s x.now.client r.server x.now.ends b.server refl
         (h.0, h.1, subst (λ z. Fits (record { links = slice_set r.links c z; server = r.server }) h.0) x.now.link_is h.2)
-        (λ w2 k2 g wish p none. absurd (never h.0 h.1 o.0 o.1 (subst (λ z. refusal_of (client z) z.client_lost z.sent q ≡ None) (one_conn k2 k (sym g ∙ here.1)) none))) tt
+        (λ k2 g wish p none. absurd (never h.0 h.1 o.0 o.1 (subst (λ z. refusal_of (client z) z.client_lost z.sent q ≡ None) (some_is k2 k (sym g ∙ here.1)) none))) tt
       where
         differ : (n : ℕ) → ◌≡◌ {A = Seen} (Submitted (Ok n)) (Submitted (Err fault)) → ⊥
         differ n e = cc
@@ -150,13 +143,13 @@ module _ {E G : Type 0} (entries : E → List EntryView) (answer : Definition) (
         let o = ours_of k.peer m_lost.client m_lost.up k y at_lost.2.client is in
         let x = lost_once G answer accepts r w b.fits (all_sound entries answer accepts (ClientLost c) l s r w b) c k at_lost.1 m_lost b.at o.0 o.1 (sym at_lost.2.client_lost ∙ was) in
         done entries answer accepts (ClientLost c) l s r w b SawNothing l2 s h.client r.server h.ends b.server refl
-        (x.0, x.1, subst (λ z. Fits (record { links = slice_set r.links c z; server = r.server }) x.0) h.link_is x.2) (λ w2. tt) tt
+        (x.0, x.1, subst (λ z. Fits (record { links = slice_set r.links c z; server = r.server }) x.0) h.link_is x.2) tt tt
     loses_turn false was l2 y is h =
         let k = at_lost.0 in
         let o = ours_of k.peer m_lost.client m_lost.up k y at_lost.2.client is in
         let x = lost_fits G answer accepts r w b.fits (all_sound entries answer accepts (ClientLost c) l s r w b) c k at_lost.1 m_lost b.at o.0 o.1 (sym at_lost.2.client_lost ∙ was) y is in
         done entries answer accepts (ClientLost c) l s r w b SawNothing l2 s h.client r.server h.ends b.server refl
-        (x.0, x.1, subst (λ z. Fits (record { links = slice_set r.links c z; server = r.server }) x.0) h.link_is x.2) (λ w2. tt) tt
+        (x.0, x.1, subst (λ z. Fits (record { links = slice_set r.links c z; server = r.server }) x.0) h.link_is x.2) tt tt
 
     pub loses_turns : (res : Result Seen Refused) (l2 : LinkHeld) → LosesClient m_lost res (Holds l2) → Answers T w (ClientLost c) res (Now_ l2)
     loses_turns (Ok SawNothing) l2 x = loses_turn m_lost.client_lost refl l2 x.client x.here x.now

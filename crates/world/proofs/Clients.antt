@@ -1,6 +1,6 @@
 -- How much a client keeps, over every list of steps: the requests that its connection sent and the bytes that it was given are those of
 -- a list of calls.
-use Rattle.std.proofs.Common.{◌≡◌, refl, sym, ◌∙◌, ap, ap₂, subst, ℕ, ◌≤◌, ◌^◌, Bool, true, false, ◌||◌, if◌then◌else◌, nat_le, Option, Some, None, Result, Ok, Err, List, [], ◌∷◌, ◌++◌, length, take, drop, slice_get, slice_set, ⊎_elim, arith}
+use Rattle.std.proofs.Common.{◌≡◌, refl, sym, ◌∙◌, ap, ap₂, subst, ℕ, ◌≤◌, true, false, ◌||◌, if◌then◌else◌, Option, Some, None, List, [], ◌∷◌, ◌++◌, length, take, drop, slice_get, arith}
 use Rattle.wire.specs.declared.Version.{Version}
 use Rattle.wire.specs.declared.Wish.{Wish}
 use Rattle.wire.specs.Reader.{reach, takes, state}
@@ -16,14 +16,15 @@ use Rattle.client.proofs.Runs.{tells_by_bytes}
 use Rattle.client.proofs.Few.{keeps_few}
 use Rattle.client.proofs.Later.{reading_later}
 use Rattle.world.specs.Connections.{Peer, Ours, Foreign, Connection, fresh, output, bytes_delivered, client, wish_of}
-use Rattle.world.specs.World.{World, Event, Opens, Submit, ToServer, ToClient, Work, PutsNoop, Cut, ClientLost, ServerLost, Feeds, Seen, Opened as SawOpened, Refusal, V3, Effect, effect_at_peer, give, at_peer, after_effect, with_effect, at_conn, result_of_open, live, ledger, step, taken_out, Reached, begins, goes_on, takes_out}
+use Rattle.world.specs.World.{World, Effect, give, taken_for, place, Reached}
 use Rattle.world.specs.Rests.{client_rest}
 use Rattle.world.specs.Limits.{IsFew}
-use Rattle.world.proofs.Written.{ok_parts, get_set, get_more, accepting}
-use Rattle.world.proofs.Sound.{Sound, reached_sound}
+use Rattle.world.proofs.Deeds.{along}
+use Rattle.world.proofs.Written.{accepting}
+use Rattle.world.proofs.Sound.{reached_sound}
 use Rattle.world.proofs.Hearing.{used_same}
 use Rattle.world.proofs.Giving.{refused_same, given_more, version_stays}
-use Rattle.world.proofs.Doing.{Alike, client_alike, Does, stays, asks, loses, gives, strange, event_does}
+use Rattle.world.proofs.Doing.{Alike, client_alike, Does, stays, asks, loses, gives, strange, deed_does}
 
 calls_more : (cs : List Call) (c : Call) (x : Run) → calls x (cs ++ c ∷ []) ≡ call (calls x cs) c
 calls_more [] c x = refl
@@ -114,67 +115,15 @@ does_follow k x (stays y a e) f = alike_follows k y.conn a f
 does_follow k x (asks q none) f = λ wish p. accepts wish k p (f wish p) q none
 does_follow k x loses f = λ wish p. loses_follow wish k p (f wish p)
 does_follow k x (gives wish n p lives on) f = λ wish2 p2. hears_more wish2 k p2 (f wish2 p2) n lives on
-does_follow k x (strange y p p2 e) f = λ wish p3. let bad : Foreign ≡ Ours wish = sym p2 ∙ p3 in absurd (cc)
+does_follow k x (strange n p) f = λ wish p2. let bad : Foreign ≡ Ours wish = sym p ∙ p2 in absurd (cc)
 
-abbrev pub AllFollow : World → Type 0
-AllFollow w = (c : ℕ) (k : Connection) → slice_get w.conns c ≡ Some k → Follow k
+fresh_follows : (peer : Peer) → Follow (fresh peer)
+fresh_follows peer wish p = record { made = []; sent = refl; took = refl; lost = refl; before = λ e. refl }
 
-module _ (S : Setting) (w : World) (sound : (c : ℕ) (k : Connection) → slice_get w.conns c ≡ Some k → Sound k) (all : AllFollow w) where
-  set_follows : (c : ℕ) (k k2 : Connection) → slice_get w.conns c ≡ Some k → Follow k2 → (j : ℕ) (k3 : Connection) → slice_get (slice_set w.conns c k2) j ≡ Some k3 → Follow k3
-  set_follows c k k2 here f j k3 g = ⊎_elim (λ r. subst Follow r.1 f) (λ r. all j k3 r.1) (get_set w.conns c j k k2 k3 here g)
-
-  at_follows : (seen : Seen) (w2 : World) (e : Event) (c : ℕ) → at_conn S w e c (slice_get w.conns c) ≡ Ok (w2, seen) → AllFollow w2
-  at_follows seen w2 e c h = go (slice_get w.conns c) refl h
-    where
-      made : (k : Connection) → slice_get w.conns c ≡ Some k → (r : Result Effect Refusal) → ((x : Effect) → r ≡ Ok x → Follow x.conn) → with_effect w c k r ≡ Ok (w2, seen) → AllFollow w2
-      made k here (Err refusal) d h = cc
-      made k here (Ok x) d h = subst AllFollow (ok_parts (after_effect w c k x) w2 x.seen seen h).0 (set_follows c k x.conn here (d x refl))
-
-      go : (o : Option Connection) → slice_get w.conns c ≡ o → at_conn S w e c o ≡ Ok (w2, seen) → AllFollow w2
-      go None g h = cc
-      go (Some k) g h = made k g (at_peer S c (ledger w) e k.peer k) (λ x h. does_follow k x (event_does k (sound c k g) S c (ledger w) e k.peer refl x h) (all c k g)) h
-
-  opens_follow : (seen : Seen) (w2 : World) (peer : Peer) → result_of_open w peer ≡ Ok (w2, seen) → AllFollow w2
-  opens_follow seen w2 peer h = go (nat_le 16 (live w) || nat_le (2 ^ 63) (length w.conns)) h
-    where
-      more : World
-      more = record { conns = w.conns ++ fresh peer ∷ []; brought = w.brought; since = w.since }
-
-      begun : Follow (fresh peer)
-      begun wish p = record { made = []; sent = refl; took = sym (nothing 0); lost = refl; before = λ e. refl }
-        where
-          nothing : (n : ℕ) → take {A = ℕ} 0 [] ≡ []
-          nothing n = refl
-
-      go : (b : Bool) → if◌then◌else◌ {A = Result (World × Seen) Refusal} b (Err V3) (Ok (more, SawOpened (length w.conns))) ≡ Ok (w2, seen) → AllFollow w2
-      go true h = cc
-      go false h = subst AllFollow (ok_parts more w2 (SawOpened (length w.conns)) seen h).0 (λ j k g. ⊎_elim (λ r. all j k r) (λ r. subst Follow r.1 begun) (get_more w.conns j (fresh peer) k g))
-
-  step_follows : (seen : Seen) (w2 : World) (e : Event) → step S w e ≡ Ok (w2, seen) → AllFollow w2
-  step_follows seen w2 (Opens peer) h = opens_follow seen w2 peer h
-  step_follows seen w2 (Submit c q) h = at_follows seen w2 (Submit c q) c h
-  step_follows seen w2 (ToServer c n) h = at_follows seen w2 (ToServer c n) c h
-  step_follows seen w2 (ToClient c n) h = at_follows seen w2 (ToClient c n) c h
-  step_follows seen w2 (Work c) h = at_follows seen w2 (Work c) c h
-  step_follows seen w2 (PutsNoop c) h = at_follows seen w2 (PutsNoop c) c h
-  step_follows seen w2 (Cut c) h = at_follows seen w2 (Cut c) c h
-  step_follows seen w2 (ClientLost c) h = at_follows seen w2 (ClientLost c) c h
-  step_follows seen w2 (ServerLost c) h = at_follows seen w2 (ServerLost c) c h
-  step_follows seen w2 (Feeds c bytes) h = at_follows seen w2 (Feeds c bytes) c h
-
-  takes_follow : (c n : ℕ) → AllFollow (taken_out w c n (slice_get w.conns c))
-  takes_follow c n = go (slice_get w.conns c) refl
-    where
-      go : (o : Option Connection) → slice_get w.conns c ≡ o → AllFollow (taken_out w c n o)
-      go None g = all
-      go (Some k) g =
-          let k2 : Connection = record k { taken = (effect_at_peer k.peer n k).conn.taken } in
-          set_follows c k k2 g (alike_follows k k2 (record { peer = refl; sent = refl; lost = refl; given = refl }) (all c k g))
-
-pub reached_follow : (S : Setting) (brought : List EntryView) {w : World} → Reached S brought w → AllFollow w
-reached_follow S brought (begins l) = λ c k g. cc
-reached_follow S brought (goes_on w w2 e seen r t) = step_follows S w (reached_sound S brought r) (reached_follow S brought r) seen w2 e t.steps
-reached_follow S brought (takes_out w c n r) = takes_follow S w (reached_sound S brought r) (reached_follow S brought r) c n
+pub reached_follow : (S : Setting) (brought : List EntryView) {w : World} → Reached S brought w → (c : ℕ) (k : Connection) → slice_get w.conns c ≡ Some k → Follow k
+reached_follow S brought r =
+    along S brought (λ _ _ _ k. Follow k) (λ w peer _ _. fresh_follows peer) (λ w e k x reached here f d _ _. does_follow k x (deed_does k (reached_sound S brought reached (place e) k here) d) f)
+    (λ _ _ _ _ _ _ _ _ f. f) (λ _ _ _ n k f. alike_follows k (record k { taken = taken_for n k }) (record { peer = refl; sent = refl; lost = refl; given = refl }) f) r
 
 pub clients_few : (S : Setting) (brought : List EntryView) (w : World) → Reached S brought w → (c : ℕ) (k : Connection) → slice_get w.conns c ≡ Some k → (wish : Wish) (out : ℕ) → k.peer ≡ Ours wish → IsFew (client_rest out k)
 clients_few S brought w r c k here wish out p = few wish k p (reached_follow S brought r c k here wish p) out

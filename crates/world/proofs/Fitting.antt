@@ -1,14 +1,13 @@
 -- The links of a world, event by event: from what they held and what the calls answered, what they hold then fits the model's step.
-use Rattle.std.proofs.Common.{◌≡◌, refl, sym, ◌∙◌, ap, ap₂, subst, ℕ, zero, suc, ◌+◌, ◌-◌, ◌≤◌, Bool, true, false, not, ◌||◌, if◌then◌else◌, nat_le, min, max, Option, Some, None, is_some, unwrap_or, option_map, List, [], ◌∷◌, ◌++◌, length, take, drop, slice_get, slice_set, arith, append-nil, length-append, length-take, length-drop, take-append-drop}
+use Rattle.std.proofs.Common.{◌≡◌, refl, sym, ◌∙◌, ap, ap₂, subst, ℕ, zero, suc, ◌+◌, ◌-◌, ◌≤◌, Bool, true, false, if◌then◌else◌, min, max, Option, Some, None, unwrap_or, option_map, List, [], ◌∷◌, ◌++◌, length, take, drop, slice_get, slice_set, arith, append-nil, length-append, length-take, length-drop, take-append-drop}
 use Rattle.std.proofs.lemmas.List.{take-append-le, drop-append-le, drop-drop, drop-take, take_min}
 use Rattle.std.proofs.Math.Seq.{take-add}
 use Rattle.wire.specs.declared.Wish.{Wish}
 use Rattle.wire.specs.Offers.{offer_of, wish_version}
 use Rattle.messages.specs.View.{RequestView}
-use Rattle.messages.specs.Arrivals.{Arrival, Shook, NoMagic, Asked, Unread, TooLong, request_bytes, heard_bytes, hears}
+use Rattle.messages.specs.Arrivals.{request_bytes, heard_bytes, hears}
 use Rattle.machine.specs.declared.State.{State}
 use Rattle.machine.specs.declared.Phase.{Phase}
-use Rattle.machine.specs.Following.{interruptible}
 use Rattle.machine.specs.States.{phase_of}
 use Rattle.engine.specs.Views.{EntryView}
 use Rattle.exchange.specs.declared.Cause.{Cause}
@@ -21,8 +20,8 @@ use Rattle.client.specs.Moments.{tellings_in}
 use Rattle.client.specs.Client.{reading_of as reader}
 use Rattle.client.specs.Rest as asking
 use Rattle.client.specs.Rest.{knows_of, losses}
-use Rattle.world.specs.Connections.{Peer, Ours, Foreign, Connection, fresh, Said, SaysVersion, SaysNoop, SaysRow, SaysSummary, heard_as, output, said_version, bytes_delivered, client, wish_of, input, answer_count, arrivals_at, waiting, strike_if}
-use Rattle.world.specs.World.{Effect, Seen, SawWork, SawNoop, quiet, write, turn, answer, work, noop, give, taken_for, server_gone}
+use Rattle.world.specs.Connections.{Peer, Ours, Foreign, Connection, fresh, Said, SaysVersion, SaysNoop, SaysRow, SaysSummary, heard_as, output, said_version, bytes_delivered, client, wish_of, input, waiting}
+use Rattle.world.specs.World.{Effect, Seen, SawWork, quiet, write, answer, work, noop, give, taken_for, server_gone}
 use Rattle.world.specs.Connections as connections
 use Rattle.world.specs.World as world
 use Rattle.wire.specs.Reader.{state, reach}
@@ -34,7 +33,8 @@ use Rattle.world.specs.Reports.{ReadSummary, wrote_by, wrote_after, summaries_to
 use Rattle.world.specs.Fits.{Link, FitsClient, FitsLink, FitLinks, cause_seen}
 use Rattle.client.specs.declared.Outcome.{Outcome}
 use Rattle.client.proofs.Later.{reading_later}
-use Rattle.world.proofs.Sound.{Sound}
+use Rattle.world.proofs.Deeds.{some_is, strike_case, work_case, noop_case}
+use Rattle.world.proofs.Sound.{Sound, struck_sound}
 use Rattle.world.proofs.Giving.{longer, submitted_same, give_same, give_told}
 use Rattle.world.proofs.Reaching.{reach_within}
 
@@ -152,14 +152,6 @@ module _ (l : Link) (k : Connection) (f : FitsLink l k) (s : Sound k) (lives : k
           lost = f.lost ∙ ap (λ r. by_peer k.peer (if k.client_lost then losses (knows_of r k.sent false) else [])) (sym client_same);
         }
 
-strike_case : (P : Connection → Type 0) (b : Bool) (k : Connection) → P k → P (record k { state = State.Interrupted; result = no_result; tx = no_tx }) → P (strike_if b k)
-strike_case P false k x y = x
-strike_case P true k x y = go (interruptible k.state)
-  where
-    go : (b : Bool) → P (if b then record k { state = State.Interrupted; result = no_result; tx = no_tx } else k)
-    go true = y
-    go false = x
-
 -- What a work step adds to the report.
 abbrev pub wrote_seen : Seen → List (ℕ × Phase)
 wrote_seen (SawWork worked) = wrote_by worked
@@ -185,41 +177,20 @@ module _ (l : Link) (k : Connection) (f : FitsLink l k) (s : Sound k) (lives : k
 struck_link : (l : Link) (k : Connection) → FitsLink l k → Sound k → k.server_lost ≡ false → FitsLink l (record k { state = State.Interrupted; result = no_result; tx = no_tx })
 struck_link l k f s lives = same_link l k f s lives (record k { state = State.Interrupted; result = no_result; tx = no_tx }) refl
 
-struck_sound : (k : Connection) → Sound k → Sound (record k { state = State.Interrupted; result = no_result; tx = no_tx })
-struck_sound k s = record { counts = s.counts; below = s.below; past = s.past; readable = s.readable; stage = s.stage; gone = s.gone }
-
 module _ (S : Setting) (c : ℕ) (entries : List EntryView) (l : Link) (k : Connection) (f : FitsLink l k) (s : Sound k) (lives : k.server_lost ≡ false) where
-  turn_link : (o : Option Arrival) → Links l (turn S c entries k o)
-  turn_link None = quiet_link l k f s lives k Worked.Idle refl f
-  turn_link (Some (Shook o)) = quiet_link l k f s lives k Worked.Idle refl f
-  turn_link (Some NoMagic) = quiet_link l k f s lives k Worked.Idle refl f
-  turn_link (Some Arrival.Idle) = quiet_link l k f s lives k Worked.Idle refl f
-  turn_link (Some (Unread e)) = quiet_link l k f s lives _ (Worked.Ended Cause.Malformed) refl (same_link l k f s lives (connections.end_with Cause.Malformed k) refl)
-  turn_link (Some TooLong) = quiet_link l k f s lives _ (Worked.Ended Cause.TooBig) refl (same_link l k f s lives (connections.end_with Cause.TooBig k) refl)
-  turn_link (Some (Asked q)) =
-      strike_case (λ k2. Links l (answer S c entries k2 q)) (reset_among (waiting k)) k
-      (write_link l k f s lives entries q _)
-      (write_link l (record k { state = State.Interrupted; result = no_result; tx = no_tx }) (struck_link l k f s lives) (struck_sound k s) lives entries q _)
-
   -- `work`
   pub work_link : Links l (work S c entries k k.ended)
-  work_link = go k.ended
-    where
-      go : (o : Option Cause) → Links l (work S c entries k o)
-      go (Some cause) = quiet_link l k f s lives k (Worked.Ended cause) refl f
-      go None = if_links (nat_le 65536 (length (output k) - k.taken)) _ _ (quiet_link l k f s lives k Worked.Full refl f) (turn_link (slice_get (arrivals_at k) (answer_count k.says)))
-        where
-          if_links : (b : Bool) (x y : Effect) → Links l x → Links l y → Links l (if b then x else y)
-          if_links true x y a d = a
-          if_links false x y a d = d
+  work_link =
+      work_case (Links l) S c entries k (λ worked none. quiet_link l k f s lives k worked none f)
+      (λ _ cause. quiet_link l k f s lives _ (Worked.Ended cause) refl (same_link l k f s lives (connections.end_with cause k) refl))
+      (λ _ q _. strike_case (λ k2. Links l (answer S c entries k2 q)) (reset_among (waiting k)) k (write_link l k f s lives entries q _)
+      (write_link l (record k { state = State.Interrupted; result = no_result; tx = no_tx }) (struck_link l k f s lives) (struck_sound k s) lives entries q _))
 
 -- `noop`
 pub noop_link : (l : Link) (k : Connection) → FitsLink l k → Sound k → k.server_lost ≡ false → FitsLink l (noop k).conn
-noop_link l k f s lives = go ((not (is_some k.version) || is_some k.ended) || nat_le 65536 (length (output k) - k.taken))
-  where
-    go : (b : Bool) → FitsLink l (if b then quiet k (SawNoop false) else quiet (record k { says = SaysNoop ∷ k.says }) (SawNoop true)).conn
-    go true = f
-    go false = subst (λ z. FitsLink (record l { wrote = z }) (record k { says = SaysNoop ∷ k.says })) (append-nil l.wrote) (said_link l k f s lives SaysNoop k.state k.ended k.result k.tx)
+noop_link l k f s lives =
+    noop_case (λ x. FitsLink l x.conn) k f
+    (λ _ _. subst (λ z. FitsLink (record l { wrote = z }) (record k { says = SaysNoop ∷ k.says })) (append-nil l.wrote) (said_link l k f s lives SaysNoop k.state k.ended k.result k.tx))
 
 -- a cut
 pub cut_link : (l : Link) (k : Connection) → FitsLink l k → FitsLink (record l { cut = true }) (record k { cut = true })
@@ -411,13 +382,6 @@ read_more new ts = go new [] ∙ read-append ts [] (read_after new [])
     go [] later = refl
     go (GotRow row ∷ new) later = go new later
     go (Got i p o a ∷ new) later = go new (record { ordinal = i; phase = p; outcome = o } ∷ later)
-
-abbrev or_this : asking.Rest → Option asking.Rest → asking.Rest
-or_this z (Some v) = v
-or_this z None = z
-
-pub some_is : (x y : asking.Rest) → Some x ≡ Some y → x ≡ y
-some_is x y h = ap (or_this x) h
 
 -- `take_out` of what is lacking, and `feed` of a client that goes on
 module _ (l : Link) (k : Connection) (f : FitsLink l k) (s : Sound k) (wish : Wish) (ours : k.peer ≡ Ours wish) (n : ℕ)

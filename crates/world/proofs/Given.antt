@@ -28,11 +28,10 @@ use Rattle.world.specs.Drawing.{Draws}
 use Rattle.world.specs.Views.{FitsEnd, link_of, end_peer}
 use Rattle.world.specs.Turns.{Definition, Now, Before}
 use Rattle.world.proofs.Sound.{Sound}
-use Rattle.world.proofs.Fitting.{some_is}
 use Rattle.world.proofs.Giving.{if_not, seen_as}
 use Rattle.world.proofs.Answering.{still_there}
 use Rattle.world.proofs.Reporting.{hears_well}
-use Rattle.world.proofs.Written.{ok_parts}
+use Rattle.world.proofs.Deeds.{ok_parts, some_is}
 use Rattle.world.proofs.Turning.{ok_of, gate_kept, found, all_sound, still, done}
 use Rattle.world.proofs.Stepping.{steps_foreign, client_step, client_fits, client_gone, deaf_fits, left_fits, drain_fits, drain_gone, drain_cut, given_up}
 
@@ -88,10 +87,10 @@ module _ {E G : Type 0} (entries : E → List EntryView) (answer : Definition) (
       go : (p : Peer) → k.peer ≡ p → Answers T w (ToClient c n) (Ok (Gave 0 (Ok Nothing))) (Now_ l s)
       go (Ours wish) p =
           done entries answer accepts (ToClient c n) l s r w b (Gave 0 (Ok Nothing)) l s b.client r.server b.ends b.server refl
-          (deaf_fits G answer accepts r w b.fits sound c k here.1 m b.at wish p (or_left _ _ is) n) (λ w2. tt) tt
+          (deaf_fits G answer accepts r w b.fits sound c k here.1 m b.at wish p (or_left _ _ is) n) tt tt
       go Foreign p =
           done entries answer accepts (ToClient c n) l s r w b (Gave 0 (Ok Nothing)) l s b.client r.server b.ends b.server refl
-          (drain_cut G answer accepts r w b.fits sound c k here.1 m b.at p is n) (λ w2. tt) tt
+          (drain_cut G answer accepts r w b.fits sound c k here.1 m b.at p is n) tt tt
 
   -- a client of ours
   module _ (wish : Wish) (ours : end_peer l.end ≡ Ours wish) (y : asking.Rest) (client_is : b.client ≡ Some y) where
@@ -107,7 +106,7 @@ module _ {E G : Type 0} (entries : E → List EntryView) (answer : Definition) (
     pub given_over : y.knows.over ≡ true → Answers T w (ToClient c n) (Ok (Gave 0 (Ok Nothing))) (Now_ l s)
     given_over over =
         done entries answer accepts (ToClient c n) l s r w b (Gave 0 (Ok Nothing)) l s b.client r.server b.ends b.server refl
-        (deaf_fits G answer accepts r w b.fits sound c k here.1 m b.at wish peer_is (or_right k.cut _ (sym over_is ∙ over)) n) (λ w2. tt) tt
+        (deaf_fits G answer accepts r w b.fits sound c k here.1 m b.at wish peer_is (or_right k.cut _ (sym over_is ∙ over)) n) tt tt
 
     steps_ok : IsOk (step T w (ToClient c n))
     steps_ok = ok_of _ _ (client_step T w c k here.1 wish n peer_is)
@@ -208,7 +207,7 @@ module _ {E G : Type 0} (entries : E → List EntryView) (answer : Definition) (
           ap₂ (λ (i : ℕ) (a : Result (ℕ × Note) ClientFault). let z : Link = record m { client = Some f.rest; down = drop i bytes; read = m.read ++ read_after (tellings_in a) [] } in z) at (sym told) ∙ sym same in
           done entries answer accepts (ToClient c n) l s r w b (Gave used (Ok note)) l2 s2 (Some f.rest) x.0 ends x.1 x.2
           (x.3.0, x.3.1 ∙ ap (λ a. Ok (x.3.0, seen_as u a)) (sym told), subst (λ z. Fits (record { links = slice_set r.links c z; server = x.0 }) x.3.0) link_is x.3.2)
-          (λ w2. tt) tt
+          tt tt
 
       -- the client wants memory, and nothing else
       pub given_fails : (gone : Option Cause) (is : l.gone ≡ gone) (bytes : List ℕ) (s2 : Server E G) → Draws gone c (n - length m.down) r.server m.down (Ok tt) bytes (server.Fits entries s2)
@@ -238,7 +237,7 @@ module _ {E G : Type 0} (entries : E → List EntryView) (answer : Definition) (
         let h = drain_gone G answer accepts r w b.fits sound c k here.1 m b.at peer_foreign (gone_is cause gone) (joined_is joined) n in
         done entries answer accepts (ToClient c n) l s r w b (Gave used (Ok Nothing)) l2 s b.client r.server ends b.server refl
         (h.0, h.1 ∙ ap (λ i. Ok (h.0, Gave i (Ok Nothing))) (sym is), subst (λ z. Fits (record { links = slice_set r.links c z; server = r.server }) h.0) (sym same) h.2)
-        (λ w2. tt) tt
+        tt tt
 
     pub drains_done : l.gone ≡ None → (l2 : LinkHeld) (s2 : Server E G) (taken : List ℕ) (used : ℕ) → serving.Answers (Ok taken) (serving.take_out_at c (n - length m.down) r.server) r.server (server.Fits entries s2)
         → used ≡ length (m.down ++ taken) → link_of l2 b.client ≡ record m { down = [] } → FitsEnd l2.end b.client → Answers T w (ToClient c n) (Ok (Gave used (Ok Nothing))) (Now_ l2 s2)
@@ -246,4 +245,4 @@ module _ {E G : Type 0} (entries : E → List EntryView) (answer : Definition) (
         let h = drain_fits G answer accepts r w b.fits sound c k here.1 m b.at peer_foreign (lives_is gone) (joined_is joined) n taken a.0 a.1 in
         done entries answer accepts (ToClient c n) l s r w b (Gave used (Ok Nothing)) l2 s2 b.client a.0 ends a.2 (gate_kept r.server.gate _ (λ x. refl) _ taken a.0 a.1)
         (h.0, h.1 ∙ ap (λ i. Ok (h.0, Gave i (Ok Nothing))) (sym is), subst (λ z. Fits (record { links = slice_set r.links c z; server = a.0 }) h.0) (sym same) h.2)
-        (λ w2. tt) tt
+        tt tt

@@ -7,7 +7,7 @@ use Rattle.client.specs.Rest as asking
 use Rattle.world.specs.Connections.{Ours, Connection, wish_of, input}
 use Rattle.world.specs.Rests.{client_rest}
 use Rattle.world.specs.Fits.{Link, FitsClient, FitsLink}
-use Rattle.world.proofs.Fitting.{some_is}
+use Rattle.world.proofs.Deeds.{some_is}
 use Rattle.world.proofs.Served.{drop_min}
 
 module _ (l : Link) (k : Connection) (f : FitsLink l k) (wish : Wish) (ours : k.peer ≡ Ours wish) (j : ℕ) (r : asking.Rest) (here : l.client ≡ Some r) where

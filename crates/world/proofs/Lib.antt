@@ -14,6 +14,7 @@ pub mod Working
 pub mod Listing
 pub mod Suffices
 pub mod Written
+pub mod Deeds
 pub mod Freeing
 pub mod Others
 pub mod Headline

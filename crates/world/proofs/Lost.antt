@@ -19,17 +19,11 @@ use Rattle.world.specs.Views.{FitsEnd, link_of, flow_of}
 use Rattle.world.specs.Turns.{Definition, Now, Before}
 use Rattle.world.proofs.Sound.{Sound}
 use Rattle.world.proofs.Served.{take_served}
+use Rattle.world.proofs.Deeds.{if_so}
+use Rattle.world.proofs.Giving.{if_not}
 use Rattle.world.proofs.Answering.{still_there}
 use Rattle.world.proofs.Turning.{ok_of, found, all_sound, still, done}
 use Rattle.world.proofs.Stepping.{gone_step, gone_fits, gone_once}
-
-if_so : {A : Type 0} (b : Bool) (x y : A) → b ≡ true → (if b then x else y) ≡ x
-if_so true x y e = refl
-if_so false x y e = cc
-
-if_not : {A : Type 0} (b : Bool) (x y : A) → b ≡ false → (if b then x else y) ≡ y
-if_not false x y e = refl
-if_not true x y e = cc
 
 -- a session that was found has the number
 find_conn : (c : ℕ) (ss : List Live) (s : Live) → find c ss ≡ Some s → s.conn ≡ c
@@ -115,7 +109,7 @@ module _ {E G : Type 0} (entries : E → List EntryView) (answer : Definition) (
   pub lost_before : (cause : Cause) → l.gone ≡ Some cause → Answers T w (ServerLost c) (Ok SawNothing) (Now entries answer accepts r c l s)
   lost_before cause gone =
       done entries answer accepts (ServerLost c) l s r w b SawNothing l s b.client r.server b.ends b.server refl
-      (gone_once G answer accepts r w b.fits sound c k here.1 m b.at cause gone) (λ w2. tt) tt
+      (gone_once G answer accepts r w b.fits sound c k here.1 m b.at cause gone) tt tt
 
   pub lost_lacks : (l2 : LinkHeld) (s2 : Server E G) → link_of l2 b.client ≡ m → FitsEnd l2.end b.client → server.Fits entries s2 r.server → Answers T w (ServerLost c) (Err Memory) (Now entries answer accepts r c l2 s2)
   lost_lacks l2 s2 same ends serves = record {
@@ -147,4 +141,4 @@ module _ {E G : Type 0} (entries : E → List EntryView) (answer : Definition) (
       ap₂ (λ (x : List ℕ) (y : Option Cause). let z : Link = record m { down = x; gone = y } in z) (ap (λ x. m.down ++ x) (sym said_is) ∙ sym held) (sym gone_is) in
       done entries answer accepts (ServerLost c) l s r w b SawNothing (record l { down = d2; gone = gone2 }) s2 b.client (serving.lost_at c r.server).1 b.ends (subst (λ x. server.Fits entries s2 x.1) same d.1) refl
       (h.0, h.1, subst (λ z. Fits (record { links = slice_set r.links c z; server = (serving.lost_at c r.server).1 }) h.0) link_is h.3)
-      (λ w2. tt) tt
+      tt tt

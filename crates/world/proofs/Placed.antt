@@ -139,4 +139,4 @@ module _ {E G : Type 0} (entries : E → List EntryView) (answer : Definition) (
           gated = f.gated;
           fits = h.2;
         },
-      ) (λ w2. tt) tt
+      ) tt tt

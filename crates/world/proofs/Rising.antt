@@ -1,14 +1,13 @@
 -- The links of a world: bytes that go to the server.
-use Rattle.std.proofs.Common.{◌≡◌, refl, sym, ◌∙◌, ap, ap₂, subst, ℕ, ◌+◌, ◌-◌, ◌^◌, ◌≤◌, Bool, true, false, ◌||◌, if◌then◌else◌, nat_le, min, max, Option, Some, None, is_some, List, [], ◌∷◌, ◌++◌, length, take, drop, arith, append-nil, length-append, length-take, length-drop, map}
+use Rattle.std.proofs.Common.{◌≡◌, refl, sym, ◌∙◌, ap, ap₂, subst, ℕ, ◌+◌, ◌-◌, ◌≤◌, Bool, true, false, if◌then◌else◌, min, max, Option, Some, None, List, [], ◌∷◌, ◌++◌, length, take, drop, arith, append-nil, length-append, length-take, length-drop, map}
 use Rattle.std.proofs.lemmas.List.{drop-drop}
 use Rattle.wire.specs.declared.Version.{Version}
 use Rattle.wire.specs.declared.Wish.{Wish}
 use Rattle.wire.specs.Reader.{reach, state}
 use Rattle.wire.specs.Framing.{at_client, bytes_newest_first}
-use Rattle.messages.specs.Arrivals.{Arrival, Shook, NoMagic, Asked, Unread, TooLong, arrivals, heard_bytes}
+use Rattle.messages.specs.Arrivals.{Arrival, Shook, Asked, arrivals, heard_bytes}
 use Rattle.machine.specs.declared.State.{State}
 use Rattle.machine.specs.Asks.{kind_of, is_reset}
-use Rattle.machine.specs.Following.{interruptible}
 use Rattle.exchange.specs.declared.Cause.{Cause}
 use Rattle.exchange.specs.Session.{Open, Tx, no_result, no_tx}
 use Rattle.exchange.specs.Rest.{unread_among}
@@ -18,16 +17,17 @@ use Rattle.client.specs.Client.{Reading}
 use Rattle.client.specs.Client.{reading_of as reader}
 use Rattle.client.specs.Rest as asking
 use Rattle.client.specs.Rest.{knows_of, losses}
-use Rattle.world.specs.Connections.{Peer, Ours, Foreign, Connection, SaysVersion, heard_as, output, said_version, bytes_delivered, client, wish_of, input, arrivals_at, waiting, strike_if}
+use Rattle.world.specs.Connections.{Peer, Ours, Foreign, Connection, SaysVersion, heard_as, output, said_version, bytes_delivered, client, wish_of, input, arrivals_at, strike_if}
 use Rattle.world.specs.World.{Effect, Seen, Fed, last_item, take_item, feed}
 use Rattle.world.specs.Rests.{client_rest}
 use Rattle.world.specs.Reports.{wrote, read_after, by_peer}
 use Rattle.world.specs.Fits.{Link, FitsClient, FitsLink, cause_seen}
 use Rattle.world.proofs.Reaching.{reach_within}
 use Rattle.world.proofs.Fed.{none_left, unsaid, last_same}
+use Rattle.world.proofs.Deeds.{some_is, strike_case, feed_case}
 use Rattle.world.proofs.Sound.{Sound}
 use Rattle.world.proofs.Served.{drop_min}
-use Rattle.world.proofs.Fitting.{some_is, window_front, window_rest}
+use Rattle.world.proofs.Fitting.{window_front, window_rest}
 
 abbrev pub used_seen : Seen → ℕ
 used_seen (Fed used what) = used
@@ -37,35 +37,17 @@ used_seen seen = 0
 abbrev Takes : Connection → List ℕ → Effect → Type 0
 Takes k piece e = (e.conn.up ≡ k.up ++ take (used_seen e.seen) piece) × (used_seen e.seen ≤ length piece)
 
-takes_if : (k : Connection) (piece : List ℕ) (b : Bool) (x y : Effect) → Takes k piece x → Takes k piece y → Takes k piece (if b then x else y)
-takes_if k piece true x y a d = a
-takes_if k piece false x y a d = d
-
 strike_up : (b : Bool) (k : Connection) → (strike_if b k).up ≡ k.up
-strike_up false k = refl
-strike_up true k = go (interruptible k.state)
-  where
-    go : (b : Bool) → (if b then record k { state = State.Interrupted; result = no_result; tx = no_tx } else k).up ≡ k.up
-    go true = refl
-    go false = refl
+strike_up b k = strike_case (λ k2. k2.up ≡ k.up) b k refl refl
 
 item_takes : (k : Connection) (piece : List ℕ) (used : ℕ) → used ≤ length piece → (o : Option Arrival) → Takes k piece (take_item (record k { up = k.up ++ take used piece }) used o)
-item_takes k piece used l None = (refl, l)
-item_takes k piece used l (Some (Shook (Some v))) = (refl, l)
-item_takes k piece used l (Some (Shook None)) = (refl, l)
-item_takes k piece used l (Some NoMagic) = (refl, l)
-item_takes k piece used l (Some Arrival.Idle) = (refl, l)
-item_takes k piece used l (Some (Unread e)) = (refl, l)
-item_takes k piece used l (Some TooLong) = (refl, l)
 item_takes k piece used l (Some (Asked q)) = (strike_up (is_reset (kind_of q)) (record k { up = k.up ++ take used piece }), l)
+item_takes k piece used l (Some (Shook None)) = (refl, l)
+item_takes k piece used l _ = (refl, l)
 
 pub feed_takes : (k : Connection) (piece : List ℕ) → Takes k piece (feed piece k)
 feed_takes k piece =
-    takes_if k piece k.server_lost _ _ none (takes_if k piece k.cut _ _ none (takes_if k piece (is_some k.ended || unread_among (arrivals_at k)) _ _ none
-    (takes_if k piece (nat_le 32 (length (waiting k)) || nat_le (2 ^ 63) (length (arrivals_at k))) _ _ none (item_takes k piece (reach arrivals k.up piece) (reach_within arrivals k.up piece) _))))
-  where
-    none : (k.up ≡ k.up ++ []) × (0 ≤ length piece)
-    none = (sym (append-nil k.up), omega arith)
+    feed_case (Takes k piece) piece k (λ what. (sym (append-nil k.up), omega arith)) (λ _ _ _. item_takes k piece (reach arrivals k.up piece) (reach_within arrivals k.up piece) _)
 
 -- what a feed leaves of what was said, and of the flags
 pub record Leaves (k k3 : Connection) : Type 0 where
@@ -81,17 +63,9 @@ pub record Leaves (k k3 : Connection) : Type 0 where
 leaves_all : (k : Connection) → Leaves k k
 leaves_all k = record { peer = refl; sent = refl; cut = refl; client_lost = refl; server_lost = refl; given = refl; falling = refl; wrote = refl }
 
-leaves_if : (k : Connection) (b : Bool) (x y : Effect) → Leaves k x.conn → (b ≡ false → Leaves k y.conn) → Leaves k (if b then x else y).conn
-leaves_if k true x y a f = a
-leaves_if k false x y a f = f refl
-
 strike_leaves : (b : Bool) (k k2 : Connection) → Leaves k k2 → Leaves k (strike_if b k2)
-strike_leaves false k k2 h = h
-strike_leaves true k k2 h = go (interruptible k2.state)
-  where
-    go : (b : Bool) → Leaves k (if b then record k2 { state = State.Interrupted; result = no_result; tx = no_tx } else k2)
-    go true = record { peer = h.peer; sent = h.sent; cut = h.cut; client_lost = h.client_lost; server_lost = h.server_lost; given = h.given; falling = h.falling; wrote = h.wrote }
-    go false = h
+strike_leaves b k k2 h =
+    strike_case (Leaves k) b k2 h (record { peer = h.peer; sent = h.sent; cut = h.cut; client_lost = h.client_lost; server_lost = h.server_lost; given = h.given; falling = h.falling; wrote = h.wrote })
 
 module _ (k : Connection) (s : Sound k) where
   -- nothing was given where nothing was said
@@ -117,26 +91,18 @@ module _ (k : Connection) (s : Sound k) where
       }
 
   item_leaves : (up : List ℕ) (used : ℕ) (x : Option Arrival) → ((o : Option Version) → x ≡ Some (Shook o) → k.says ≡ []) → Leaves k (take_item (record k { up = up }) used x).conn
-  item_leaves up used None f = plain
-    where
-      plain : Leaves k (record k { up = up })
-      plain = record { peer = refl; sent = refl; cut = refl; client_lost = refl; server_lost = refl; given = refl; falling = refl; wrote = refl }
   item_leaves up used (Some (Shook (Some v))) f = version_leaves up (Some v) (Some v) k.ended k.state k.result k.tx (f (Some v) refl)
   item_leaves up used (Some (Shook None)) f = version_leaves up None k.version (Some Cause.NoVersion) State.Defunct no_result no_tx (f None refl)
-  item_leaves up used (Some NoMagic) f = record { peer = refl; sent = refl; cut = refl; client_lost = refl; server_lost = refl; given = refl; falling = refl; wrote = refl }
-  item_leaves up used (Some Arrival.Idle) f = record { peer = refl; sent = refl; cut = refl; client_lost = refl; server_lost = refl; given = refl; falling = refl; wrote = refl }
-  item_leaves up used (Some (Unread e)) f = record { peer = refl; sent = refl; cut = refl; client_lost = refl; server_lost = refl; given = refl; falling = refl; wrote = refl }
-  item_leaves up used (Some TooLong) f = record { peer = refl; sent = refl; cut = refl; client_lost = refl; server_lost = refl; given = refl; falling = refl; wrote = refl }
   item_leaves up used (Some (Asked q)) f =
       strike_leaves (is_reset (kind_of q)) k (record k { up = up }) (record { peer = refl; sent = refl; cut = refl; client_lost = refl; server_lost = refl; given = refl; falling = refl; wrote = refl })
+  item_leaves up used _ f = record { peer = refl; sent = refl; cut = refl; client_lost = refl; server_lost = refl; given = refl; falling = refl; wrote = refl }
 
   pub feed_leaves : (piece : List ℕ) → Leaves k (feed piece k).conn
   feed_leaves piece =
-      leaves_if k k.server_lost _ _ (leaves_all k) (λ _. leaves_if k k.cut _ _ (leaves_all k) (λ _. leaves_if k (is_some k.ended || unread_among (arrivals_at k)) _ _ (leaves_all k)
-      (λ going. leaves_if k (nat_le 32 (length (waiting k)) || nat_le (2 ^ 63) (length (arrivals_at k))) _ _ (leaves_all k)
-      (λ _. let g = none_left k.ended (unread_among (arrivals_at k)) going in
+      feed_case (λ x. Leaves k x.conn) piece k (λ what. leaves_all k)
+      (λ _ _ going. let g = none_left k.ended (unread_among (arrivals_at k)) going in
       item_leaves (k.up ++ take (reach arrivals k.up piece) piece) (reach arrivals k.up piece) (last_item (arrivals k.up) (arrivals (k.up ++ take (reach arrivals k.up piece) piece)))
-      (λ o e. (unsaid k.up k.version k.says (s.stage g.0) g.1 piece o (sym (last_same k.up k.version k.says (s.stage g.0) g.1 piece) ∙ e)).1)))))
+      (λ o e. (unsaid k.up k.version k.says (s.stage g.0) g.1 piece o (sym (last_same k.up k.version k.says (s.stage g.0) g.1 piece) ∙ e)).1))
 
 abbrev lost_by : Peer → Bool → Reading → List RequestView → List (ℕ × Outcome)
 lost_by p b r sent = by_peer p (if b then losses (knows_of r sent false) else [])

@@ -1,5 +1,5 @@
 -- A step of the world, from what its calls answer: what is held then fits the world of the model's step.
-use Rattle.std.proofs.Common.{◌≡◌, refl, sym, ◌∙◌, ap, ap₂, subst, ℕ, zero, suc, not, is_some, true≢false, ◌+◌, ◌-◌, ◌≤◌, Bool, true, false, ◌||◌, ◌^◌, nat_le, if◌then◌else◌, min, max, Option, Some, None, option_map, Result, Ok, Err, List, [], ◌∷◌, ◌++◌, length, take, drop, slice_get, slice_set, arith, append-nil, length-set, length-append, length-take, length-drop}
+use Rattle.std.proofs.Common.{◌≡◌, refl, sym, ◌∙◌, ap, ap₂, subst, ℕ, zero, suc, not, is_some, true≢false, ◌+◌, ◌-◌, ◌≤◌, Bool, true, false, ◌||◌, ◌^◌, nat_le, min, max, Option, Some, None, option_map, Result, Ok, Err, List, [], ◌∷◌, ◌++◌, length, take, drop, slice_get, slice_set, arith, append-nil, length-set, length-append, length-take, length-drop}
 use Rattle.std.proofs.lemmas.Bool.{or_left, or_right}
 use Rattle.wire.specs.declared.Wish.{Wish}
 use Rattle.wire.specs.Offers.{wish_version}
@@ -28,7 +28,8 @@ use Rattle.world.specs.Views.{opened_link}
 use Rattle.world.specs.Fits.{Link, Rest, FitsClient, FitsLink, Fits, cause_seen}
 use Rattle.world.proofs.Sound.{AllSound}
 use Rattle.world.proofs.Served.{open_served, replace_at, unseen_at, work_served, feed_served, noop_served, take_served, lost_served}
-use Rattle.world.proofs.Fitting.{some_is, fit_get, fit_set, fit_more, wrote_seen, work_link, noop_link, cut_link, gone_link, lost_link, submit_link, give_link, front_is, held_long, fresh_link, foreign_link, lost_again, same_client, held_all}
+use Rattle.world.proofs.Deeds.{if_so, some_is}
+use Rattle.world.proofs.Fitting.{fit_get, fit_set, fit_more, wrote_seen, work_link, noop_link, cut_link, gone_link, lost_link, submit_link, give_link, front_is, held_long, fresh_link, foreign_link, lost_again, same_client, held_all}
 use Rattle.world.proofs.Giving.{if_not, seen_as, give_same, refused_same}
 use Rattle.world.proofs.Rising.{used_seen, foreign_feeds, server_link, piece_is}
 
@@ -75,10 +76,6 @@ module _ (S : Setting) (w : World) (c : ℕ) (k : Connection) (here : slice_get 
   pub submit_step : (wish : Wish) (q : RequestView) → k.peer ≡ Ours wish → step S w (Submit c q) ≡ Ok (after_effect w c k (submit q k), (submit q k).seen)
   submit_step wish q p = steps_ours (Submit c q) wish (submit q k) p refl
 
-if_so : {A : Type 0} (b : Bool) (x y : A) → b ≡ true → (if b then x else y) ≡ x
-if_so true x y e = refl
-if_so false x y e = cc
-
 counts_of : (taken down len n q : ℕ) → taken ≤ len → down ≤ taken → q ≡ taken - down → min (taken + (n - q)) len ≡ max taken (min (down + n) len)
 counts_of taken down len n q a b e = omega arith
 
@@ -95,13 +92,6 @@ answer_is {A} {B} x x2 y y2 h = (ap first h, ap second h)
     second : Option (A × B) → B
     second (Some p) = p.1
     second None = y
-
-some_of : {A : Type 0} (x y : A) → Some x ≡ Some y → x ≡ y
-some_of {A} x y h = ap or_this h
-  where
-    or_this : Option A → A
-    or_this (Some v) = v
-    or_this None = x
 
 module _ (G : Type 0) (answer : List EntryView → List WriteView → List ℕ → List ParameterView → QueryMode → Result AnswerView QueryFault) (accepts : G → List ℕ → List ℕ → Bool)
     (r : Rest G) (w : World) (fits : Fits r w) (sound : AllSound w) (c : ℕ) (k : Connection) (here : slice_get w.conns c ≡ Some k) where
@@ -141,10 +131,7 @@ module _ (G : Type 0) (answer : List EntryView → List WriteView → List ℕ �
 
   -- the link of the place
   pub at_link : (l : Link) → slice_get r.links c ≡ Some l → FitsLink l k
-  at_link l h = subst (λ z. FitsLink z k) (link_is link_of.0 l (sym link_of.1 ∙ h)) link_of.2
-    where
-      link_is : (x y : Link) → Some x ≡ Some y → x ≡ y
-      link_is x y h = some_of x y h
+  at_link l h = subst (λ z. FitsLink z k) (some_is link_of.0 l (sym link_of.1 ∙ h)) link_of.2
 
   -- Work, of a session that lives: `work` of the server, and its summary in the report.
   pub work_fits : (l : Link) → slice_get r.links c ≡ Some l → k.server_lost ≡ false → (worked : Worked) (server2 : serving.Rest G) → serving.work_at answer accepts c r.server ≡ Some (worked, server2)

@@ -39,7 +39,7 @@ module _ {E G : Type 0} (entries : E → List EntryView) (answer : Definition) (
     pub noop_over : (cause : Cause) → l.gone ≡ Some cause → Answers T w (PutsNoop c) (Ok (SawNoop false)) (Now_ l s)
     noop_over cause gone =
         done entries answer accepts (PutsNoop c) l s r w b (SawNoop false) l s b.client r.server b.ends b.server refl
-        (noop_gone G answer accepts r w b.fits (all_sound entries answer accepts (PutsNoop c) l s r w b) c here.0 here.1 (link_of l b.client) b.at cause gone) (λ w2. tt) tt
+        (noop_gone G answer accepts r w b.fits (all_sound entries answer accepts (PutsNoop c) l s r w b) c here.0 here.1 (link_of l b.client) b.at cause gone) tt tt
 
     pub noop_lacks : (s2 : Server E G) → server.Fits entries s2 r.server → Answers T w (PutsNoop c) (Err Memory) (Now_ l s2)
     noop_lacks s2 serves = record {
@@ -54,7 +54,7 @@ module _ {E G : Type 0} (entries : E → List EntryView) (answer : Definition) (
         let sound = all_sound entries answer accepts (PutsNoop c) l s r w b in
         done entries answer accepts (PutsNoop c) l s r w b (SawNoop put) l s2 b.client a.0 b.ends a.2 (gate_kept r.server.gate _ (λ x. refl) _ put a.0 a.1)
         (noop_fits G answer accepts r w b.fits sound c here.0 here.1 (link_of l b.client) b.at (still_there (link_of l b.client) here.0 here.2 (sound c here.0 here.1) lives) put a.0 a.1)
-        (λ w2. tt) tt
+        tt tt
 
   -- a cut
   module _ (b : Before entries answer accepts (Cut c) l s r w) where
@@ -63,7 +63,7 @@ module _ {E G : Type 0} (entries : E → List EntryView) (answer : Definition) (
         let here = found entries answer accepts (Cut c) l s r w b in
         done entries answer accepts (Cut c) l s r w b SawNothing (record l { is_cut = true }) s b.client r.server b.ends b.server refl
         (cut_fits G answer accepts r w b.fits (all_sound entries answer accepts (Cut c) l s r w b) c here.0 here.1 (link_of l b.client) b.at)
-        (λ w2. tt) tt
+        tt tt
 
   -- bytes of a client of ours
   module _ (n : ℕ) (b : Before entries answer accepts (ToServer c n) l s r w) (wish : Wish) (ours : end_peer l.end ≡ Ours wish) where
@@ -85,7 +85,7 @@ module _ {E G : Type 0} (entries : E → List EntryView) (answer : Definition) (
     nowhere : (what : What) → ((piece : List ℕ) → feed piece k_up ≡ quiet k_up (Fed 0 what)) → Answers T w (ToServer c n) (Ok (Fed 0 what)) (Now_ l s)
     nowhere what h =
         done entries answer accepts (ToServer c n) l s r w b (Fed 0 what) l s b.client r.server b.ends b.server refl
-        (server_nowhere G answer accepts r w b.fits sound_up c k_up at_up.1 m_up b.at wish peer_up n what h) (λ w2. tt) tt
+        (server_nowhere G answer accepts r w b.fits sound_up c k_up at_up.1 m_up b.at wish peer_up n what h) tt tt
 
     pub server_over : (cause : Cause) → l.gone ≡ Some cause → Answers T w (ToServer c n) (Ok (Fed 0 What.Closed)) (Now_ l s)
     server_over cause gone = nowhere What.Closed (λ piece. feed_nowhere G answer accepts r w b.fits sound_up c k_up at_up.1 piece m_up b.at cause gone)
@@ -124,7 +124,7 @@ module _ {E G : Type 0} (entries : E → List EntryView) (answer : Definition) (
         done entries answer accepts (ToServer c n) l s r w b (Fed took.used took.what) l2 s2 (Some (asking.taken_out y j)) a.0 ends a.2 (gate_kept r.server.gate _ (λ x. refl) _ took a.0 a.1)
         (let h = server_fits G answer accepts r w b.fits sound_up c k_up at_up.1 m_up b.at wish peer_up (lives_up gone) (sym at_up.2.cut ∙ joined) n y is took a.0 a.1 in
         (h.0, h.1, subst (λ z. Fits (record { links = slice_set r.links c z; server = a.0 }) h.0) (sym same) h.2))
-        (λ w2. tt) tt
+        tt tt
 
   -- bytes of a foreign peer
   module _ (bytes : List ℕ) (b : Before entries answer accepts (Feeds c bytes) l s r w) (foreign : end_peer l.end ≡ Foreign) where
@@ -146,7 +146,7 @@ module _ {E G : Type 0} (entries : E → List EntryView) (answer : Definition) (
     nowhere_feed : (what : What) → feed bytes k_feed ≡ quiet k_feed (Fed 0 what) → Answers T w (Feeds c bytes) (Ok (Fed 0 what)) (Now_ l s)
     nowhere_feed what h =
         done entries answer accepts (Feeds c bytes) l s r w b (Fed 0 what) l s b.client r.server b.ends b.server refl
-        (feeds_nowhere G answer accepts r w b.fits sound_feed c k_feed at_feed.1 m_feed b.at peer_feed bytes what h) (λ w2. tt) tt
+        (feeds_nowhere G answer accepts r w b.fits sound_feed c k_feed at_feed.1 m_feed b.at peer_feed bytes what h) tt tt
 
     pub foreign_over : (cause : Cause) → l.gone ≡ Some cause → Answers T w (Feeds c bytes) (Ok (Fed 0 What.Closed)) (Now_ l s)
     foreign_over cause gone = nowhere_feed What.Closed (feed_nowhere G answer accepts r w b.fits sound_feed c k_feed at_feed.1 bytes m_feed b.at cause gone)
@@ -171,4 +171,4 @@ module _ {E G : Type 0} (entries : E → List EntryView) (answer : Definition) (
     foreign_done s2 took gone joined a =
         done entries answer accepts (Feeds c bytes) l s r w b (Fed took.used took.what) l s2 b.client a.0 b.ends a.2 (gate_kept r.server.gate _ (λ x. refl) _ took a.0 a.1)
         (feeds_fits G answer accepts r w b.fits sound_feed c k_feed at_feed.1 m_feed b.at peer_feed (lives_feed gone) (sym at_feed.2.cut ∙ joined) bytes took a.0 a.1)
-        (λ w2. tt) tt
+        tt tt

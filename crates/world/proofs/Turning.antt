@@ -25,7 +25,6 @@ use Rattle.world.specs.Contract.{Answers}
 use Rattle.world.specs.Seeing.{IsOpens, IsWrong, ComesWrong}
 use Rattle.world.specs.Views.{FitsEnd, link_of, end_peer, seen_of}
 use Rattle.world.specs.Turns.{Definition, Now, Before}
-use Rattle.world.proofs.Headline.{reached_keeps}
 use Rattle.world.proofs.Sound.{AllSound, reached_sound}
 use Rattle.world.proofs.Written.{TellsWritten}
 use Rattle.world.proofs.Seeing.{refuses_exactly}
@@ -118,7 +117,7 @@ module _ {E G : Type 0} (entries : E → List EntryView) (answer : Definition) (
   -- where the model has stepped
   pub done : (seen : Seen) (l2 : LinkHeld) (s2 : Server E G) (x2 : Option asking.Rest) (server2 : serving.Rest G) → FitsEnd l2.end x2 → server.Fits entries s2 server2 → server2.gate ≡ r.server.gate
       → ((w2 : World) × (step S w e ≡ Ok (w2, seen)) × Fits (record { links = slice_set r.links (place e) (link_of l2 x2); server = server2 }) w2)
-      → ((w2 : World) → TellsWritten S w (reached_keeps S b.brought b.reached).1 seen w2 e) → IsCountedIn seen → Answers S w e (Ok seen) (Now entries answer accepts r (place e) l2 s2)
+      → TellsWritten w e → IsCountedIn seen → Answers S w e (Ok seen) (Now entries answer accepts r (place e) l2 s2)
   done seen l2 s2 x2 server2 ends serves gated h tells counted =
       answers S b.brought w b.reached e seen (Now entries answer accepts r (place e) l2 s2)
       (h.0, h.1, record { client = x2; rest = server2; ends = ends; server = serves; gated = gated; fits = h.2 }) tells counted
@@ -141,7 +140,7 @@ module _ {E G : Type 0} (entries : E → List EntryView) (answer : Definition) (
     pub work_over : (cause : Cause) → l.gone ≡ Some cause → Answers T w (Work c) (Ok (SawWork (Worked.Ended cause))) (Now_ l s)
     work_over cause gone =
         done entries answer accepts (Work c) l s r w b (SawWork (Worked.Ended cause)) l s b.client r.server b.ends b.server refl
-        (work_gone G answer accepts r w b.fits (all_sound entries answer accepts (Work c) l s r w b) c k here (link_of l b.client) b.at cause gone) (λ w2. tt) tt
+        (work_gone G answer accepts r w b.fits (all_sound entries answer accepts (Work c) l s r w b) c k here (link_of l b.client) b.at cause gone) tt tt
 
     pub work_lacks : (l2 : LinkHeld) (s2 : Server E G) → link_of l2 b.client ≡ link_of l b.client → FitsEnd l2.end b.client → server.Fits entries s2 r.server → Answers T w (Work c) (Err Memory) (Now_ l2 s2)
     work_lacks l2 s2 same ends serves = record {
@@ -159,4 +158,4 @@ module _ {E G : Type 0} (entries : E → List EntryView) (answer : Definition) (
         (let h = work_fits G answer accepts r w b.fits (all_sound entries answer accepts (Work c) l s r w b) c k here (link_of l b.client) b.at
         (still_there (link_of l b.client) k (found entries answer accepts (Work c) l s r w b).2 (all_sound entries answer accepts (Work c) l s r w b c k here) lives) worked a.0 a.1 in
         (h.0, h.1, subst (λ z. Fits (record { links = slice_set r.links c z; server = a.0 }) h.0) (sym same) h.2))
-        (λ w2. tt) counted
+        tt counted

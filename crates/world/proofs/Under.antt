@@ -1,5 +1,5 @@
 -- What stands under a token in a part of a ledger, and where.
-use Rattle.std.proofs.Common.{◌≡◌, ◌≤◌, sym, ◌∙◌, ap, ℕ, Some, None, List, [], ◌∷◌, ◌++◌, length, append_assoc, slice_get, subst, arith}
+use Rattle.std.proofs.Common.{◌≡◌, ◌≤◌, sym, ◌∙◌, ap, ℕ, Some, None, List, [], ◌∷◌, ◌++◌, length, append_assoc, subst, arith}
 use Rattle.engine.proofs.Once.{Has, found_at, once_after, under-append}
 use Rattle.engine.specs.Tokens.{Free, There, TokensOnce, added_by, found_in, under_token}
 use Rattle.engine.specs.Views.{EntryView, Token, WriteView}

@@ -1,0 +1,243 @@
+-- What a step of the world is: an opening, or one deed at a connection that is there; and the induction along it.
+use Rattle.std.proofs.Common.{◌≡◌, refl, sym, ap, subst, ℕ, zero, suc, ◌-◌, ◌^◌, Bool, true, false, not, ◌||◌, if◌then◌else◌, nat_le, Option, Some, None, is_some, Result, Ok, Err, List, [], ◌∷◌, ◌++◌, ◌≢◌, length, take, slice_get, slice_set, ◌⊎◌, inl, inr, ⊎_elim, arith}
+use Rattle.wire.specs.declared.Wish.{Wish}
+use Rattle.wire.specs.Reader.{reach}
+use Rattle.messages.specs.View.{RequestView}
+use Rattle.messages.specs.Arrivals.{Arrival, Shook, Asked, Unread, TooLong, arrivals}
+use Rattle.machine.specs.declared.State.{State}
+use Rattle.machine.specs.Following.{interruptible}
+use Rattle.engine.specs.Views.{EntryView}
+use Rattle.exchange.specs.declared.Cause.{Cause}
+use Rattle.exchange.specs.declared.What.{What}
+use Rattle.exchange.specs.declared.Worked.{Worked}
+use Rattle.exchange.specs.Rest.{unread_among, reset_among, commit_entries}
+use Rattle.exchange.specs.Session.{Setting, Change, no_result, no_tx}
+use Rattle.client.specs.declared.SubmitFault.{SubmitFault}
+use Rattle.client.specs.Client.{refusal_of}
+use Rattle.client.specs.Rest.{Nothing}
+use Rattle.world.specs.Connections.{Peer, Ours, Foreign, Connection, SaysNoop, fresh, answer_count, arrivals_at, waiting, output, client, strike_if, end_with}
+use Rattle.world.specs.World.{World, Event, Opens, Submit, ToServer, ToClient, Work, PutsNoop, Cut, ClientLost, ServerLost, Feeds, Seen, Opened, Submitted, Fed, Gave, SawWork, SawNoop, SawNothing, Refusal, V3, Effect, quiet, effect_of_submit, feed, to_server, takes, take_item, give, taken_for, effect_at_peer, answer, turn, work, noop, server_gone, at_peer, after_effect, with_effect, at_conn, result_of_open, live, ledger, place, step, IsMade, IsCountedIn, taken_out, Reached, begins, goes_on, takes_out}
+use Rattle.world.specs.Runs.{told_in}
+use Rattle.world.specs.Reports.{wrote_by}
+
+-- lists of connections
+pub get_set : {A : Type 0} (xs : List A) (i j : ℕ) (x y z : A) → slice_get xs i ≡ Some x → slice_get (slice_set xs i y) j ≡ Some z → ((i ≡ j) × (y ≡ z)) ⊎ ((i ≢ j) × (slice_get xs j ≡ Some z))
+get_set [] i j x y z h e = cc
+get_set (a ∷ xs) zero zero x y z h e = inl (refl, cc)
+get_set (a ∷ xs) zero (suc j) x y z h e = inr ((λ p. absurd (omega arith)), e)
+get_set (a ∷ xs) (suc i) zero x y z h e = inr ((λ p. absurd (omega arith)), e)
+get_set (a ∷ xs) (suc i) (suc j) x y z h e = ⊎_elim (λ r. inl (ap suc r.0, r.1)) (λ r. inr ((λ p. r.0 (omega arith)), r.1)) (get_set xs i j x y z h e)
+
+pub get_more : {A : Type 0} (xs : List A) (j : ℕ) (y z : A) → slice_get (xs ++ y ∷ []) j ≡ Some z → (slice_get xs j ≡ Some z) ⊎ ((j ≡ length xs) × (y ≡ z))
+get_more [] zero y z h = inr (refl, cc)
+get_more [] (suc j) y z h = cc
+get_more (x ∷ xs) zero y z h = inl h
+get_more (x ∷ xs) (suc j) y z h = ⊎_elim (λ r. inl r) (λ r. inr (ap suc r.0, r.1)) (get_more xs j y z h)
+
+pub set_same : {A : Type 0} (xs : List A) (i : ℕ) (x y : A) → slice_get xs i ≡ Some x → slice_get (slice_set xs i y) i ≡ Some y
+set_same [] i x y h = cc
+set_same (a ∷ xs) zero x y h = refl
+set_same (a ∷ xs) (suc i) x y h = set_same xs i x y h
+
+pub set_other : {A : Type 0} (xs : List A) (i j : ℕ) (y : A) → i ≢ j → slice_get (slice_set xs i y) j ≡ slice_get xs j
+set_other [] i j y n = refl
+set_other (a ∷ xs) zero zero y n = absurd (n refl)
+set_other (a ∷ xs) zero (suc j) y n = refl
+set_other (a ∷ xs) (suc i) zero y n = refl
+set_other (a ∷ xs) (suc i) (suc j) y n = set_other xs i j y (λ e. n (ap suc e))
+
+pub some_is : {A : Type 0} (x y : A) → Some x ≡ Some y → x ≡ y
+some_is {A} x y h = ap or_this h
+  where
+    or_this : Option A → A
+    or_this (Some v) = v
+    or_this None = x
+
+-- what a step answered, in parts
+abbrev world_of : World → Result (World × Seen) Refusal → World
+world_of w (Ok r) = r.0
+world_of w (Err refusal) = w
+
+abbrev seen_of : Seen → Result (World × Seen) Refusal → Seen
+seen_of x (Ok r) = r.1
+seen_of x (Err refusal) = x
+
+pub ok_parts : (w w2 : World) (x x2 : Seen) → ◌≡◌ {A = Result (World × Seen) Refusal} (Ok (w, x)) (Ok (w2, x2)) → (w ≡ w2) × (x ≡ x2)
+ok_parts w w2 x x2 h = (ap (world_of w) h, ap (seen_of x) h)
+
+pub if_so : {A : Type 0} (b : Bool) (x y : A) → b ≡ true → (if b then x else y) ≡ x
+if_so true x y e = refl
+if_so false x y e = cc
+
+-- by a test, which is known to be false in the second case
+pub if_case : (P : Effect → Type 0) (b : Bool) (x y : Effect) → P x → (b ≡ false → P y) → P (if b then x else y)
+if_case P true x y a f = a
+if_case P false x y a f = f refl
+
+pub strike_case : (P : Connection → Type 0) (b : Bool) (k : Connection) → P k → P (record k { state = State.Interrupted; result = no_result; tx = no_tx }) → P (strike_if b k)
+strike_case P false k x y = x
+strike_case P true k x y = go (interruptible k.state)
+  where
+    go : (b : Bool) → P (if b then record k { state = State.Interrupted; result = no_result; tx = no_tx } else k)
+    go true = y
+    go false = x
+
+-- A feed takes nothing, or a piece up to the end of an item.
+pub feed_case : (P : Effect → Type 0) (piece : List ℕ) (k : Connection) → ((what : What) → P (quiet k (Fed 0 what)))
+    → (k.server_lost ≡ false → k.cut ≡ false → (is_some k.ended || unread_among (arrivals_at k)) ≡ false → P (takes k piece (reach arrivals k.up piece))) → P (feed piece k)
+feed_case P piece k q t =
+    if_case P k.server_lost _ _ (q What.Closed) (λ lives. if_case P k.cut _ _ (q What.Part) (λ joined. if_case P (is_some k.ended || unread_among (arrivals_at k)) _ _ (q What.Closed)
+    (λ going. if_case P (nat_le 32 (length (waiting k)) || nat_le (2 ^ 63) (length (arrivals_at k))) _ _ (q What.Full) (λ _. t lives joined going))))
+
+-- A step of a session does nothing, ends it, or answers the first request that waits.
+pub work_case : (P : Effect → Type 0) (S : Setting) (c : ℕ) (all : List EntryView) (k : Connection) → ((worked : Worked) → wrote_by worked ≡ [] → P (quiet k (SawWork worked)))
+    → (k.ended ≡ None → (cause : Cause) → P (quiet (end_with cause k) (SawWork (Worked.Ended cause))))
+    → (k.ended ≡ None → (q : RequestView) → slice_get (arrivals_at k) (answer_count k.says) ≡ Some (Asked q) → P (answer S c all (strike_if (reset_among (waiting k)) k) q)) → P (work S c all k k.ended)
+work_case P S c all k q over asks = go k.ended refl
+  where
+    first : (o : Option Arrival) → slice_get (arrivals_at k) (answer_count k.says) ≡ o → k.ended ≡ None → P (turn S c all k o)
+    first (Some (Asked r)) e n = asks n r e
+    first (Some (Unread x)) e n = over n Cause.Malformed
+    first (Some TooLong) e n = over n Cause.TooBig
+    first _ e n = q Worked.Idle refl
+
+    go : (o : Option Cause) → k.ended ≡ o → P (work S c all k o)
+    go (Some cause) e = q (Worked.Ended cause) refl
+    go None e = if_case P (nat_le 65536 (length (output k) - k.taken)) _ _ (q Worked.Full refl) (λ _. first (slice_get (arrivals_at k) (answer_count k.says)) refl e)
+
+-- A no-op is said by a session that has a version and hasn't ended, or not at all.
+pub noop_case : (P : Effect → Type 0) (k : Connection) → P (quiet k (SawNoop false)) → (is_some k.version ≡ true → is_some k.ended ≡ false → P (quiet (record k { says = SaysNoop ∷ k.says }) (SawNoop true))) → P (noop k)
+noop_case P k q t = if_case P ((not (is_some k.version) || is_some k.ended) || nat_le 65536 (length (output k) - k.taken)) _ _ q (λ h. let p = parts _ _ _ h in t p.0 p.1)
+  where
+    parts : (a b c : Bool) → ((not a || b) || c) ≡ false → (a ≡ true) × (b ≡ false)
+    parts true false c h = (refl, refl)
+    parts true true c h = cc
+    parts false b c h = cc
+
+-- What is taken out for a peer is what was taken, or more.
+pub taken_case : (P : ℕ → Type 0) (p : Peer) (n : ℕ) (k : Connection) → P k.taken → P (taken_for n k) → P (effect_at_peer p n k).conn.taken
+taken_case P (Ours wish) n k a b = if_case (λ x. P x.conn.taken) (k.cut || (k.client_lost || ((client k).ended || (client k).bad))) _ _ a (λ _. b)
+taken_case P Foreign n k a b = if_case (λ x. P x.conn.taken) k.cut _ _ a (λ _. b)
+
+-- What is fed is told to no client, and commits nothing.
+pub feed_hushed : (piece : List ℕ) (k : Connection) → (told_in (feed piece k).seen ≡ []) × ((feed piece k).commit ≡ None)
+feed_hushed piece k = feed_case (λ x. (told_in x.seen ≡ []) × (x.commit ≡ None)) piece k (λ what. (refl, refl)) (λ _ _ _. item (record k { up = k.up ++ take used piece }) used _)
+  where
+    used : ℕ
+    used = reach arrivals k.up piece
+
+    item : (k : Connection) (used : ℕ) (o : Option Arrival) → (told_in (take_item k used o).seen ≡ []) × ((take_item k used o).commit ≡ None)
+    item k used (Some (Asked q)) = (refl, refl)
+    item k used (Some (Shook None)) = (refl, refl)
+    item k used _ = (refl, refl)
+
+-- What an event does at a connection whose peer takes it.
+pub data Deed (S : Setting) (c : ℕ) (all : List EntryView) (k : Connection) : Event → Effect → Type 0 where
+  declines : (i : ℕ) (q : RequestView) (fault : SubmitFault) → Deed S c all k (Submit i q) (quiet k (Submitted (Err fault)))
+  submits : (i : ℕ) (q : RequestView) (wish : Wish) → k.peer ≡ Ours wish → refusal_of (client k) k.client_lost k.sent q ≡ None → Deed S c all k (Submit i q) (effect_of_submit q k None)
+  hands : (i n : ℕ) (wish : Wish) → k.peer ≡ Ours wish → Deed S c all k (ToServer i n) (to_server wish n k)
+  feeds : (i : ℕ) (piece : List ℕ) → k.peer ≡ Foreign → Deed S c all k (Feeds i piece) (feed piece k)
+  misses : (i n : ℕ) → Deed S c all k (ToClient i n) (quiet k (Gave 0 (Ok Nothing)))
+  gives : (i n : ℕ) (wish : Wish) → k.peer ≡ Ours wish → (k.cut || (k.client_lost || ((client k).ended || (client k).bad))) ≡ false → Deed S c all k (ToClient i n) (give n k)
+  drains : (i n : ℕ) → k.peer ≡ Foreign → Deed S c all k (ToClient i n) (quiet (record k { taken = taken_for n k; down = taken_for n k }) (Gave (taken_for n k - k.down) (Ok Nothing)))
+  works : (i : ℕ) → Deed S c all k (Work i) (work S c all k k.ended)
+  noops : (i : ℕ) → Deed S c all k (PutsNoop i) (noop k)
+  cuts : (i : ℕ) → Deed S c all k (Cut i) (quiet (record k { cut = true }) SawNothing)
+  loses : (i : ℕ) (wish : Wish) → k.peer ≡ Ours wish → Deed S c all k (ClientLost i) (quiet (record k { client_lost = true }) SawNothing)
+  ends : (i : ℕ) → Deed S c all k (ServerLost i) (server_gone k)
+
+module _ (S : Setting) (c : ℕ) (all : List EntryView) (k : Connection) where
+  -- of an answer that isn't a refusal
+  abbrev IfDone : (Effect → Type 0) → Result Effect Refusal → Type 0
+  IfDone P (Ok x) = P x
+  IfDone P (Err refusal) = Unit {0}
+
+  submit_deed : (i : ℕ) (q : RequestView) (wish : Wish) → k.peer ≡ Ours wish → (o : Option SubmitFault) → refusal_of (client k) k.client_lost k.sent q ≡ o → Deed S c all k (Submit i q) (effect_of_submit q k o)
+  submit_deed i q wish p None e = submits i q wish p e
+  submit_deed i q wish p (Some fault) e = declines i q fault
+
+  event_deed : (e : Event) (p : Peer) → k.peer ≡ p → IfDone (Deed S c all k e) (at_peer S c all e p k)
+  event_deed (Submit i q) (Ours wish) p = submit_deed i q wish p (refusal_of (client k) k.client_lost k.sent q) refl
+  event_deed (ToServer i n) (Ours wish) p = hands i n wish p
+  event_deed (ToClient i n) (Ours wish) p = if_case (Deed S c all k (ToClient i n)) (k.cut || (k.client_lost || ((client k).ended || (client k).bad))) _ _ (misses i n) (λ e. gives i n wish p e)
+  event_deed (ToClient i n) Foreign p = if_case (Deed S c all k (ToClient i n)) k.cut _ _ (misses i n) (λ _. drains i n p)
+  event_deed (Feeds i piece) Foreign p = feeds i piece p
+  event_deed (Work i) (Ours wish) p = works i
+  event_deed (Work i) Foreign p = works i
+  event_deed (PutsNoop i) (Ours wish) p = noops i
+  event_deed (PutsNoop i) Foreign p = noops i
+  event_deed (Cut i) (Ours wish) p = cuts i
+  event_deed (Cut i) Foreign p = cuts i
+  event_deed (ClientLost i) (Ours wish) p = loses i wish p
+  event_deed (ServerLost i) (Ours wish) p = ends i
+  event_deed (ServerLost i) Foreign p = ends i
+  event_deed (Opens peer) (Ours wish) p = tt
+  event_deed (Opens peer) Foreign p = tt
+  event_deed _ _ p = tt
+
+-- a world with one connection more
+abbrev pub with_fresh : World → Peer → World
+with_fresh w peer = record { conns = w.conns ++ fresh peer ∷ []; brought = w.brought; since = w.since }
+
+-- What a step did that was answered: the event, what was seen, and the world after it.
+pub data Did (S : Setting) (w : World) : Event → Seen → World → Type 0 where
+  opens : (peer : Peer) → (nat_le 16 (live w) || nat_le (2 ^ 63) (length w.conns)) ≡ false → Did S w (Opens peer) (Opened (length w.conns)) (with_fresh w peer)
+  acts : (e : Event) (k : Connection) (x : Effect) → slice_get w.conns (place e) ≡ Some k → Deed S (place e) (ledger w) k e x → Did S w e x.seen (after_effect w (place e) k x)
+
+module _ (S : Setting) (w : World) where
+  open_did : (peer : Peer) (seen : Seen) (w2 : World) → result_of_open w peer ≡ Ok (w2, seen) → Did S w (Opens peer) seen w2
+  open_did peer seen w2 h = go (nat_le 16 (live w) || nat_le (2 ^ 63) (length w.conns)) refl h
+    where
+      go : (b : Bool) → (nat_le 16 (live w) || nat_le (2 ^ 63) (length w.conns)) ≡ b → if◌then◌else◌ {A = Result (World × Seen) Refusal} b (Err V3) (Ok (with_fresh w peer, Opened (length w.conns))) ≡ Ok (w2, seen) → Did S w (Opens peer) seen w2
+      go true e h = cc
+      go false e h = let same = ok_parts (with_fresh w peer) w2 (Opened (length w.conns)) seen h in subst (λ s. Did S w (Opens peer) s w2) same.1 (subst (λ z. Did S w (Opens peer) (Opened (length w.conns)) z) same.0 (opens peer e))
+
+  at_did : (e : Event) (seen : Seen) (w2 : World) → at_conn S w e (place e) (slice_get w.conns (place e)) ≡ Ok (w2, seen) → Did S w e seen w2
+  at_did e seen w2 h = go (slice_get w.conns (place e)) refl h
+    where
+      made : (k : Connection) → slice_get w.conns (place e) ≡ Some k → (r : Result Effect Refusal) → IfDone S (place e) (ledger w) k (Deed S (place e) (ledger w) k e) r → with_effect w (place e) k r ≡ Ok (w2, seen) → Did S w e seen w2
+      made k here (Err refusal) d h = cc
+      made k here (Ok x) d h = let same = ok_parts (after_effect w (place e) k x) w2 x.seen seen h in subst (λ s. Did S w e s w2) same.1 (subst (λ z. Did S w e x.seen z) same.0 (acts e k x here d))
+
+      go : (o : Option Connection) → slice_get w.conns (place e) ≡ o → at_conn S w e (place e) o ≡ Ok (w2, seen) → Did S w e seen w2
+      go None g h = cc
+      go (Some k) g h = made k g (at_peer S (place e) (ledger w) e k.peer k) (event_deed S (place e) (ledger w) k e k.peer refl) h
+
+  pub step_did : (e : Event) (seen : Seen) (w2 : World) → step S w e ≡ Ok (w2, seen) → Did S w e seen w2
+  step_did (Opens peer) seen w2 h = open_did peer seen w2 h
+  step_did e seen w2 h = at_did e seen w2 h
+
+-- What holds of each connection of every world that is reached: of a fresh one; of the one at which a deed is done, after it; of each other, whatever entry comes; and of one of which bytes are taken out.
+module _ (S : Setting) (brought : List EntryView) (P : (brought since : List EntryView) → ℕ → Connection → Type 0)
+    (begun : (w : World) (peer : Peer) → Reached S brought w → nat_le (2 ^ 63) (length w.conns) ≡ false → P w.brought w.since (length w.conns) (fresh peer))
+    (did : (w : World) (e : Event) (k : Connection) (x : Effect) → Reached S brought w → slice_get w.conns (place e) ≡ Some k → P w.brought w.since (place e) k → Deed S (place e) (ledger w) k e x → IsMade w e x.seen → IsCountedIn x.seen
+    → P w.brought (w.since ++ commit_entries (place e) (answer_count k.says) x.commit) (place e) x.conn)
+    (others : (brought since : List EntryView) (j c i : ℕ) (o : Option Change) (k : Connection) → c ≢ j → P brought since j k → P brought (since ++ commit_entries c i o) j k)
+    (drawn : (brought since : List EntryView) (c n : ℕ) (k : Connection) → P brought since c k → P brought since c (record k { taken = taken_for n k })) where
+  abbrev All : World → Type 0
+  All w = (c : ℕ) (k : Connection) → slice_get w.conns c ≡ Some k → P w.brought w.since c k
+
+  -- each connection, where one was set
+  set_all : (w : World) (c : ℕ) (k k2 : Connection) (since : List EntryView) → slice_get w.conns c ≡ Some k → P w.brought since c k2 → ((j : ℕ) (k3 : Connection) → c ≢ j → slice_get w.conns j ≡ Some k3 → P w.brought since j k3)
+      → (j : ℕ) (k3 : Connection) → slice_get (slice_set w.conns c k2) j ≡ Some k3 → P w.brought since j k3
+  set_all w c k k2 since here p f j k3 g = ⊎_elim (λ h. subst (λ i. P w.brought since i k3) h.0 (subst (P w.brought since c) h.1 p)) (λ h. f j k3 h.0 h.1) (get_set w.conns c j k k2 k3 here g)
+
+  step_along : (w : World) (e : Event) (seen : Seen) (w2 : World) → Reached S brought w → All w → Did S w e seen w2 → IsMade w e seen → IsCountedIn seen → All w2
+  step_along w e seen w2 r all (opens peer room) made counted = λ j k g. ⊎_elim (λ h. all j k h)
+      (λ h. subst (λ i. P w.brought w.since i k) (sym h.0) (subst (P w.brought w.since (length w.conns)) h.1 (begun w peer r (second (nat_le 16 (live w)) _ room)))) (get_more w.conns j (fresh peer) k g)
+    where
+      second : (a b : Bool) → (a || b) ≡ false → b ≡ false
+      second false b h = h
+      second true b h = cc
+  step_along w e seen w2 r all (acts event k x here d) made counted =
+      set_all w (place event) k x.conn (w.since ++ commit_entries (place event) (answer_count k.says) x.commit) here (did w event k x r here (all (place event) k here) d made counted)
+      (λ j k3 n g. others w.brought w.since j (place event) (answer_count k.says) x.commit k3 n (all j k3 g))
+
+  pub along : {w : World} → Reached S brought w → All w
+  along (begins l) = λ c k g. cc
+  along (goes_on w w2 e seen r t) = step_along w e seen w2 r (along r) (step_did S w e seen w2 t.steps) t.made t.counted
+  along (takes_out w c n r) = go (slice_get w.conns c) refl (along r)
+    where
+      go : (o : Option Connection) → slice_get w.conns c ≡ o → All w → All (taken_out w c n o)
+      go None g all = all
+      go (Some k) g all = set_all w c k (record k { taken = (effect_at_peer k.peer n k).conn.taken }) w.since g (taken_case (λ t. P w.brought w.since c (record k { taken = t })) k.peer n k (all c k g) (drawn w.brought w.since c n k (all c k g))) (λ j k3 _ h. all j k3 h)
