@@ -1,5 +1,6 @@
 // Loaded before a program, refuses its allocation of the number in REFUSED, from 1, and every allocation between two blocks of these
-// sizes. At the end it writes to the file in COUNT how many the program asked for, and how often it asked for a block of the first size.
+// sizes. At the end it writes to the file in COUNT how many the program asked for, how often it asked for a block of the first size, and
+// how many it asked for between the two.
 #include <stdio.h>
 #include <stdlib.h>
 
@@ -10,7 +11,7 @@ void *__libc_malloc(size_t size);
 void *__libc_calloc(size_t count, size_t size);
 void *__libc_realloc(void *block, size_t size);
 
-static long asked, starved, refused = -1;
+static long asked, starved, hungry, refused = -1;
 static int is_starving;
 
 static int is_refused(size_t size) {
@@ -24,6 +25,7 @@ static int is_refused(size_t size) {
         return 0;
     }
     if (size == FEAST) is_starving = 0;
+    hungry += is_starving;
     return ++asked == refused || is_starving;
 }
 
@@ -32,13 +34,13 @@ void *calloc(size_t count, size_t size) { return __libc_calloc(count, size); }
 void *realloc(void *block, size_t size) { return is_refused(size) ? NULL : __libc_realloc(block, size); }
 
 __attribute__((destructor)) static void tell(void) {
-    long made = asked;
+    long made = asked, between = hungry;
     const char *name = getenv("COUNT");
     FILE *file = name ? fopen(name, "w") : NULL;
     is_starving = 0;
     refused = 0;
     if (file) {
-        fprintf(file, "%ld %ld\n", made, starved);
+        fprintf(file, "%ld %ld %ld\n", made, starved, between);
         fclose(file);
     }
 }

@@ -9,12 +9,14 @@ mod good;
 mod listening;
 mod play;
 mod playing;
+mod repeated;
 mod script;
 mod scripts_of;
 
 pub use asked::{Table, Unplayed, asking, requests, server};
 pub use good::{Broken, fault_in, fault_of};
 pub use play::{Play, mixed, moved};
-pub use playing::{NOT_PLAYED, checked, plays_script};
+pub use playing::{NOT_PLAYED, checked, plays_repeated, plays_script};
+pub use repeated::{BROUGHT, CLASHING, OVERTAKEN, REPEATED, Repeated, TAKEN, table_of, writes_of};
 pub use script::{Step, Unplayable, steps};
 pub use scripts_of::{LOST_COMMIT, RESETS, SCRIPTS, TRANSACTION};

@@ -10,7 +10,7 @@ use server::{Cause, Worked};
 use std::alloc::{AllocError, Global};
 use world::{Connection, Event, Peer, Refused, Seen, Standing, World};
 
-/// A world over an empty table and the gate of `user` with `pass`.
+/// A world over a table, empty where nothing else is said, and the gate of `user` with `pass`.
 #[derive(Drop)]
 pub struct Play {
     pub world: World<FixedTable, OneUser>,
@@ -37,9 +37,14 @@ enum Turn {
 
 impl Play {
     pub fn new(alloc: Global) -> Result<Play, AllocError> {
+        Play::over(alloc, FixedTable::new(alloc))
+    }
+
+    /// Over a table that may have entries.
+    pub(crate) fn over(alloc: Global, table: FixedTable) -> Result<Play, AllocError> {
         let gate = OneUser::new(alloc, "user", "pass")?;
         Ok(Play {
-            world: World::new(alloc, FixedTable::new(alloc), gate),
+            world: World::new(alloc, table, gate),
             sent: Vec::new(alloc),
             heard: Vec::new(alloc),
             wants: 0,

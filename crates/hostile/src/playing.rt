@@ -2,6 +2,7 @@
 
 use crate::good::{Broken, fault_in};
 use crate::play::Play;
+use crate::repeated::{Repeated, table_of};
 use crate::script::{Unplayable, steps};
 use crate::scripts_of::SCRIPTS;
 use std::alloc::Global;
@@ -49,10 +50,29 @@ pub fn plays_script(alloc: Global, number: u32) -> u64 {
     }
 }
 
+/// The same of a transaction that is repeated under its token.
+pub fn plays_repeated(alloc: Global, repeated: &Repeated) -> u64 {
+    match played_again(alloc, repeated) {
+        Ok(told) => told,
+        Err(_) => NOT_PLAYED,
+    }
+}
+
 fn played(alloc: Global, script: &str) -> Result<u64, Unplayable> {
-    let steps = steps(alloc, script)?;
-    let mut play = Play::new(alloc)?;
-    for step in &steps {
+    let play = Play::new(alloc)?;
+    played_on(alloc, play, script)
+}
+
+fn played_again(alloc: Global, repeated: &Repeated) -> Result<u64, Unplayable> {
+    let script = repeated.script.concat(alloc)?;
+    let play = Play::over(alloc, table_of(alloc, repeated)?)?;
+    played_on(alloc, play, script.as_str())
+}
+
+/// Plays a script on, and answers what `digest` gives, or what doesn't hold.
+fn played_on(alloc: Global, play: Play, script: &str) -> Result<u64, Unplayable> {
+    let mut play = play;
+    for step in &steps(alloc, script)? {
         for _again in 0..MOST_AGAIN {
             if play.follow(step).is_ok() {
                 break;

@@ -9,11 +9,11 @@ mod spelling;
 mod without;
 
 use conversing::ends;
-use hostile::Unplayed;
+use hostile::{BROUGHT, CLASHING, OVERTAKEN, REPEATED, TAKEN, Unplayed};
 use spelling::values;
 use std::alloc::Global;
 use std::io;
-use without::{chunks, clients, sessions, spellings, worlds};
+use without::{chunks, clients, sessions, spellings, tokens, worlds};
 
 /// Something couldn't be had to begin with.
 const NOT_PLAYED: u64 = 8;
@@ -36,11 +36,17 @@ fn told_by(alloc: Global, name: &str) -> u64 {
         "resets" => hostile::plays_script(alloc, 0),
         "transaction" => hostile::plays_script(alloc, 1),
         "lost commit" => hostile::plays_script(alloc, 2),
+        "repeated" => hostile::plays_repeated(alloc, &REPEATED),
+        "overtaken" => hostile::plays_repeated(alloc, &OVERTAKEN),
+        "clashing" => hostile::plays_repeated(alloc, &CLASHING),
+        "taken" => hostile::plays_repeated(alloc, &TAKEN),
+        "brought" => hostile::plays_repeated(alloc, &BROUGHT),
         "ends" => ends(alloc).unwrap_or(NOT_PLAYED),
         "values" => values(alloc).unwrap_or(NOT_PLAYED),
         "sessions without" => as_digest(sessions(alloc)),
         "clients without" => as_digest(clients(alloc)),
         "chunks without" => as_digest(chunks(alloc)),
+        "tokens without" => as_digest(tokens(alloc)),
         "values without" => as_digest(spellings(alloc)),
         "worlds without" => as_digest(worlds(alloc)),
         _ => 0,

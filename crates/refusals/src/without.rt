@@ -3,8 +3,8 @@
 use crate::hunger::Hunger;
 use crate::spelling::{SPELLED, decoded};
 use client::{Client, SubmitFault};
-use engine::Engine;
-use hostile::{Play, Table, Unplayed, asking, server};
+use engine::{Commit, Engine, EntryId, FixedTable, Write};
+use hostile::{BROUGHT, Play, Table, Unplayed, asking, server, table_of, writes_of};
 use machine::State;
 use messages::{Mode, Request};
 use packstream::{Packed, size};
@@ -131,6 +131,50 @@ pub fn spellings(alloc: Global) -> Result<bool, Unplayed> {
     };
     hunger.feast();
     Ok(length == SPELLED.len())
+}
+
+/// A transaction under the token of the table's entry, and what is answered to it.
+#[derive(Drop)]
+struct Again {
+    token: String,
+    writes: Vec<Write>,
+    answer: Commit,
+}
+
+fn transaction(alloc: Global, value: i64, answer: Commit) -> Result<Again, Unplayed> {
+    Ok(Again {
+        token: String::from_str(alloc, "t1")?,
+        writes: writes_of(alloc, value)?,
+        answer,
+    })
+}
+
+/// What is known of it is what its commit answers.
+fn commits_again(table: &mut FixedTable, again: Again) -> bool {
+    let Again {
+        token,
+        writes,
+        answer,
+    } = again;
+    let id = EntryId {
+        conn: 1,
+        ordinal: 0,
+    };
+    let is_known = table.known(token.as_str(), &writes) == Some(answer);
+    let told = table.commit(id, Some(token), writes);
+    is_known && matches!(told, Ok(told) if told == answer)
+}
+
+/// Equal writes and other writes under a token that stands.
+pub fn tokens(alloc: Global) -> Result<bool, Unplayed> {
+    let mut table = table_of(alloc, &BROUGHT)?;
+    let equal = transaction(alloc, 1, Commit::Repeat(1))?;
+    let other = transaction(alloc, 2, Commit::Clash)?;
+    let mut hunger = Hunger::new(alloc)?;
+    hunger.starve();
+    let held = commits_again(&mut table, equal) && commits_again(&mut table, other);
+    hunger.feast();
+    Ok(held && table.ledger().len() == 1)
 }
 
 /// What a world answers to an event where there is no memory, and whether its report stands as it was.
