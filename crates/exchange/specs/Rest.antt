@@ -187,6 +187,22 @@ worked_of (Wrote x) = Worked.Wrote x.ordinal (kind_of x.request) x.state
     (option_map (λ _. x.length_before + 1) x.entry)
 worked_of (Ended cause) = Worked.Ended cause
 
+-- What a step reads and changes: what the session keeps, and the ledger.
+pub record Snapshot : Type 0 where
+  pub kept : Kept
+  pub ledger : List EntryView
+
+-- a step of the connection with this number: what `work` tells, and the snapshot after it
+abbrev pub stepped : Setting → ℕ → Snapshot → Worked × Snapshot
+stepped S conn x =
+    let d = work_kept S conn x.ledger x.kept x.kept.ended in (
+      worked_of d.answer,
+      record {
+        kept = d.kept;
+        ledger = x.ledger ++ commit_entries conn x.kept.first d.commit;
+      },
+    )
+
 -- a commit that is told is of a ledger shorter than 2^63
 abbrev pub IsCounted : Worked → Type 0
 IsCounted (worked.Wrote ordinal kind state (Some len)) = len < 2 ^ 63

@@ -5,14 +5,14 @@ use Rattle.messages.specs.declared.request.Request.{Request}
 use Rattle.messages.specs.View.{request_view}
 use Rattle.messages.specs.Arrivals.{Arrival, Asked, Unread, TooLong}
 use Rattle.machine.specs.Asks.{kind_of, is_reset}
-use Rattle.engine.specs.Views.{token_view, writes_view}
+use Rattle.engine.specs.Views.{EntryView, token_view, writes_view}
 use Rattle.exchange.specs.declared.exchange.Exchange.{Exchange}
 use Rattle.exchange.specs.declared.exchange.Waiting.{Waiting}
 use Rattle.exchange.specs.declared.exchange.Waiting.TheVariants as waiting
 use Rattle.exchange.specs.declared.result.OpenResult.{OpenResult}
 use Rattle.exchange.specs.declared.result.Transaction.{Transaction}
 use Rattle.exchange.specs.Session.{Open, Tx}
-use Rattle.exchange.specs.Rest.{Kept}
+use Rattle.exchange.specs.Rest.{Kept, Snapshot}
 
 -- what waits
 abbrev pub arrival_of : Waiting → Arrival
@@ -73,3 +73,7 @@ kept_of x =
       tx = tx_of x.tx;
       unsent = x.out.items;
     }
+
+-- an exchange beside an engine, by what it keeps and by the engine's ledger
+abbrev pub snapshot_of : {E : Type 0} → (E → List EntryView) → Exchange → E → Snapshot
+snapshot_of entries x engine = record { kept = kept_of x; ledger = entries engine }

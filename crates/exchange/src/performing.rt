@@ -7,8 +7,8 @@ ghost use Rattle.machine.specs.Rows.{row_at};
 ghost use Rattle.machine.specs.Following.{interruptible};
 ghost use Rattle.messages.specs.Summaries.{response_of_summary, IsShort};
 ghost use Rattle.exchange.specs.Session.{Reply, Summary as Replies, no_result, no_tx};
-ghost use Rattle.exchange.specs.Rest.{version_of, cause_of, replies, reset_among, after_strike, turns, work_kept, commit_entries, IsCounted, MayStep};
-ghost use Rattle.exchange.specs.Views.{kept_of};
+ghost use Rattle.exchange.specs.Rest.{version_of, cause_of, replies, reset_among, after_strike, turns, stepped, commit_entries, IsCounted, MayStep};
+ghost use Rattle.exchange.specs.Views.{kept_of, snapshot_of};
 ghost use Rattle.exchange.specs.Acts.{ActsAs, AddsFree, IsFree, IsSized, IsWritable, Steps, served_struck, summary_of, length_after, left_result, left_tx, left_entry, after_bytes, after_summary, turn_in};
 
 use crate::acts::{Act, Leaves, Turn};
@@ -33,10 +33,10 @@ impl Exchange {
         engine: &mut E,
         gate: &G,
     ) -> Result<Worked, AllocError>
-        ensures ok { let k = kept_of self.old in IfOk result
-            (λ w. Steps (work_kept (record { run = E.answer; check = G.accepts gate.now }) conn
-            (E.entries engine.old) k k.ended) conn k.first w (kept_of self.new)
-            (E.entries engine.old) (E.entries engine.new)) }
+        ensures ok { IfOk result
+            (λ w. stepped (record { run = E.answer; check = G.accepts gate.now }) conn
+            (snapshot_of E.entries self.old engine.old)
+            ≡ (w, snapshot_of E.entries self.new engine.new)) }
         ensures err { OnErr result
             ((kept_of self.new ≡ kept_of self.old)
             × (E.entries engine.new ≡ E.entries engine.old)) }

@@ -6,6 +6,7 @@ pub mod Feeds
 pub mod Fronts
 pub mod Placed
 pub mod Calls
+pub mod Answered
 pub mod Bounds
 pub mod Runs
 pub mod Ledgers

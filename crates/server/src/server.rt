@@ -1,6 +1,6 @@
 //! Up to sixteen sessions over one engine and one gate.
-ghost use Rattle.std.specs.Prelude.{◌≡◌, IfOk, IfSome, IsErrOf};
-ghost use Rattle.server.specs.Serving.{Rest, empty, find, feed_at, work_at, take_out_at, noop_at, lost_at, state_at, cause_at, is_full, Answers, Opens, MayFeed, MayTakeOut, MayWork, MayPutNoop};
+ghost use Rattle.std.specs.Prelude.{◌≡◌, ◌↔◌, Some, None, IfOk, IfErr, OnErr, IfSome, IsErrOf};
+ghost use Rattle.server.specs.Serving.{Rest, empty, find, feed_at, work_at, take_out_at, noop_at, lost_at, state_at, cause_at, is_full, Opens, RefusesCall, MayFeed, MayTakeOut, MayWork, MayPutNoop};
 ghost use Rattle.exchange.specs.Rest.{IsCounted};
 ghost use Rattle.server.specs.Views.{Fits, Lends};
 
@@ -83,8 +83,14 @@ impl<E: Engine, G: Gate> Server<E, G> {
     /// known to be bad.
     #[tactic(auto, unfolding(crate::specs::Views::Fits))]
     pub fn feed(&mut self, conn: u64, piece: &[u8]) -> Result<Took, Refused>
-        ensures answers { (r : Rest G) → Fits E.entries self.old r
-            → Answers result (feed_at conn piece.now r) r (Fits E.entries self.new) }
+        ensures done { (r : Rest G) → Fits E.entries self.old r → IfOk result
+            (λ took. (after : Rest G) × (feed_at conn piece.now r ≡ Some (took, after))
+            × Fits E.entries self.new after) }
+        ensures unknown { (r : Rest G) → Fits E.entries self.old r
+            → IsErrOf result Refused.NoSuchConnection ↔ (find conn r.sessions ≡ None) }
+        ensures refused { (r : Rest G) → Fits E.entries self.old r
+            → OnErr result (Fits E.entries self.new r) }
+        ensures refusal { IfErr result RefusesCall }
         ensures memory { (r : Rest G) → Fits E.entries self.old r → IsErrOf result Refused.Memory
             → IfSome (find conn r.sessions) (MayFeed piece.now) }
     {
@@ -101,8 +107,14 @@ impl<E: Engine, G: Gate> Server<E, G> {
     /// Does one step of a session: a row, a summary or an end.
     #[tactic(auto, unfolding(crate::specs::Views::Fits))]
     pub fn work(&mut self, conn: u64) -> Result<Worked, Refused>
-        ensures answers { (r : Rest G) → Fits E.entries self.old r
-            → Answers result (work_at E.answer G.accepts conn r) r (Fits E.entries self.new) }
+        ensures done { (r : Rest G) → Fits E.entries self.old r → IfOk result
+            (λ worked. (after : Rest G) × (work_at E.answer G.accepts conn r ≡ Some (worked, after))
+            × Fits E.entries self.new after) }
+        ensures unknown { (r : Rest G) → Fits E.entries self.old r
+            → IsErrOf result Refused.NoSuchConnection ↔ (find conn r.sessions ≡ None) }
+        ensures refused { (r : Rest G) → Fits E.entries self.old r
+            → OnErr result (Fits E.entries self.new r) }
+        ensures refusal { IfErr result RefusesCall }
         ensures memory { (r : Rest G) → Fits E.entries self.old r → IsErrOf result Refused.Memory
             → IfSome (find conn r.sessions) MayWork }
         ensures counted { IfOk result IsCounted }
@@ -120,8 +132,14 @@ impl<E: Engine, G: Gate> Server<E, G> {
     /// Takes out the smaller of `max` and what waits to go, in order; where that is none, without memory.
     #[tactic(auto, unfolding(crate::specs::Views::Fits))]
     pub fn take_out(&mut self, conn: u64, max: usize) -> Result<Bytes, Refused>
-        ensures answers { (r : Rest G) → Fits E.entries self.old r
-            → Answers result (take_out_at conn max r) r (Fits E.entries self.new) }
+        ensures done { (r : Rest G) → Fits E.entries self.old r → IfOk result
+            (λ bytes. (after : Rest G) × (take_out_at conn max r ≡ Some (bytes, after))
+            × Fits E.entries self.new after) }
+        ensures unknown { (r : Rest G) → Fits E.entries self.old r
+            → IsErrOf result Refused.NoSuchConnection ↔ (find conn r.sessions ≡ None) }
+        ensures refused { (r : Rest G) → Fits E.entries self.old r
+            → OnErr result (Fits E.entries self.new r) }
+        ensures refusal { IfErr result RefusesCall }
         ensures memory { (r : Rest G) → Fits E.entries self.old r → IsErrOf result Refused.Memory
             → IfSome (find conn r.sessions) (MayTakeOut max) }
     {
@@ -139,8 +157,14 @@ impl<E: Engine, G: Gate> Server<E, G> {
     /// to go.
     #[tactic(auto, unfolding(crate::specs::Views::Fits))]
     pub fn noop(&mut self, conn: u64) -> Result<bool, Refused>
-        ensures answers { (r : Rest G) → Fits E.entries self.old r
-            → Answers result (noop_at conn r) r (Fits E.entries self.new) }
+        ensures done { (r : Rest G) → Fits E.entries self.old r → IfOk result
+            (λ put. (after : Rest G) × (noop_at conn r ≡ Some (put, after))
+            × Fits E.entries self.new after) }
+        ensures unknown { (r : Rest G) → Fits E.entries self.old r
+            → IsErrOf result Refused.NoSuchConnection ↔ (find conn r.sessions ≡ None) }
+        ensures refused { (r : Rest G) → Fits E.entries self.old r
+            → OnErr result (Fits E.entries self.new r) }
+        ensures refusal { IfErr result RefusesCall }
         ensures memory { (r : Rest G) → Fits E.entries self.old r → IsErrOf result Refused.Memory
             → IfSome (find conn r.sessions) MayPutNoop }
     {
