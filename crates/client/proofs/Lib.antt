@@ -1,3 +1,4 @@
+pub mod Makes
 pub mod Judging
 pub mod Waiting
 pub mod Parts
@@ -5,10 +6,11 @@ pub mod Taking
 pub mod Fronts
 pub mod Values
 pub mod Pieces
+pub mod Refusing
 pub mod Steps
 pub mod Later
 pub mod Hears
+pub mod Fed
 pub mod Runs
 pub mod Few
-pub mod Refusing
 pub mod Wanting

@@ -1,42 +1,23 @@
 -- What of a piece comes to be heard, and what is told of it.
-use Rattle.std.specs.Prelude.{◌≡◌, ℕ, Bool, true, if◌then◌else◌, Option, Some, None, option_map, Result, Ok, Err, List, ◌∷◌}
+use Rattle.std.specs.Prelude.{◌≡◌, ℕ, true, if◌then◌else◌, Option, Some, None, Result, Ok, Err}
 use Rattle.wire.specs.declared.Version.{Version}
 use Rattle.wire.specs.Place.{Place}
 use Rattle.wire.specs.Framing.{Item, Opened}
 use Rattle.wire.specs.Reader.{Took}
 use Rattle.reader.specs.Piecewise.{Point}
-use Rattle.messages.specs.View.{RequestView, ResponseView, response_view}
+use Rattle.messages.specs.View.{response_view}
 use Rattle.messages.specs.Arrivals.{Heard as AnyHeard}
-use Rattle.machine.specs.declared.Phase.{Phase}
-use Rattle.machine.specs.declared.Kind.{Kind}
-use Rattle.machine.specs.declared.Verdict.{Verdict}
-use Rattle.machine.specs.Asks.{kind_of, in_part}
 use Rattle.client.specs.declared.opening.Opening.{Opening}
 use Rattle.client.specs.declared.feeding.Came.{Came}
 use Rattle.client.specs.declared.feeding.Came.TheVariants as came
 use Rattle.client.specs.declared.feeding.Taken.{Taken}
 use Rattle.client.specs.declared.stream.Stream.{Stream}
 use Rattle.client.specs.declared.heard.Heard.{Heard}
-use Rattle.client.specs.declared.heard.Outcome.{Outcome}
 use Rattle.client.specs.declared.faults.ClientFault.{ClientFault}
 use Rattle.client.specs.declared.faults.ClientFault.TheVariants as client_fault
-use Rattle.client.specs.Client.{verdict_of, phase_accepted, outcome_of, resets}
 use Rattle.client.specs.Rest.{Knows, Hearing, Note, note_of, heard_as, Rest, Fed}
 use Rattle.client.specs.Notes.{note, note_result}
 use Rattle.client.specs.Held.{IsItem}
-
--- the phase that a summary of a request leads to, and what became of the request, if it is accepted
-abbrev pub judgement_by : Version → Phase → Kind → Bool → Option Verdict → Option (Phase × Outcome)
-judgement_by v p k behind None = None
-judgement_by v p k behind (Some d) =
-    option_map (λ next. (next, outcome_of p k d)) (phase_accepted v p k behind d)
-
--- the same of the first of the requests; none before a version is known, or where no request waits
-abbrev pub judgement_of : Knows → ResponseView → Option Version → List RequestView
-    → Option (Phase × Outcome)
-judgement_of k a (Some v) (q ∷ later) =
-    judgement_by v k.phase (kind_of q) (resets later) (verdict_of (in_part q) a)
-judgement_of k a o qs = None
 
 -- what is told of an item, or that it is bad
 abbrev pub note_or : AnyHeard → Hearing → Result Note ClientFault

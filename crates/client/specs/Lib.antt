@@ -1,5 +1,6 @@
-pub mod Client
+pub mod Verdicts
 pub mod Rest
+pub mod Client
 pub mod Answers
 pub mod Held
 pub mod Taking
