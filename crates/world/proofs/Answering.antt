@@ -12,7 +12,7 @@ use Rattle.client.specs.Client.{refusal_of}
 use Rattle.client.specs.Fits.{IsWrittenBy, IsAccepted}
 use Rattle.client.specs.Rest as asking
 use Rattle.client.proofs.Later.{reading_count}
-use Rattle.world.specs.Connections.{Peer, Ours, Connection, client, input, wish_of, bytes_delivered}
+use Rattle.world.specs.Connections.{Peer, Ours, Connection, client, wish_of, bytes_delivered}
 use Rattle.world.specs.World.{World, Event, Submit, Seen, Submitted, step, IsCountedIn, WStep, Reached, goes_on, Opens, place}
 use Rattle.world.specs.Rests.{client_rest}
 use Rattle.world.specs.Fits.{Link, Rest, FitsClient, FitsLink, FitLinks, Fits, cause_seen}
@@ -22,7 +22,6 @@ use Rattle.world.specs.declared.kinds.Refused.TheVariants.{NoSuchConnection, Wro
 use Rattle.world.specs.Contract.{Answers}
 use Rattle.world.proofs.Headline.{all_good}
 use Rattle.world.proofs.Sound.{Sound, reached_sound}
-use Rattle.world.proofs.Giving.{refused_same}
 use Rattle.world.proofs.Deeds.{some_is}
 use Rattle.world.proofs.Becoming.{becomes, knows_wished, accepts_written}
 use Rattle.world.proofs.Written.{TellsWritten, accepting}
@@ -60,11 +59,8 @@ module _ (G : Type 0) (answer : List EntryView → List WriteView → List ℕ �
       is : x ≡ client_rest old.out k
       is = some_is x (client_rest old.out k) (sym client_is ∙ old.client_is)
 
-      few : old.out ≤ length (input (wish_of k.peer) k.sent)
-      few = subst (λ p. old.out ≤ length (input (wish_of p) k.sent)) (sym ours) old.most
-
       none : refusal_of (client k) k.client_lost k.sent q ≡ None
-      none = refused_same k old.out q few ∙ ap (λ z. asking.refuses z.knows q) (sym is) ∙ accepted.allowed
+      none = ap (λ z. asking.refuses z.knows q) (sym is) ∙ accepted.allowed
 
       open_now : (k.client_lost ≡ false) × ((client k).bad ≡ false) × ((client k).version ≡ None → ⊥)
       open_now = accepting (client k) k.client_lost k.sent q none

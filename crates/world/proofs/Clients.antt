@@ -1,6 +1,6 @@
 -- How much a client keeps, over every list of steps: the requests that its connection sent and the bytes that it was given are those of
 -- a list of calls.
-use Rattle.std.proofs.Common.{◌≡◌, refl, sym, ◌∙◌, ap, ap₂, subst, ℕ, ◌≤◌, true, false, ◌||◌, if◌then◌else◌, Option, Some, None, List, [], ◌∷◌, ◌++◌, length, take, drop, slice_get, arith}
+use Rattle.std.proofs.Common.{◌≡◌, refl, sym, ◌∙◌, ap, ap₂, subst, ℕ, ◌≤◌, true, false, ◌||◌, if◌then◌else◌, Option, Some, None, List, [], ◌∷◌, ◌++◌, length, take, drop, slice_get}
 use Rattle.wire.specs.declared.Version.{Version}
 use Rattle.wire.specs.declared.Wish.{Wish}
 use Rattle.wire.specs.Reader.{reach, takes, state}
@@ -10,7 +10,8 @@ use Rattle.messages.specs.Arrivals.{hears}
 use Rattle.engine.specs.Views.{EntryView}
 use Rattle.exchange.specs.Session.{Setting}
 use Rattle.client.specs.Client.{reading_of, refusal_of}
-use Rattle.client.specs.Rest.{Knows, knows_of, refuses}
+use Rattle.client.specs.Rest.{Knows, refuses}
+use Rattle.client.specs.Client.{knows_of}
 use Rattle.client.specs.Moments.{Call, Submits, Feeds as FeedsCall, Loses, Run, starts, submits, used_of, call, calls, opened_bytes}
 use Rattle.client.proofs.Runs.{tells_by_bytes}
 use Rattle.client.proofs.Few.{keeps_few}
@@ -23,7 +24,7 @@ use Rattle.world.proofs.Deeds.{along}
 use Rattle.world.proofs.Written.{accepting}
 use Rattle.world.proofs.Sound.{reached_sound}
 use Rattle.world.proofs.Hearing.{used_same}
-use Rattle.world.proofs.Giving.{refused_same, given_more, version_stays}
+use Rattle.world.proofs.Giving.{given_more, version_stays}
 use Rattle.world.proofs.Doing.{Alike, client_alike, Does, stays, asks, loses, gives, strange, deed_does}
 
 calls_more : (cs : List Call) (c : Call) (x : Run) → calls x (cs ++ c ∷ []) ≡ call (calls x cs) c
@@ -67,7 +68,7 @@ module _ (wish : Wish) (k : Connection) (ours : k.peer ≡ Ours wish) (h : Follo
 
   accepts : (q : RequestView) → refusal_of (client k) k.client_lost k.sent q ≡ None → Follows wish (record k { sent = k.sent ++ q ∷ [] })
   accepts q none =
-      let e : refuses run.rest.knows q ≡ None = ap (λ y. refuses y q) knows_is ∙ sym (refused_same k 0 q (omega arith)) ∙ none in
+      let e : refuses run.rest.knows q ≡ None = ap (λ y. refuses y q) knows_is ∙ none in
       let is : calls (starts wish) (h.made ++ Submits q ∷ []) ≡ submits run q None = calls_more h.made (Submits q) (starts wish) ∙ ap (submits run q) e in
       record {
         made = h.made ++ Submits q ∷ [];

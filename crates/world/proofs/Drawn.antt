@@ -3,6 +3,7 @@ use Rattle.std.proofs.Common.{◌≡◌, sym, ◌∙◌, ap, ℕ, Option, Some, 
 use Rattle.std.specs.declared.alloc.AllocError.{AllocError}
 use Rattle.exchange.specs.declared.Cause.{Cause}
 use Rattle.server.specs.Serving as serving
+use Rattle.server.proofs.Answered as answered
 use Rattle.server.specs.Serving.{take_out_at}
 use Rattle.world.specs.Drawing.{Takes, Draws}
 
@@ -12,7 +13,7 @@ module _ {G : Type 0} (c n missing : ℕ) (r : serving.Rest G) (old new more : L
   drawn_of None e t (Err f) = inr t
   drawn_of (Some cause) e t result = cc
 
-  pub drawn : (gone : Option Cause) → gone ≡ None → missing ≡ n → serving.Answers (Ok more) (take_out_at c missing r) r P → new ≡ old ++ more → (result : Result (Unit {0}) AllocError) → Draws gone c n r old result new P
+  pub drawn : (gone : Option Cause) → gone ≡ None → missing ≡ n → answered.Answers (Ok more) (take_out_at c missing r) r P → new ≡ old ++ more → (result : Result (Unit {0}) AllocError) → Draws gone c n r old result new P
   drawn gone e is a held result =
       drawn_of gone e (record {
         taken = more;

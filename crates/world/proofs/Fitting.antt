@@ -15,11 +15,13 @@ use Rattle.exchange.specs.declared.Worked.{Worked}
 use Rattle.exchange.specs.Session.{Setting, Open, Tx, no_result, no_tx, Reply, OneRow, Summary, Bye}
 use Rattle.exchange.specs.Rest.{reset_among, cause_of}
 use Rattle.server.specs.Serving.{cause_or}
-use Rattle.client.specs.Client.{Reading, Told, GotRow, Got}
+use Rattle.client.specs.Verdicts.{Told, GotRow, Got}
+use Rattle.client.specs.Client.{Reading}
 use Rattle.client.specs.Moments.{tellings_in}
 use Rattle.client.specs.Client.{reading_of as reader}
 use Rattle.client.specs.Rest as asking
-use Rattle.client.specs.Rest.{knows_of, losses}
+use Rattle.client.specs.Rest.{losses}
+use Rattle.client.specs.Client.{knows_of}
 use Rattle.world.specs.Connections.{Peer, Ours, Foreign, Connection, fresh, Said, SaysVersion, SaysNoop, SaysRow, SaysSummary, heard_as, output, said_version, bytes_delivered, client, wish_of, input, waiting}
 use Rattle.world.specs.World.{Effect, Seen, SawWork, quiet, write, answer, work, noop, give, taken_for, server_gone}
 use Rattle.world.specs.Connections as connections

@@ -10,6 +10,7 @@ use Rattle.exchange.specs.declared.Cause.{Cause}
 use Rattle.server.specs.declared.Server.{Server}
 use Rattle.exchange.specs.Session.{Setting}
 use Rattle.server.specs.Serving as serving
+use Rattle.server.proofs.Answered as answered
 use Rattle.server.specs.Views as server
 use Rattle.client.specs.declared.ClientFault.{ClientFault}
 use Rattle.client.specs.declared.ClientFault.TheVariants as client_fault
@@ -239,7 +240,7 @@ module _ {E G : Type 0} (entries : E → List EntryView) (answer : Definition) (
         (h.0, h.1 ∙ ap (λ i. Ok (h.0, Gave i (Ok Nothing))) (sym is), subst (λ z. Fits (record { links = slice_set r.links c z; server = r.server }) h.0) (sym same) h.2)
         tt tt
 
-    pub drains_done : l.gone ≡ None → (l2 : LinkHeld) (s2 : Server E G) (taken : List ℕ) (used : ℕ) → serving.Answers (Ok taken) (serving.take_out_at c (n - length m.down) r.server) r.server (server.Fits entries s2)
+    pub drains_done : l.gone ≡ None → (l2 : LinkHeld) (s2 : Server E G) (taken : List ℕ) (used : ℕ) → answered.Answers (Ok taken) (serving.take_out_at c (n - length m.down) r.server) r.server (server.Fits entries s2)
         → used ≡ length (m.down ++ taken) → link_of l2 b.client ≡ record m { down = [] } → FitsEnd l2.end b.client → Answers T w (ToClient c n) (Ok (Gave used (Ok Nothing))) (Now_ l2 s2)
     drains_done gone l2 s2 taken used a is same ends =
         let h = drain_fits G answer accepts r w b.fits sound c k here.1 m b.at peer_foreign (lives_is gone) (joined_is joined) n taken a.0 a.1 in

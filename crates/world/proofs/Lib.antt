@@ -22,7 +22,6 @@ pub mod Rests
 pub mod Reaching
 pub mod Fed
 pub mod Sound
-pub mod Asking
 pub mod Hearing
 pub mod Giving
 pub mod Served

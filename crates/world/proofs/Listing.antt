@@ -12,8 +12,9 @@ use Rattle.engine.specs.Views.{EntryView}
 use Rattle.exchange.specs.Rest.{Written}
 use Rattle.exchange.specs.Session.{Setting}
 use Rattle.client.specs.declared.Outcome.{Outcome}
-use Rattle.client.specs.Client.{is_wished}
-use Rattle.client.specs.Rest.{Knows, knows_of, losses, losses_from, lost_outcome}
+use Rattle.client.specs.Verdicts.{is_wished}
+use Rattle.client.specs.Rest.{Knows, losses, losses_from, lost_outcome}
+use Rattle.client.specs.Client.{knows_of}
 use Rattle.client.proofs.Later.{reading_count}
 use Rattle.world.specs.Connections.{Ours, Connection, Said, SaysVersion, SaysNoop, SaysRow, SaysSummary, answer_count, said_version, bytes_delivered, client, wish_of}
 use Rattle.world.specs.Good.{Each, SaidAt, tellings_of, delivered_whole, last_phase, server_outcome, outcome, outcome_in, if_lost, loss, ReportsOutcomes}

@@ -7,6 +7,7 @@ use Rattle.server.specs.declared.Server.{Server}
 use Rattle.server.specs.Serving.{cause_or, Live, find, replace, without}
 use Rattle.exchange.specs.Session.{Setting}
 use Rattle.server.specs.Serving as serving
+use Rattle.server.proofs.Answered as answered
 use Rattle.server.specs.Views as server
 use Rattle.world.specs.declared.flow.Flow.{Flow}
 use Rattle.world.specs.declared.kinds.Refused.TheVariants.{Memory}
@@ -124,7 +125,7 @@ module _ {E G : Type 0} (entries : E → List EntryView) (answer : Definition) (
   first_in None = []
 
   pub lost_done : (d2 : Flow) (gone2 : Option Cause) (s1 s2 : Server E G) (said : List ℕ) (n : ℕ) → l.gone ≡ None → length said < n
-      → serving.Answers (Ok said) (serving.take_out_at c n r.server) r.server (server.Fits entries s1)
+      → answered.Answers (Ok said) (serving.take_out_at c n r.server) r.server (server.Fits entries s1)
       → ((x : serving.Rest G) → server.Fits entries s1 x → (gone2 ≡ (serving.lost_at c x).0) × server.Fits entries s2 (serving.lost_at c x).1)
       → flow_of d2 ≡ flow_of l.down ++ said
       → Answers T w (ServerLost c) (Ok SawNothing) (Now entries answer accepts r c (record l { down = d2; gone = gone2 }) s2)

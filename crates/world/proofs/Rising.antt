@@ -16,7 +16,8 @@ use Rattle.client.specs.declared.Outcome.{Outcome}
 use Rattle.client.specs.Client.{Reading}
 use Rattle.client.specs.Client.{reading_of as reader}
 use Rattle.client.specs.Rest as asking
-use Rattle.client.specs.Rest.{knows_of, losses}
+use Rattle.client.specs.Rest.{losses}
+use Rattle.client.specs.Client.{knows_of}
 use Rattle.world.specs.Connections.{Peer, Ours, Foreign, Connection, SaysVersion, heard_as, output, said_version, bytes_delivered, client, wish_of, input, arrivals_at, strike_if}
 use Rattle.world.specs.World.{Effect, Seen, Fed, last_item, take_item, feed}
 use Rattle.world.specs.Rests.{client_rest}

@@ -24,7 +24,7 @@ use Rattle.machine.specs.declared.Verdict.{Verdict}
 use Rattle.engine.specs.Tokens.{Found, Free, There, Other, found_in}
 use Rattle.engine.specs.Views.{AnswerView, EntryView, ParameterView, QueryFault, Token, bad_parameter, too_many_rows, unknown_text, write_in_read_mode}
 use Rattle.world.specs.Good.{alone_after, commit_of, is_invalid, is_success, tx_after}
-use Rattle.client.specs.Client.{outcome_of, verdict_of}
+use Rattle.client.specs.Verdicts.{outcome_of, verdict_of}
 use Rattle.client.specs.declared.Outcome.{Outcome}
 use Rattle.exchange.specs.Faults.{failure, of_query}
 use Rattle.exchange.specs.Said.{fits}

@@ -19,7 +19,8 @@ use Rattle.client.specs.declared.SubmitFault.{SubmitFault}
 use Rattle.client.specs.Client.{refusal_of}
 use Rattle.client.specs.Moments.{tellings_in}
 use Rattle.client.specs.Rest as asking
-use Rattle.client.specs.Rest.{Nothing, knows_of, losses}
+use Rattle.client.specs.Rest.{Nothing, losses}
+use Rattle.client.specs.Client.{knows_of}
 use Rattle.world.specs.Connections.{Peer, Ours, Foreign, Connection, fresh, client, wish_of, output, input, bytes_delivered}
 use Rattle.world.specs.World.{World, ledger, live, Event, Opens, Submit, ToServer, ToClient, Work, PutsNoop, Cut, ClientLost, ServerLost, Feeds, Effect, Seen, quiet, Opened, Submitted, Fed, Gave, SawWork, SawNoop, SawNothing, V3, step, at_conn, at_peer, with_effect, after_effect, work, feed, to_server, give, to_client, taken_for, effect_at_peer, drain, taken_out, noop, server_gone, submit, effect_of_submit}
 use Rattle.world.specs.Rests.{server_rest, client_rest, live_of}
@@ -30,7 +31,7 @@ use Rattle.world.proofs.Sound.{AllSound}
 use Rattle.world.proofs.Served.{open_served, replace_at, unseen_at, work_served, feed_served, noop_served, take_served, lost_served}
 use Rattle.world.proofs.Deeds.{if_so, some_is}
 use Rattle.world.proofs.Fitting.{fit_get, fit_set, fit_more, wrote_seen, work_link, noop_link, cut_link, gone_link, lost_link, submit_link, give_link, front_is, held_long, fresh_link, foreign_link, lost_again, same_client, held_all}
-use Rattle.world.proofs.Giving.{if_not, seen_as, give_same, refused_same}
+use Rattle.world.proofs.Giving.{if_not, seen_as, give_same}
 use Rattle.world.proofs.Rising.{used_seen, foreign_feeds, server_link, piece_is}
 
 -- an event that any peer takes so
@@ -337,8 +338,7 @@ module _ (G : Type 0) (answer : List EntryView → List WriteView → List ℕ �
       let f = at_link l at in
       let old : FitsClient (Ours wish) l.client l.up k = subst (λ p. FitsClient p l.client l.up k) ours f.client in
       let is : x ≡ client_rest old.out k = some_is x (client_rest old.out k) (sym client_is ∙ old.client_is) in
-      let few : old.out ≤ length (input (wish_of k.peer) k.sent) = subst (λ p. old.out ≤ length (input (wish_of p) k.sent)) (sym ours) old.most in
-      let no : refusal_of (client k) k.client_lost k.sent q ≡ Some fault = refused_same k old.out q few ∙ ap (λ z. asking.refuses z.knows q) (sym is) ∙ h in
+      let no : refusal_of (client k) k.client_lost k.sent q ≡ Some fault = ap (λ z. asking.refuses z.knows q) (sym is) ∙ h in
       (after_effect w c k (quiet k (Submitted (Err fault))), submit_step S w c k here wish q ours ∙ ap (λ o. Ok (after_effect w c k (effect_of_submit q k o), (effect_of_submit q k o).seen)) no, still_fits l at (Submitted (Err fault)))
 
   -- ClientLost, of a client that was lost before: nothing changes.

@@ -5,7 +5,7 @@ use Rattle.messages.specs.Arrivals.{hears}
 use Rattle.engine.specs.Views.{EntryView}
 use Rattle.exchange.specs.Session.{Setting}
 use Rattle.client.specs.declared.ClientFault.{ClientFault}
-use Rattle.client.specs.Client.{Told}
+use Rattle.client.specs.Verdicts.{Told}
 use Rattle.client.specs.Rest.{Note, feed_of}
 use Rattle.client.specs.Moments.{tellings_in}
 use Rattle.client.proofs.Later.{reading_later}

@@ -2,7 +2,7 @@
 use Rattle.std.proofs.Common.{◌≡◌, refl, sym, ◌∙◌, ap, ap₂, subst, ℕ, suc, ◌+◌, ◌<◌, ◌≤◌, Bool, Option, Some, None, List, [], ◌∷◌, length, slice_get, slice_index_or, arith}
 use Rattle.engine.specs.Views.{EntryView}
 use Rattle.exchange.specs.declared.Cause.{Cause}
-use Rattle.client.specs.Rest as asking
+use Rattle.client.specs.Client.{knows_of}
 use Rattle.world.specs.declared.link.Link.{Link as LinkHeld}
 use Rattle.world.specs.declared.report.Standing.{Standing as StandingTold}
 use Rattle.world.specs.declared.world.World.{World as WorldHeld}
@@ -92,4 +92,4 @@ module _ {E G : Type 0} (entries : E → List EntryView) (answer : Definition) (
             plus_none i = omega arith
         go Foreign p g =
             let old : FitsClient Foreign m.client m.up k = subst (λ q. FitsClient q m.client m.up k) p g in
-            ap (λ q. by_peer q (ordinals (asking.knows_of (client k) k.sent k.client_lost).first (length (asking.knows_of (client k) k.sent k.client_lost).waiting))) p ∙ ap (λ o. ordinals count (waiting_at o)) (sym old.0)
+            ap (λ q. by_peer q (ordinals (knows_of (client k) k.sent k.client_lost).first (length (knows_of (client k) k.sent k.client_lost).waiting))) p ∙ ap (λ o. ordinals count (waiting_at o)) (sym old.0)

@@ -8,6 +8,7 @@ use Rattle.server.specs.declared.Took.{Took}
 use Rattle.exchange.specs.declared.What.{What}
 use Rattle.exchange.specs.Session.{Setting}
 use Rattle.server.specs.Serving as serving
+use Rattle.server.proofs.Answered as answered
 use Rattle.server.specs.Views as server
 use Rattle.client.specs.Rest as asking
 use Rattle.world.specs.declared.kinds.Refused.TheVariants.{Memory}
@@ -49,7 +50,7 @@ module _ {E G : Type 0} (entries : E → List EntryView) (answer : Definition) (
       now = still entries answer accepts (PutsNoop c) l s r w b l s2 refl b.ends serves;
     }
 
-    pub noop_done : (s2 : Server E G) (put : Bool) → l.gone ≡ None → serving.Answers (Ok put) (serving.noop_at c r.server) r.server (server.Fits entries s2) → Answers T w (PutsNoop c) (Ok (SawNoop put)) (Now_ l s2)
+    pub noop_done : (s2 : Server E G) (put : Bool) → l.gone ≡ None → answered.Answers (Ok put) (serving.noop_at c r.server) r.server (server.Fits entries s2) → Answers T w (PutsNoop c) (Ok (SawNoop put)) (Now_ l s2)
     noop_done s2 put lives a =
         let sound = all_sound entries answer accepts (PutsNoop c) l s r w b in
         done entries answer accepts (PutsNoop c) l s r w b (SawNoop put) l s2 b.client a.0 b.ends a.2 (gate_kept r.server.gate _ (λ x. refl) _ put a.0 a.1)
@@ -118,7 +119,7 @@ module _ {E G : Type 0} (entries : E → List EntryView) (answer : Definition) (
     pub server_done : (y : asking.Rest) → b.client ≡ Some y → (l2 : LinkHeld) (s2 : Server E G) (took : Took) → l.gone ≡ None → l.is_cut ≡ false
         → let j = n - length m_up.up in let held = m_up.up ++ take j y.unsent in
         link_of l2 (Some (asking.taken_out y j)) ≡ record m_up { client = Some (asking.taken_out y j); up = drop took.used held } → FitsEnd l2.end (Some (asking.taken_out y j))
-        → serving.Answers (Ok took) (serving.feed_at c (take n held) r.server) r.server (server.Fits entries s2) → Answers T w (ToServer c n) (Ok (Fed took.used took.what)) (Now_ l2 s2)
+        → answered.Answers (Ok took) (serving.feed_at c (take n held) r.server) r.server (server.Fits entries s2) → Answers T w (ToServer c n) (Ok (Fed took.used took.what)) (Now_ l2 s2)
     server_done y is l2 s2 took gone joined same ends a =
         let j = n - length m_up.up in
         done entries answer accepts (ToServer c n) l s r w b (Fed took.used took.what) l2 s2 (Some (asking.taken_out y j)) a.0 ends a.2 (gate_kept r.server.gate _ (λ x. refl) _ took a.0 a.1)
@@ -166,7 +167,7 @@ module _ {E G : Type 0} (entries : E → List EntryView) (answer : Definition) (
           now = still entries answer accepts (Feeds c bytes) l s r w b l s2 refl b.ends serves;
         }
 
-    pub foreign_done : (s2 : Server E G) (took : Took) → l.gone ≡ None → l.is_cut ≡ false → serving.Answers (Ok took) (serving.feed_at c bytes r.server) r.server (server.Fits entries s2)
+    pub foreign_done : (s2 : Server E G) (took : Took) → l.gone ≡ None → l.is_cut ≡ false → answered.Answers (Ok took) (serving.feed_at c bytes r.server) r.server (server.Fits entries s2)
         → Answers T w (Feeds c bytes) (Ok (Fed took.used took.what)) (Now_ l s2)
     foreign_done s2 took gone joined a =
         done entries answer accepts (Feeds c bytes) l s r w b (Fed took.used took.what) l s2 b.client a.0 b.ends a.2 (gate_kept r.server.gate _ (λ x. refl) _ took a.0 a.1)

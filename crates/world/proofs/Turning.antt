@@ -4,11 +4,10 @@ use Rattle.engine.specs.Views.{EntryView}
 use Rattle.exchange.specs.declared.Cause.{Cause}
 use Rattle.server.specs.declared.Server.{Server}
 use Rattle.exchange.specs.declared.Worked.{Worked}
-use Rattle.server.specs.declared.Refused.{Refused as ServerRefused}
-use Rattle.server.specs.declared.Refused.TheVariants as server_refused
 use Rattle.exchange.specs.Session.{Setting}
 use Rattle.exchange.specs.Rest.{IsCounted}
 use Rattle.server.specs.Serving as serving
+use Rattle.server.proofs.Answered as answered
 use Rattle.server.specs.Views as server
 use Rattle.client.specs.Rest as asking
 use Rattle.world.specs.declared.kinds.Refused.{Refused}
@@ -42,12 +41,6 @@ ok_of r x e = subst IsOk (sym e) refl
 pub none_of : {A : Type 0} (o : Option A) → ((x : A) → o ≡ Some x → ⊥) → o ≡ None
 none_of None h = refl
 none_of (Some x) h = absurd (h x refl)
-
--- a refused call leaves the server
-pub refusal : {A G : Type 0} (e : ServerRefused) (model : Option (A × serving.Rest G)) (r : serving.Rest G) (P : serving.Rest G → Type 0) → serving.Answers {A = A} (Err e) model r P → P r
-refusal server_refused.NoSuchConnection model r P a = a.1
-refusal server_refused.SessionsFull model r P a = absurd a
-refusal server_refused.Memory model r P a = a.1
 
 -- a call of a session leaves the gate
 module _ {A G : Type 0} (gate : G) (f : serving.Live → A × serving.Rest G) (kept : (s : serving.Live) → (f s).1.gate ≡ gate) where
@@ -152,7 +145,7 @@ module _ {E G : Type 0} (entries : E → List EntryView) (answer : Definition) (
 
     pub work_done : (l2 : LinkHeld) (s2 : Server E G) (worked : Worked) → l.gone ≡ None → IsCounted worked
         → link_of l2 b.client ≡ record (link_of l b.client) { wrote = (link_of l b.client).wrote ++ wrote_by worked } → FitsEnd l2.end b.client
-        → serving.Answers (Ok worked) (serving.work_at answer accepts c r.server) r.server (server.Fits entries s2) → Answers T w (Work c) (Ok (SawWork worked)) (Now_ l2 s2)
+        → answered.Answers (Ok worked) (serving.work_at answer accepts c r.server) r.server (server.Fits entries s2) → Answers T w (Work c) (Ok (SawWork worked)) (Now_ l2 s2)
     work_done l2 s2 worked lives counted same ends a =
         done entries answer accepts (Work c) l s r w b (SawWork worked) l2 s2 b.client a.0 ends a.2 (gate_kept r.server.gate _ (λ x. refl) _ worked a.0 a.1)
         (let h = work_fits G answer accepts r w b.fits (all_sound entries answer accepts (Work c) l s r w b) c k here (link_of l b.client) b.at

@@ -1,6 +1,7 @@
 -- Each request that was accepted has a text that stands for it: a step keeps that, where the request that it accepts is made of texts,
 -- numbers and cells.
-use Rattle.std.proofs.Common.{◌≡◌, refl, sym, ◌∙◌, ap, subst, ℕ, ◌^◌, zero, suc, map, Bool, true, false, not, ◌||◌, ◌&&◌, nat_lt, if◌then◌else◌, Option, Some, None, unwrap_or, Result, Ok, Err, List, [], ◌∷◌, ◌++◌, length, take, drop, slice_get, ◌⊎◌, inl, inr, ⊎_elim}
+use Rattle.std.proofs.Common.{◌≡◌, refl, sym, ◌∙◌, ap, subst, ℕ, zero, suc, map, Bool, false, ◌||◌, Option, Some, None, unwrap_or, Result, Ok, Err, List, [], ◌∷◌, ◌++◌, length, take, drop, slice_get, ◌⊎◌, inl, inr, ⊎_elim}
+use Rattle.std.proofs.lemmas.Bool.{or_parts}
 use Rattle.wire.specs.declared.Version.{Version}
 use Rattle.wire.specs.declared.Wish.{Wish}
 use Rattle.wire.specs.Offers.{wish_version}
@@ -14,9 +15,9 @@ use Rattle.messages.proofs.Again.{request_reads_back}
 use Rattle.messages.proofs.Made.{requests_are_made}
 use Rattle.engine.specs.Views.{EntryView}
 use Rattle.exchange.specs.Session.{Setting}
-use Rattle.client.specs.declared.SubmitFault.{SubmitFault}
-use Rattle.client.specs.declared.SubmitFault.TheVariants as submit_fault
-use Rattle.client.specs.Client.{Reading, refusal_of, reading_of, may, writing_fault, writing_fault_by}
+use Rattle.client.specs.Rest.{writing_fault, writing_fault_by}
+use Rattle.client.specs.Client.{Reading, knows_of, refusal_of, reading_of}
+use Rattle.client.proofs.Refusing.{accepted_facts, accepted_written, knows_version}
 use Rattle.world.specs.Connections.{Ours, input, Connection, wish_of, said_version, client, heard_as}
 use Rattle.world.specs.World.{World, Event, Submit, Seen, Effect, feed, noop, work, place, step, IsMade}
 use Rattle.world.proofs.Deeds as deed
@@ -48,37 +49,19 @@ knows_if S all wish k (inl s) (inr e) = inl (ap (λ xs. version_of (take k.down 
     take_none (suc n) = refl
 
 -- what a client that accepts is known to be
-closed_not : (a b d : Bool) (o : Option SubmitFault) → (if (a || b) || d then Some submit_fault.Closed else o) ≡ None → (a ≡ false) × (d ≡ false) × (o ≡ None)
-closed_not true b d o h = cc
-closed_not false true d o h = cc
-closed_not false false true o h = cc
-closed_not false false false o h = (refl, refl, h)
-
-version_known : (r : Reading) (sent : List RequestView) (q : RequestView) (v : Option Version) (o : Option SubmitFault) → (if not (may r sent q v) then Some submit_fault.NotAllowed else o) ≡ None → (v ≡ None → ⊥)
-version_known r sent q None o h e = cc
-version_known r sent q (Some v) o h e = cc
-
 pub accepting : (r : Reading) (lost : Bool) (sent : List RequestView) (q : RequestView) → refusal_of r lost sent q ≡ None → (lost ≡ false) × (r.bad ≡ false) × (r.version ≡ None → ⊥)
 accepting r lost sent q h =
-    let a = closed_not lost r.ended r.bad _ h in
-    (a.0, a.1, version_known r sent q r.version _ a.2)
+    let a = accepted_facts (knows_of r sent lost) q h in
+    let o = or_parts lost (r.ended || r.bad) a.0 in
+    (o.0, (or_parts r.ended r.bad o.1).1, knows_version (knows_of r sent lost) q r.version a.1)
 
 -- and the text of a request that it accepts
-none_else : (b : Bool) (x : SubmitFault) (o : Option SubmitFault) → (if b then Some x else o) ≡ None → o ≡ None
-none_else true x o h = cc
-none_else false x o h = h
-
 written_by : (x : Result (List ℕ) MsgFault) → writing_fault_by x ≡ None → (b : List ℕ) × (x ≡ Ok b)
 written_by (Ok b) h = (b, refl)
 written_by (Err e) h = cc
 
 accepted_text : (r : Reading) (lost : Bool) (sent : List RequestView) (q : RequestView) (v : Version) → refusal_of r lost sent q ≡ None → r.version ≡ Some v → (b : List ℕ) × (request_spelling v q ≡ Ok b)
-accepted_text r lost sent q v h e =
-    let a = closed_not lost r.ended r.bad _ h in
-    let full : Bool = not (nat_lt (length (drop r.count sent)) 32 && nat_lt (length sent) (2 ^ 63)) in
-    let last : Option SubmitFault = if full then Some submit_fault.PipelineFull else writing_fault q r.version in
-    let roomy : last ≡ None = none_else (not (may r sent q r.version)) submit_fault.NotAllowed last a.2 in
-    written_by (request_spelling v q) (ap (writing_fault q) (sym e) ∙ none_else full submit_fault.PipelineFull (writing_fault q r.version) roomy)
+accepted_text r lost sent q v h e = written_by (request_spelling v q) (ap (writing_fault q) (sym e) ∙ accepted_written (knows_of r sent lost) q h)
 
 -- A request that is made of texts, numbers and cells and that the client accepts has a text that stands for it.
 made_written : (wish : Wish) (k : Connection) (q : RequestView) → ((client k).version ≡ None) ⊎ ((client k).version ≡ Some (wish_version wish)) → IsRequest (wish_version wish) q → refusal_of (client k) k.client_lost k.sent q ≡ None

@@ -6,8 +6,9 @@ use Rattle.machine.specs.States.{phase_of}
 use Rattle.exchange.specs.declared.Cause.{Cause}
 use Rattle.exchange.specs.declared.Worked.{Worked}
 use Rattle.client.specs.declared.Outcome.{Outcome}
-use Rattle.client.specs.Client.{Told, GotRow, Got}
-use Rattle.client.specs.Rest.{knows_of, losses}
+use Rattle.client.specs.Verdicts.{Told, GotRow, Got}
+use Rattle.client.specs.Rest.{losses}
+use Rattle.client.specs.Client.{knows_of}
 use Rattle.world.specs.Connections.{Said, SaysSummary, Peer, Ours, Foreign, Connection, client}
 
 -- the summaries that the server wrote, the oldest first: ordinal and phase

@@ -2,7 +2,7 @@
 use Rattle.std.specs.Prelude.{ℕ, ◌==◌, if◌then◌else◌, Ok, List, [], ◌∷◌, ◌++◌, slice_get}
 use Rattle.engine.specs.Views.{EntryView}
 use Rattle.exchange.specs.Session.{Setting}
-use Rattle.client.specs.Client.{Told}
+use Rattle.client.specs.Verdicts.{Told}
 use Rattle.client.specs.Moments.{tellings}
 use Rattle.world.specs.World.{World, Event, Seen, Gave, WStep, IsLedger, place, empty, taken_out}
 

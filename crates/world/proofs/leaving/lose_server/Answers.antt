@@ -1,6 +1,5 @@
 use Rattle.std.proofs.Common.{◌∙◌, ◌++◌, ap, arith}
 use Rattle.world.specs.Views.{link_of}
-use Rattle.world.proofs.Turning.{refusal}
 use Rattle.world.proofs.Lost.{lost_before, lost_lacks, lost_done}
 use Rattle.world.proofs.leaving.lose_server.Goals as goal
 
@@ -17,11 +16,11 @@ pub returns-in_default-take_out : goal.returns-in_default-take_out
 returns-in_default-take_out g c = λ r w b.
     let l = c.args.link.now in
     lost_lacks g.E.Engine.entries g.E.Engine.answer g.G.Gate.accepts c.args.conn l c.args.server.now r w b (record l { down = c.join.new.self }) c.take_out.new.self
-    (ap (λ d. record (link_of l b.client) { down = d }) c.join.ensures.same) b.ends (refusal c.in_default-take_out.field-0 _ r.server _ (c.in_default-take_out.ensures.answers r.server b.server))
+    (ap (λ d. record (link_of l b.client) { down = d }) c.join.ensures.same) b.ends (c.in_default-take_out.ensures.refused r.server b.server)
 
 pub returns : goal.returns
 returns g c = λ r w b.
     let l = c.args.link.now in
     lost_done g.E.Engine.entries g.E.Engine.answer g.G.Gate.accepts c.args.conn l c.args.server.now r w b c.put.new.self c.give_up-link.result c.take_out.new.self c.give_up-link.new.server c.in-Ok.said 18446744073709551615
-    c.in_default.is (omega (arith, c.put.ensures.few)) (c.in-Ok.ensures.answers r.server b.server) (λ x f. c.give_up-link.ensures x f)
+    c.in_default.is (omega (arith, c.put.ensures.few)) (c.in-Ok.ensures.done r.server b.server) (λ x f. c.give_up-link.ensures x f)
     (c.put.ensures.held ∙ ap (λ z. z ++ c.in-Ok.said) c.join.ensures.same)

@@ -1,10 +1,11 @@
 use Rattle.std.proofs.Common.{subst, ℕ, ◌∙◌, ap, length, Ok, ◌-◌, ◌++◌}
 use Rattle.server.specs.Serving as serving
+use Rattle.server.proofs.Answered as answered
 use Rattle.server.specs.Views as server
 use Rattle.world.specs.Fits.{Link}
 use Rattle.world.specs.World.{ToClient}
 use Rattle.world.specs.Views.{link_of, flow_of}
-use Rattle.world.proofs.Turning.{refusal, seen_by}
+use Rattle.world.proofs.Turning.{seen_by}
 use Rattle.world.proofs.Given.{drains_lacks, drains_gone, drains_done}
 use Rattle.world.proofs.moving.drain.Goals as goal
 
@@ -19,7 +20,7 @@ returns-in_default-take_out g c = λ r w b.
     let l = c.args.link.now in
     drains_lacks g.E.Engine.entries g.E.Engine.answer g.G.Gate.accepts c.args.conn c.args.max l c.args.server.now r w b c.requires.foreign c.requires.joined
     (record l { down = c.join.new.self }) c.take_out.new.self (ap (λ d. record (link_of l b.client) { down = d }) c.join.ensures.same) b.ends
-    (refusal c.in_default-take_out.field-0 _ r.server _ (c.in_default-take_out.ensures.answers r.server b.server))
+    (c.in_default-take_out.ensures.refused r.server b.server)
 
 pub returns-in-Some : goal.returns-in-Some
 returns-in-Some g c = λ r w b.
@@ -35,8 +36,8 @@ returns g c = λ r w b.
     let l2 = record l { down = c.drained-2.new.down } in
     let same = c.join.ensures.same in
     let n = c.saturating_sub-missing.ensures ∙ ap (λ z. c.args.max - z) (c.len.ensures ∙ ap length same) in
-    let A : ℕ → Type 0 = λ z. serving.Answers (Ok c.in-Ok.more) (serving.take_out_at c.args.conn z r.server) r.server (server.Fits g.E.Engine.entries c.take_out.new.self) in
+    let A : ℕ → Type 0 = λ z. answered.Answers (Ok c.in-Ok.more) (serving.take_out_at c.args.conn z r.server) r.server (server.Fits g.E.Engine.entries c.take_out.new.self) in
     seen_by g.E.Engine.entries g.E.Engine.answer g.G.Gate.accepts (ToClient c.args.conn c.args.max) l c.args.server.now r w b c.drained-2.result _ l2 c.take_out.new.self c.drained-2.ensures.seen
     (drains_done g.E.Engine.entries g.E.Engine.answer g.G.Gate.accepts c.args.conn c.args.max l c.args.server.now r w b c.requires.foreign c.requires.joined c.in_default.is
-    l2 c.take_out.new.self c.in-Ok.more (length (flow_of c.put.new.self)) (subst A n (c.in-Ok.ensures.answers r.server b.server))
+    l2 c.take_out.new.self c.in-Ok.more (length (flow_of c.put.new.self)) (subst A n (c.in-Ok.ensures.done r.server b.server))
     (ap length (c.put.ensures.held ∙ ap (λ z. z ++ c.in-Ok.more) same)) (ap (λ d. let z : Link = record (link_of l b.client) { down = d } in z) c.drained-2.ensures.none) b.ends)

@@ -2,7 +2,7 @@ use Rattle.std.proofs.Common.{sym, ap, subst}
 use Rattle.world.specs.World.{Feeds}
 use Rattle.world.specs.Seeing.{IsWrong}
 use Rattle.world.specs.Views.{end_peer}
-use Rattle.world.proofs.Turning.{refusal, wrong}
+use Rattle.world.proofs.Turning.{wrong}
 use Rattle.world.proofs.Turned.{foreign_over, foreign_cut, foreign_lacks, foreign_done}
 use Rattle.world.proofs.moving.foreign.Goals as goal
 
@@ -22,9 +22,9 @@ returns-then-link g c = λ r w b.
 pub returns-in_default-feed : goal.returns-in_default-feed
 returns-in_default-feed g c = λ r w b.
     foreign_lacks g.E.Engine.entries g.E.Engine.answer g.G.Gate.accepts c.args.conn c.args.link.now c.args.server.now r w c.args.bytes.now b (ap end_peer c.in-Foreign.is) c.feed.new.self
-    (refusal c.in_default-feed.field-0 _ r.server _ (c.in_default-feed.ensures.answers r.server b.server))
+    (c.in_default-feed.ensures.refused r.server b.server)
 
 pub returns : goal.returns
 returns g c = λ r w b.
     foreign_done g.E.Engine.entries g.E.Engine.answer g.G.Gate.accepts c.args.conn c.args.link.now c.args.server.now r w c.args.bytes.now b (ap end_peer c.in-Foreign.is) c.feed.new.self c.in-Ok.took c.in_default-gone.is c.if-link.false
-    (c.in-Ok.ensures.answers r.server b.server)
+    (c.in-Ok.ensures.done r.server b.server)

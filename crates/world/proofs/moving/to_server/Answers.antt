@@ -1,6 +1,7 @@
 use Rattle.std.proofs.Common.{sym, ◌∙◌, ap, subst, drop, Ok, Some, length, ◌-◌, take, List, ℕ}
 use Rattle.exchange.specs.declared.What.{What}
 use Rattle.server.specs.Serving as serving
+use Rattle.server.proofs.Answered as answered
 use Rattle.server.specs.Views as server
 use Rattle.client.specs.Rest as asking
 use Rattle.world.specs.declared.link.End.TheVariants as end
@@ -8,7 +9,7 @@ use Rattle.world.specs.World.{ToServer, Fed}
 use Rattle.world.specs.Seeing.{IsWrong}
 use Rattle.world.specs.Views.{end_peer, flow_of}
 use Rattle.world.proofs.Holding.{held_client, up_changed}
-use Rattle.world.proofs.Turning.{refusal, wrong, looked}
+use Rattle.world.proofs.Turning.{wrong, looked}
 use Rattle.world.proofs.Turned.{server_over, server_cut, server_lacks, server_done}
 use Rattle.world.proofs.moving.to_server.Goals as goal
 
@@ -52,7 +53,7 @@ returns-in_default-feed g c = λ r w b.
     server_lacks g.E.Engine.entries g.E.Engine.answer g.G.Gate.accepts c.args.conn l c.args.server.now r w c.args.max b o.wish (ap end_peer o.is) y.0 y.1 j
     (record l { end = end.Ours o.wish c.draw_up.new.client o.lost; up = c.draw_up.new.up }) c.feed.new.self
     (up_changed o.wish o.client o.lost l o.is b.client (Some (asking.taken_out y.0 j)) c.draw_up.new.client c.draw_up.new.up _ d.1) d.0
-    (refusal c.in_default-feed.field-0 _ r.server _ (c.in_default-feed.ensures.answers r.server b.server))
+    (c.in_default-feed.ensures.refused r.server b.server)
 
 pub returns : goal.returns
 returns g c = λ r w b.
@@ -62,8 +63,8 @@ returns g c = λ r w b.
     let d = c.in-Ok.ensures.ok y.0 y.2 in
     let j = c.args.max - length (flow_of l.up) in
     let took = c.in-Ok-feed.took in
-    let Fed_ : List ℕ → Type 0 = λ p. serving.Answers (Ok took) (serving.feed_at c.args.conn p r.server) r.server (server.Fits g.E.Engine.entries c.feed.new.self) in
+    let Fed_ : List ℕ → Type 0 = λ p. answered.Answers (Ok took) (serving.feed_at c.args.conn p r.server) r.server (server.Fits g.E.Engine.entries c.feed.new.self) in
     server_done g.E.Engine.entries g.E.Engine.answer g.G.Gate.accepts c.args.conn l c.args.server.now r w c.args.max b o.wish (ap end_peer o.is) y.0 y.1
     (record l { end = end.Ours o.wish c.draw_up.new.client o.lost; up = c.advance.new.self }) c.feed.new.self took c.in_default-gone.is c.if-link.false
     (up_changed o.wish o.client o.lost l o.is b.client (Some (asking.taken_out y.0 j)) c.draw_up.new.client c.advance.new.self _ (c.advance.ensures ∙ ap (drop took.used) d.1)) d.0
-    (subst Fed_ (c.front.ensures ∙ ap (take c.args.max) d.1) (c.in-Ok-feed.ensures.answers r.server b.server))
+    (subst Fed_ (c.front.ensures ∙ ap (take c.args.max) d.1) (c.in-Ok-feed.ensures.done r.server b.server))

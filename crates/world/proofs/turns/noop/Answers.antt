@@ -1,4 +1,4 @@
-use Rattle.world.proofs.Turning.{none_of, refusal}
+use Rattle.world.proofs.Turning.{none_of}
 use Rattle.world.proofs.Turned.{noop_over, noop_lacks, noop_done}
 use Rattle.world.proofs.turns.noop.Goals as goal
 
@@ -7,8 +7,8 @@ returns-in-Some g c = λ r w b. noop_over g.E.Engine.entries g.E.Engine.answer g
 
 pub returns-in_default-noop : goal.returns-in_default-noop
 returns-in_default-noop g c = λ r w b. noop_lacks g.E.Engine.entries g.E.Engine.answer g.G.Gate.accepts c.args.conn c.args.link.now c.args.server.now r w b c.noop.new.self
-    (refusal c.in_default-noop.field-0 _ r.server _ (c.in_default-noop.ensures.answers r.server b.server))
+    (c.in_default-noop.ensures.refused r.server b.server)
 
 pub returns : goal.returns
 returns g c = λ r w b. noop_done g.E.Engine.entries g.E.Engine.answer g.G.Gate.accepts c.args.conn c.args.link.now c.args.server.now r w b c.noop.new.self c.in-Ok.put
-    (none_of c.args.link.now.gone c.in_default.not-Some) (c.in-Ok.ensures.answers r.server b.server)
+    (none_of c.args.link.now.gone c.in_default.not-Some) (c.in-Ok.ensures.done r.server b.server)

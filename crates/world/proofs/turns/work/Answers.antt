@@ -1,7 +1,7 @@
 use Rattle.std.proofs.Common.{ap, ◌∙◌, ◌++◌, map}
 use Rattle.world.specs.Reports.{wrote_by}
 use Rattle.world.specs.Views.{link_of, wrote_of}
-use Rattle.world.proofs.Turning.{none_of, refusal, work_over, work_lacks, work_done}
+use Rattle.world.proofs.Turning.{none_of, work_over, work_lacks, work_done}
 use Rattle.world.proofs.turns.work.Goals as goal
 
 pub returns-in-Some : goal.returns-in-Some
@@ -18,7 +18,7 @@ returns-in_default-work g c =
     let l = c.args.link.now in
     λ r w b. work_lacks g.E.Engine.entries g.E.Engine.answer g.G.Gate.accepts c.args.conn l c.args.server.now r w b (record l { wrote = c.reserve.new.self }) c.work.new.self
     (ap (λ ws. record (link_of l b.client) { wrote = map wrote_of ws }) c.reserve.ensures.items) b.ends
-    (refusal c.in_default-work.field-0 _ r.server _ (c.in_default-work.ensures.answers r.server b.server))
+    (c.in_default-work.ensures.refused r.server b.server)
 
 pub returns : goal.returns
 returns g c =
@@ -26,4 +26,4 @@ returns g c =
     λ r w b. work_done g.E.Engine.entries g.E.Engine.answer g.G.Gate.accepts c.args.conn l c.args.server.now r w b (record l { wrote = c.note_work.new.wrote }) c.work.new.self c.in-Ok.worked
     (none_of l.gone c.in_default.not-Some) c.in-Ok.ensures.counted
     (ap (λ ws. record (link_of l b.client) { wrote = ws }) (c.note_work.ensures ∙ ap (λ ws. map wrote_of ws ++ wrote_by c.in-Ok.worked) c.reserve.ensures.items)) b.ends
-    (c.in-Ok.ensures.answers r.server b.server)
+    (c.in-Ok.ensures.done r.server b.server)
