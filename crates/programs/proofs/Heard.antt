@@ -32,6 +32,11 @@ hears_failed p left left_now before after c notes done ReadFailed never h k = ab
 hears_failed p left left_now before after c notes done WriteFailed never h k = (notes, done, h, k, λ e. absurd (true≢false (sym e)))
 hears_failed p left left_now before after c notes done Memory never h k = (notes, done, h, k, λ e. absurd (true≢false (sym e)))
 
+-- the source has failed: nothing was heard, and nothing is printed
+pub hears_nothing : (p : Place) (left left_now before : Option (List ℕ)) (c : Caller) (notes : List Note) → HearsPiece p.rest left left_now [] notes (Fits c.client) (Err ReadFailed) → HearsSome p left left_now before before c (Err ReadFailed)
+hears_nothing p left left_now before c notes h =
+    (notes, Err ReadFailed, h, subst (λ (ns : List Note). Prints p.version ns true before before) (sym h.told) (prints_whole p.version [] [] true before before refl (Appends-nil before)), λ _. refl)
+
 -- notes that were told before it
 fed_after : (r : Rest) (piece : List ℕ) (first notes : List Note) (whole : Bool) (Now : Rest → Type 0) → FeedsPiece r piece [] notes whole Now → FeedsPiece r piece first (first ++ notes) whole Now
 fed_after r piece first notes whole Now h = record { fed = h.fed; unheard = h.unheard; parts = h.parts; told = ap (λ (z : List Note). first ++ z) h.told; now = h.now; ends = h.ends }

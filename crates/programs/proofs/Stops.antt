@@ -1,9 +1,10 @@
 -- How a program ends, by why it stops.
-use Rattle.std.proofs.Common.{◌≡◌, refl, sym, ◌∙◌, subst, ℕ, Bool, List, Option, Some, None, Result, Ok, Err, ◌⊎◌, ⊎_elim}
-use Rattle.std.specs.Prelude.{OnOk, OnErr, IsSome, option_map}
+use Rattle.std.proofs.Common.{◌≡◌, refl, sym, ap, ◌∙◌, subst, ℕ, Bool, List, Option, Some, None, Result, Ok, Err, ◌⊎◌, ⊎_elim, arith}
+use Rattle.std.specs.Prelude.{OnOk, OnErr, IsErr, IsSome, option_map}
 use Rattle.std.proofs.KnownBytes.{Appends-nil}
 use Rattle.streams.specs.declared.fault.StreamFault.{StreamFault}
 use Rattle.streams.specs.declared.fault.StreamFault.TheVariants.{ReadFailed, WriteFailed, Memory}
+use Rattle.streams.specs.Failing.{UnlessTold}
 use Rattle.programs.specs.declared.stop.Stop.{Stop}
 use Rattle.programs.specs.declared.stop.Stop.TheVariants.{Unreadable, Broken}
 use Rattle.programs.specs.Stopping.{IsStopOf, stop_status, Ends, TellsStop}
@@ -55,3 +56,34 @@ was_unreadable told stop h e = ⊎_elim (λ q. subst (λ (s : Stop). stop_status
 pub some_of : {A : Type 0} (f : A → ℕ) (o : Option A) (n : ℕ) → option_map f o ≡ Some n → IsSome o
 some_of f None n e = absurd cc
 some_of f (Some a) n e = refl
+
+two_one : (n : ℕ) → n ≡ 2 → n ≡ 1 → ⊥
+two_one n e f = absurd (omega (arith, e, f))
+
+-- a fault of a stream is told with status 1
+pub never_failed : (fault : StreamFault) (stop : Stop) (status : ℕ) (had failed : Bool) (before after : Option (List ℕ)) → stop_status (Broken fault) ≡ 1 → TellsStop stop status had failed before after → (status ≡ 1 → ⊥) → stop ≡ Broken fault → ⊥
+never_failed fault stop status had failed before after one p n e =
+    let is : stop_status stop ≡ 1 = ap stop_status e ∙ one in
+    ⊎_elim (λ q. n (p.ends ∙ ap stop_status q ∙ is)) (λ q. two_one (stop_status stop) q.1 is) p.which
+
+-- what holds unless a fault is told, and what follows of it
+pub unless_then : {T E : Type 0} (x : Result T E) (f : E) (A B : Type 0) → (A → B) → UnlessTold x f A → UnlessTold x f B
+unless_then (Ok t) f A B g h = g h
+unless_then (Err e) f A B g h = λ n. g (h n)
+
+pub unless_so : {T E : Type 0} (x : Result T E) (f : E) (A : Type 0) → A → UnlessTold x f A
+unless_so (Ok t) f A a = a
+unless_so (Err e) f A a = λ n. a
+
+pub unless_not : {T E : Type 0} (x : Result T E) (f : E) (A : Type 0) → (x ≡ Err f → ⊥) → UnlessTold x f A → A
+unless_not (Ok t) f A n h = h
+unless_not (Err e) f A n h = h (λ q. n (ap Err q))
+
+-- a fault of a conversation is told as its stop
+pub unless_stops : (f fault : StreamFault) (So : Type 0) → ((f ≡ fault → ⊥) → So) → (Broken f ≡ Broken fault → ⊥) → So
+unless_stops f fault So h n = h (λ e. n (ap Broken e))
+
+-- what is answered is no error
+pub never_err : {T E : Type 0} (x : Result T E) (t : T) → x ≡ Ok t → IsErr x → ⊥
+never_err (Ok s) t e h = absurd cc
+never_err (Err f) t e h = absurd cc

@@ -4,6 +4,7 @@ ghost use Rattle.client.specs.Fits.{Fits};
 ghost use Rattle.client.specs.Notes.{note};
 ghost use Rattle.client.specs.Rest.{Rest};
 ghost use Rattle.streams.specs.Asking.{given_up};
+ghost use Rattle.streams.specs.Failing.{StaysSound, UnlessTold};
 ghost use Rattle.programs.specs.Stopping.{Gets};
 ghost use Rattle.programs.specs.Telling.{versions_after};
 ghost use Rattle.programs.specs.Talking.{IsAt, Place, losses_text, lost_of, streams_at};
@@ -29,6 +30,12 @@ impl Caller {
         ensures read { IsErrOf result StreamFault.ReadFailed → S.has_failed source.new ≡ true }
         ensures written { IsErrOf result StreamFault.WriteFailed
             → (T.has_failed sink.new ≡ true) ⊎ (O.has_failed out.new ≡ true) }
+        ensures source { UnlessTold result StreamFault.ReadFailed
+            (StaysSound (S.has_failed source.old) (S.has_failed source.new)) }
+        ensures sink { UnlessTold result StreamFault.WriteFailed
+            (StaysSound (T.has_failed sink.old) (T.has_failed sink.new)) }
+        ensures out { UnlessTold result StreamFault.WriteFailed
+            (StaysSound (O.has_failed out.old) (O.has_failed out.new)) }
     {
         let asked = self.converse(source, sink, out);
         self.part(err);
@@ -48,9 +55,15 @@ impl Caller {
         ensures read { IsErrOf result StreamFault.ReadFailed → S.has_failed source.new ≡ true }
         ensures written { IsErrOf result StreamFault.WriteFailed
             → (T.has_failed sink.new ≡ true) ⊎ (O.has_failed out.new ≡ true) }
+        ensures source { UnlessTold result StreamFault.ReadFailed
+            (StaysSound (S.has_failed source.old) (S.has_failed source.new)) }
+        ensures sink { UnlessTold result StreamFault.WriteFailed
+            (StaysSound (T.has_failed sink.old) (T.has_failed sink.new)) }
+        ensures out { UnlessTold result StreamFault.WriteFailed
+            (StaysSound (O.has_failed out.old) (O.has_failed out.new)) }
     {
         match write_out(&mut self.client, sink) {
-            Ok(()) => self.hear_all(source, out),
+            Ok(()) => self.hear_all(source, sink, out),
             Err(fault) => Err(fault),
         }
     }
@@ -70,9 +83,10 @@ impl Caller {
     }
 
     /// Hears and prints, a piece at a time, as long as an answer is still to come, to the end of the input.
-    fn hear_all<S: Source, O: Sink>(
+    fn hear_all<S: Source, T: Sink, O: Sink>(
         &mut self,
         source: &mut S,
+        sink: &T,
         out: &mut O,
     ) -> Result<(), StreamFault>
         ensures hears { (p : Place) → IsAt self.old p
@@ -80,9 +94,13 @@ impl Caller {
             self.new result }
         ensures read { IsErrOf result StreamFault.ReadFailed → S.has_failed source.new ≡ true }
         ensures written { IsErrOf result StreamFault.WriteFailed → O.has_failed out.new ≡ true }
+        ensures source { UnlessTold result StreamFault.ReadFailed
+            (StaysSound (S.has_failed source.old) (S.has_failed source.new)) }
+        ensures out { UnlessTold result StreamFault.WriteFailed
+            (StaysSound (O.has_failed out.old) (O.has_failed out.new)) }
     {
         while self.client.awaits() {
-            match self.hear_some(source, out) {
+            match self.hear_some(source, sink, out) {
                 Ok(true) => {}
                 Ok(false) => return Ok(()),
                 Err(fault) => return Err(fault),
@@ -92,9 +110,10 @@ impl Caller {
     }
 
     /// Hears a piece and prints what it tells; whether there was one.
-    fn hear_some<S: Source, O: Sink>(
+    fn hear_some<S: Source, T: Sink, O: Sink>(
         &mut self,
         source: &mut S,
+        sink: &T,
         out: &mut O,
     ) -> Result<bool, StreamFault>
         ensures hears { (p : Place) → IsAt self.old p
@@ -102,12 +121,20 @@ impl Caller {
             self.new result }
         ensures read { IsErrOf result StreamFault.ReadFailed → S.has_failed source.new ≡ true }
         ensures written { IsErrOf result StreamFault.WriteFailed → O.has_failed out.new ≡ true }
+        ensures source { UnlessTold result StreamFault.ReadFailed
+            (StaysSound (S.has_failed source.old) (S.has_failed source.new)) }
+        ensures out { UnlessTold result StreamFault.WriteFailed
+            (StaysSound (O.has_failed out.old) (O.has_failed out.new)) }
         ensures lowers { IfOk result
             (λ some. some ≡ true → S.reads source.new < S.reads source.old) }
     {
         let mut heard = Vec::new(self.alloc);
-        let done = hear_piece(&mut self.client, source, &mut heard);
-        // What was heard before a fault is printed too.
+        let done = hear_piece(&mut self.client, source, sink, &mut heard);
+        match done {
+            Err(StreamFault::ReadFailed) => return Err(StreamFault::ReadFailed),
+            _ => {}
+        }
+        // What was heard before another fault is printed too.
         match self.put_all(heard, out) {
             Ok(()) => done,
             Err(fault) => Err(fault),
@@ -123,6 +150,8 @@ impl Caller {
         ensures client { self.new.client ≡ self.old.client }
         ensures read { IsErrOf result StreamFault.ReadFailed → ⊥ }
         ensures written { IsErrOf result StreamFault.WriteFailed → O.has_failed out.new ≡ true }
+        ensures sound { UnlessTold result StreamFault.WriteFailed
+            (StaysSound (O.has_failed out.old) (O.has_failed out.new)) }
     {
         for one in heard {
             match self.put_explained(one, out) {

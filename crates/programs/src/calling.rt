@@ -2,6 +2,7 @@
 ghost use Rattle.std.specs.Prelude.{◌≡◌, ◌⊎◌, ℕ, List, true, IfOk, IfErr, OnOk, OnErr, IsErrOf};
 ghost use Rattle.std.specs.Io.KnownBytes.{Appends};
 ghost use Rattle.client.specs.Notes.{note};
+ghost use Rattle.streams.specs.Failing.{StaysSound, UnlessTold};
 ghost use Rattle.streams.specs.Fronts.{AppendsFront};
 ghost use Rattle.scripts.specs.Meant.{meant};
 ghost use Rattle.scripts.specs.Views.{script_request_view};
@@ -60,6 +61,8 @@ impl Caller {
             text × Appends (O.taken out.old) (O.taken out.new) text) }
         ensures read { IsErrOf result StreamFault.ReadFailed → ⊥ }
         ensures written { IsErrOf result StreamFault.WriteFailed → O.has_failed out.new ≡ true }
+        ensures sound { UnlessTold result StreamFault.WriteFailed
+            (StaysSound (O.has_failed out.old) (O.has_failed out.new)) }
         ensures part { OnErr result
             ((O.taken out.new ≡ O.taken out.old)
             ⊎ ((text : List ℕ) × IsTold (version_after self.old.version (note heard)) (note heard) text × AppendsFront (O.taken out.old) (O.taken out.new) text)) }
@@ -82,6 +85,8 @@ impl Caller {
             (self.new.version ≡ version_after self.old.version (note heard)) }
         ensures read { IsErrOf result StreamFault.ReadFailed → ⊥ }
         ensures written { IsErrOf result StreamFault.WriteFailed → O.has_failed out.new ≡ true }
+        ensures sound { UnlessTold result StreamFault.WriteFailed
+            (StaysSound (O.has_failed out.old) (O.has_failed out.new)) }
         ensures client { self.new.client ≡ self.old.client }
     {
         let Ok(failure) = failure_of(self.alloc, &heard) else {
@@ -106,6 +111,8 @@ impl Caller {
         ensures prints { OnOk result (PrintsSome (O.taken out.old) (O.taken out.new)) }
         ensures read { IsErrOf result StreamFault.ReadFailed → ⊥ }
         ensures written { IsErrOf result StreamFault.WriteFailed → O.has_failed out.new ≡ true }
+        ensures sound { UnlessTold result StreamFault.WriteFailed
+            (StaysSound (O.has_failed out.old) (O.has_failed out.new)) }
     {
         let Ok(request) = request.into_request(self.alloc, self.version) else {
             return Err(StreamFault::Memory);

@@ -4,6 +4,7 @@ ghost use Rattle.std.specs.Fmt.{decimal};
 ghost use Rattle.std.specs.Io.KnownBytes.{Appends};
 ghost use Rattle.client.specs.Notes.{note};
 ghost use Rattle.engine.specs.Views.{entries_view, entry_view};
+ghost use Rattle.streams.specs.Failing.{StaysSound, UnlessTold};
 ghost use Rattle.streams.specs.Fronts.{AppendsFront};
 ghost use Rattle.programs.specs.Looping.{entries_text, entry_line};
 ghost use Rattle.programs.specs.Serving.{conn_line};
@@ -24,6 +25,8 @@ pub(crate) fn put<O: Sink>(text: &[u8], out: &mut O) -> Result<(), StreamFault>
     ensures front { OnErr result (AppendsFront (O.taken out.old) (O.taken out.new) text.now) }
     ensures read { IsErrOf result StreamFault.ReadFailed → ⊥ }
     ensures written { IsErrOf result StreamFault.WriteFailed → O.has_failed out.new ≡ true }
+    ensures sound { UnlessTold result StreamFault.WriteFailed
+        (StaysSound (O.has_failed out.old) (O.has_failed out.new)) }
 {
     match write_all(out, text) {
         Ok(()) => Ok(()),
@@ -47,6 +50,8 @@ pub(crate) fn put_heard<O: Sink>(
         × AppendsFront (O.taken out.old) (O.taken out.new) text)) }
     ensures read { IsErrOf result StreamFault.ReadFailed → ⊥ }
     ensures written { IsErrOf result StreamFault.WriteFailed → O.has_failed out.new ≡ true }
+    ensures sound { UnlessTold result StreamFault.WriteFailed
+        (StaysSound (O.has_failed out.old) (O.has_failed out.new)) }
 {
     let Ok(line) = told(alloc, version, heard) else {
         return Err(StreamFault::Memory);
@@ -68,6 +73,8 @@ pub(crate) fn put_refused<O: Sink>(
         ⊎ AppendsFront (O.taken out.old) (O.taken out.new) (refused_line number code.now)) }
     ensures read { IsErrOf result StreamFault.ReadFailed → ⊥ }
     ensures written { IsErrOf result StreamFault.WriteFailed → O.has_failed out.new ≡ true }
+    ensures sound { UnlessTold result StreamFault.WriteFailed
+        (StaysSound (O.has_failed out.old) (O.has_failed out.new)) }
 {
     let Ok(text) = refused_text(alloc, number, code) else {
         return Err(StreamFault::Memory);

@@ -3,6 +3,7 @@ ghost use Rattle.std.specs.Prelude.{◌≡◌, ◌⊎◌, [], List, ℕ, true, S
 ghost use Rattle.std.specs.Result.{result_err};
 ghost use Rattle.scripts.specs.Rows.{request_line_of};
 ghost use Rattle.scripts.specs.Views.{Text, script_request_view};
+ghost use Rattle.streams.specs.Failing.{StaysSound, UnlessTold};
 ghost use Rattle.programs.specs.Talking.{IsAt, Stands, Streams, first_place, streams_at};
 ghost use Rattle.programs.specs.Shelling.{Begins, DoesLine, Progress, Runs, Sends, Shells, Takes, TakesByte};
 
@@ -57,6 +58,12 @@ impl Conversation {
         ensures read { IsErrOf result StreamFault.ReadFailed → S.has_failed source.new ≡ true }
         ensures written { IsErrOf result StreamFault.WriteFailed
             → (T.has_failed sink.new ≡ true) ⊎ (O.has_failed out.new ≡ true) }
+        ensures source { UnlessTold result StreamFault.ReadFailed
+            (StaysSound (S.has_failed source.old) (S.has_failed source.new)) }
+        ensures sink { UnlessTold result StreamFault.WriteFailed
+            (StaysSound (T.has_failed sink.old) (T.has_failed sink.new)) }
+        ensures out { UnlessTold result StreamFault.WriteFailed
+            (StaysSound (O.has_failed out.old) (O.has_failed out.new)) }
     {
         match self.caller.ask(source, sink, out, err) {
             Ok(()) => {}
@@ -81,6 +88,12 @@ impl Conversation {
             → S.has_failed source.new ≡ true }
         ensures written { IsErrOf result (Stop.Broken StreamFault.WriteFailed)
             → (T.has_failed sink.new ≡ true) ⊎ (O.has_failed out.new ≡ true) }
+        ensures source { UnlessTold result (Stop.Broken StreamFault.ReadFailed)
+            (StaysSound (S.has_failed source.old) (S.has_failed source.new)) }
+        ensures sink { UnlessTold result (Stop.Broken StreamFault.WriteFailed)
+            (StaysSound (T.has_failed sink.old) (T.has_failed sink.new)) }
+        ensures out { UnlessTold result (Stop.Broken StreamFault.WriteFailed)
+            (StaysSound (O.has_failed out.old) (O.has_failed out.new)) }
     {
         for byte in piece {
             match self.take_byte(*byte, source, sink, out, err) {
@@ -106,6 +119,12 @@ impl Conversation {
             → S.has_failed source.new ≡ true }
         ensures written { IsErrOf result (Stop.Broken StreamFault.WriteFailed)
             → (T.has_failed sink.new ≡ true) ⊎ (O.has_failed out.new ≡ true) }
+        ensures source { UnlessTold result (Stop.Broken StreamFault.ReadFailed)
+            (StaysSound (S.has_failed source.old) (S.has_failed source.new)) }
+        ensures sink { UnlessTold result (Stop.Broken StreamFault.WriteFailed)
+            (StaysSound (T.has_failed sink.old) (T.has_failed sink.new)) }
+        ensures out { UnlessTold result (Stop.Broken StreamFault.WriteFailed)
+            (StaysSound (O.has_failed out.old) (O.has_failed out.new)) }
     {
         if byte != b'\n' {
             return match self.begun.push(byte) {
@@ -141,6 +160,12 @@ impl Conversation {
             → S.has_failed source.new ≡ true }
         ensures written { IsErrOf result (Stop.Broken StreamFault.WriteFailed)
             → (T.has_failed sink.new ≡ true) ⊎ (O.has_failed out.new ≡ true) }
+        ensures source { UnlessTold result (Stop.Broken StreamFault.ReadFailed)
+            (StaysSound (S.has_failed source.old) (S.has_failed source.new)) }
+        ensures sink { UnlessTold result (Stop.Broken StreamFault.WriteFailed)
+            (StaysSound (T.has_failed sink.old) (T.has_failed sink.new)) }
+        ensures out { UnlessTold result (Stop.Broken StreamFault.WriteFailed)
+            (StaysSound (O.has_failed out.old) (O.has_failed out.new)) }
     {
         if self.begun.is_empty() {
             return Ok(());
@@ -173,6 +198,12 @@ impl Conversation {
         ensures read { IsErrOf result StreamFault.ReadFailed → S.has_failed source.new ≡ true }
         ensures written { IsErrOf result StreamFault.WriteFailed
             → (T.has_failed sink.new ≡ true) ⊎ (O.has_failed out.new ≡ true) }
+        ensures source { UnlessTold result StreamFault.ReadFailed
+            (StaysSound (S.has_failed source.old) (S.has_failed source.new)) }
+        ensures sink { UnlessTold result StreamFault.WriteFailed
+            (StaysSound (T.has_failed sink.old) (T.has_failed sink.new)) }
+        ensures out { UnlessTold result StreamFault.WriteFailed
+            (StaysSound (O.has_failed out.old) (O.has_failed out.new)) }
     {
         match self.caller.submit(self.number, request, out) {
             Ok(true) => self.caller.ask(source, sink, out, err),
@@ -196,6 +227,14 @@ fn run<I: Source, S: Source, T: Sink, O: Sink, E: Sink>(
         → (I.has_failed input.new ≡ true) ⊎ (S.has_failed source.new ≡ true) }
     ensures written { IsErrOf result (Stop.Broken StreamFault.WriteFailed)
         → (T.has_failed sink.new ≡ true) ⊎ (O.has_failed out.new ≡ true) }
+    ensures input { UnlessTold result (Stop.Broken StreamFault.ReadFailed)
+        (StaysSound (I.has_failed input.old) (I.has_failed input.new)) }
+    ensures source { UnlessTold result (Stop.Broken StreamFault.ReadFailed)
+        (StaysSound (S.has_failed source.old) (S.has_failed source.new)) }
+    ensures sink { UnlessTold result (Stop.Broken StreamFault.WriteFailed)
+        (StaysSound (T.has_failed sink.old) (T.has_failed sink.new)) }
+    ensures out { UnlessTold result (Stop.Broken StreamFault.WriteFailed)
+        (StaysSound (O.has_failed out.old) (O.has_failed out.new)) }
 {
     let mut conversation = match Conversation::new(alloc) {
         Ok(conversation) => conversation,
@@ -241,9 +280,14 @@ pub fn shell<I: Source, S: Source, T: Sink, O: Sink, E: Sink>(
 ) -> u8
     // The status says why it stops. Its lines are those of the input, up to its end or to the first that can't be read, whose number is told;
     // what was sent, read, printed and told is what the conversation over them has, each outcome at a loss with it.
-    ensures { Shells result ((I.has_failed input.new ≡ true) ⊎ (S.has_failed source.new ≡ true))
+    ensures shells { Shells result ((I.has_failed input.new ≡ true) ⊎ (S.has_failed source.new ≡ true))
         ((T.has_failed sink.new ≡ true) ⊎ (O.has_failed out.new ≡ true)) (I.left input.old)
         (I.left input.new) (streams_at (S.left source.old) (T.taken sink.old) (O.taken out.old) (E.taken err.old) (E.has_failed err.old)) (streams_at (S.left source.new) (T.taken sink.new) (O.taken out.new) (E.taken err.new) (E.has_failed err.new)) }
+    // A stream that fails is told so, with status 1: none fails where another is answered.
+    ensures sound { (result ≡ 1 → ⊥) → StaysSound (I.has_failed input.old) (I.has_failed input.new)
+        × StaysSound (S.has_failed source.old) (S.has_failed source.new)
+        × StaysSound (T.has_failed sink.old) (T.has_failed sink.new)
+        × StaysSound (O.has_failed out.old) (O.has_failed out.new) }
 {
     match run(alloc, input, source, sink, out, err) {
         Ok(()) => 0,

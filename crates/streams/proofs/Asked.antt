@@ -9,8 +9,9 @@ use Rattle.client.specs.declared.Outcome.{Outcome}
 use Rattle.client.specs.Rest.{Knows, Note, Rest, losses, after_drop, taken_out, awaits}
 use Rattle.streams.specs.declared.fault.StreamFault.{StreamFault}
 use Rattle.streams.specs.declared.fault.StreamFault.TheVariants as stream_fault
+use Rattle.streams.specs.Failing.{UnlessTold}
 use Rattle.streams.specs.Fronts.{AppendsFront}
-use Rattle.streams.specs.Asking.{hears_all, after_all, FeedsPiece, HearsPiece, IsNeeded, ReadsOn, ReadsAll, Writes, Asks, PutsOut, all_answered, GivesUp}
+use Rattle.streams.specs.Asking.{hears_all, after_all, FeedsPiece, HearsPiece, IsAwaited, IsNeeded, IsTurn, ReadsOn, ReadsAll, Writes, Asks, PutsOut, all_answered, GivesUp}
 use Rattle.streams.proofs.Parts.{take_short}
 use Rattle.streams.proofs.Tales.{hears_all-append, after_all-append}
 
@@ -51,6 +52,12 @@ awaits_open : (k : Knows) → awaits k ≡ true → k.over ≡ true → ⊥
 awaits_open k e o = let f : awaits k ≡ false = rw o refl in true≢false (sym e ∙ f)
 
 module _ (r : Rest) (left mid : Option (List ℕ)) (before notes : List Note) (Was : Rest → Type 0) (so : ReadsOn r left mid before notes Was) where
+  -- what was read so far was fed, all of it, where an answer is still to come
+  pub is_awaited : awaits (hears_all r so.fed).knows ≡ true → IsAwaited r left mid
+  is_awaited waits =
+      let none : so.unheard ≡ [] = ⊎_elim (λ e. e) (λ o. absurd (awaits_open (hears_all r so.fed).knows waits o)) so.whole in
+      (so.fed, subst (Consumes left mid) (ap (λ l. so.fed ++ l) none ∙ append-nil so.fed) so.input, waits)
+
   -- it stops
   stops : (left_now : Option (List ℕ)) (fault : Option StreamFault) → Consumes mid left_now [] → (fault ≡ None → IsAtEnd left_now ⊎ (awaits (hears_all r so.fed).knows ≡ false)) → ReadsAll r left left_now before notes Was fault
   stops left_now fault h e = record {
@@ -139,6 +146,10 @@ pub on_err : {T E : Type 0} (x : Result T E) (P : Type 0) → is_err x ≡ true 
 on_err (Ok t) P e h = absurd (true≢false (sym e))
 on_err (Err f) P e h = h
 
+pub unless_err : {T E : Type 0} (x : Result T E) (f : E) (So : Type 0) → UnlessTold x f So → (result_err x ≡ Some f → ⊥) → So
+unless_err (Ok t) f So h n = h
+unless_err (Err e) f So h n = h (λ q. n (ap Some q))
+
 pub never_written : (x : Result (Unit {0}) StreamFault) → IfErr x (λ e. e ≡ stream_fault.WriteFailed → ⊥) → result_err x ≡ Some stream_fault.WriteFailed → ⊥
 never_written (Ok t) h e = absurd cc
 never_written (Err f) h e = let same : f ≡ stream_fault.WriteFailed = cc in h same
@@ -188,6 +199,10 @@ asks_all r left left_now written written_now before after Was Now fault out neve
   whole = h.whole;
   ends = h.ends;
 }
+
+-- an answer is still to come where one is, of the client whose output was taken out
+pub is_turn : (r : Rest) (left left_now old new taken : Option (List ℕ)) (n : ℕ) → taken ≡ new → Appends old new r.unsent → IsAwaited (taken_out r n) left left_now → IsTurn r left left_now old taken
+is_turn r left left_now old new taken n e a h = record { awaited = (h.0, h.1, h.2); asked = subst (λ z. Appends old z r.unsent) (sym e) a }
 
 -- and what became of the client then
 pub asks_then : (r : Rest) (left left_now written written_now : Option (List ℕ)) (before after : List Note) (Was Now : Rest → Type 0) (fault : Option StreamFault) → Asks r left left_now written written_now before after Was fault → ((q : Rest) → Was q → Now q)

@@ -8,7 +8,8 @@ use Rattle.server.specs.declared.kinds.Refused.{Refused}
 use Rattle.server.specs.declared.kinds.Refused.TheVariants.{NoSuchConnection, SessionsFull, Memory}
 use Rattle.exchange.specs.declared.kinds.Worked.{Worked}
 use Rattle.exchange.specs.Rest.{Kept, worked_of, work_kept, commit_entries}
-use Rattle.server.specs.Serving.{Live, Rest, find, replace, with_kept, with_session, on_live, after_step, setting, work_at, Answers}
+use Rattle.server.specs.Serving.{Live, Rest, find, replace, with_kept, with_session, on_live, after_step, setting, work_at}
+use Rattle.server.proofs.Answered.{Answers}
 use Rattle.server.proofs.Runs.{find-conn}
 use Rattle.streams.specs.Conversing.{with_talk}
 use Rattle.streams.proofs.Seats.{find-replace, here, talk-found, talk-replaced}

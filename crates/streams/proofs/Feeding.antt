@@ -10,7 +10,8 @@ use Rattle.server.specs.declared.kinds.Took.{Took}
 use Rattle.exchange.specs.declared.kinds.What.{What}
 use Rattle.exchange.specs.Rest.{Kept, shut, full, after_item}
 use Rattle.server.specs.Feeding.{Feeding, feeding, takes_none, takes_item, arrival}
-use Rattle.server.specs.Serving.{Live, Rest, find, fed_live, with_session, feed_at, Answers}
+use Rattle.server.specs.Serving.{Live, Rest, find, fed_live, with_session, feed_at}
+use Rattle.server.proofs.Answered.{Answers}
 use Rattle.streams.specs.Conversing.{with_talk}
 use Rattle.streams.proofs.Called.{lives_on, found_again, called, some_first}
 
@@ -58,7 +59,3 @@ module _ {G : Type 0} (r : Rest G) (conn : ℕ) (i : IsSome (find conn r.session
   -- and where it isn't shut and took bytes, it took an item at most
   pub feed_takes : shut k ≡ false → 0 < took.used → Answers (Ok took) (feed_at conn piece (with_talk r conn u ledger k)) (with_talk r conn u ledger k) Now → (took.used ≡ t.used) × Now (with_talk r conn t.rest ledger (after_item k (arrival k t.item)))
   feed_takes s l h = by_full (shut k) (full k) s l (fed_there h)
-
-pub feed_refused : {G : Type 0} (r : Rest G) (conn : ℕ) (i : IsSome (find conn r.sessions)) (u : Opened) (ledger : List EntryView) (k : Kept) (piece : List ℕ) (e : Refused) (Now : Rest G → Type 0)
-    → Answers (Err e) (feed_at conn piece (with_talk r conn u ledger k)) (with_talk r conn u ledger k) Now → (v : Opened) × (l : Kept) × Now (with_talk r conn v ledger l)
-feed_refused r conn i u ledger k piece e Now h = (u, k, called r conn i u ledger k (λ s. fed_live s piece) (feeding u piece k).unfinished (feeding u piece k).kept refl (Err e) Now h)

@@ -9,7 +9,8 @@ use Rattle.server.specs.declared.kinds.Refused.{Refused}
 use Rattle.server.specs.declared.kinds.Took.{Took}
 use Rattle.exchange.specs.declared.kinds.Worked.{Worked}
 use Rattle.exchange.specs.Rest.{Kept, work_kept, commit_entries}
-use Rattle.server.specs.Serving.{Live, Rest, find, replace, on_live, fed_live, taken_from, setting, work_at, Answers}
+use Rattle.server.specs.Serving.{Live, Rest, find, replace, on_live, fed_live, taken_from, setting, work_at}
+use Rattle.server.proofs.Answered.{Answers}
 use Rattle.server.proofs.Runs.{find-conn}
 use Rattle.streams.specs.Conversing.{with_talk}
 use Rattle.streams.specs.Settling.{Grows, LivesOn}
@@ -41,8 +42,11 @@ module _ {G : Type 0} (conn : ℕ) where
   no_more r Now u k h = (u, k, [], subst (λ (l : List EntryView). Now (with_talk r conn u l k)) (sym (append-nil r.ledger)) h)
 
   -- nothing was done
+  pub lives_kept : (Old Now : Rest G → Type 0) → ((r : Rest G) → Old r → Now r) → LivesOn conn Old Now
+  lives_kept Old Now same r old i = by_talk r Old Now i old (λ u k h. no_more r Now u k (same (with_talk r conn u r.ledger k) h))
+
   pub lives_same : (Old : Rest G → Type 0) → LivesOn conn Old Old
-  lives_same Old r old i = by_talk r Old Old i old (λ u k h. no_more r Old u k h)
+  lives_same Old = lives_kept Old Old (λ r h. h)
 
   -- one thing after another
   pub lives_then : (Old Mid Now : Rest G → Type 0) → LivesOn conn Old Mid → LivesOn conn Mid Now → LivesOn conn Old Now

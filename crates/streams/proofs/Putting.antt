@@ -4,7 +4,8 @@ use Rattle.std.specs.Prelude.{IsSome}
 use Rattle.wire.specs.Framing.{Opened}
 use Rattle.engine.specs.Views.{EntryView}
 use Rattle.exchange.specs.Rest.{Kept, take_kept}
-use Rattle.server.specs.Serving.{Rest, find, taken_from, take_out_at, Answers, with_session, Live}
+use Rattle.server.specs.Serving.{Rest, find, taken_from, take_out_at, with_session, Live}
+use Rattle.server.proofs.Answered.{Answers}
 use Rattle.streams.specs.Conversing.{with_talk, heard_out}
 use Rattle.streams.proofs.Called.{lives_on, found_again, called}
 use Rattle.streams.proofs.Parts.{take_short}
@@ -22,6 +23,3 @@ module _ {G : Type 0} (max conn : ℕ) (r : Rest G) (i : IsSome (find conn r.ses
       let p = called r conn i u ledger k (taken_from max) u (take_kept max k) refl (Ok x) Now h in
       let t = take_short max k.unsent (subst (λ (z : List ℕ). length z < max) p.0 l) in
       (p.0 ∙ t.0, subst (λ (z : List ℕ). Now (with_talk r conn u ledger (record k { unsent = z }))) t.1 p.1)
-
-  pub out_refused : (e : Refused) → Answers (Err e) (take_out_at conn max (with_talk r conn u ledger k)) (with_talk r conn u ledger k) Now → Now (with_talk r conn u ledger k)
-  out_refused e h = called r conn i u ledger k (taken_from max) u (take_kept max k) refl (Err e) Now h

@@ -1,24 +1,18 @@
 -- What a client makes of its server's bytes, piece by piece.
 use Rattle.std.proofs.Common.{◌≡◌, refl, sym, ◌∙◌, ap, subst, ℕ, Bool, true, false, if◌then◌else◌, Option, Some, None, option_to_list, Result, Ok, Err, List, [], ◌∷◌, ◌++◌, take, drop, append_assoc, append-nil, take-append-drop, true≢false, inl, inr}
 use Rattle.std.specs.Prelude.{IsErrOf}
-use Rattle.packstream.specs.Tree.{Tree}
-use Rattle.wire.specs.declared.Version.{Version}
 use Rattle.wire.specs.declared.Wish.{Wish}
 use Rattle.wire.specs.Framing.{Item, Opened, at_client}
 use Rattle.wire.specs.Reader.{outputs, state, takes}
 use Rattle.wire.proofs.Readers.{outputs-append, state-append, takes_outputs}
-use Rattle.messages.specs.View.{RequestView, ResponseView}
 use Rattle.messages.specs.Arrivals.{Heard as AnyHeard}
-use Rattle.machine.specs.declared.Phase.{Phase}
-use Rattle.machine.specs.declared.Verdict.{Verdict}
-use Rattle.machine.specs.Asks.{kind_of, in_part}
 use Rattle.client.specs.declared.Heard.{Heard}
 use Rattle.client.specs.declared.ClientFault.{ClientFault}
 use Rattle.client.specs.declared.ClientFault.TheVariants as client_fault
-use Rattle.client.specs.Client.{is_wished, verdict_of, phase_accepted, resets}
-use Rattle.client.specs.Rest.{Knows, Hearing, after_bad_answer, hears_version, hears_row, hears_as, hears_verdict, hears_summary, hears_response, hears_item, heard_as, Note, Nothing, note_of, Rest, Fed, feed_of, fed_item, fed_open}
+use Rattle.client.specs.Rest.{Knows, Hearing, hears_item, heard_as, Note, Nothing, note_of, Rest, Fed, feed_of, fed_item, fed_open}
 use Rattle.client.specs.Notes.{note, note_result}
 use Rattle.client.specs.Fits.{UnlessMemory}
+use Rattle.client.proofs.Makes.{makes, spoiled_over}
 use Rattle.streams.specs.Asking.{notes_by, notes_of, Tale, after_notes, tale_of, hears_all, after_all, has_ended, FeedsPiece, PartFed}
 
 -- nothing is heard after the end
@@ -60,52 +54,6 @@ after_all-append r a b =
   where
     stands : Knows → Opened → Rest
     stands k i = record r { knows = k; item = i }
-
--- a bad answer ends a client
-module _ (wish : Wish) (k : Knows) where
-  abbrev Spoils : Hearing → Type 0
-  Spoils h = h.bad ≡ true → h.knows.over ≡ true
-
-  version_spoils : (o w : Option Version) → Spoils (hears_version wish k w o)
-  version_spoils (Some v) None h = pick (is_wished wish v) h
-    where
-      pick : (b : Bool) → Spoils (if b then record { knows = record k { version = Some v }; bad = false; tells = None } else after_bad_answer k)
-      pick true h = absurd (true≢false (sym h))
-      pick false h = refl
-  version_spoils None None h = refl
-  version_spoils o (Some w) h = refl
-
-  row_spoils : (cells : List Tree) (ws : List RequestView) → Spoils (hears_row k cells ws)
-  row_spoils cells [] h = refl
-  row_spoils cells (RequestView.Pull n ∷ ws) h = absurd (true≢false (sym h))
-  row_spoils cells (q ∷ ws) h = refl
-
-  summary_spoils : (a : ResponseView) (v : Option Version) (ws : List RequestView) → Spoils (hears_summary k a v ws)
-  summary_spoils a None ws h = refl
-  summary_spoils a (Some v) [] h = refl
-  summary_spoils a (Some v) (q ∷ later) h = go (verdict_of (in_part q) a) h
-    where
-      by_phase : (d : Verdict) (o : Option Phase) → Spoils (hears_as k later (kind_of q) d a o)
-      by_phase d None h = refl
-      by_phase d (Some p) h = absurd (true≢false (sym h))
-
-      go : (o : Option Verdict) → Spoils (hears_verdict k later v (kind_of q) a o)
-      go None h = refl
-      go (Some d) h = by_phase d (phase_accepted v k.phase (kind_of q) (resets later) d) h
-
-  response_spoils : (a : ResponseView) → Spoils (hears_response k a)
-  response_spoils (ResponseView.Record cells) h = row_spoils cells k.waiting h
-  response_spoils (ResponseView.Success metadata) h = summary_spoils (ResponseView.Success metadata) k.version k.waiting h
-  response_spoils ResponseView.Ignored h = summary_spoils ResponseView.Ignored k.version k.waiting h
-  response_spoils (ResponseView.Failure code message) h = summary_spoils (ResponseView.Failure code message) k.version k.waiting h
-
-  item_spoils : (x : AnyHeard) → Spoils (hears_item wish k x)
-  item_spoils (AnyHeard.Chosen o) h = version_spoils o k.version h
-  item_spoils AnyHeard.Strange h = refl
-  item_spoils AnyHeard.Quiet h = absurd (true≢false (sym h))
-  item_spoils (AnyHeard.Told a) h = response_spoils a h
-  item_spoils (AnyHeard.Unheard e) h = refl
-  item_spoils AnyHeard.Over h = refl
 
 -- so many bytes of a piece were fed, told nothing, and ended the client
 pub record EndsSilently (s : Rest) (piece : List ℕ) (Now : Rest → Type 0) : Type 0 where
@@ -196,7 +144,7 @@ module _ (s : Rest) (piece : List ℕ) (Now : Rest → Type 0) where
     by_bad false bad (Ok told) k = ok_after (tale_by false) (told_as false bad) told (ap used_in k.0) (append-nil _ ∙ sym (ap (λ z. notes_by (note_in Nothing z)) k.0)) k.1
     by_bad true bad (Err client_fault.Closed) k = absurd cc
     by_bad false bad (Err client_fault.Closed) k = absurd cc
-    by_bad true bad (Err client_fault.BadPeer) k = bad_after (tale_by true) (told_as true bad) refl (item_spoils s.wish s.knows y bad) k.1
+    by_bad true bad (Err client_fault.BadPeer) k = bad_after (tale_by true) (told_as true bad) refl (spoiled_over s.wish s.knows y h (makes s.wish s.knows y) bad) k.1
     by_bad false bad (Err client_fault.BadPeer) k = absurd cc
     by_bad b bad (Err client_fault.Memory) k = tt
 

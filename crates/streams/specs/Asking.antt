@@ -115,6 +115,16 @@ pub record HasNeededPiece (r : Rest) (bytes : List ℕ) : Type 0 where
 abbrev pub IsNeeded : Rest → List ℕ → Type 0
 IsNeeded r bytes = (bytes ≡ []) ⊎ HasNeededPiece r bytes
 
+-- an answer is still to come after the bytes that were read
+abbrev pub IsAwaited : Rest → Option (List ℕ) → Option (List ℕ) → Type 0
+IsAwaited r left left_now =
+    (read : List ℕ) × Consumes left left_now read × (awaits (hears_all r read).knows ≡ true)
+
+-- It is the server's turn: an answer is still to come after the bytes that were read, and the sink took all that the client puts out.
+pub record IsTurn (r : Rest) (left left_now old taken : Option (List ℕ)) : Type 0 where
+  pub awaited : IsAwaited r left left_now
+  pub asked : Appends old taken r.unsent
+
 -- Bytes were read, and fed but for those after the client's end.
 pub record ReadsOn (r : Rest) (left left_now : Option (List ℕ)) (before after : List Note)
     (Now : Rest → Type 0) : Type 0 where

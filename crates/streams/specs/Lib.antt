@@ -1,4 +1,5 @@
 pub mod Fronts
+pub mod Failing
 pub mod Asking
 pub mod Conversing
 pub mod Holding

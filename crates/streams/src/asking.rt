@@ -1,14 +1,16 @@
 //! A client asks its server for all that it waits for.
-ghost use Rattle.std.specs.Prelude.{◌≡◌, ◌<◌, ◌++◌, true, map, Some, [], IsErrOf, IfOk, IfErr, is_ok};
+ghost use Rattle.std.specs.Prelude.{◌≡◌, ◌<◌, ◌≤◌, ◌++◌, ℕ, true, map, Some, [], IsErrOf, IfOk, IfErr, is_ok};
 ghost use Rattle.std.specs.Result.{result_err};
 ghost use Rattle.std.specs.Vec.{vec_len, vec_capacity};
 ghost use Rattle.client.specs.Rest.{Rest};
 ghost use Rattle.client.specs.Notes.{note};
 ghost use Rattle.client.specs.Fits.{Fits};
-ghost use Rattle.streams.specs.Asking.{notes_by, has_ended, FeedsPiece, HearsPiece, ReadsAll, PutsOut, Asks, GivesUp};
+ghost use Rattle.streams.specs.Asking.{notes_by, has_ended, FeedsPiece, HearsPiece, IsAwaited, IsTurn, ReadsAll, PutsOut, Asks, GivesUp};
+ghost use Rattle.streams.specs.Failing.{StaysSound, UnlessTold};
+ghost use Rattle.streams.specs.Serving.{LetsRead};
 
 use crate::fault::StreamFault;
-use crate::traits::{Sink, Source};
+use crate::traits::{Peer, Sink};
 use crate::writing::write_all;
 use client::{Client, ClientFault, Heard, Losses};
 use std::alloc::Global;
@@ -78,21 +80,28 @@ pub fn feed_piece(
 }
 
 /// Reads a piece of at most 4,096 bytes and feeds it whole, or up to the client's end, and adds what was told. It answers whether there
-/// was a piece: none is the end of the input. I1 only where the source has failed; I3 where memory runs out: then some of it was fed.
-pub fn hear_piece<I: Source>(
+/// was a piece: none is the end of the input. I1 exactly where the source has failed; I3 where memory runs out: then some of it was fed.
+/// The sink is that of what the client puts out.
+pub fn hear_piece<I: Peer, O: Sink>(
     client: &mut Client,
     source: &mut I,
+    sink: &O,
     heard: &mut Vec<Heard>,
 ) -> Result<bool, StreamFault>
+    requires { (n : ℕ) → n ≤ 4096 → I.may_read source.old (O.taken sink.now) n }
     ensures hears { (r : Rest) → Fits client.old r
         → HearsPiece r (I.left source.old) (I.left source.new) (map note heard.old.items)
         (map note heard.new.items) (Fits client.new) result }
+    // A source that has failed is told so, and never taken for its end.
     ensures read { IsErrOf result StreamFault.ReadFailed → I.has_failed source.new ≡ true }
+    ensures sound { UnlessTold result StreamFault.ReadFailed
+        (StaysSound (I.has_failed source.old) (I.has_failed source.new)) }
+    ensures stays { I.has_failed source.old ≡ true → I.has_failed source.new ≡ true }
     ensures fault { IfErr result (λ e. e ≡ StreamFault.WriteFailed → ⊥) }
     ensures lowers { IfOk result (λ some. some ≡ true → I.reads source.new < I.reads source.old) }
 {
     let mut buffer = [0; PIECE];
-    let Ok(len) = source.read(&mut buffer) else {
+    let Ok(len) = source.read_after(sink, &mut buffer) else {
         return Err(StreamFault::ReadFailed);
     };
     if len == 0 {
@@ -105,19 +114,25 @@ pub fn hear_piece<I: Source>(
 }
 
 /// Reads and feeds as long as an answer is still to come, to the end of the input. I1 or I3.
-fn read_on<I: Source>(
+fn read_on<I: Peer, O: Sink>(
     client: &mut Client,
     source: &mut I,
+    sink: &O,
     heard: &mut Vec<Heard>,
 ) -> Result<(), StreamFault>
+    requires { LetsRead I.may_read (λ s taken. (taken ≡ O.taken sink.now)
+        × ((r : Rest) → Fits client.old r → IsAwaited r (I.left source.old) (I.left s))) }
     ensures reads { (r : Rest) → Fits client.old r
         → ReadsAll r (I.left source.old) (I.left source.new) (map note heard.old.items)
         (map note heard.new.items) (Fits client.new) (result_err result) }
     ensures read { IsErrOf result StreamFault.ReadFailed → I.has_failed source.new ≡ true }
+    ensures sound { UnlessTold result StreamFault.ReadFailed
+        (StaysSound (I.has_failed source.old) (I.has_failed source.new)) }
+    ensures stays { I.has_failed source.old ≡ true → I.has_failed source.new ≡ true }
     ensures fault { IfErr result (λ e. e ≡ StreamFault.WriteFailed → ⊥) }
 {
     while client.awaits() {
-        match hear_piece(client, source, heard) {
+        match hear_piece(client, source, sink, heard) {
             Ok(true) => {}
             Ok(false) => return Ok(()),
             Err(fault) => return Err(fault),
@@ -126,11 +141,14 @@ fn read_on<I: Source>(
     Ok(())
 }
 
-/// Writes all that the client puts out. I2, with a beginning of it written, or I3.
+/// Writes all that the client puts out. I2 where the sink fails, with a beginning of it written, or I3.
 pub fn write_out<O: Sink>(client: &mut Client, sink: &mut O) -> Result<(), StreamFault>
     ensures out { (r : Rest) → Fits client.old r
         → PutsOut r (O.taken sink.old) (O.taken sink.new) (Fits client.new) (result_err result) }
     ensures written { IsErrOf result StreamFault.WriteFailed → O.has_failed sink.new ≡ true }
+    ensures sound { UnlessTold result StreamFault.WriteFailed
+        (StaysSound (O.has_failed sink.old) (O.has_failed sink.new)) }
+    ensures stays { O.has_failed sink.old ≡ true → O.has_failed sink.new ≡ true }
     ensures fault { IfErr result (λ e. e ≡ StreamFault.ReadFailed → ⊥) }
 {
     let Ok(bytes) = client.take_out(usize::MAX) else {
@@ -156,41 +174,56 @@ pub fn give_up(client: &mut Client) -> Losses
 }
 
 /// Writes all that the client puts out, and then reads and feeds what it waits for.
-fn converse<I: Source, O: Sink>(
+fn converse<I: Peer, O: Sink>(
     client: &mut Client,
     source: &mut I,
     sink: &mut O,
     heard: &mut Vec<Heard>,
 ) -> Result<(), StreamFault>
+    requires { LetsRead I.may_read (λ s taken. (r : Rest) → Fits client.old r
+        → IsTurn r (I.left source.old) (I.left s) (O.taken sink.old) taken) }
     ensures asks { (r : Rest) → Fits client.old r
         → Asks r (I.left source.old) (I.left source.new) (O.taken sink.old) (O.taken sink.new)
         (map note heard.old.items) (map note heard.new.items) (Fits client.new)
         (result_err result) }
     ensures read { IsErrOf result StreamFault.ReadFailed → I.has_failed source.new ≡ true }
     ensures written { IsErrOf result StreamFault.WriteFailed → O.has_failed sink.new ≡ true }
+    ensures source { UnlessTold result StreamFault.ReadFailed
+        (StaysSound (I.has_failed source.old) (I.has_failed source.new)) }
+    ensures sink { UnlessTold result StreamFault.WriteFailed
+        (StaysSound (O.has_failed sink.old) (O.has_failed sink.new)) }
 {
     write_out(client, sink)?;
-    read_on(client, source, heard)
+    read_on(client, source, sink, heard)
 }
 
 /// Writes what a client puts out, then reads pieces of at most 4,096 bytes and feeds each whole, as long as an answer is still to
 /// come (a version, or the summary of a request that isn't GOODBYE), the client hasn't ended, and the input goes on. Unless all
 /// was answered by then, the client is lost.
 ///
-/// What is told is what the client makes of the bytes that were fed, however they were cut. I1 only where the source has failed,
-/// I2 only where the sink has: what was written is then a beginning of the output; I3 for want of memory. With each of them the
+/// What is told is what the client makes of the bytes that were fed, however they were cut. I1 where the source fails,
+/// I2 where the sink does: what was written is then a beginning of the output; I3 for want of memory. With each of them the
 /// client is lost too, unless all was answered.
-pub fn ask_all<I: Source, O: Sink>(
+pub fn ask_all<I: Peer, O: Sink>(
     alloc: Global,
     client: &mut Client,
     source: &mut I,
     sink: &mut O,
 ) -> Told
+    // A source that says when it may be read has to allow it where an answer is still to come after the bytes that were read, and the sink
+    // took all that the client puts out, for at most 4,096 bytes. No other read is made.
+    requires { LetsRead I.may_read (λ s taken. (r : Rest) → Fits client.old r
+        → IsTurn r (I.left source.old) (I.left s) (O.taken sink.old) taken) }
     ensures asks { (r : Rest) → Fits client.old r
         → Asks r (I.left source.old) (I.left source.new) (O.taken sink.old) (O.taken sink.new) []
         (map note result.heard.items) (GivesUp (Fits client.new) result.losses) result.fault }
     ensures read { result.fault ≡ Some StreamFault.ReadFailed → I.has_failed source.new ≡ true }
     ensures written { result.fault ≡ Some StreamFault.WriteFailed → O.has_failed sink.new ≡ true }
+    // A stream that fails is told.
+    ensures source { (result.fault ≡ Some StreamFault.ReadFailed → ⊥)
+        → StaysSound (I.has_failed source.old) (I.has_failed source.new) }
+    ensures sink { (result.fault ≡ Some StreamFault.WriteFailed → ⊥)
+        → StaysSound (O.has_failed sink.old) (O.has_failed sink.new) }
 {
     let mut heard = Vec::new(alloc);
     let fault = converse(client, source, sink, &mut heard).err();

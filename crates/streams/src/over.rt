@@ -1,7 +1,8 @@
 //! A source or a sink over a reader or a writer of the standard library.
-ghost use Rattle.std.specs.Prelude.{◌≡◌, ◌^◌, false};
+ghost use Rattle.std.specs.Prelude.{◌≡◌, ◌^◌, None, false, option_copied};
 
 use crate::traits::{Failed, Sink, Source};
+use std::io;
 use std::io::{Read, Write};
 
 /// The most reads of an `Over`.
@@ -14,6 +15,7 @@ pub struct Over<S> {
     stream: S,
     failed: bool,
     reads: u64,
+    error: Option<io::Error>,
 }
 
 impl<S> Over<S> {
@@ -21,12 +23,21 @@ impl<S> Over<S> {
         ensures stream { result.stream ≡ stream }
         ensures failed { result.failed ≡ false }
         ensures reads { result.reads ≡ 2 ^ 63 }
+        ensures error { result.error ≡ None }
     {
         Over {
             stream,
             failed: false,
             reads: MOST_READS,
+            error: None,
         }
+    }
+
+    /// The system's reason, where it has failed by an error of the stream.
+    pub fn error(&self) -> Option<&io::Error>
+        ensures { option_copied result ≡ self.now.error }
+    {
+        self.error.as_ref()
     }
 }
 
@@ -45,9 +56,13 @@ impl<R: Read> Source for Over<R> {
             self.failed = true;
             return Err(Failed);
         }
-        let Ok(n) = self.stream.read(buffer) else {
-            self.failed = true;
-            return Err(Failed);
+        let n = match self.stream.read(buffer) {
+            Ok(n) => n,
+            Err(error) => {
+                self.failed = true;
+                self.error = Some(error);
+                return Err(Failed);
+            }
         };
         self.reads -= 1;
         Ok(n)
@@ -66,9 +81,13 @@ impl<W: Write> Sink for Over<W> {
         if bytes.is_empty() {
             return Ok(0);
         }
-        let Ok(n) = self.stream.write(bytes) else {
-            self.failed = true;
-            return Err(Failed);
+        let n = match self.stream.write(bytes) {
+            Ok(n) => n,
+            Err(error) => {
+                self.failed = true;
+                self.error = Some(error);
+                return Err(Failed);
+            }
         };
         if n == 0 {
             self.failed = true;

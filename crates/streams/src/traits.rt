@@ -52,7 +52,7 @@ pub trait Sink {
         ensures bytes { WriteAppends (taken self.old) (taken self.new) result bytes.now };
 }
 
-/// Where the bytes of a peer come from that is answered: a source that may say when it is read. Every `Source` is one that may be read always.
+/// Where the bytes of a peer come from that is sent something too: a source that may say when it is read. Every `Source` is one that may be read always.
 pub trait Peer {
     // The bytes that are left, where they are known.
     ghost left: { Self → Option (List ℕ) };
@@ -65,7 +65,7 @@ pub trait Peer {
     // That so many bytes may be asked for once the sink of its answers has taken these.
     ghost may_read: { Self → Option (List ℕ) → ℕ → Type 0 };
 
-    /// Reads as a source does. The sink is that of the answers, and is left as it is.
+    /// Reads as a source does. The sink is that of what the peer is sent, and is left as it is.
     fn read_after<O: Sink>(&mut self, sink: &O, buffer: &mut [u8]) -> Result<usize, Failed>
         requires turn { may_read self.old (O.taken sink.now) (length buffer.old) }
         ensures failed { IsErr result ↔ (has_failed self.new ≡ true) }

@@ -1,8 +1,9 @@
 use Rattle.std.proofs.Common.{refl, rules}
-use Rattle.streams.specs.declared.fault.StreamFault.TheVariants.{ReadFailed}
+use Rattle.streams.specs.declared.fault.StreamFault.TheVariants.{ReadFailed, WriteFailed}
 use Rattle.client.specs.Fits.{Fits}
 use Rattle.programs.specs.Talking.{sent_out}
 use Rattle.programs.proofs.Heard.{not_written, written_then}
+use Rattle.programs.proofs.Stops.{unless_so}
 use Rattle.programs.proofs.calling.Caller.converse.Goals as goal
 
 pub returns-in-Ok-clause-converses : goal.returns-in-Ok-clause-converses
@@ -14,3 +15,6 @@ returns-in-Ok-clause-converses g c = λ p at.
 pub returns-in-Err-clause-converses : goal.returns-in-Err-clause-converses
 returns-in-Err-clause-converses g c = λ p at.
     not_written p c.in-Err.fault (g.S.Source.left c.args.source.now) (g.T.Sink.taken c.args.sink.now) (g.T.Sink.taken c.write_out.new.sink) (g.O.Sink.taken c.args.out.now) (record { client = c.write_out.new.client; version = c.args.self.now.version; alloc = c.args.self.now.alloc }) c.in-Err.ensures.fault (c.in-Err.ensures.out p.rest at.fits)
+
+pub returns-in-Ok-clause-sink : goal.returns-in-Ok-clause-sink
+returns-in-Ok-clause-sink g c = unless_so c.hear_all.result WriteFailed _ c.in-Ok.ensures.sound

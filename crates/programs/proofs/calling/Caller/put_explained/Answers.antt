@@ -2,10 +2,11 @@ use Rattle.std.proofs.Common.{◌∙◌, ◌++◌, refl, subst, ℕ, List, inl, 
 use Rattle.std.specs.Io.KnownBytes.{Appends}
 use Rattle.std.proofs.KnownBytes.{Appends-trans}
 use Rattle.client.specs.Notes.{note}
+use Rattle.streams.specs.declared.fault.StreamFault.TheVariants.{WriteFailed}
 use Rattle.streams.specs.Fronts.{AppendsFront}
 use Rattle.programs.specs.Telling.{failure_told}
 use Rattle.programs.proofs.Moved.{front_more, front_then}
-use Rattle.programs.proofs.Stops.{on_err_then, on_ok_then}
+use Rattle.programs.proofs.Stops.{on_err_then, on_ok_then, unless_then}
 use Rattle.programs.proofs.calling.Caller.put_explained.Goals as goal
 
 pub returns-in-Ok-put_heard-clause-told : goal.returns-in-Ok-put_heard-clause-told
@@ -37,3 +38,6 @@ returns-clause-part g c =
       told = (p.0, p.1, refl);
       printed = front_more old new p.0 (failure_told (note c.args.heard)) p.2;
     })) c.in-Err.ensures.part
+
+pub returns-in-Ok-put_heard-clause-sound : goal.returns-in-Ok-put_heard-clause-sound
+returns-in-Ok-put_heard-clause-sound g c = unless_then c.put.result WriteFailed _ _ (λ h e. c.in-Ok-put_heard.ensures.sound (h e)) c.put.ensures.sound

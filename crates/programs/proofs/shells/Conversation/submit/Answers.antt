@@ -1,9 +1,11 @@
 use Rattle.std.proofs.Common.{ap, subst, Bool, Ok, Err}
 use Rattle.scripts.specs.Meant.{meant}
 use Rattle.scripts.specs.Views.{script_request_view}
+use Rattle.streams.specs.declared.fault.StreamFault.TheVariants.{WriteFailed}
 use Rattle.programs.specs.Talking.{IsAt, streams_at}
 use Rattle.programs.specs.Shelling.{Submits}
 use Rattle.programs.proofs.Followed.{submit_failed, submit_refused, submit_taken}
+use Rattle.programs.proofs.Stops.{unless_then}
 use Rattle.programs.proofs.shells.Conversation.submit.Goals as goal
 
 pub returns-in-Ok-true-clause-submits : goal.returns-in-Ok-true-clause-submits
@@ -26,3 +28,6 @@ returns-in-Err-clause-submits g c = λ start done line r s.
     let q = script_request_view c.args.request in
     let here = streams_at (g.S.Source.left c.args.source.now) (g.T.Sink.taken c.args.sink.now) (g.O.Sink.taken c.args.out.now) (g.E.Sink.taken c.args.err.now) (g.E.Sink.has_failed c.args.err.now) in
     submit_failed start here done c.args.self.now.caller s c.args.self.now.number line q r (g.O.Sink.taken c.submit.new.out) (IsAt c.submit.new.self) c.in-Err.fault (λ e. c.in-Err.ensures.read (ap Err e)) (c.in-Err.ensures.submits s.place s.at) c.submit.new.self
+
+pub returns-in-Ok-true-clause-out : goal.returns-in-Ok-true-clause-out
+returns-in-Ok-true-clause-out g c = unless_then c.ask.result WriteFailed _ _ (λ h e. c.in-Ok-true.ensures.sound (h e)) c.ask.ensures.out
