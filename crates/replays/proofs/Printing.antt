@@ -9,7 +9,8 @@ use Rattle.world.specs.Reports.{ordinals, summaries_told, outcomes_at_loss, wait
 use Rattle.world.specs.Reported.{IsReport, standing_seen}
 use Rattle.world.specs.Views.{read_of}
 use Rattle.world.specs.declared.report.Connection.{Connection as ConnectionTold}
-use Rattle.replays.specs.Texts.{conn_line, read_line, lost_line, waits_line, standing_line, connection_text, connections_text}
+use Rattle.programs.specs.Telling.{lost_line}
+use Rattle.replays.specs.Texts.{conn_line, read_line, waits_line, standing_line, connection_text, connections_text}
 
 -- one more ordinal
 pub ordinals_more : (first count : ℕ) → ordinals first (suc count) ≡ ordinals first count ++ (first + count) ∷ []

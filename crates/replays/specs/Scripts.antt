@@ -15,9 +15,10 @@ pub record Says (put told : List ℕ) (ends : ℕ) (r : Replayed) : Type 0 where
   pub err : string_bytes r.err ≡ told
   pub status : r.status ≡ ends
 
--- what is told of a line that can't be read: its number, from 1
+-- what is told of a line that can't be read: its number, from 1, and then what is expected there
 abbrev pub unreadable_line : ℕ → List ℕ
-unreadable_line n = codes "line " ++ decimal n ++ codes " unreadable" ++ 10 ∷ []
+unreadable_line n = codes "line " ++ decimal n
+    ++ codes " unreadable\nexpected open newest, open 4.4, open 5.0, open 5.1, open foreign, submit K REQUEST, server K BYTES, client K BYTES, work K [all], noop K, cut K, clientlost K, serverlost K or foreign K HEX; BYTES is a number or all; REQUEST is hello, logon [bad], logoff, goodbye, reset, run TEXT HEX [r] [token T], begin [r] [token T], commit, rollback, discard N or pull N\n"
 
 -- the first line that can't be read has this number
 abbrev pub StopsAt : List ℕ → ℕ → Type 0

@@ -2,9 +2,8 @@
 use Rattle.std.specs.Prelude.{ℕ, suc, List, [], ◌∷◌, ◌++◌, codes}
 use Rattle.std.specs.List.{flat_map}
 use Rattle.std.specs.Fmt.{decimal}
-use Rattle.client.specs.declared.Outcome.{Outcome}
 use Rattle.programs.specs.Names.{outcome_name, phase_name, state_name, cause_code}
-use Rattle.programs.specs.Telling.{heard_line}
+use Rattle.programs.specs.Telling.{heard_line, lost_line}
 use Rattle.programs.specs.Looping.{entry_line}
 use Rattle.world.specs.Connections.{Connection}
 use Rattle.world.specs.World.{World, ledger}
@@ -13,10 +12,6 @@ use Rattle.world.specs.Reports.{ReadSummary, summaries_told, outcomes_at_loss, w
 -- the line of a summary that a client read: ordinal, outcome and phase
 abbrev pub read_line : ReadSummary → List ℕ
 read_line x = heard_line x.ordinal (outcome_name x.outcome) (phase_name x.phase)
-
--- the line of an outcome at a client's loss, with its request's ordinal
-abbrev pub lost_line : ℕ × Outcome → List ℕ
-lost_line x = codes "lost " ++ decimal x.0 ++ codes " " ++ outcome_name x.1 ++ 10 ∷ []
 
 -- the line of a request that waits, by its ordinal
 abbrev pub waits_line : ℕ → List ℕ

@@ -26,7 +26,7 @@ pub struct Replayed {
 
 /// Reads a script to its end, and only then runs it, by a world without connections over an empty `FixedTable` and the gate of
 /// `user` with `pass`. What is noted of its lines is said, and then the report. Of a script with a line that can't be read nothing is
-/// run: `line 3 unreadable` is said on standard error, with status 2. Where the source fails, `fault I1` is, with status 1.
+/// run: `line 3 unreadable` is said on standard error, and on the next line what is expected there, with status 2. Where the source fails, `fault I1` is, with status 1.
 pub fn replay<S: Source>(alloc: Global, source: &mut S) -> Result<Replayed, AllocError>
     ensures says { IfOk result
         (λ r. SaysSource (S.has_failed source.new) (S.left source.old) (S.left source.new) r) }
@@ -68,7 +68,9 @@ fn say_unreadable(alloc: Global, number: usize) -> Result<Replayed, AllocError>
 {
     Ok(Replayed {
         out: String::new(alloc),
-        err: format!(in alloc; "line {number} unreadable\n")?,
+        err: format!(in alloc;
+            "line {number} unreadable\nexpected open newest, open 4.4, open 5.0, open 5.1, open foreign, submit K REQUEST, server K BYTES, client K BYTES, work K [all], noop K, cut K, clientlost K, serverlost K or foreign K HEX; BYTES is a number or all; REQUEST is hello, logon [bad], logoff, goodbye, reset, run TEXT HEX [r] [token T], begin [r] [token T], commit, rollback, discard N or pull N\n"
+        )?,
         status: 2,
     })
 }

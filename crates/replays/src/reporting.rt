@@ -9,7 +9,8 @@ ghost use Rattle.world.specs.Reported.{IsReport, standing_seen};
 ghost use Rattle.world.specs.Views.{read_of};
 ghost use Rattle.world.specs.Turns.{FitsWorld, setting_of};
 ghost use Rattle.programs.specs.Looping.{entry_line};
-ghost use Rattle.replays.specs.Texts.{conn_line, connection_text, connections_text, lost_line, read_line, report_text, standing_line, waits_line};
+ghost use Rattle.programs.specs.Telling.{lost_line};
+ghost use Rattle.replays.specs.Texts.{conn_line, connection_text, connections_text, read_line, report_text, standing_line, waits_line};
 
 use crate::running::connection_at;
 use client::Outcome;

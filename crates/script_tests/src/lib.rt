@@ -3,6 +3,8 @@
 #![tactic(auto)]
 
 #[cfg(test)]
+mod cuts_tests;
+#[cfg(test)]
 mod pieces;
 #[cfg(test)]
 mod programs_tests;

@@ -253,7 +253,7 @@ fn shell_prints(rt: HostRuntime) {
 }
 
 /// A server with the user of the scripts, over an empty table.
-fn served(alloc: Global) -> Result<Server<FixedTable, OneUser>, Fail>
+pub(crate) fn served(alloc: Global) -> Result<Server<FixedTable, OneUser>, Fail>
     ensures { IfOk result (λ s. IsVacant ledger_of s) }
 {
     let gate = OneUser::new(alloc, "user", "pass")?;

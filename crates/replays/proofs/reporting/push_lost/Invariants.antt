@@ -1,6 +1,6 @@
 use Rattle.std.proofs.Common.{◌≡◌, ◌++◌, ◌-◌, take, string_bytes}
 use Rattle.std.specs.List.{flat_map}
-use Rattle.replays.specs.Texts.{lost_line}
+use Rattle.programs.specs.Telling.{lost_line}
 use Rattle.replays.proofs.reporting.push_lost.Given as goal
 
 abbrev pub invariant-loop-ordinal : goal.invariant-loop-ordinal
