@@ -1,5 +1,6 @@
 -- What is said where there are no words to tell a command by.
 use Rattle.std.specs.Prelude.{ℕ, List, [], ◌∷◌, ◌++◌, codes}
+use Rattle.commands.specs.Refusals.{help_text}
 use Rattle.bolt.specs.declared.starting.Unread.{Unread}
 use Rattle.bolt.specs.declared.starting.Unread.TheVariants.{Memory, NotText}
 
@@ -8,7 +9,7 @@ abbrev pub unread_status : Unread → ℕ
 unread_status Memory = 3
 unread_status NotText = 2
 
--- the line on standard error where the program's words can't be read
+-- what standard error gets where the program's words can't be read: a line, and behind that of a word that is no text the help
 abbrev pub unread_text : Unread → List ℕ
 unread_text Memory = codes "fault I3" ++ 10 ∷ []
-unread_text NotText = codes "error: a word is not UTF-8" ++ 10 ∷ []
+unread_text NotText = codes "error: a word is not UTF-8\n" ++ help_text

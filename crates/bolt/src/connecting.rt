@@ -5,11 +5,12 @@ ghost use Rattle.scripts.specs.Rows.{request_line_of};
 ghost use Rattle.scripts.specs.Script.{filled_lines, unreadable};
 ghost use Rattle.bolt.specs.Served.{IsServing, HasServedAll, listening_line};
 
-use crate::reasons::{put_connected, put_unreached, put_unread};
+use crate::reasons::{put_connected, put_failed, put_unreached, put_unread};
 use engine::{FixedTable, OneUser};
 use programs::{Channel, drain, put_fault, run_loop, serve_next, shell};
 use server::Server;
 use std::alloc::{AllocError, Global};
+use std::io::{Read, Write};
 use std::net::{Shutdown, TcpListener, TcpStream};
 use std::time::Duration;
 use std::{fs, io};
@@ -28,10 +29,8 @@ const SILENCE: u64 = 60;
 const LAST_WAIT: u64 = 1;
 
 /// A client at a shell, with the server at this port of the host: `fault I1` where it can't be reached, and on the next line why. Where it
-/// can, that is said on standard error.
+/// can, that is said on standard error. A stream that fails then is told with the system's reason too.
 pub(crate) fn shell_at(rt: &HostRuntime, host: &str, port: u16) -> u8 {
-    let mut input = Over::new(rt.stdin());
-    let mut out = Over::new(rt.stdout());
     let mut err = Over::new(rt.stderr());
     let stream = match TcpStream::connect(rt, (host, port)) {
         Ok(stream) => stream,
@@ -39,16 +38,27 @@ pub(crate) fn shell_at(rt: &HostRuntime, host: &str, port: u16) -> u8 {
     };
     put_connected(rt.alloc(), host, port, &mut err);
     send_at_once(&stream);
-    let mut source = Over::new(&stream);
-    let mut sink = Over::new(&stream);
-    shell(
-        rt.alloc(),
-        &mut input,
-        &mut source,
-        &mut sink,
-        &mut out,
-        &mut err,
-    )
+    talk(rt.alloc(), &stream, rt.stdin(), rt.stdout(), &mut err)
+}
+
+/// The same over a connection.
+pub(crate) fn talk<I: Read + Drop, O: Write + Drop, E: Sink>(
+    alloc: Global,
+    stream: &TcpStream,
+    input: I,
+    out: O,
+    err: &mut E,
+) -> u8 {
+    let mut input = Over::new(input);
+    let mut out = Over::new(out);
+    let mut source = Over::new(stream);
+    let mut sink = Over::new(stream);
+    let status = shell(alloc, &mut input, &mut source, &mut sink, &mut out, err);
+    put_failed(alloc, "standard input", &input, err);
+    put_failed(alloc, "the server", &source, err);
+    put_failed(alloc, "the server", &sink, err);
+    put_failed(alloc, "standard output", &out, err);
+    status
 }
 
 /// Serves so many connections at this port, one after the other: prints `listening PORT`, and then `conn K En` as each ends. A port that

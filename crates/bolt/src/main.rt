@@ -20,10 +20,10 @@ fn run(rt: &HostRuntime) -> u8 {
         Err(unread) => return refuse(unread, &mut err),
     };
     match asked(words.as_slice()) {
-        CommandLine::Loop { file } => return loop_through(rt, file),
-        CommandLine::Serve { port, count } => return serve_on(rt, port, count),
-        CommandLine::Shell { host, port } => return shell_at(rt, host, port),
-        CommandLine::Replay { file } => return replay_file(rt, words.as_slice(), file),
+        Ok(CommandLine::Loop { file }) => return loop_through(rt, file),
+        Ok(CommandLine::Serve { port, count }) => return serve_on(rt, port, count),
+        Ok(CommandLine::Shell { host, port }) => return shell_at(rt, host, port),
+        Ok(CommandLine::Replay { file }) => return replay_file(rt, words.as_slice(), file),
         _ => {}
     }
     let mut input = Over::new(rt.stdin());

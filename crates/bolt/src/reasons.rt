@@ -6,7 +6,7 @@ use programs::put_fault;
 use std::alloc::Global;
 use std::io;
 use std::io::ErrorKind;
-use streams::{Sink, StreamFault, write_all};
+use streams::{Over, Sink, StreamFault, write_all};
 
 /// Says why a file isn't had: the fault on a line, and on the next the file and the system's reason, where there is memory for it.
 /// It answers the exit status.
@@ -35,6 +35,15 @@ pub(crate) fn put_unreached<E: Sink>(
         let _ = write_all(err, text.as_bytes());
     }
     status
+}
+
+/// Says why a stream failed, where it did by an error of the system and there is memory for it: what it is, and the reason.
+pub(crate) fn put_failed<S, E: Sink>(alloc: Global, what: &str, stream: &Over<S>, err: &mut E) {
+    if let Some(error) = stream.error() {
+        if let Ok(text) = format!(in alloc; "{what}: {error}\n") {
+            let _ = write_all(err, text.as_bytes());
+        }
+    }
 }
 
 /// Says which host and port a shell is connected to, where there is memory for it.

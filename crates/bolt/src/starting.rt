@@ -1,8 +1,9 @@
 //! The words of the command line, before any command.
-ghost use Rattle.std.specs.Prelude.{◌≡◌, false};
-ghost use Rattle.std.specs.Io.KnownBytes.{Appends};
+ghost use Rattle.std.specs.Prelude.{◌≡◌};
+ghost use Rattle.programs.specs.Stopping.{Gets};
 ghost use Rattle.bolt.specs.Starting.{unread_status, unread_text};
 
+use commands::help_text;
 use std::env::Env;
 use std::io::ErrorKind;
 use streams::{Sink, write_all};
@@ -32,16 +33,30 @@ pub(crate) fn words_of<R: Env + AllocGlobal>(rt: &R) -> Result<Vec<String>, Unre
     Ok(words)
 }
 
-/// Says why there are no words, and answers the exit status. The texts are fixed, so that it takes no memory.
+/// Says why there are no words, behind a word that can't be read the help, and answers the exit status. The texts are fixed, so that it
+/// takes no memory.
 pub(crate) fn refuse<E: Sink>(unread: Unread, err: &mut E) -> u8
     ensures status { result ≡ unread_status unread }
-    ensures text { E.has_failed err.new ≡ false
-        → Appends (E.taken err.old) (E.taken err.new) (unread_text unread) }
+    ensures text { Gets (E.has_failed err.old) (E.has_failed err.new) (E.taken err.old)
+        (E.taken err.new) (unread_text unread) }
 {
-    let (text, status) = match unread {
-        Unread::Memory => (b"fault I3\n".as_slice(), 3),
-        Unread::NotText => (b"error: a word is not UTF-8\n".as_slice(), 2),
-    };
+    match unread {
+        Unread::Memory => {
+            tell(b"fault I3\n", err);
+            3
+        }
+        Unread::NotText => {
+            tell(b"error: a word is not UTF-8\n", err);
+            tell(help_text().as_bytes(), err);
+            2
+        }
+    }
+}
+
+/// Writes a text, as far as it is taken.
+fn tell<E: Sink>(text: &[u8], err: &mut E)
+    ensures { Gets (E.has_failed err.old) (E.has_failed err.new) (E.taken err.old) (E.taken err.new)
+        text.now }
+{
     let _ = write_all(err, text);
-    status
 }

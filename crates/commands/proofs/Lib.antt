@@ -4,3 +4,4 @@ pub mod Checkings
 pub mod CheckedOnce
 pub mod Found
 pub mod Inputs
+pub mod Flags

@@ -48,7 +48,7 @@ end_words (Over cause) = cause_words cause
 -- on standard output and standard error, with this status
 pub record Says (out err : List ℕ) (status : ℕ) (s : Said) : Type 0 where
   pub output : string_bytes s.out ≡ out
-  pub errors : string_bytes s.err ≡ err
+  pub errors : s.err.items ≡ err
   pub ends : s.status ≡ status
 
 -- that a text isn't hex of whole bytes: I4 on standard error, with status 2

@@ -1,10 +1,11 @@
 -- Laws of the answers.
-use Rattle.std.specs.Prelude.{◌≡◌, ℕ, List, string_bytes}
+use Rattle.std.specs.Prelude.{◌≡◌, ℕ, List, true, IsErr, string_bytes}
 use Rattle.packstream.specs.Plain.{AreBytes}
 use Rattle.wire.specs.declared.Version.{Version}
 use Rattle.streams.specs.declared.responding.End.{End}
 use Rattle.commands.specs.declared.checking.Checked.{Checked}
 use Rattle.commands.specs.declared.checking.Checked.TheVariants.{Fine, Refused, Unfit}
+use Rattle.commands.specs.Asked.{Text, has_flag, asked_words}
 use Rattle.commands.specs.Answers.{Answers}
 use Rattle.commands.specs.Checks.{Checks}
 
@@ -23,3 +24,7 @@ IsSameCheck c d = ⊥
 abbrev pub HasOneCheck : Type 0
 HasOneCheck = (v : Version) (b : List ℕ) (c d : Checked) → AreBytes b → Checks v b c → Checks v b d
     → IsSameCheck c d
+
+-- no command has a flag
+abbrev pub FlagsAreWrong : Type 0
+FlagsAreWrong = (words : List Text) → has_flag words ≡ true → IsErr (asked_words words)

@@ -4,3 +4,5 @@ pub mod Laws
 pub mod Checks
 pub mod Commands
 pub mod Asked
+pub mod Refusals
+pub mod Saying

@@ -2,17 +2,18 @@
 ghost use Rattle.std.specs.Prelude.{◌≡◌, ◌≤◌, ◌⊎◌, ℕ, List, [], ◌∷◌, ◌++◌, codes, string_bytes, true, false, map, IfOk, IsErr};
 ghost use Rattle.std.specs.Io.KnownBytes.{Appends, Consumes};
 ghost use Rattle.streams.specs.Fronts.{AppendsFront};
-ghost use Rattle.commands.specs.Asked.{Passage, SaysReplay, SaysVectors, SaysNoCommand, SaysTo, IsPut, ask_of_command, is_replay};
+ghost use Rattle.commands.specs.Asked.{ask_of, asked_words, wrong_of};
+ghost use Rattle.commands.specs.Saying.{IsPut, Passage, SaysCommand, SaysElsewhere, SaysNoCommand, SaysReplay, SaysTo, SaysVectors, is_replay, reads};
 ghost use Rattle.commands.specs.Commands.{Says, IsBadHex, SaysAnswer, SaysCheck, SaysChecked, SaysRefused};
 
 use crate::answering::{AnswerFault, answer};
+use crate::arguments::Wrong;
 use crate::checking::{Checked, check_text};
 use crate::codes::{cell_code, pack_code};
 use crate::end::end_text;
-use crate::parser::matches_of;
+use crate::refusal::refusal_text;
 use crate::vectors::{passes, vectors};
 use crate::words::{CommandLine, asked};
-use clap::error::{Error, ErrorKind};
 use replays::replay;
 use std::alloc::{AllocError, Global};
 use streams::{Sink, Source, write_all};
@@ -31,14 +32,15 @@ const NO_MEMORY: u8 = 3;
 #[derive(Debug, Drop)]
 pub struct Said {
     pub out: String,
-    pub err: String,
+    pub err: Vec<u8>,
     pub status: u8,
 }
 
 /// Does the command that the words, after the program's name, are: `answer HEX`, `check VERSION HEX`, `replay FILE`, of which the input
-/// stands for the file, or `vectors`. To the commands that `main` does it answers as to words that are none.
+/// stands for the file, or `vectors`. To words that are no command with just its arguments it says which of them is wrong and what is wanted
+/// there, and then the help; to words that ask for help, the help alone; and to the commands that `main` does, that they need a socket.
 /// The exit status is 0; 1 for a refused value, a failed vector and a stream that failed (`fault I1` for the input, `fault I2` for
-/// the output); 2 for words that are no command with just its arguments, for bad hex (`fault I4`), and for a script with a line that can't be
+/// the output); 2 for words that are none of these four commands, for bad hex (`fault I4`), and for a script with a line that can't be
 /// read; 3 for want of memory (`fault I3`).
 pub fn command<S: Source, O: Sink, E: Sink>(
     alloc: Global,
@@ -50,7 +52,7 @@ pub fn command<S: Source, O: Sink, E: Sink>(
     ensures status { result ≤ 3 }
     ensures failed { O.has_failed out.old ≡ true → O.has_failed out.new ≡ true }
     // Nothing is read but by a replay, which reads a beginning of what the input held.
-    ensures input { is_replay (ask_of_command (map string_bytes words.now)) ≡ false
+    ensures input { is_replay (asked_words (map string_bytes words.now)) ≡ false
         → input.new ≡ input.old }
     ensures read { (front : List ℕ) × Consumes (S.left input.old) (S.left input.new) front }
     // Want of memory puts nothing out, and says so.
@@ -66,7 +68,7 @@ pub fn command<S: Source, O: Sink, E: Sink>(
         } in
         let errors : Passage = record { before = E.taken err.old; after = E.taken err.new; had_failed = E.has_failed err.old; has_failed = E.has_failed err.new } in
         let source : Passage = record { before = S.left input.old; after = S.left input.new; had_failed = S.has_failed input.old; has_failed = S.has_failed input.new } in
-        (result ≡ 3) ⊎ ((s : Said) × SaysTo (ask_of_command (map string_bytes words.now)) source s × IsPut s output errors result) }
+        (result ≡ 3) ⊎ ((s : Said) × SaysTo (asked_words (map string_bytes words.now)) source s × IsPut s output errors result) }
 {
     match say(alloc, words, input) {
         Ok(said) => put_said(&said, out, err),
@@ -81,7 +83,7 @@ fn put_said<O: Sink, E: Sink>(said: &Said, out: &mut O, err: &mut E) -> u8
     ensures out { O.has_failed out.new ≡ false
         → Appends (O.taken out.old) (O.taken out.new) (string_bytes said.now.out) }
     ensures err { O.has_failed out.new ≡ false → E.has_failed err.new ≡ false
-        → Appends (E.taken err.old) (E.taken err.new) (string_bytes said.now.err) }
+        → Appends (E.taken err.old) (E.taken err.new) (said.now.err.items) }
     ensures stays { O.has_failed out.old ≡ true → O.has_failed out.new ≡ true }
     ensures out_fails { O.has_failed out.old ≡ false → O.has_failed out.new ≡ true → result ≡ 1 }
     ensures err_fails { E.has_failed err.old ≡ false → E.has_failed err.new ≡ true → result ≡ 1 }
@@ -93,7 +95,7 @@ fn put_said<O: Sink, E: Sink>(said: &Said, out: &mut O, err: &mut E) -> u8
     if write_all(out, said.out.as_bytes()).is_err() {
         return put_fault(b"fault I2\n", REFUSED, err);
     }
-    if write_all(err, said.err.as_bytes()).is_err() {
+    if write_all(err, said.err.as_slice()).is_err() {
         return REFUSED;
     }
     said.status
@@ -119,48 +121,67 @@ fn say<S: Source>(alloc: Global, words: &[String], input: &mut S) -> Result<Said
           had_failed = S.has_failed input.old;
           has_failed = S.has_failed input.new;
         } in
-        IfOk result (SaysTo (ask_of_command (map string_bytes words.now)) source) }
+        IfOk result (SaysTo (asked_words (map string_bytes words.now)) source) }
     ensures status { IfOk result (λ s. s.status ≤ 2) }
-    ensures input { is_replay (ask_of_command (map string_bytes words.now)) ≡ false
+    ensures input { is_replay (asked_words (map string_bytes words.now)) ≡ false
         → input.new ≡ input.old }
     ensures read { (front : List ℕ) × Consumes (S.left input.old) (S.left input.new) front }
 {
     match asked(words) {
+        Ok(command) => say_command(alloc, command, input),
+        Err(wrong) => say_no_command(alloc, wrong),
+    }
+}
+
+/// What a command says.
+fn say_command<S: Source>(
+    alloc: Global,
+    command: CommandLine<'_>,
+    input: &mut S,
+) -> Result<Said, AllocError>
+    ensures says { let source : Passage =
+        record {
+          before = S.left input.old;
+          after = S.left input.new;
+          had_failed = S.has_failed input.old;
+          has_failed = S.has_failed input.new;
+        } in
+        IfOk result (SaysCommand (ask_of command.entry) source) }
+    ensures status { IfOk result (λ s. s.status ≤ 2) }
+    ensures input { reads (ask_of command.entry) ≡ false → input.new ≡ input.old }
+    ensures read { (front : List ℕ) × Consumes (S.left input.old) (S.left input.new) front }
+{
+    match command {
         CommandLine::Answer { hex } => say_answer(alloc, hex),
         CommandLine::Check { version, hex } => say_check(alloc, version, hex),
         CommandLine::Replay { .. } => say_replay(alloc, input),
         CommandLine::Vectors => say_vectors(alloc),
-        CommandLine::Loop { .. } => say_nothing(alloc, words),
-        CommandLine::Serve { .. } => say_nothing(alloc, words),
-        CommandLine::Shell { .. } => say_nothing(alloc, words),
-        CommandLine::Nothing => say_nothing(alloc, words),
+        CommandLine::Loop { .. } => say_elsewhere(alloc),
+        CommandLine::Serve { .. } => say_elsewhere(alloc),
+        CommandLine::Shell { .. } => say_elsewhere(alloc),
     }
 }
 
-/// What is said to words that are no command with just its arguments: the parser's text, where it has one.
-fn say_nothing(alloc: Global, words: &[String]) -> Result<Said, AllocError>
-    ensures says { IfOk result (λ s. SaysNoCommand s) }
+/// That a command speaks to a socket, and not to these streams.
+fn say_elsewhere(alloc: Global) -> Result<Said, AllocError>
+    ensures says { IfOk result (λ s. SaysElsewhere s) }
+    ensures status { IfOk result (λ s. s.status ≤ 2) }
 {
-    if let Err(error) = matches_of(alloc, words) {
-        return say_error(alloc, &error);
-    }
     Ok(Said {
         out: String::new(alloc),
-        err: String::from_str(alloc, "error: these words are no command\n")?,
+        err: Vec::from_slice(alloc, b"error: this command needs a socket\n")?,
         status: UNREADABLE,
     })
 }
 
-/// What the parser says to words that are no command.
-fn say_error(alloc: Global, error: &Error) -> Result<Said, AllocError>
-    ensures says { IfOk result (λ s. SaysNoCommand s) }
+/// Which word is wrong, and the help.
+fn say_no_command(alloc: Global, wrong: Wrong<'_>) -> Result<Said, AllocError>
+    ensures says { IfOk result (λ s. SaysNoCommand (wrong_of wrong.entry) s) }
+    ensures status { IfOk result (λ s. s.status ≤ 2) }
 {
-    if error.kind() == ErrorKind::OutOfMemory {
-        return Err(AllocError);
-    }
     Ok(Said {
         out: String::new(alloc),
-        err: format!(in alloc; "{error}")?,
+        err: refusal_text(alloc, wrong)?,
         status: UNREADABLE,
     })
 }
@@ -170,7 +191,7 @@ fn say_bad_hex(alloc: Global) -> Result<Said, AllocError>
 {
     Ok(Said {
         out: String::new(alloc),
-        err: String::from_str(alloc, "fault I4\n")?,
+        err: Vec::from_slice(alloc, b"fault I4\n")?,
         status: UNREADABLE,
     })
 }
@@ -180,7 +201,7 @@ fn say_out(alloc: Global, out: String, status: u8) -> Said
 {
     Said {
         out,
-        err: String::new(alloc),
+        err: Vec::new(alloc),
         status,
     }
 }
@@ -254,7 +275,7 @@ fn say_replay<S: Source>(alloc: Global, input: &mut S) -> Result<Said, AllocErro
     let said = replay(alloc, input)?;
     Ok(Said {
         out: said.out,
-        err: said.err,
+        err: said.err.into_bytes(),
         status: said.status,
     })
 }

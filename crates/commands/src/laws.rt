@@ -1,5 +1,5 @@
 //! What holds of the answers, whatever gives them. Each function has an empty body, and its contract is the law.
-ghost use Rattle.commands.specs.Laws.{HasOneAnswer, HasOneCheck};
+ghost use Rattle.commands.specs.Laws.{FlagsAreWrong, HasOneAnswer, HasOneCheck};
 
 /// Bytes have one answer.
 pub fn has_one_answer()
@@ -9,4 +9,9 @@ pub fn has_one_answer()
 /// A check of bytes tells one thing at a version.
 pub fn has_one_check()
     ensures { HasOneCheck }
+{}
+
+/// No command has a flag: a word of a hyphen and more, after the program's name.
+pub fn flags_are_wrong()
+    ensures { FlagsAreWrong }
 {}

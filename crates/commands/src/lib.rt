@@ -4,17 +4,21 @@
 #![tactic(auto)]
 
 mod answering;
+mod arguments;
 mod checking;
 mod codes;
 mod commands;
 mod end;
+mod help;
 pub mod laws;
-mod parser;
+mod refusal;
 mod samples;
 mod vectors;
 mod words;
 
 pub use answering::{AnswerFault, Answered, answer};
+pub use arguments::{Wanted, Wrong};
 pub use commands::command;
 pub use end::end_text;
+pub use help::help_text;
 pub use words::{CommandLine, asked};

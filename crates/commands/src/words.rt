@@ -1,9 +1,10 @@
 //! What the words of a command line ask for.
-ghost use Rattle.std.specs.Prelude.{◌≡◌, map, string_bytes};
-ghost use Rattle.std.specs.List.{list_any};
-ghost use Rattle.commands.specs.Asked.{ask_of, ask_of_command, asked_answer, asked_by, asked_check, asked_loop, ask_of_words, asked_replay, asked_serve, asked_shell, asked_vectors, check_at, count_at, has_flag, is_flag, port_at, serve_at, serve_by, shell_at, version_at};
+ghost use Rattle.std.specs.Prelude.{map, string_bytes};
+ghost use Rattle.commands.specs.Asked.{Gives, ask_of, asked_answer, asked_by, asked_check, asked_loop, asked_replay, asked_serve, asked_shell, asked_vectors, asked_words};
 
-use scripts::number_of;
+use crate::arguments::{
+    Wanted, Wrong, first_count, first_plain, first_port, first_version, no_more,
+};
 use wire::Version;
 
 /// What words ask for.
@@ -15,245 +16,131 @@ pub enum CommandLine<'a> {
     Check { version: Version, hex: &'a str },
     /// What a script's lines do to a world, and its report. The script is this file.
     Replay { file: &'a str },
-    /// The request lines of this file, by both ends over a socket. the program does it itself.
+    /// The request lines of this file, by both ends over a socket, which the program has.
     Loop { file: &'a str },
-    /// A server of so many connections at this port. the program does it itself.
+    /// A server of so many connections at this port, over sockets that the program has.
     Serve { port: u16, count: u32 },
     /// The test vectors.
     Vectors,
-    /// A client at a shell, with the server at this port of the host. the program does it itself.
+    /// A client at a shell, with the server at this port of the host, over a socket that the program has.
     Shell { host: &'a str, port: u16 },
-    /// No command with just its arguments.
-    Nothing,
 }
 
-/// What the words, of which the first is the program's name, ask for. No command has a flag.
-pub fn asked<'a>(words: &'a [String]) -> CommandLine<'a>
-    ensures { ask_of result ≡ ask_of_command (map string_bytes words.entry.now) }
-{
-    if has_flags(words) {
-        return CommandLine::Nothing;
-    }
-    plain(words)
-}
-
-/// The same, whether or not one of them is a flag.
-fn plain<'a>(words: &'a [String]) -> CommandLine<'a>
-    ensures { ask_of result ≡ ask_of_words (map string_bytes words.entry.now) }
+/// What the words, of which the first is the program's name, ask for; or the first that makes them no command with just its arguments, and
+/// what has to stand there. No command has a flag: a hyphen and more is never what is wanted.
+pub fn asked<'a>(words: &'a [String]) -> Result<CommandLine<'a>, Wrong<'a>>
+    ensures { Gives ask_of result (asked_words (map string_bytes words.entry.now)) }
 {
     let Some((_, after)) = words.split_first() else {
-        return CommandLine::Nothing;
+        return Err(Wrong {
+            number: 1,
+            word: None,
+            wanted: Wanted::Command,
+        });
     };
-    let Some((name, arguments)) = after.split_first() else {
-        return CommandLine::Nothing;
+    let Some((name, rest)) = after.split_first() else {
+        return Err(Wrong {
+            number: 1,
+            word: None,
+            wanted: Wanted::Command,
+        });
     };
-    by_name(name.as_str(), arguments)
+    by_name(name.as_str(), rest)
 }
 
 /// A command by its name.
-fn by_name<'a>(name: &str, arguments: &'a [String]) -> CommandLine<'a>
-    ensures { ask_of result ≡ asked_by name.now (map string_bytes arguments.entry.now) }
+fn by_name<'a>(name: &'a str, rest: &'a [String]) -> Result<CommandLine<'a>, Wrong<'a>>
+    ensures { Gives ask_of result (asked_by name.entry.now (map string_bytes rest.entry.now)) }
 {
     if name == "answer" {
-        return answer(arguments);
+        return answer(rest);
     }
     if name == "check" {
-        return check(arguments);
+        return check(rest);
     }
     if name == "replay" {
-        return replay(arguments);
+        return replay(rest);
     }
     if name == "loop" {
-        return looped(arguments);
+        return looped(rest);
     }
     if name == "serve" {
-        return serve(arguments);
+        return serve(rest);
     }
     if name == "vectors" {
-        return vectors(arguments);
+        return vectors(rest);
     }
     if name == "shell" {
-        return shell(arguments);
+        return shell(rest);
     }
-    CommandLine::Nothing
+    Err(Wrong {
+        number: 1,
+        word: Some(name),
+        wanted: Wanted::Command,
+    })
 }
 
 /// `answer HEX`.
-fn answer<'a>(arguments: &'a [String]) -> CommandLine<'a>
-    ensures { ask_of result ≡ asked_answer (map string_bytes arguments.entry.now) }
+fn answer<'a>(words: &'a [String]) -> Result<CommandLine<'a>, Wrong<'a>>
+    ensures { Gives ask_of result (asked_answer (map string_bytes words.entry.now)) }
 {
-    match arguments {
-        [hex] => CommandLine::Answer { hex: hex.as_str() },
-        _ => CommandLine::Nothing,
-    }
+    let (hex, rest) = first_plain(2, Wanted::Hex, words)?;
+    no_more(3, rest)?;
+    Ok(CommandLine::Answer { hex })
 }
 
 /// `check VERSION HEX`.
-fn check<'a>(arguments: &'a [String]) -> CommandLine<'a>
-    ensures { ask_of result ≡ asked_check (map string_bytes arguments.entry.now) }
+fn check<'a>(words: &'a [String]) -> Result<CommandLine<'a>, Wrong<'a>>
+    ensures { Gives ask_of result (asked_check (map string_bytes words.entry.now)) }
 {
-    match arguments {
-        [version, hex] => check_of(version_of(version.as_str()), hex.as_str()),
-        _ => CommandLine::Nothing,
-    }
-}
-
-fn check_of<'a>(version: Option<Version>, hex: &'a str) -> CommandLine<'a>
-    ensures { ask_of result ≡ check_at version hex.entry.now }
-{
-    match version {
-        Some(version) => CommandLine::Check { version, hex },
-        None => CommandLine::Nothing,
-    }
+    let (version, after) = first_version(2, words)?;
+    let (hex, rest) = first_plain(3, Wanted::Hex, after)?;
+    no_more(4, rest)?;
+    Ok(CommandLine::Check { version, hex })
 }
 
 /// `replay FILE`.
-fn replay<'a>(arguments: &'a [String]) -> CommandLine<'a>
-    ensures { ask_of result ≡ asked_replay (map string_bytes arguments.entry.now) }
+fn replay<'a>(words: &'a [String]) -> Result<CommandLine<'a>, Wrong<'a>>
+    ensures { Gives ask_of result (asked_replay (map string_bytes words.entry.now)) }
 {
-    match arguments {
-        [file] => CommandLine::Replay {
-            file: file.as_str(),
-        },
-        _ => CommandLine::Nothing,
-    }
+    let (file, rest) = first_plain(2, Wanted::File, words)?;
+    no_more(3, rest)?;
+    Ok(CommandLine::Replay { file })
 }
 
 /// `loop FILE`.
-fn looped<'a>(arguments: &'a [String]) -> CommandLine<'a>
-    ensures { ask_of result ≡ asked_loop (map string_bytes arguments.entry.now) }
+fn looped<'a>(words: &'a [String]) -> Result<CommandLine<'a>, Wrong<'a>>
+    ensures { Gives ask_of result (asked_loop (map string_bytes words.entry.now)) }
 {
-    match arguments {
-        [file] => CommandLine::Loop {
-            file: file.as_str(),
-        },
-        _ => CommandLine::Nothing,
-    }
+    let (file, rest) = first_plain(2, Wanted::File, words)?;
+    no_more(3, rest)?;
+    Ok(CommandLine::Loop { file })
 }
 
 /// `serve PORT COUNT`.
-fn serve<'a>(arguments: &'a [String]) -> CommandLine<'a>
-    ensures { ask_of result ≡ asked_serve (map string_bytes arguments.entry.now) }
+fn serve<'a>(words: &'a [String]) -> Result<CommandLine<'a>, Wrong<'a>>
+    ensures { Gives ask_of result (asked_serve (map string_bytes words.entry.now)) }
 {
-    match arguments {
-        [port, count] => serve_by(port.as_str(), count.as_str()),
-        _ => CommandLine::Nothing,
-    }
-}
-
-/// A server by two words.
-#[tactic(auto, unfolding(crate::specs::Asked::serve_by))]
-fn serve_by<'a>(port: &str, count: &str) -> CommandLine<'a>
-    ensures { ask_of result ≡ serve_by port.now count.now }
-{
-    serve_of(port_of(port), count_of(count))
-}
-
-fn serve_of<'a>(port: Option<u16>, count: Option<u32>) -> CommandLine<'a>
-    ensures { ask_of result ≡ serve_at port count }
-{
-    let Some(port) = port else {
-        return CommandLine::Nothing;
-    };
-    match count {
-        Some(count) => CommandLine::Serve { port, count },
-        None => CommandLine::Nothing,
-    }
-}
-
-/// The count of a word: 0 to 1,000,000.
-fn count_of(word: &str) -> Option<u32>
-    ensures { result ≡ count_at word.now }
-{
-    let number = number_of(word)?;
-    if number > 1_000_000 {
-        return None;
-    }
-    Some(number as u32)
+    let (port, after) = first_port(2, words)?;
+    let (count, rest) = first_count(3, after)?;
+    no_more(4, rest)?;
+    Ok(CommandLine::Serve { port, count })
 }
 
 /// `vectors`.
-fn vectors<'a>(arguments: &'a [String]) -> CommandLine<'a>
-    ensures { ask_of result ≡ asked_vectors (map string_bytes arguments.entry.now) }
+fn vectors<'a>(words: &'a [String]) -> Result<CommandLine<'a>, Wrong<'a>>
+    ensures { Gives ask_of result (asked_vectors (map string_bytes words.entry.now)) }
 {
-    if arguments.is_empty() {
-        CommandLine::Vectors
-    } else {
-        CommandLine::Nothing
-    }
+    no_more(2, words)?;
+    Ok(CommandLine::Vectors)
 }
 
 /// `shell HOST PORT`.
-fn shell<'a>(arguments: &'a [String]) -> CommandLine<'a>
-    ensures { ask_of result ≡ asked_shell (map string_bytes arguments.entry.now) }
+fn shell<'a>(words: &'a [String]) -> Result<CommandLine<'a>, Wrong<'a>>
+    ensures { Gives ask_of result (asked_shell (map string_bytes words.entry.now)) }
 {
-    match arguments {
-        [host, port] => shell_of(host.as_str(), port_of(port.as_str())),
-        _ => CommandLine::Nothing,
-    }
-}
-
-fn shell_of<'a>(host: &'a str, port: Option<u16>) -> CommandLine<'a>
-    ensures { ask_of result ≡ shell_at host.entry.now port }
-{
-    match port {
-        Some(port) => CommandLine::Shell { host, port },
-        None => CommandLine::Nothing,
-    }
-}
-
-/// The port of a word: 1 to 65,535.
-fn port_of(word: &str) -> Option<u16>
-    ensures { result ≡ port_at word.now }
-{
-    let number = number_of(word)?;
-    if number == 0 || number > 65535 {
-        return None;
-    }
-    Some(number as u16)
-}
-
-/// The version of a word.
-fn version_of(word: &str) -> Option<Version>
-    ensures { result ≡ version_at word.now }
-{
-    if word == "4.4" {
-        Some(Version::V44)
-    } else if word == "5.0" {
-        Some(Version::V50)
-    } else if word == "5.1" {
-        Some(Version::V51)
-    } else {
-        None
-    }
-}
-
-/// Whether a word after the program's name is a flag.
-fn has_flags(words: &[String]) -> bool
-    ensures { result ≡ has_flag (map string_bytes words.now) }
-{
-    match words.split_first() {
-        None => false,
-        Some((_, rest)) => are_flags(rest),
-    }
-}
-
-/// Whether one of the words is a flag.
-fn are_flags(words: &[String]) -> bool
-    ensures { result ≡ list_any is_flag (map string_bytes words.now) }
-{
-    for word in words {
-        if starts_a_flag(word.as_str()) {
-            return true;
-        }
-    }
-    false
-}
-
-/// A hyphen and more.
-fn starts_a_flag(word: &str) -> bool
-    ensures { result ≡ is_flag word.now }
-{
-    let bytes = word.as_bytes();
-    bytes.len() > 1 && bytes[0] == b'-'
+    let (host, after) = first_plain(2, Wanted::Host, words)?;
+    let (port, rest) = first_port(3, after)?;
+    no_more(4, rest)?;
+    Ok(CommandLine::Shell { host, port })
 }

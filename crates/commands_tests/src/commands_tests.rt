@@ -1,5 +1,5 @@
 use crate::cases::CASES;
-use commands::{AnswerFault, answer, command, end_text};
+use commands::{AnswerFault, answer, command, end_text, help_text};
 use std::alloc::Global;
 use std::process::Abort;
 use std::test::Fail;
@@ -8,6 +8,10 @@ use streams::{Buffer, Failed, Sink, Slice};
 /// A handshake for 5.1 and 4.4, then HELLO with a user agent.
 const HELLO: &str =
     "6060B017000001050000040400000000000000000012B101A18A757365725F6167656E7483742F310000";
+
+/// What is expected of a line of a script.
+const EXPECTED: &str =
+    "expected open newest, open 4.4, open 5.0, open 5.1, open foreign, submit K REQUEST, server K BYTES, client K BYTES, work K [all], noop K, cut K, clientlost K, serverlost K or foreign K HEX; BYTES is a number or all; REQUEST is hello, logon [bad], logoff, goodbye, reset, run TEXT HEX [r] [token T], begin [r] [token T], commit, rollback, discard N or pull N\n";
 
 const SUCCESS: &str =
     "00000105002bb170a2867365727665728b426f6c745461626c652f318d636f6e6e656374696f6e5f696486626f6c742d300000";
@@ -338,27 +342,176 @@ fn tells_a_failed_stream(rt: HostRuntime) -> Result<(), Fail> {
     Ok(())
 }
 
+/// Words that are no command, and the line that says which of them is wrong and what is wanted there.
+const WRONG: &[(&[&str], &str)] = &[
+    (
+        &["serve", "0", "1"],
+        "error: word 2 is `0`, wanted is PORT, a number from 1 to 65535",
+    ),
+    (
+        &["serve", "99999", "1"],
+        "error: word 2 is `99999`, wanted is PORT, a number from 1 to 65535",
+    ),
+    (
+        &["serve", "x", "1"],
+        "error: word 2 is `x`, wanted is PORT, a number from 1 to 65535",
+    ),
+    (
+        &["serve", "--", "1"],
+        "error: word 2 is `--`, wanted is PORT, a number from 1 to 65535",
+    ),
+    (
+        &["serve", "7687", "1000001"],
+        "error: word 3 is `1000001`, wanted is COUNT, a number from 0 to 1000000",
+    ),
+    (
+        &["serve", "7687", "-1"],
+        "error: word 3 is `-1`, wanted is COUNT, a number from 0 to 1000000",
+    ),
+    (
+        &["serve", "7687"],
+        "error: word 3 is missing, wanted is COUNT, a number from 0 to 1000000",
+    ),
+    (
+        &["serve"],
+        "error: word 2 is missing, wanted is PORT, a number from 1 to 65535",
+    ),
+    (
+        &["serve", "7687", "1", "x"],
+        "error: word 4 is `x`, wanted is no further word",
+    ),
+    (
+        &["shell", "localhost", "65536"],
+        "error: word 3 is `65536`, wanted is PORT, a number from 1 to 65535",
+    ),
+    (
+        &["shell", "-4", "7687"],
+        "error: word 2 is `-4`, wanted is HOST, a name or an address that begins with no hyphen",
+    ),
+    (
+        &["check", "5.2", "01"],
+        "error: word 2 is `5.2`, wanted is VERSION, which is 4.4, 5.0 or 5.1",
+    ),
+    (
+        &["check", "5.1"],
+        "error: word 3 is missing, wanted is HEX, bytes as pairs of hex digits",
+    ),
+    (
+        &["answer", "--", "6060"],
+        "error: word 2 is `--`, wanted is HEX, bytes as pairs of hex digits",
+    ),
+    (
+        &["answer"],
+        "error: word 2 is missing, wanted is HEX, bytes as pairs of hex digits",
+    ),
+    (
+        &["replay", "one", "two"],
+        "error: word 3 is `two`, wanted is no further word",
+    ),
+    (
+        &["loop", "-f"],
+        "error: word 2 is `-f`, wanted is FILE, a path that begins with no hyphen",
+    ),
+    (
+        &["vectors", "01"],
+        "error: word 2 is `01`, wanted is no further word",
+    ),
+    (
+        &["serv", "7687"],
+        "error: word 1 is `serv`, wanted is a command, perhaps serve",
+    ),
+    (
+        &["cehck"],
+        "error: word 1 is `cehck`, wanted is a command, perhaps check",
+    ),
+    (
+        &["lo"],
+        "error: word 1 is `lo`, wanted is a command, perhaps loop",
+    ),
+    (&["dance"], "error: word 1 is `dance`, wanted is a command"),
+    (
+        &["--version"],
+        "error: word 1 is `--version`, wanted is a command",
+    ),
+    (&[""], "error: word 1 is ``, wanted is a command"),
+    (
+        &["a\nheard 4 Committed Ready"],
+        "error: word 1 is `a\\nheard 4 Committed Ready`, wanted is a command",
+    ),
+    (
+        &["serve", "\u{1b}[2J", "1"],
+        "error: word 2 is `\\u{1b}[2J`, wanted is PORT, a number from 1 to 65535",
+    ),
+];
+
+/// Words that ask for help.
+const HELPED: &[&[&str]] = &[
+    &[],
+    &["help"],
+    &["--help"],
+    &["-h"],
+    &["help", "serve"],
+    &["serve", "--help"],
+];
+
+/// Lines of the help: each command with its words, an example of each, and what each exit status means.
+const HELP: &[&str] = &[
+    "  answer HEX  ",
+    "  check VERSION HEX  ",
+    "  replay FILE  ",
+    "  loop FILE  ",
+    "  serve PORT COUNT  ",
+    "  vectors  ",
+    "  shell HOST PORT  ",
+    "   bolt answer 6060",
+    "   bolt check 5.1 C90001\n",
+    "   bolt replay script.txt\n",
+    "   bolt loop requests.txt\n",
+    "   bolt serve 7687 1\n",
+    "   bolt vectors\n",
+    " | bolt shell 127.0.0.1 7687\n",
+    "\n  0  ",
+    "\n  1  ",
+    "\n  2  ",
+    "\n  3  ",
+];
+
 #[test]
-fn refuses_other_words(rt: HostRuntime) -> Result<(), Fail> {
-    let mut told = Buffer::new(Vec::new(rt.alloc()));
-    assert_eq!(rt; status_of(rt.alloc(), &["bolt"], &mut told)?, 2);
-    assert_eq!(rt;
-        status_of(rt.alloc(), &["bolt", "answer", "--", "6060"], &mut told)?,
-        2
-    );
-    assert!(rt;
-        told.bytes()
-            .ends_with("error: these words are no command\n".as_bytes())
-    );
-    assert_eq!(rt;
-        status_of(rt.alloc(), &["bolt", "check", "5.2", "01"], &mut told)?,
-        2
-    );
-    assert_eq!(rt;
-        status_of(rt.alloc(), &["bolt", "vectors", "01"], &mut told)?,
-        2
-    );
+fn says_which_word_is_wrong(rt: HostRuntime) -> Result<(), Fail> {
+    let help = help_text();
+    for row in WRONG {
+        let (words, line) = *row;
+        let err = format!(in rt.alloc(); "{line}\n{help}")?;
+        says(&rt, rt.alloc(), words, "", err.as_str(), 2)?;
+    }
     Ok(())
+}
+
+#[test]
+fn helps(rt: HostRuntime) -> Result<(), Fail> {
+    for words in HELPED {
+        says(&rt, rt.alloc(), *words, "", help_text(), 2)?;
+    }
+    for line in HELP {
+        assert!(rt; help_text().contains(*line));
+    }
+    Ok(())
+}
+
+/// What `main` does.
+#[test]
+fn leaves_sockets_to_main(rt: HostRuntime) -> Result<(), Fail> {
+    let told = "error: this command needs a socket\n";
+    says(&rt, rt.alloc(), &["serve", "7687", "1"], "", told, 2)?;
+    says(
+        &rt,
+        rt.alloc(),
+        &["shell", "localhost", "7687"],
+        "",
+        told,
+        2,
+    )?;
+    says(&rt, rt.alloc(), &["loop", "lines"], "", told, 2)
 }
 
 #[test]
@@ -367,38 +520,24 @@ fn replays_its_input(rt: HostRuntime) -> Result<(), Fail> {
     let script = b"open 5.1\nsubmit 0 commit\nopen foreign\n";
     let out = "line 2 C1\nconn 0\nserver Fresh\nconn 1\nserver Fresh\n";
     says_of(&rt, alloc, &["replay", "script"], script, out, "", 0)?;
-    let told = "line 2 unreadable\n";
+    let told = format!(in alloc; "line 2 unreadable\n{EXPECTED}")?;
     says_of(
         &rt,
         alloc,
         &["replay", "script"],
         b"open 5.1\nopen",
         "",
-        told,
+        told.as_str(),
         2,
     )?;
+    let told = format!(in alloc; "line 1 unreadable\n{EXPECTED}")?;
     says_of(
         &rt,
         alloc,
         &["replay", "script"],
         &[0xFF],
         "",
-        "line 1 unreadable\n",
+        told.as_str(),
         2,
     )
-}
-
-/// What `main` does, and words that are near to it.
-#[test]
-fn leaves_sockets_to_main(rt: HostRuntime) -> Result<(), Fail> {
-    let mut told = Buffer::new(Vec::new(rt.alloc()));
-    for words in [
-        ["bolt", "serve", "7687", "1"],
-        ["bolt", "serve", "7687", "1000001"],
-        ["bolt", "shell", "localhost", "7687"],
-        ["bolt", "loop", "lines", "lines"],
-    ] {
-        assert_eq!(rt; status_of(rt.alloc(), &words, &mut told)?, 2);
-    }
-    Ok(())
 }

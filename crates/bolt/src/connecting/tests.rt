@@ -1,9 +1,10 @@
-use super::{loop_lines, loop_through, serve_count, serve_on, shell_at};
+use super::{loop_lines, loop_through, serve_count, serve_on, shell_at, talk};
 use crate::opening::replay_file;
 use std::io::{Read, Write};
 use std::net::{Shutdown, TcpListener, TcpStream};
 use std::process::Abort;
 use std::test::Fail;
+use std::time::Duration;
 use streams::Buffer;
 
 /// What a client at 4.4 sends: a handshake, and a GOODBYE.
@@ -83,5 +84,23 @@ fn tells_what_is_not_had(rt: HostRuntime) -> Result<(), Fail> {
     assert_eq!(rt; shell_at(&rt, "127.0.0.1", port), 1);
     assert_eq!(rt; loop_through(&rt, "no such file"), 1);
     assert_eq!(rt; replay_file(&rt, &[], "no such file"), 1);
+    Ok(())
+}
+
+/// A server that says nothing: the fault on a line, and on the next the system's reason.
+#[test]
+fn tells_why_a_stream_fails(rt: HostRuntime) -> Result<(), Fail> {
+    let listener = TcpListener::bind(&rt, ("127.0.0.1", 0))?;
+    let near = TcpStream::connect(&rt, listener.local_addr()?)?;
+    let _far = listener.accept()?;
+    near.set_read_timeout(Some(Duration::from_millis(20)))?;
+    let mut out = Vec::new(rt.alloc());
+    let mut err = Buffer::new(Vec::new(rt.alloc()));
+    let none: &[u8] = &[];
+    assert_eq!(rt; talk(rt.alloc(), &near, none, &mut out, &mut err), 1);
+    let told = b"fault I1\nthe server: ";
+    assert!(rt; err.bytes().starts_with(told.as_slice()));
+    assert!(rt; err.bytes().len() > told.len() + 1);
+    assert!(rt; err.bytes().ends_with(b"\n".as_slice()));
     Ok(())
 }

@@ -1,23 +1,16 @@
+use Rattle.std.proofs.Common.{ap, sym, ◌∙◌}
+use Rattle.commands.specs.Saying.{is_replay}
 use Rattle.commands.proofs.Inputs.{reads_none}
 use Rattle.commands.proofs.commands.say.Goals as goal
 
-pub returns-in-Answer-clause-read : goal.returns-in-Answer-clause-read
-returns-in-Answer-clause-read g c = reads_none (g.S.Source.left c.args.input.now)
+pub returns-in-Ok-clause-says : goal.returns-in-Ok-clause-says
+returns-in-Ok-clause-says g c = rw c.in-Ok.ensures c.say_command.ensures.says
 
-pub returns-in-Check-clause-read : goal.returns-in-Check-clause-read
-returns-in-Check-clause-read g c = reads_none (g.S.Source.left c.args.input.now)
+pub returns-in-Ok-clause-input : goal.returns-in-Ok-clause-input
+returns-in-Ok-clause-input g c = λ h. c.say_command.ensures.input (sym (ap is_replay c.in-Ok.ensures) ∙ h)
 
-pub returns-in-Vectors-clause-read : goal.returns-in-Vectors-clause-read
-returns-in-Vectors-clause-read g c = reads_none (g.S.Source.left c.args.input.now)
+pub returns-in-Err-clause-says : goal.returns-in-Err-clause-says
+returns-in-Err-clause-says g c = rw c.in-Err.ensures c.say_no_command.ensures.says
 
-pub returns-in-Loop-clause-read : goal.returns-in-Loop-clause-read
-returns-in-Loop-clause-read g c = reads_none (g.S.Source.left c.args.input.now)
-
-pub returns-in-Serve-clause-read : goal.returns-in-Serve-clause-read
-returns-in-Serve-clause-read g c = reads_none (g.S.Source.left c.args.input.now)
-
-pub returns-in-Shell-clause-read : goal.returns-in-Shell-clause-read
-returns-in-Shell-clause-read g c = reads_none (g.S.Source.left c.args.input.now)
-
-pub returns-in-Nothing-clause-read : goal.returns-in-Nothing-clause-read
-returns-in-Nothing-clause-read g c = reads_none (g.S.Source.left c.args.input.now)
+pub returns-in-Err-clause-read : goal.returns-in-Err-clause-read
+returns-in-Err-clause-read g c = reads_none (g.S.Source.left c.args.input.now)
