@@ -12,6 +12,7 @@ use Rattle.wire.specs.Stream.{items_of}
 use Rattle.wire.specs.Texts.{written_run, noop}
 use Rattle.wire.specs.Offers.{offer_of}
 use Rattle.wire.specs.Reader.{Reader, Took, state, outputs, takes, ReadsPieces}
+use Rattle.wire.specs.Limits.{max_message}
 
 -- A whole item of a stream: the bytes that open it, a no-op, a message, or the header that takes a message past the limit.
 pub data Item : Type 0 where
@@ -116,7 +117,7 @@ within_newest_first text n (x ∷ xs) =
 abbrev pub CanCome : Item → Type 0
 CanCome (Opening bytes) = ⊥
 CanCome Noop = Unit {0}
-CanCome (Message m) = (0 < length m) × (length m ≤ 65536)
+CanCome (Message m) = (0 < length m) × (length m ≤ max_message)
 CanCome TooBig = ⊥
 
 -- each of the items may come after what opens a stream

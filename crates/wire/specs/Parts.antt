@@ -4,6 +4,7 @@ use Rattle.wire.specs.declared.parts.Cut.{Cut}
 use Rattle.wire.specs.declared.parts.Part.{Part}
 use Rattle.wire.specs.declared.parts.Part.TheVariants as part
 use Rattle.wire.specs.Place.{Place, start}
+use Rattle.wire.specs.Limits.{max_message}
 
 -- An answer, and the place after its bytes.
 pub record Bite : Type 0 where
@@ -25,7 +26,7 @@ past sum = record { header = None; lacks = 0; sum = sum; too_big = true }
 -- a length is known: 0 ends a message, and is a no-op where none has begun
 abbrev pub on_length : ℕ → ℕ → ℕ → Bite
 on_length used sum n = if n == 0 then bite used (if sum == 0 then part.Noop else part.End) start
-    else (if nat_lt 65536 (sum + n) then bite used part.TooBig (past sum)
+    else (if nat_lt max_message (sum + n) then bite used part.TooBig (past sum)
     else bite used part.Head (inside (sum + n) n))
 
 -- both bytes of a header, big-endian

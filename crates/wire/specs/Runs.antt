@@ -1,7 +1,8 @@
 -- Streams of chunks as a grammar ("Bolt message chunking"): a run of chunks is a message, and two zero bytes between messages are a no-op.
-use Rattle.std.specs.Prelude.{◌≡◌, ℕ, ◌+◌, ◌*◌, ◌<◌, ◌≤◌, List, [], ◌∷◌, ◌++◌, length, take}
+use Rattle.std.specs.Prelude.{◌≡◌, ℕ, ◌+◌, ◌*◌, ◌^◌, ◌<◌, ◌≤◌, List, [], ◌∷◌, ◌++◌, length, take}
 use Rattle.std.specs.List.{flat_map}
 use Rattle.wire.specs.Texts.{chunk_of, run_of}
+use Rattle.wire.specs.Limits.{max_message}
 
 -- bytes are numbers below 256
 abbrev pub AreBytes : List ℕ → Type 0
@@ -10,7 +11,7 @@ AreBytes (b ∷ bs) = (b < 256) × AreBytes bs
 
 -- a chunk's data: from one byte to 65,535
 abbrev pub FillsChunk : List ℕ → Type 0
-FillsChunk c = (0 < length c) × (length c < 65536)
+FillsChunk c = (0 < length c) × (length c < 2 ^ 16)
 
 -- Chunks that may come. A run of no chunks is a no-op.
 abbrev pub AreChunks : List (List ℕ) → Type 0
@@ -23,7 +24,7 @@ body_of chunks = flat_map (λ c. c) chunks
 
 -- a run, or a no-op: chunks that may come, and at most 65,536 bytes of data
 abbrev pub MayRun : List (List ℕ) → Type 0
-MayRun run = AreChunks run × (length (body_of run) ≤ 65536)
+MayRun run = AreChunks run × (length (body_of run) ≤ max_message)
 
 -- each is a run or a no-op
 abbrev pub AreRuns : List (List (List ℕ)) → Type 0
@@ -75,5 +76,5 @@ pub record IsPast (bytes : List ℕ) : Type 0 where
   pub sound : AreRuns runs
   pub good : AreChunks chunks
   pub whole : bytes ≡ flat_map run_of runs ++ (flat_map chunk_of chunks ++ high ∷ low ∷ more)
-  pub held : length (body_of chunks) ≤ 65536
-  pub past : 65536 < length (body_of chunks) + (high * 256 + low)
+  pub held : length (body_of chunks) ≤ max_message
+  pub past : max_message < length (body_of chunks) + (high * 256 + low)

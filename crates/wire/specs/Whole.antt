@@ -6,6 +6,7 @@ use Rattle.wire.specs.Unfinished.{Unfinished, fresh}
 use Rattle.wire.specs.Texts.{run_of, written_run}
 use Rattle.wire.specs.Runs.{AreBytes, AreChunks, body_of, Texts, IsRun, IsWhole, IsPast}
 use Rattle.wire.specs.Stream.{items_of}
+use Rattle.wire.specs.Limits.{max_message, max_chunk}
 
 -- the messages among items
 abbrev pub messages : List Piece → List (List ℕ)
@@ -39,11 +40,11 @@ RefusesPast = (bytes : List ℕ) → AreBytes bytes
 
 -- What is written of a message is its run.
 abbrev pub TextsOne : Type 0
-TextsOne = (m : List ℕ) → 0 < length m → length m ≤ 65536 → Texts (m ∷ []) (written_run m)
+TextsOne = (m : List ℕ) → 0 < length m → length m ≤ max_message → Texts (m ∷ []) (written_run m)
 
 -- What is written of a message is one run, its chunks as long as they may be.
 abbrev pub WritesRun : Type 0
-WritesRun = (m : List ℕ) → 0 < length m → length m ≤ 65536 → IsRun 65535 m (written_run m)
+WritesRun = (m : List ℕ) → 0 < length m → length m ≤ max_message → IsRun max_chunk m (written_run m)
 
 -- No run of the message is shorter: its chunks are as long as they may be.
 abbrev pub NoShorter : Type 0
@@ -52,8 +53,8 @@ NoShorter = (m : List ℕ) (run : List (List ℕ)) → 0 < length m → AreChunk
 
 -- No written run of a message is a proper beginning of another's.
 abbrev pub BeginsNone : Type 0
-BeginsNone = (m other more : List ℕ) → 0 < length m → length m ≤ 65536 → 0 < length other
-    → length other ≤ 65536 → written_run other ≡ written_run m ++ more → (m ≡ other) × (more ≡ [])
+BeginsNone = (m other more : List ℕ) → 0 < length m → length m ≤ max_message → 0 < length other
+    → length other ≤ max_message → written_run other ≡ written_run m ++ more → (m ≡ other) × (more ≡ [])
 
 -- the bytes that are kept of an unfinished item: its data, and that of a header that isn't whole
 abbrev pub header_bytes : Option ℕ → ℕ
@@ -66,4 +67,4 @@ kept_bytes s = length s.body + header_bytes s.header
 
 -- They are at most 65,537.
 abbrev pub KeepsFew : Type 0
-KeepsFew = (bytes : List ℕ) → kept_bytes (items_of fresh bytes).rest ≤ 65537
+KeepsFew = (bytes : List ℕ) → kept_bytes (items_of fresh bytes).rest ≤ max_message + 1

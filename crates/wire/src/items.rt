@@ -6,6 +6,7 @@ ghost use Rattle.wire.specs.Items.{item_of, IsSized, Answers, wants_room, answer
 ghost use Rattle.wire.specs.Stream.{used_of};
 ghost use Rattle.wire.specs.Whole.{kept_bytes};
 ghost use Rattle.wire.specs.Scanning.{Holds, Taken, After, Scanned, Stops, used_by};
+ghost use Rattle.wire.specs.Limits.{max_message};
 
 use crate::faults::WireFault;
 use crate::parts::{Chunks, Cut, Part};
@@ -40,12 +41,13 @@ pub struct Dechunk {
 impl Model for Dechunk {
     ghost use Rattle.std.specs.Prelude.{◌≡◌, ◌+◌, ◌≤◌, length};
     ghost use Rattle.wire.specs.Unfinished.{Unfinished, unfinished_at};
+    ghost use Rattle.wire.specs.Limits.{max_message};
 
     ghost Value = { Unfinished };
 
     ghost view = { λ d. unfinished_at d.chunks d.body.items };
 
-    ghost invariant = { λ d. (d.chunks.sum ≡ length d.body.items + d.chunks.lacks) × (d.chunks.sum ≤ 65536) };
+    ghost invariant = { λ d. (d.chunks.sum ≡ length d.body.items + d.chunks.lacks) × (d.chunks.sum ≤ max_message) };
 }
 
 impl Dechunk {
@@ -81,8 +83,8 @@ impl Dechunk {
     #[tactic(auto, using(crate::proofs::Limits::header_one))]
     pub fn feed(&mut self, piece: &[u8]) -> Result<Fed, WireFault>
         ensures answer { Answers self.old piece.now result self.new }
-        ensures bounded { length self.new.body + self.new.lacks ≤ 65536 }
-        ensures few { kept_bytes self.new ≤ 65537 }
+        ensures bounded { length self.new.body + self.new.lacks ≤ max_message }
+        ensures few { kept_bytes self.new ≤ max_message + 1 }
         ensures within { used_of result ≤ length piece.now }
         ensures sized { IfOk result (λ fed. IsSized fed.what) }
         ensures memory { IsErrOf result WireFault.Memory → self.old.too_big ≡ false }
@@ -178,7 +180,7 @@ fn take_part(body: &mut BytesMut, chunks: &mut Chunks, piece: &[u8]) -> Result<C
 /// Hands out the item that has ended.
 fn end_item(body: &mut BytesMut) -> Result<Piece, AllocError>
     ensures ok { IfOk result (λ what. what ≡ item_of body.old.items) }
-    ensures sized { length body.old.items ≤ 65536 → IfOk result IsSized }
+    ensures sized { length body.old.items ≤ max_message → IfOk result IsSized }
     ensures empty { OnOk result (body.new.items ≡ []) }
     ensures err { OnErr result (body.new.items ≡ body.old.items) }
     ensures some { IsErr result → 0 < length body.old.items }

@@ -47,6 +47,7 @@ pub struct Chunks {
 impl Model for Chunks {
     ghost use Rattle.std.specs.Prelude.{◌≤◌};
     ghost use Rattle.wire.specs.Place.{Place};
+    ghost use Rattle.wire.specs.Limits.{max_message};
 
     ghost Value = { Place };
 
@@ -54,7 +55,7 @@ impl Model for Chunks {
 
     ghost inverse = { λ p. record { header = p.header; lacks = p.lacks; sum = p.sum; too_big = p.too_big } };
 
-    ghost invariant = { λ c. c.sum ≤ 65536 };
+    ghost invariant = { λ c. c.sum ≤ max_message };
 }
 
 impl Chunks {

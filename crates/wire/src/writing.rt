@@ -2,6 +2,7 @@
 
 ghost use Rattle.std.specs.Prelude.{◌≡◌, ◌+◌, ◌<◌, ◌≤◌, ◌++◌, length, IfErr, OnOk, OnErr, ◌↔◌};
 ghost use Rattle.wire.specs.Texts.{chunk_of, split_chunks, written_run, noop, IsTooBig, UsesNothing};
+ghost use Rattle.wire.specs.Limits.{max_message, max_chunk};
 
 use crate::MAX_MESSAGE;
 use crate::faults::WireFault;
@@ -17,7 +18,7 @@ pub fn put_message(message: &[u8], out: &mut BytesMut) -> Result<(), WireFault>
     requires { 0 < length message.now }
     ensures ok { OnOk result (out.new.items ≡ out.old.items ++ written_run message.now) }
     ensures err { OnErr result (out.new.items ≡ out.old.items) }
-    ensures too_big { IsTooBig result ↔ (65536 < length message.now) }
+    ensures too_big { IsTooBig result ↔ (max_message < length message.now) }
     ensures unused { IfErr result UsesNothing }
 {
     if message.len() > MAX_MESSAGE {
@@ -45,7 +46,7 @@ pub fn put_noop(out: &mut BytesMut) -> Result<(), WireFault>
 /// How many bytes `put_message` and `put_reserved` append for this message of at most 65,536 bytes. It takes no memory.
 #[tactic(auto, using(crate::proofs::Runs::text_facts))]
 pub fn text_len(message: &[u8]) -> usize
-    requires { length message.now ≤ 65536 }
+    requires { length message.now ≤ max_message }
     ensures { result ≡ length (written_run message.now) }
 {
     if message.len() <= MAX_CHUNK {
@@ -59,7 +60,7 @@ pub fn text_len(message: &[u8]) -> usize
 #[tactic(auto, using(crate::proofs::Runs::text_facts))]
 pub fn put_reserved(message: &[u8], out: &mut BytesMut)
     requires some { 0 < length message.now }
-    requires fits { length message.now ≤ 65536 }
+    requires fits { length message.now ≤ max_message }
     requires room { length (written_run message.now) ≤ out.old.spare }
     ensures items { out.new.items ≡ out.old.items ++ written_run message.now }
     ensures spare { out.new.spare + length (written_run message.now) ≡ out.old.spare }
@@ -74,8 +75,8 @@ pub fn put_reserved(message: &[u8], out: &mut BytesMut)
 
 #[tactic(auto, using(crate::proofs::Runs::text_facts), unfolding(crate::specs::Texts::split_chunks))]
 fn put_split(message: &[u8], at: usize, out: &mut BytesMut)
-    requires first { (at < length message.now) × (at < 65536) }
-    requires second { length message.now < at + 65536 }
+    requires first { (at < length message.now) × (at ≤ max_chunk) }
+    requires second { length message.now ≤ at + max_chunk }
     requires room { length message.now + 4 ≤ out.old.spare }
     ensures items { out.new.items ≡ out.old.items ++ split_chunks at message.now }
     ensures spare { out.new.spare + (length message.now + 4) ≡ out.old.spare }
@@ -85,7 +86,7 @@ fn put_split(message: &[u8], at: usize, out: &mut BytesMut)
 }
 
 fn put_chunk(chunk: &[u8], out: &mut BytesMut)
-    requires fits { length chunk.now < 65536 }
+    requires fits { length chunk.now ≤ max_chunk }
     requires room { length chunk.now + 2 ≤ out.old.spare }
     ensures items { out.new.items ≡ out.old.items ++ chunk_of chunk.now }
     ensures spare { out.new.spare + (length chunk.now + 2) ≡ out.old.spare }
