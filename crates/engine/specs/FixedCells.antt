@@ -20,6 +20,7 @@ use Rattle.engine.specs.declared.answer.Mode.{Mode}
 use Rattle.engine.specs.declared.answer.Mode.TheVariants as mode
 use Rattle.engine.specs.declared.query.Query.{Query}
 use Rattle.engine.specs.declared.query.Query.TheVariants.{One, Rows, Get, Keys, Put, Echo, Walk}
+use Rattle.engine.specs.Limits.{max_rows}
 
 abbrev OfCells : Defined → Type 0
 OfCells d = IfOk d IsOfCells
@@ -82,15 +83,15 @@ column_cells name cells u hs = record {
   write = tt;
 }
 
-reads_by : (name : List ℕ) (cells : List Tree) (many : Bool) → nat_lt 1024 (length cells) ≡ many
-    → IsUtf8 name → (length cells ≤ 1024 → All IsCellTree cells)
+reads_by : (name : List ℕ) (cells : List Tree) (many : Bool) → nat_lt max_rows (length cells) ≡ many
+    → IsUtf8 name → (length cells ≤ max_rows → All IsCellTree cells)
     → OfCells (if many then Err too_many_rows else Ok (column name cells))
 reads_by name cells true e u hs = tt
-reads_by name cells false e u hs = column_cells name cells u (hs (ltb-false 1024 (length cells) e))
+reads_by name cells false e u hs = column_cells name cells u (hs (ltb-false max_rows (length cells) e))
 
 reads_cells : (name : List ℕ) (cells : List Tree) → IsUtf8 name
-    → (length cells ≤ 1024 → All IsCellTree cells) → OfCells (reads name cells)
-reads_cells name cells u hs = reads_by name cells (nat_lt 1024 (length cells)) refl u hs
+    → (length cells ≤ max_rows → All IsCellTree cells) → OfCells (reads name cells)
+reads_cells name cells u hs = reads_by name cells (nat_lt max_rows (length cells)) refl u hs
 
 with_cells : {A : Type 0} (P : A → Type 0) (o : Option A) (f : A → Defined) → IfSome o P
     → ((a : A) → P a → OfCells (f a)) → OfCells (with o f)
@@ -105,7 +106,7 @@ found_cells : (o : Option Tree) → IfSome o IsCellTree → All IsCellTree (cell
 found_cells None h = All-nil IsCellTree
 found_cells (Some cell) h = one_cell cell h
 
-number_cell : (n k d : ℕ) → n ≤ 1024 → k < n
+number_cell : (n k d : ℕ) → n ≤ max_rows → k < n
     → IsCellTree (int (pos (get_or (range_with_len 1 n) k d)))
 number_cell n k d few within = (
   refl,
@@ -113,12 +114,12 @@ number_cell n k d few within = (
       (fits_pos (1 + k) (omega arith)),
 )
 
-numbers_cells : (n : ℕ) → length (numbers n) ≤ 1024 → All IsCellTree (numbers n)
+numbers_cells : (n : ℕ) → length (numbers n) ≤ max_rows → All IsCellTree (numbers n)
 numbers_cells n few =
     let len : length (numbers n) ≡ n =
     length-map (range_with_len 1 n) (λ i. int (pos i)) ∙ length-range_with_len 1 n in
     All-map IsCellTree (λ i. int (pos i)) (range_with_len 1 n)
-    (λ k d within. number_cell n k d (subst (λ m. m ≤ 1024) len few)
+    (λ k d within. number_cell n k d (subst (λ m. m ≤ max_rows) len few)
     (subst (λ m. k < m) (length-range_with_len 1 n) within))
 
 keys_cells : (t : List WriteView) → AreCellPairs t → All IsCellTree (map (λ e. text e.0) t)

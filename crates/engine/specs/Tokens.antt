@@ -1,10 +1,11 @@
 -- Tokens: what a ledger has of one, and what a commit does by it.
-use Rattle.std.specs.Prelude.{◌≤◌, ◌<◌, ◌^◌, ℕ, suc, ◌+◌, Bool, true, false, ◌&&◌, if◌then◌else◌, Option, Some, None, List, [], ◌∷◌, length}
+use Rattle.std.specs.Prelude.{◌≤◌, ◌<◌, ℕ, suc, ◌+◌, Bool, true, false, ◌&&◌, if◌then◌else◌, Option, Some, None, List, [], ◌∷◌, length}
 use Rattle.std.specs.Str.{bytes_eq}
 use Rattle.cells.specs.Same.{same_tree}
 use Rattle.engine.specs.Views.{WriteView, Token, EntryView}
 use Rattle.engine.specs.declared.ledger.Commit.{Commit}
 use Rattle.engine.specs.declared.ledger.Commit.TheVariants.{Added, Repeat, Clash}
+use Rattle.engine.specs.Limits.{ledger_bound}
 
 -- whether this is the token
 abbrev pub is_token : List ℕ → Token → Bool
@@ -65,5 +66,5 @@ added_by e Other = []
 
 -- a commit that adds an entry leaves fewer than 2^63
 abbrev pub IsCounted : Commit → Type 0
-IsCounted (Added n) = n < 2 ^ 63
+IsCounted (Added n) = n < ledger_bound
 IsCounted c = Unit {0}
