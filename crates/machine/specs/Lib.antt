@@ -1,3 +1,4 @@
+pub mod Limits
 pub mod States
 pub mod Asks
 pub mod Rows

@@ -20,3 +20,9 @@ pub use phase_set::PhaseSet;
 pub use phases::{phase, state_of};
 pub use rows::{Verdict, row};
 pub use states::{Phase, State};
+
+/// The most requests that wait for their answers: a client submits no further one (C2), and a session reads none.
+pub const MAX_WAITING: usize = 32;
+
+/// The ordinals of requests are below this. Where none is left, both ends do as where `MAX_WAITING` wait.
+pub const MAX_ORDINALS: u64 = 1 << 63;
