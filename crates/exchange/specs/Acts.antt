@@ -1,5 +1,5 @@
 -- What a step decides before it changes anything, and what it leaves.
-use Rattle.std.specs.Prelude.{◌≡◌, if◌then◌else◌, ℕ, suc, ◌+◌, ◌^◌, ◌<◌, ◌≤◌, List, [], ◌∷◌, ◌++◌, length, drop, Option, Some, None, option_map, Ok, is_err, true, false}
+use Rattle.std.specs.Prelude.{◌≡◌, if◌then◌else◌, ℕ, suc, ◌+◌, ◌<◌, ◌≤◌, List, [], ◌∷◌, ◌++◌, length, drop, Option, Some, None, option_map, Ok, is_err, true, false}
 use Rattle.packstream.specs.Tree.{Tree}
 use Rattle.wire.specs.declared.Version.{Version}
 use Rattle.messages.specs.View.{ResponseView}
@@ -44,6 +44,8 @@ use Rattle.machine.specs.Asks.{is_goodbye, is_reset}
 use Rattle.exchange.specs.Session.{Open, no_result, Tx, no_tx, Change, change_alone, change_inside, Reply, fails, with_write, unwritable, rows_fitted, result_mode, in_transaction, passed_over}
 use Rattle.exchange.specs.Rest.{Kept, Step, worked_of, commit_entries}
 use Rattle.exchange.specs.Views.{open_of}
+use Rattle.wire.specs.Limits.{max_message}
+use Rattle.engine.specs.Limits.{ledger_bound}
 
 -- a summary, as the definitions of messages have it
 abbrev pub summary_of : Summary → messages.Summary
@@ -59,7 +61,7 @@ summary_of summary.Passed = messages.Passed
 pub record IsBody (v : Version) (m : ResponseView) (b : List ℕ) : Type 0 where
   pub text : response_spelling v m ≡ Ok b
   pub some : 0 < length b
-  pub few : length b ≤ 65536
+  pub few : length b ≤ max_message
 
 -- why a writer wrote nothing
 abbrev pub unwritten_of : MsgFault → Unwritten
@@ -150,7 +152,7 @@ ActsAs v left tx act.Leaves reply = reply ≡ Reply.Bye
 
 -- a message may have these bytes
 abbrev pub IsSized : List ℕ → Type 0
-IsSized b = (0 < length b) × (length b ≤ 65536)
+IsSized b = (0 < length b) × (length b ≤ max_message)
 
 -- what is written fits a message, and a row that is sent is there
 abbrev pub IsWritable : List (List Tree) → Act → Type 0
@@ -198,10 +200,10 @@ after_bytes body k = record k { result = one_less k.result; unsent = k.unsent ++
 abbrev pub length_after : List EntryView → Option Change → Option ℕ
 length_after ledger entry = option_map (λ _. length ledger + 1) entry
 
--- a length is below 2^63, where there is one
+-- a ledger may have this length, where there is one
 abbrev pub IsBelow : Option ℕ → Type 0
 IsBelow None = Unit {0}
-IsBelow (Some n) = n < 2 ^ 63
+IsBelow (Some n) = n < ledger_bound
 
 -- the result that an answer opens
 abbrev pub opened_by : Version → State → List (Vec Cell Global) → QueryMode → Option Write → Token → Open

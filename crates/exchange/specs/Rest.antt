@@ -1,5 +1,5 @@
 -- What a session keeps of its past: as much as its later steps depend on, and nothing else.
-use Rattle.std.specs.Prelude.{◌≡◌, ℕ, suc, ◌+◌, ◌^◌, ◌<◌, Bool, true, false, not, ◌&&◌, ◌||◌, if◌then◌else◌, nat_le, Option, Some, None, is_some, option_map, unwrap_or, List, [], ◌∷◌, ◌++◌, length, take, drop, Result, Ok, Err}
+use Rattle.std.specs.Prelude.{◌≡◌, ℕ, suc, ◌+◌, ◌<◌, Bool, true, false, not, ◌&&◌, ◌||◌, if◌then◌else◌, nat_le, Option, Some, None, is_some, option_map, unwrap_or, List, [], ◌∷◌, ◌++◌, length, take, drop, Result, Ok, Err}
 use Rattle.wire.specs.declared.Version.{Version}
 use Rattle.wire.specs.declared.Version.TheVariants.{V51}
 use Rattle.messages.specs.declared.fault.MsgFault.{MsgFault}
@@ -16,6 +16,9 @@ use Rattle.exchange.specs.declared.kinds.What.{What}
 use Rattle.exchange.specs.declared.kinds.Worked.{Worked}
 use Rattle.exchange.specs.declared.kinds.Worked.TheVariants as worked
 use Rattle.exchange.specs.Session.{Setting, Open, no_result, Tx, no_tx, Change, Reply, OneRow, Summary, Bye, serve}
+use Rattle.exchange.specs.Limits.{max_unsent}
+use Rattle.machine.specs.Limits.{max_ordinals, max_waiting}
+use Rattle.engine.specs.Limits.{ledger_bound}
 
 -- what a session keeps; the bytes of its unfinished item stand beside it
 pub record Kept : Type 0 where
@@ -170,12 +173,12 @@ turns S c entries s _ = rests s Idle
 abbrev pub work_kept : Setting → ℕ → List EntryView → Kept → Option Cause → Step
 work_kept S c entries s (Some cause) = rests s (Ended cause)
 work_kept S c entries s None =
-    if nat_le 65536 (length s.unsent) then rests s Full else turns S c entries s s.waiting
+    if nat_le max_unsent (length s.unsent) then rests s Full else turns S c entries s s.waiting
 
 -- Where a step may take memory: before the end, below 65,536 unsent bytes, and where something waits.
 pub record MayStep (s : Kept) : Type 0 where
   pub goes : s.ended ≡ None
-  pub room : nat_le 65536 (length s.unsent) ≡ false
+  pub room : nat_le max_unsent (length s.unsent) ≡ false
   pub waits : 0 < length s.waiting
 
 -- what `work` tells of a step
@@ -205,7 +208,7 @@ stepped S conn x =
 
 -- a commit that is told is of a ledger shorter than 2^63
 abbrev pub IsCounted : Worked → Type 0
-IsCounted (worked.Wrote ordinal kind state (Some len)) = len < 2 ^ 63
+IsCounted (worked.Wrote ordinal kind state (Some len)) = len < ledger_bound
 IsCounted _ = Unit {0}
 
 -- what a message is, by what is read of it
@@ -246,7 +249,7 @@ shut s = is_some s.ended || unread_among s.waiting
 
 -- no place is left, or no ordinal
 abbrev pub full : Kept → Bool
-full s = nat_le 32 (length s.waiting) || nat_le (2 ^ 63) (s.first + length s.waiting)
+full s = nat_le max_waiting (length s.waiting) || nat_le max_ordinals (s.first + length s.waiting)
 
 -- `take_out`: the bytes that it answers
 abbrev pub taken_out : ℕ → Kept → List ℕ
@@ -258,7 +261,7 @@ take_kept max s = record s { unsent = drop max s.unsent }
 
 -- `noop`: whether one is put: after a version was taken, before the end, and below 65,536 unsent bytes
 abbrev pub puts_noop : Kept → Bool
-puts_noop s = not (not (is_some s.version) || is_some s.ended || nat_le 65536 (length s.unsent))
+puts_noop s = not (not (is_some s.version) || is_some s.ended || nat_le max_unsent (length s.unsent))
 
 -- what a session keeps after `noop`
 abbrev pub noop_kept : Kept → Kept

@@ -26,6 +26,7 @@ use Rattle.exchange.specs.declared.fault.Fault.{Fault}
 use Rattle.exchange.specs.declared.fault.Fault.TheVariants as fault
 use Rattle.exchange.specs.Faults.{failure, of_query, of_writer}
 use Rattle.exchange.specs.Said.{fits}
+use Rattle.exchange.specs.Limits.{max_writes}
 
 -- what the engine answers and whom the gate lets in, by their definitions
 pub record Setting : Type 0 where
@@ -200,7 +201,7 @@ result_of_answer v s token a =
 abbrev pub reply_to_run : Version → State → Tx → Token → Result AnswerView QueryFault → Reply
 reply_to_run v s tx token (Err e) = fails (of_query e)
 reply_to_run v s tx token (Ok a) =
-    if in_transaction s && (is_some a.write && nat_le 1024 (length tx.writes)) then
+    if in_transaction s && (is_some a.write && nat_le max_writes (length tx.writes)) then
     fails fault.TooManyWrites
     else if_fits v (fields_said a.fields)
     (Summary Verdict.Success (fields_said a.fields) (result_of_answer v s token a)

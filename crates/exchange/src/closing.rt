@@ -1,5 +1,5 @@
 //! What ends a result or a transaction: the rows that are left of it, and its commit, by what the ledger has of it.
-ghost use Rattle.std.specs.Prelude.{◌≡◌, ◌+◌, ◌^◌, ◌<◌, length, Some, IfOk};
+ghost use Rattle.std.specs.Prelude.{◌≡◌, ◌+◌, ◌<◌, length, Some, IfOk};
 ghost use Rattle.messages.specs.Summaries.{response_of_summary, Closing, Committed};
 ghost use Rattle.engine.specs.Tokens.{found_in, commit_by, known_by};
 ghost use Rattle.engine.specs.Views.{token_view, writes_view};
@@ -7,6 +7,7 @@ ghost use Rattle.exchange.specs.Session.{change_alone, change_inside, close, clo
 ghost use Rattle.exchange.specs.Rest.{version_of};
 ghost use Rattle.exchange.specs.Views.{kept_of};
 ghost use Rattle.exchange.specs.Acts.{ActsAs, commits_by};
+ghost use Rattle.engine.specs.Limits.{ledger_bound};
 
 use crate::acts::{Act, Leaves};
 use crate::deciding::{refuses, says};
@@ -15,13 +16,10 @@ use crate::fault::Fault;
 use crate::summary::Summary;
 use crate::texts::{Unwritten, text_of};
 use crate::words::{count_of, is_used_up};
-use engine::{Commit, Engine, Write};
+use engine::{Commit, Engine, LEDGER_BOUND, Write};
 use machine::{State, Verdict};
 use messages::Count;
 use std::alloc::AllocError;
-
-/// The ledger stays shorter than this.
-const MAX_ENTRIES: u64 = 1 << 63;
 
 /// What the engine would answer to a commit of these writes under this token. A ledger that would be as long as it may not be is refused
 /// as want of memory, but only where an entry would be added.
@@ -53,10 +51,10 @@ fn known_of<E: Engine>(engine: &E, token: &Option<String>, writes: &[Write]) -> 
 
 /// The length of the ledger after an entry is added. A ledger that would be as long as it may not be is refused as want of memory.
 fn next_len<E: Engine>(engine: &E) -> Result<u64, AllocError>
-    ensures { IfOk result (λ n. (n ≡ length (E.entries engine.now) + 1) × (n < 2 ^ 63)) }
+    ensures { IfOk result (λ n. (n ≡ length (E.entries engine.now) + 1) × (n < ledger_bound)) }
 {
     let len = engine.ledger().len() as u64 + 1;
-    if len >= MAX_ENTRIES {
+    if len >= LEDGER_BOUND {
         return Err(AllocError);
     }
     Ok(len)

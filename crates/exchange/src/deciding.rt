@@ -9,7 +9,10 @@ ghost use Rattle.exchange.specs.Session.{Open, Tx, Summary as Replies, serve, pe
 ghost use Rattle.exchange.specs.Rest.{version_of};
 ghost use Rattle.exchange.specs.Views.{kept_of};
 ghost use Rattle.exchange.specs.Acts.{ActsAs, IsWritable, summary_of, left_result, left_tx, left_entry};
+ghost use Rattle.exchange.specs.Limits.{max_writes};
+ghost use Rattle.engine.specs.Limits.{max_rows};
 
+use crate::MAX_WRITES;
 use crate::acts::{Act, Leaves};
 use crate::closing::commit_of;
 use crate::exchange::Exchange;
@@ -24,9 +27,6 @@ use messages::{Auth, Mode, Request};
 use std::alloc::{AllocError, Global};
 use structures::Cell;
 use wire::Version;
-
-/// The most writes of a transaction.
-const MAX_WRITES: usize = 1024;
 
 /// A summary.
 pub(crate) fn says(
@@ -178,7 +178,7 @@ impl Exchange {
         answered: Result<Answer, EngineFault>,
         token: &Option<String>,
     ) -> Result<Act, AllocError>
-        requires { IfOk answered (λ a. length a.rows.items ≤ 1024) }
+        requires { IfOk answered (λ a. length a.rows.items ≤ max_rows) }
         ensures { (defined : Result AnswerView QueryFault) → Runs answered defined
             → let k = kept_of self.now in IfOk result
             (λ act. ActsAs (version_of k) k.result k.tx act
@@ -196,7 +196,7 @@ impl Exchange {
     }
 
     fn open(&self, answer: Answer, token: &Option<String>) -> Result<Act, AllocError>
-        requires { length answer.rows.items ≤ 1024 }
+        requires { length answer.rows.items ≤ max_rows }
         ensures { let k = kept_of self.now in IfOk result
             (λ act. ActsAs (version_of k) k.result k.tx act
             (reply_to_run (version_of k) k.state k.tx (token_view token.now)
@@ -232,7 +232,7 @@ impl Exchange {
         ensures { let k = kept_of self.now in result
             ≡ (in_transaction k.state
             && (is_some (option_map write_view write.now)
-            && nat_le 1024 (length k.tx.writes))) }
+            && nat_le max_writes (length k.tx.writes))) }
     {
         is_in_transaction(self.state) && write.is_some() && self.tx.writes.len() >= MAX_WRITES
     }

@@ -1,27 +1,20 @@
 //! What a session was asked and what it answers.
-ghost use Rattle.std.specs.Prelude.{◌+◌, ◌^◌, ◌≤◌};
+ghost use Rattle.std.specs.Prelude.{◌+◌, ◌≤◌};
 ghost use Rattle.std.specs.VecDeque.{deque_len, deque_capacity};
+ghost use Rattle.machine.specs.Limits.{max_ordinals, max_waiting};
 
+use crate::MAX_UNSENT;
 use crate::acts::Turn;
 use crate::kinds::{Cause, What};
 use crate::queue::has_unread;
 use crate::result::{OpenResult, Transaction};
 use crate::words::{answer_of, is_interruptible};
 use bytes::{Bytes, BytesMut};
-use machine::{State, is_reset};
+use machine::{MAX_ORDINALS, MAX_WAITING, State, is_reset};
 use messages::{MsgFault, Request};
 use std::alloc::{AllocError, Global};
 use std::collections::VecDeque;
 use wire::{Version, choose};
-
-/// The most places that wait.
-pub(crate) const MAX_WAITING: usize = 32;
-
-/// Ordinals stay below this.
-const MAX_ORDINALS: u64 = 1 << 63;
-
-/// A step starts, and a no-op is put, while fewer bytes wait to go.
-pub(crate) const MAX_OUT: usize = 65536;
 
 /// What waits for its turn.
 #[derive(Drop)]
@@ -46,9 +39,9 @@ pub struct Exchange {
     pub(crate) tx: Transaction,
     pub(crate) out: BytesMut,
     pub(crate) alloc: Global,
-    ghost places: { deque_len queue ≤ 32 },
-    ghost room: { 32 ≤ deque_capacity queue },
-    ghost numbered: { first + deque_len queue ≤ 2 ^ 63 },
+    ghost places: { deque_len queue ≤ max_waiting },
+    ghost room: { max_waiting ≤ deque_capacity queue },
+    ghost numbered: { first + deque_len queue ≤ max_ordinals },
 }
 
 impl Waiting {
@@ -146,7 +139,7 @@ impl Exchange {
         ensures err { OnErr result (kept_of self.new ≡ kept_of self.old) }
         ensures memory { OnErr result (puts_noop (kept_of self.old) ≡ true) }
     {
-        if self.version.is_none() || self.cause.is_some() || self.out.len() >= MAX_OUT {
+        if self.version.is_none() || self.cause.is_some() || self.out.len() >= MAX_UNSENT {
             return Ok(false);
         }
         self.out.extend_from_slice(&[0, 0])?;
@@ -188,8 +181,8 @@ impl Exchange {
 
     /// What was asked goes into the queue.
     fn take_asked(&mut self, asked: Result<Request, MsgFault>) -> Result<What, AllocError>
-        requires place { length self.old.queue.items < 32 }
-        requires ordinal { self.old.first + length self.old.queue.items < 2 ^ 63 }
+        requires place { length self.old.queue.items < max_waiting }
+        requires ordinal { self.old.first + length self.old.queue.items < max_ordinals }
         ensures taken { IfOk result
             (λ what. Receives what (kept_of self.old) (kept_of self.new) (arrival_told asked)) }
         ensures wants { asked ≡ Err MsgFault.Memory → IsErr result }
@@ -223,8 +216,8 @@ impl Exchange {
 
     /// A message past its limit goes into the queue.
     fn take_refused(&mut self) -> What
-        requires place { length self.old.queue.items < 32 }
-        requires ordinal { self.old.first + length self.old.queue.items < 2 ^ 63 }
+        requires place { length self.old.queue.items < max_waiting }
+        requires ordinal { self.old.first + length self.old.queue.items < max_ordinals }
         ensures { Receives result (kept_of self.old) (kept_of self.new) TooLong }
     {
         self.queue.push_back_reserved(Waiting::TooLong);

@@ -1,11 +1,12 @@
 //! What is open after a summary, and the commit of it.
-ghost use Rattle.std.specs.Prelude.{◌≡◌, ◌+◌, ◌^◌, ◌<◌, ◌≤◌, ◌++◌, length, drop, Some, option_map, option_to_list, IfOk, OnOk, OnErr};
+ghost use Rattle.std.specs.Prelude.{◌≡◌, ◌+◌, ◌<◌, ◌≤◌, ◌++◌, length, drop, Some, option_map, option_to_list, IfOk, OnOk, OnErr};
 ghost use Rattle.engine.specs.Tokens.{Free, found_in};
 ghost use Rattle.engine.specs.Views.{token_view, write_view, writes_view};
 ghost use Rattle.exchange.specs.Session.{no_result, change_alone};
 ghost use Rattle.exchange.specs.Rest.{commit_entries};
 ghost use Rattle.exchange.specs.Views.{open_of, tx_of};
 ghost use Rattle.exchange.specs.Acts.{left_result, left_tx, left_entry, length_after, change_of, IsBelow, IsFree};
+ghost use Rattle.engine.specs.Limits.{ledger_bound};
 
 use crate::acts::Leaves;
 use crate::result::{OpenResult, Row, Transaction};
@@ -129,7 +130,7 @@ fn commit_result<E: Engine>(
         (E.entries engine.new ≡ E.entries engine.old
         ++ commit_entries id.conn id.ordinal (Some (change_alone (open_of open.old)))) }
     ensures len { IfOk result (λ n. n ≡ length (E.entries engine.old) + 1) }
-    ensures below { IfOk result (λ n. n < 2 ^ 63) }
+    ensures below { IfOk result (λ n. n < ledger_bound) }
     ensures err { OnErr result
         ((open_of open.new ≡ open_of open.old)
         × (E.entries engine.new ≡ E.entries engine.old)) }
@@ -154,7 +155,7 @@ fn commit_writes<E: Engine>(
         ++ commit_entries id.conn id.ordinal
         (Some (change_of (writes_view writes.old.items) (token_view token.old)))) }
     ensures len { IfOk result (λ n. n ≡ length (E.entries engine.old) + 1) }
-    ensures below { IfOk result (λ n. n < 2 ^ 63) }
+    ensures below { IfOk result (λ n. n < ledger_bound) }
     ensures err { OnErr result
         ((writes_view writes.new.items ≡ writes_view writes.old.items)
         × (token_view token.new ≡ token_view token.old)

@@ -20,3 +20,9 @@ mod words;
 
 pub use exchange::Exchange;
 pub use kinds::{Cause, What, Worked};
+
+/// The most writes of a transaction: a RUN that would add a further one is answered by a FAILURE, TooManyWrites.
+pub const MAX_WRITES: usize = 1024;
+
+/// A step starts, and a no-op is put, while fewer bytes wait to go; else the step answers Full.
+pub const MAX_UNSENT: usize = 65536;

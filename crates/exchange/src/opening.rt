@@ -9,6 +9,7 @@ ghost use Rattle.exchange.specs.Session.{fields_said, rows_fitted, in_transactio
 ghost use Rattle.exchange.specs.Views.{first_of};
 ghost use Rattle.exchange.specs.Said.{fits};
 ghost use Rattle.exchange.specs.Acts.{LeavesOpen, IsBody, Refuses};
+ghost use Rattle.engine.specs.Limits.{max_rows};
 
 use crate::acts::Leaves;
 use crate::result::{OpenResult, Row};
@@ -73,7 +74,7 @@ pub(crate) fn leaves_open(
     write: Option<Write>,
     token: &Option<String>,
 ) -> Result<Leaves, AllocError>
-    requires { length rows.items ≤ 1024 }
+    requires { length rows.items ≤ max_rows }
     ensures { IfOk result
         (LeavesOpen version state rows.items mode write (token_view token.now)) }
 {
@@ -92,7 +93,7 @@ fn opened(
     write: Option<Write>,
     token: &Option<String>,
 ) -> Result<Leaves, AllocError>
-    requires { length rows.items ≤ 1024 }
+    requires { length rows.items ≤ max_rows }
     ensures { (state : AnyState) → in_transaction state ≡ false
         → IfOk result (LeavesOpen version state rows.items mode write (token_view token.now)) }
 {
@@ -115,7 +116,7 @@ fn joined(
     mode: QueryMode,
     write: Option<Write>,
 ) -> Result<Leaves, AllocError>
-    requires { length rows.items ≤ 1024 }
+    requires { length rows.items ≤ max_rows }
     ensures { (state : AnyState) (token : Token) → in_transaction state ≡ true
         → IfOk result (LeavesOpen version state rows.items mode write token) }
 {

@@ -11,8 +11,9 @@ ghost use Rattle.exchange.specs.Rest.{version_of, cause_of, replies, reset_among
 ghost use Rattle.exchange.specs.Views.{kept_of, snapshot_of};
 ghost use Rattle.exchange.specs.Acts.{ActsAs, AddsFree, IsFree, IsSized, IsWritable, Steps, served_struck, summary_of, length_after, left_result, left_tx, left_entry, after_bytes, after_summary, turn_in};
 
+use crate::MAX_UNSENT;
 use crate::acts::{Act, Leaves, Turn};
-use crate::exchange::{Exchange, MAX_OUT};
+use crate::exchange::Exchange;
 use crate::kinds::{Cause, Worked};
 use crate::leaving::leave;
 use crate::queue::{has_reset, request_in, turn_of};
@@ -46,7 +47,7 @@ impl Exchange {
         if let Some(cause) = self.cause {
             return Ok(Worked::Ended(cause));
         }
-        if self.out.len() >= MAX_OUT {
+        if self.out.len() >= MAX_UNSENT {
             return Ok(Worked::Full);
         }
         match turn_of(&self.queue) {

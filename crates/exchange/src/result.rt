@@ -1,5 +1,6 @@
 //! What a query leaves open.
 ghost use Rattle.std.specs.Prelude.{◌+◌, ◌≤◌, length};
+ghost use Rattle.engine.specs.Limits.{max_rows};
 
 use engine::Write;
 use messages::{Mode, Response};
@@ -43,7 +44,7 @@ pub(crate) struct OpenResult {
     pub writes: Vec<Write>,
     pub token: Option<String>,
     pub written: usize,
-    ghost few: { written + length rows.items ≤ 1024 },
+    ghost few: { written + length rows.items ≤ max_rows },
     ghost one: { length writes.items ≤ 1 },
 }
 
