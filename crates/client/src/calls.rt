@@ -10,18 +10,19 @@ ghost use Rattle.reader.specs.Piecewise.{Reads};
 ghost use Rattle.client.specs.Hearings.{Feeds};
 ghost use Rattle.client.specs.Held.{data_of, WantsRoom};
 ghost use Rattle.client.specs.Fits.{Fits, IsAccepted, UnlessMemory};
+ghost use Rattle.machine.specs.Limits.{max_waiting};
 
 use crate::client::Client;
 use crate::faults::{ClientFault, SubmitFault};
 use crate::feeding::Taken;
 use crate::heard::Heard;
-use crate::losses::{Losses, MAX_WAITING};
+use crate::losses::Losses;
 use crate::opening::Opening;
 use crate::pipeline::Pipeline;
 use crate::sending::text_of;
 use crate::stream::Stream;
 use bytes::{Bytes, BytesMut};
-use machine::Phase;
+use machine::{MAX_WAITING, Phase};
 use messages::Request;
 use reader::Reader;
 use std::alloc::Global;
@@ -201,7 +202,7 @@ impl Client {
     /// How many requests wait, none after `lost`. It takes no memory.
     pub fn pending(&self) -> usize
         ensures count { (r : Rest) → Fits self.now r → result ≡ length r.knows.waiting }
-        ensures few { result ≤ 32 }
+        ensures few { result ≤ max_waiting }
     {
         self.pipeline.waiting.len()
     }

@@ -1,11 +1,10 @@
 //! What became of the requests that waited when a client was lost.
 ghost use Rattle.std.specs.Prelude.{◌≡◌, ◌<◌, ◌++◌, ◌∷◌, [], length};
+ghost use Rattle.machine.specs.Limits.{max_waiting};
 
 use crate::heard::Outcome;
+use machine::MAX_WAITING;
 use std::marker::Model;
-
-/// How many requests may wait.
-pub(crate) const MAX_WAITING: usize = 32;
 
 /// At most 32 requests by their ordinals, each with its outcome, in order.
 #[derive(Drop)]
@@ -17,12 +16,13 @@ pub struct Losses {
 impl Model for Losses {
     ghost use Rattle.std.specs.Prelude.{◌≤◌, ℕ, List, take};
     ghost use Rattle.client.specs.declared.heard.Outcome.{Outcome};
+    ghost use Rattle.machine.specs.Limits.{max_waiting};
 
     ghost Value = { List (ℕ × Outcome) };
 
     ghost view = { λ l. take l.len l.pairs };
 
-    ghost invariant = { λ l. l.len ≤ 32 };
+    ghost invariant = { λ l. l.len ≤ max_waiting };
 }
 
 impl Losses {
@@ -38,7 +38,7 @@ impl Losses {
 
     /// Adds one behind them.
     pub(crate) fn push(&mut self, ordinal: u64, outcome: Outcome)
-        requires { length self.old < 32 }
+        requires { length self.old < max_waiting }
         ensures { self.new ≡ self.old ++ (ordinal, outcome) ∷ [] }
     {
         self.pairs[self.len] = (ordinal, outcome);
