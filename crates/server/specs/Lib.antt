@@ -1,3 +1,4 @@
+pub mod Limits
 pub mod Feeding
 pub mod Serving
 pub mod Incoming

@@ -15,3 +15,9 @@ mod session;
 pub use exchange::{Cause, What, Worked};
 pub use kinds::{Refused, Took};
 pub use server::Server;
+
+/// The most sessions that live: `open` answers N2 where as many do.
+pub const MAX_SESSIONS: usize = 16;
+
+/// The numbers of connections are below this: `open` answers N2 where none is left.
+pub const MAX_NUMBERS: u64 = 1 << 63;

@@ -7,18 +7,13 @@ ghost use Rattle.server.specs.Views.{Fits, Lends};
 use crate::kinds::{Refused, Took};
 use crate::places::place_of;
 use crate::session::Session;
+use crate::{MAX_NUMBERS, MAX_SESSIONS};
 use bytes::Bytes;
 use engine::{Engine, Gate};
 use exchange::{Cause, Worked};
 use machine::State;
 use reader::Reader;
 use std::alloc::Global;
-
-/// The most sessions that live.
-const MAX_SESSIONS: usize = 16;
-
-/// The numbers of connections stay below this.
-const MAX_NUMBERS: u64 = 1 << 63;
 
 /// A server: its live sessions in the order in which they were opened, over one engine and one gate.
 ///
