@@ -27,13 +27,14 @@ fn note<E: Engine>(
     value: i64,
 ) -> Result<Commit, AllocError> {
     let params = vec![in alloc; (String::from_str(alloc, "a")?, Cell::Int(value))]?;
+    let id = EntryId { conn: 0, ordinal };
+    let token = Some(String::from_str(alloc, "t1")?);
     let Ok(Answer { write, .. }) = engine.run(&[], "NOTE", &params, Mode::Write) else {
         return Err(AllocError);
     };
     let writes = writes_of(alloc, write)?;
-    let id = EntryId { conn: 0, ordinal };
-    let token = Some(String::from_str(alloc, "t1")?);
-    match engine.commit(id, token, writes) {
+    let told = engine.commit(id, token, writes);
+    match told {
         Ok(told) => Ok(told),
         Err(_) => Err(AllocError),
     }
