@@ -2,6 +2,7 @@
 //! workspace:
 //!   bench_records_read(keys, turns), bench_records_written(keys, turns): a record of one dictionary, answers its bytes
 //!   bench_pieces_taken(bytes, turns): a piece of small messages and no-ops, answers the messages in all
+//!   bench_puts(keys, count), bench_puts_under_tokens(keys, count): a client's transactions of one put each, over keys in turn
 #[allow(dead_code)]
 mod session_twin;
 #[allow(dead_code)]
@@ -15,6 +16,8 @@ unsafe extern "C" {
     fn bench_records_read(keys: u32, turns: u32) -> u64;
     fn bench_records_written(keys: u32, turns: u32) -> u64;
     fn bench_pieces_taken(bytes: u32, turns: u32) -> u64;
+    fn bench_puts(keys: u32, count: u32) -> u64;
+    fn bench_puts_under_tokens(keys: u32, count: u32) -> u64;
 }
 
 type Call = unsafe extern "C" fn(u32, u32) -> u64;
@@ -43,6 +46,32 @@ fn record(call: Call, keys: u32, turns: u32) -> Size {
 
 fn piece(bytes: u32, turns: u32) -> Size { Size { size: bytes, bytes: bytes as u64, turns } }
 
+/// Sizes of a ledger: its keys, its entries, and how often a call that makes it is timed at once.
+const LEDGERS: [(u32, u32, u32); 3] = [(10, 10, 1000), (1000, 1000, 10), (1000, 10_000, 1)];
+
+/// The time of as many transactions as a ledger has already, each; the least of so many rounds.
+fn transactions(times: u32) {
+    println!("| what | keys | entries | ns | times that at 10 entries |");
+    println!("|---|---|---|---|---|");
+    let calls: [(&str, Call); 2] = [("a transaction", bench_puts), ("a transaction under a token", bench_puts_under_tokens)];
+    let mut least = [[Least { many: f64::MAX, none: f64::MAX }; 3]; 2];
+    for _ in 0..times {
+        for ((_, call), least) in calls.into_iter().zip(&mut least) {
+            for ((keys, entries, repeats), least) in LEDGERS.into_iter().zip(least) {
+                let each = |count| (0..repeats).map(|_| time(call, keys, count)).sum::<f64>();
+                least.many = least.many.min(each(2 * entries));
+                least.none = least.none.min(each(entries));
+            }
+        }
+    }
+    for ((name, _), least) in calls.into_iter().zip(least) {
+        let each = |at: usize| (least[at].many - least[at].none) / (LEDGERS[at].1 * LEDGERS[at].2) as f64;
+        for (at, (keys, entries, _)) in LEDGERS.into_iter().enumerate() {
+            println!("| {name} | {keys} | {entries} | {:.0} | {:.2} |", each(at), each(at) / each(0));
+        }
+    }
+}
+
 fn main() {
     let times: u32 = std::env::args().nth(1).map_or(60, |n| n.parse().expect("a number"));
     let records = |name, call| Line { name, call, small: record(call, 100, 2000), large: record(call, 9000, 20), most: 4.0 };
@@ -65,4 +94,6 @@ fn main() {
         let (small, large) = (each(line.small, least[0]), each(line.large, least[1]));
         println!("| {} | {small:.2} | {large:.2} | {:.2} | {} |", line.name, large / small, line.most);
     }
+    println!();
+    transactions(times / 3);
 }

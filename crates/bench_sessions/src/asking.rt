@@ -72,11 +72,16 @@ pub(crate) fn ask(
     Ok(())
 }
 
-/// Submits a transaction of one put: the value of a number for its key.
-pub(crate) fn ask_put(alloc: Global, link: &mut Link, number: u32) -> Result<(), Stopped> {
+/// Submits a transaction of one put, under a token or under none: the value of a number for its key.
+pub(crate) fn ask_put(
+    alloc: Global,
+    link: &mut Link,
+    number: u32,
+    token: Option<String>,
+) -> Result<(), Stopped> {
     link.client.submit(Request::Begin {
         mode: Mode::Write,
-        token: None,
+        token,
     })?;
     ask(alloc, link, "PUT", put_parameters(alloc, number)?)?;
     link.client.submit(Request::Commit)?;

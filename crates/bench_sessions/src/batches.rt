@@ -3,6 +3,7 @@ use crate::asking::{ask, ask_put, connect, key_parameter, parameter};
 use crate::link::{Link, Ours, Pair, Stopped, new_server};
 use crate::moving::{down, exchange, up};
 use crate::tally::Tally;
+use crate::tokens::Tokens;
 use engine::Engine;
 use server::Worked;
 use std::alloc::{AllocError, Global};
@@ -69,11 +70,27 @@ pub(crate) fn transactions(
     gets: u32,
 ) -> Result<(), Stopped> {
     for number in 0..puts {
-        ask_put(alloc, &mut pair.link, number)?;
+        ask_put(alloc, &mut pair.link, number, None)?;
         settle(pair)?;
     }
     for number in 0..gets {
         ask_get(alloc, pair, number)?;
+    }
+    Ok(())
+}
+
+/// So many transactions of one put each, over so many keys in turn, with these tokens, in a pipeline each.
+pub(crate) fn puts(
+    alloc: Global,
+    pair: &mut Pair,
+    keys: u32,
+    count: u32,
+    tokens: Tokens,
+) -> Result<(), Stopped> {
+    for number in 0..count {
+        let token = tokens.of(alloc, number)?;
+        ask_put(alloc, &mut pair.link, number % keys.max(1), token)?;
+        settle(pair)?;
     }
     Ok(())
 }

@@ -10,12 +10,14 @@ mod link;
 mod moving;
 mod pieces;
 mod tally;
+mod tokens;
 mod workload;
 
 use crate::batches::sessions;
 use crate::growth::{pieces_taken, records_read, records_written};
 use crate::hearing::rows_heard;
 use crate::pieces::Long;
+use crate::tokens::Tokens;
 use crate::workload::{Workload, run};
 use std::alloc::Global;
 
@@ -41,6 +43,18 @@ pub extern "C" fn bench_echo(alloc: Global, bytes: u32, turns: u32) -> u64 {
 #[unsafe(no_mangle)]
 pub extern "C" fn bench_transactions(alloc: Global, puts: u32, gets: u32) -> u64 {
     run(alloc, Workload::Transactions(puts, gets)).unwrap_or(0)
+}
+
+/// So many transactions of one put each over so many keys in turn, in a pipeline each.
+#[unsafe(no_mangle)]
+pub extern "C" fn bench_puts(alloc: Global, keys: u32, count: u32) -> u64 {
+    run(alloc, Workload::Puts(keys, count, Tokens::Without)).unwrap_or(0)
+}
+
+/// The same, each transaction under a token of its own.
+#[unsafe(no_mangle)]
+pub extern "C" fn bench_puts_under_tokens(alloc: Global, keys: u32, count: u32) -> u64 {
+    run(alloc, Workload::Puts(keys, count, Tokens::OfTheirOwn)).unwrap_or(0)
 }
 
 /// A request of so many bytes, with Bytes or a list of small integers by the marker, fed to the server in pieces of a length, so

@@ -1,8 +1,9 @@
 //! What is timed with one client.
 use crate::asking::pair;
-use crate::batches::{autocommit, echo, rows, transactions};
+use crate::batches::{autocommit, echo, puts, rows, transactions};
 use crate::link::{Pair, Stopped};
 use crate::pieces::{Long, to_client, to_server};
+use crate::tokens::Tokens;
 use std::alloc::Global;
 
 /// A workload with its counts.
@@ -16,6 +17,8 @@ pub(crate) enum Workload {
     Echo(u32, u32),
     /// Transactions of one put, and gets after them.
     Transactions(u32, u32),
+    /// Over how many keys transactions of one put go, how many there are, and their tokens.
+    Puts(u32, u32, Tokens),
     /// A request that the server reads in pieces, and how many times.
     ToServer(Long, u32),
     /// A row that the client reads in pieces, and how many times.
@@ -35,6 +38,7 @@ fn run_on(alloc: Global, pair: &mut Pair, workload: Workload) -> Result<(), Stop
         Workload::Rows(count, turns) => rows(alloc, pair, count, turns),
         Workload::Echo(bytes, turns) => echo(alloc, pair, bytes, turns),
         Workload::Transactions(puts, gets) => transactions(alloc, pair, puts, gets),
+        Workload::Puts(keys, count, tokens) => puts(alloc, pair, keys, count, tokens),
         Workload::ToServer(message, turns) => to_server(alloc, pair, message, turns),
         Workload::ToClient(message, turns) => to_client(alloc, pair, message, turns),
     }

@@ -21,7 +21,7 @@ pub(crate) fn known_in(ledger: &[Entry], token: &str, writes: &[Write]) -> Optio
     None
 }
 
-fn has_token(held: &Option<String>, token: &str) -> bool
+pub(crate) fn has_token(held: &Option<String>, token: &str) -> bool
     ensures { result ≡ is_token token.now (token_view held.now) }
 {
     match held {

@@ -142,6 +142,25 @@ const TOKENS: &[Step] = &[
     Pairs(&[("a", Int(3))]),
 ];
 
+// Tokens of which a fixed table makes one number, as a stranger can choose them.
+const ONE: Option<&str> = Some("retry-0000003192WrlaP@#3--first-");
+
+const TWO: Option<&str> = Some("retry-0000003192WrlaP@#3-second-");
+
+const THREE: Option<&str> = Some("retry-0000003192WrlaP@#3--third-");
+
+const TOKENS_OF_A_STRANGER: &[Step] = &[
+    Commits(FIRST, ONE, &[("a", Int(1))], Added(1)),
+    Commits(FIRST, TWO, &[("a", Int(2))], Added(2)),
+    Commits(OTHER, THREE, &[], Added(3)),
+    Commits(OTHER, ONE, &[("a", Int(1))], Repeat(1)),
+    Commits(OTHER, TWO, &[("a", Int(2))], Repeat(2)),
+    Commits(OTHER, THREE, &[], Repeat(3)),
+    Commits(OTHER, ONE, &[("a", Int(2))], Clash),
+    Commits(OTHER, TWO, &[("a", Int(1))], Clash),
+    Entries(3),
+];
+
 const ROWS: &[Step] = &[
     Asks(
         &[],
@@ -232,6 +251,7 @@ const ASKED: &[(&str, &[Step], &[Step])] = &[
     ("a key twice in a commit", &[], KEY_TWICE_IN_A_COMMIT),
     ("a commit of no writes", THREE_PUTS, COMMIT_OF_NO_WRITES),
     ("tokens", &[], TOKENS),
+    ("tokens of a stranger", &[], TOKENS_OF_A_STRANGER),
     ("rows", &[], ROWS),
     ("bad counts", &[], BAD_COUNTS),
     ("faults in order", &[], FAULTS_IN_ORDER),

@@ -1,0 +1,107 @@
+-- What the places that are kept tell of tokens.
+use Rattle.std.proofs.Common.{◌≡◌, refl, sym, ◌∙◌, ap, ℕ, zero, suc, ◌==◌, Bool, true, false, if◌then◌else◌, Option, Some, None, List, [], ◌∷◌, ◌++◌, length, get_or, ◌<◌, ◌≤◌, arith}
+use Rattle.std.specs.Str.{bytes_eq}
+use Rattle.std.proofs.lemmas.Bool.{eqb-true, eq-eqb}
+use Rattle.std.proofs.lemmas.Slice.Eq.{bytes_eq-Decides}
+use Rattle.engine.specs.Tokens.{is_token}
+use Rattle.engine.specs.Places.{has_token_at, fingerprint, first_of, other_of, told_by, place_in, kept_at, where_none, IsWith}
+use Rattle.engine.specs.Views.{Token, EntryView, entries_view, token_view}
+use Rattle.engine.specs.declared.ledger.Entry.{Entry}
+use Rattle.engine.specs.declared.places.Places.{Places}
+
+-- one entry more, without the token
+push_other : (t : List ℕ) (es : List EntryView) (e : EntryView) (p : ℕ) → is_token t e.token ≡ false → has_token_at (es ++ e ∷ []) p t ≡ has_token_at es p t
+push_other t [] e zero h = h
+push_other t [] e (suc p) h = refl
+push_other t (x ∷ es) e zero h = refl
+push_other t (x ∷ es) e (suc p) h = push_other t es e p h
+
+push_last : (t : List ℕ) (es : List EntryView) (e : EntryView) → has_token_at (es ++ e ∷ []) (length es) t ≡ is_token t e.token
+push_last t [] e = refl
+push_last t (x ∷ es) e = push_last t es e
+
+-- with the token only at its own place, where none had it before
+push_at : (t : List ℕ) (es : List EntryView) (e : EntryView) (p : ℕ) → has_token_at es p t ≡ false → has_token_at (es ++ e ∷ []) p t ≡ true → p ≡ length es
+push_at t [] e zero n y = refl
+push_at t [] e (suc p) n y = absurd cc
+push_at t (x ∷ es) e zero n y = absurd (let z : false ≡ true = sym n ∙ y in cc)
+push_at t (x ∷ es) e (suc p) n y = ap suc (push_at t es e p n y)
+
+told_other : (t : List ℕ) (es : List EntryView) (e : EntryView) (a b : Option ℕ) → is_token t e.token ≡ false → told_by (es ++ e ∷ []) t a b ≡ told_by es t a b
+told_other t es e None b h = refl
+told_other t es e (Some p) b h = ap (λ c. if c then Some p else b) (push_other t es e p h)
+
+-- of what nothing is told nothing is kept by its text
+told_none : (t : List ℕ) (es : List EntryView) (a b : Option ℕ) → told_by es t a b ≡ None → b ≡ None
+told_none t es None b h = h
+told_none t es (Some p) b h = go (has_token_at es p t) h
+  where
+    go : (c : Bool) → (if c then Some p else b) ≡ None → b ≡ None
+    go true h = absurd cc
+    go false h = h
+
+pub unkept : (places : Places) (es : List EntryView) (t : List ℕ) → place_in places es t ≡ None → other_of places t ≡ None
+unkept places es t h = told_none t es (first_of places (fingerprint t)) (other_of places t) h
+
+told_free : (t : List ℕ) (es : List EntryView) (p : ℕ) (b : Option ℕ) → told_by es t (Some p) b ≡ None → has_token_at es p t ≡ false
+told_free t es p b h = go (has_token_at es p t) refl h
+  where
+    go : (c : Bool) → has_token_at es p t ≡ c → (if c then Some p else b) ≡ None → has_token_at es p t ≡ false
+    go true e h = absurd cc
+    go false e h = e
+
+-- what is told of q once a token is kept: by the first of the token's fingerprint, that of q's own, and what is kept by q's text
+told_with : (q : List ℕ) (es : List EntryView) (e : EntryView) (first own other : Option ℕ) (same alike : Bool)
+    → is_token q e.token ≡ same → (same ≡ true → alike ≡ true) → (alike ≡ true → own ≡ first) → (same ≡ true → told_by es q own other ≡ None)
+    → told_by (es ++ e ∷ []) q (where_none first (if alike then Some (length es) else own) own) (where_none first other (if same then Some (length es) else other))
+    ≡ (if same then Some (length es) else told_by es q own other)
+told_with q es e None own other true true i a o f = ap (λ c. if c then Some (length es) else other) (push_last q es e ∙ i)
+told_with q es e None own other true false i a o f = absurd (let z : false ≡ true = a refl in cc)
+told_with q es e None own other false true i a o f =
+    ap (λ c. if c then Some (length es) else other) (push_last q es e ∙ i) ∙ ap (λ x. told_by es q x other) (sym (o refl))
+told_with q es e None own other false false i a o f = told_other q es e own other i
+told_with q es e (Some p) own other false alike i a o f = told_other q es e own other i
+told_with q es e (Some p) own other true alike i a o f = ap (λ x. told_by (es ++ e ∷ []) q x (Some (length es))) is ∙ last (has_token_at (es ++ e ∷ []) p q) refl
+  where
+    is : own ≡ Some p
+    is = o (a refl)
+
+    last : (c : Bool) → has_token_at (es ++ e ∷ []) p q ≡ c → (if c then Some p else Some (length es)) ≡ Some (length es)
+    last true h = ap Some (push_at q es e p (told_free q es p other (ap (λ x. told_by es q x other) (sym is) ∙ f refl)) h)
+    last false h = refl
+
+-- An entry whose token was free, with its place.
+pub told_on : (old new : Places) (es : List EntryView) (e : EntryView) → IsWith old new e.token (length es) → ((t : List ℕ) → e.token ≡ Some t → place_in old es t ≡ None)
+    → (q : List ℕ) → place_in new (es ++ e ∷ []) q ≡ kept_at e.token (length es) q (place_in old es q)
+told_on old new es e with free q = go e.token refl with free
+  where
+    more : List EntryView
+    more = es ++ e ∷ []
+
+    two : (a b c d : Option ℕ) → a ≡ c → b ≡ d → told_by more q a b ≡ told_by more q c d
+    two a b c d h k = ap (λ x. told_by more q x b) h ∙ ap (told_by more q c) k
+
+    go : (o : Token) → e.token ≡ o → IsWith old new o (length es) → ((t : List ℕ) → o ≡ Some t → place_in old es t ≡ None) → place_in new more q ≡ kept_at o (length es) q (place_in old es q)
+    go None h w f =
+        two (first_of new (fingerprint q)) (other_of new q) (first_of old (fingerprint q)) (other_of old q) (w.0 (fingerprint q)) (w.1 q)
+        ∙ told_other q es e (first_of old (fingerprint q)) (other_of old q) (ap (is_token q) h)
+    go (Some t) h w f =
+        two (first_of new (fingerprint q)) (other_of new q)
+        (where_none (first_of old (fingerprint t)) (if fingerprint t == fingerprint q then Some (length es) else first_of old (fingerprint q)) (first_of old (fingerprint q)))
+        (where_none (first_of old (fingerprint t)) (other_of old q) (if bytes_eq t q then Some (length es) else other_of old q)) (w.0 (fingerprint q)) (w.1 q)
+        ∙ told_with q es e (first_of old (fingerprint t)) (first_of old (fingerprint q)) (other_of old q) (bytes_eq t q) (fingerprint t == fingerprint q)
+        (ap (is_token q) h)
+        (λ s. eq-eqb (fingerprint t) (fingerprint q) (ap fingerprint ((bytes_eq-Decides t q).0 s)))
+        (λ a. ap (first_of old) (sym (eqb-true (fingerprint t) (fingerprint q) a)))
+        (λ s. ap (place_in old es) (sym ((bytes_eq-Decides t q).0 s)) ∙ f t refl)
+
+-- whether the entry that a place names has the token
+pub token_there : (es : List Entry) (p : ℕ) (t : List ℕ) (e : Entry) → p < length es → e ≡ get_or es p e → is_token t (token_view e.token) ≡ has_token_at (entries_view es) p t
+token_there [] p t e h g = absurd (omega (arith, h))
+token_there (x ∷ es) zero t e h g = ap (λ (y : Entry). is_token t (token_view y.token)) g
+token_there (x ∷ es) (suc p) t e h g = token_there es p t e (omega (arith, h)) g
+
+pub token_nowhere : (es : List Entry) (p : ℕ) (t : List ℕ) → length es ≤ p → false ≡ has_token_at (entries_view es) p t
+token_nowhere [] p t h = refl
+token_nowhere (x ∷ es) zero t h = absurd (omega (arith, h))
+token_nowhere (x ∷ es) (suc p) t h = token_nowhere es p t (omega (arith, h))
