@@ -5,5 +5,7 @@ pub mod Moved
 pub mod Printed
 pub mod Heard
 pub mod Followed
+pub mod Taken
+pub mod Turned
 pub mod Looped
 pub mod Served

@@ -5,4 +5,5 @@ pub mod Stopping
 pub mod Talking
 pub mod Shelling
 pub mod Serving
+pub mod Turns
 pub mod Looping

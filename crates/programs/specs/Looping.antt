@@ -1,18 +1,28 @@
 -- What a client and a server in one process print and leave.
-use Rattle.std.specs.Prelude.{◌≡◌, ◌⊎◌, ℕ, Bool, true, List, [], ◌∷◌, ◌++◌, codes, length, Option, Some, None, IsSome}
+use Rattle.std.specs.Prelude.{◌≡◌, ◌⊎◌, ℕ, Bool, true, false, List, [], ◌∷◌, ◌++◌, codes, length, Option, Some, None, IsSome}
 use Rattle.std.specs.Fmt.{decimal}
 use Rattle.std.specs.List.{flat_map}
-use Rattle.std.specs.Io.KnownBytes.{Appends, IsAtEnd}
+use Rattle.std.specs.Io.KnownBytes.{Appends, Consumes, IsAtEnd}
 use Rattle.hex.specs.Hex.{encode_lower}
+use Rattle.wire.specs.Framing.{Opened, at_server}
+use Rattle.wire.specs.Reader.{state}
 use Rattle.engine.specs.Views.{Token, EntryView}
+use Rattle.exchange.specs.Session.{Setting}
 use Rattle.scripts.specs.Rows.{request_line_of}
+use Rattle.scripts.specs.Views.{ScriptRequestView}
 use Rattle.scripts.specs.declared.fault.ScriptFault.{ScriptFault}
 use Rattle.scripts.specs.Script.{filled_lines, unreadable, IsRefused}
+use Rattle.programs.specs.declared.calling.Caller.{Caller}
 use Rattle.programs.specs.declared.stop.Stop.{Stop}
 use Rattle.programs.specs.declared.stop.Stop.TheVariants.{Unreadable, Broken}
 use Rattle.programs.specs.Stopping.{Gets, stop_text}
+use Rattle.programs.specs.Talking.{Place, IsAt}
+use Rattle.programs.specs.Turns.{Shown, AreShown, Turns, AreQuiet, talk_for, turns_of}
 use Rattle.server.specs.Serving.{Rest, opened}
-use Rattle.streams.specs.Settling.{Grows}
+use Rattle.streams.specs.declared.fault.Standing.{Standing}
+use Rattle.streams.specs.declared.fault.Standing.TheVariants.{Open}
+use Rattle.streams.specs.Conversing.{Talk, with_talk}
+use Rattle.streams.specs.Settling.{Grows, standing_of}
 
 -- what ends the line of an entry: its token in hex, where it has one
 abbrev pub token_ending : Token → List ℕ
@@ -27,14 +37,6 @@ entry_line e = codes "entry " ++ decimal e.conn ++ codes " " ++ decimal e.ordina
 -- the lines of a ledger
 abbrev pub entries_text : List EntryView → List ℕ
 entries_text es = flat_map entry_line es
-
--- something was printed, or nothing
-abbrev pub PrintsSome : Option (List ℕ) → Option (List ℕ) → Type 0
-PrintsSome before after = (text : List ℕ) × Appends before after text
-
--- at last a ledger was printed
-abbrev pub EndsWith : Option (List ℕ) → Option (List ℕ) → List EntryView → Type 0
-EndsWith before after ledger = (text : List ℕ) × Appends before after (text ++ entries_text ledger)
 
 -- a stop at a line that can't be read has the number of the first such line
 abbrev pub Numbers : List ℕ → Stop → Type 0
@@ -63,3 +65,108 @@ pub record RunsNothing {S A B O : Type 0} (script : List ℕ) (server server_now
 -- No session was opened, or one, which lives on; the ledger has grown by some entries, or by none.
 abbrev pub HasLooped : {G : Type 0} → Rest G → (Rest G → Type 0) → Type 0
 HasLooped r Now = Now r ⊎ Grows (opened r) r.next Now
+
+-- One way of a connection: the bytes that its sink took, and those that are left of its source, at the other end.
+pub record Way : Type 0 where
+  pub taken : Option (List ℕ)
+  pub left : Option (List ℕ)
+
+abbrev pub way_at : Option (List ℕ) → Option (List ℕ) → Way
+way_at taken left = record { taken = taken; left = left }
+
+-- The sink took these bytes, and the source gave them.
+pub record Passes (before after : Way) (bytes : List ℕ) : Type 0 where
+  pub took : Appends before.taken after.taken bytes
+  pub gave : Consumes before.left after.left bytes
+
+-- The source gave other bytes than the sink took.
+pub record Alters (before after : Way) : Type 0 where
+  pub written : List ℕ
+  pub read : List ℕ
+  pub took : Appends before.taken after.taken written
+  pub gave : Consumes before.left after.left read
+  pub other : read ≡ written → ⊥
+
+-- The streams of a loop: the way from the client to the session, the way back, and what is printed.
+pub record Ways : Type 0 where
+  pub up : Way
+  pub down : Way
+  pub out : Option (List ℕ)
+
+abbrev pub ways_at : Option (List ℕ) → Option (List ℕ) → Option (List ℕ) → Option (List ℕ)
+    → Option (List ℕ) → Ways
+ways_at near_taken far_left far_taken near_left out = record {
+  up = way_at near_taken far_left;
+  down = way_at far_taken near_left;
+  out = out;
+}
+
+-- Bytes passed on both ways.
+abbrev pub Passed : Ways → Ways → Type 0
+Passed before after = ((bytes : List ℕ) × Passes before.up after.up bytes)
+    × ((bytes : List ℕ) × Passes before.down after.down bytes)
+
+-- a source failed or gives no more, or other bytes came than were written
+abbrev pub FailsToRead : Bool → Bool → Ways → Ways → Type 0
+FailsToRead near_failed far_failed before after =
+    GivesNoMore near_failed after.down.left ⊎ GivesNoMore far_failed after.up.left
+    ⊎ Alters before.up after.up ⊎ Alters before.down after.down
+
+-- these are printed
+abbrev pub Prints : List Shown → Option (List ℕ) → Option (List ℕ) → Type 0
+Prints xs before after = (text : List ℕ) × AreShown xs text × Appends before after text
+
+-- The client stands there; of one that has ended it isn't said which item of its bytes isn't whole.
+pub record StandsAt (c : Caller) (p : Place) : Type 0 where
+  pub item : Opened
+  pub at : IsAt c (record {
+    rest = record {
+      wish = p.rest.wish;
+      knows = p.rest.knows;
+      item = item;
+      unsent = p.rest.unsent;
+    };
+    version = p.version;
+  })
+  pub same : p.rest.knows.over ≡ false → item ≡ p.rest.item
+
+module _ {G : Type 0} (r : Rest G) (conn : ℕ) (S : Setting) where
+  -- The session is as these bytes of its client leave it, and this is all that it has put out.
+  pub record Sits (Now : Rest G → Type 0) (sent put_out : List ℕ) (standing : Standing) : Type 0 where
+    pub unfinished : Opened
+    pub now : Now (with_talk r conn unfinished (talk_for S conn r.ledger sent).ledger
+        (talk_for S conn r.ledger sent).kept)
+    pub out : put_out ≡ (talk_for S conn r.ledger sent).out
+    pub stands : standing ≡ standing_of (talk_for S conn r.ledger sent).kept.ended
+    pub goes_on : standing ≡ Open → unfinished ≡ state at_server at_server.start sent
+
+  -- Both have come so far, and all passed over the streams and is printed.
+  pub record Comes (start now : Ways) (t : Turns) (c : Caller) (Now : Rest G → Type 0)
+      (put_out : List ℕ) (standing : Standing) : Type 0 where
+    pub client : StandsAt c t.place
+    pub session : Sits Now t.sent put_out standing
+    pub up : Passes start.up now.up t.sent
+    pub down : Passes start.down now.down put_out
+    pub printed : Prints t.shown start.out now.out
+
+module _ {G : Type 0} (r : Rest G) (S : Setting) (lines : List (ℕ × ScriptRequestView)) where
+  -- how far a client comes with these lines, and a session on a server on which no other lives
+  abbrev pub end : Turns
+  end = turns_of S r.next r.ledger lines
+
+  -- what the session does with all that its client sends
+  abbrev pub whole_talk : Talk
+  whole_talk = talk_for S r.next r.ledger end.sent
+
+  -- Where all goes well, what is printed are the lines of what the client heard and of what it refused, and then those of the ledger that the
+  -- session leaves; what passed over the streams is all that the client sent and all that the session answered; and after no line an answer
+  -- is still to come.
+  pub record Loops (Now : Rest G → Type 0) (start last : Ways) : Type 0 where
+    pub unfinished : Opened
+    pub text : List ℕ
+    pub shown : AreShown end.shown text
+    pub printed : Appends start.out last.out (text ++ entries_text whole_talk.ledger)
+    pub up : Passes start.up last.up end.sent
+    pub down : Passes start.down last.down whole_talk.out
+    pub quiet : AreQuiet S r.next r.ledger (turns_of S r.next r.ledger []) lines
+    pub now : Now (with_talk (opened r) r.next unfinished whole_talk.ledger whole_talk.kept)

@@ -8,7 +8,6 @@ ghost use Rattle.scripts.specs.Meant.{meant};
 ghost use Rattle.scripts.specs.Views.{script_request_view};
 ghost use Rattle.programs.specs.Telling.{IsExplained, IsTold, version_after};
 ghost use Rattle.programs.specs.Talking.{IsAt, Place, first_place};
-ghost use Rattle.programs.specs.Looping.{PrintsSome};
 ghost use Rattle.programs.specs.Shelling.{PrintsPart, Submits};
 
 use crate::names::refusal_code;
@@ -108,7 +107,6 @@ impl Caller {
         ensures submits { (p : Place) → IsAt self.old p
             → Submits p (meant p.version (script_request_view request)) number (O.taken out.old)
             (O.taken out.new) (IsAt self.new) result }
-        ensures prints { OnOk result (PrintsSome (O.taken out.old) (O.taken out.new)) }
         ensures read { IsErrOf result StreamFault.ReadFailed → ⊥ }
         ensures written { IsErrOf result StreamFault.WriteFailed → O.has_failed out.new ≡ true }
         ensures sound { UnlessTold result StreamFault.WriteFailed

@@ -1,10 +1,13 @@
 //! The programs over streams: a client at a shell, a server of one connection after another, and both in one process.
+//!
+//! What holds of what they print stands in [`laws`].
 #![tactic(auto)]
 
 mod asking;
 mod calling;
 mod errors;
 mod escaping;
+pub mod laws;
 mod looping;
 mod names;
 mod printing;

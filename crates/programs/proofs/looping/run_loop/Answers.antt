@@ -18,5 +18,5 @@ returns-in-Err-clause-unreadable g c = λ e. c.in-Err.ensures.unreadable (was_un
 pub returns-in-Err-clause-number : goal.returns-in-Err-clause-number
 returns-in-Err-clause-number g c = λ e. tells_line c.args.script.now c.in-Err.stop (g.F.Sink.has_failed c.args.err.now) (g.F.Sink.has_failed c.put_stop.new.err) (g.F.Sink.taken c.args.err.now) (g.F.Sink.taken c.put_stop.new.err) c.put_stop.result c.put_stop.ensures e c.in-Err.ensures.number
 
-pub returns-in-Err-clause-entries : goal.returns-in-Err-clause-entries
-returns-in-Err-clause-entries g c = λ e. absurd (never_well c.put_stop.ensures.told (sym c.put_stop.ensures.ends ∙ e))
+pub returns-in-Err-clause-loops : goal.returns-in-Err-clause-loops
+returns-in-Err-clause-loops g c = λ e. absurd (never_well c.put_stop.ensures.told (sym c.put_stop.ensures.ends ∙ e))

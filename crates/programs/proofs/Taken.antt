@@ -1,0 +1,32 @@
+-- Bytes that were read into the rest of a buffer, and parts of bytes.
+use Rattle.std.proofs.Common.{◌≡◌, ◌∙◌, ◌++◌, ◌+◌, ◌≤◌, ℕ, Bool, true, false, true≢false, List, length, take, drop, take-append-drop, refl, sym, ap}
+use Rattle.std.specs.Prelude.{not}
+use Rattle.std.specs.Bool.{Decides}
+use Rattle.std.specs.Str.{bytes_eq}
+use Rattle.std.proofs.lemmas.Slice.Eq.{bytes_eq-Decides}
+use Rattle.std.proofs.Math.Seq.{take-append-add}
+use Rattle.std.proofs.lemmas.List.{length-take-le, take-append-le}
+use borrow.Rule.Slice.PartMut.{post_of, put_mid}
+
+pub taken_more : (a k n : ℕ) (xs ys : List ℕ) → a ≤ length xs → n ≤ length ys → take (a + n) (put_mid a k xs ys) ≡ take a xs ++ take n ys
+taken_more a k n xs ys p q =
+    ap (λ m. take (m + n) (put_mid a k xs ys)) (sym (length-take-le a xs p)) ∙ take-append-add (take a xs) (ys ++ post_of a k xs) n ∙ ap (λ z. take a xs ++ z) (take-append-le n ys (post_of a k xs) q)
+
+-- what was compared
+pub same_then : (xs ys : List ℕ) → not (bytes_eq xs ys) ≡ false → xs ≡ ys
+same_then xs ys e = go (bytes_eq xs ys) (bytes_eq-Decides xs ys) e
+  where
+    go : (b : Bool) → Decides b (xs ≡ ys) → not b ≡ false → xs ≡ ys
+    go true d e = d.0 refl
+    go false d e = cc
+
+pub other_then : (xs ys : List ℕ) → not (bytes_eq xs ys) ≡ true → xs ≡ ys → ⊥
+other_then xs ys e = go (bytes_eq xs ys) (bytes_eq-Decides xs ys) e
+  where
+    go : (b : Bool) → Decides b (xs ≡ ys) → not b ≡ true → xs ≡ ys → ⊥
+    go false d e = λ h. true≢false (sym (d.1 h))
+    go true d e = cc
+
+-- the parts before and behind a place
+pub split_whole : (n : ℕ) (front back xs : List ℕ) → front ≡ take n xs → back ≡ drop n xs → front ++ back ≡ xs
+split_whole n front back xs f b = ap (λ z. z ++ back) f ∙ ap (λ z. take n xs ++ z) b ∙ take-append-drop n xs

@@ -1,0 +1,225 @@
+-- What a client and a session make of one piece after another, and of one line after another.
+use Rattle.std.proofs.Common.{◌≡◌, refl, sym, ap, subst, ◌∙◌, ℕ, Bool, true, false, true≢false, List, [], ◌∷◌, ◌++◌, length, drop, append_assoc, append-nil, map, Option, Some, ◌⊎◌, inl, inr}
+use Rattle.std.proofs.Math.Seq.{drop-append_seam}
+use Rattle.std.proofs.lemmas.List.{map-append}
+use Rattle.std.specs.Io.KnownBytes.{Appends}
+use Rattle.std.proofs.KnownBytes.{Appends-nil, Appends-trans}
+use Rattle.packstream.specs.Canon.{canon}
+use Rattle.packstream.specs.Tree.{list}
+use Rattle.packstream.specs.View.{trees_of}
+use Rattle.hex.specs.Hex.{encode_lower}
+use Rattle.structures.proofs.OneWriting.{same_form}
+use Rattle.wire.specs.declared.Version.{Version}
+use Rattle.wire.specs.declared.Wish.{Wish}
+use Rattle.wire.specs.Framing.{Item, Opened, at_client, at_server, items_received}
+use Rattle.wire.specs.Reader.{outputs, state}
+use Rattle.wire.proofs.Readers.{outputs-append}
+use Rattle.engine.specs.Views.{EntryView}
+use Rattle.exchange.specs.Session.{Setting}
+use Rattle.exchange.specs.Rest.{begun}
+use Rattle.client.specs.Rest.{Knows, Note, Nothing, Chose, Row, Summary, Rest}
+use Rattle.client.specs.Fits.{Fits}
+use Rattle.streams.specs.Asking.{Tale, after_notes, tale_of, hears_all, after_all, FeedsPiece}
+use Rattle.streams.specs.Conversing.{Talk}
+use Rattle.streams.specs.Settling.{item_talk}
+use Rattle.streams.proofs.Arriving.{talk_by_items}
+use Rattle.streams.proofs.Tales.{hears_all-append, after_all-append}
+use Rattle.streams.proofs.Telling.{item_talk-append}
+use Rattle.scripts.specs.Views.{ScriptRequestView}
+use Rattle.programs.specs.declared.calling.Caller.{Caller}
+use Rattle.programs.specs.Looping.{Prints, StandsAt}
+use Rattle.programs.specs.Telling.{IsTold, refused_line, row_line, version_after, versions_after}
+use Rattle.programs.specs.Talking.{Place}
+use Rattle.programs.specs.Turns.{Shown, OfNote, OfRefusal, IsShown, AreShown, notes_shown, place_after, shown_of, Turns, IsQuiet, talk_for, answer_to, given, after_line, after_lines, AreQuiet}
+use Rattle.programs.proofs.Printed.{versions_more}
+
+-- what is shown has one text
+told_once : (v : Version) (n : Note) (a b : List ℕ) → IsTold v n a → IsTold v n b → a ≡ b
+told_once v Nothing a b h k = h ∙ sym k
+told_once v (Chose o) a b h k = h ∙ sym k
+told_once v (Row cells) a b h k =
+    let same = same_form v (list (trees_of cells)) h.1.0 k.1.0 h.1.1 k.1.1 in
+    let hex : h.0 ≡ k.0 = h.1.2 ∙ ap (λ t. encode_lower (canon t)) same ∙ sym k.1.2 in
+    h.2 ∙ ap row_line hex ∙ sym k.2
+told_once v (Summary ordinal phase outcome said) a b h k = h ∙ sym k
+
+shown_once : (x : Shown) (a b : List ℕ) → IsShown x a → IsShown x b → a ≡ b
+shown_once (OfNote v n) a b h k = told_once v n a b h k
+shown_once (OfRefusal n why) a b h k =
+    let same : h.0 ≡ k.0 = let both : Some h.0 ≡ Some k.0 = sym h.1 ∙ k.1 in cc in
+    h.2 ∙ ap (refused_line n) same ∙ sym k.2
+
+pub all_shown_once : (xs : List Shown) (a b : List ℕ) → AreShown xs a → AreShown xs b → a ≡ b
+all_shown_once [] a b h k = h ∙ sym k
+all_shown_once (x ∷ xs) a b h k =
+    h.4 ∙ ap (λ z. z ++ h.1) (shown_once x h.0 k.0 h.2 k.2) ∙ ap (λ z. k.0 ++ z) (all_shown_once xs h.1 k.1 h.3 k.3) ∙ sym k.4
+
+notes_more : (v : Version) (ns ms : List Note) → notes_shown v (ns ++ ms) ≡ notes_shown v ns ++ notes_shown (versions_after v ns) ms
+notes_more v [] ms = refl
+notes_more v (n ∷ ns) ms = ap (λ z. OfNote (version_after v n) n ∷ z) (notes_more (version_after v n) ns ms)
+
+shown_then : (xs ys : List Shown) (t u : List ℕ) → AreShown xs t → AreShown ys u → AreShown (xs ++ ys) (t ++ u)
+shown_then [] ys t u h k = subst (λ (z : List ℕ). AreShown ys (z ++ u)) (sym h) k
+shown_then (x ∷ xs) ys t u h k =
+    (h.0, h.1 ++ u, h.2, shown_then xs ys h.1 u h.3 k, ap (λ (z : List ℕ). z ++ u) h.4 ∙ append_assoc h.0 h.1 u)
+
+pub prints_none : (a : Option (List ℕ)) → Prints [] a a
+prints_none a = ([], refl, Appends-nil a)
+
+pub prints_one : (x : Shown) (a b : Option (List ℕ)) (t : List ℕ) → IsShown x t → Appends a b t → Prints (x ∷ []) a b
+prints_one x a b t h k = (t, (t, [], h, refl, sym (append-nil t)), k)
+
+pub prints_then : (xs ys : List Shown) (a b c : Option (List ℕ)) → Prints xs a b → Prints ys b c → Prints (xs ++ ys) a c
+prints_then xs ys a b c h k = (h.0 ++ k.0, shown_then xs ys h.0 k.0 h.1 k.1, Appends-trans a b c h.0 k.0 h.2 k.2)
+
+-- one note more
+pub notes_next : {X : Type 0} (v : Version) (see : X → Note) (xs : List X) (x : X) (w : Version) (a b c : Option (List ℕ)) → w ≡ versions_after v (map see xs) → Prints (notes_shown v (map see xs)) a b
+    → (t : List ℕ) × IsTold (version_after w (see x)) (see x) t × Appends b c t → Prints (notes_shown v (map see (xs ++ x ∷ []))) a c
+notes_next v see xs x w a b c e h k =
+    let ns = map see xs in
+    let one : Prints (notes_shown (versions_after v ns) (see x ∷ [])) b c =
+    subst (λ (u : Version). Prints (notes_shown u (see x ∷ [])) b c) e (prints_one (OfNote (version_after w (see x)) (see x)) b c k.0 k.1 k.2) in
+    subst (λ (z : List Note). Prints (notes_shown v z) a c) (sym (map-append see xs (x ∷ [])))
+    (subst (λ (z : List Shown). Prints z a c) (sym (notes_more v ns (see x ∷ []))) (prints_then (notes_shown v ns) (notes_shown (versions_after v ns) (see x ∷ [])) a b c h one))
+
+pub version_next : {X : Type 0} (v : Version) (see : X → Note) (xs : List X) (x : X) (w u : Version) → w ≡ versions_after v (map see xs) → u ≡ version_after w (see x) → u ≡ versions_after v (map see (xs ++ x ∷ []))
+version_next v see xs x w u e f =
+    f ∙ ap (λ (z : Version). version_after z (see x)) e ∙ sym (versions_more v (map see xs) (see x ∷ [])) ∙ ap (versions_after v) (sym (map-append see xs (x ∷ [])))
+
+-- nothing is heard after the end
+over_tale : (wish : Wish) (k : Knows) (xs : List Item) → k.over ≡ true → tale_of wish k xs ≡ record { knows = k; notes = [] }
+over_tale wish k [] e = refl
+over_tale wish k (x ∷ xs) e = rw e refl
+
+stays_over : (r : Rest) (bytes : List ℕ) → r.knows.over ≡ true → (hears_all r bytes).knows.over ≡ true
+stays_over r bytes e = ap (λ (t : Tale). t.knows.over) (over_tale r.wish r.knows (outputs at_client r.item bytes) e) ∙ e
+
+abbrev pub with_item : Rest → Opened → Rest
+with_item r i = record { wish = r.wish; knows = r.knows; item = i; unsent = r.unsent }
+
+-- so it doesn't matter then which item isn't whole
+hears_alike : (r : Rest) (i : Opened) (bytes : List ℕ) → (r.knows.over ≡ false → i ≡ r.item) → hears_all (with_item r i) bytes ≡ hears_all r bytes
+hears_alike r i bytes same = go r.knows.over refl
+  where
+    go : (b : Bool) → r.knows.over ≡ b → hears_all (with_item r i) bytes ≡ hears_all r bytes
+    go true e = over_tale r.wish r.knows (outputs at_client i bytes) e ∙ sym (over_tale r.wish r.knows (outputs at_client r.item bytes) e)
+    go false e = ap (λ (z : Opened). hears_all (with_item r z) bytes) (same e)
+
+-- a piece that was fed whole, or up to the client's end, was heard as the whole piece is
+all_heard : (r : Rest) (piece fed unheard : List ℕ) → piece ≡ fed ++ unheard → (unheard ≡ []) ⊎ ((hears_all r fed).knows.over ≡ true) → hears_all r fed ≡ hears_all r piece
+all_heard r piece fed unheard parts (inl none) = ap (hears_all r) (sym (parts ∙ ap (λ z. fed ++ z) none ∙ append-nil fed))
+all_heard r piece fed unheard parts (inr over) =
+    let t = hears_all r fed in
+    let rest = over_tale r.wish t.knows (outputs at_client (state at_client r.item fed) unheard) over in
+    sym (ap (hears_all r) parts ∙ hears_all-append r fed unheard ∙ ap (after_notes t.notes) rest ∙ ap (λ (z : List Note). told t.knows z) (append-nil t.notes))
+  where
+    told : Knows → List Note → Tale
+    told k z = record { knows = k; notes = z }
+
+module _ (b c : Caller) (p : Place) (piece : List ℕ) (notes : List Note) (s : StandsAt b p) (h : FeedsPiece (with_item p.rest s.item) piece [] notes true (Fits c.client)) where
+  same_tale : hears_all (with_item p.rest s.item) h.fed ≡ hears_all p.rest piece
+  same_tale = all_heard (with_item p.rest s.item) piece h.fed h.unheard h.parts (h.ends refl) ∙ hears_alike p.rest s.item piece s.same
+
+  pub same_notes : notes ≡ (hears_all p.rest piece).notes
+  same_notes = h.told ∙ ap (λ (t : Tale). t.notes) same_tale
+
+  -- the item that isn't whole
+  same_item : (hears_all p.rest piece).knows.over ≡ false → state at_client s.item h.fed ≡ state at_client p.rest.item piece
+  same_item e = go (h.ends refl)
+    where
+      open_before : (b : Bool) → p.rest.knows.over ≡ b → p.rest.knows.over ≡ false
+      open_before true o = absurd (true≢false (sym (stays_over p.rest piece o) ∙ e))
+      open_before false o = o
+
+      go : (h.unheard ≡ []) ⊎ ((hears_all (with_item p.rest s.item) h.fed).knows.over ≡ true) → state at_client s.item h.fed ≡ state at_client p.rest.item piece
+      go (inl none) = ap (λ (z : Opened). state at_client z h.fed) (s.same (open_before p.rest.knows.over refl)) ∙ ap (state at_client p.rest.item) (sym (h.parts ∙ ap (λ z. h.fed ++ z) none ∙ append-nil h.fed))
+      go (inr over) = absurd (true≢false (sym over ∙ ap (λ (t : Tale). t.knows.over) same_tale ∙ e))
+
+  pub stands_heard : c.version ≡ versions_after b.version notes → StandsAt c (place_after p piece)
+  stands_heard v = record {
+    item = state at_client s.item h.fed;
+    at = record {
+      fits = subst (λ (t : Tale). Fits c.client (record { wish = p.rest.wish; knows = t.knows; item = state at_client s.item h.fed; unsent = p.rest.unsent })) same_tale h.now;
+      version = v ∙ ap (λ (w : Version). versions_after w notes) s.at.version ∙ ap (versions_after p.version) same_notes;
+    };
+    same = same_item;
+  }
+
+-- one piece after another
+place_more : (p : Place) (a b : List ℕ) → place_after p (a ++ b) ≡ place_after (place_after p a) b
+place_more p a b =
+    ap (at (after_all p.rest (a ++ b))) (ap (λ (t : Tale). versions_after p.version t.notes) (hears_all-append p.rest a b) ∙ versions_more p.version (hears_all p.rest a).notes (hears_all (after_all p.rest a) b).notes)
+    ∙ ap (λ (r : Rest). at r (versions_after (versions_after p.version (hears_all p.rest a).notes) (hears_all (after_all p.rest a) b).notes)) (after_all-append p.rest a b)
+  where
+    at : Rest → Version → Place
+    at r v = record { rest = r; version = v }
+
+shown_more : (p : Place) (a b : List ℕ) → shown_of p (a ++ b) ≡ shown_of p a ++ shown_of (place_after p a) b
+shown_more p a b =
+    ap (λ (t : Tale). notes_shown p.version t.notes) (hears_all-append p.rest a b) ∙ notes_more p.version (hears_all p.rest a).notes (hears_all (after_all p.rest a) b).notes
+
+-- of a piece some was heard and printed, and then some more
+pub heard_more : (b c : Caller) (p : Place) (done part : List ℕ) (x y z : Option (List ℕ)) → Prints (shown_of p done) x y → StandsAt c (place_after (place_after p done) part) × Prints (shown_of (place_after p done) part) y z → StandsAt c (place_after p (done ++ part)) × Prints (shown_of p (done ++ part)) x z
+heard_more b c p done part x y z h k = (
+  subst (StandsAt c) (sym (place_more p done part)) k.0,
+  subst (λ (s : List Shown). Prints s x z) (sym (shown_more p done part)) (prints_then (shown_of p done) (shown_of (place_after p done) part) x y z h k.1),
+)
+
+module _ (S : Setting) (conn : ℕ) (ledger : List EntryView) where
+  -- what is put out for some bytes begins what is put out for more
+  said_more : (a b : List ℕ) → (more : List ℕ) × ((talk_for S conn ledger (a ++ b)).out ≡ (talk_for S conn ledger a).out ++ more)
+  said_more a b =
+      let rest = item_talk S conn (outputs at_server (state at_server at_server.start a) b) in
+      let t = item_talk S conn (items_received a) ledger begun in (
+        (rest t.ledger t.kept).out,
+        ap (λ (t : Talk). t.out) (talk_by_items S conn ledger (a ++ b) ∙ ap (λ (xs : List Item). item_talk S conn xs ledger begun) (outputs-append Opened Item at_server at_server.start a b) ∙ item_talk-append S conn (items_received a) (outputs at_server (state at_server at_server.start a) b) ledger begun)
+            ∙ ap (λ (t : Talk). t.out ++ (rest (item_talk S conn (items_received a) ledger begun).ledger (item_talk S conn (items_received a) ledger begun).kept).out) (sym (talk_by_items S conn ledger a)),
+      )
+
+  pub answer_is : (a b : List ℕ) → (talk_for S conn ledger (a ++ b)).out ≡ (talk_for S conn ledger a).out ++ answer_to S conn ledger a b
+  answer_is a b =
+      let out = (talk_for S conn ledger a).out in
+      let more = said_more a b in
+      more.1 ∙ ap (λ z. out ++ z) (sym (ap (drop (length out)) more.1 ∙ drop-append_seam out more.0))
+
+  answer_more : (s a b : List ℕ) → answer_to S conn ledger s (a ++ b) ≡ answer_to S conn ledger s a ++ answer_to S conn ledger (s ++ a) b
+  answer_more s a b =
+      let out = (talk_for S conn ledger s).out in
+      let first = answer_to S conn ledger s a in
+      let second = answer_to S conn ledger (s ++ a) b in
+      ap (drop (length out)) (ap (λ z. (talk_for S conn ledger z).out) (sym (append_assoc s a b)) ∙ answer_is (s ++ a) b ∙ ap (λ z. z ++ second) (answer_is s a) ∙ append_assoc out first second) ∙ drop-append_seam out (first ++ second)
+
+  answer_none : (s : List ℕ) → answer_to S conn ledger s [] ≡ []
+  answer_none s =
+      let out = (talk_for S conn ledger s).out in
+      ap (λ z. drop (length out) (talk_for S conn ledger z).out) (append-nil s) ∙ ap (drop (length out)) (sym (append-nil out)) ∙ drop-append_seam out []
+
+  abbrev turns_at : Place → List ℕ → List Shown → Turns
+  turns_at p s x = record { place = p; sent = s; shown = x }
+
+  pub given_more : (t : Turns) (a b : List ℕ) → given S conn ledger t (a ++ b) ≡ given S conn ledger (given S conn ledger t a) b
+  given_more t a b =
+      let first = answer_to S conn ledger t.sent a in
+      let second = answer_to S conn ledger (t.sent ++ a) b in
+      ap (λ z. turns_at (place_after t.place z) (t.sent ++ (a ++ b)) (t.shown ++ shown_of t.place z)) (answer_more t.sent a b)
+      ∙ ap (λ z. turns_at z (t.sent ++ (a ++ b)) (t.shown ++ shown_of t.place (first ++ second))) (place_more t.place first second)
+      ∙ ap (λ z. turns_at (place_after (place_after t.place first) second) z (t.shown ++ shown_of t.place (first ++ second))) (sym (append_assoc t.sent a b))
+      ∙ ap (turns_at (place_after (place_after t.place first) second) ((t.sent ++ a) ++ b)) (ap (λ z. t.shown ++ z) (shown_more t.place first second) ∙ sym (append_assoc t.shown (shown_of t.place first) (shown_of (place_after t.place first) second)))
+
+  pub given_none : (t : Turns) → given S conn ledger t [] ≡ t
+  given_none t =
+      ap (λ z. turns_at (place_after t.place z) (t.sent ++ []) (t.shown ++ shown_of t.place z)) (answer_none t.sent)
+      ∙ ap (λ z. turns_at t.place z (t.shown ++ [])) (append-nil t.sent) ∙ ap (turns_at t.place t.sent) (append-nil t.shown)
+
+  -- one line after another
+  pub lines_more : (t : Turns) (ls : List (ℕ × ScriptRequestView)) (l : ℕ × ScriptRequestView) → after_lines S conn ledger t (ls ++ l ∷ []) ≡ after_line S conn ledger (after_lines S conn ledger t ls) l
+  lines_more t [] l = refl
+  lines_more t (x ∷ xs) l = lines_more (after_line S conn ledger t x) xs l
+
+  pub quiet_last : (t : Turns) (ls : List (ℕ × ScriptRequestView)) → AreQuiet S conn ledger t ls → IsQuiet (after_lines S conn ledger t ls)
+  quiet_last t [] h = h
+  quiet_last t (x ∷ xs) h = quiet_last (after_line S conn ledger t x) xs h.1
+
+  pub quiet_more : (t : Turns) (ls : List (ℕ × ScriptRequestView)) (l : ℕ × ScriptRequestView) → AreQuiet S conn ledger t ls → IsQuiet (after_line S conn ledger (after_lines S conn ledger t ls) l) → AreQuiet S conn ledger t (ls ++ l ∷ [])
+  quiet_more t [] l h k = (h, k)
+  quiet_more t (x ∷ xs) l h k = (h.0, quiet_more (after_line S conn ledger t x) xs l h.1 k)

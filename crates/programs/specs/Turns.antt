@@ -1,0 +1,125 @@
+-- What a client and a session make of the lines of a script, an exchange after each: what the client sends, what the session answers, and what
+-- is printed of it.
+use Rattle.std.specs.Prelude.{◌≡◌, ℕ, false, List, [], ◌∷◌, ◌++◌, length, drop, Option, Some, None}
+use Rattle.wire.specs.declared.Version.{Version}
+use Rattle.messages.specs.View.{RequestView}
+use Rattle.engine.specs.Views.{EntryView}
+use Rattle.exchange.specs.Session.{Setting}
+use Rattle.client.specs.declared.SubmitFault.{SubmitFault}
+use Rattle.client.specs.Rest.{Note, refuses, awaits}
+use Rattle.streams.specs.Conversing.{Talk, conversation}
+use Rattle.streams.specs.Asking.{hears_all, after_all}
+use Rattle.scripts.specs.Views.{ScriptRequestView}
+use Rattle.scripts.specs.Meant.{meant}
+use Rattle.programs.specs.Names.{refusal_code}
+use Rattle.programs.specs.Telling.{IsTold, refused_line, version_after, versions_after}
+use Rattle.programs.specs.Talking.{Place, first_place, submitted}
+
+-- what is printed: what the client heard, at the version that was heard by then; or that a line's request is refused, and why
+pub data Shown : Type 0 where
+  OfNote : Version → Note → Shown
+  OfRefusal : ℕ → SubmitFault → Shown
+
+-- its line, or nothing
+abbrev pub IsShown : Shown → List ℕ → Type 0
+IsShown (OfNote v n) text = IsTold v n text
+IsShown (OfRefusal n why) text =
+    (code : List ℕ) × (refusal_code why ≡ Some code) × (text ≡ refused_line n code)
+
+-- the lines of all, in order
+abbrev pub AreShown : List Shown → List ℕ → Type 0
+AreShown [] text = text ≡ []
+AreShown (x ∷ xs) text =
+    (front : List ℕ) × (rest : List ℕ) × IsShown x front × AreShown xs rest × (text ≡ front ++ rest)
+
+-- notes, each at the version that was heard by then
+abbrev pub notes_shown : Version → List Note → List Shown
+notes_shown v [] = []
+notes_shown v (n ∷ ns) = OfNote (version_after v n) n ∷ notes_shown (version_after v n) ns
+
+-- where a client stands after these bytes of its server
+abbrev pub place_after : Place → List ℕ → Place
+place_after p bytes = record {
+  rest = after_all p.rest bytes;
+  version = versions_after p.version (hears_all p.rest bytes).notes;
+}
+
+-- what is printed of these bytes
+abbrev pub shown_of : Place → List ℕ → List Shown
+shown_of p bytes = notes_shown p.version (hears_all p.rest bytes).notes
+
+-- where a client stands once all that it has to send was taken out
+abbrev pub all_sent : Place → Place
+all_sent p = record {
+  rest = record { wish = p.rest.wish; knows = p.rest.knows; item = p.rest.item; unsent = [] };
+  version = p.version;
+}
+
+-- how far the two have come: where the client stands, all that it has sent, and what was printed
+pub record Turns : Type 0 where
+  pub place : Place
+  pub sent : List ℕ
+  pub shown : List Shown
+
+-- before the first exchange
+abbrev pub no_turns : Turns
+no_turns = record { place = first_place; sent = []; shown = [] }
+
+-- a request is accepted
+abbrev pub with_request : Turns → RequestView → Turns
+with_request t q = record { place = submitted t.place q; sent = t.sent; shown = t.shown }
+
+-- a request is refused
+abbrev pub with_refusal : Turns → ℕ → SubmitFault → Turns
+with_refusal t n why =
+    record { place = t.place; sent = t.sent; shown = t.shown ++ OfRefusal n why ∷ [] }
+
+-- no answer is still to come but that of a GOODBYE
+abbrev pub IsQuiet : Turns → Type 0
+IsQuiet t = awaits t.place.rest.knows ≡ false
+
+module _ (S : Setting) (conn : ℕ) (ledger : List EntryView) where
+  -- what the session with this number does, over this ledger, with all that its client has sent
+  abbrev pub talk_for : List ℕ → Talk
+  talk_for sent = conversation S conn ledger sent
+
+  -- what it puts out for more bytes, behind what it has put out for those before
+  abbrev pub answer_to : List ℕ → List ℕ → List ℕ
+  answer_to sent more = drop (length (talk_for sent).out) (talk_for (sent ++ more)).out
+
+  -- The client has sent these bytes more, and hears what the session answers to them.
+  abbrev pub given : Turns → List ℕ → Turns
+  given t more = record {
+    place = place_after t.place (answer_to t.sent more);
+    sent = t.sent ++ more;
+    shown = t.shown ++ shown_of t.place (answer_to t.sent more);
+  }
+
+  -- An exchange: the client sends all that it has to send, and hears all that the session answers.
+  abbrev pub exchanged : Turns → Turns
+  exchanged t = given (record { place = all_sent t.place; sent = t.sent; shown = t.shown })
+      t.place.rest.unsent
+
+  -- A line with this number: its request is accepted, and an exchange follows; or the client refuses it, which is printed.
+  abbrev pub line_by : Option SubmitFault → Turns → ℕ → RequestView → Turns
+  line_by None t n q = exchanged (with_request t q)
+  line_by (Some why) t n q = with_refusal t n why
+
+  -- the same of what a line says, at the version that was heard
+  abbrev pub after_line : Turns → ℕ × ScriptRequestView → Turns
+  after_line t l = line_by (refuses t.place.rest.knows (meant t.place.version l.1)) t l.0
+      (meant t.place.version l.1)
+
+  -- Lines, in order.
+  abbrev pub after_lines : Turns → List (ℕ × ScriptRequestView) → Turns
+  after_lines t [] = t
+  after_lines t (l ∷ ls) = after_lines (after_line t l) ls
+
+  -- Before the lines and after each of them no answer is still to come.
+  abbrev pub AreQuiet : Turns → List (ℕ × ScriptRequestView) → Type 0
+  AreQuiet t [] = IsQuiet t
+  AreQuiet t (l ∷ ls) = IsQuiet t × AreQuiet (after_line t l) ls
+
+  -- the version is heard, and then come the lines
+  abbrev pub turns_of : List (ℕ × ScriptRequestView) → Turns
+  turns_of ls = after_lines (exchanged no_turns) ls
