@@ -22,6 +22,7 @@ use Rattle.bolt_c.specs.declared.codes.Heard.{Heard}
 use Rattle.bolt_c.specs.declared.codes.Loss.{Loss}
 use Rattle.bolt_c.specs.declared.codes.Standing.{Standing}
 use Rattle.bolt_c.specs.declared.held.Held.{Held}
+use Rattle.machine.specs.Limits.{max_waiting}
 
 -- the wish of a number
 abbrev pub wish_of : ℕ → Option Wish
@@ -151,10 +152,10 @@ Opens old (Some w) n new =
 -- `bolt_lost`: the outcome of each request that waited, where there is room for 32; else nothing has changed
 pub record Loses (old : Held) (before : List Loss) (count result : ℕ) (after : List Loss)
     (told : ℕ) (new : Held) : Type 0 where
-  pub short : length before < 32
+  pub short : length before < max_waiting
       → (result ≡ 11) × (after ≡ before) × (told ≡ count) × (new ≡ old)
-  pub done : 32 ≤ length before → (result ≡ 0) × (new.last ≡ old.last)
-  pub tells : (r : Rest) → Fits old.client r → 32 ≤ length before
+  pub done : max_waiting ≤ length before → (result ≡ 0) × (new.last ≡ old.last)
+  pub tells : (r : Rest) → Fits old.client r → max_waiting ≤ length before
       → Fits new.client (after_drop r) × (told ≡ length (losses r.knows))
       × (after ≡ map loss_of (losses r.knows) ++ drop told before)
 

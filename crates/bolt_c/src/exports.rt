@@ -15,10 +15,8 @@ use crate::handle::Handle;
 use crate::held::Held;
 use crate::losing::fill;
 use client::ClientFault;
+use machine::MAX_WAITING;
 use std::alloc::Global;
-
-/// The most requests that wait.
-const MOST_WAITING: usize = 32;
 
 /// Holds a new client, whose offer is to be taken out; what it held before is freed. Where the wish is none of 0, 44, 50 and 51, or
 /// memory ran out, nothing has changed.
@@ -170,7 +168,7 @@ pub extern "C" fn bolt_lost(
     let Some(mut held) = handle.take(alloc) else {
         return NO_CLIENT;
     };
-    if into.len() < MOST_WAITING {
+    if into.len() < MAX_WAITING {
         handle.put(held);
         return NO_ROOM;
     }

@@ -19,6 +19,7 @@ use Rattle.structures.specs.Form.{Form}
 use Rattle.structures.specs.Answers.{Writes}
 use Rattle.commands.specs.declared.checking.Checked.{Checked}
 use Rattle.commands.specs.declared.checking.Checked.TheVariants.{Fine, Refused, Unfit}
+use Rattle.packstream.specs.Limits.{max_size}
 
 -- a value is the form of a cell at a version
 abbrev pub IsCell : Version → Tree → Type 0
@@ -28,11 +29,11 @@ IsCell v t = (s : Tree) × Form v s t
 pub record IsTooLong (t : Tree) (r : Reason) (o : ℕ) : Type 0 where
   pub reason : r ≡ Size
   pub place : o ≡ 0
-  pub long : 65536 < length (canon t)
+  pub long : max_size < length (canon t)
 
 -- the shortest spelling of a value in hex; or that it is past the limit of a message
 abbrev pub IsSpelled : Tree → Checked → Type 0
-IsSpelled t (Fine hex) = (length (canon t) ≤ 65536) × (string_bytes hex ≡ encode_lower (canon t))
+IsSpelled t (Fine hex) = (length (canon t) ≤ max_size) × (string_bytes hex ≡ encode_lower (canon t))
 IsSpelled t (Refused r o) = IsTooLong t r o
 IsSpelled t (Unfit r k) = ⊥
 

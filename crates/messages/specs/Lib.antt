@@ -1,3 +1,4 @@
+pub mod Limits
 pub mod View
 pub mod Table
 pub mod Faults

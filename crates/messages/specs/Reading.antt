@@ -17,6 +17,7 @@ use Rattle.messages.specs.declared.request.Count.{Count}
 use Rattle.messages.specs.declared.request.Count.TheVariants.{All, Of}
 use Rattle.messages.specs.View.{AuthView, RequestView, Hello, Logon, Logoff, Goodbye, Reset, Run, Begin, Commit, Rollback, Discard, Pull, ResponseView, Success, Record, Ignored, Failure}
 use Rattle.messages.specs.Table.{HELLO, LOGON, LOGOFF, GOODBYE, RESET, RUN, BEGIN, COMMIT, ROLLBACK, DISCARD, PULL, SUCCESS, RECORD, IGNORED, FAILURE, Holds, a_text, a_mode, a_count, last_query, a_token, Named, Others, ignored, refused, Field, text_field, cells, cell_list, extra, Name, Row, row_in}
+use Rattle.messages.specs.Limits.{max_token}
 
 infixl 10 ◌>>=◌
 -- what a function makes of a result; a fault is handed on
@@ -85,7 +86,7 @@ contents_of_query o = Err fault.Extra
 
 -- a token has 1 to 64 bytes
 abbrev pub is_token : List ℕ → Bool
-is_token s = nat_le 1 (length s) && nat_le (length s) 64
+is_token s = nat_le 1 (length s) && nat_le (length s) max_token
 
 -- what a token says: itself, and null where there is none
 abbrev pub contents_of_token : Option Tree → Result (List Tree) MsgFault

@@ -7,6 +7,7 @@ use Rattle.structures.specs.Form.{Form}
 use Rattle.messages.specs.Table.{Holds, a_text, a_mode, a_count, last_query, a_token, Named, Others, ignored, refused, Field, text_field, cells, cell_list, extra, Name, Row, layout}
 use Rattle.messages.specs.Reading.{Contents, contents}
 use Rattle.messages.specs.Messages.{SpellsWhere}
+use Rattle.messages.specs.Limits.{max_token}
 
 -- the entry with a name, or that there is none; the keys of a good dictionary differ, so no other has that name
 pub data IsEntry (name : List ℕ) : Entries → Option Tree → Type 0 where
@@ -26,7 +27,7 @@ pub data SaysEntry : Holds → Option Tree → List Tree → Type 0 where
   of_last : SaysEntry last_query (Some (int (negsuc 0))) []
   of_last_unsaid : SaysEntry last_query None []
   the_token : (es : Entries) (s : List ℕ) → IsEntry (codes "token") es (Some (text s)) → 1 ≤ length s
-      → length s ≤ 64 → SaysEntry a_token (Some (dict es)) (text s ∷ [])
+      → length s ≤ max_token → SaysEntry a_token (Some (dict es)) (text s ∷ [])
   token_unsaid : (es : Entries) → IsEntry (codes "token") es None
       → SaysEntry a_token (Some (dict es)) (null ∷ [])
   metadata_unsaid : SaysEntry a_token None (null ∷ [])

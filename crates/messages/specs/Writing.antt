@@ -13,6 +13,7 @@ use Rattle.messages.specs.Table.{Holds, a_text, a_mode, a_count, last_query, a_t
 use Rattle.messages.specs.View.{RequestView, ResponseView}
 use Rattle.messages.specs.Reading.{◌>>=◌, is_token, Contents, contents, request_contents, response_contents}
 use Rattle.messages.specs.Cells.{cell_put}
+use Rattle.packstream.specs.Limits.{max_size}
 
 -- Entries, from what they say in order.
 abbrev pub Onward : Type 0
@@ -105,7 +106,7 @@ packed_by (Err e) t = Err (fault.Pack e.0 e.1)
 
 -- the shortest spelling of a value, or that it has more than 65,536 bytes
 abbrev pub spelling_within : Tree → Result (List ℕ) MsgFault
-spelling_within t = if nat_lt 65536 (length (canon t)) then Err fault.Size else Ok (canon t)
+spelling_within t = if nat_lt max_size (length (canon t)) then Err fault.Size else Ok (canon t)
 
 -- the shortest spelling of a value, or its first fault, or else that it has too many bytes
 abbrev pub spelling_of_tree : Tree → Result (List ℕ) MsgFault

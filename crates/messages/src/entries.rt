@@ -9,6 +9,7 @@ ghost use Rattle.messages.specs.Table.{refused, how_many};
 ghost use Rattle.messages.specs.View.{auth_view as login, token_view};
 ghost use Rattle.wire.specs.declared.Version.{Version as AnyVersion};
 
+use crate::MAX_TOKEN;
 use crate::fault::MsgFault;
 use crate::request::{Auth, Count, Mode};
 use packstream::Value;
@@ -79,7 +80,7 @@ fn token_of(value: &Value) -> Result<String, MsgFault>
 pub(crate) fn is_token(text: &str) -> bool
     ensures { result ≡ is_token text.now }
 {
-    1 <= text.len() && text.len() <= 64
+    1 <= text.len() && text.len() <= MAX_TOKEN
 }
 
 /// The token among a client's words of its transaction; its other words are ignored.

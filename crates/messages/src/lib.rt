@@ -20,5 +20,13 @@ mod tags;
 pub use codec::{read_request, read_response, write_request, write_response};
 pub use fault::MsgFault;
 pub use of_packed::{request_of, response_of};
+use packstream::MAX_SIZE;
 pub use request::{Auth, Count, Mode, Request};
 pub use response::Response;
+use wire::MAX_MESSAGE;
+
+/// The most bytes of a transaction's token: neither end reads or writes a longer one (M5).
+pub const MAX_TOKEN: usize = 64;
+
+// A value that can be written fits a message.
+const _: () = prove!(MAX_SIZE == MAX_MESSAGE);

@@ -12,10 +12,7 @@ use crate::errors::greet;
 use crate::stop::{Stop, put_stop};
 use scripts::{LineFault, ScriptRequest, read_request};
 use std::alloc::Global;
-use streams::{Sink, Source, StreamFault};
-
-/// How many bytes a read asks for.
-const PIECE: usize = 4096;
+use streams::{MAX_PIECE, Sink, Source, StreamFault};
 
 /// A client, and the line that is begun.
 #[derive(Drop)]
@@ -244,7 +241,7 @@ fn run<I: Source, S: Source, T: Sink, O: Sink, E: Sink>(
         Ok(()) => {}
         Err(fault) => return Err(Stop::Broken(fault)),
     }
-    let mut buffer = [0; PIECE];
+    let mut buffer = [0; MAX_PIECE];
     loop {
         let Ok(len) = input.read(&mut buffer) else {
             return Err(Stop::Broken(StreamFault::ReadFailed));

@@ -14,6 +14,7 @@ use Rattle.packstream.specs.Good.{depth, count, entry_count, trees_depth, entrie
 use Rattle.packstream.specs.Spelling.{Begins, IsSize, SpellsText, SpellsTree, SpellsAll, SpellsEntries}
 use Rattle.packstream.specs.Faults.{Place, Opened, in_list, in_struct, at_key, at_value, keys_of, key_there, outside, is_text, nests}
 use Rattle.reader.specs.Naming.{Name, IsNamed}
+use Rattle.packstream.specs.Limits.{max_depth}
 
 -- what is open, how many members or pairs it lacks, and where its keys begin among all
 pub record Frame : Type 0 where
@@ -34,7 +35,7 @@ pub record IsListFrame (heads : ℕ) (ts : Trees) (lacks : ℕ) (b : List ℕ) :
   pub sized : IsSize size (count ts + lacks) field
   pub spelled : SpellsAll ts body
   pub sound : AreSound ts
-  pub deep : trees_depth ts + heads ≤ 32
+  pub deep : trees_depth ts + heads ≤ max_depth
   pub begins : Begins (announces.List size) (field ++ body) b
 
 -- b is the head of a structure, and the members so far, likewise.
@@ -42,7 +43,7 @@ pub record IsStructFrame (heads tag : ℕ) (ts : Trees) (lacks : ℕ) (b : List 
   pub body : List ℕ
   pub spelled : SpellsAll ts body
   pub sound : AreSound ts
-  pub deep : trees_depth ts + heads ≤ 32
+  pub deep : trees_depth ts + heads ≤ max_depth
   pub begins : Begins (announces.Struct (count ts + lacks)) (tag ∷ body) b
 
 -- b is the head of a dictionary, and the entries so far, likewise.
@@ -54,7 +55,7 @@ pub record IsDictFrame (heads : ℕ) (es : Entries) (lacks : ℕ) (b : List ℕ)
   pub spelled : SpellsEntries es body
   pub fresh : AreNewKeys [] es
   pub sound : HaveSoundValues es
-  pub deep : entries_depth es + heads ≤ 32
+  pub deep : entries_depth es + heads ≤ max_depth
   pub begins : Begins (announces.Dict size) (field ++ body) b
 
 -- b is the head of a dictionary, the entries so far, likewise, and one key more.
@@ -68,7 +69,7 @@ pub record IsPairFrame (heads : ℕ) (es : Entries) (k : List ℕ) (lacks : ℕ)
   pub spelled : SpellsEntries es body
   pub fresh : AreNewKeys [] es
   pub sound : HaveSoundValues es
-  pub deep : entries_depth es + heads ≤ 32
+  pub deep : entries_depth es + heads ≤ max_depth
   pub spelled_key : SpellsText k key
   pub new_key : is_among k (keys_of es) ≡ false
   pub begins : Begins (announces.Dict size) (field ++ (body ++ key)) b
@@ -93,7 +94,7 @@ pub record IsInnermost (f : Frame) (fs : List Frame) (Around : List ℕ → Type
   pub rest : List ℕ
   pub around : Around front
   pub keyless : (place fs).key ≡ None
-  pub room : length fs < 32
+  pub room : length fs < max_depth
   pub waiting : 0 < f.lacks
   pub frame : IsFrame (length fs + 1) f.opened f.lacks rest
   pub whole : b ≡ front ++ rest
@@ -216,7 +217,7 @@ ends (f ∷ fs) t =
 pub record SpellsSound (t : Tree) (b : List ℕ) : Type 0 where
   pub spells : SpellsTree t b
   pub sound : IsSound t
-  pub deep : depth t ≤ 32
+  pub deep : depth t ≤ max_depth
 
 -- The bytes spell the whole value; or they are what is still open.
 abbrev pub Stands : Left → List ℕ → Type 0
@@ -233,5 +234,5 @@ abbrev pub head_fault : Place → Marker → Option Reason
 head_fault p m =
     if is_text m then None
     else if is_some p.key then Some reason.KeyKind
-    else if nests m && nat_le 32 p.heads then Some reason.Depth
+    else if nests m && nat_le max_depth p.heads then Some reason.Depth
     else None

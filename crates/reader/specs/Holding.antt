@@ -22,6 +22,7 @@ use Rattle.reader.specs.Items.{field, body, size_with, head_bytes, bytes_of_item
 use Rattle.reader.specs.Naming.{Name, ArePlaced}
 use Rattle.reader.specs.Frames.{Frame, place, AreFrames, AreLevels, HaveNames, head_fault}
 use Rattle.reader.specs.Piecewise.{Point, Points, IsBeginning}
+use Rattle.packstream.specs.Limits.{max_depth}
 
 -- its lists, and what stands beside them
 pub record Holds : Type 0 where
@@ -141,7 +142,7 @@ pub record IsValueBehind (h : Holds) (m number : ℕ) (g : Goes h (part.Body m n
     : Type 0 where
   pub tree : Tree
   pub sound : IsSound tree
-  pub deep : depth tree + length g.frames ≤ 32
+  pub deep : depth tree + length g.frames ≤ max_depth
   pub spells : SpellsTree tree (head_bytes m number ++ g.tail)
   pub keyless : (place g.frames).key ≡ None
 
@@ -158,7 +159,7 @@ pub record IsDone (h : Holds) : Type 0 where
   pub fit : AreItems h.items
   pub spells : SpellsTree tree (bytes_of_items h.items [] h.store)
   pub sound : IsSound tree
-  pub deep : depth tree ≤ 32
+  pub deep : depth tree ≤ max_depth
   pub read : h.standing.read ≡ length (bytes_of_items h.items [] h.store)
   pub placed : ArePlaced h.names (length h.store)
 

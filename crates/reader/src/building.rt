@@ -10,8 +10,8 @@ ghost use Rattle.reader.specs.Items.{bytes_of_items, bodies, AreItems};
 ghost use Rattle.reader.specs.Building.{bytes_in, IsRest, IsRead, Builds};
 
 use crate::item::{Item, size_in};
-use packstream::Value;
 use packstream::marker::{Marker, Width, marker_of};
+use packstream::{MAX_DEPTH, Value};
 use std::alloc::{AllocError, Global};
 use std::str::from_utf8_unchecked;
 
@@ -22,9 +22,6 @@ struct Left<'a> {
     store: &'a [u8],
 }
 
-/// So many lists, dictionaries and structures may stand around each other.
-const ROOM: u8 = 32;
-
 /// The value of which these are the items and the bytes.
 pub(crate) fn build(alloc: Global, items: &[Item], store: &[u8]) -> Result<Value, AllocError>
     requires sized { length store.now ≡ bodies items.now }
@@ -32,7 +29,7 @@ pub(crate) fn build(alloc: Global, items: &[Item], store: &[u8]) -> Result<Value
     requires spells { (t : Tree) × (whole_of (bytes_of_items items.now [] store.now) ≡ Ok t) }
     ensures { IfOk result (λ v. whole_of (bytes_of_items items.now [] store.now) ≡ Ok (tree v)) }
 {
-    let (value, _) = value_of(alloc, ROOM, Left { items, store })?;
+    let (value, _) = value_of(alloc, MAX_DEPTH, Left { items, store })?;
     Ok(value)
 }
 

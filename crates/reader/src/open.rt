@@ -1,12 +1,13 @@
 //! The lists, dictionaries and structures that are open around a place.
 ghost use Rattle.std.specs.Prelude.{◌≡◌, ◌≤◌, ◌<◌, ◌-◌, ℕ, List, ◌∷◌, true, false, is_some};
 ghost use Rattle.packstream.specs.Faults.{nests as is_nest};
+ghost use Rattle.packstream.specs.Limits.{max_depth};
 
-use packstream::Reason;
 use packstream::marker::Marker;
+use packstream::{MAX_DEPTH, Reason};
 
 /// So many lists, dictionaries and structures may stand around each other.
-pub(crate) const MOST: usize = 32;
+pub(crate) const MOST: usize = MAX_DEPTH as usize;
 
 /// An open list, dictionary or structure: what is read of it next, how many members or pairs it still lacks, and where
 /// its keys begin among all keys.
@@ -31,7 +32,7 @@ pub(crate) struct Open {
     around: [Level; MOST],
     depth: usize,
     is_whole: bool,
-    ghost fits: { depth ≤ 32 },
+    ghost fits: { depth ≤ max_depth },
 }
 
 impl Open {
@@ -131,7 +132,7 @@ impl Open {
     /// A list or a structure opens, to have so many members.
     #[inline]
     pub(crate) fn open(&mut self, members: u64)
-        requires { self.old.depth < 32 }
+        requires { self.old.depth < max_depth }
         ensures frames { (fs : List Frame) (f : Opened)
             → AreLevels fs self.old.depth self.old.around → next_of f ≡ inside.Member
             → AreLevels (waits f members 0 ∷ fs) self.new.depth self.new.around }
@@ -143,7 +144,7 @@ impl Open {
     /// A dictionary opens, to have so many pairs, its keys to begin here.
     #[inline]
     pub(crate) fn open_dict(&mut self, pairs: u64, keys: usize)
-        requires { self.old.depth < 32 }
+        requires { self.old.depth < max_depth }
         ensures frames { (fs : List Frame) (f : Opened)
             → AreLevels fs self.old.depth self.old.around → next_of f ≡ inside.Key
             → AreLevels (waits f pairs keys ∷ fs) self.new.depth self.new.around }
@@ -154,7 +155,7 @@ impl Open {
 
     #[inline]
     fn enter(&mut self, next: Inside, lacks: u64, keys: usize)
-        requires { self.old.depth < 32 }
+        requires { self.old.depth < max_depth }
         ensures frames { (fs : List Frame) (f : Opened)
             → AreLevels fs self.old.depth self.old.around → next_of f ≡ next
             → AreLevels (waits f lacks keys ∷ fs) self.new.depth self.new.around }

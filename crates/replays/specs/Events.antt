@@ -20,6 +20,7 @@ use Rattle.scripts.specs.Meant.{meant}
 use Rattle.programs.specs.Names.{refusal_code}
 use Rattle.world.specs.Connections.{Connection, Peer, Ours, Foreign, wish_of}
 use Rattle.world.specs.World.{World, Event, Opens, Submit, ToServer, ToClient, Work, PutsNoop, Cut, ClientLost, ServerLost, Feeds, Seen, Opened, Submitted, Fed, Gave, SawWork, SawNoop, SawNothing, Refusal, V1, V2, V3}
+use Rattle.wire.specs.Limits.{max_message}
 
 -- the version of the requests of a connection: the one that its client wishes, and the newest where it has none
 abbrev pub version_of : Option Connection → Version
@@ -38,7 +39,7 @@ peer_said peer.Foreign = Foreign
 -- how many bytes a step of a line moves at most
 abbrev pub bytes_in : Amount → ℕ
 bytes_in (Bytes n) = n
-bytes_in All = 65536
+bytes_in All = max_message
 
 -- the number of the connection of a line, 0 for an opening
 abbrev pub conn_of : LineView → ℕ
@@ -136,7 +137,7 @@ fed_code what.Malformed = None
 fed_code what.Full = Some (codes "Full")
 fed_code what.Closed = None
 
--- the code of a session's step: Full, where 65536 bytes or more lie untaken
+-- the code of a session's step: Full, where 65,536 bytes or more lie untaken
 abbrev pub worked_code : Worked → Option (List ℕ)
 worked_code worked.Idle = None
 worked_code worked.Full = Some (codes "Full")

@@ -9,11 +9,8 @@ ghost use Rattle.replays.specs.Events.{conn_of, event_by, repeats, is_all, is_al
 
 use scripts::{Amount, Line, Peer as PeerSaid, ScriptRequest, Times};
 use std::alloc::{AllocError, Global};
-use wire::Version;
+use wire::{MAX_MESSAGE, Version};
 use world::{Event, Peer};
-
-/// How many bytes a step of a line of `all` moves at most.
-const MOST: usize = 65_536;
 
 /// The number of the connection of a line, 0 for an opening.
 pub(crate) fn conn_of(line: &Line) -> u64
@@ -69,7 +66,7 @@ fn bytes_in(amount: Amount) -> usize
 {
     match amount {
         Amount::Bytes(bytes) => bytes,
-        Amount::All => MOST,
+        Amount::All => MAX_MESSAGE,
     }
 }
 

@@ -3,10 +3,7 @@ ghost use Rattle.std.specs.Prelude.{◌≡◌, ◌↔◌, List, ℕ, IfOk, true,
 ghost use Rattle.std.specs.Io.KnownBytes.{Consumes, IsAtEnd};
 
 use std::alloc::Global;
-use streams::{Source, StreamFault};
-
-/// How many bytes are read at most at once.
-const PIECE: usize = 4096;
+use streams::{MAX_PIECE, Source, StreamFault};
 
 /// The bytes of a source, to its end. I1 exactly where the source has failed by then; else I3 for want of memory.
 pub fn read_all<S: Source>(alloc: Global, source: &mut S) -> Result<Vec<u8>, StreamFault>
@@ -16,7 +13,7 @@ pub fn read_all<S: Source>(alloc: Global, source: &mut S) -> Result<Vec<u8>, Str
     ensures failed { (result ≡ Err StreamFault.ReadFailed) ↔ (S.has_failed source.new ≡ true) }
 {
     let mut bytes = Vec::new(alloc);
-    let mut buffer = [0; PIECE];
+    let mut buffer = [0; MAX_PIECE];
     loop {
         let Ok(len) = source.read(&mut buffer) else {
             return Err(StreamFault::ReadFailed);

@@ -12,6 +12,7 @@ use Rattle.client.specs.Rest.{Knows, Hearing, Note, Nothing, Chose, Row, Summary
 use Rattle.streams.specs.declared.fault.StreamFault.{StreamFault}
 use Rattle.streams.specs.declared.fault.StreamFault.TheVariants as stream_fault
 use Rattle.streams.specs.Fronts.{AppendsFront}
+use Rattle.streams.specs.Limits.{max_piece}
 
 -- what is kept of a note: a no-op tells nothing
 abbrev pub notes_by : Note → List Note
@@ -67,7 +68,7 @@ pub record ReadsPiece (r : Rest) (left left_now : Option (List ℕ)) (before aft
     (whole : Bool) (Now : Rest → Type 0) : Type 0 where
   pub piece : List ℕ
   pub input : Consumes left left_now piece
-  pub short : length piece ≤ 4096
+  pub short : length piece ≤ max_piece
   pub feeds : FeedsPiece r piece before after whole Now
 
 -- The input has ended, and nothing was fed.
@@ -108,7 +109,7 @@ pub record HasNeededPiece (r : Rest) (bytes : List ℕ) : Type 0 where
   pub before : List ℕ
   pub last : List ℕ
   pub parts : bytes ≡ before ++ last
-  pub short : length last ≤ 4096
+  pub short : length last ≤ max_piece
   pub waits : awaits (hears_all r before).knows ≡ true
 
 -- Bytes are read only as long as an answer is still to come: it was before the last piece.

@@ -1,3 +1,4 @@
+pub mod Limits
 pub mod Fronts
 pub mod Failing
 pub mod Asking

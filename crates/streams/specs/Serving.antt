@@ -11,12 +11,13 @@ use Rattle.streams.specs.declared.fault.StreamFault.{StreamFault}
 use Rattle.streams.specs.declared.fault.StreamFault.TheVariants as stream_fault
 use Rattle.streams.specs.Fronts.{AppendsFront}
 use Rattle.streams.specs.Conversing.{Talk, conversation, with_talk, without_talk}
+use Rattle.streams.specs.Limits.{max_piece}
 
 -- A source lets itself be read, of at most 4,096 bytes at once, whenever it is the client's turn.
 abbrev pub LetsRead : {I : Type 0} → (I → Option (List ℕ) → ℕ → Type 0)
     → (I → Option (List ℕ) → Type 0) → Type 0
 LetsRead {I = I} MayRead IsItsTurn =
-    (s : I) (taken : Option (List ℕ)) (n : ℕ) → n ≤ 4096 → IsItsTurn s taken → MayRead s taken n
+    (s : I) (taken : Option (List ℕ)) (n : ℕ) → n ≤ max_piece → IsItsTurn s taken → MayRead s taken n
 
 module _ {G : Type 0} (r : Rest G) (conn : ℕ) (S : Setting) where
   -- what the session does with these bytes of its client

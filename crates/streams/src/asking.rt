@@ -8,15 +8,14 @@ ghost use Rattle.client.specs.Fits.{Fits};
 ghost use Rattle.streams.specs.Asking.{notes_by, has_ended, FeedsPiece, HearsPiece, IsAwaited, IsTurn, ReadsAll, PutsOut, Asks, GivesUp};
 ghost use Rattle.streams.specs.Failing.{StaysSound, UnlessTold};
 ghost use Rattle.streams.specs.Serving.{LetsRead};
+ghost use Rattle.streams.specs.Limits.{max_piece};
 
+use crate::MAX_PIECE;
 use crate::fault::StreamFault;
 use crate::traits::{Peer, Sink};
 use crate::writing::write_all;
 use client::{Client, ClientFault, Heard, Losses};
 use std::alloc::Global;
-
-/// How many bytes a read asks for.
-const PIECE: usize = 4096;
 
 /// What came of asking.
 #[derive(Drop)]
@@ -88,7 +87,7 @@ pub fn hear_piece<I: Peer, O: Sink>(
     sink: &O,
     heard: &mut Vec<Heard>,
 ) -> Result<bool, StreamFault>
-    requires { (n : ℕ) → n ≤ 4096 → I.may_read source.old (O.taken sink.now) n }
+    requires { (n : ℕ) → n ≤ max_piece → I.may_read source.old (O.taken sink.now) n }
     ensures hears { (r : Rest) → Fits client.old r
         → HearsPiece r (I.left source.old) (I.left source.new) (map note heard.old.items)
         (map note heard.new.items) (Fits client.new) result }
@@ -100,7 +99,7 @@ pub fn hear_piece<I: Peer, O: Sink>(
     ensures fault { IfErr result (λ e. e ≡ StreamFault.WriteFailed → ⊥) }
     ensures lowers { IfOk result (λ some. some ≡ true → I.reads source.new < I.reads source.old) }
 {
-    let mut buffer = [0; PIECE];
+    let mut buffer = [0; MAX_PIECE];
     let Ok(len) = source.read_after(sink, &mut buffer) else {
         return Err(StreamFault::ReadFailed);
     };

@@ -7,9 +7,7 @@ ghost use Rattle.streams.specs.Holding.{waits, with_held, HasSent};
 use crate::traits::{Failed, Sink};
 use crate::writing::write_all;
 use std::alloc::Global;
-
-/// How many bytes are held back at most.
-const MOST: usize = 65_536;
+use wire::MAX_MESSAGE;
 
 /// Bytes that wait to go to a sink. Of those that it has, so many are written.
 #[derive(Drop)]
@@ -33,7 +31,7 @@ impl Held {
 fn has_room(held: &Held, len: usize) -> bool
     ensures { result ≡ true → held.now.written ≡ 0 }
 {
-    held.written == 0 && len <= MOST.saturating_sub(held.bytes.len())
+    held.written == 0 && len <= MAX_MESSAGE.saturating_sub(held.bytes.len())
 }
 
 /// Puts bytes behind those that wait. Where more than 65,536 bytes would wait then, or there is no memory to hold them, they are written, and

@@ -22,3 +22,6 @@ pub use serving::{converse, serve_one};
 pub use taking::take_piece;
 pub use traits::{Failed, Peer, Sink, Source};
 pub use writing::write_all;
+
+/// The most bytes that `serve_one` and `ask_all` read at once.
+pub const MAX_PIECE: usize = 4096;

@@ -1,5 +1,5 @@
 //! A source or a sink over a reader or a writer of the standard library.
-ghost use Rattle.std.specs.Prelude.{◌≡◌, ◌^◌, None, false, option_copied};
+ghost use Rattle.std.specs.Prelude.{◌≡◌, None, false, option_copied};
 
 use crate::traits::{Failed, Sink, Source};
 use std::io;
@@ -22,7 +22,7 @@ impl<S> Over<S> {
     pub fn new(stream: S) -> Over<S>
         ensures stream { result.stream ≡ stream }
         ensures failed { result.failed ≡ false }
-        ensures reads { result.reads ≡ 2 ^ 63 }
+        ensures reads { result.reads ≡ MOST_READS }
         ensures error { result.error ≡ None }
     {
         Over {

@@ -5,7 +5,9 @@ ghost use Rattle.server.specs.Views.{Fits};
 ghost use Rattle.streams.specs.Holding.{waits};
 ghost use Rattle.streams.specs.Settling.{IsDueTo, IsLive, LivesOn};
 ghost use Rattle.streams.specs.Serving.{Converses, IsTurn, LeavesOthers, LetsRead, Serves};
+ghost use Rattle.streams.specs.Limits.{max_piece};
 
+use crate::MAX_PIECE;
 use crate::fault::{Standing, StreamFault};
 use crate::holding::Held;
 use crate::taking::take_held;
@@ -13,9 +15,6 @@ use crate::traits::{Peer, Sink};
 use engine::{Engine, Gate};
 use server::{Cause, Server};
 use std::alloc::Global;
-
-/// How many bytes are read at most at once.
-const PIECE: usize = 4096;
 
 /// Serves a session that lives: reads a piece of at most 4,096 bytes, feeds an item of it and works until nothing is due, one item after the
 /// other, writes what waits to go, and goes on, to the end of the input or of the session, or to a fault. Then the session is given up, and the
@@ -76,7 +75,7 @@ pub fn converse<E: Engine, G: Gate, I: Peer, O: Sink>(
     ensures failed { IfErr result
         (λ e. IsDueTo e (I.has_failed source.new) (O.has_failed sink.new)) }
 {
-    let Ok(mut buffer) = vec![in alloc; 0; PIECE] else {
+    let Ok(mut buffer) = vec![in alloc; 0; MAX_PIECE] else {
         return Err(StreamFault::Memory);
     };
     let mut held = Held::new(alloc);
@@ -94,7 +93,7 @@ fn converse_by<E: Engine, G: Gate, I: Peer, O: Sink>(
 ) -> Result<(), StreamFault>
     requires live { IsLive E.entries conn server.old }
     requires room { 0 < length buffer.old }
-    requires few { length buffer.old ≤ 4096 }
+    requires few { length buffer.old ≤ max_piece }
     requires none { waits held.old ≡ [] }
     requires turns { LetsRead I.may_read (λ s taken. (r : Rest G) → Fits E.entries server.old r
         → find conn r.sessions ≡ Some (fresh conn)
