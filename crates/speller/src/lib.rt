@@ -12,5 +12,5 @@ mod whole;
 
 pub use adding::Adding;
 pub use fault::Unspelled;
-pub use numbers::{put_int, put_text};
+pub use numbers::{put_int, put_short_text, put_text};
 pub use whole::{put_dict, put_list};

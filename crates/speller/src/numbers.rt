@@ -77,8 +77,19 @@ pub(crate) fn put_float(out: &mut Adding, bits: u64) -> Result<(), AllocError>
     out.extend_from_slice(&bits.to_be_bytes())
 }
 
-/// Adds the shortest spelling of a text of at most 65,536 bytes.
+/// Adds the shortest spelling of a text that is not too long.
 #[tactic(auto, using(packstream::proofs::Putting::three_parts))]
+#[inline]
+pub fn put_short_text(out: &mut Adding, text: &str) -> Result<(), AllocError>
+    requires { length text.now ≤ 65536 }
+    ensures before { out.new.before ≡ out.old.before }
+    ensures ok { OnOk result (out.new.more ≡ out.old.more ++ text_bytes text.now) }
+{
+    put_head(out, 0x80, 0xD0, text.len() as u32)?;
+    out.extend_from_slice(text.as_bytes())
+}
+
+/// Adds the shortest spelling of a text of at most 65,536 bytes.
 #[inline]
 pub fn put_text(out: &mut Adding, text: &str) -> Result<(), Unspelled>
     ensures before { out.new.before ≡ out.old.before }
@@ -87,8 +98,7 @@ pub fn put_text(out: &mut Adding, text: &str) -> Result<(), Unspelled>
     if text.len() > MAX_SIZE {
         return Err(Unspelled);
     }
-    put_head(out, 0x80, 0xD0, text.len() as u32)?;
-    out.extend_from_slice(text.as_bytes())?;
+    put_short_text(out, text)?;
     Ok(())
 }
 
