@@ -22,7 +22,7 @@ use Rattle.messages.specs.declared.request.Mode.TheVariants.{Read, Write}
 use Rattle.messages.specs.declared.request.Count.{Count}
 use Rattle.messages.specs.declared.request.Count.TheVariants.{All, Of}
 use Rattle.messages.specs.declared.fault.MsgFault.{MsgFault}
-use Rattle.messages.specs.Table.{Row, how_many, of_error}
+use Rattle.messages.specs.Table.{Row, how_many}
 use Rattle.messages.specs.View.{Run, Success, Record}
 use Rattle.messages.specs.Reading.{◌>>=◌, request_contents, response_contents, count_tree, contents_of_message, Contents}
 use Rattle.messages.specs.Cells.{cell_put}
@@ -102,17 +102,6 @@ one_entry k t old a b new p q r =
     r ∙ ap (λ x. x ++ canon t) (q ∙ ap (λ x. x ++ text_bytes k) p)
     ∙ three old (0xA1 ∷ []) (text_bytes k) (canon t)
     ∙ ap (λ x. old ++ (0xA1 ∷ (text_bytes k ++ x))) (sym (append-nil (canon t)))
-
--- the head of a dictionary, then its two entries
-pub two_entries : (k l : List ℕ) (t u : Tree) (old a b c d new : List ℕ) → a ≡ old ++ 0xA2 ∷ [] → b ≡ a ++ text_bytes k → c ≡ b ++ canon t → d ≡ c ++ text_bytes l → new ≡ d ++ canon u
-    → new ≡ old ++ canon (dict (entry_then k t (entry_then l u no_entries)))
-unfolding head
-two_entries k l t u old a b c d new p q r s w =
-    w ∙ ap (λ x. x ++ canon u) (s ∙ ap (λ x. x ++ text_bytes l) (r ∙ ap (λ x. x ++ canon t) (q ∙ ap (λ x. x ++ text_bytes k) p)))
-    ∙ append_assoc (old ++ 0xA2 ∷ [] ++ text_bytes k ++ canon t) (text_bytes l) (canon u)
-    ∙ append_assoc (old ++ 0xA2 ∷ [] ++ text_bytes k) (canon t) (text_bytes l ++ canon u)
-    ∙ three old (0xA2 ∷ []) (text_bytes k) (canon t ++ (text_bytes l ++ canon u))
-    ∙ ap (λ x. old ++ (0xA2 ∷ (text_bytes k ++ (canon t ++ (text_bytes l ++ x))))) (sym (append-nil (canon u)))
 
 -- Structures of good fields are good.
 pub plain_good : (tag : ℕ) → tag < 256 → IsGood (structure tag no_trees)
@@ -221,21 +210,6 @@ alone_added v m token old new n e = record {
   good = mode_good m;
   deep = mode_deep m;
   added = e;
-}
-
-pub error_added : (v : Version) (c m old p q r s new : List ℕ) → IsUtf8 c → IsUtf8 m → p ≡ old ++ 0xA2 ∷ [] → q ≡ p ++ text_bytes (codes "code") → r ≡ q ++ text_bytes c → s ≡ r ++ text_bytes (codes "message") → new ≡ s ++ text_bytes m
-    → AddsEntries (named_put v of_error (text c ∷ text m ∷ [])) old new
-unfolding lib.Utf8.encode
-error_added v c m old p q r s new f g a b d e h = record {
-  entries = entry_then (codes "code") (text c) (entry_then (codes "message") (text m) no_entries);
-  is = refl;
-  good = record {
-    deep = omega arith;
-    sound = ((refl, (refl, tt)), (tt, (tt, tt)));
-    plain = ((codes "code", (refl, refl)), f, ((codes "message", (refl, refl)), g, tt));
-  };
-  deep = omega arith;
-  added = two_entries (codes "code") (codes "message") (text c) (text m) old p q r s new a b d e h;
 }
 
 -- A structure without fields.

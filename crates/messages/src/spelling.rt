@@ -2,15 +2,15 @@
 //! what is wrong.
 ghost use Rattle.std.specs.Prelude.{◌≡◌, ◌≤◌, ◌+◌, ◌∷◌, [], ◌++◌, true, false, length, Ok, OnOk, codes, string_bytes};
 ghost use Rattle.packstream.specs.Canon.{canon};
-ghost use Rattle.packstream.specs.Tree.{dict, int, structure, text, no_trees, entry_then, no_entries};
+ghost use Rattle.packstream.specs.Tree.{dict, int, structure, no_trees, entry_then, no_entries};
 ghost use Rattle.packstream.specs.Good.{IsGood};
 ghost use Rattle.packstream.specs.View.{entries_of};
 ghost use Rattle.cells.specs.Shape.{entries, shapes};
 ghost use Rattle.messages.specs.Added.{Adds, AddsEntries};
 ghost use Rattle.messages.specs.Parts.{with_dict, mode_pairs};
 ghost use Rattle.messages.specs.Reading.{request_contents, response_contents, mode_tree, token_tree, count_tree};
-ghost use Rattle.messages.specs.Table.{begin_tag, how_many, of_error, of_transaction};
-ghost use Rattle.messages.specs.View.{request_view, response_view, token_view, Run, Success, Record, Failure};
+ghost use Rattle.messages.specs.Table.{begin_tag, how_many, of_transaction};
+ghost use Rattle.messages.specs.View.{request_view, response_view, token_view, Run, Success, Record};
 ghost use Rattle.messages.specs.Writing.{form_put, named_put};
 ghost use Rattle.wire.specs.declared.Version.{Version as AnyVersion};
 
@@ -178,35 +178,6 @@ fn put_record(out: &mut Adding, row: &Vec<Cell>) -> Result<(), Unspelled>
     Ok(())
 }
 
-/// The entries of an error.
-fn put_error(out: &mut Adding, code: &String, message: &String) -> Result<(), Unspelled>
-    ensures before { out.new.before ≡ out.old.before }
-    ensures adds { (v : AnyVersion)
-        → OnOk result (AddsEntries
-        (named_put v of_error (text (string_bytes code.now) ∷ text (string_bytes message.now) ∷ []))
-        out.old.more out.new.more) }
-{
-    out.push(0xA2)?;
-    put_text(out, "code")?;
-    put_text(out, code.as_str())?;
-    put_text(out, "message")?;
-    put_text(out, message.as_str())?;
-    Ok(())
-}
-
-fn put_failure(out: &mut Adding, code: &String, message: &String) -> Result<(), Unspelled>
-    ensures before { out.new.before ≡ out.old.before }
-    ensures adds { (v : AnyVersion)
-        → OnOk result (Adds
-        (form_put v (response_contents
-        (Failure (string_bytes code.now) (string_bytes message.now))))
-        out.old.more out.new.more) }
-{
-    put_structure(out, 1, tags::FAILURE)?;
-    put_error(out, code, message)?;
-    Ok(())
-}
-
 fn put_request(out: &mut Adding, request: &Request) -> Result<(), Unspelled>
     ensures before { out.new.before ≡ out.old.before }
     ensures adds { (v : AnyVersion)
@@ -241,7 +212,7 @@ fn put_response(out: &mut Adding, response: &Response) -> Result<(), Unspelled>
         Response::Success(metadata) => put_success(out, metadata),
         Response::Record(row) => put_record(out, row),
         Response::Ignored => put_plain(out, tags::IGNORED),
-        Response::Failure { code, message } => put_failure(out, code, message),
+        Response::Failure { .. } => Err(Unspelled),
     }
 }
 

@@ -1,4 +1,0 @@
-use Rattle.messages.proofs.spelling.put_response.Goals as goal
-
-pub returns-in-Failure-clause-adds : goal.returns-in-Failure-clause-adds
-returns-in-Failure-clause-adds c = rw c.in-Failure.is c.put_failure.ensures.adds
