@@ -6,3 +6,5 @@ pub mod Turns
 pub mod Fitting
 pub mod Commits
 pub mod Free
+pub mod Summed
+pub mod Listed

@@ -1,6 +1,6 @@
 -- What is written of a response can be written.
 use Rattle.std.proofs.Common.{◌≡◌, refl, sym, ◌∙◌, ap, subst, ℕ, Bool, true, false, List, [], ◌∷◌, ◌++◌, Result, Ok, Err, arith}
-use Rattle.std.specs.Prelude.{is_err, ◌&&◌, nat_lt}
+use Rattle.std.specs.Prelude.{◌&&◌, nat_lt}
 use Rattle.std.specs.Str.{bytes_eq}
 use Rattle.std.proofs.lemmas.Bool.Decides.{nat_tests}
 use Rattle.packstream.specs.Tree.{Tree}
@@ -80,11 +80,7 @@ refused_by v m e unwritten.Memory h r = tt
 refused_by v m e (unwritten.Because f) h r =
     let b = because e f h in
     let t : response_spelling v m ≡ Err e = r b.0 in
-    record { misfit = ap (is_text v m) t; why = ap unwritable t ∙ b.1; unspelled = ap is_err t }
+    record { misfit = ap (is_text v m) t; why = ap unwritable t ∙ b.1 }
 
 pub refused : (v : Version) (m : ResponseView) (e : MsgFault) → ((e ≡ writer.Memory → ⊥) → response_spelling v m ≡ Err e) → Refuses v m (unwritten_of e)
 refused v m e r = refused_by v m e (unwritten_of e) refl r
-
--- what has a text isn't refused
-pub no_refusal : (b : List ℕ) (r : Result (List ℕ) MsgFault) → r ≡ Ok b → is_err r ≡ true → ⊥
-no_refusal b r e h = let text : Result (List ℕ) MsgFault = Ok b in let bad : is_err text ≡ true = ap is_err (sym e) ∙ h in cc

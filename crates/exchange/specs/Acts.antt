@@ -1,5 +1,5 @@
 -- What a step decides before it changes anything, and what it leaves.
-use Rattle.std.specs.Prelude.{◌≡◌, if◌then◌else◌, ℕ, suc, ◌+◌, ◌<◌, ◌≤◌, List, [], ◌∷◌, ◌++◌, length, drop, Option, Some, None, option_map, Ok, is_err, true, false}
+use Rattle.std.specs.Prelude.{◌≡◌, if◌then◌else◌, ℕ, suc, ◌+◌, ◌<◌, ◌≤◌, List, [], ◌∷◌, ◌++◌, length, drop, Option, Some, None, option_map, Ok, false}
 use Rattle.packstream.specs.Tree.{Tree}
 use Rattle.wire.specs.declared.Version.{Version}
 use Rattle.messages.specs.View.{ResponseView}
@@ -73,7 +73,6 @@ unwritten_of _ = unwritten.Because fault.NotInVersion
 pub record IsRefused (v : Version) (m : ResponseView) (f : Fault) : Type 0 where
   pub misfit : fits v m ≡ false
   pub why : unwritable (response_spelling v m) ≡ f
-  pub unspelled : is_err (response_spelling v m) ≡ true
 
 -- the same, where it isn't for want of memory
 abbrev pub Refuses : Version → ResponseView → Unwritten → Type 0

@@ -58,7 +58,9 @@ pub(crate) struct Transaction {
 
 impl Row {
     ghost use Rattle.std.specs.Prelude.{◌≡◌, map, IfOk};
-    ghost use Rattle.cells.specs.Shape.{shapes};
+    ghost use Rattle.packstream.specs.Tree.{list};
+    ghost use Rattle.packstream.specs.View.{trees_of};
+    ghost use Rattle.cells.specs.Shape.{shape, shapes};
     ghost use Rattle.structures.specs.Fitting.{fitted};
     ghost use Rattle.messages.specs.View.{response_view, Record};
 
@@ -70,16 +72,22 @@ impl Row {
     ) -> Result<Row, AllocError>
         ensures { IfOk result (λ r. r ≡ map (fitted version) (shapes cells.items)) }
     {
-        let mut row = Vec::with_capacity(alloc, cells.len())?;
-        for cell in cells {
-            let Ok(cell) = fit(alloc, cell, version) else {
-                return Err(AllocError);
-            };
-            row.push(cell)?;
+        match fit(alloc, Cell::List(cells), version) {
+            Ok(row) => Row::of(row),
+            Err(_) => Err(AllocError),
         }
-        Ok(Row {
-            record: Response::Record(row),
-        })
+    }
+
+    /// The row of a list of cells.
+    fn of(cell: Cell) -> Result<Row, AllocError>
+        ensures { IfOk result (λ r. list (trees_of r) ≡ shape cell) }
+    {
+        match cell {
+            Cell::List(row) => Ok(Row {
+                record: Response::Record(row),
+            }),
+            _ => Err(AllocError),
+        }
     }
 
     /// The message that says it.

@@ -1,14 +1,18 @@
 //! The responses of a session but its rows and the SUCCESS of a RUN.
-ghost use Rattle.std.specs.Prelude.{◌≡◌, ◌∷◌, [], ◌++◌, IfOk, OnOk};
-ghost use Rattle.cells.specs.Shape.{shape, entries};
-ghost use Rattle.messages.specs.View.{response_view, Success};
-ghost use Rattle.messages.specs.Summaries.{response_of_summary, greeting, bookmark, bookmark_of, ending};
+ghost use Rattle.std.specs.Prelude.{◌≡◌, ◌≤◌, ◌+◌, ◌∷◌, [], ◌++◌, length, OnOk, Some, None};
+ghost use Rattle.std.specs.Fmt.{decimal};
+ghost use Rattle.packstream.specs.Canon.{text_bytes, canon, canon_entries};
+ghost use Rattle.packstream.specs.Tree.{text};
+ghost use Rattle.packstream.specs.View.{entries_of};
+ghost use Rattle.messages.specs.Reading.{mode_tree};
+ghost use Rattle.messages.specs.Summaries.{Greeting, RowsLeft, Closing, Committed, ending, form_of, IsShort};
 ghost use Rattle.exchange.specs.Acts.{summary_of};
+ghost use Rattle.exchange.specs.Faults.{failure};
 
 use crate::fault::Fault;
-use messages::{Mode, Response};
+use messages::Mode;
+use speller::{Adding, put_int, put_short_text};
 use std::alloc::{AllocError, Global};
-use structures::Cell;
 
 #[derive(Clone, Copy)]
 pub(crate) enum Summary {
@@ -28,96 +32,165 @@ pub(crate) enum Summary {
     Passed,
 }
 
-type Entries = Vec<(String, Cell)>;
-
 impl Summary {
-    pub(crate) fn response(self, alloc: Global) -> Result<Response, AllocError>
-        ensures { IfOk result (λ r. response_view r ≡ response_of_summary (summary_of self)) }
+    /// Adds the text of the response.
+    #[tactic(auto, unfolding(packstream::specs::Canon::head))]
+    pub(crate) fn put(self, alloc: Global, out: &mut Adding) -> Result<(), AllocError>
+        ensures before { out.new.before ≡ out.old.before }
+        ensures spelled { OnOk result (out.new.more
+            ≡ out.old.more ++ canon (form_of (summary_of self))) }
     {
         match self {
-            Summary::Greeting(conn) => greeting(alloc, conn),
-            Summary::RowsLeft => rows_left(alloc),
-            Summary::Closing(place, mode) => closing(alloc, place, mode),
-            Summary::Committed(place) => committed(alloc, place),
-            Summary::Plain => Ok(Response::Success(Vec::new(alloc))),
-            Summary::Failure(fault) => failure(alloc, fault),
-            Summary::Passed => Ok(Response::Ignored),
+            Summary::Greeting(conn) => put_greeting(alloc, out, conn),
+            Summary::RowsLeft => put_rows_left(out),
+            Summary::Closing(place, mode) => put_closing(alloc, out, place, mode),
+            Summary::Committed(place) => put_committed(alloc, out, place),
+            Summary::Plain => put_success(out, 0),
+            Summary::Failure(fault) => put_failure(out, fault),
+            Summary::Passed => out.extend_from_slice(&[0xB0, 0x7E]),
         }
     }
 }
 
-fn greeting(alloc: Global, conn: u64) -> Result<Response, AllocError>
-    ensures { IfOk result (λ r. response_view r ≡ Success (greeting conn)) }
+/// The head of a SUCCESS with so many entries.
+fn put_success(out: &mut Adding, count: u8) -> Result<(), AllocError>
+    requires { count ≤ 15 }
+    ensures before { out.new.before ≡ out.old.before }
+    ensures ok { OnOk result (out.new.more
+        ≡ out.old.more ++ 0xB1 ∷ 0x70 ∷ (0xA0 + count) ∷ []) }
 {
-    let mut metadata = Vec::with_capacity(alloc, 2)?;
-    let server = String::from_str(alloc, "BoltTable/1")?;
-    put(&mut metadata, "server", Cell::Text(server))?;
-    let id = format!(in alloc; "bolt-{conn}")?;
-    put(&mut metadata, "connection_id", Cell::Text(id))?;
-    Ok(Response::Success(metadata))
+    out.extend_from_slice(&[0xB1, 0x70, 0xA0 + count])
 }
 
-fn rows_left(alloc: Global) -> Result<Response, AllocError>
-    ensures { IfOk result (λ r. response_view r
-        ≡ response_of_summary (summary_of Summary.RowsLeft)) }
+/// An entry that holds a text.
+#[tactic(auto, using(packstream::proofs::Putting::three_parts))]
+fn put_entry(out: &mut Adding, key: &str, text: &str) -> Result<(), AllocError>
+    requires key { length key.now ≤ 65536 }
+    requires text { length text.now ≤ 65536 }
+    ensures before { out.new.before ≡ out.old.before }
+    ensures ok { OnOk result (out.new.more
+        ≡ out.old.more ++ (text_bytes key.now ++ text_bytes text.now)) }
 {
-    let mut metadata = Vec::with_capacity(alloc, 1)?;
-    put(&mut metadata, "has_more", Cell::Bool(true))?;
-    Ok(Response::Success(metadata))
+    put_short_text(out, key)?;
+    put_short_text(out, text)
 }
 
-fn closing(alloc: Global, place: Option<u64>, mode: Mode) -> Result<Response, AllocError>
-    ensures { IfOk result (λ r. response_view r ≡ Success (bookmark_of place ++ ending mode)) }
+/// An entry that holds a word with a number.
+#[tactic(auto, using(crate::proofs::Summed::numbered_short))]
+fn put_numbered(
+    alloc: Global,
+    out: &mut Adding,
+    key: &str,
+    word: &str,
+    number: u64,
+) -> Result<(), AllocError>
+    requires key { length key.now ≤ 16 }
+    requires word { length word.now ≤ 16 }
+    ensures before { out.new.before ≡ out.old.before }
+    ensures ok { OnOk result (out.new.more
+        ≡ out.old.more ++ (text_bytes key.now ++ text_bytes (word.now ++ decimal number))) }
 {
-    let mut metadata = Vec::with_capacity(alloc, 3)?;
-    if let Some(place) = place {
-        put_bookmark(&mut metadata, place)?;
-    }
-    let word = match mode {
+    let text = format!(in alloc; "{word}{number}")?;
+    put_entry(out, key, text.as_str())
+}
+
+fn put_greeting(alloc: Global, out: &mut Adding, conn: u64) -> Result<(), AllocError>
+    ensures before { out.new.before ≡ out.old.before }
+    ensures spelled { OnOk result (out.new.more ≡ out.old.more ++ canon (form_of (Greeting conn))) }
+{
+    put_success(out, 2)?;
+    put_entry(out, "server", "BoltTable/1")?;
+    put_numbered(alloc, out, "connection_id", "bolt-", conn)?;
+    Ok(())
+}
+
+fn put_rows_left(out: &mut Adding) -> Result<(), AllocError>
+    ensures before { out.new.before ≡ out.old.before }
+    ensures spelled { OnOk result (out.new.more ≡ out.old.more ++ canon (form_of RowsLeft)) }
+{
+    put_success(out, 1)?;
+    put_short_text(out, "has_more")?;
+    out.push(0xC3)?;
+    Ok(())
+}
+
+/// The word of a mode.
+fn word_of(mode: Mode) -> &'static str
+    ensures word { text result.now ≡ mode_tree mode }
+    ensures short { length result.now ≤ 16 }
+{
+    match mode {
         Mode::Read => "r",
         Mode::Write => "w",
-    };
-    put(
-        &mut metadata,
-        "type",
-        Cell::Text(String::from_str(alloc, word)?),
-    )?;
-    put(&mut metadata, "t_last", Cell::Int(0))?;
-    Ok(Response::Success(metadata))
+    }
 }
 
-fn committed(alloc: Global, place: u64) -> Result<Response, AllocError>
-    ensures { IfOk result (λ r. response_view r ≡ Success (bookmark place)) }
+/// The entries of the last SUCCESS of a result.
+fn put_ending(out: &mut Adding, mode: Mode) -> Result<(), AllocError>
+    ensures before { out.new.before ≡ out.old.before }
+    ensures ok { OnOk result (out.new.more
+        ≡ out.old.more ++ canon_entries (entries_of (ending mode))) }
 {
-    let mut metadata = Vec::with_capacity(alloc, 1)?;
-    put_bookmark(&mut metadata, place)?;
-    Ok(Response::Success(metadata))
+    let word = word_of(mode);
+    put_entry(out, "type", word)?;
+    put_short_text(out, "t_last")?;
+    put_int(out, 0)?;
+    Ok(())
 }
 
-fn failure(alloc: Global, fault: Fault) -> Result<Response, AllocError>
-    ensures { IfOk result (λ r. response_view r
-        ≡ response_of_summary (summary_of (Summary.Failure fault))) }
+fn put_last(out: &mut Adding, mode: Mode) -> Result<(), AllocError>
+    ensures before { out.new.before ≡ out.old.before }
+    ensures spelled { OnOk result (out.new.more
+        ≡ out.old.more ++ canon (form_of (Closing None mode))) }
 {
-    Ok(Response::Failure {
-        code: String::from_str(alloc, fault.code())?,
-        message: String::from_str(alloc, fault.message())?,
-    })
+    put_success(out, 2)?;
+    put_ending(out, mode)?;
+    Ok(())
 }
 
-/// The bookmark of the entry at this place.
-fn put_bookmark(metadata: &mut Entries, place: u64) -> Result<(), AllocError>
-    ensures { OnOk result (entries metadata.new.items
-        ≡ entries metadata.old.items ++ bookmark place) }
+fn put_last_at(alloc: Global, out: &mut Adding, place: u64, mode: Mode) -> Result<(), AllocError>
+    ensures before { out.new.before ≡ out.old.before }
+    ensures spelled { OnOk result (out.new.more
+        ≡ out.old.more ++ canon (form_of (Closing (Some place) mode))) }
 {
-    let text = format!(in *metadata.allocator(); "bk:{place}")?;
-    put(metadata, "bookmark", Cell::Text(text))
+    put_success(out, 3)?;
+    put_numbered(alloc, out, "bookmark", "bk:", place)?;
+    put_ending(out, mode)?;
+    Ok(())
 }
 
-fn put(metadata: &mut Entries, key: &str, cell: Cell) -> Result<(), AllocError>
-    ensures { OnOk result (entries metadata.new.items
-        ≡ entries metadata.old.items ++ (key.now, shape cell) ∷ []) }
+fn put_closing(
+    alloc: Global,
+    out: &mut Adding,
+    place: Option<u64>,
+    mode: Mode,
+) -> Result<(), AllocError>
+    ensures before { out.new.before ≡ out.old.before }
+    ensures spelled { OnOk result (out.new.more
+        ≡ out.old.more ++ canon (form_of (Closing place mode))) }
 {
-    let key = String::from_str(*metadata.allocator(), key)?;
-    metadata.push((key, cell))?;
+    match place {
+        None => put_last(out, mode),
+        Some(place) => put_last_at(alloc, out, place, mode),
+    }
+}
+
+fn put_committed(alloc: Global, out: &mut Adding, place: u64) -> Result<(), AllocError>
+    ensures before { out.new.before ≡ out.old.before }
+    ensures spelled { OnOk result (out.new.more
+        ≡ out.old.more ++ canon (form_of (Committed place))) }
+{
+    put_success(out, 1)?;
+    put_numbered(alloc, out, "bookmark", "bk:", place)?;
+    Ok(())
+}
+
+fn put_failure(out: &mut Adding, fault: Fault) -> Result<(), AllocError>
+    ensures before { out.new.before ≡ out.old.before }
+    ensures spelled { OnOk result (out.new.more ≡ out.old.more ++ canon (form_of (failure fault))) }
+{
+    out.extend_from_slice(&[0xB1, 0x7F, 0xA2])?;
+    put_entry(out, "code", fault.code())?;
+    put_entry(out, "message", fault.message())?;
     Ok(())
 }

@@ -9,6 +9,7 @@ use crate::fault::Fault;
 use crate::summary::Summary;
 use bytes::BytesMut;
 use messages::{MsgFault, Response, write_response};
+use speller::Adding;
 use std::alloc::{AllocError, Global};
 use wire::Version;
 
@@ -57,11 +58,8 @@ pub(crate) fn summary_text(
     requires { IsShort (summary_of summary) }
     ensures { IfOk result (λ b. IsBody version (response_of_summary (summary_of summary)) b.items) }
 {
-    messages::laws::summaries::short_fits();
-    let response = summary.response(alloc)?;
-    match text_of(alloc, version, &response) {
-        Ok(text) => Ok(text),
-        Err(Unwritten::Memory) => Err(AllocError),
-        Err(Unwritten::Because(_)) => unreachable!(),
-    }
+    let mut none = BytesMut::new(alloc);
+    let mut text = Adding::to(&mut none);
+    summary.put(alloc, &mut text)?;
+    Ok(text.keep())
 }

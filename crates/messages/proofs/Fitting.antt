@@ -21,24 +21,8 @@ use Rattle.messages.specs.declared.request.Mode.TheVariants.{Read, Write}
 use Rattle.messages.specs.Table.{responses}
 use Rattle.messages.specs.Reading.{◌>>=◌, contents_of_message, response_contents}
 use Rattle.messages.specs.Writing.{form_put, spelling_of_tree, packed_by, spelling_within, response_spelling}
-use Rattle.messages.specs.Summaries.{Summary, Greeting, RowsLeft, Closing, Committed, Plain, Refused, Passed, bookmark, bookmark_of, greeting, ending, response_of_summary, IsShort, HasTexts, room, FitsRoom, ReadsBack}
+use Rattle.messages.specs.Summaries.{Summary, Greeting, RowsLeft, Closing, Committed, Plain, Refused, Passed, bookmark, bookmark_of, greeting, ending, response_of_summary, failure, form_of, IsShort, HasTexts, room, FitsRoom, ReadsBack}
 use Rattle.messages.proofs.Texts.{sized_fits}
-
--- The structure that each is written as.
-abbrev success : Entries → Tree
-success es = structure 0x70 (tree_then (dict es) no_trees)
-
-abbrev failure : List ℕ → List ℕ → Tree
-failure code message = structure 0x7F (tree_then (dict (entry_then (codes "code") (text code) (entry_then (codes "message") (text message) no_entries))) no_trees)
-
-abbrev form_of : Summary → Tree
-form_of (Greeting n) = success (entries_of (greeting n))
-form_of RowsLeft = success (entry_then (codes "has_more") (boolean true) no_entries)
-form_of (Closing bookmarked m) = success (entries_of (bookmark_of bookmarked ++ ending m))
-form_of (Committed n) = success (entries_of (bookmark n))
-form_of Plain = success no_entries
-form_of (Refused code message) = failure code message
-form_of Passed = structure 0x7E no_trees
 
 formed : (v : Version) (s : Summary) → form_put v (response_contents (response_of_summary s)) ≡ Ok (form_of s)
 unfolding first_fault
@@ -141,7 +125,7 @@ failure_le code message =
     let both = entry_le 4 (5 + length code) (17 + length message) (codes "code") (text code) (entry_then (codes "message") (text message) no_entries) (omega arith) (text_le (length code) code (omega arith)) (omega (arith, last)) in
     omega (arith, one_field_le 0x7F (31 + length code + length message) (entry_then (codes "code") (text code) (entry_then (codes "message") (text message) no_entries)) (omega (arith, both)))
 
-form_le : (s : Summary) → IsShort s → length (canon (form_of s)) ≤ room s
+pub form_le : (s : Summary) → IsShort s → length (canon (form_of s)) ≤ room s
 form_le (Greeting n) h = omega (arith, one_field_le 0x70 75 (entries_of (greeting n)) (greeting_le n h))
 form_le RowsLeft h = omega (arith, one_field_le 0x70 14 (entry_then (codes "has_more") (boolean true) no_entries) (entry_le 8 1 0 (codes "has_more") (boolean true) no_entries (omega arith) (omega arith) none_le))
 form_le (Closing None m) h = omega (arith, one_field_le 0x70 27 (entries_of (ending m)) (ending_le m))
@@ -151,7 +135,7 @@ form_le Plain h = omega (arith, one_field_le 0x70 0 no_entries none_le)
 form_le (Refused code message) h = failure_le code message
 form_le Passed h = omega arith
 
-room_le : (s : Summary) → IsShort s → room s ≤ 65536
+pub room_le : (s : Summary) → IsShort s → room s ≤ 65536
 room_le (Refused code message) h = omega arith
 room_le (Greeting n) h = omega arith
 room_le RowsLeft h = omega arith
@@ -163,7 +147,8 @@ room_le Passed h = omega arith
 packed : (t : Tree) (n : ℕ) (r : Result ℕ (PackReason × ℕ)) → first_fault (faults_in 0 false t) 0 ≡ r → Ok n ≡ r → spelling_of_tree t ≡ spelling_within t
 packed t n r w e = ap (λ x. packed_by x t >>= spelling_within) (w ∙ sym e)
 
-text_is : (v : Version) (s : Summary) → IsShort s → response_spelling v (response_of_summary s) ≡ Ok (canon (form_of s))
+-- its spelling
+pub text_is : (v : Version) (s : Summary) → IsShort s → response_spelling v (response_of_summary s) ≡ Ok (canon (form_of s))
 unfolding response_spelling
 text_is v s h =
     ap (λ r. r >>= spelling_of_tree) (formed v s)

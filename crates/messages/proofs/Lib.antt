@@ -20,3 +20,4 @@ pub mod Again
 pub mod Apart
 pub mod Made
 pub mod Valued
+pub mod Added

@@ -7,6 +7,7 @@ pub mod Parts
 pub mod Messages
 pub mod Cells
 pub mod Writing
+pub mod Added
 pub mod Arrivals
 pub mod Summaries
 pub mod Saying

@@ -2,7 +2,8 @@
 use Rattle.std.specs.Prelude.{◌≡◌, ◌<◌, ◌≤◌, ◌+◌, ◌^◌, ℕ, pos, List, [], ◌∷◌, ◌++◌, length, true, Option, None, Some, codes, Ok}
 use Rattle.std.specs.Str.{IsUtf8}
 use Rattle.std.specs.Fmt.{decimal}
-use Rattle.packstream.specs.Tree.{Tree, boolean, int, text}
+use Rattle.packstream.specs.Tree.{Tree, boolean, int, text, dict, structure, no_trees, tree_then, Entries, no_entries, entry_then}
+use Rattle.packstream.specs.View.{entries_of}
 use Rattle.wire.specs.declared.Version.{Version}
 use Rattle.messages.specs.declared.request.Mode.{Mode}
 use Rattle.messages.specs.View.{ResponseView, Success, Ignored, Failure}
@@ -58,6 +59,27 @@ response_of_summary (Committed n) = Success (bookmark n)
 response_of_summary Plain = Success []
 response_of_summary (Refused code message) = Failure code message
 response_of_summary Passed = Ignored
+
+-- the structure of a SUCCESS with these entries
+abbrev pub success : Entries → Tree
+success es = structure 0x70 (tree_then (dict es) no_trees)
+
+-- the structure of a FAILURE with this code and message
+abbrev pub failure : List ℕ → List ℕ → Tree
+failure code message =
+    structure 0x7F (tree_then
+    (dict (entry_then (codes "code") (text code)
+    (entry_then (codes "message") (text message) no_entries))) no_trees)
+
+-- the structure that it is written as
+abbrev pub form_of : Summary → Tree
+form_of (Greeting n) = success (entries_of (greeting n))
+form_of RowsLeft = success (entry_then (codes "has_more") (boolean true) no_entries)
+form_of (Closing bookmarked m) = success (entries_of (bookmark_of bookmarked ++ ending m))
+form_of (Committed n) = success (entries_of (bookmark n))
+form_of Plain = success no_entries
+form_of (Refused code message) = failure code message
+form_of Passed = structure 0x7E no_trees
 
 -- the numbers of connections and of the ledger's entries are in their ranges, and a failure's texts are short
 abbrev pub IsShort : Summary → Type 0

@@ -193,7 +193,7 @@ fn begin_value(alloc: Global, mode: Mode, token: &Option<String>) -> Result<Valu
 }
 
 /// The number that stands for a count.
-fn number_of(count: Count) -> Result<i64, MsgFault>
+pub(crate) fn number_of(count: Count) -> Result<i64, MsgFault>
     ensures { Answers int result (count_number (count_tree count)) }
 {
     match count {

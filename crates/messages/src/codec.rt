@@ -16,6 +16,7 @@ use crate::fault::MsgFault;
 use crate::of_packed;
 use crate::request::Request;
 use crate::response::Response;
+use crate::spelling::{spell_request, spell_response};
 use bytes::BytesMut;
 use packstream::{PackFault, Packed, Value, decode, encode};
 use std::alloc::Global;
@@ -103,6 +104,9 @@ pub fn write_request(
         ((b : List ℕ) → request_spelling version (request_view request.now) ≡ Ok b
         → Req version (request_view request.now) b) }
 {
+    if spell_request(request, out) {
+        return Ok(());
+    }
     let value = request_value(*out.allocator(), version, request)?;
     put(value, out)
 }
@@ -122,6 +126,9 @@ pub fn write_response(
         ((b : List ℕ) → response_spelling version (response_view response.now) ≡ Ok b
         → Resp version (response_view response.now) b) }
 {
+    if spell_response(response, out) {
+        return Ok(());
+    }
     let value = response_value(*out.allocator(), version, response)?;
     put(value, out)
 }

@@ -15,6 +15,7 @@ mod of_packed;
 mod reading;
 mod request;
 mod response;
+mod spelling;
 mod tags;
 
 pub use codec::{read_request, read_response, write_request, write_response};

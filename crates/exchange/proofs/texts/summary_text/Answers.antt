@@ -1,14 +1,13 @@
-use Rattle.std.proofs.Common.{◌∙◌, sym, ap}
-use Rattle.std.specs.Prelude.{is_err}
-use Rattle.messages.specs.Writing.{response_spelling}
+use Rattle.std.proofs.Common.{◌≡◌, ◌++◌, ap, ◌∙◌}
+use Rattle.packstream.specs.Canon.{canon}
+use Rattle.messages.specs.Summaries.{form_of}
 use Rattle.exchange.specs.Acts.{summary_of}
-use Rattle.messages.specs.Summaries.{response_of_summary}
-use Rattle.exchange.proofs.Saids.{no_refusal}
+use Rattle.exchange.proofs.Summed.{summary_body}
 use Rattle.exchange.proofs.texts.summary_text.Goals as goal
 
-pub unreachable-requires : goal.unreachable-requires
-unreachable-requires c =
-    let s = summary_of c.args.summary in
-    let f = c.short_fits.ensures.fits c.args.version s c.requires in
-    let e = rw c.in-Err-Because.field-0-is at c.in-Err-Because.ensures.err in
-    no_refusal f.0 (response_spelling c.args.version (response_of_summary s)) f.1 (ap (λ m. is_err (response_spelling c.args.version m)) (sym c.in_ok-response.ensures) ∙ e.unspelled)
+pub returns : goal.returns
+returns c =
+    let body = canon (form_of (summary_of c.args.summary)) in
+    let none = c.put.ensures.before ∙ c.to-text.ensures.before ∙ c.new-none.ensures.items in
+    let whole = c.keep.ensures ∙ ap (λ x. x ++ c.put.new.out.more) none ∙ c.in_ok-put.ensures.spelled ∙ ap (λ x. x ++ body) c.to-text.ensures.more in
+    summary_body c.args.version (summary_of c.args.summary) c.keep.result.items c.requires whole

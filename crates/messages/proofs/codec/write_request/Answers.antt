@@ -2,8 +2,10 @@ use Rattle.std.proofs.Common.{◌≡◌, ap, sym, ◌∙◌}
 use Rattle.packstream.specs.View.{tree}
 use Rattle.packstream.specs.Canon.{canon}
 use Rattle.messages.specs.View.{request_view}
-use Rattle.messages.specs.Reading.{◌>>=◌}
-use Rattle.messages.specs.Writing.{request_spelling, spelling_of_tree}
+use Rattle.messages.specs.Table.{requests}
+use Rattle.messages.specs.Reading.{◌>>=◌, request_contents}
+use Rattle.messages.specs.Writing.{request_spelling, spelling_of_tree, form_put}
+use Rattle.messages.proofs.Added.{appended, means}
 use Rattle.messages.proofs.Texts.{on_ok, canon_is}
 use Rattle.messages.proofs.Rounds.{told_back, request_back}
 use Rattle.messages.proofs.codec.write_request.Goals as goal
@@ -23,3 +25,19 @@ returns-clause-read_back c =
       says = told_back v m t (request_back v c.args.request.now) c.in_ok-value.ensures;
     }))
     c.put.ensures.spells
+
+pub returns-then-spell_request-clause-text : goal.returns-then-spell_request-clause-text
+unfolding request_spelling
+returns-then-spell_request-clause-text c =
+    let s = c.spell_request.ensures in
+    let t = c.if-spell_request.true in
+    appended (form_put c.args.version (request_contents (request_view c.args.request.now))) _ _ (s.adds t c.args.version) (s.short t)
+
+pub returns-then-spell_request-clause-read_back : goal.returns-then-spell_request-clause-read_back
+unfolding request_spelling
+returns-then-spell_request-clause-read_back c =
+    let v = c.args.version in
+    let m = request_view c.args.request.now in
+    let s = c.spell_request.ensures in
+    let t = c.if-spell_request.true in
+    λ b e. means (form_put v (request_contents m)) _ _ (s.adds t v) (s.short t) v requests (request_contents m) b (λ u h. told_back v m u (request_back v c.args.request.now) h) e

@@ -2,8 +2,10 @@ use Rattle.std.proofs.Common.{◌≡◌, ap, sym, ◌∙◌}
 use Rattle.packstream.specs.View.{tree}
 use Rattle.packstream.specs.Canon.{canon}
 use Rattle.messages.specs.View.{response_view}
-use Rattle.messages.specs.Reading.{◌>>=◌}
-use Rattle.messages.specs.Writing.{response_spelling, spelling_of_tree}
+use Rattle.messages.specs.Table.{responses}
+use Rattle.messages.specs.Reading.{◌>>=◌, response_contents}
+use Rattle.messages.specs.Writing.{response_spelling, spelling_of_tree, form_put}
+use Rattle.messages.proofs.Added.{appended, means}
 use Rattle.messages.proofs.Texts.{on_ok, canon_is}
 use Rattle.messages.proofs.Rounds.{answered_back_told, response_back}
 use Rattle.messages.proofs.codec.write_response.Goals as goal
@@ -23,3 +25,19 @@ returns-clause-read_back c =
       says = answered_back_told v m t (response_back v c.args.response.now) c.in_ok-value.ensures;
     }))
     c.put.ensures.spells
+
+pub returns-then-spell_response-clause-text : goal.returns-then-spell_response-clause-text
+unfolding response_spelling
+returns-then-spell_response-clause-text c =
+    let s = c.spell_response.ensures in
+    let t = c.if-spell_response.true in
+    appended (form_put c.args.version (response_contents (response_view c.args.response.now))) _ _ (s.adds t c.args.version) (s.short t)
+
+pub returns-then-spell_response-clause-read_back : goal.returns-then-spell_response-clause-read_back
+unfolding response_spelling
+returns-then-spell_response-clause-read_back c =
+    let v = c.args.version in
+    let m = response_view c.args.response.now in
+    let s = c.spell_response.ensures in
+    let t = c.if-spell_response.true in
+    λ b e. means (form_put v (response_contents m)) _ _ (s.adds t v) (s.short t) v responses (response_contents m) b (λ u h. answered_back_told v m u (response_back v c.args.response.now) h) e
