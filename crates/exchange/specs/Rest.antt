@@ -1,5 +1,6 @@
 -- What a session keeps of its past: as much as its later steps depend on, and nothing else.
 use Rattle.std.specs.Prelude.{◌≡◌, ℕ, suc, ◌+◌, ◌<◌, Bool, true, false, not, ◌&&◌, ◌||◌, if◌then◌else◌, nat_le, Option, Some, None, is_some, option_map, unwrap_or, List, [], ◌∷◌, ◌++◌, length, take, drop, Result, Ok, Err}
+use Rattle.packstream.specs.Tree.{Tree}
 use Rattle.wire.specs.declared.Version.{Version}
 use Rattle.wire.specs.declared.Version.TheVariants.{V51}
 use Rattle.messages.specs.declared.fault.MsgFault.{MsgFault}
@@ -61,7 +62,8 @@ pub record Written : Type 0 where
 
 -- what a step did
 pub data Done : Type 0 where
-  Idle Full WroteRow : Done
+  Idle Full : Done
+  WroteRow : List Tree → Done
   Wrote : Written → Done
   Ended : Cause → Done
 
@@ -115,7 +117,7 @@ cause_of d s = None
 -- a step by the reply to its request; later: what waits behind it
 abbrev pub replies : List EntryView → Kept → RequestView → List Arrival → Reply → Step
 replies entries s q later (OneRow r left) =
-    rests (record s { result = left; unsent = puts s (Told (ResponseView.Record r)) }) WroteRow
+    rests (record s { result = left; unsent = puts s (Told (ResponseView.Record r)) }) (WroteRow r)
 replies entries s q later Bye = rests (ends Cause.Goodbye s) (Ended Cause.Goodbye)
 replies entries s q later (Summary d m left tx entry) =
     let next = unwrap_or (row_at (version_of s) s.state (kind_of q) d) State.Defunct in
@@ -185,7 +187,7 @@ pub record MayStep (s : Kept) : Type 0 where
 abbrev pub worked_of : Done → Worked
 worked_of Idle = Worked.Idle
 worked_of Full = Worked.Full
-worked_of WroteRow = Worked.Row
+worked_of (WroteRow row) = Worked.Row
 worked_of (Wrote x) = Worked.Wrote x.ordinal (kind_of x.request) x.state
     (option_map (λ _. x.length_before + 1) x.entry)
 worked_of (Ended cause) = Worked.Ended cause

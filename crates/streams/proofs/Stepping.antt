@@ -110,7 +110,7 @@ serve_lessens S v c ledger s left tx q =
 
 -- a step that puts something
 abbrev pub IsPut : Done → Type 0
-IsPut WroteRow = Unit {0}
+IsPut (WroteRow row) = Unit {0}
 IsPut (Wrote x) = Unit {0}
 IsPut _ = ⊥
 
@@ -170,7 +170,7 @@ pub steps_put : (S : Setting) (c n : ℕ) (ledger : List EntryView) (k : Kept) (
 steps_put S c n ledger k d p = go d.answer p
   where
     go : (a : Done) → IsPut a → step_then c k.first ledger d a (steps S c n) ≡ after_bytes d.kept.unsent (steps S c n (ledger ++ commit_entries c k.first d.commit) (heard_out d.kept))
-    go WroteRow p = refl
+    go (WroteRow row) p = refl
     go (Wrote x) p = refl
     go Idle p = absurd p
     go Full p = absurd p
@@ -214,7 +214,7 @@ grown_then : (c first : ℕ) (ledger : List EntryView) (d : Step) (a : Done) (mo
 grown_then c first ledger d Idle more f = ([], append-nil ledger)
 grown_then c first ledger d Full more f = ([], append-nil ledger)
 grown_then c first ledger d (Ended e) more f = ([], append-nil ledger)
-grown_then c first ledger d WroteRow more f = let h = f (ledger ++ commit_entries c first d.commit) (heard_out d.kept) in (commit_entries c first d.commit ++ h.0, sym (append_assoc ledger (commit_entries c first d.commit) h.0) ∙ h.1)
+grown_then c first ledger d (WroteRow row) more f = let h = f (ledger ++ commit_entries c first d.commit) (heard_out d.kept) in (commit_entries c first d.commit ++ h.0, sym (append_assoc ledger (commit_entries c first d.commit) h.0) ∙ h.1)
 grown_then c first ledger d (Wrote x) more f = let h = f (ledger ++ commit_entries c first d.commit) (heard_out d.kept) in (commit_entries c first d.commit ++ h.0, sym (append_assoc ledger (commit_entries c first d.commit) h.0) ∙ h.1)
 
 pub steps_grow : (S : Setting) (c n : ℕ) (ledger : List EntryView) (k : Kept) → Grown ledger (steps S c n ledger k)

@@ -17,7 +17,7 @@ use Rattle.streams.specs.Settling.{outcome, standing_of, IsPlaced, due, HasNothi
 use Rattle.streams.proofs.Stepping.{StepKind, idle, over, puts, stepped, IsPut, after_step, steps_idle, steps_over, steps_put, steps_grow}
 
 pub outcome_put : (a : Done) → IsPut a → outcome (worked_of a) ≡ None
-outcome_put WroteRow p = refl
+outcome_put (WroteRow row) p = refl
 outcome_put (Wrote x) p = refl
 outcome_put Idle p = absurd p
 outcome_put Full p = absurd p

@@ -28,7 +28,7 @@ heard_out k = record k { unsent = [] }
 
 -- What a step makes, and what follows it: nothing where it is idle or the session has ended.
 abbrev pub step_then : ℕ → ℕ → List EntryView → Step → Done → (List EntryView → Kept → Talk) → Talk
-step_then c first ledger d WroteRow more =
+step_then c first ledger d (WroteRow row) more =
     after_bytes d.kept.unsent (more (ledger ++ commit_entries c first d.commit) (heard_out d.kept))
 step_then c first ledger d (Wrote x) more =
     after_bytes d.kept.unsent (more (ledger ++ commit_entries c first d.commit) (heard_out d.kept))

@@ -1,19 +1,25 @@
 -- What a client is asked, and its loss, at the link of its connection.
-use Rattle.std.proofs.Common.{◌≡◌, refl, sym, ◌∙◌, ap, subst, ℕ, Bool, true, false, Option, Some, None, option_map, Result, Ok, Err, List, slice_get, slice_set}
+use Rattle.std.proofs.Common.{◌≡◌, refl, sym, ◌∙◌, ap, subst, ℕ, ◌+◌, ◌≤◌, Bool, true, false, if◌then◌else◌, Option, Some, None, option_map, Result, Ok, Err, List, [], ◌∷◌, ◌++◌, length, drop, slice_get, slice_set, ⊎_elim, arith, length-drop}
 use Rattle.wire.specs.declared.Wish.{Wish}
+use Rattle.wire.specs.Offers.{wish_version}
 use Rattle.messages.specs.View.{RequestView}
+use Rattle.messages.specs.Arrivals.{IsWritten, hears}
 use Rattle.engine.specs.Views.{EntryView}
 use Rattle.server.specs.declared.Server.{Server}
 use Rattle.exchange.specs.Session.{Setting}
 use Rattle.server.specs.Serving as serving
 use Rattle.client.specs.declared.SubmitFault.{SubmitFault}
-use Rattle.client.specs.Client.{refusal_of}
+use Rattle.client.specs.Client.{knows_of, refusal_of}
+use Rattle.client.specs.Fits.{IsWrittenBy, IsAccepted}
 use Rattle.client.specs.Rest as asking
+use Rattle.client.proofs.Later.{reading_count}
 use Rattle.world.specs.declared.kinds.Refused.{Refused}
 use Rattle.world.specs.declared.kinds.Refused.TheVariants.{NoSuchConnection, WrongPeer, SessionsFull, Memory}
 use Rattle.world.specs.declared.link.Link.{Link as LinkHeld}
-use Rattle.world.specs.Connections.{Peer, Ours, Foreign, Connection, client}
-use Rattle.world.specs.World.{World, Submit, ClientLost, Seen, Opened, Submitted, Fed, Gave, SawWork, SawNoop, SawNothing, step, submit, effect_of_submit}
+use Rattle.world.specs.Connections.{Peer, Ours, Foreign, Connection, client, wish_of, bytes_delivered}
+use Rattle.world.specs.World.{World, Effect, Submit, ClientLost, Seen, Opened, Submitted, Fed, Gave, SawWork, SawNoop, SawNothing, Refusal, at_peer, ledger, effect_of_submit}
+use Rattle.world.specs.Rests.{client_rest}
+use Rattle.world.specs.Reports.{by_peer}
 use Rattle.world.specs.Fits.{Link, Rest, FitsClient, FitsLink, Fits}
 use Rattle.world.specs.Contract.{Answers}
 use Rattle.world.specs.Seeing.{IsWrong, ComesWrong}
@@ -21,12 +27,12 @@ use Rattle.world.specs.declared.kinds.Event.{Event as EventTold}
 use Rattle.world.specs.declared.kinds.Seen.{Seen as SeenTold}
 use Rattle.world.specs.Views.{link_of, event_of}
 use Rattle.world.specs.Turns.{Definition, Turns, Now, Before, Holds, Submits, LosesClient, after_loss}
-use Rattle.world.proofs.Sound.{Sound}
-use Rattle.world.proofs.Deeds.{ok_parts, some_is}
+use Rattle.world.proofs.Deeds.{some_is}
+use Rattle.world.proofs.Fitting.{submit_link, lost_link, lost_again}
 use Rattle.world.proofs.Seeing.{refuses_exactly}
-use Rattle.world.proofs.Answering.{submit_answers}
-use Rattle.world.proofs.Turning.{same_set, ok_of, found, all_sound, done}
-use Rattle.world.proofs.Stepping.{submit_step, refused_fits, lost_fits, lost_once}
+use Rattle.world.proofs.Becoming.{knows_wished, accepts_written}
+use Rattle.world.proofs.Written.{accepting}
+use Rattle.world.proofs.Turning.{same_set, found, may, acts_unseen}
 
 -- a peer with a client is ours
 ours_of : (p : Peer) (o : Option asking.Rest) (up : List ℕ) (k : Connection) (y : asking.Rest) → FitsClient p o up k → o ≡ Some y → (wish : Wish) × (p ≡ Ours wish)
@@ -51,9 +57,6 @@ module _ {E G : Type 0} (entries : E → List EntryView) (answer : Definition) (
     abbrev k : Connection
     k = here.0
 
-    abbrev sound : (j : ℕ) (x : Connection) → slice_get w.conns j ≡ Some x → Sound x
-    sound = all_sound entries answer accepts (Submit c q) l s r w b
-
     -- what is held, as the model has it
     holds_now : (l2 : LinkHeld) (m2 : Link) (w2 : World) → Holds l2 m2 → Fits (record { links = slice_set r.links c m2; server = r.server }) w2 → Now_ l2 w2
     holds_now l2 m2 w2 h f =
@@ -72,39 +75,59 @@ module _ {E G : Type 0} (entries : E → List EntryView) (answer : Definition) (
     wish_is : (y : asking.Rest) → m.client ≡ Some y → (wish : Wish) × (k.peer ≡ Ours wish)
     wish_is y is = ours_of k.peer m.client m.up k y here.2.client is
 
-    accepts_turn : (n : ℕ) (l2 : LinkHeld) → Submits m q (Ok (Submitted (Ok n))) (Holds l2) → Answers T w (Submit c q) (Ok (Submitted (Ok n))) (Now_ l2)
-    accepts_turn n l2 x =
-        let o = wish_is x.client x.here in
-        let a = submit_answers G answer accepts r w b.fits b.brought b.reached c k here.1 m b.at here.2 o.0 o.1 q x.client x.here n x.accepted in
-        let same : ◌≡◌ {A = Link} (record m { client = option_map (λ z. asking.after_submit z q) m.client }) (record m { client = Some (asking.after_submit x.client q) }) =
-        ap (λ (z : Option asking.Rest). let m2 : Link = record m { client = option_map (λ v. asking.after_submit v q) z } in m2) x.here in
-        record {
-          after = a.after;
-          steps = a.steps;
-          good = a.good;
-          now = holds_now l2 (record m { client = Some (asking.after_submit x.client q) }) a.after x.now
-              (subst (λ z. Fits (record { links = slice_set r.links c z; server = r.server }) a.after) same a.now);
-        }
+    -- what is held of its client, and what is asked of it
+    module _ (y : asking.Rest) (is_there : m.client ≡ Some y) where
+      abbrev wish : Wish
+      wish = (wish_is y is_there).0
 
-    refuses_turn : (fault : SubmitFault) (l2 : LinkHeld) → Submits m q (Ok (Submitted (Err fault))) (Holds l2) → Answers T w (Submit c q) (Ok (Submitted (Err fault))) (Now_ l2)
-    refuses_turn fault l2 x =
-        let o = wish_is x.client x.here in
-        let h = refused_fits G answer accepts r w b.fits sound c k here.1 m b.at o.0 o.1 q x.client x.here fault x.refused in
-        done entries answer accepts (Submit c q) l s r w b (Submitted (Err fault)) l2 s x.now.client r.server x.now.ends b.server refl
-        (h.0, h.1, subst (λ z. Fits (record { links = slice_set r.links c z; server = r.server }) h.0) x.now.link_is h.2)
-        (λ k2 g wish p none. absurd (never h.0 h.1 o.0 o.1 (subst (λ z. refusal_of (client z) z.client_lost z.sent q ≡ None) (some_is k2 k (sym g ∙ here.1)) none))) tt
-      where
-        differ : (n : ℕ) → ◌≡◌ {A = Seen} (Submitted (Ok n)) (Submitted (Err fault)) → ⊥
-        differ n e = cc
+      ours : k.peer ≡ Ours wish
+      ours = (wish_is y is_there).1
 
-        never : (w2 : World) → step T w (Submit c q) ≡ Ok (w2, Submitted (Err fault)) → (wish : Wish) → k.peer ≡ Ours wish → refusal_of (client k) k.client_lost k.sent q ≡ None → ⊥
-        never w2 h wish ours none =
-            let seen : (submit q k).seen ≡ Submitted (Err fault) = (ok_parts _ w2 _ (Submitted (Err fault)) (sym (submit_step T w c k here.1 wish q ours) ∙ h)).1 in
-            differ _ (ap (λ o. (effect_of_submit q k o).seen) (sym none) ∙ seen)
+      old : FitsClient (Ours wish) m.client m.up k
+      old = subst (λ p. FitsClient p m.client m.up k) ours here.2.client
+
+      is : y ≡ client_rest old.out k
+      is = some_is y (client_rest old.out k) (sym is_there ∙ old.client_is)
+
+      asked : (o : Option SubmitFault) → asking.refuses y.knows q ≡ o → at_peer T c (ledger w) (Submit c q) k.peer k ≡ Ok (effect_of_submit q k o)
+      asked o h = ap (λ p. at_peer T c (ledger w) (Submit c q) p k) ours ∙ ap (λ z. let x : Result Effect Refusal = Ok (effect_of_submit q k z) in x) (refused o h)
+        where
+          refused : (o : Option SubmitFault) → asking.refuses y.knows q ≡ o → refusal_of (client k) k.client_lost k.sent q ≡ o
+          refused o h = ap (λ z. asking.refuses z.knows q) (sym is) ∙ h
+
+      refuses_turn : (fault : SubmitFault) (l2 : LinkHeld) → asking.refuses y.knows q ≡ Some fault → Holds l2 m → Answers T w (Submit c q) (Ok (Submitted (Err fault))) (Now_ l2)
+      refuses_turn fault l2 refused h =
+          acts_unseen entries answer accepts (Submit c q) l s r w b refl k (Submitted (Err fault)) (asked (Some fault) refused) refl (λ _ j. refl) l2 h.client h.ends (subst (λ z. FitsLink z k) h.link_is here.2)
+          (λ k2 g wish2 p none. absurd (never (subst (λ z. refusal_of (client z) z.client_lost z.sent q ≡ None) (some_is k2 k (sym g ∙ here.1)) none))) tt
+        where
+          never : refusal_of (client k) k.client_lost k.sent q ≡ None → ⊥
+          never none = let no : Some fault ≡ None = sym refused ∙ ap (λ z. asking.refuses z.knows q) is ∙ none in cc
+
+      accepts_turn : (n : ℕ) (l2 : LinkHeld) → IsAccepted y q n → Holds l2 (record m { client = Some (asking.after_submit y q) }) → Answers T w (Submit c q) (Ok (Submitted (Ok n))) (Now_ l2)
+      accepts_turn n l2 accepted h =
+          subst (λ i. Answers T w (Submit c q) (Ok (Submitted (Ok i))) (Now_ l2)) (sym (accepted.next ∙ ordinal_is))
+          (acts_unseen entries answer accepts (Submit c q) l s r w b refl (record k { sent = k.sent ++ q ∷ [] }) (Submitted (Ok (length k.sent))) (asked None accepted.allowed) refl (λ _ j. refl) l2 h.client h.ends
+          (subst (λ z. FitsLink z (record k { sent = k.sent ++ q ∷ [] })) (ap (λ z. let m2 : Link = record m { client = option_map (λ v. asking.after_submit v q) z } in m2) is_there ∙ h.link_is) (submit_link m k q here.2 open_now.1 open_now.0 version_is))
+          (λ k2 g wish2 p no. subst (λ wi. IsWritten (wish_version wi) q) (same_wish k2 wish2 g p) (accepts_written T b.brought w b.reached c k wish here.1 ours q (subst (λ z. IsWrittenBy z.knows.version q) is accepted.written))) tt)
+        where
+          open_now : (k.client_lost ≡ false) × ((client k).bad ≡ false) × ((client k).version ≡ None → ⊥)
+          open_now = accepting (client k) k.client_lost k.sent q (ap (λ z. asking.refuses z.knows q) (sym is) ∙ accepted.allowed)
+
+          version_is : (client k).version ≡ Some (wish_version (wish_of k.peer))
+          version_is = ⊎_elim (λ e. absurd (open_now.2 e)) (λ e. e ∙ ap (λ p. Some (wish_version (wish_of p))) (sym ours)) (knows_wished T b.brought w b.reached c k wish here.1 ours)
+
+          same_wish : (k2 : Connection) (wish2 : Wish) → slice_get w.conns c ≡ Some k2 → k2.peer ≡ Ours wish2 → wish ≡ wish2
+          same_wish k2 wish2 g p = ap wish_of (sym ours ∙ ap (λ y. y.peer) (some_is k k2 (sym here.1 ∙ g)) ∙ p)
+
+          ordinal_is : asking.next_ordinal y ≡ length k.sent
+          ordinal_is = ap asking.next_ordinal is ∙ ap (λ b. (client k).count + length (if b then [] else drop (client k).count k.sent)) open_now.0 ∙ counted
+            where
+              counted : (client k).count + length (drop (client k).count k.sent) ≡ length k.sent
+              counted = let few : (client k).count ≤ length k.sent = reading_count (wish_of k.peer) k.sent (hears (bytes_delivered k)) in omega (arith, length-drop (client k).count k.sent)
 
     pub submit_turns : (res : Result Seen Refused) (l2 : LinkHeld) → Submits m q res (Holds l2) → Answers T w (Submit c q) res (Now_ l2)
-    submit_turns (Ok (Submitted (Ok n))) l2 x = accepts_turn n l2 x
-    submit_turns (Ok (Submitted (Err fault))) l2 x = refuses_turn fault l2 x
+    submit_turns (Ok (Submitted (Ok n))) l2 x = accepts_turn x.client x.here n l2 x.accepted x.now
+    submit_turns (Ok (Submitted (Err fault))) l2 x = refuses_turn x.client x.here fault l2 x.refused x.now
     submit_turns (Ok (Opened n)) l2 x = absurd x
     submit_turns (Ok (Fed used what)) l2 x = absurd x
     submit_turns (Ok (Gave used note)) l2 x = absurd x
@@ -124,7 +147,7 @@ module _ {E G : Type 0} (entries : E → List EntryView) (answer : Definition) (
     submit_turns (Err Memory) l2 x =
         let o = wish_is x.client x.here in
         record {
-          may = ok_of _ _ (submit_step T w c k here.1 o.0 q o.1);
+          may = may entries answer accepts (Submit c q) l s r w b refl _ (ap (λ p. at_peer T c (ledger w) (Submit c q) p k) o.1);
           after = w;
           leaves = refl;
           now = unchanged l2 x.now;
@@ -138,18 +161,26 @@ module _ {E G : Type 0} (entries : E → List EntryView) (answer : Definition) (
     at_lost = found entries answer accepts (ClientLost c) l s r w b
 
     loses_turn : (z : Bool) → m_lost.client_lost ≡ z → (l2 : LinkHeld) (y : asking.Rest) → m_lost.client ≡ Some y → Holds l2 (after_loss z m_lost y) → Answers T w (ClientLost c) (Ok SawNothing) (Now_ l2)
-    loses_turn true was l2 y is h =
-        let k = at_lost.0 in
-        let o = ours_of k.peer m_lost.client m_lost.up k y at_lost.2.client is in
-        let x = lost_once G answer accepts r w b.fits (all_sound entries answer accepts (ClientLost c) l s r w b) c k at_lost.1 m_lost b.at o.0 o.1 (sym at_lost.2.client_lost ∙ was) in
-        done entries answer accepts (ClientLost c) l s r w b SawNothing l2 s h.client r.server h.ends b.server refl
-        (x.0, x.1, subst (λ z. Fits (record { links = slice_set r.links c z; server = r.server }) x.0) h.link_is x.2) tt tt
-    loses_turn false was l2 y is h =
-        let k = at_lost.0 in
-        let o = ours_of k.peer m_lost.client m_lost.up k y at_lost.2.client is in
-        let x = lost_fits G answer accepts r w b.fits (all_sound entries answer accepts (ClientLost c) l s r w b) c k at_lost.1 m_lost b.at o.0 o.1 (sym at_lost.2.client_lost ∙ was) y is in
-        done entries answer accepts (ClientLost c) l s r w b SawNothing l2 s h.client r.server h.ends b.server refl
-        (x.0, x.1, subst (λ z. Fits (record { links = slice_set r.links c z; server = r.server }) x.0) h.link_is x.2) tt tt
+    loses_turn z was l2 y is h =
+        acts_unseen entries answer accepts (ClientLost c) l s r w b refl (record k { client_lost = true }) SawNothing (ap (λ p. at_peer T c (ledger w) (ClientLost c) p k) ours) refl (λ _ j. refl) l2 h.client h.ends
+        (subst (λ z. FitsLink z (record k { client_lost = true })) h.link_is (link z was)) tt tt
+      where
+        k : Connection
+        k = at_lost.0
+
+        ours : k.peer ≡ Ours (ours_of k.peer m_lost.client m_lost.up k y at_lost.2.client is).0
+        ours = (ours_of k.peer m_lost.client m_lost.up k y at_lost.2.client is).1
+
+        link : (z : Bool) → m_lost.client_lost ≡ z → FitsLink (after_loss z m_lost y) (record k { client_lost = true })
+        link true was = lost_again m_lost k at_lost.2 (sym at_lost.2.flags.1 ∙ was)
+        link false was =
+            let wish = (ours_of k.peer m_lost.client m_lost.up k y at_lost.2.client is).0 in
+            let old : FitsClient (Ours wish) m_lost.client m_lost.up k = subst (λ p. FitsClient p m_lost.client m_lost.up k) ours at_lost.2.client in
+            subst (λ o. FitsLink (record m_lost { client = option_map asking.after_drop o; client_lost = true; lost = asking.losses y.knows }) (record k { client_lost = true })) is
+            (lost_link m_lost k (asking.losses y.knows) at_lost.2
+            (ap (λ z. asking.losses z.knows) (some_is y (client_rest old.out k) (sym is ∙ old.client_is))
+            ∙ ap (λ b. asking.losses (knows_of (client k) k.sent b)) (sym at_lost.2.flags.1 ∙ was)
+            ∙ ap (λ p. by_peer p (asking.losses (knows_of (client k) k.sent false))) (sym ours)))
 
     pub loses_turns : (res : Result Seen Refused) (l2 : LinkHeld) → LosesClient m_lost res (Holds l2) → Answers T w (ClientLost c) res (Now_ l2)
     loses_turns (Ok SawNothing) l2 x = loses_turn m_lost.client_lost refl l2 x.client x.here x.now

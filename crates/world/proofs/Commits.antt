@@ -1,33 +1,27 @@
 -- That an entry comes by a row that commits, for a request that came whole.
-use Rattle.std.proofs.Common.{◌≡◌, refl, sym, ◌∙◌, ap, subst, ℕ, suc, zero, Bool, false, if◌then◌else◌, Some, None, is_some, List, [], ◌∷◌, ◌++◌, drop, slice_get, ◌⊎◌, inl, inr, ⊎_elim, arith, append-nil}
+use Rattle.std.proofs.Common.{◌≡◌, refl, sym, ◌∙◌, ap, subst, ℕ, Bool, false, if◌then◌else◌, Some, None, is_some, List, ◌++◌, slice_get, ◌⊎◌, inl, inr, ⊎_elim, arith, append-nil}
 use Rattle.messages.specs.Arrivals.{Asked}
 use Rattle.machine.specs.States.{phase_of}
 use Rattle.machine.specs.Asks.{kind_of}
 use Rattle.machine.specs.Following.{commits}
 use Rattle.engine.specs.Views.{EntryView}
-use Rattle.exchange.specs.Rest.{commit_entries}
+use Rattle.exchange.specs.Rest.{Step, work_kept, commit_entries}
 use Rattle.exchange.specs.Session.{Setting}
 use Rattle.server.specs.Serving as serving
 use Rattle.server.specs.Serving.{Live, find}
 use Rattle.server.specs.Running as running
 use Rattle.server.specs.Running.{after_call, Adds, Grows, nothing, one}
 use Rattle.server.proofs.Ledgers.{grows}
-use Rattle.world.specs.Connections.{Connection, answer_count, arrivals_at}
-use Rattle.world.specs.World.{World, Event, Work, Seen, Effect, work, after_effect, ledger, place}
+use Rattle.world.specs.Connections.{Connection, answer_count, arrivals_at, kept_of}
+use Rattle.world.specs.World.{World, Event, Work, Seen, effect_of_step, Effect, work, after_effect, ledger, place}
 use Rattle.world.specs.Rests.{server_rest, live_of}
 use Rattle.world.specs.Turns.{Definition, setting_of}
 use Rattle.world.specs.Others.{Commits, GrowsByCommits}
 use Rattle.world.proofs.Deeds as deed
-use Rattle.world.proofs.Deeds.{Deed, Did, opens, acts, step_did, work_case, some_is}
-use Rattle.world.proofs.Sound.{Sound, still_lives, reached_sound}
+use Rattle.world.proofs.Deeds.{Deed, Did, opens, acts, step_did, step_case, some_is}
+use Rattle.world.proofs.Sound.{Sound, first_of, still_lives, reached_sound}
 use Rattle.world.proofs.Served.{find_at, work_served}
 use Rattle.world.proofs.Others.{deed_commits}
-
-first_of : {A : Type 0} (n : ℕ) (xs later : List A) (x : A) → drop n xs ≡ x ∷ later → slice_get xs n ≡ Some x
-first_of zero [] later x h = cc
-first_of zero (y ∷ xs) later x h = let same : y ≡ x = cc in ap (λ z. Some z) same
-first_of (suc n) [] later x h = cc
-first_of (suc n) (y ∷ xs) later x h = first_of n xs later x h
 
 works_is : (c d : ℕ) → running.works c ≡ running.works d → c ≡ d
 works_is c d h = cc
@@ -40,7 +34,7 @@ module _ {G : Type 0} (answer : Definition) (accepts : G → List ℕ → List �
   rest v = server_rest gate v
 
   abbrev w2 : World
-  w2 = after_effect w c k (work S c (ledger w) k k.ended)
+  w2 = after_effect w c k (work S c (ledger w) k)
 
   abbrev Comes : World → Type 0
   Comes v = (ledger v ≡ ledger w) ⊎ Commits w (Work c) v
@@ -49,7 +43,7 @@ module _ {G : Type 0} (answer : Definition) (accepts : G → List ℕ → List �
   by_call lives = go g2.0 g2.1 (running.works c) refl g2.2
     where
       g2 : Grows (running.works c) (rest w) (rest w2)
-      g2 = subst (λ r. Grows (running.works c) (rest w) r) (ap (λ o. after_call o (rest w)) (work_served G gate w c k here lives s answer accepts).1) (grows answer accepts (running.works c) (rest w))
+      g2 = subst (λ r. Grows (running.works c) (rest w) r) (ap (λ o. after_call o (rest w)) (work_served G gate w c k here lives s answer accepts)) (grows answer accepts (running.works c) (rest w))
 
       session : (conn : ℕ) (t : Live) → conn ≡ c → find conn (rest w).sessions ≡ Some t → t ≡ live_of c k
       session conn t e found = some_is t (live_of c k) (sym found ∙ ap (λ n. find n (rest w).sessions) e ∙ find_at w.conns 0 c c k (omega arith) here ∙ ap (λ b. if b then None else Some (live_of c k)) lives)
@@ -73,10 +67,11 @@ module _ {G : Type 0} (answer : Definition) (accepts : G → List ℕ → List �
 
   comes : Comes w2
   comes =
-      work_case (λ x. x ≡ work S c (ledger w) k k.ended → Comes (after_effect w c k x)) S c (ledger w) k (λ worked _ _. inl (ap (λ es. w.brought ++ es) (append-nil w.since))) (λ n cause e. moved _ n e) (λ n q _ e. moved _ n e) refl
+      step_case (λ d. d ≡ work_kept S c (ledger w) (kept_of k) k.ended → Comes (after_effect w c k (effect_of_step k d))) S c (ledger w) k (λ d _ _. inl (ap (λ es. w.brought ++ es) (append-nil w.since)))
+      (λ n cause e. moved _ n e) (λ n st re tx q later _ e. moved _ n e) refl
     where
-      moved : (x : Effect) → k.ended ≡ None → x ≡ work S c (ledger w) k k.ended → Comes (after_effect w c k x)
-      moved x n e = subst (λ z. Comes (after_effect w c k z)) (sym e) (by_call (still_lives k s (ap is_some n)))
+      moved : (d : Step) → k.ended ≡ None → d ≡ work_kept S c (ledger w) (kept_of k) k.ended → Comes (after_effect w c k (effect_of_step k d))
+      moved d n e = subst (λ z. Comes (after_effect w c k (effect_of_step k z))) (sym e) (by_call (still_lives k s (ap is_some n)))
 
 pub grows_by_commits : GrowsByCommits
 grows_by_commits S brought w reached e seen w2 h = go e seen w2 (step_did S w e seen w2 h)

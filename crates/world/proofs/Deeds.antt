@@ -1,24 +1,23 @@
 -- What a step of the world is: an opening, or one deed at a connection that is there; and the induction along it.
-use Rattle.std.proofs.Common.{◌≡◌, refl, sym, ap, subst, ℕ, zero, suc, ◌-◌, ◌^◌, Bool, true, false, not, ◌||◌, if◌then◌else◌, nat_le, Option, Some, None, is_some, Result, Ok, Err, List, [], ◌∷◌, ◌++◌, ◌≢◌, length, take, slice_get, slice_set, ◌⊎◌, inl, inr, ⊎_elim, arith}
+use Rattle.std.proofs.Common.{◌≡◌, refl, sym, ap, subst, ℕ, zero, suc, ◌-◌, ◌^◌, Bool, true, false, not, ◌||◌, if◌then◌else◌, nat_le, Option, Some, None, is_some, ◌&&◌, Result, Ok, Err, List, [], ◌∷◌, ◌++◌, ◌≢◌, length, slice_get, slice_set, ◌⊎◌, inl, inr, ⊎_elim, arith}
 use Rattle.wire.specs.declared.Wish.{Wish}
 use Rattle.wire.specs.Reader.{reach}
 use Rattle.messages.specs.View.{RequestView}
-use Rattle.messages.specs.Arrivals.{Arrival, Shook, Asked, Unread, TooLong, arrivals}
+use Rattle.messages.specs.Arrivals.{Arrival, Asked, Unread, TooLong, arrivals}
 use Rattle.machine.specs.declared.State.{State}
 use Rattle.machine.specs.Following.{interruptible}
 use Rattle.engine.specs.Views.{EntryView}
 use Rattle.exchange.specs.declared.Cause.{Cause}
 use Rattle.exchange.specs.declared.What.{What}
-use Rattle.exchange.specs.declared.Worked.{Worked}
-use Rattle.exchange.specs.Rest.{unread_among, reset_among, commit_entries}
-use Rattle.exchange.specs.Session.{Setting, Change, no_result, no_tx}
+use Rattle.exchange.specs.Rest as serving
+use Rattle.exchange.specs.Rest.{Kept, Done, Ended, Step, worked_of, rests, replies, serves, turns, work_kept, after_strike, strikes, reset_among, shut, full, commit_entries}
+use Rattle.exchange.specs.Session.{Setting, Change, Open, no_result, Tx, no_tx, Reply, serve}
 use Rattle.client.specs.declared.SubmitFault.{SubmitFault}
 use Rattle.client.specs.Client.{refusal_of}
 use Rattle.client.specs.Rest.{Nothing}
-use Rattle.world.specs.Connections.{Peer, Ours, Foreign, Connection, SaysNoop, fresh, answer_count, arrivals_at, waiting, output, client, strike_if, end_with}
-use Rattle.world.specs.World.{World, Event, Opens, Submit, ToServer, ToClient, Work, PutsNoop, Cut, ClientLost, ServerLost, Feeds, Seen, Opened, Submitted, Fed, Gave, SawWork, SawNoop, SawNothing, Refusal, V3, Effect, quiet, effect_of_submit, feed, to_server, takes, take_item, give, taken_for, effect_at_peer, answer, turn, work, noop, server_gone, at_peer, after_effect, with_effect, at_conn, result_of_open, live, ledger, place, step, IsMade, IsCountedIn, taken_out, Reached, begins, goes_on, takes_out}
+use Rattle.world.specs.Connections.{Peer, Ours, Foreign, Connection, SaysNoop, fresh, answer_count, waiting, said_version, client, kept_of, keeping}
+use Rattle.world.specs.World.{World, Event, Opens, Submit, ToServer, ToClient, Work, PutsNoop, Cut, ClientLost, ServerLost, Feeds, Seen, Opened, Submitted, Fed, Gave, SawWork, SawNoop, SawNothing, Refusal, V3, Effect, quiet, effect_of_submit, feed, to_server, takes, give, taken_for, effect_at_peer, said_by, effect_of_step, work, noop, server_gone, at_peer, after_effect, with_effect, at_conn, result_of_open, live, ledger, place, step, IsMade, IsCountedIn, taken_out, Reached, begins, goes_on, takes_out}
 use Rattle.world.specs.Runs.{told_in}
-use Rattle.world.specs.Reports.{wrote_by}
 
 -- lists of connections
 pub get_set : {A : Type 0} (xs : List A) (i j : ℕ) (x y z : A) → slice_get xs i ≡ Some x → slice_get (slice_set xs i y) j ≡ Some z → ((i ≡ j) × (y ≡ z)) ⊎ ((i ≢ j) × (slice_get xs j ≡ Some z))
@@ -65,54 +64,66 @@ seen_of x (Err refusal) = x
 pub ok_parts : (w w2 : World) (x x2 : Seen) → ◌≡◌ {A = Result (World × Seen) Refusal} (Ok (w, x)) (Ok (w2, x2)) → (w ≡ w2) × (x ≡ x2)
 ok_parts w w2 x x2 h = (ap (world_of w) h, ap (seen_of x) h)
 
-pub if_so : {A : Type 0} (b : Bool) (x y : A) → b ≡ true → (if b then x else y) ≡ x
-if_so true x y e = refl
-if_so false x y e = cc
-
 -- by a test, which is known to be false in the second case
 pub if_case : (P : Effect → Type 0) (b : Bool) (x y : Effect) → P x → (b ≡ false → P y) → P (if b then x else y)
 if_case P true x y a f = a
 if_case P false x y a f = f refl
 
-pub strike_case : (P : Connection → Type 0) (b : Bool) (k : Connection) → P k → P (record k { state = State.Interrupted; result = no_result; tx = no_tx }) → P (strike_if b k)
-strike_case P false k x y = x
-strike_case P true k x y = go (interruptible k.state)
+-- A RESET strikes, or it doesn't.
+pub strike_case : (P : Kept → Type 0) (b : Bool) (s : Kept) → P s → (b && interruptible s.state ≡ true → P (after_strike s)) → P (strikes b s)
+strike_case P b s x f = go (b && interruptible s.state) refl
   where
-    go : (b : Bool) → P (if b then record k { state = State.Interrupted; result = no_result; tx = no_tx } else k)
-    go true = y
-    go false = x
+    go : (h : Bool) → b && interruptible s.state ≡ h → P (if h then after_strike s else s)
+    go true e = f e
+    go false e = x
 
 -- A feed takes nothing, or a piece up to the end of an item.
 pub feed_case : (P : Effect → Type 0) (piece : List ℕ) (k : Connection) → ((what : What) → P (quiet k (Fed 0 what)))
-    → (k.server_lost ≡ false → k.cut ≡ false → (is_some k.ended || unread_among (arrivals_at k)) ≡ false → P (takes k piece (reach arrivals k.up piece))) → P (feed piece k)
+    → (k.server_lost ≡ false → k.cut ≡ false → shut (kept_of k) ≡ false → P (takes k piece (reach arrivals k.up piece))) → P (feed piece k)
 feed_case P piece k q t =
-    if_case P k.server_lost _ _ (q What.Closed) (λ lives. if_case P k.cut _ _ (q What.Part) (λ joined. if_case P (is_some k.ended || unread_among (arrivals_at k)) _ _ (q What.Closed)
-    (λ going. if_case P (nat_le 32 (length (waiting k)) || nat_le (2 ^ 63) (length (arrivals_at k))) _ _ (q What.Full) (λ _. t lives joined going))))
+    if_case P k.server_lost _ _ (q What.Closed) (λ lives. if_case P k.cut _ _ (q What.Part) (λ joined. if_case P (shut (kept_of k)) _ _ (q What.Closed)
+    (λ going. if_case P (full (kept_of k)) _ _ (q What.Full) (λ _. t lives joined going))))
 
--- A step of a session does nothing, ends it, or answers the first request that waits.
-pub work_case : (P : Effect → Type 0) (S : Setting) (c : ℕ) (all : List EntryView) (k : Connection) → ((worked : Worked) → wrote_by worked ≡ [] → P (quiet k (SawWork worked)))
-    → (k.ended ≡ None → (cause : Cause) → P (quiet (end_with cause k) (SawWork (Worked.Ended cause))))
-    → (k.ended ≡ None → (q : RequestView) → slice_get (arrivals_at k) (answer_count k.says) ≡ Some (Asked q) → P (answer S c all (strike_if (reset_among (waiting k)) k) q)) → P (work S c all k k.ended)
-work_case P S c all k q over asks = go k.ended refl
+-- an answer to the first that waits, of a session that stands so
+abbrev pub replied : Connection → List EntryView → State → Open → Tx → RequestView → List Arrival → Reply → Step
+replied k all st re tx q later r = replies all (record (kept_of k) { state = st; result = re; tx = tx }) q later r
+
+-- A step of a session does nothing, ends it, or answers the first request that waits, after the strike of a RESET or without.
+pub step_case : (P : Step → Type 0) (S : Setting) (c : ℕ) (all : List EntryView) (k : Connection) → ((d : Done) → said_by d ≡ [] → P (rests (kept_of k) d))
+    → (k.ended ≡ None → (cause : Cause) → P (rests (serving.ends cause (kept_of k)) (Ended cause)))
+    → (k.ended ≡ None → (st : State) (re : Open) (tx : Tx) (q : RequestView) (later : List Arrival) → waiting k ≡ Asked q ∷ later → P (replied k all st re tx q later (serve S (said_version k) c all st re tx q))) → P (work_kept S c all (kept_of k) k.ended)
+step_case P S c all k q over asks = go k.ended refl
   where
-    first : (o : Option Arrival) → slice_get (arrivals_at k) (answer_count k.says) ≡ o → k.ended ≡ None → P (turn S c all k o)
-    first (Some (Asked r)) e n = asks n r e
-    first (Some (Unread x)) e n = over n Cause.Malformed
-    first (Some TooLong) e n = over n Cause.TooBig
-    first _ e n = q Worked.Idle refl
+    first : (ws : List Arrival) → waiting k ≡ ws → k.ended ≡ None → P (turns S c all (kept_of k) ws)
+    first (Asked r ∷ later) e n =
+        strike_case (λ s. P (serves S c all s r later)) (reset_among (Asked r ∷ later)) (kept_of k) (asks n k.state k.result k.tx r later e)
+        (λ _. asks n State.Interrupted no_result no_tx r later e)
+    first (Unread x ∷ later) e n = over n Cause.Malformed
+    first (TooLong ∷ later) e n = over n Cause.TooBig
+    first _ e n = q serving.Idle refl
 
-    go : (o : Option Cause) → k.ended ≡ o → P (work S c all k o)
-    go (Some cause) e = q (Worked.Ended cause) refl
-    go None e = if_case P (nat_le 65536 (length (output k) - k.taken)) _ _ (q Worked.Full refl) (λ _. first (slice_get (arrivals_at k) (answer_count k.says)) refl e)
+    go : (o : Option Cause) → k.ended ≡ o → P (work_kept S c all (kept_of k) o)
+    go (Some cause) e = q (Ended cause) refl
+    go None e = at (nat_le 65536 (length (kept_of k).unsent)) (first (waiting k) refl e)
+      where
+        at : (b : Bool) → P (turns S c all (kept_of k) (waiting k)) → P (if b then rests (kept_of k) serving.Full else turns S c all (kept_of k) (waiting k))
+        at true h = q serving.Full refl
+        at false h = h
+
+-- what was done where nothing was said
+pub silent_step : (P : Effect → Type 0) (k : Connection) (d : Done) → said_by d ≡ [] → P (quiet k (SawWork (worked_of d))) → P (effect_of_step k (rests (kept_of k) d))
+silent_step P k d e h = subst (λ xs. P (quiet (keeping k (kept_of k) xs) (SawWork (worked_of d)))) (sym e) h
 
 -- A no-op is said by a session that has a version and hasn't ended, or not at all.
 pub noop_case : (P : Effect → Type 0) (k : Connection) → P (quiet k (SawNoop false)) → (is_some k.version ≡ true → is_some k.ended ≡ false → P (quiet (record k { says = SaysNoop ∷ k.says }) (SawNoop true))) → P (noop k)
-noop_case P k q t = if_case P ((not (is_some k.version) || is_some k.ended) || nat_le 65536 (length (output k) - k.taken)) _ _ q (λ h. let p = parts _ _ _ h in t p.0 p.1)
+noop_case P k q t = go (is_some k.version) (is_some k.ended) (nat_le 65536 (length (kept_of k).unsent)) t
   where
-    parts : (a b c : Bool) → ((not a || b) || c) ≡ false → (a ≡ true) × (b ≡ false)
-    parts true false c h = (refl, refl)
-    parts true true c h = cc
-    parts false b c h = cc
+    go : (a b c : Bool) → (a ≡ true → b ≡ false → P (quiet (record k { says = SaysNoop ∷ k.says }) (SawNoop true)))
+        → P (let put = not (not a || b || c) in quiet (record k { says = if put then SaysNoop ∷ k.says else k.says }) (SawNoop put))
+    go true false false t = t refl refl
+    go true false true t = q
+    go true true c t = q
+    go false b c t = q
 
 -- What is taken out for a peer is what was taken, or more.
 pub taken_case : (P : ℕ → Type 0) (p : Peer) (n : ℕ) (k : Connection) → P k.taken → P (taken_for n k) → P (effect_at_peer p n k).conn.taken
@@ -121,15 +132,7 @@ taken_case P Foreign n k a b = if_case (λ x. P x.conn.taken) k.cut _ _ a (λ _.
 
 -- What is fed is told to no client, and commits nothing.
 pub feed_hushed : (piece : List ℕ) (k : Connection) → (told_in (feed piece k).seen ≡ []) × ((feed piece k).commit ≡ None)
-feed_hushed piece k = feed_case (λ x. (told_in x.seen ≡ []) × (x.commit ≡ None)) piece k (λ what. (refl, refl)) (λ _ _ _. item (record k { up = k.up ++ take used piece }) used _)
-  where
-    used : ℕ
-    used = reach arrivals k.up piece
-
-    item : (k : Connection) (used : ℕ) (o : Option Arrival) → (told_in (take_item k used o).seen ≡ []) × ((take_item k used o).commit ≡ None)
-    item k used (Some (Asked q)) = (refl, refl)
-    item k used (Some (Shook None)) = (refl, refl)
-    item k used _ = (refl, refl)
+feed_hushed piece k = feed_case (λ x. (told_in x.seen ≡ []) × (x.commit ≡ None)) piece k (λ what. (refl, refl)) (λ _ _ _. (refl, refl))
 
 -- What an event does at a connection whose peer takes it.
 pub data Deed (S : Setting) (c : ℕ) (all : List EntryView) (k : Connection) : Event → Effect → Type 0 where
@@ -140,7 +143,7 @@ pub data Deed (S : Setting) (c : ℕ) (all : List EntryView) (k : Connection) : 
   misses : (i n : ℕ) → Deed S c all k (ToClient i n) (quiet k (Gave 0 (Ok Nothing)))
   gives : (i n : ℕ) (wish : Wish) → k.peer ≡ Ours wish → (k.cut || (k.client_lost || ((client k).ended || (client k).bad))) ≡ false → Deed S c all k (ToClient i n) (give n k)
   drains : (i n : ℕ) → k.peer ≡ Foreign → Deed S c all k (ToClient i n) (quiet (record k { taken = taken_for n k; down = taken_for n k }) (Gave (taken_for n k - k.down) (Ok Nothing)))
-  works : (i : ℕ) → Deed S c all k (Work i) (work S c all k k.ended)
+  works : (i : ℕ) → Deed S c all k (Work i) (work S c all k)
   noops : (i : ℕ) → Deed S c all k (PutsNoop i) (noop k)
   cuts : (i : ℕ) → Deed S c all k (Cut i) (quiet (record k { cut = true }) SawNothing)
   loses : (i : ℕ) (wish : Wish) → k.peer ≡ Ours wish → Deed S c all k (ClientLost i) (quiet (record k { client_lost = true }) SawNothing)

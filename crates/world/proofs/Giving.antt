@@ -1,8 +1,9 @@
 -- What the ends of a connection keep is enough for what a client is given, and for what it submits.
-use Rattle.std.proofs.Common.{◌≡◌, refl, sym, ◌∙◌, ap, ap₂, ℕ, zero, suc, ◌+◌, ◌-◌, ◌≤◌, Bool, true, false, ◌||◌, if◌then◌else◌, nat_lt, Option, Some, None, unwrap_or, option_map, option_to_list, Result, Ok, Err, List, [], ◌∷◌, ◌++◌, length, take, drop, arith, append_assoc, append-nil, true≢false}
-use Rattle.std.proofs.lemmas.Bool.{lt-ltb, le-ltb}
+use Rattle.std.proofs.Common.{◌≡◌, refl, sym, ◌∙◌, ap, ap₂, ℕ, suc, ◌+◌, ◌-◌, ◌≤◌, Bool, true, false, ◌||◌, if◌then◌else◌, nat_lt, Option, Some, None, unwrap_or, option_map, option_to_list, Result, Ok, Err, List, [], ◌∷◌, ◌++◌, length, take, drop, arith, append_assoc, append-nil, true≢false, length-take}
+use Rattle.std.proofs.lemmas.Bool.{lt-ltb, le-ltb, cond-false}
 use Rattle.std.proofs.lemmas.List.{drop-append-le}
 use Rattle.std.proofs.Math.Seq.{take-add}
+use Rattle.world.proofs.Fronts.{take_within}
 use Rattle.wire.specs.declared.Version.{Version}
 use Rattle.wire.specs.declared.Wish.{Wish}
 use Rattle.wire.specs.Offers.{offer_of, wish_version}
@@ -26,12 +27,6 @@ use Rattle.world.proofs.Growth.{texts_append}
 use Rattle.world.proofs.Hearing.{used_same}
 use Rattle.world.proofs.Reaching.{reach_within}
 
-take_front : {A : Type 0} (m n : ℕ) (xs : List A) → m ≤ length (take n xs) → take m (take n xs) ≡ take m xs
-take_front zero n xs h = refl
-take_front (suc m) zero xs h = absurd (omega arith)
-take_front (suc m) (suc n) [] h = refl
-take_front (suc m) (suc n) (x ∷ xs) h = ap (λ z. x ∷ z) (take_front m n xs (omega arith))
-
 -- what is seen of a client's answer; used, where it tells none
 abbrev pub seen_as : ℕ → Result (ℕ × Note) ClientFault → Seen
 seen_as used (Ok told) = Gave told.0 (Ok told.1)
@@ -45,10 +40,6 @@ made_note wish k r x h (takes_version v n w) e = refl
 made_note wish k r x h tells_none e = refl
 made_note wish k r x h (tells_row cells n later w) e = refl
 made_note wish k r x h (tells_summary a s) e = refl
-
-pub if_not : {A : Type 0} (b : Bool) (x y : A) → b ≡ false → (if b then x else y) ≡ y
-if_not false x y e = refl
-if_not true x y e = cc
 
 -- one more item is told
 told_item : (xs : List Heard) (o : Option Heard) (r2 : Reading) → note_now xs (option_to_list o ++ xs) r2 ≡ unwrap_or (option_map (λ x. tells_of x r2) o) Nothing
@@ -79,7 +70,7 @@ module _ (wish : Wish) (sent : List RequestView) (xs : List Heard) (on : ((readi
   item_seen None = sym (ap₂ (λ b n. Gave used (note_given b n)) on.1 (told_item xs None r1))
   item_seen (Some x) =
       let y = heard_as r1.version x in
-      let e : reading wish sent (y ∷ xs) ≡ hear wish sent r1 y = if_not (r1.ended || r1.bad) r1 (hear wish sent r1 y) (ap₂ (λ a b. a || b) on.0 on.1) in
+      let e : reading wish sent (y ∷ xs) ≡ hear wish sent r1 y = cond-false (r1.ended || r1.bad) r1 (hear wish sent r1 y) (ap₂ (λ a b. a || b) on.0 on.1) in
       by_bad y (hears_item wish knows y).bad refl
       ∙ ap (λ (z : Reading). Gave used (note_given z.bad (tells_of y z))) (sym e)
       ∙ ap (λ n. Gave used (note_given (reading wish sent (y ∷ xs)).bad n)) (sym (told_item xs (Some y) (reading wish sent (y ∷ xs))))
@@ -105,7 +96,7 @@ module _ (k : Connection) (out n : ℕ) (lives : k.client_lost ≡ false) (on : 
   pub given_more : bytes_delivered k2 ≡ bytes_delivered k ++ take m piece
   given_more =
       take-add k.down m (output k)
-      ∙ ap (λ z. take k.down (output k) ++ z) (sym (take_front m n (drop k.down (output k)) (reach_within hears (bytes_delivered k) piece)))
+      ∙ ap (λ z. take k.down (output k) ++ z) (sym (take_within m n (drop k.down (output k)) (let w = reach_within hears (bytes_delivered k) piece in omega (arith, length-take n (drop k.down (output k))))))
 
   taken_more : bytes_delivered k2 ≡ bytes_delivered k ++ take t.used piece
   taken_more = given_more ∙ ap (λ i. bytes_delivered k ++ take i piece) (used_same (wish_of k.peer) k.sent (bytes_delivered k) on piece)
@@ -137,7 +128,7 @@ module _ (k : Connection) (out n : ℕ) (lives : k.client_lost ≡ false) (on : 
   -- what the client keeps is enough: the rest then, what is seen, and what it has told
   fed_seen : seen_as t.used (asking.feed_of (held (bytes_delivered k)) piece).answer ≡ Gave t.used (note_given (client k2).bad (note_now (hears (bytes_delivered k)) (hears (bytes_delivered k2)) (client k2)))
   fed_seen =
-      ap (λ f. seen_as t.used f.answer) (if_not ((client k).ended || (client k).bad) (record { rest = held (bytes_delivered k); answer = Err ClientFault.Closed }) (asking.fed_open (held (bytes_delivered k)) t) (ap₂ (λ a b. a || b) on.0 on.1))
+      ap (λ f. seen_as t.used f.answer) (cond-false ((client k).ended || (client k).bad) (record { rest = held (bytes_delivered k); answer = Err ClientFault.Closed }) (asking.fed_open (held (bytes_delivered k)) t) (ap₂ (λ a b. a || b) on.0 on.1))
       ∙ item_seen (wish_of k.peer) k.sent (hears (bytes_delivered k)) on t.rest unsent t.used t.item
       ∙ ap (λ ys. let r = reading (wish_of k.peer) k.sent ys in Gave t.used (note_given r.bad (note_now (hears (bytes_delivered k)) ys r))) (sym heard_more)
 

@@ -20,6 +20,9 @@ pub mod Others
 pub mod Headline
 pub mod Rests
 pub mod Reaching
+pub mod Fronts
+pub mod Alongside
+pub mod Speaking
 pub mod Fed
 pub mod Sound
 pub mod Hearing
@@ -28,12 +31,10 @@ pub mod Served
 pub mod Seeing
 pub mod Fitting
 pub mod Rising
-pub mod Stepping
 pub mod Becoming
 pub mod Answering
 pub mod Reporting
 pub mod Drawn
-pub mod Held
 pub mod Turning
 pub mod Turned
 pub mod Placed

@@ -1,6 +1,7 @@
 -- A report has each request that was sent in one of its lists, with its outcome.
 use Rattle.std.proofs.Common.{◌≡◌, refl, sym, ◌∙◌, ap, ap₂, subst, ℕ, zero, suc, ◌+◌, ◌-◌, ◌≤◌, Bool, true, false, if◌then◌else◌, Option, Some, None, unwrap_or, List, [], ◌∷◌, ◌++◌, length, drop, map, append_assoc, append-nil, length-drop, arith, ◌⊎◌, inl, inr}
 use Rattle.std.specs.Option.{option_or}
+use Rattle.std.proofs.Math.Seq.{drop-nil}
 use Rattle.wire.specs.declared.Version.{Version}
 use Rattle.wire.specs.declared.Version.TheVariants as version
 use Rattle.wire.specs.declared.Wish.{Wish}
@@ -20,7 +21,7 @@ use Rattle.world.specs.Connections.{Ours, Connection, Said, SaysVersion, SaysNoo
 use Rattle.world.specs.Good.{Each, SaidAt, tellings_of, delivered_whole, last_phase, server_outcome, outcome, outcome_in, if_lost, loss, ReportsOutcomes}
 use Rattle.world.specs.Reports.{ReadSummary, by_peer, read_after, summaries_told, outcomes_at_loss, waits, ordinals}
 use Rattle.world.proofs.Kept.{Talk, Tells, part, tells}
-use Rattle.world.proofs.Outcomes.{outcome_told, outcome_none}
+use Rattle.world.proofs.Outcomes.{said_is, outcome_none}
 use Rattle.world.proofs.Trace.{Trace}
 
 ordinals_add : (i m n : ℕ) → ordinals i (m + n) ≡ ordinals i m ++ ordinals (i + m) n
@@ -155,7 +156,7 @@ module _ (S : Setting) (brought since : List EntryView) (c : ℕ) (wish : Wish) 
     where
       go : Part → (x : Written) → SaidAt x.ordinal x W → IsRead (read_as x)
       go (inl e) x h = let none : SaidAt x.ordinal x [] = subst (SaidAt x.ordinal x) e h in elim none [ ]
-      go (inr d) x h = ap (λ o. option_or o (unheard x.ordinal)) (outcome_told S v (brought ++ since) k.sent x.ordinal x W d.0 h)
+      go (inr d) x h = ap (λ o. option_or o (unheard x.ordinal)) (said_is S v (brought ++ since) k.sent x.ordinal x W d.0 h).told
 
   abbrev IsLost : ℕ × Outcome → Type 0
   IsLost x = outcome k x.0 ≡ Some x.1
@@ -174,11 +175,7 @@ module _ (S : Setting) (brought since : List EntryView) (c : ℕ) (wish : Wish) 
   each_lost true e = go t.version
     where
       go : ((client k).version ≡ None) ⊎ (T k.says × T W × ((client k).version ≡ Some v)) → Each IsLost (losses knows)
-      go (inl none) = subst (λ qs. Each IsLost (losses_from (unwrap_or (client k).version version.V51) knows 0 qs)) (sym (ap (drop count) (before none) ∙ drop_none count)) tt
-        where
-          drop_none : (n : ℕ) → drop {A = RequestView} n [] ≡ []
-          drop_none zero = refl
-          drop_none (suc n) = refl
+      go (inl none) = subst (λ qs. Each IsLost (losses_from (unwrap_or (client k).version version.V51) knows 0 qs)) (sym (ap (drop count) (before none) ∙ drop-nil count)) tt
       go (inr d) =
           losses_each IsLost (unwrap_or (client k).version version.V51) knows 0 (drop count k.sent)
           (λ i. past (count + i) (omega arith) ∙ ap (λ b. if_lost b (loss v W k.sent (count + i))) e ∙ ap (λ o. Some o) (same_loss d.2 i))

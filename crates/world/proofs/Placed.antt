@@ -1,5 +1,7 @@
 -- From what an event does at its connection to what the world then stands for.
 use Rattle.std.proofs.Common.{◌≡◌, refl, sym, ◌∙◌, ap, subst, ℕ, zero, suc, ◌<◌, ◌≤◌, Bool, true, false, Some, None, Result, Ok, Err, List, [], ◌∷◌, ◌++◌, length, slice_get, slice_set, slice_index_or, arith, append-nil}
+use Rattle.std.proofs.lemmas.Option.{slice_get-get_or, slice_get_past}
+use Rattle.world.proofs.Alongside.{along_at, along_none, along_set, along_more}
 use Rattle.engine.specs.Views.{EntryView}
 use Rattle.server.specs.declared.Server.{Server}
 use Rattle.server.specs.declared.Refused.{Refused as ServerRefused}
@@ -15,14 +17,13 @@ use Rattle.world.specs.declared.link.Link.{Link as LinkHeld}
 use Rattle.world.specs.declared.world.World.{World as WorldHeld}
 use Rattle.world.specs.Connections.{Peer}
 use Rattle.world.specs.World.{World, Event, Opens, Seen, Opened, place, empty, Reached}
-use Rattle.world.specs.Fits.{Link, Rest, Fits}
+use Rattle.world.specs.Fits.{Link, Rest, Fits, Alongside}
 use Rattle.world.specs.Contract.{Answers}
 use Rattle.world.specs.Seeing.{IsOpens}
 use Rattle.world.specs.Views.{link_of, peer_of, client_of, opened_link, IsOpened}
-use Rattle.world.specs.Turns.{Definition, setting_of, seen_in, Holds, HoldLinks, IsWorld, Turns, Now, Before}
-use Rattle.world.proofs.Answering.{answers, no_connection, sessions_full}
+use Rattle.world.specs.Turns.{Definition, setting_of, seen_in, Holds, IsWorld, Turns, Now, Before}
+use Rattle.world.proofs.Answering.{answers, opens_fits, no_connection, sessions_full}
 use Rattle.world.proofs.Turning.{ok_of}
-use Rattle.world.proofs.Stepping.{opens_fits}
 
 -- what holds of the answer's world may be said otherwise
 pub answers_with : (S : Setting) (w : World) (e : Event) (res : Result Seen Refused) (P Q : World → Type 0) → ((w2 : World) → P w2 → Q w2) → Answers S w e res P → Answers S w e res Q
@@ -44,32 +45,12 @@ open_refused server_refused.Memory r P a = a.1
 pub new_fits : {G : Type 0} (gate : G) (es : List EntryView) → Fits (record { links = []; server = serving.empty es gate }) (empty es)
 new_fits {G} gate es = record { server = ap (λ (z : List EntryView). let q : serving.Rest G = record { sessions = []; next = 0; ledger = z; gate = gate } in q) (sym (append-nil es)); links = tt }
 
--- links place by place
-pub held_at : (ls : List LinkHeld) (ms : List Link) (c : ℕ) (l : LinkHeld) → HoldLinks ls ms → c < length ls → l ≡ slice_index_or ls c l → (m : Link) × (slice_get ms c ≡ Some m) × Holds l m
-held_at [] ms c l h few is = absurd (omega arith)
-held_at (x ∷ ls) [] c l h few is = absurd h
-held_at (x ∷ ls) (y ∷ ms) zero l h few is = (y, refl, subst (λ z. Holds z y) (sym is) h.0)
-held_at (x ∷ ls) (y ∷ ms) (suc c) l h few is = held_at ls ms c l h.1 (omega arith) is
+-- what is held at a place, and where nothing is
+pub held_at : (ls : List LinkHeld) (ms : List Link) (c : ℕ) (l : LinkHeld) → Alongside Holds ls ms → c < length ls → l ≡ slice_index_or ls c l → (m : Link) × (slice_get ms c ≡ Some m) × Holds l m
+held_at ls ms c l h few is = along_at Holds ls ms c l h (slice_get-get_or ls c l few ∙ ap (λ x. Some x) (sym is))
 
-pub held_past : (ls : List LinkHeld) (ms : List Link) (c : ℕ) → HoldLinks ls ms → length ls ≤ c → slice_get ms c ≡ None
-held_past [] [] c h past = refl
-held_past [] (y ∷ ms) c h past = absurd h
-held_past (x ∷ ls) [] c h past = absurd h
-held_past (x ∷ ls) (y ∷ ms) zero h past = absurd (omega arith)
-held_past (x ∷ ls) (y ∷ ms) (suc c) h past = held_past ls ms c h.1 (omega arith)
-
-pub held_set : (ls : List LinkHeld) (ms : List Link) (c : ℕ) (l2 : LinkHeld) (m2 : Link) → HoldLinks ls ms → Holds l2 m2 → HoldLinks (slice_set ls c l2) (slice_set ms c m2)
-held_set [] [] c l2 m2 h g = h
-held_set [] (y ∷ ms) c l2 m2 h g = absurd h
-held_set (x ∷ ls) [] c l2 m2 h g = absurd h
-held_set (x ∷ ls) (y ∷ ms) zero l2 m2 h g = (g, h.1)
-held_set (x ∷ ls) (y ∷ ms) (suc c) l2 m2 h g = (h.0, held_set ls ms c l2 m2 h.1 g)
-
-pub held_more : (ls : List LinkHeld) (ms : List Link) (l2 : LinkHeld) (m2 : Link) → HoldLinks ls ms → Holds l2 m2 → HoldLinks (ls ++ l2 ∷ []) (ms ++ m2 ∷ [])
-held_more [] [] l2 m2 h g = (g, tt)
-held_more [] (y ∷ ms) l2 m2 h g = absurd h
-held_more (x ∷ ls) [] l2 m2 h g = absurd h
-held_more (x ∷ ls) (y ∷ ms) l2 m2 h g = (h.0, held_more ls ms l2 m2 h.1 g)
+pub held_past : (ls : List LinkHeld) (ms : List Link) (c : ℕ) → Alongside Holds ls ms → length ls ≤ c → slice_get ms c ≡ None
+held_past ls ms c h past = along_none Holds ls ms c h (slice_get_past ls c past)
 
 module _ {E G : Type 0} (entries : E → List EntryView) (answer : Definition) (accepts : G → List ℕ → List ℕ → Bool)
     (s : WorldHeld E G) (gate : G) (w : World) (f : IsWorld entries s gate w) (brought : List EntryView) (reached : Reached (setting_of answer accepts gate) brought w) where
@@ -92,8 +73,8 @@ module _ {E G : Type 0} (entries : E → List EntryView) (answer : Definition) (
       answers_with (setting_of answer accepts gate) w e (seen_in res) (Now entries answer accepts r (place e) l2 s2) (IsWorld entries t gate)
       (λ w2 n. record {
         rest = record { links = slice_set r.links (place e) (link_of l2 n.client); server = n.rest };
-        links = subst (λ ls. HoldLinks ls (slice_set r.links (place e) (link_of l2 n.client))) (ap (λ i. slice_set s.links.items i l2) (sym at) ∙ sym links_are)
-            (held_set s.links.items r.links (place e) l2 (link_of l2 n.client) f.links
+        links = subst (λ ls. Alongside Holds ls (slice_set r.links (place e) (link_of l2 n.client))) (ap (λ i. slice_set s.links.items i l2) (sym at) ∙ sym links_are)
+            (along_set Holds s.links.items r.links (place e) l2 (link_of l2 n.client) f.links
             (record { client = n.client; link_is = refl; ends = n.ends }));
         server = subst (λ z. server.Fits entries z n.rest) (sym server_is) n.server;
         gated = n.gated ∙ f.gated;
@@ -115,7 +96,7 @@ module _ {E G : Type 0} (entries : E → List EntryView) (answer : Definition) (
         leaves = refl;
         now = record {
           rest = r;
-          links = subst (λ ls. HoldLinks ls r.links) (sym links_are) f.links;
+          links = subst (λ ls. Alongside Holds ls r.links) (sym links_are) f.links;
           server = serves;
           gated = f.gated;
           fits = f.fits;
@@ -132,8 +113,8 @@ module _ {E G : Type 0} (entries : E → List EntryView) (answer : Definition) (
         h.1 ∙ ap (λ i. Ok (h.0, Opened i)) (sym is),
         record {
           rest = record { links = r.links ++ opened_link (peer_of peer) ∷ []; server = serving.opened r.server };
-          links = subst (λ ls. HoldLinks ls (r.links ++ opened_link (peer_of peer) ∷ [])) (sym links_are)
-              (held_more s.links.items r.links l (opened_link (peer_of peer)) f.links
+          links = subst (λ ls. Alongside Holds ls (r.links ++ opened_link (peer_of peer) ∷ [])) (sym links_are)
+              (along_more Holds s.links.items r.links l (opened_link (peer_of peer)) f.links
               (record { client = client_of (peer_of peer); link_is = sym opened.0; ends = opened.1 }));
           server = serves;
           gated = f.gated;

@@ -1,5 +1,6 @@
 -- A report tells what the model has.
 use Rattle.std.proofs.Common.{◌≡◌, refl, sym, ◌∙◌, ap, ap₂, subst, ℕ, suc, ◌+◌, ◌<◌, ◌≤◌, Bool, Option, Some, None, List, [], ◌∷◌, length, slice_get, slice_index_or, arith}
+use Rattle.world.proofs.Alongside.{along_at, along_none, as_long}
 use Rattle.engine.specs.Views.{EntryView}
 use Rattle.exchange.specs.declared.Cause.{Cause}
 use Rattle.client.specs.Client.{knows_of}
@@ -12,31 +13,17 @@ use Rattle.machine.specs.States.{phase_of}
 use Rattle.world.specs.Good.{tellings_of, delivered_whole, server_outcome, Good}
 use Rattle.world.specs.Reports.{ReadSummary, by_peer, read_after, summaries_told, waits, ordinals, standing, standing_of}
 use Rattle.world.specs.Rests.{client_rest}
-use Rattle.world.specs.Fits.{Link, FitsClient, FitsLink, FitLinks}
+use Rattle.world.specs.Fits.{Link, FitsClient, FitsLink}
 use Rattle.world.specs.Views.{link_of, waiting_at}
-use Rattle.world.specs.Turns.{Definition, setting_of, Holds, HoldLinks, IsWorld}
+use Rattle.world.specs.Turns.{Definition, setting_of, Holds, IsWorld}
 use Rattle.world.specs.Reported.{standing_seen, StandsBy}
 use Rattle.world.proofs.Sound.{Sound, reached_sound}
 use Rattle.world.proofs.Headline.{all_good}
-use Rattle.world.proofs.Answering.{link_at, link_none}
 use Rattle.world.proofs.Reporting.{standing_lives, standing_gone, waits_are}
 use Rattle.world.proofs.Placed.{held_at, held_past}
 
--- as many links as connections
-hold_long : (ls : List LinkHeld) (ms : List Link) → HoldLinks ls ms → length ls ≡ length ms
-hold_long [] [] h = refl
-hold_long [] (m ∷ ms) h = absurd h
-hold_long (l ∷ ls) [] h = absurd h
-hold_long (l ∷ ls) (m ∷ ms) h = ap suc (hold_long ls ms h.1)
-
-fit_long : (ms : List Link) (ks : List Connection) → FitLinks ms ks → length ms ≡ length ks
-fit_long [] [] h = refl
-fit_long [] (k ∷ ks) h = absurd h
-fit_long (m ∷ ms) [] h = absurd h
-fit_long (m ∷ ms) (k ∷ ks) h = ap suc (fit_long ms ks h.1)
-
 pub as_many : {E G : Type 0} (entries : E → List EntryView) (s : WorldHeld E G) (gate : G) (w : World) → IsWorld entries s gate w → length s.links.items ≡ length w.conns
-as_many entries s gate w f = hold_long s.links.items f.rest.links f.links ∙ fit_long f.rest.links w.conns f.fits.links
+as_many entries s gate w f = as_long Holds s.links.items f.rest.links f.links ∙ as_long FitsLink f.rest.links w.conns f.fits.links
 
 read_long : (xs : List Said) (later : List ReadSummary) → length (read_after (tellings_of xs) later) ≡ answer_count xs + length later
 read_long [] later = omega arith
@@ -51,7 +38,7 @@ module _ {E G : Type 0} (entries : E → List EntryView) (answer : Definition) (
     (s : WorldHeld E G) (gate : G) (w : World) (f : IsWorld entries s gate w) (brought : List EntryView) (reached : Reached (setting_of answer accepts gate) brought w)
     (c : ℕ) where
   pub not_opened : length s.links.items ≤ c → slice_get w.conns c ≡ None
-  not_opened past = link_none f.rest.links w.conns c f.fits.links (held_past s.links.items f.rest.links c f.links past)
+  not_opened past = along_none FitsLink f.rest.links w.conns c f.fits.links (held_past s.links.items f.rest.links c f.links past)
 
   module _ (few : c < length s.links.items) (l : LinkHeld) (is : l ≡ slice_index_or s.links.items c l) where
     abbrev pub held : (m : Link) × (slice_get f.rest.links c ≡ Some m) × Holds l m
@@ -61,7 +48,7 @@ module _ {E G : Type 0} (entries : E → List EntryView) (answer : Definition) (
     m = link_of l held.2.client
 
     pub there : (k : Connection) × (slice_get w.conns c ≡ Some k) × FitsLink m k
-    there = link_at f.rest.links w.conns c m f.fits.links (held.1 ∙ ap (λ z. Some z) held.2.link_is)
+    there = along_at FitsLink f.rest.links w.conns c m f.fits.links (held.1 ∙ ap (λ z. Some z) held.2.link_is)
 
     abbrev k : Connection
     k = there.0

@@ -1,29 +1,32 @@
--- No-ops, bytes to a session, and the loss of a session, at the link of their connection.
-use Rattle.std.proofs.Common.{◌≡◌, refl, sym, ◌∙◌, subst, ℕ, ◌-◌, Bool, true, false, Some, None, Ok, Err, List, ◌++◌, length, take, drop, slice_get, slice_set}
+-- Steps of a session, no-ops, bytes to a session, and a cut, at the link of their connection.
+use Rattle.std.proofs.Common.{◌≡◌, refl, sym, ◌∙◌, ap, ap₂, subst, ℕ, ◌-◌, Bool, true, false, not, ◌||◌, if◌then◌else◌, is_some, Some, None, Result, Ok, Err, List, ◌∷◌, ◌++◌, length, take, drop, slice_get, slice_set}
+use Rattle.std.proofs.lemmas.Bool.{cond-true, cond-false}
 use Rattle.wire.specs.declared.Wish.{Wish}
 use Rattle.engine.specs.Views.{EntryView}
 use Rattle.exchange.specs.declared.Cause.{Cause}
+use Rattle.exchange.specs.declared.What.{What}
+use Rattle.exchange.specs.declared.Worked.{Worked}
+use Rattle.exchange.specs.Session.{Setting}
+use Rattle.exchange.specs.Rest.{work_kept, IsCounted}
 use Rattle.server.specs.declared.Server.{Server}
 use Rattle.server.specs.declared.Took.{Took}
-use Rattle.exchange.specs.declared.What.{What}
-use Rattle.exchange.specs.Session.{Setting}
 use Rattle.server.specs.Serving as serving
 use Rattle.server.proofs.Answered as answered
 use Rattle.server.specs.Views as server
 use Rattle.client.specs.Rest as asking
 use Rattle.world.specs.declared.kinds.Refused.TheVariants.{Memory}
 use Rattle.world.specs.declared.link.Link.{Link as LinkHeld}
-use Rattle.world.specs.Connections.{Ours, Foreign, Connection}
-use Rattle.world.specs.World.{World, ToServer, PutsNoop, Cut, Feeds, quiet, SawNoop, SawNothing, Fed, feed}
+use Rattle.world.specs.Connections.{Ours, Foreign, Connection, SaysNoop, input, kept_of}
+use Rattle.world.specs.World.{World, Effect, ToServer, Work, PutsNoop, Cut, Feeds, Refusal, quiet, at_peer, ledger, effect_of_step, work, noop, feed, SawWork, SawNoop, SawNothing, Fed}
+use Rattle.world.specs.Reports.{wrote_by}
 use Rattle.world.specs.Fits.{Link, Rest, FitsLink, Fits}
 use Rattle.world.specs.Contract.{Answers}
 use Rattle.world.specs.Views.{FitsEnd, link_of, end_peer}
 use Rattle.world.specs.Turns.{Definition, Now, Before}
-use Rattle.world.proofs.Sound.{Sound}
-use Rattle.world.proofs.Answering.{still_there}
-use Rattle.world.proofs.Held.{held_link}
-use Rattle.world.proofs.Turning.{ok_of, gate_kept, found, all_sound, still, relinked, done}
-use Rattle.world.proofs.Stepping.{steps_foreign, noop_step, server_step, noop_fits, noop_gone, cut_fits, server_fits, server_nowhere, feed_nowhere, feed_cut, feeds_fits, feeds_nowhere}
+use Rattle.world.proofs.Fitting.{work_link, noop_link, cut_link}
+use Rattle.world.proofs.Rising.{held_link, used_seen, foreign_feeds, server_link, piece_is}
+use Rattle.world.proofs.Served.{work_served, noop_served, feed_served}
+use Rattle.world.proofs.Turning.{found, sound, lives, given_up, relinked, may, acts, acts_unseen, rests, lacks, either, answer_is}
 
 module _ {E G : Type 0} (entries : E → List EntryView) (answer : Definition) (accepts : G → List ℕ → List ℕ → Bool)
     (c : ℕ) (l : LinkHeld) (s : Server E G) (r : Rest G) (w : World) where
@@ -33,38 +36,74 @@ module _ {E G : Type 0} (entries : E → List EntryView) (answer : Definition) (
   abbrev Now_ : LinkHeld → Server E G → World → Type 0
   Now_ = Now entries answer accepts r c
 
+  -- a step
+  module _ (b : Before entries answer accepts (Work c) l s r w) where
+    abbrev at_work : (k : Connection) × (slice_get w.conns c ≡ Some k) × FitsLink (link_of l b.client) k
+    at_work = found entries answer accepts (Work c) l s r w b
+
+    works : at_peer T c (ledger w) (Work c) at_work.0.peer at_work.0 ≡ Ok (work T c (ledger w) at_work.0)
+    works = either (λ p. at_peer T c (ledger w) (Work c) p at_work.0) (Ok (work T c (ledger w) at_work.0)) (λ _. refl) refl at_work.0.peer
+
+    pub work_over : (cause : Cause) → l.gone ≡ Some cause → Answers T w (Work c) (Ok (SawWork (Worked.Ended cause))) (Now_ l s)
+    work_over cause gone =
+        let k = at_work.0 in
+        rests entries answer accepts (Work c) l s r w b refl (SawWork (Worked.Ended cause))
+        (works ∙ ap (λ o. let x : Result Effect Refusal = Ok (effect_of_step k (work_kept T c (ledger w) (kept_of k) o)) in x) (given_up entries answer accepts (Work c) l s r w b cause gone).1) tt tt
+
+    pub work_lacks : (l2 : LinkHeld) (s2 : Server E G) → link_of l2 b.client ≡ link_of l b.client → FitsEnd l2.end b.client → server.Fits entries s2 r.server → Answers T w (Work c) (Err Memory) (Now_ l2 s2)
+    work_lacks = lacks entries answer accepts (Work c) l s r w b (may entries answer accepts (Work c) l s r w b refl _ works) refl
+
+    pub work_done : (l2 : LinkHeld) (s2 : Server E G) (worked : Worked) → l.gone ≡ None → IsCounted worked
+        → link_of l2 b.client ≡ record (link_of l b.client) { wrote = (link_of l b.client).wrote ++ wrote_by worked } → FitsEnd l2.end b.client
+        → answered.Answers (Ok worked) (serving.work_at answer accepts c r.server) r.server (server.Fits entries s2) → Answers T w (Work c) (Ok (SawWork worked)) (Now_ l2 s2)
+    work_done l2 s2 worked gone counted same ends a =
+        let k = at_work.0 in
+        let m = link_of l b.client in
+        let so = sound entries answer accepts (Work c) l s r w b in
+        let alive = lives entries answer accepts (Work c) l s r w b gone in
+        let is = answer_is worked _ a.0 _ (sym a.1 ∙ ap (serving.work_at answer accepts c) b.fits.server ∙ work_served G r.server.gate w c k at_work.1 alive so answer accepts) in
+        acts entries answer accepts (Work c) l s r w b refl (work T c (ledger w) k) works (SawWork worked) (ap SawWork (sym is.0)) l2 s2 b.client a.0 ends a.2 is.1
+        (subst (λ z. FitsLink z (work T c (ledger w) k).conn) (sym same) (subst (λ z. FitsLink (record m { wrote = m.wrote ++ wrote_by z }) (work T c (ledger w) k).conn) (sym is.0) (work_link m k at_work.2 so alive T c (ledger w)))) tt counted
+
+  -- a no-op
   module _ (b : Before entries answer accepts (PutsNoop c) l s r w) where
-    abbrev here : (k : Connection) × (slice_get w.conns c ≡ Some k) × FitsLink (link_of l b.client) k
-    here = found entries answer accepts (PutsNoop c) l s r w b
+    abbrev at_noop : (k : Connection) × (slice_get w.conns c ≡ Some k) × FitsLink (link_of l b.client) k
+    at_noop = found entries answer accepts (PutsNoop c) l s r w b
+
+    puts : at_peer T c (ledger w) (PutsNoop c) at_noop.0.peer at_noop.0 ≡ Ok (noop at_noop.0)
+    puts = either (λ p. at_peer T c (ledger w) (PutsNoop c) p at_noop.0) (Ok (noop at_noop.0)) (λ _. refl) refl at_noop.0.peer
 
     pub noop_over : (cause : Cause) → l.gone ≡ Some cause → Answers T w (PutsNoop c) (Ok (SawNoop false)) (Now_ l s)
     noop_over cause gone =
-        done entries answer accepts (PutsNoop c) l s r w b (SawNoop false) l s b.client r.server b.ends b.server refl
-        (noop_gone G answer accepts r w b.fits (all_sound entries answer accepts (PutsNoop c) l s r w b) c here.0 here.1 (link_of l b.client) b.at cause gone) tt tt
+        let k = at_noop.0 in
+        rests entries answer accepts (PutsNoop c) l s r w b refl (SawNoop false)
+        (puts ∙ ap (λ z. let x : Result Effect Refusal = Ok (quiet (record k { says = if z then SaysNoop ∷ k.says else k.says }) (SawNoop z)) in x) (over (is_some k.version) (is_some k.ended) _ (ap is_some (given_up entries answer accepts (PutsNoop c) l s r w b cause gone).1))) tt tt
+      where
+        over : (x y z : Bool) → y ≡ true → not (not x || y || z) ≡ false
+        over true true z e = refl
+        over true false z e = cc
+        over false y z e = refl
 
     pub noop_lacks : (s2 : Server E G) → server.Fits entries s2 r.server → Answers T w (PutsNoop c) (Err Memory) (Now_ l s2)
-    noop_lacks s2 serves = record {
-      may = ok_of _ _ (noop_step T w c here.0 here.1);
-      after = w;
-      leaves = refl;
-      now = still entries answer accepts (PutsNoop c) l s r w b l s2 refl b.ends serves;
-    }
+    noop_lacks s2 serves = lacks entries answer accepts (PutsNoop c) l s r w b (may entries answer accepts (PutsNoop c) l s r w b refl _ puts) refl l s2 refl b.ends serves
 
     pub noop_done : (s2 : Server E G) (put : Bool) → l.gone ≡ None → answered.Answers (Ok put) (serving.noop_at c r.server) r.server (server.Fits entries s2) → Answers T w (PutsNoop c) (Ok (SawNoop put)) (Now_ l s2)
-    noop_done s2 put lives a =
-        let sound = all_sound entries answer accepts (PutsNoop c) l s r w b in
-        done entries answer accepts (PutsNoop c) l s r w b (SawNoop put) l s2 b.client a.0 b.ends a.2 (gate_kept r.server.gate _ (λ x. refl) _ put a.0 a.1)
-        (noop_fits G answer accepts r w b.fits sound c here.0 here.1 (link_of l b.client) b.at (still_there (link_of l b.client) here.0 here.2 (sound c here.0 here.1) lives) put a.0 a.1)
-        tt tt
+    noop_done s2 put gone a =
+        let k = at_noop.0 in
+        let so = sound entries answer accepts (PutsNoop c) l s r w b in
+        let alive = lives entries answer accepts (PutsNoop c) l s r w b gone in
+        let is = answer_is put _ a.0 _ (sym a.1 ∙ ap (serving.noop_at c) b.fits.server ∙ noop_served G r.server.gate w c k at_noop.1 alive so) in
+        acts entries answer accepts (PutsNoop c) l s r w b refl (noop k) puts (SawNoop put) (ap SawNoop (sym is.0)) l s2 b.client a.0 b.ends a.2 is.1 (noop_link (link_of l b.client) k at_noop.2 so alive) tt tt
 
   -- a cut
   module _ (b : Before entries answer accepts (Cut c) l s r w) where
     pub cut_done : Answers T w (Cut c) (Ok SawNothing) (Now_ (record l { is_cut = true }) s)
     cut_done =
         let here = found entries answer accepts (Cut c) l s r w b in
-        done entries answer accepts (Cut c) l s r w b SawNothing (record l { is_cut = true }) s b.client r.server b.ends b.server refl
-        (cut_fits G answer accepts r w b.fits (all_sound entries answer accepts (Cut c) l s r w b) c here.0 here.1 (link_of l b.client) b.at)
-        tt tt
+        let k = here.0 in
+        let x : Result Effect Refusal = Ok (quiet (record k { cut = true }) SawNothing) in
+        acts_unseen entries answer accepts (Cut c) l s r w b refl (record k { cut = true }) SawNothing (either (λ p. at_peer T c (ledger w) (Cut c) p k) x (λ _. refl) refl k.peer) refl (λ _ j. refl)
+        (record l { is_cut = true }) b.client b.ends (cut_link (link_of l b.client) k here.2) tt tt
 
   -- bytes of a client of ours
   module _ (n : ℕ) (b : Before entries answer accepts (ToServer c n) l s r w) (wish : Wish) (ours : end_peer l.end ≡ Ours wish) where
@@ -77,32 +116,30 @@ module _ {E G : Type 0} (entries : E → List EntryView) (answer : Definition) (
     abbrev k_up : Connection
     k_up = at_up.0
 
+    abbrev piece : List ℕ
+    piece = take n (drop (length k_up.up) (input wish k_up.sent))
+
     peer_up : k_up.peer ≡ Ours wish
     peer_up = sym at_up.2.peer ∙ ours
 
-    abbrev sound_up : (j : ℕ) (k : Connection) → slice_get w.conns j ≡ Some k → Sound k
-    sound_up = all_sound entries answer accepts (ToServer c n) l s r w b
+    hands : at_peer T c (ledger w) (ToServer c n) k_up.peer k_up ≡ Ok (feed piece k_up)
+    hands = ap (λ p. at_peer T c (ledger w) (ToServer c n) p k_up) peer_up
 
-    nowhere : (what : What) → ((piece : List ℕ) → feed piece k_up ≡ quiet k_up (Fed 0 what)) → Answers T w (ToServer c n) (Ok (Fed 0 what)) (Now_ l s)
-    nowhere what h =
-        done entries answer accepts (ToServer c n) l s r w b (Fed 0 what) l s b.client r.server b.ends b.server refl
-        (server_nowhere G answer accepts r w b.fits sound_up c k_up at_up.1 m_up b.at wish peer_up n what h) tt tt
+    nowhere : (what : What) → feed piece k_up ≡ quiet k_up (Fed 0 what) → Answers T w (ToServer c n) (Ok (Fed 0 what)) (Now_ l s)
+    nowhere what h = rests entries answer accepts (ToServer c n) l s r w b refl (Fed 0 what) (hands ∙ ap (λ z. let x : Result Effect Refusal = Ok z in x) h) tt tt
 
     pub server_over : (cause : Cause) → l.gone ≡ Some cause → Answers T w (ToServer c n) (Ok (Fed 0 What.Closed)) (Now_ l s)
-    server_over cause gone = nowhere What.Closed (λ piece. feed_nowhere G answer accepts r w b.fits sound_up c k_up at_up.1 piece m_up b.at cause gone)
-
-    lives_up : l.gone ≡ None → k_up.server_lost ≡ false
-    lives_up gone = still_there m_up k_up at_up.2 (sound_up c k_up at_up.1) gone
+    server_over cause gone = nowhere What.Closed (cond-true k_up.server_lost _ _ (given_up entries answer accepts (ToServer c n) l s r w b cause gone).0)
 
     pub server_cut : l.gone ≡ None → l.is_cut ≡ true → Answers T w (ToServer c n) (Ok (Fed 0 What.Part)) (Now_ l s)
-    server_cut gone cut = nowhere What.Part (λ piece. feed_cut G answer accepts r w b.fits sound_up c k_up at_up.1 piece (lives_up gone) (sym at_up.2.cut ∙ cut))
+    server_cut gone cut = nowhere What.Part (cond-false k_up.server_lost _ _ (lives entries answer accepts (ToServer c n) l s r w b gone) ∙ cond-true k_up.cut _ _ (sym at_up.2.flags.0 ∙ cut))
 
     -- what came out of the client is held
     pub server_lacks : (y : asking.Rest) → b.client ≡ Some y → (j : ℕ) (l2 : LinkHeld) (s2 : Server E G)
         → link_of l2 (Some (asking.taken_out y j)) ≡ record m_up { client = Some (asking.taken_out y j); up = m_up.up ++ take j y.unsent } → FitsEnd l2.end (Some (asking.taken_out y j))
         → server.Fits entries s2 r.server → Answers T w (ToServer c n) (Err Memory) (Now_ l2 s2)
     server_lacks y is j l2 s2 same ends serves = record {
-      may = ok_of _ _ (server_step T w c k_up at_up.1 wish n peer_up);
+      may = may entries answer accepts (ToServer c n) l s r w b refl _ hands;
       after = w;
       leaves = refl;
       now = record {
@@ -121,18 +158,19 @@ module _ {E G : Type 0} (entries : E → List EntryView) (answer : Definition) (
         link_of l2 (Some (asking.taken_out y j)) ≡ record m_up { client = Some (asking.taken_out y j); up = drop took.used held } → FitsEnd l2.end (Some (asking.taken_out y j))
         → answered.Answers (Ok took) (serving.feed_at c (take n held) r.server) r.server (server.Fits entries s2) → Answers T w (ToServer c n) (Ok (Fed took.used took.what)) (Now_ l2 s2)
     server_done y is l2 s2 took gone joined same ends a =
-        let j = n - length m_up.up in
-        done entries answer accepts (ToServer c n) l s r w b (Fed took.used took.what) l2 s2 (Some (asking.taken_out y j)) a.0 ends a.2 (gate_kept r.server.gate _ (λ x. refl) _ took a.0 a.1)
-        (let h = server_fits G answer accepts r w b.fits sound_up c k_up at_up.1 m_up b.at wish peer_up (lives_up gone) (sym at_up.2.cut ∙ joined) n y is took a.0 a.1 in
-        (h.0, h.1, subst (λ z. Fits (record { links = slice_set r.links c z; server = a.0 }) h.0) (sym same) h.2))
-        tt tt
+        let so = sound entries answer accepts (ToServer c n) l s r w b in
+        let alive = lives entries answer accepts (ToServer c n) l s r w b gone in
+        let held = m_up.up ++ take (n - length m_up.up) y.unsent in
+        let served = feed_served G r.server.gate w c k_up at_up.1 alive so (sym at_up.2.flags.0 ∙ joined) piece in
+        let one = answer_is took served.0 a.0 _ (sym a.1 ∙ ap₂ (λ (x : List ℕ) z. serving.feed_at c x z) (piece_is m_up k_up at_up.2 so alive wish peer_up n y is) b.fits.server ∙ served.1) in
+        let seen : (feed piece k_up).seen ≡ Fed took.used took.what = served.2 ∙ ap (λ t. Fed t.used t.what) (sym one.0) in
+        let y2 = Some (asking.taken_out y (n - length m_up.up)) in
+        acts entries answer accepts (ToServer c n) l s r w b refl (feed piece k_up) hands (Fed took.used took.what) seen l2 s2 y2 a.0 ends a.2 one.1
+        (subst (λ z. FitsLink z (feed piece k_up).conn) (sym same) (subst (λ z. FitsLink (record m_up { client = y2; up = drop (used_seen z) held }) (feed piece k_up).conn) seen (server_link m_up k_up at_up.2 so alive wish peer_up n y is))) tt tt
 
   -- bytes of a foreign peer
   module _ (bytes : List ℕ) (b : Before entries answer accepts (Feeds c bytes) l s r w) (foreign : end_peer l.end ≡ Foreign) where
-    abbrev m_feed : Link
-    m_feed = link_of l b.client
-
-    abbrev at_feed : (k : Connection) × (slice_get w.conns c ≡ Some k) × FitsLink m_feed k
+    abbrev at_feed : (k : Connection) × (slice_get w.conns c ≡ Some k) × FitsLink (link_of l b.client) k
     at_feed = found entries answer accepts (Feeds c bytes) l s r w b
 
     abbrev k_feed : Connection
@@ -141,35 +179,27 @@ module _ {E G : Type 0} (entries : E → List EntryView) (answer : Definition) (
     peer_feed : k_feed.peer ≡ Foreign
     peer_feed = sym at_feed.2.peer ∙ foreign
 
-    abbrev sound_feed : (j : ℕ) (k : Connection) → slice_get w.conns j ≡ Some k → Sound k
-    sound_feed = all_sound entries answer accepts (Feeds c bytes) l s r w b
+    comes : at_peer T c (ledger w) (Feeds c bytes) k_feed.peer k_feed ≡ Ok (feed bytes k_feed)
+    comes = ap (λ p. at_peer T c (ledger w) (Feeds c bytes) p k_feed) peer_feed
 
     nowhere_feed : (what : What) → feed bytes k_feed ≡ quiet k_feed (Fed 0 what) → Answers T w (Feeds c bytes) (Ok (Fed 0 what)) (Now_ l s)
-    nowhere_feed what h =
-        done entries answer accepts (Feeds c bytes) l s r w b (Fed 0 what) l s b.client r.server b.ends b.server refl
-        (feeds_nowhere G answer accepts r w b.fits sound_feed c k_feed at_feed.1 m_feed b.at peer_feed bytes what h) tt tt
+    nowhere_feed what h = rests entries answer accepts (Feeds c bytes) l s r w b refl (Fed 0 what) (comes ∙ ap (λ z. let x : Result Effect Refusal = Ok z in x) h) tt tt
 
     pub foreign_over : (cause : Cause) → l.gone ≡ Some cause → Answers T w (Feeds c bytes) (Ok (Fed 0 What.Closed)) (Now_ l s)
-    foreign_over cause gone = nowhere_feed What.Closed (feed_nowhere G answer accepts r w b.fits sound_feed c k_feed at_feed.1 bytes m_feed b.at cause gone)
-
-    lives_feed : l.gone ≡ None → k_feed.server_lost ≡ false
-    lives_feed gone = still_there m_feed k_feed at_feed.2 (sound_feed c k_feed at_feed.1) gone
+    foreign_over cause gone = nowhere_feed What.Closed (cond-true k_feed.server_lost _ _ (given_up entries answer accepts (Feeds c bytes) l s r w b cause gone).0)
 
     pub foreign_cut : l.gone ≡ None → l.is_cut ≡ true → Answers T w (Feeds c bytes) (Ok (Fed 0 What.Part)) (Now_ l s)
-    foreign_cut gone cut = nowhere_feed What.Part (feed_cut G answer accepts r w b.fits sound_feed c k_feed at_feed.1 bytes (lives_feed gone) (sym at_feed.2.cut ∙ cut))
+    foreign_cut gone cut = nowhere_feed What.Part (cond-false k_feed.server_lost _ _ (lives entries answer accepts (Feeds c bytes) l s r w b gone) ∙ cond-true k_feed.cut _ _ (sym at_feed.2.flags.0 ∙ cut))
 
     pub foreign_lacks : (s2 : Server E G) → server.Fits entries s2 r.server → Answers T w (Feeds c bytes) (Err Memory) (Now_ l s2)
-    foreign_lacks s2 serves =
-        record {
-          may = ok_of _ _ (steps_foreign T w c k_feed at_feed.1 (Feeds c bytes) (feed bytes k_feed) peer_feed refl);
-          after = w;
-          leaves = refl;
-          now = still entries answer accepts (Feeds c bytes) l s r w b l s2 refl b.ends serves;
-        }
+    foreign_lacks s2 serves = lacks entries answer accepts (Feeds c bytes) l s r w b (may entries answer accepts (Feeds c bytes) l s r w b refl _ comes) refl l s2 refl b.ends serves
 
     pub foreign_done : (s2 : Server E G) (took : Took) → l.gone ≡ None → l.is_cut ≡ false → answered.Answers (Ok took) (serving.feed_at c bytes r.server) r.server (server.Fits entries s2)
         → Answers T w (Feeds c bytes) (Ok (Fed took.used took.what)) (Now_ l s2)
     foreign_done s2 took gone joined a =
-        done entries answer accepts (Feeds c bytes) l s r w b (Fed took.used took.what) l s2 b.client a.0 b.ends a.2 (gate_kept r.server.gate _ (λ x. refl) _ took a.0 a.1)
-        (feeds_fits G answer accepts r w b.fits sound_feed c k_feed at_feed.1 m_feed b.at peer_feed (lives_feed gone) (sym at_feed.2.cut ∙ joined) bytes took a.0 a.1)
-        tt tt
+        let so = sound entries answer accepts (Feeds c bytes) l s r w b in
+        let alive = lives entries answer accepts (Feeds c bytes) l s r w b gone in
+        let served = feed_served G r.server.gate w c k_feed at_feed.1 alive so (sym at_feed.2.flags.0 ∙ joined) bytes in
+        let one = answer_is took served.0 a.0 _ (sym a.1 ∙ ap (serving.feed_at c bytes) b.fits.server ∙ served.1) in
+        acts entries answer accepts (Feeds c bytes) l s r w b refl (feed bytes k_feed) comes (Fed took.used took.what) (served.2 ∙ ap (λ t. Fed t.used t.what) (sym one.0)) l s2 b.client a.0 b.ends a.2 one.1
+        (foreign_feeds (link_of l b.client) k_feed bytes at_feed.2 so alive peer_feed) tt tt

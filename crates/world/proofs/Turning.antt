@@ -1,13 +1,11 @@
 -- What an event does at the link of its connection: from what the calls of the ends answered to the whole answer.
-use Rattle.std.proofs.Common.{◌≡◌, refl, sym, ◌∙◌, ap, subst, ℕ, zero, suc, Bool, Option, Some, None, option_map, Result, Ok, Err, IsOk, List, [], ◌∷◌, ◌++◌, slice_get, slice_set}
+use Rattle.std.proofs.Common.{◌≡◌, refl, sym, ◌∙◌, ap, subst, ℕ, zero, suc, Bool, true, false, Option, Some, None, Result, Ok, Err, IsOk, List, [], ◌∷◌, slice_get, slice_set}
+use Rattle.wire.specs.declared.Wish.{Wish}
 use Rattle.engine.specs.Views.{EntryView}
 use Rattle.exchange.specs.declared.Cause.{Cause}
 use Rattle.server.specs.declared.Server.{Server}
-use Rattle.exchange.specs.declared.Worked.{Worked}
 use Rattle.exchange.specs.Session.{Setting}
-use Rattle.exchange.specs.Rest.{IsCounted}
 use Rattle.server.specs.Serving as serving
-use Rattle.server.proofs.Answered as answered
 use Rattle.server.specs.Views as server
 use Rattle.client.specs.Rest as asking
 use Rattle.world.specs.declared.kinds.Refused.{Refused}
@@ -15,20 +13,21 @@ use Rattle.world.specs.declared.kinds.Refused.TheVariants.{WrongPeer, Memory}
 use Rattle.world.specs.declared.kinds.Seen.{Seen as SeenTold}
 use Rattle.world.specs.declared.link.End.{End}
 use Rattle.world.specs.declared.link.Link.{Link as LinkHeld}
-use Rattle.world.specs.Connections.{Connection}
-use Rattle.world.specs.World.{World, Event, Work, Seen, SawWork, place, step, IsCountedIn}
-use Rattle.world.specs.Reports.{wrote_by}
-use Rattle.world.specs.Fits.{Link, Rest, FitsLink, FitLinks, Fits}
-use Rattle.world.proofs.Fitting.{fit_set}
-use Rattle.world.specs.Contract.{Answers}
+use Rattle.world.specs.Connections.{Peer, Ours, Foreign, Connection}
+use Rattle.world.specs.World.{World, Event, Effect, Seen, quiet, at_peer, with_effect, at_conn, after_effect, ledger, place, step, IsCountedIn}
+use Rattle.world.specs.Rests.{live_of, server_rest}
+use Rattle.world.specs.Fits.{Link, Rest, FitsLink, Alongside, Fits, cause_seen}
+use Rattle.world.proofs.Alongside.{along_at, along_set}
+use Rattle.world.specs.Contract.{MayLack, Leaves, Answers}
 use Rattle.world.specs.Seeing.{IsOpens, IsWrong, ComesWrong}
 use Rattle.world.specs.Views.{FitsEnd, link_of, end_peer, seen_of}
 use Rattle.world.specs.Turns.{Definition, Now, Before}
-use Rattle.world.proofs.Sound.{AllSound, reached_sound}
+use Rattle.world.proofs.Deeds.{some_is}
+use Rattle.world.proofs.Sound.{Sound, AllSound, reached_sound}
+use Rattle.world.proofs.Served.{unseen}
 use Rattle.world.proofs.Written.{TellsWritten}
 use Rattle.world.proofs.Seeing.{refuses_exactly}
-use Rattle.world.proofs.Answering.{answers, link_at, still_there}
-use Rattle.world.proofs.Stepping.{work_step, work_fits, work_gone}
+use Rattle.world.proofs.Answering.{answers, still_there}
 
 pub same_set : {A : Type 0} (xs : List A) (i : ℕ) (x : A) → slice_get xs i ≡ Some x → slice_set xs i x ≡ xs
 same_set [] i x h = refl
@@ -42,16 +41,6 @@ pub none_of : {A : Type 0} (o : Option A) → ((x : A) → o ≡ Some x → ⊥)
 none_of None h = refl
 none_of (Some x) h = absurd (h x refl)
 
--- a call of a session leaves the gate
-module _ {A G : Type 0} (gate : G) (f : serving.Live → A × serving.Rest G) (kept : (s : serving.Live) → (f s).1.gate ≡ gate) where
-  abbrev pub gate_of : Option (A × serving.Rest G) → G
-  gate_of (Some p) = p.1.gate
-  gate_of None = gate
-
-  pub gate_kept : (o : Option serving.Live) (a : A) (r2 : serving.Rest G) → option_map f o ≡ Some (a, r2) → r2.gate ≡ gate
-  gate_kept None a r2 h = cc
-  gate_kept (Some s) a r2 h = ap gate_of (sym h) ∙ kept s
-
 module _ {E G : Type 0} (entries : E → List EntryView) (answer : Definition) (accepts : G → List ℕ → List ℕ → Bool)
     (e : Event) (l : LinkHeld) (s : Server E G) (r : Rest G) (w : World) (b : Before entries answer accepts e l s r w) where
   abbrev S : Setting
@@ -61,10 +50,27 @@ module _ {E G : Type 0} (entries : E → List EntryView) (answer : Definition) (
   m = link_of l b.client
 
   pub found : (k : Connection) × (slice_get w.conns (place e) ≡ Some k) × FitsLink m k
-  found = link_at r.links w.conns (place e) m b.fits.links b.at
+  found = along_at FitsLink r.links w.conns (place e) m b.fits.links b.at
 
   pub all_sound : AllSound w
   all_sound = reached_sound S b.brought b.reached
+
+  abbrev k : Connection
+  k = found.0
+
+  pub sound : Sound k
+  sound = all_sound (place e) k found.1
+
+  -- of a session that no cause was told of, and of one that was given up, by the cause that was told then
+  pub lives : l.gone ≡ None → k.server_lost ≡ false
+  lives gone = still_there m k found.2 sound gone
+
+  pub given_up : (cause : Cause) → l.gone ≡ Some cause → (k.server_lost ≡ true) × (k.ended ≡ Some cause)
+  given_up cause g = go k.server_lost (sym found.2.flags.2 ∙ g)
+    where
+      go : (b : Bool) → cause_seen b k.ended ≡ Some cause → (b ≡ true) × (k.ended ≡ Some cause)
+      go true h = (refl, h)
+      go false h = cc
 
   -- where nothing has changed
   pub still : (l2 : LinkHeld) (s2 : Server E G) → link_of l2 b.client ≡ m → FitsEnd l2.end b.client → server.Fits entries s2 r.server → Now entries answer accepts r (place e) l2 s2 w
@@ -83,7 +89,7 @@ module _ {E G : Type 0} (entries : E → List EntryView) (answer : Definition) (
   relinked m2 g =
       record {
         server = b.fits.server;
-        links = subst (λ ks. FitLinks (slice_set r.links (place e) m2) ks) (same_set w.conns (place e) found.0 found.1) (fit_set r.links w.conns (place e) m2 found.0 b.fits.links g);
+        links = subst (λ ks. Alongside FitsLink (slice_set r.links (place e) m2) ks) (same_set w.conns (place e) found.0 found.1) (along_set FitsLink r.links w.conns (place e) m2 found.0 b.fits.links g);
       }
 
   pub unmoved : Now entries answer accepts r (place e) l s w
@@ -107,48 +113,59 @@ module _ {E G : Type 0} (entries : E → List EntryView) (answer : Definition) (
   pub looked : (o : End) → l.end ≡ o → (res : Result Seen Refused) → Answers S w e res (Now entries answer accepts r (place e) l s) → Answers S w e res (Now entries answer accepts r (place e) (record l { end = o }) s)
   looked o is res a = let P : End → Type 0 = λ z. Answers S w e res (Now entries answer accepts r (place e) (record l { end = z }) s) in subst P is a
 
-  -- where the model has stepped
-  pub done : (seen : Seen) (l2 : LinkHeld) (s2 : Server E G) (x2 : Option asking.Rest) (server2 : serving.Rest G) → FitsEnd l2.end x2 → server.Fits entries s2 server2 → server2.gate ≡ r.server.gate
-      → ((w2 : World) × (step S w e ≡ Ok (w2, seen)) × Fits (record { links = slice_set r.links (place e) (link_of l2 x2); server = server2 }) w2)
-      → TellsWritten w e → IsCountedIn seen → Answers S w e (Ok seen) (Now entries answer accepts r (place e) l2 s2)
-  done seen l2 s2 x2 server2 ends serves gated h tells counted =
-      answers S b.brought w b.reached e seen (Now entries answer accepts r (place e) l2 s2)
-      (h.0, h.1, record { client = x2; rest = server2; ends = ends; server = serves; gated = gated; fits = h.2 }) tells counted
+  -- what is held and what the server keeps after an effect
+  pub holds_then : (x : Effect) (l2 : LinkHeld) (s2 : Server E G) (y : Option asking.Rest) (server2 : serving.Rest G) → FitsEnd l2.end y → server.Fits entries s2 server2 → server2 ≡ server_rest r.server.gate (after_effect w (place e) k x) → FitsLink (link_of l2 y) x.conn
+      → Now entries answer accepts r (place e) l2 s2 (after_effect w (place e) k x)
+  holds_then x l2 s2 y server2 ends serves rest link =
+      record {
+        client = y;
+        rest = server2;
+        ends = ends;
+        server = serves;
+        gated = ap (λ z. z.gate) rest;
+        fits = record {
+          server = rest ∙ ap (λ g. server_rest g (after_effect w (place e) k x)) (sym (ap (λ z. z.gate) rest));
+          links = along_set FitsLink r.links w.conns (place e) (link_of l2 y) x.conn b.fits.links link;
+        };
+      }
 
-module _ {E G : Type 0} (entries : E → List EntryView) (answer : Definition) (accepts : G → List ℕ → List ℕ → Bool)
-    (c : ℕ) (l : LinkHeld) (s : Server E G) (r : Rest G) (w : World) where
-  abbrev T : Setting
-  T = serving.setting answer accepts r.server
+  -- What the model does at the connection is the answer, with what is held then and what the server keeps.
+  module _ (same : step S w e ≡ at_conn S w e (place e) (slice_get w.conns (place e))) where
+    pub stepped : (x : Effect) → at_peer S (place e) (ledger w) e k.peer k ≡ Ok x → step S w e ≡ Ok (after_effect w (place e) k x, x.seen)
+    stepped x h = same ∙ ap (at_conn S w e (place e)) found.1 ∙ ap (with_effect w (place e) k) h
 
-  module _ (b : Before entries answer accepts (Work c) l s r w) where
-    abbrev Now_ : LinkHeld → Server E G → World → Type 0
-    Now_ = Now entries answer accepts r c
+    pub may : (x : Effect) → at_peer S (place e) (ledger w) e k.peer k ≡ Ok x → IsOk (step S w e)
+    may x h = ok_of _ _ (stepped x h)
 
-    abbrev k : Connection
-    k = (found entries answer accepts (Work c) l s r w b).0
+    pub acts : (x : Effect) → at_peer S (place e) (ledger w) e k.peer k ≡ Ok x → (seen : Seen) → x.seen ≡ seen → (l2 : LinkHeld) (s2 : Server E G) (y : Option asking.Rest) (server2 : serving.Rest G) → FitsEnd l2.end y → server.Fits entries s2 server2
+        → server2 ≡ server_rest r.server.gate (after_effect w (place e) k x) → FitsLink (link_of l2 y) x.conn → TellsWritten w e → IsCountedIn seen → Answers S w e (Ok seen) (Now entries answer accepts r (place e) l2 s2)
+    acts x h seen is l2 s2 y server2 ends serves rest link tells counted =
+        let w2 = after_effect w (place e) k x in
+        answers S b.brought w b.reached e seen (Now entries answer accepts r (place e) l2 s2) (
+          w2,
+          stepped x h ∙ ap (λ z. Ok (w2, z)) is,
+          holds_then x l2 s2 y server2 ends serves rest link,
+        ) tells counted
 
-    abbrev here : slice_get w.conns c ≡ Some k
-    here = (found entries answer accepts (Work c) l s r w b).1
+    -- where no session sees it
+    pub acts_unseen : (k2 : Connection) (seen : Seen) → at_peer S (place e) (ledger w) e k.peer k ≡ Ok (quiet k2 seen) → k2.server_lost ≡ k.server_lost → (k.server_lost ≡ false → (j : ℕ) → live_of j k2 ≡ live_of j k) → (l2 : LinkHeld) (y : Option asking.Rest) → FitsEnd l2.end y → FitsLink (link_of l2 y) k2
+        → TellsWritten w e → IsCountedIn seen → Answers S w e (Ok seen) (Now entries answer accepts r (place e) l2 s)
+    acts_unseen k2 seen h gone alike l2 y ends link tells counted =
+        acts (quiet k2 seen) h seen refl l2 s y r.server ends b.server (b.fits.server ∙ unseen r.server.gate w (place e) k found.1 k2 seen gone alike) link tells counted
 
-    pub work_over : (cause : Cause) → l.gone ≡ Some cause → Answers T w (Work c) (Ok (SawWork (Worked.Ended cause))) (Now_ l s)
-    work_over cause gone =
-        done entries answer accepts (Work c) l s r w b (SawWork (Worked.Ended cause)) l s b.client r.server b.ends b.server refl
-        (work_gone G answer accepts r w b.fits (all_sound entries answer accepts (Work c) l s r w b) c k here (link_of l b.client) b.at cause gone) tt tt
+    -- and where nothing changes
+    pub rests : (seen : Seen) → at_peer S (place e) (ledger w) e k.peer k ≡ Ok (quiet k seen) → TellsWritten w e → IsCountedIn seen → Answers S w e (Ok seen) (Now entries answer accepts r (place e) l s)
+    rests seen h tells counted = acts_unseen k seen h refl (λ _ j. refl) l b.client b.ends found.2 tells counted
 
-    pub work_lacks : (l2 : LinkHeld) (s2 : Server E G) → link_of l2 b.client ≡ link_of l b.client → FitsEnd l2.end b.client → server.Fits entries s2 r.server → Answers T w (Work c) (Err Memory) (Now_ l2 s2)
-    work_lacks l2 s2 same ends serves = record {
-      may = ok_of _ _ (work_step T w c k here);
-      after = w;
-      leaves = refl;
-      now = still entries answer accepts (Work c) l s r w b l2 s2 same ends serves;
-    }
+  -- want of memory
+  pub lacks : MayLack S w e → Leaves w e w → (l2 : LinkHeld) (s2 : Server E G) → link_of l2 b.client ≡ m → FitsEnd l2.end b.client → server.Fits entries s2 r.server → Answers S w e (Err Memory) (Now entries answer accepts r (place e) l2 s2)
+  lacks may leaves l2 s2 same ends serves = record { may = may; after = w; leaves = leaves; now = still l2 s2 same ends serves }
 
-    pub work_done : (l2 : LinkHeld) (s2 : Server E G) (worked : Worked) → l.gone ≡ None → IsCounted worked
-        → link_of l2 b.client ≡ record (link_of l b.client) { wrote = (link_of l b.client).wrote ++ wrote_by worked } → FitsEnd l2.end b.client
-        → answered.Answers (Ok worked) (serving.work_at answer accepts c r.server) r.server (server.Fits entries s2) → Answers T w (Work c) (Ok (SawWork worked)) (Now_ l2 s2)
-    work_done l2 s2 worked lives counted same ends a =
-        done entries answer accepts (Work c) l s r w b (SawWork worked) l2 s2 b.client a.0 ends a.2 (gate_kept r.server.gate _ (λ x. refl) _ worked a.0 a.1)
-        (let h = work_fits G answer accepts r w b.fits (all_sound entries answer accepts (Work c) l s r w b) c k here (link_of l b.client) b.at
-        (still_there (link_of l b.client) k (found entries answer accepts (Work c) l s r w b).2 (all_sound entries answer accepts (Work c) l s r w b c k here) lives) worked a.0 a.1 in
-        (h.0, h.1, subst (λ z. Fits (record { links = slice_set r.links c z; server = a.0 }) h.0) (sym same) h.2))
-        tt counted
+-- an event that any peer takes
+pub either : {A : Type 0} (f : Peer → A) (x : A) → ((wish : Wish) → f (Ours wish) ≡ x) → f Foreign ≡ x → (p : Peer) → f p ≡ x
+either f x a d (Ours wish) = a wish
+either f x a d Foreign = d
+
+-- what a call of the server answered is what the model's did
+pub answer_is : {A B : Type 0} (x x2 : A) (y y2 : B) → ◌≡◌ {A = Option (A × B)} (Some (x, y)) (Some (x2, y2)) → (x ≡ x2) × (y ≡ y2)
+answer_is {A} {B} x x2 y y2 h = let p = some_is (x, y) (x2, y2) h in (ap (λ z. z.0) p, ap (λ z. z.1) p)

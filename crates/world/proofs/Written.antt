@@ -1,7 +1,8 @@
 -- Each request that was accepted has a text that stands for it: a step keeps that, where the request that it accepts is made of texts,
 -- numbers and cells.
-use Rattle.std.proofs.Common.{◌≡◌, refl, sym, ◌∙◌, ap, subst, ℕ, zero, suc, map, Bool, false, ◌||◌, Option, Some, None, unwrap_or, Result, Ok, Err, List, [], ◌∷◌, ◌++◌, length, take, drop, slice_get, ◌⊎◌, inl, inr, ⊎_elim}
+use Rattle.std.proofs.Common.{◌≡◌, refl, sym, ◌∙◌, ap, subst, ℕ, map, Bool, false, ◌||◌, Option, Some, None, unwrap_or, Result, Ok, Err, List, [], ◌∷◌, ◌++◌, length, take, drop, slice_get, ◌⊎◌, inl, inr, ⊎_elim}
 use Rattle.std.proofs.lemmas.Bool.{or_parts}
+use Rattle.std.proofs.Math.Seq.{take-nil}
 use Rattle.wire.specs.declared.Version.{Version}
 use Rattle.wire.specs.declared.Wish.{Wish}
 use Rattle.wire.specs.Offers.{wish_version}
@@ -19,15 +20,12 @@ use Rattle.client.specs.Rest.{writing_fault, writing_fault_by}
 use Rattle.client.specs.Client.{Reading, knows_of, refusal_of, reading_of}
 use Rattle.client.proofs.Refusing.{accepted_facts, accepted_written, knows_version}
 use Rattle.world.specs.Connections.{Ours, input, Connection, wish_of, said_version, client, heard_as}
-use Rattle.world.specs.World.{World, Event, Submit, Seen, Effect, feed, noop, work, place, step, IsMade}
+use Rattle.world.specs.World.{World, Event, Submit, Seen, Effect, place, step, IsMade}
 use Rattle.world.proofs.Deeds as deed
 use Rattle.world.proofs.Deeds.{Deed, Did, opens, acts, step_did}
 use Rattle.world.proofs.Sound.{Sound}
-use Rattle.world.proofs.Doing.{Alike, feed_alike, work_alike, noop_alike}
+use Rattle.world.proofs.Doing.{Speaks, says, feed_speaks, work_speaks, noop_speaks}
 use Rattle.world.proofs.Kept.{Talk}
-
-abbrev pub AllWritten : World → Type 0
-AllWritten w = (c : ℕ) (k : Connection) → slice_get w.conns c ≡ Some k → AreWritten (wish_version (wish_of k.peer)) k.sent
 
 -- the client's answer to a submit, of the connection that it was for
 abbrev pub TellsWritten : World → Event → Type 0
@@ -39,14 +37,10 @@ TellsWritten w e = Unit {0}
 pub knows_if : {Q R : Type 0} (S : Setting) (all : List EntryView) (wish : Wish) (k : Connection) → Talk S all wish k → ((client k).version ≡ None) ⊎ (Q × R × ((client k).version ≡ Some (said_version k))) → ((client k).version ≡ None) ⊎ ((client k).version ≡ Some (wish_version wish))
 knows_if S all wish k talk (inl e) = inl e
 knows_if S all wish k (inr s) (inr e) = inr (e.2 ∙ ap (λ o. Some (unwrap_or o Version.V51)) s.0)
-knows_if S all wish k (inl s) (inr e) = inl (ap (λ xs. version_of (take k.down (bytes_newest_first (heard_bytes (said_version k)) (map heard_as xs)))) s.1 ∙ ap version_of (take_none k.down))
+knows_if S all wish k (inl s) (inr e) = inl (ap (λ xs. version_of (take k.down (bytes_newest_first (heard_bytes (said_version k)) (map heard_as xs)))) s.1 ∙ ap version_of (take-nil k.down))
   where
     version_of : List ℕ → Option Version
     version_of b = (reading_of (wish_of k.peer) k.sent b).version
-
-    take_none : (n : ℕ) → take {A = ℕ} n [] ≡ []
-    take_none zero = refl
-    take_none (suc n) = refl
 
 -- what a client that accepts is known to be
 pub accepting : (r : Reading) (lost : Bool) (sent : List RequestView) (q : RequestView) → refusal_of r lost sent q ≡ None → (lost ≡ false) × (r.bad ≡ false) × (r.version ≡ None → ⊥)
@@ -78,8 +72,8 @@ both v (m ∷ ms) q h y = (h.0, both v ms q h.1 y)
 abbrev pub Written : Connection → Type 0
 Written k = AreWritten (wish_version (wish_of k.peer)) k.sent
 
-stays_written : (k k2 : Connection) → Alike k k2 → Written k → Written k2
-stays_written k k2 a h = subst (λ p. AreWritten (wish_version (wish_of p)) k2.sent) (sym a.peer) (subst (λ ms. AreWritten (wish_version (wish_of k.peer)) ms) (sym a.sent) h)
+spoken_written : {k : Connection} {x : Effect} → Speaks k x → Written k → Written x.conn
+spoken_written (says t xs up commit seen may wrote untold) h = h
 
 module _ {S : Setting} {c : ℕ} {all : List EntryView} (w : World) (k : Connection) where
   -- each deed
@@ -88,10 +82,10 @@ module _ {S : Setting} {c : ℕ} {all : List EntryView} (w : World) (k : Connect
   deed_written here s knows h (deed.submits i q wish p none) made =
       both (wish_version (wish_of k.peer)) k.sent q h
       (subst (λ y. IsWritten (wish_version (wish_of y)) q) (sym p) (made_written wish k q (knows wish p) (subst (λ y. IsRequest (wish_version (wish_of y)) q) p (made k here)) none))
-  deed_written here s knows h (deed.hands i n wish p) made = let piece = take n (drop (length k.up) (input wish k.sent)) in stays_written k (feed piece k).conn (feed_alike k s piece) h
-  deed_written here s knows h (deed.feeds i piece p) made = stays_written k (feed piece k).conn (feed_alike k s piece) h
-  deed_written here s knows h (deed.works i) made = stays_written k (work S c all k k.ended).conn (work_alike k s S c all) h
-  deed_written here s knows h (deed.noops i) made = stays_written k (noop k).conn (noop_alike k s) h
+  deed_written here s knows h (deed.hands i n wish p) made = spoken_written (feed_speaks k s (take n (drop (length k.up) (input wish k.sent)))) h
+  deed_written here s knows h (deed.feeds i piece p) made = spoken_written (feed_speaks k s piece) h
+  deed_written here s knows h (deed.works i) made = spoken_written (work_speaks S c all k) h
+  deed_written here s knows h (deed.noops i) made = spoken_written (noop_speaks k) h
   deed_written here s knows h _ made = h
 
   -- And the other way round: what has a text that stands for it is so made.

@@ -1,5 +1,5 @@
 -- Connections: what their ends said and took of each other, and where their sessions stand. Lists of what was said have the newest first.
-use Rattle.std.specs.Prelude.{ℕ, suc, Bool, false, if◌then◌else◌, Option, Some, None, unwrap_or, List, [], ◌∷◌, ◌++◌, take, drop, map}
+use Rattle.std.specs.Prelude.{ℕ, suc, Bool, false, Option, None, unwrap_or, List, [], ◌∷◌, ◌++◌, take, drop, map}
 use Rattle.packstream.specs.Tree.{Tree}
 use Rattle.wire.specs.declared.Version.{Version}
 use Rattle.wire.specs.declared.Wish.{Wish}
@@ -8,10 +8,9 @@ use Rattle.wire.specs.Framing.{bytes_in_order, bytes_newest_first}
 use Rattle.messages.specs.View.{RequestView, ResponseView}
 use Rattle.messages.specs.Arrivals.{Arrival, Asked, Unread, TooLong, arrivals, request_bytes, Heard, Chosen, Quiet, heard_bytes}
 use Rattle.machine.specs.declared.State.{State}
-use Rattle.machine.specs.Following.{interruptible}
 use Rattle.exchange.specs.declared.Cause.{Cause}
 use Rattle.exchange.specs.Session.{Open, no_result, Tx, no_tx}
-use Rattle.exchange.specs.Rest.{Written}
+use Rattle.exchange.specs.Rest.{Written, Kept}
 use Rattle.client.specs.Client.{Reading, reading_of}
 
 -- what a server says: the version, or that it takes none; a no-op; a row, as it was fitted; a summary
@@ -121,20 +120,28 @@ arrivals_at k = requests_among (arrivals k.up)
 abbrev pub waiting : Connection → List Arrival
 waiting k = drop (answer_count k.says) (arrivals_at k)
 
--- one of the five states becomes Interrupted, and what was open is dropped
-abbrev pub after_strike : Connection → Connection
-after_strike k = if interruptible k.state then
-    record k { state = State.Interrupted; result = no_result; tx = no_tx } else k
+-- what a session keeps: where it stands, and what follows from what it said, took and gave out
+abbrev pub kept_of : Connection → Kept
+kept_of k =
+    record {
+      version = k.version;
+      state = k.state;
+      ended = k.ended;
+      first = answer_count k.says;
+      waiting = waiting k;
+      result = k.result;
+      tx = k.tx;
+      unsent = drop k.taken (output k);
+    }
 
--- the same where a RESET strikes, and the connection as it was where none does
-abbrev pub strike_if : Bool → Connection → Connection
-strike_if b k = if b then after_strike k else k
-
--- the session ends by this cause: it is Defunct, and what was open is dropped
-abbrev pub end_with : Cause → Connection → Connection
-end_with cause k = record k {
-  ended = Some cause;
-  state = State.Defunct;
-  result = no_result;
-  tx = no_tx;
-}
+-- a connection whose session stands so then, and said this more, from which the rest that it keeps follows
+abbrev pub keeping : Connection → Kept → List Said → Connection
+keeping k s more =
+    record k {
+      version = s.version;
+      says = more ++ k.says;
+      state = s.state;
+      ended = s.ended;
+      result = s.result;
+      tx = s.tx;
+    }

@@ -18,7 +18,7 @@ use Rattle.world.specs.declared.world.World.{World as WorldHeld}
 use Rattle.world.specs.declared.kinds.Refused.TheVariants.{WrongPeer, Memory}
 use Rattle.world.specs.Connections.{Foreign}
 use Rattle.world.specs.World.{World, Event, Seen, Submitted, SawNothing, place, Reached}
-use Rattle.world.specs.Fits.{Link, Rest, Fits}
+use Rattle.world.specs.Fits.{Link, Rest, Alongside, Fits}
 use Rattle.world.specs.Views.{seen_of, link_of, FitsEnd}
 use Rattle.world.specs.Contract.{Answers, Follows, Replays}
 
@@ -92,17 +92,11 @@ LosesClient m (Ok SawNothing) Now = HasClient m (λ y. Now (after_loss m.client_
 LosesClient m (Err WrongPeer) Now = (m.peer ≡ Foreign) × Now m
 LosesClient m result Now = ⊥
 
--- place by place
-abbrev pub HoldLinks : List LinkHeld → List Link → Type 0
-HoldLinks [] [] = Unit {0}
-HoldLinks (l ∷ ls) (m ∷ ms) = Holds l m × HoldLinks ls ms
-HoldLinks ls ms = ⊥
-
 -- that what a world holds, over this gate, stands for a world of the model
 pub record IsWorld {E G : Type 0} (entries : E → List EntryView) (s : WorldHeld E G) (gate : G)
     (w : World) : Type 0 where
   pub rest : Rest G
-  pub links : HoldLinks s.links.items rest.links
+  pub links : Alongside Holds s.links.items rest.links
   pub server : server.Fits entries s.server rest.server
   pub gated : rest.server.gate ≡ gate
   pub fits : Fits rest w

@@ -1,7 +1,8 @@
 use Rattle.std.proofs.Common.{ap, ◌∙◌, ◌++◌, map}
 use Rattle.world.specs.Reports.{wrote_by}
 use Rattle.world.specs.Views.{link_of, wrote_of}
-use Rattle.world.proofs.Turning.{none_of, work_over, work_lacks, work_done}
+use Rattle.world.proofs.Turning.{none_of}
+use Rattle.world.proofs.Turned.{work_over, work_lacks, work_done}
 use Rattle.world.proofs.turns.work.Goals as goal
 
 pub returns-in-Some : goal.returns-in-Some

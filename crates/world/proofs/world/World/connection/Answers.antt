@@ -18,15 +18,15 @@ returns g c = λ gate brought w reached f.
     let l = c.index-link.result.now in
     let h = held g.E.Engine.entries g.E.Engine.answer g.G.Gate.accepts c.args.self.now gate w f brought reached c.args.conn few l c.index-link.ensures in
     let t = there g.E.Engine.entries g.E.Engine.answer g.G.Gate.accepts c.args.self.now gate w f brought reached c.args.conn few l c.index-link.ensures in
-    let shown = ap (map read_of) c.as_slice-2.ensures.value ∙ t.2.read in
+    let shown = ap (map read_of) c.as_slice-2.ensures.value ∙ t.2.report.1 in
     let count = length c.as_slice-2.result.now in (
       t.0,
       t.1,
       record {
         peer = c.peer.ensures ∙ t.2.peer;
-        wrote = ap (map wrote_of) c.as_slice.ensures.value ∙ t.2.wrote;
+        wrote = ap (map wrote_of) c.as_slice.ensures.value ∙ t.2.report.0;
         read = shown;
-        lost = c.losses.ensures ∙ t.2.lost;
+        lost = c.losses.ensures ∙ t.2.report.2;
         waits = ap (λ n. ordinals count n) (c.waiting.ensures h.2.client h.2.ends)
             ∙ sym (waits_as g.E.Engine.entries g.E.Engine.answer g.G.Gate.accepts c.args.self.now gate w f brought reached c.args.conn few l c.index-link.ensures count (sym (ap length shown) ∙ length-map c.as_slice-2.result.now read_of));
         standing = stands_as g.E.Engine.entries g.E.Engine.answer g.G.Gate.accepts c.args.self.now gate w f brought reached c.args.conn few l c.index-link.ensures l.gone refl c.standing_at.result (c.standing_at.ensures f.rest.server f.server);

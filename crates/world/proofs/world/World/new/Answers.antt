@@ -3,7 +3,8 @@ use Rattle.engine.specs.Views.{entry_view}
 use Rattle.std.proofs.Common.{sym, subst, ap, refl, length, List, [], arith}
 use Rattle.world.specs.declared.link.Link.{Link as LinkHeld}
 use Rattle.engine.specs.Views.{EntryView}
-use Rattle.world.specs.Turns.{FitsWorld, HoldLinks}
+use Rattle.world.specs.Fits.{Alongside}
+use Rattle.world.specs.Turns.{FitsWorld, Holds}
 use Rattle.world.specs.World.{begins}
 use Rattle.world.proofs.Placed.{new_fits}
 use Rattle.world.proofs.world.World.new.Goals as goal
@@ -11,7 +12,7 @@ use Rattle.world.proofs.world.World.new.Goals as goal
 pub returns-clause-fits : goal.returns-clause-fits
 unfolding FitsWorld
 returns-clause-fits g c =
-    let P : List LinkHeld → Type 0 = λ ls. HoldLinks ls [] in
+    let P : List LinkHeld → Type 0 = λ ls. Alongside Holds ls [] in
     record {
       rest = record { links = []; server = _ };
       links = subst P (sym c.new.ensures.items) tt;
