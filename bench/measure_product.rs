@@ -1,5 +1,5 @@
 //! Times the product's codec beside the plain Rust twin, in one run, on the twin's samples.
-//! Linked with the static library `bench` of the workspace:
+//! Linked with the static library `bench_codec` of the workspace:
 //!   bench_decode(bytes, turns): decodes the bytes so many times, answers how often it succeeded
 //!   bench_encode(bytes, turns): decodes once, encodes so many times, answers the bytes appended in all
 //!   bench_append(bytes, turns): the same onto an output that holds a byte and has room

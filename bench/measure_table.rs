@@ -1,6 +1,6 @@
 //! Times the fixed table beside the plain Rust twin's, in one run: `measure_table [TIMES]`. A table has so many entries of one
 //! put each, over so many keys in turn; each figure is the time of a call that puts or asks, less that of one that only makes
-//! the table. Linked with the static library `bench` of the workspace:
+//! the table. Linked with the static library `bench_codec` of the workspace:
 //!   bench_table_puts(keys, puts): makes a table by so many puts, each its own commit, answers the ledger's length
 //!   bench_table_tokens(keys, puts): the same, each commit under a token of its own
 //!   bench_table_gets(keys, puts, key, gets): then gets a key's value so many times, answers the rows read

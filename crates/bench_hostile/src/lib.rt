@@ -2,21 +2,21 @@
 //! a number.
 #![tactic(auto)]
 
-mod hoarding;
+mod hoards;
 
-use crate::hoarding::hoard;
+use crate::hoards::hoard;
 use std::alloc::Global;
 
 /// Plays so many events by chance: 0 where all held.
 #[unsafe(no_mangle)]
 pub extern "C" fn hostile_plays(alloc: Global, seed: u64, events: u64) -> u64 {
-    fuzzing::plays(alloc, seed, events)
+    test_chance::plays(alloc, seed, events)
 }
 
 /// Gives a client torn bytes of a server, and reads torn bytes: 0 where all held.
 #[unsafe(no_mangle)]
 pub extern "C" fn hostile_hears(alloc: Global, seed: u64) -> u64 {
-    fuzzing::hears(alloc, seed)
+    test_chance::hears(alloc, seed)
 }
 
 /// Feeds so many of the dearest requests to a server's session, of 65,536 bytes each and before anyone is let in: how many were taken.

@@ -1,9 +1,9 @@
 //! Workloads of whole requests.
-use crate::asking::{ask, ask_put, connect, key_parameter, parameter};
 use crate::link::{Link, Ours, Pair, Stopped, new_server};
-use crate::moving::{down, exchange, up};
+use crate::requests::{ask, ask_put, connect, key_parameter, parameter};
 use crate::tally::Tally;
 use crate::tokens::Tokens;
+use crate::transport::{down, exchange, up};
 use engine::Engine;
 use server::Worked;
 use std::alloc::{AllocError, Global};

@@ -1,6 +1,6 @@
 //! Costs that are to stay flat: bytes of records with many keys, and of pieces with many messages.
-use crate::asking::key_of;
 use crate::link::Stopped;
+use crate::requests::key_of;
 use bytes::BytesMut;
 use messages::{Response, read_response, write_response};
 use std::alloc::{AllocError, Global};

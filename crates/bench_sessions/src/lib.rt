@@ -2,20 +2,20 @@
 //! makes all that it needs, and answers a check number of all that was moved and heard, or 0 at want of memory.
 #![tactic(auto)]
 
-mod asking;
+mod answers;
 mod batches;
 mod growth;
-mod hearing;
 mod link;
-mod moving;
 mod pieces;
+mod requests;
 mod tally;
 mod tokens;
+mod transport;
 mod workload;
 
+use crate::answers::rows_heard;
 use crate::batches::sessions;
 use crate::growth::{pieces_taken, records_read, records_written};
-use crate::hearing::rows_heard;
 use crate::pieces::Long;
 use crate::tokens::Tokens;
 use crate::workload::{Workload, run};

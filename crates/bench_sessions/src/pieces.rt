@@ -1,8 +1,8 @@
 //! Workloads of one message fed in pieces.
 ghost use Rattle.std.specs.Prelude.{◌+◌, ◌<◌, length};
 
-use crate::asking::ask;
 use crate::link::{Link, Ours, Pair, Stopped};
+use crate::requests::ask;
 use crate::tally::Tally;
 use server::What;
 use std::alloc::Global;

@@ -1,8 +1,8 @@
 //! What is timed with one client.
-use crate::asking::pair;
 use crate::batches::{autocommit, echo, puts, rows, transactions};
 use crate::link::{Pair, Stopped};
 use crate::pieces::{Long, to_client, to_server};
+use crate::requests::pair;
 use crate::tokens::Tokens;
 use std::alloc::Global;
 

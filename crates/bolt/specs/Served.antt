@@ -5,7 +5,7 @@ use Rattle.std.specs.Io.KnownBytes.{Appends}
 use Rattle.engine.specs.Kept.{ledger_of}
 use Rattle.engine.specs.declared.fixed_table.FixedTable.{FixedTable}
 use Rattle.engine.specs.declared.one_user.OneUser.{OneUser}
-use Rattle.exchange.specs.declared.kinds.Cause.{Cause}
+use Rattle.session.specs.declared.kinds.Cause.{Cause}
 use Rattle.server.specs.declared.server.Server.{Server}
 use Rattle.server.specs.Serving.{Rest}
 use Rattle.server.specs.Views.{Fits}

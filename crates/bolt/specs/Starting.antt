@@ -1,8 +1,8 @@
 -- What is said where there are no words to tell a command by.
 use Rattle.std.specs.Prelude.{ℕ, List, [], ◌∷◌, ◌++◌, codes}
 use Rattle.commands.specs.Refusals.{help_text}
-use Rattle.bolt.specs.declared.starting.Unread.{Unread}
-use Rattle.bolt.specs.declared.starting.Unread.TheVariants.{Memory, NotText}
+use Rattle.bolt.specs.declared.command_line.Unread.{Unread}
+use Rattle.bolt.specs.declared.command_line.Unread.TheVariants.{Memory, NotText}
 
 -- the status where the program's words can't be read: 3 for want of memory, else 2
 abbrev pub unread_status : Unread → ℕ

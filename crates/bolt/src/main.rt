@@ -1,15 +1,15 @@
 //! The program `bolt`: what a server answers to the bytes that a client sends.
 #![tactic(auto)]
 
-mod connecting;
-mod opening;
+mod command_line;
 mod reasons;
-mod starting;
+mod script_file;
+mod sockets;
 
+use command_line::{refuse, words_of};
 use commands::{CommandLine, asked, command};
-use connecting::{loop_through, serve_on, shell_at};
-use opening::replay_file;
-use starting::{refuse, words_of};
+use script_file::replay_file;
+use sockets::{loop_through, serve_on, shell_at};
 use std::process::ExitCode;
 use streams::Over;
 

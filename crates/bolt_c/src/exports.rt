@@ -13,7 +13,7 @@ use crate::codes::{
 };
 use crate::handle::Handle;
 use crate::held::Held;
-use crate::losing::fill;
+use crate::losses::fill;
 use client::ClientFault;
 use machine::MAX_WAITING;
 use std::alloc::Global;

@@ -8,5 +8,5 @@ mod codes;
 mod exports;
 mod handle;
 mod held;
-mod losing;
+mod losses;
 mod unboxed;

@@ -2,21 +2,21 @@
 #![tactic(auto)]
 
 mod cell;
-mod checking;
+mod cell_check;
 mod clone;
-mod comparing;
+mod comparison;
 mod fault;
-mod judging;
 mod kinds;
 mod parts;
 mod path;
 mod table;
 pub mod tags;
+mod value_check;
 mod wrong;
 
 pub use cell::{Cell, ElementIds, Node, Relationship, UnboundRelationship};
-pub use checking::check_value;
-pub use comparing::same;
+pub use cell_check::{check_cell, check_cells, check_entries};
+pub use comparison::same;
 pub use fault::Reason;
-pub use judging::{check_cell, check_cells, check_entries};
 pub use table::Field;
+pub use value_check::check_value;

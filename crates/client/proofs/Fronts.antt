@@ -15,9 +15,9 @@ use Rattle.wire.specs.Reader.{takes}
 use Rattle.wire.specs.Framing.{Opened, opening, reading, at_client}
 use Rattle.wire.proofs.First.{takes_first}
 use Rattle.reader.specs.Piecewise.{Point, Reads}
-use Rattle.client.specs.declared.opening.Opening.{Opening}
-use Rattle.client.specs.declared.feeding.Came.TheVariants as came
-use Rattle.client.specs.declared.feeding.Taken.{Taken}
+use Rattle.client.specs.declared.version_answer.Opening.{Opening}
+use Rattle.client.specs.declared.data.Came.TheVariants as came
+use Rattle.client.specs.declared.data.Taken.{Taken}
 use Rattle.client.specs.declared.items.End.TheVariants as end
 use Rattle.client.specs.declared.faults.ClientFault.{ClientFault}
 use Rattle.client.specs.Held.{IsItem}

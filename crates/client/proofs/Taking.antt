@@ -19,10 +19,10 @@ use Rattle.wire.specs.Framing.{Item, Opening as Opens, chunks, Opened, opening, 
 use Rattle.wire.proofs.Framed.{answers_take}
 use Rattle.reader.specs.Piecewise.{Point, Points, Reads, fresh as nothing_held}
 use Rattle.messages.specs.Arrivals.{Heard, Chosen, Strange, heard_among, heard_version}
-use Rattle.client.specs.declared.opening.Opening.{Opening}
-use Rattle.client.specs.declared.feeding.Came.{Came}
-use Rattle.client.specs.declared.feeding.Came.TheVariants as came
-use Rattle.client.specs.declared.feeding.Taken.{Taken}
+use Rattle.client.specs.declared.version_answer.Opening.{Opening}
+use Rattle.client.specs.declared.data.Came.{Came}
+use Rattle.client.specs.declared.data.Came.TheVariants as came
+use Rattle.client.specs.declared.data.Taken.{Taken}
 use Rattle.client.specs.declared.items.End.{End}
 use Rattle.client.specs.declared.items.End.TheVariants as end
 use Rattle.client.specs.declared.items.Bite.{Bite}

@@ -24,7 +24,7 @@ use Rattle.wire.proofs.First.{takes_first}
 use Rattle.wire.proofs.Room.{part_wants}
 use Rattle.reader.specs.Piecewise.{Point, Reads, MayGoOn}
 use Rattle.reader.proofs.Pieces.{nothing_goes_on}
-use Rattle.client.specs.declared.opening.Opening.{Opening}
+use Rattle.client.specs.declared.version_answer.Opening.{Opening}
 use Rattle.client.specs.declared.items.Bite.{Bite}
 use Rattle.client.specs.declared.items.End.TheVariants as end
 use Rattle.client.specs.Held.{IsItem, WantsRoom}

@@ -7,10 +7,10 @@ use Rattle.wire.specs.Reader.{Took}
 use Rattle.reader.specs.Piecewise.{Point}
 use Rattle.messages.specs.View.{response_view}
 use Rattle.messages.specs.Arrivals.{Heard as AnyHeard}
-use Rattle.client.specs.declared.opening.Opening.{Opening}
-use Rattle.client.specs.declared.feeding.Came.{Came}
-use Rattle.client.specs.declared.feeding.Came.TheVariants as came
-use Rattle.client.specs.declared.feeding.Taken.{Taken}
+use Rattle.client.specs.declared.version_answer.Opening.{Opening}
+use Rattle.client.specs.declared.data.Came.{Came}
+use Rattle.client.specs.declared.data.Came.TheVariants as came
+use Rattle.client.specs.declared.data.Taken.{Taken}
 use Rattle.client.specs.declared.stream.Stream.{Stream}
 use Rattle.client.specs.declared.heard.Heard.{Heard}
 use Rattle.client.specs.declared.faults.ClientFault.{ClientFault}

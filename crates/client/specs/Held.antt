@@ -6,7 +6,7 @@ use Rattle.wire.specs.Items.{answer_to, wants_room}
 use Rattle.wire.specs.Framing.{Opened, opening, reading}
 use Rattle.wire.specs.Scanning.{Holds}
 use Rattle.reader.specs.Piecewise.{Point, Reads, MayGoOn}
-use Rattle.client.specs.declared.opening.Opening.{Opening}
+use Rattle.client.specs.declared.version_answer.Opening.{Opening}
 use Rattle.client.specs.Answers.{held_bytes}
 
 -- the data of a message that isn't whole

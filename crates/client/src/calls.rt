@@ -13,21 +13,21 @@ ghost use Rattle.client.specs.Fits.{Fits, IsAccepted, UnlessMemory};
 ghost use Rattle.machine.specs.Limits.{max_waiting};
 
 use crate::client::Client;
+use crate::data::Taken;
 use crate::faults::{ClientFault, SubmitFault};
-use crate::feeding::Taken;
 use crate::heard::Heard;
 use crate::losses::Losses;
-use crate::opening::Opening;
 use crate::pipeline::Pipeline;
-use crate::sending::text_of;
 use crate::stream::Stream;
+use crate::submission::spelling_of;
+use crate::version_answer::Opening;
 use bytes::{Bytes, BytesMut};
 use machine::{MAX_WAITING, Phase};
 use messages::Request;
 use reader::Reader;
 use std::alloc::Global;
 use std::collections::VecDeque;
-use wire::{Chunks, Version, Wish, offer, put_reserved, text_len};
+use wire::{Chunks, Version, Wish, offer, put_reserved, written_len};
 
 /// All of a piece was used, and nothing ended with it. A call of its own writes the answer once, where the caller reads it.
 #[inline(never)]
@@ -86,8 +86,8 @@ impl Client {
             → refuses_at_once r.knows (request_view request) ≡ None }
     {
         let version = self.pipeline.admit(&request)?;
-        let text = text_of(self.alloc, version, &request)?;
-        if self.out.reserve(text_len(&text)).is_err() {
+        let text = spelling_of(self.alloc, version, &request)?;
+        if self.out.reserve(written_len(&text)).is_err() {
             return Err(SubmitFault::Memory);
         }
         put_reserved(&text, &mut self.out);

@@ -4,21 +4,21 @@
 //! What holds over every list of calls stands in [`laws`]. A caller relies on `tells_by_bytes`, `keeps_few`, `refuses_texts` and `loses_each`.
 #![tactic(auto)]
 
+mod answer;
 mod calls;
 mod client;
+mod data;
 mod faults;
-mod feeding;
 mod heard;
-mod hearing;
 mod items;
 pub mod laws;
-mod losing;
 mod losses;
-mod opening;
+mod outcomes;
 mod pipeline;
-mod sending;
 mod stream;
+mod submission;
 mod verdicts;
+mod version_answer;
 
 pub use client::Client;
 pub use faults::{ClientFault, SubmitFault, Unwritable};

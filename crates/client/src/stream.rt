@@ -4,7 +4,7 @@ ghost use Rattle.std.specs.Prelude.{◌≡◌, ◌≤◌};
 ghost use Rattle.wire.specs.Framing.{Opened};
 ghost use Rattle.client.specs.Held.{IsItem};
 
-use crate::opening::Opening;
+use crate::version_answer::Opening;
 use reader::Reader;
 use wire::Chunks;
 

@@ -9,8 +9,8 @@ use Rattle.cells.specs.declared.fault.Reason.{Reason as CellReason}
 use Rattle.cells.specs.Faults.{IsBad}
 use Rattle.structures.specs.Answers.{HasOneReading}
 use Rattle.structures.proofs.OneReading.{one_reading_is}
-use Rattle.commands.specs.declared.checking.Checked.{Checked}
-use Rattle.commands.specs.declared.checking.Checked.TheVariants.{Fine, Refused, Unfit}
+use Rattle.commands.specs.declared.checks.Checked.{Checked}
+use Rattle.commands.specs.declared.checks.Checked.TheVariants.{Fine, Refused, Unfit}
 use Rattle.commands.specs.Checks.{IsCell, IsTooLong, IsSpelled, Checks}
 use Rattle.commands.specs.Laws.{IsSameCheck, HasOneCheck}
 

@@ -22,8 +22,8 @@ use Rattle.structures.specs.Answers.{Reads, Writes}
 use Rattle.structures.specs.Form.{Form, form}
 use Rattle.structures.proofs.Back.{again}
 use Rattle.structures.proofs.Writable.{never_unwritable}
-use Rattle.commands.specs.declared.checking.Checked.{Checked}
-use Rattle.commands.specs.declared.checking.Checked.TheVariants.{Fine, Refused, Unfit}
+use Rattle.commands.specs.declared.checks.Checked.{Checked}
+use Rattle.commands.specs.declared.checks.Checked.TheVariants.{Fine, Refused, Unfit}
 use Rattle.commands.specs.Checks.{Checks, ChecksFault, IsSpelled, IsUnfit, IsWrittenBack}
 
 -- what the decoder refused

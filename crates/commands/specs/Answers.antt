@@ -3,8 +3,8 @@
 use Rattle.std.specs.Prelude.{◌≡◌, ◌&&◌, ℕ, Bool, List, [], codes}
 use Rattle.std.specs.Str.{bytes_eq}
 use Rattle.engine.specs.Queries.{fixed_answer}
-use Rattle.exchange.specs.Session.{Setting}
-use Rattle.streams.specs.declared.responding.End.{End}
+use Rattle.session.specs.Session.{Setting}
+use Rattle.streams.specs.declared.response.End.{End}
 use Rattle.streams.specs.Conversing.{Talk, conversation}
 use Rattle.streams.specs.Responding.{end_of}
 

@@ -17,8 +17,8 @@ use Rattle.structures.specs.declared.fault.CellFault.{CellFault}
 use Rattle.structures.specs.declared.fault.CellFault.TheVariants as cell_fault
 use Rattle.structures.specs.Form.{Form}
 use Rattle.structures.specs.Answers.{Writes}
-use Rattle.commands.specs.declared.checking.Checked.{Checked}
-use Rattle.commands.specs.declared.checking.Checked.TheVariants.{Fine, Refused, Unfit}
+use Rattle.commands.specs.declared.checks.Checked.{Checked}
+use Rattle.commands.specs.declared.checks.Checked.TheVariants.{Fine, Refused, Unfit}
 use Rattle.packstream.specs.Limits.{max_size}
 
 -- a value is the form of a cell at a version

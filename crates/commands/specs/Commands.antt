@@ -8,12 +8,12 @@ use Rattle.wire.specs.declared.Version.{Version}
 use Rattle.cells.specs.declared.fault.Reason.{Reason}
 use Rattle.cells.specs.declared.fault.Reason.TheVariants.{UnknownTag, FieldCount, FieldKind, Range, PathShape, NotInVersion}
 use Rattle.commands.specs.declared.commands.Said.{Said}
-use Rattle.commands.specs.declared.checking.Checked.{Checked}
-use Rattle.commands.specs.declared.checking.Checked.TheVariants.{Fine, Refused, Unfit}
-use Rattle.streams.specs.declared.responding.End.{End}
-use Rattle.streams.specs.declared.responding.End.TheVariants.{Live, Over}
+use Rattle.commands.specs.declared.checks.Checked.{Checked}
+use Rattle.commands.specs.declared.checks.Checked.TheVariants.{Fine, Refused, Unfit}
+use Rattle.streams.specs.declared.response.End.{End}
+use Rattle.streams.specs.declared.response.End.TheVariants.{Live, Over}
 use Rattle.machine.specs.declared.states.State.{State}
-use Rattle.exchange.specs.declared.kinds.Cause.{Cause}
+use Rattle.session.specs.declared.kinds.Cause.{Cause}
 use Rattle.commands.specs.Hexadecimal.{AnswersHex}
 use Rattle.commands.specs.Checks.{ChecksHex}
 

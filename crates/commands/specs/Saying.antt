@@ -2,7 +2,7 @@
 use Rattle.std.specs.Prelude.{◌≡◌, ◌≤◌, ℕ, Bool, true, false, List, [], ◌∷◌, ◌++◌, Option, Result, Ok, Err, string_bytes, codes}
 use Rattle.std.specs.Io.KnownBytes.{Appends}
 use Rattle.streams.specs.Fronts.{AppendsFront}
-use Rattle.replays.specs.declared.replaying.Replayed.{Replayed}
+use Rattle.replays.specs.declared.script.Replayed.{Replayed}
 use Rattle.replays.specs.Scripts.{SaysSource}
 use Rattle.commands.specs.declared.commands.Said.{Said}
 use Rattle.commands.specs.Asked.{Ask, ToAnswer, ToCheck, ToReplay, ToPass, ToLoop, ToServe, ToShell, WrongWord}

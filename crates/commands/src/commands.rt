@@ -6,9 +6,9 @@ ghost use Rattle.commands.specs.Asked.{ask_of, asked_words, wrong_of};
 ghost use Rattle.commands.specs.Saying.{IsPut, Passage, SaysCommand, SaysElsewhere, SaysNoCommand, SaysReplay, SaysTo, SaysVectors, is_replay, reads};
 ghost use Rattle.commands.specs.Commands.{Says, IsBadHex, SaysAnswer, SaysCheck, SaysChecked, SaysRefused};
 
-use crate::answering::{AnswerFault, answer};
+use crate::answers::{AnswerFault, answer};
 use crate::arguments::Wrong;
-use crate::checking::{Checked, check_text};
+use crate::checks::{Checked, check_text};
 use crate::codes::{cell_code, pack_code};
 use crate::end::end_text;
 use crate::refusal::refusal_text;

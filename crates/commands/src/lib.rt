@@ -3,9 +3,9 @@
 //! What holds of the answers, whatever gives them, stands in [`laws`].
 #![tactic(auto)]
 
-mod answering;
+mod answers;
 mod arguments;
-mod checking;
+mod checks;
 mod codes;
 mod commands;
 mod end;
@@ -16,7 +16,7 @@ mod samples;
 mod vectors;
 mod words;
 
-pub use answering::{AnswerFault, Answered, answer};
+pub use answers::{AnswerFault, Answered, answer};
 pub use arguments::{Wanted, Wrong};
 pub use commands::command;
 pub use end::end_text;

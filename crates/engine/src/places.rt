@@ -7,7 +7,7 @@ ghost use Rattle.engine.specs.Places.{fingerprint, has_token_at, place_in, IsSam
 ghost use Rattle.engine.specs.Views.{EntryView, entries_view, token_view};
 
 use crate::Entry;
-use crate::knowing::has_token;
+use crate::lookup::has_token;
 use std::alloc::{AllocError, Global};
 use std::collections::BTreeMap;
 use std::hash::{FoldHasher, Hasher};

@@ -79,9 +79,9 @@ row_follows v s t k d part m e =
     (at_answers (λ v s k d part. implies (not (is_more d) || part) (leads (row_at v s k d) (λ x. has (phase_of x) (next v (phase_of s) k part)))) refl v s k d part)
     (not_more d part m)) e
 
-pub struck_row_follows : (v : Version) (s t : State) (k : Kind) (d : Verdict) (part : Bool) → (d ≡ Verdict.More → part ≡ true) → interruptible s ≡ true
+pub interrupted_row_follows : (v : Version) (s t : State) (k : Kind) (d : Verdict) (part : Bool) → (d ≡ Verdict.More → part ≡ true) → interruptible s ≡ true
     → row_at v State.Interrupted k d ≡ Some t → has (phase_of t) (next v (phase_of s) k part) ≡ true
-struck_row_follows v s t k d part m i e =
+interrupted_row_follows v s t k d part m i e =
     leads_at (row_at v State.Interrupted k d) (λ x. has (phase_of x) (next v (phase_of s) k part)) t
     (implies_at (interruptible s) _
     (implies_at (not (is_more d) || part) _

@@ -79,7 +79,7 @@ abbrev pub AllowedIsValid : Type 0
 AllowedIsValid = (v : Version) (ps : List Phase) (s : State) (k : Kind) → allowed_in v ps k ≡ true
     → has (phase_of s) ps ≡ true → row_at v s k Verdict.Invalid ≡ None
 
--- what a row leads to is among what may follow, where no RESET has struck
+-- what a row leads to is among what may follow, where no RESET has interrupted
 abbrev pub RowsFollow : Type 0
 RowsFollow =
     (v : Version) (s t : State) (k : Kind) (d : Verdict) (part : Bool)
@@ -87,8 +87,8 @@ RowsFollow =
     → has (phase_of t) (next v (phase_of s) k part) ≡ true
 
 -- and where one has
-abbrev pub StruckRowsFollow : Type 0
-StruckRowsFollow =
+abbrev pub InterruptedRowsFollow : Type 0
+InterruptedRowsFollow =
     (v : Version) (s t : State) (k : Kind) (d : Verdict) (part : Bool)
     → (d ≡ Verdict.More → part ≡ true) → interruptible s ≡ true
     → row_at v State.Interrupted k d ≡ Some t → has (phase_of t) (next v (phase_of s) k part) ≡ true

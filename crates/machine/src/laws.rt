@@ -1,6 +1,6 @@
 //! What holds of the rows, and of the phases that may follow requests.
 
-ghost use Rattle.machine.specs.Laws.{AfterGrows, AllowedIsValid, CommitsAreMarked, CouldGrows, JoinedIsFollow, OneNext, OneWay, PossibleGrows, PossibleInTurn, RowsFollow, StruckRowsFollow, TableIsRows};
+ghost use Rattle.machine.specs.Laws.{AfterGrows, AllowedIsValid, CommitsAreMarked, CouldGrows, JoinedIsFollow, OneNext, OneWay, PossibleGrows, PossibleInTurn, RowsFollow, InterruptedRowsFollow, TableIsRows};
 
 /// A request has at most one next state at a verdict: no two places of the tables are for it.
 pub fn one_next()
@@ -23,9 +23,9 @@ pub fn rows_follow()
     ensures { RowsFollow }
 {}
 
-/// So is what a row leads to from Interrupted, where a RESET has struck.
-pub fn struck_rows_follow()
-    ensures { StruckRowsFollow }
+/// So is what a row leads to from Interrupted, where a RESET has interrupted.
+pub fn interrupted_rows_follow()
+    ensures { InterruptedRowsFollow }
 {}
 
 /// The table of what may follow one request says what the rows say over every verdict.

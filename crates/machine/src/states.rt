@@ -15,7 +15,7 @@ pub enum State {
     TxStreaming,
     /// A request failed: what follows is ignored, up to a RESET.
     Failed,
-    /// A RESET has struck: what stands before it is ignored.
+    /// A RESET has interrupted: what stands before it is ignored.
     Interrupted,
     /// Over.
     Defunct,

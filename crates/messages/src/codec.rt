@@ -11,12 +11,12 @@ ghost use Rattle.messages.specs.Reading.{Answers, request_contents, response_con
 ghost use Rattle.messages.specs.Messages.{Req, Resp, NoRequest, NoResponse, Gave, UnlessMemory, contents_in, request_of, response_of};
 ghost use Rattle.messages.specs.Writing.{Appends, spelling_within, spelling_of_tree, request_spelling, response_spelling};
 
-use crate::building::{request_value, response_value};
 use crate::fault::MsgFault;
 use crate::of_packed;
 use crate::request::Request;
 use crate::response::Response;
 use crate::spelling::{spell_request, spell_response};
+use crate::values::{request_value, response_value};
 use bytes::BytesMut;
 use packstream::{PackFault, Packed, Value, decode, encode};
 use std::alloc::Global;

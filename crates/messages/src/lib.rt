@@ -4,7 +4,6 @@
 //! `requests_arrive` and `says_arrive`, and who hands a message on on `texts_read_back`.
 #![tactic(auto)]
 
-mod building;
 mod clone;
 mod codec;
 mod entries;
@@ -12,11 +11,12 @@ mod fault;
 pub mod laws;
 mod of_fields;
 mod of_packed;
-mod reading;
+mod reader;
 mod request;
 mod response;
 mod spelling;
 mod tags;
+mod values;
 
 pub use codec::{read_request, read_response, write_request, write_response};
 pub use fault::MsgFault;

@@ -9,7 +9,7 @@ ghost use Rattle.messages.specs.Reading.{Answers, request_contents, response_con
 ghost use Rattle.messages.specs.Messages.{Req, Resp, NoRequest, NoResponse, Gave, UnlessMemory, request_of as request_by, response_of as response_by};
 
 use crate::fault::MsgFault;
-use crate::reading::{request_tagged, response_tagged};
+use crate::reader::{request_tagged, response_tagged};
 use crate::request::Request;
 use crate::response::Response;
 use packstream::{Packed, Value};

@@ -4,6 +4,7 @@ ghost use Rattle.std.specs.Prelude.{◌≡◌, ◌≤◌, ◌+◌, ◌∷◌, []
 ghost use Rattle.packstream.specs.Canon.{canon};
 ghost use Rattle.packstream.specs.Tree.{dict, int, structure, no_trees, entry_then, no_entries};
 ghost use Rattle.packstream.specs.Good.{IsGood};
+ghost use Rattle.packstream.specs.Limits.{max_size};
 ghost use Rattle.packstream.specs.View.{entries_of};
 ghost use Rattle.cells.specs.Shape.{entries, shapes};
 ghost use Rattle.messages.specs.Added.{Adds, AddsEntries};
@@ -14,16 +15,14 @@ ghost use Rattle.messages.specs.View.{request_view, response_view, token_view, R
 ghost use Rattle.messages.specs.Writing.{form_put, named_put};
 ghost use Rattle.wire.specs.declared.Version.{Version as AnyVersion};
 
-use crate::building::number_of;
 use crate::request::{Count, Mode, Request};
 use crate::response::Response;
 use crate::tags;
+use crate::values::number_of;
 use bytes::BytesMut;
+use packstream::MAX_SIZE;
 use speller::{Adding, Unspelled, put_dict, put_int, put_list, put_text};
 use structures::Cell;
-
-/// How many bytes a message may have.
-const MAX_SIZE: usize = 65_536;
 
 /// How deep a field may nest.
 const ROOM: u8 = 31;
@@ -219,7 +218,7 @@ fn put_response(out: &mut Adding, response: &Response) -> Result<(), Unspelled>
 /// Gives the output back with what was added, where that is no longer than a message may be, else as it was.
 fn keep_short(out: &mut BytesMut, adding: Adding) -> bool
     ensures kept { result ≡ true → out.new.items ≡ adding.before ++ adding.more }
-    ensures short { result ≡ true → length adding.more ≤ 65536 }
+    ensures short { result ≡ true → length adding.more ≤ max_size }
     ensures undone { result ≡ false → out.new.items ≡ adding.before }
 {
     if adding.len() > MAX_SIZE {
@@ -235,7 +234,7 @@ pub(crate) fn spell_request(request: &Request, out: &mut BytesMut) -> bool
     ensures adds { result ≡ true → (v : AnyVersion)
         → Adds (form_put v (request_contents (request_view request.now)))
         out.old.items out.new.items }
-    ensures short { result ≡ true → length out.new.items ≤ length out.old.items + 65536 }
+    ensures short { result ≡ true → length out.new.items ≤ length out.old.items + max_size }
     ensures other { result ≡ false → out.new.items ≡ out.old.items }
 {
     let mut adding = Adding::to(out);
@@ -253,7 +252,7 @@ pub(crate) fn spell_response(response: &Response, out: &mut BytesMut) -> bool
     ensures adds { result ≡ true → (v : AnyVersion)
         → Adds (form_put v (response_contents (response_view response.now)))
         out.old.items out.new.items }
-    ensures short { result ≡ true → length out.new.items ≤ length out.old.items + 65536 }
+    ensures short { result ≡ true → length out.new.items ≤ length out.old.items + max_size }
     ensures other { result ≡ false → out.new.items ≡ out.old.items }
 {
     let mut adding = Adding::to(out);

@@ -2,7 +2,7 @@
 ghost use Rattle.std.specs.Prelude.{IfOk};
 ghost use Rattle.packstream.specs.Twins.{IsFirstTwin};
 
-use crate::decoding::{FEW, has_key};
+use crate::decoder::{FEW, has_key};
 use crate::value::Value;
 use std::alloc::{AllocError, Global};
 use std::collections::BTreeSet;

@@ -17,7 +17,7 @@ use Rattle.scripts.specs.Words.{is_empty}
 use Rattle.scripts.specs.Script.{lines, filled_from, filled_lines}
 use Rattle.scripts.specs.Meant.{meant}
 use Rattle.scripts.specs.Rows.{request_line_of}
-use Rattle.programs.specs.declared.calling.Caller.{Caller}
+use Rattle.programs.specs.declared.caller.Caller.{Caller}
 use Rattle.programs.specs.declared.shells.Conversation.{Conversation}
 use Rattle.programs.specs.declared.stop.Stop.{Stop}
 use Rattle.programs.specs.declared.stop.Stop.TheVariants.{Unreadable, Broken}

@@ -1,4 +1,4 @@
--- What is heard of a server, a piece after another, and what an exchange with it does.
+-- What is heard of a server, a piece after another, and what a session with it does.
 use Rattle.std.proofs.Common.{◌≡◌, refl, sym, ap, subst, ◌∙◌, ℕ, Bool, true, false, List, [], ◌++◌, drop, append-nil, true≢false, Option, Some, None, Result, Ok, Err, ◌⊎◌, inl, inr, ⊎_elim}
 use Rattle.std.specs.Io.KnownBytes.{Appends, Consumes, IsAtEnd}
 use Rattle.std.proofs.KnownBytes.{Appends-nil, Appends-trans, Consumes-nil}
@@ -10,7 +10,7 @@ use Rattle.streams.specs.declared.fault.StreamFault.TheVariants.{ReadFailed, Wri
 use Rattle.streams.specs.Fronts.{AppendsFront}
 use Rattle.streams.specs.Asking.{hears_all, after_all, FeedsPiece, HearsPiece, IsNeeded, ReadsOn, ReadsAll, Writes, PutsOut, given_up}
 use Rattle.streams.proofs.Asked.{stops_waiting, hears_more, hears_end, hears_fault}
-use Rattle.programs.specs.declared.calling.Caller.{Caller}
+use Rattle.programs.specs.declared.caller.Caller.{Caller}
 use Rattle.programs.specs.Stopping.{Gets}
 use Rattle.programs.specs.Telling.{versions_after}
 use Rattle.programs.specs.Talking.{Place, IsAt, sent_out, is_printed, losses_text, lost_of, streams_at, Puts, Anywhere}

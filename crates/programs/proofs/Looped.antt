@@ -7,10 +7,10 @@ use Rattle.std.proofs.KnownBytes.{Appends-nil, Appends-trans, Consumes-nil, Cons
 use Rattle.wire.specs.Framing.{Opened, at_server}
 use Rattle.wire.specs.Reader.{state}
 use Rattle.messages.specs.View.{RequestView}
-use Rattle.exchange.specs.declared.kinds.Cause.{Cause}
-use Rattle.exchange.specs.Session.{Setting}
+use Rattle.session.specs.declared.kinds.Cause.{Cause}
+use Rattle.session.specs.Session.{Setting}
 use Rattle.engine.specs.Views.{EntryView}
-use Rattle.exchange.specs.Rest.{begun}
+use Rattle.session.specs.Rest.{begun}
 use Rattle.server.specs.Serving.{Live, Rest, find, fresh, opened}
 use Rattle.client.specs.declared.SubmitFault.{SubmitFault}
 use Rattle.client.specs.Fits.{Fits}
@@ -26,7 +26,7 @@ use Rattle.streams.proofs.Seats.{replace-itself}
 use Rattle.streams.proofs.Talks.{told_over}
 use Rattle.scripts.specs.Views.{ScriptRequestView}
 use Rattle.scripts.specs.Meant.{meant}
-use Rattle.programs.specs.declared.calling.Caller.{Caller}
+use Rattle.programs.specs.declared.caller.Caller.{Caller}
 use Rattle.programs.specs.declared.stop.Stop.{Stop}
 use Rattle.programs.specs.declared.stop.Stop.TheVariants.{Unreadable, Broken}
 use Rattle.programs.specs.Looping.{Alters, Comes, FailsToRead, GivesNoMore, Loops, entries_text, Numbers, Passed, Passes, Prints, Sits, StandsAt, TellsLine, Way, Ways}

@@ -7,7 +7,7 @@ use Rattle.wire.specs.declared.Version.{Version}
 use Rattle.client.specs.Rest.{Note}
 use Rattle.programs.specs.Telling.{AreTold, IsExplained, version_after, versions_after}
 use Rattle.programs.specs.Shelling.{HasPrinted, Prints, PrintsPart}
-use Rattle.programs.specs.declared.calling.Caller.{Caller}
+use Rattle.programs.specs.declared.caller.Caller.{Caller}
 use Rattle.programs.proofs.Moved.{front_whole, front_same, front_then}
 
 pub versions_more : (v : Version) (ns ms : List Note) → versions_after v (ns ++ ms) ≡ versions_after (versions_after v ns) ms

@@ -15,8 +15,8 @@ use Rattle.wire.specs.Framing.{Item, Opened, at_client, at_server, items_receive
 use Rattle.wire.specs.Reader.{outputs, state}
 use Rattle.wire.proofs.Readers.{outputs-append}
 use Rattle.engine.specs.Views.{EntryView}
-use Rattle.exchange.specs.Session.{Setting}
-use Rattle.exchange.specs.Rest.{begun}
+use Rattle.session.specs.Session.{Setting}
+use Rattle.session.specs.Rest.{begun}
 use Rattle.client.specs.Rest.{Knows, Note, Nothing, Chose, Row, Summary, Rest}
 use Rattle.client.specs.Fits.{Fits}
 use Rattle.streams.specs.Asking.{Tale, after_notes, tale_of, hears_all, after_all, FeedsPiece}
@@ -26,7 +26,7 @@ use Rattle.streams.proofs.Arriving.{talk_by_items}
 use Rattle.streams.proofs.Tales.{hears_all-append, after_all-append}
 use Rattle.streams.proofs.Telling.{item_talk-append}
 use Rattle.scripts.specs.Views.{ScriptRequestView}
-use Rattle.programs.specs.declared.calling.Caller.{Caller}
+use Rattle.programs.specs.declared.caller.Caller.{Caller}
 use Rattle.programs.specs.Looping.{Prints, StandsAt}
 use Rattle.programs.specs.Telling.{IsTold, refused_line, row_line, version_after, versions_after}
 use Rattle.programs.specs.Talking.{Place}

@@ -7,12 +7,12 @@ use Rattle.hex.specs.Hex.{encode_lower}
 use Rattle.wire.specs.Framing.{Opened, at_server}
 use Rattle.wire.specs.Reader.{state}
 use Rattle.engine.specs.Views.{Token, EntryView}
-use Rattle.exchange.specs.Session.{Setting}
+use Rattle.session.specs.Session.{Setting}
 use Rattle.scripts.specs.Rows.{request_line_of}
 use Rattle.scripts.specs.Views.{ScriptRequestView}
 use Rattle.scripts.specs.declared.fault.ScriptFault.{ScriptFault}
 use Rattle.scripts.specs.Script.{filled_lines, unreadable, IsRefused}
-use Rattle.programs.specs.declared.calling.Caller.{Caller}
+use Rattle.programs.specs.declared.caller.Caller.{Caller}
 use Rattle.programs.specs.declared.stop.Stop.{Stop}
 use Rattle.programs.specs.declared.stop.Stop.TheVariants.{Unreadable, Broken}
 use Rattle.programs.specs.Stopping.{Gets, stop_text}

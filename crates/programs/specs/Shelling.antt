@@ -14,7 +14,7 @@ use Rattle.scripts.specs.Views.{Text}
 use Rattle.scripts.specs.Words.{is_empty}
 use Rattle.scripts.specs.Script.{lines, filled_from, filled_lines}
 use Rattle.scripts.specs.Rows.{request_line_of}
-use Rattle.programs.specs.declared.calling.Caller.{Caller}
+use Rattle.programs.specs.declared.caller.Caller.{Caller}
 use Rattle.programs.specs.declared.shells.Conversation.{Conversation}
 use Rattle.programs.specs.declared.stop.Stop.{Stop}
 use Rattle.programs.specs.declared.stop.Stop.TheVariants.{Unreadable, Broken}
@@ -91,7 +91,7 @@ Converses p left left_now written written_now before after c (Err fault) =
     (out : ℕ) × Puts (is_printed (Some fault)) written written_now p.rest.unsent
     × HearsPart (sent_out p out) fault left left_now before after c
 
--- An exchange was made, up to a fault.
+-- A session was made, up to a fault.
 pub record Asked (fault : Option StreamFault) (p : Place) (before after : Streams)
     (Now : Place → Type 0) : Type 0 where
   pub gone : Bool

@@ -17,7 +17,7 @@ use Rattle.streams.specs.Asking.{hears_all, after_all, IsNeeded, given_up, losse
 use Rattle.scripts.specs.Views.{Text, ScriptRequestView}
 use Rattle.scripts.specs.Meant.{meant}
 use Rattle.scripts.specs.Rows.{request_line_of}
-use Rattle.programs.specs.declared.calling.Caller.{Caller}
+use Rattle.programs.specs.declared.caller.Caller.{Caller}
 use Rattle.programs.specs.Names.{refusal_code, version_name}
 use Rattle.programs.specs.Stopping.{Gets}
 use Rattle.programs.specs.Telling.{AreTold, IsExplained, lost_line, refused_line, versions_after}

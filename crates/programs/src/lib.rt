@@ -3,24 +3,24 @@
 //! What holds of what they print stands in [`laws`].
 #![tactic(auto)]
 
-mod asking;
-mod calling;
+mod answers;
+mod caller;
 mod errors;
-mod escaping;
+mod escapes;
 pub mod laws;
-mod looping;
+mod loops;
 mod names;
-mod printing;
+mod printed_lines;
 mod serves;
 mod shells;
 mod stop;
-mod telling;
+mod summaries;
 
-pub use escaping::escape;
-pub use looping::{Channel, run_loop};
+pub use escapes::escape;
+pub use loops::{Channel, run_loop};
 pub use names::{cause_code, outcome_name, phase_name, refusal_code, state_name, version_name};
-pub use printing::entry_text;
+pub use printed_lines::entry_text;
 pub use serves::{drain, serve_next};
 pub use shells::shell;
 pub use stop::put_fault;
-pub use telling::summary;
+pub use summaries::summary;

@@ -7,7 +7,7 @@ ghost use Rattle.streams.specs.Settling.{IsLive};
 ghost use Rattle.streams.specs.Serving.{LeavesOthers};
 ghost use Rattle.programs.specs.Serving.{IsVacant, HasServed, MayHaveServed, ServesSo, conn_line};
 
-use crate::printing::put_end;
+use crate::printed_lines::put_end;
 use engine::{Engine, Gate};
 use server::{Cause, Server};
 use std::alloc::Global;

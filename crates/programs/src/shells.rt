@@ -7,7 +7,7 @@ ghost use Rattle.streams.specs.Failing.{StaysSound, UnlessTold};
 ghost use Rattle.programs.specs.Talking.{IsAt, Stands, Streams, first_place, streams_at};
 ghost use Rattle.programs.specs.Shelling.{Begins, DoesLine, Progress, Runs, Sends, Shells, Takes, TakesByte};
 
-use crate::calling::Caller;
+use crate::caller::Caller;
 use crate::errors::greet;
 use crate::stop::{Stop, put_stop};
 use scripts::{LineFault, ScriptRequest, read_request};

@@ -15,8 +15,8 @@ use Rattle.packstream.specs.Good.{is_among}
 use Rattle.packstream.specs.Faults.{Place, is_text, nests, needs, text_in, is_repeated, fault_of, fault_at}
 use Rattle.reader.specs.Items.{field, body, size_with, head_bytes, part_head}
 use Rattle.reader.specs.Frames.{head_fault}
-use Rattle.reader.specs.declared.reading.Part.{Part}
-use Rattle.reader.specs.declared.reading.Part.TheVariants as part
+use Rattle.reader.specs.declared.progress.Part.{Part}
+use Rattle.reader.specs.declared.progress.Part.TheVariants as part
 use Rattle.reader.specs.Holding.{IsPart, IsLacking}
 use Rattle.reader.proofs.Heads.{needs_are, needs_more, text_there}
 

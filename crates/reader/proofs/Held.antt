@@ -15,10 +15,10 @@ use Rattle.packstream.proofs.Bounds.{good_spelled}
 use Rattle.packstream.proofs.Ranges.{both_bytes}
 use Rattle.packstream.proofs.Staying.{stays}
 use Rattle.packstream.proofs.Deciding.{whole_value, whole_fault, err_parts}
-use Rattle.reader.specs.declared.reading.Part.{Part}
-use Rattle.reader.specs.declared.reading.Part.TheVariants as part
-use Rattle.reader.specs.declared.reading.Mark.{Mark}
-use Rattle.reader.specs.declared.reading.Standing.{Standing}
+use Rattle.reader.specs.declared.progress.Part.{Part}
+use Rattle.reader.specs.declared.progress.Part.TheVariants as part
+use Rattle.reader.specs.declared.progress.Mark.{Mark}
+use Rattle.reader.specs.declared.progress.Standing.{Standing}
 use Rattle.reader.specs.declared.stop.Stop.TheVariants as stop
 use Rattle.reader.specs.Frames.{Frame, AreLevels}
 use Rattle.reader.specs.Items.{bytes_of_items, part_head, bodies, AreItems}

@@ -17,8 +17,8 @@ use Rattle.packstream.specs.Faults.{Opened, in_list, in_struct, at_key, at_value
 use Rattle.reader.specs.declared.open.Open.{Open}
 use Rattle.reader.specs.declared.open.Level.{Level}
 use Rattle.reader.specs.declared.item.Item.{Item}
-use Rattle.reader.specs.declared.reading.Part.{Part}
-use Rattle.reader.specs.declared.reading.Part.TheVariants as part
+use Rattle.reader.specs.declared.progress.Part.{Part}
+use Rattle.reader.specs.declared.progress.Part.TheVariants as part
 use Rattle.reader.specs.Items.{field, body, bodies, head_bytes, part_head, bytes_of_items, AreItems}
 use Rattle.reader.specs.Naming.{Name, IsNamed, ArePlaced, IsRoot, text_of}
 use Rattle.reader.specs.Frames.{Frame, place, AreFrames, AreLevels, AreNames, HasNames, IsApart, BeginBefore, BeginsBefore, HaveNames, with_member, tree_so_far, push_entry, Left, whole, still, ends, Stands, IsLeft}

@@ -17,8 +17,8 @@ use Rattle.packstream.specs.Faults.{fault_at, is_text, nests, keys_of, Bad}
 use Rattle.packstream.proofs.Bounds.{good_spelled}
 use Rattle.packstream.proofs.Ranges.{front_bytes}
 use Rattle.reader.specs.declared.item.Item.{Item}
-use Rattle.reader.specs.declared.reading.Part.{Part}
-use Rattle.reader.specs.declared.reading.Part.TheVariants as part
+use Rattle.reader.specs.declared.progress.Part.{Part}
+use Rattle.reader.specs.declared.progress.Part.TheVariants as part
 use Rattle.reader.specs.Items.{field, body, size_with, number_from, head_bytes, part_head, bytes_of_items}
 use Rattle.reader.specs.declared.open.Level.{Level}
 use Rattle.reader.specs.Naming.{Name, IsNamed}

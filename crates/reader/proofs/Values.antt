@@ -18,7 +18,7 @@ use Rattle.packstream.specs.Faults.{Place, Opened, in_list, in_struct, at_key, a
 use Rattle.packstream.proofs.Shortest.{number_of}
 use Rattle.reader.specs.declared.open.Open.{Open}
 use Rattle.reader.specs.declared.open.Inside.TheVariants as inside
-use Rattle.reader.specs.declared.reading.Part.TheVariants as part
+use Rattle.reader.specs.declared.progress.Part.TheVariants as part
 use Rattle.reader.specs.Items.{field, body, size_with, head_bytes, bytes_of_items}
 use Rattle.reader.specs.Naming.{Name, IsNamed, ArePlaced, IsRoot, text_of}
 use Rattle.reader.specs.Frames.{Frame, waits, next_of, place, AreFrames, AreLevels, AreNames, HaveNames, head_fault}

@@ -2,7 +2,7 @@
 use Rattle.std.specs.Prelude.{◌≡◌, ℕ, List, [], length, Result, Ok, Err}
 use Rattle.std.specs.declared.alloc.AllocError.{AllocError}
 use Rattle.packstream.specs.Reading.{Read}
-use Rattle.reader.specs.declared.building.Left.{Left}
+use Rattle.reader.specs.declared.value.Left.{Left}
 use Rattle.reader.specs.Items.{bytes_of_items, bodies, AreItems}
 
 -- the bytes of what is left

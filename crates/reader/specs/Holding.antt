@@ -13,11 +13,11 @@ use Rattle.packstream.specs.Faults.{Place, Bad}
 use Rattle.reader.specs.declared.stop.Stop.{Stop}
 use Rattle.reader.specs.declared.stop.Stop.TheVariants as stop
 use Rattle.reader.specs.declared.item.Item.{Item}
-use Rattle.reader.specs.declared.reading.Part.{Part}
-use Rattle.reader.specs.declared.reading.Part.TheVariants as part
-use Rattle.reader.specs.declared.reading.Standing.{Standing}
-use Rattle.reader.specs.declared.reading.Mark.{Mark}
-use Rattle.reader.specs.declared.reading.Reading.{Reading}
+use Rattle.reader.specs.declared.progress.Part.{Part}
+use Rattle.reader.specs.declared.progress.Part.TheVariants as part
+use Rattle.reader.specs.declared.progress.Standing.{Standing}
+use Rattle.reader.specs.declared.progress.Mark.{Mark}
+use Rattle.reader.specs.declared.progress.Reading.{Reading}
 use Rattle.reader.specs.Items.{field, body, size_with, head_bytes, bytes_of_items, part_head, bodies, AreItems}
 use Rattle.reader.specs.Naming.{Name, ArePlaced}
 use Rattle.reader.specs.Frames.{Frame, place, AreFrames, AreLevels, HaveNames, head_fault}

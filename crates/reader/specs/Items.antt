@@ -7,8 +7,8 @@ use Rattle.packstream.specs.declared.marker.Marker.{Marker}
 use Rattle.packstream.specs.declared.marker.Marker.TheVariants as announces
 use Rattle.packstream.specs.Markers.{width, marker, size_len}
 use Rattle.reader.specs.declared.item.Item.{Item}
-use Rattle.reader.specs.declared.reading.Part.{Part}
-use Rattle.reader.specs.declared.reading.Part.TheVariants as part
+use Rattle.reader.specs.declared.progress.Part.{Part}
+use Rattle.reader.specs.declared.progress.Part.TheVariants as part
 
 -- how many bytes the number after a marker takes
 abbrev pub field : Option Marker → ℕ

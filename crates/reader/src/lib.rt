@@ -3,15 +3,15 @@
 //! What holds of all that was read stands in [`laws`]: who feeds a reader says by them of which bytes it tells.
 #![tactic(auto)]
 
-mod building;
 mod item;
 pub mod laws;
 mod open;
 mod piece;
+mod progress;
 mod reader;
-mod reading;
 mod stop;
 mod texts;
+mod value;
 
 pub use piece::read_piece;
 pub use reader::Reader;

@@ -9,7 +9,7 @@ ghost use Rattle.packstream.specs.declared.fault.Reason.{Reason};
 ghost use Rattle.packstream.specs.declared.fault.PackFault.TheVariants as fault;
 ghost use Rattle.reader.specs.Piecewise.{fresh, Takes, IsBeginning, MayGoOn};
 
-use crate::reading::{Mark, Reading};
+use crate::progress::{Mark, Reading};
 use packstream::{PackFault, Packed};
 use std::alloc::{AllocError, Global};
 use std::marker::Model;

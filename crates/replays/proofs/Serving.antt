@@ -6,12 +6,12 @@ use Rattle.engine.specs.declared.fixed_table.FixedTable.{FixedTable}
 use Rattle.engine.specs.declared.one_user.OneUser.{OneUser}
 use Rattle.engine.specs.Kept.{ledger_of, is_user, principal_of, credentials_of}
 use Rattle.engine.specs.Queries.{fixed_answer}
-use Rattle.exchange.specs.Session.{Setting}
+use Rattle.session.specs.Session.{Setting}
 use Rattle.scripts.specs.Views.{LineView}
 use Rattle.world.specs.declared.world.World.{World as WorldHeld}
 use Rattle.world.specs.World.{World, Reached, empty}
 use Rattle.world.specs.Turns.{FitsWorld, setting_of}
-use Rattle.replays.specs.declared.replaying.Replayed.{Replayed}
+use Rattle.replays.specs.declared.script.Replayed.{Replayed}
 use Rattle.replays.specs.Running.{Leads, Runs, serving}
 use Rattle.replays.specs.Scripts.{Says}
 use Rattle.replays.specs.Texts.{report_text}

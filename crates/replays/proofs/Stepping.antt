@@ -2,7 +2,7 @@
 use Rattle.std.proofs.Common.{◌≡◌, refl, sym, ◌∙◌, subst, true, false, Result, Ok, Err, List, inl, inr}
 use Rattle.std.specs.declared.alloc.AllocError.{AllocError}
 use Rattle.engine.specs.Views.{EntryView}
-use Rattle.exchange.specs.Session.{Setting}
+use Rattle.session.specs.Session.{Setting}
 use Rattle.world.specs.declared.kinds.Refused.{Refused}
 use Rattle.world.specs.declared.kinds.Refused.TheVariants.{NoSuchConnection, WrongPeer, SessionsFull, Memory}
 use Rattle.world.specs.declared.kinds.Seen.{Seen as SeenTold}

@@ -3,10 +3,10 @@ use Rattle.std.specs.Prelude.{ℕ, nat_lt, Bool, true, false, List, codes, Optio
 use Rattle.wire.specs.declared.Version.{Version}
 use Rattle.wire.specs.declared.Version.TheVariants.{V51}
 use Rattle.wire.specs.Offers.{wish_version}
-use Rattle.exchange.specs.declared.What.{What}
-use Rattle.exchange.specs.declared.What.TheVariants as what
-use Rattle.exchange.specs.declared.Worked.{Worked}
-use Rattle.exchange.specs.declared.Worked.TheVariants as worked
+use Rattle.session.specs.declared.What.{What}
+use Rattle.session.specs.declared.What.TheVariants as what
+use Rattle.session.specs.declared.Worked.{Worked}
+use Rattle.session.specs.declared.Worked.TheVariants as worked
 use Rattle.client.specs.declared.SubmitFault.{SubmitFault}
 use Rattle.scripts.specs.declared.line.Peer.{Peer as PeerSaid}
 use Rattle.scripts.specs.declared.line.Peer.TheVariants as peer

@@ -4,7 +4,7 @@ use Rattle.std.specs.Str.{bytes_eq}
 use Rattle.std.specs.declared.alloc.AllocError.{AllocError}
 use Rattle.engine.specs.Queries.{fixed_answer}
 use Rattle.engine.specs.Views.{EntryView}
-use Rattle.exchange.specs.Session.{Setting}
+use Rattle.session.specs.Session.{Setting}
 use Rattle.scripts.specs.Views.{LineView}
 use Rattle.programs.specs.Telling.{refused_line}
 use Rattle.world.specs.declared.kinds.Refused.{Refused}

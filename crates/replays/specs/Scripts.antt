@@ -5,7 +5,7 @@ use Rattle.std.specs.Io.KnownBytes.{Consumes, IsAtEnd}
 use Rattle.scripts.specs.Rows.{line_of}
 use Rattle.scripts.specs.Script.{filled_lines, lines_read, unreadable}
 use Rattle.world.specs.World.{World, empty}
-use Rattle.replays.specs.declared.replaying.Replayed.{Replayed}
+use Rattle.replays.specs.declared.script.Replayed.{Replayed}
 use Rattle.replays.specs.Running.{serving, Runs}
 use Rattle.replays.specs.Texts.{report_text}
 

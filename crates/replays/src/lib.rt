@@ -3,14 +3,14 @@
 
 mod events;
 pub mod laws;
-mod reading;
-mod replaying;
-mod reporting;
-mod running;
+mod reports;
+mod script;
+mod script_lines;
+mod source;
 mod steps;
 
-pub use reading::read_all;
-pub use replaying::{Replayed, replay};
-pub use reporting::report;
-pub use running::run;
+pub use reports::report;
+pub use script::{Replayed, replay};
+pub use script_lines::run;
+pub use source::read_all;
 pub use steps::Step;

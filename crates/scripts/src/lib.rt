@@ -9,7 +9,7 @@ pub mod laws;
 mod line;
 mod meaning;
 mod params;
-mod reading;
+mod reader;
 mod request;
 mod requests;
 mod script;
@@ -17,7 +17,7 @@ mod words;
 
 pub use fault::{LineFault, ScriptFault};
 pub use line::{Amount, Line, Peer, Times};
-pub use reading::{read_line, read_request};
+pub use reader::{read_line, read_request};
 pub use request::ScriptRequest;
 pub use script::{Numbered, read_requests, read_script};
 pub use words::number_of;

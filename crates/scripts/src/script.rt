@@ -5,7 +5,7 @@ ghost use Rattle.scripts.specs.Script.{lines, GivesAll, fault_at, said_lines, sa
 
 use crate::fault::{LineFault, ScriptFault};
 use crate::line::Line;
-use crate::reading::{read_line, read_request};
+use crate::reader::{read_line, read_request};
 use crate::request::ScriptRequest;
 use std::alloc::{AllocError, Global};
 

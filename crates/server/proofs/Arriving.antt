@@ -10,7 +10,7 @@ use Rattle.messages.specs.View.{RequestView}
 use Rattle.messages.specs.Messages.{request_of}
 use Rattle.messages.specs.Arrivals.{Arrival, Shook, NoMagic, Idle, Asked, Unread, TooLong, arrival_of_offer, then_request, requests_in, after_shake, arrivals_of, arrivals}
 use Rattle.server.specs.Feeding.{arrives}
-use Rattle.exchange.specs.Rest.{arrival_by, unread_among}
+use Rattle.session.specs.Rest.{arrival_by, unread_among}
 use Rattle.server.specs.Past.{places_of}
 use Rattle.wire.proofs.Opening.{AreChunks, IsChunk, MayBeChunk, MayOpen, Came, part, whole, came, opening_taken, chunk_taken}
 

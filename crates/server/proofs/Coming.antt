@@ -18,7 +18,7 @@ use Rattle.wire.specs.Framing.{Item, Noop, Message, Opened, at_server, reading, 
 use Rattle.wire.specs.Scanning.{Taken, After, with_data}
 use Rattle.wire.proofs.Cuts.{cuts_agree, further-further, further-zero}
 use Rattle.reader.specs.Piecewise.{Point, Reads}
-use Rattle.server.specs.declared.incoming.Stream.{Stream}
+use Rattle.server.specs.declared.input.Stream.{Stream}
 use Rattle.server.specs.Incoming.{IsAt, Scans, Comes, item_ended, rest_ended}
 use Rattle.server.proofs.Readings.{lifted, takes_fed, fed_big}
 use Rattle.server.proofs.Room.{comes_end}

@@ -13,12 +13,12 @@ use Rattle.packstream.specs.Plain.{AreBytes}
 use Rattle.reader.specs.Piecewise.{Point, Reads}
 use Rattle.messages.specs.Messages.{request_of}
 use Rattle.messages.specs.Arrivals.{TooLong, arrival_of_offer}
-use Rattle.server.specs.declared.incoming.Incoming.{Incoming}
-use Rattle.server.specs.declared.incoming.Offer.{Offer}
-use Rattle.server.specs.declared.incoming.Stream.{Stream}
+use Rattle.server.specs.declared.input.Incoming.{Incoming}
+use Rattle.server.specs.declared.input.Offer.{Offer}
+use Rattle.server.specs.declared.input.Stream.{Stream}
 use Rattle.server.specs.declared.kinds.Took.{Took}
-use Rattle.exchange.specs.declared.kinds.What.{What}
-use Rattle.exchange.specs.Rest.{Kept, Receives, arrival_by, version_of}
+use Rattle.session.specs.declared.kinds.What.{What}
+use Rattle.session.specs.Rest.{Kept, Receives, arrival_by, version_of}
 use Rattle.server.specs.Feeding.{Feeding, takes_item, data_of}
 use Rattle.server.specs.Incoming.{IsAt, HasCome, IsOpened, IsFedBy, IsFedAt, Scans}
 use Rattle.server.proofs.Readings.{takes_gone, TakesAll, offer_short, offer_whole}

@@ -11,11 +11,11 @@ use Rattle.machine.specs.declared.rows.Verdict.{Verdict}
 use Rattle.machine.specs.Asks.{kind_of, is_reset}
 use Rattle.machine.specs.Following.{interruptible}
 use Rattle.engine.specs.Views.{EntryView}
-use Rattle.exchange.specs.declared.kinds.Cause.{Cause}
+use Rattle.session.specs.declared.kinds.Cause.{Cause}
 use Rattle.server.specs.declared.kinds.Took.{Took}
-use Rattle.exchange.specs.declared.kinds.What.{What}
-use Rattle.exchange.specs.Session.{Setting, Reply, OneRow, Summary, Bye}
-use Rattle.exchange.specs.Rest.{Kept, Step, Ended, Full, puts, cause_of, ends, after_item, full, noop_kept, puts_noop, replies, rests, reset_among, shut, after_strike, turns, unread_among, version_of, work_kept}
+use Rattle.session.specs.declared.kinds.What.{What}
+use Rattle.session.specs.Session.{Setting, Reply, OneRow, Summary, Bye}
+use Rattle.session.specs.Rest.{Kept, Step, Ended, Full, puts, cause_of, ends, after_item, full, noop_kept, puts_noop, replies, rests, reset_among, shut, after_interrupt, turns, unread_among, version_of, work_kept}
 use Rattle.server.specs.Feeding.{arrival, takes_item, takes_none}
 use Rattle.server.specs.Serving.{Live, after_feeding, fresh, fed_live, with_kept}
 use Rattle.server.specs.Past.{Agrees, Follows, IsLater, answers_by, places_of}
@@ -52,21 +52,21 @@ stage_of (Unread f ∷ xs) k h e = absurd h
 stage_of (TooLong ∷ xs) k h e = absurd h
 
 -- What an arrival does.
-struck_waiting : (b : Bool) (k : Kept) → (cond b (after_strike k) k).waiting ≡ k.waiting
-struck_waiting true k = refl
-struck_waiting false k = refl
+interrupted_waiting : (b : Bool) (k : Kept) → (cond b (after_interrupt k) k).waiting ≡ k.waiting
+interrupted_waiting true k = refl
+interrupted_waiting false k = refl
 
-struck_first : (b : Bool) (k : Kept) → (cond b (after_strike k) k).first ≡ k.first
-struck_first true k = refl
-struck_first false k = refl
+interrupted_first : (b : Bool) (k : Kept) → (cond b (after_interrupt k) k).first ≡ k.first
+interrupted_first true k = refl
+interrupted_first false k = refl
 
-struck_version : (b : Bool) (k : Kept) → (cond b (after_strike k) k).version ≡ k.version
-struck_version true k = refl
-struck_version false k = refl
+interrupted_version : (b : Bool) (k : Kept) → (cond b (after_interrupt k) k).version ≡ k.version
+interrupted_version true k = refl
+interrupted_version false k = refl
 
-struck_ended : (b : Bool) (k : Kept) → (cond b (after_strike k) k).ended ≡ k.ended
-struck_ended true k = refl
-struck_ended false k = refl
+interrupted_ended : (b : Bool) (k : Kept) → (cond b (after_interrupt k) k).ended ≡ k.ended
+interrupted_ended true k = refl
+interrupted_ended false k = refl
 
 fed_waiting : (k : Kept) (a : Option Arrival) → (after_item k a).waiting ≡ k.waiting ++ places_of (option_to_list a)
 fed_waiting k None = sym (append-nil k.waiting)
@@ -74,7 +74,7 @@ fed_waiting k (Some (Shook (Some v))) = sym (append-nil k.waiting)
 fed_waiting k (Some (Shook None)) = sym (append-nil k.waiting)
 fed_waiting k (Some NoMagic) = sym (append-nil k.waiting)
 fed_waiting k (Some Idle) = sym (append-nil k.waiting)
-fed_waiting k (Some (Asked q)) = struck_waiting (is_reset (kind_of q) && interruptible k.state) (record k { waiting = k.waiting ++ Asked q ∷ [] })
+fed_waiting k (Some (Asked q)) = interrupted_waiting (is_reset (kind_of q) && interruptible k.state) (record k { waiting = k.waiting ++ Asked q ∷ [] })
 fed_waiting k (Some (Unread e)) = refl
 fed_waiting k (Some TooLong) = refl
 
@@ -84,7 +84,7 @@ fed_first k (Some (Shook (Some v))) = refl
 fed_first k (Some (Shook None)) = refl
 fed_first k (Some NoMagic) = refl
 fed_first k (Some Idle) = refl
-fed_first k (Some (Asked q)) = struck_first (is_reset (kind_of q) && interruptible k.state) (record k { waiting = k.waiting ++ Asked q ∷ [] })
+fed_first k (Some (Asked q)) = interrupted_first (is_reset (kind_of q) && interruptible k.state) (record k { waiting = k.waiting ++ Asked q ∷ [] })
 fed_first k (Some (Unread e)) = refl
 fed_first k (Some TooLong) = refl
 
@@ -97,7 +97,7 @@ fed_agrees k (Some Idle) h = (refl, refl)
 fed_agrees k (Some (Asked q)) h =
     let b = is_reset (kind_of q) && interruptible k.state in
     let t : Kept = record k { waiting = k.waiting ++ Asked q ∷ [] } in
-    (struck_version b t, struck_ended b t)
+    (interrupted_version b t, interrupted_ended b t)
 fed_agrees k (Some (Unread e)) h = (refl, refl)
 fed_agrees k (Some TooLong) h = (refl, refl)
 
@@ -233,21 +233,21 @@ replies_stepped ledger k q later (Summary d m left tx entry) w e = record {
 }
 replies_stepped ledger k q later Bye w e = closes k Cause.Goodbye (Asked q) later w e tt
 
--- a RESET that strikes leaves what waits, version and end
-struck_stepped : (b : Bool) (k : Kept) (d : Step) → Stepped (cond b (after_strike k) k) d → Stepped k d
-struck_stepped true k d h = record { waiting = h.waiting; first = h.first; version = h.version; ended = go h.ended }
+-- a RESET that interrupts leaves what waits, version and end
+interrupted_stepped : (b : Bool) (k : Kept) (d : Step) → Stepped (cond b (after_interrupt k) k) d → Stepped k d
+interrupted_stepped true k d h = record { waiting = h.waiting; first = h.first; version = h.version; ended = go h.ended }
   where
-    go : (d.kept.ended ≡ k.ended) ⊎ Ends (after_strike k) d.kept → (d.kept.ended ≡ k.ended) ⊎ Ends k d.kept
+    go : (d.kept.ended ≡ k.ended) ⊎ Ends (after_interrupt k) d.kept → (d.kept.ended ≡ k.ended) ⊎ Ends k d.kept
     go (inl e) = inl e
     go (inr e) = inr (record { before = e.before; cause = e.cause; first = e.first; others = e.others; waits = e.waits })
-struck_stepped false k d h = h
+interrupted_stepped false k d h = h
 
 turns_stepped : (S : Setting) (c : ℕ) (ledger : List EntryView) (k : Kept) (xs : List Arrival) → k.waiting ≡ xs → k.ended ≡ None → Stepped k (turns S c ledger k xs)
 turns_stepped S c ledger k [] w e = idles k (turns S c ledger k []) refl refl
 turns_stepped S c ledger k (Asked q ∷ later) w e =
     let b : Bool = reset_among (Asked q ∷ later) && interruptible k.state in
-    let t : Kept = cond b (after_strike k) k in
-    struck_stepped b k (turns S c ledger k (Asked q ∷ later)) (replies_stepped ledger t q later _ (struck_waiting b k ∙ w) (struck_ended b k ∙ e))
+    let t : Kept = cond b (after_interrupt k) k in
+    interrupted_stepped b k (turns S c ledger k (Asked q ∷ later)) (replies_stepped ledger t q later _ (interrupted_waiting b k ∙ w) (interrupted_ended b k ∙ e))
 turns_stepped S c ledger k (Unread f ∷ later) w e = closes k Cause.Malformed (Unread f) later w e tt
 turns_stepped S c ledger k (TooLong ∷ later) w e = closes k Cause.TooBig TooLong later w e tt
 turns_stepped S c ledger k (Shook v ∷ later) w e = idles k (turns S c ledger k (Shook v ∷ later)) refl refl

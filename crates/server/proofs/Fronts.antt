@@ -17,10 +17,10 @@ use Rattle.wire.specs.Scanning.{Holds, with_data}
 use Rattle.wire.proofs.First.{takes_first}
 use Rattle.reader.specs.Piecewise.{Point, Reads}
 use Rattle.messages.specs.Messages.{request_of}
-use Rattle.server.specs.declared.incoming.Stream.{Stream}
+use Rattle.server.specs.declared.input.Stream.{Stream}
 use Rattle.server.specs.declared.kinds.Took.{Took}
-use Rattle.exchange.specs.declared.kinds.What.{What}
-use Rattle.exchange.specs.Rest.{Kept, Receives, arrival_by, version_of}
+use Rattle.session.specs.declared.kinds.What.{What}
+use Rattle.session.specs.Rest.{Kept, Receives, arrival_by, version_of}
 use Rattle.server.specs.Feeding.{takes_item}
 use Rattle.server.specs.Incoming.{IsAt, IsFedAt, Comes, IsFirst}
 use Rattle.server.proofs.Readings.{takes_fed}

@@ -13,7 +13,7 @@ use Rattle.messages.specs.Arrivals.{Arrival, Shook, NoMagic, Idle, Asked, Unread
 use Rattle.messages.proofs.Wholes.{arrives_whole}
 use Rattle.engine.specs.declared.answer.Mode.{Mode as QueryMode}
 use Rattle.engine.specs.Views.{WriteView, ParameterView, EntryView, AnswerView, QueryFault}
-use Rattle.exchange.specs.Rest.{take_kept, work_kept}
+use Rattle.session.specs.Rest.{take_kept, work_kept}
 use Rattle.server.specs.Serving.{Live, Rest, after_step, empty, fed_live, find, fresh, is_full, noop_put, opened, replace, setting, taken_from, with_kept, with_session, without}
 use Rattle.server.specs.Running.{AreBelow, Event, opens, feeds, works, takes, noops, loses, after_call, after_event, after_events}
 use Rattle.server.specs.Past.{Asks, Follows, answers_by, bytes_taken, call_answered, places_of, requests_answered, step_answered, took_by, used_of}

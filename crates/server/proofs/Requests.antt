@@ -16,9 +16,9 @@ use Rattle.messages.specs.declared.request.Request.{Request}
 use Rattle.messages.specs.View.{RequestView, request_view}
 use Rattle.messages.specs.Reading.{◌>>=◌, Answers}
 use Rattle.messages.specs.Messages.{contents_by, request_held, request_of}
-use Rattle.exchange.specs.declared.kinds.What.{What}
-use Rattle.exchange.specs.Rest.{Kept, Receives, arrival_by}
-use Rattle.exchange.specs.Views.{arrival_told}
+use Rattle.session.specs.declared.kinds.What.{What}
+use Rattle.session.specs.Rest.{Kept, Receives, arrival_by}
+use Rattle.session.specs.Views.{arrival_told}
 
 -- bytes that spell no value stand for no request
 bad_request : (v : Version) (b : List ℕ) (p : PackFault) (e : MsgFault) → Tells (λ (t : Tree). t) (Err p) (whole_of b) → e ≡ of_pack p → (e ≡ fault.Memory → ⊥) → request_of v b ≡ Err e

@@ -14,8 +14,8 @@ use Rattle.wire.proofs.First.{takes_first}
 use Rattle.wire.proofs.Room.{part_wants}
 use Rattle.reader.specs.Piecewise.{Point, MayGoOn}
 use Rattle.reader.proofs.Pieces.{nothing_goes_on}
-use Rattle.server.specs.declared.incoming.Offer.{Offer}
-use Rattle.server.specs.declared.incoming.Stream.{Stream}
+use Rattle.server.specs.declared.input.Offer.{Offer}
+use Rattle.server.specs.declared.input.Stream.{Stream}
 use Rattle.server.specs.Feeding.{WantsRoom}
 use Rattle.server.specs.Incoming.{IsAt, HasCome, Comes, IsFirst}
 use Rattle.server.proofs.Room.{further_wants, fewer_wants}

@@ -7,8 +7,8 @@ use Rattle.wire.specs.Items.{answer_to, wants_room}
 use Rattle.reader.specs.Piecewise.{MayGoOn}
 use Rattle.messages.specs.Messages.{request_of}
 use Rattle.messages.specs.Arrivals.{Arrival, TooLong, arrival_of_offer}
-use Rattle.exchange.specs.declared.kinds.What.{What}
-use Rattle.exchange.specs.Rest.{Kept, version_of, arrival_by, after_item, what_of, shut, full}
+use Rattle.session.specs.declared.kinds.What.{What}
+use Rattle.session.specs.Rest.{Kept, version_of, arrival_by, after_item, what_of, shut, full}
 use Rattle.server.specs.declared.kinds.Took.{Took}
 
 -- what a whole item of the bytes is, at a version

@@ -11,11 +11,11 @@ use Rattle.wire.specs.Items.{answer_from, further, wants_room}
 use Rattle.wire.specs.Scanning.{Holds, After}
 use Rattle.wire.specs.Reader.{takes}
 use Rattle.wire.specs.Framing.{Item, Noop, Message, TooBig, Opened, opening, reading, at_server}
-use Rattle.server.specs.declared.incoming.Incoming.{Incoming}
-use Rattle.server.specs.declared.incoming.Offer.{Offer}
-use Rattle.server.specs.declared.incoming.Stream.{Stream}
+use Rattle.server.specs.declared.input.Incoming.{Incoming}
+use Rattle.server.specs.declared.input.Offer.{Offer}
+use Rattle.server.specs.declared.input.Stream.{Stream}
 use Rattle.server.specs.declared.kinds.Took.{Took}
-use Rattle.exchange.specs.Rest.{Kept}
+use Rattle.session.specs.Rest.{Kept}
 use Rattle.server.specs.Feeding.{Feeding}
 
 -- The stream stands in this item: its reader has read the data, and while none was refused its place is that of the item.
@@ -43,7 +43,7 @@ IsOpened i u = HasCome i.offer i.stream u
 abbrev pub IsSame : Incoming → Incoming → Type 0
 IsSame old new = (new.offer ≡ old.offer) × (new.stream ≡ old.stream)
 
--- What was told, what the exchange keeps and what has come then are those of the model.
+-- What was told, what the session keeps and what has come then are those of the model.
 pub record IsFedBy (f : Feeding) (took : Took) (k : Kept) (offer : Offer) (s : Stream)
     : Type 0 where
   pub told : f.took ≡ took

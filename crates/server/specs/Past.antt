@@ -10,10 +10,10 @@ use Rattle.messages.specs.View.{RequestView}
 use Rattle.messages.specs.Arrivals.{Arrival, Shook, NoMagic, Asked, Unread, TooLong, arrival_of_offer, arrivals, requests_of}
 use Rattle.engine.specs.declared.answer.Mode.{Mode as QueryMode}
 use Rattle.engine.specs.Views.{WriteView, ParameterView, EntryView, AnswerView, QueryFault}
-use Rattle.exchange.specs.declared.kinds.Cause.{Cause}
-use Rattle.exchange.specs.declared.kinds.Cause.TheVariants as cause
+use Rattle.session.specs.declared.kinds.Cause.{Cause}
+use Rattle.session.specs.declared.kinds.Cause.TheVariants as cause
 use Rattle.server.specs.declared.kinds.Took.{Took}
-use Rattle.exchange.specs.Rest.{Kept, Done, Wrote, work_kept}
+use Rattle.session.specs.Rest.{Kept, Done, Wrote, work_kept}
 use Rattle.server.specs.Serving.{Live, Rest, find, setting, feed_at}
 use Rattle.server.specs.Running.{Event, feeds, works, after_event}
 

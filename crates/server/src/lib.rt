@@ -4,17 +4,17 @@
 //! was answered on `places_follow_bytes`.
 #![tactic(auto)]
 
-mod asking;
-mod incoming;
+mod connected;
+mod input;
 mod kinds;
 pub mod laws;
 mod places;
+mod request;
 mod server;
-mod session;
 
-pub use exchange::{Cause, What, Worked};
 pub use kinds::{Refused, Took};
 pub use server::Server;
+pub use session::{Cause, What, Worked};
 
 /// The most sessions that live: `open` answers N2 where as many do.
 pub const MAX_SESSIONS: usize = 16;

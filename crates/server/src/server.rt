@@ -1,18 +1,18 @@
 //! Up to sixteen sessions over one engine and one gate.
 ghost use Rattle.std.specs.Prelude.{◌≡◌, ◌↔◌, Some, None, IfOk, IfErr, OnErr, IfSome, IsErrOf};
 ghost use Rattle.server.specs.Serving.{Rest, empty, find, feed_at, work_at, take_out_at, noop_at, lost_at, state_at, cause_at, is_full, Opens, RefusesCall, MayFeed, MayTakeOut, MayWork, MayPutNoop};
-ghost use Rattle.exchange.specs.Rest.{IsCounted};
+ghost use Rattle.session.specs.Rest.{IsCounted};
 ghost use Rattle.server.specs.Views.{Fits, Lends};
 
+use crate::connected::Connected;
 use crate::kinds::{Refused, Took};
 use crate::places::place_of;
-use crate::session::Session;
 use crate::{MAX_NUMBERS, MAX_SESSIONS};
 use bytes::Bytes;
 use engine::{Engine, Gate};
-use exchange::{Cause, Worked};
 use machine::State;
 use reader::Reader;
+use session::{Cause, Worked};
 use std::alloc::Global;
 
 /// A server: its live sessions in the order in which they were opened, over one engine and one gate.
@@ -25,7 +25,7 @@ use std::alloc::Global;
 pub struct Server<E, G> {
     engine: E,
     gate: G,
-    sessions: Vec<Session>,
+    sessions: Vec<Connected>,
     next: u64,
     alloc: Global,
 }
@@ -63,7 +63,7 @@ impl<E: Engine, G: Gate> Server<E, G> {
             return Err(Refused::SessionsFull);
         }
         let conn = self.next;
-        let Ok(session) = Session::new(self.alloc, conn) else {
+        let Ok(session) = Connected::new(self.alloc, conn) else {
             return Err(Refused::Memory);
         };
         if self.sessions.push(session).is_err() {

@@ -4,13 +4,13 @@
 //! says no, a part may have been added, which [`Adding::undo`] takes off again, and nothing is said of why: the way over a value tells that.
 #![tactic(auto)]
 
-mod adding;
 mod fault;
 mod numbers;
+mod output;
 mod spelling;
 mod whole;
 
-pub use adding::Adding;
 pub use fault::Unspelled;
 pub use numbers::{put_int, put_short_text, put_text};
+pub use output::Adding;
 pub use whole::{put_dict, put_list};

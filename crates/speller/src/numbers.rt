@@ -1,15 +1,14 @@
 //! Heads, numbers, texts and bytes.
 ghost use Rattle.std.specs.Prelude.{◌≡◌, ◌≤◌, ◌<◌, ◌∷◌, [], ◌++◌, length, OnOk};
 ghost use Rattle.packstream.specs.Canon.{long_head, head, int_bytes, text_bytes};
+ghost use Rattle.packstream.specs.Limits.{max_size};
 ghost use Rattle.packstream.specs.Plain.{AreBytes};
 ghost use Rattle.byteorder.specs.Endian.{big_bytes};
 
-use crate::adding::Adding;
 use crate::fault::Unspelled;
+use crate::output::Adding;
+use packstream::MAX_SIZE;
 use std::alloc::AllocError;
-
-/// How many bytes a text or bytes may have.
-const MAX_SIZE: usize = 65_536;
 
 #[tactic(auto, unfolding(packstream::specs::Canon::long_head))]
 fn put_long(out: &mut Adding, marker: u8, n: u32) -> Result<(), AllocError>
@@ -81,7 +80,7 @@ pub(crate) fn put_float(out: &mut Adding, bits: u64) -> Result<(), AllocError>
 #[tactic(auto, using(packstream::proofs::Putting::three_parts))]
 #[inline]
 pub fn put_short_text(out: &mut Adding, text: &str) -> Result<(), AllocError>
-    requires { length text.now ≤ 65536 }
+    requires { length text.now ≤ max_size }
     ensures before { out.new.before ≡ out.old.before }
     ensures ok { OnOk result (out.new.more ≡ out.old.more ++ text_bytes text.now) }
 {

@@ -8,13 +8,11 @@ ghost use Rattle.packstream.specs.View.{trees_of, entries_of};
 ghost use Rattle.cells.specs.Shape.{shape, shapes, entries};
 ghost use Rattle.speller.specs.Ready.{IsReady, AreReady, HaveReady};
 
-use crate::adding::Adding;
 use crate::fault::Unspelled;
 use crate::numbers::{put_bytes, put_float, put_head, put_int, put_text};
+use crate::output::Adding;
 use cells::Cell;
-
-/// How many members a list may have.
-const MAX_SIZE: usize = 65_536;
+use packstream::MAX_SIZE;
 
 /// How many entries a dictionary may have: each key is compared with each before it.
 const FEW: usize = 16;

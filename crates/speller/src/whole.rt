@@ -7,8 +7,8 @@ ghost use Rattle.packstream.specs.View.{trees_of, entries_of};
 ghost use Rattle.cells.specs.Faults.{structures};
 ghost use Rattle.cells.specs.Shape.{shapes, entries};
 
-use crate::adding::Adding;
 use crate::fault::Unspelled;
+use crate::output::Adding;
 use crate::spelling::{put_cells, put_entries};
 use cells::Cell;
 

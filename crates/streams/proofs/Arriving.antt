@@ -14,9 +14,9 @@ use Rattle.messages.specs.Arrivals as arrival
 use Rattle.machine.specs.Asks.{kind_of, is_reset}
 use Rattle.machine.specs.Following.{interruptible}
 use Rattle.engine.specs.Views.{EntryView}
-use Rattle.exchange.specs.declared.kinds.Cause.{Cause}
-use Rattle.exchange.specs.Session.{Setting}
-use Rattle.exchange.specs.Rest.{Kept, begun, after_strike, after_item, arrival_by, version_of}
+use Rattle.session.specs.declared.kinds.Cause.{Cause}
+use Rattle.session.specs.Session.{Setting}
+use Rattle.session.specs.Rest.{Kept, begun, after_interrupt, after_item, arrival_by, version_of}
 use Rattle.server.specs.Feeding.{arrives}
 use Rattle.streams.specs.Conversing.{silent, after_bytes, talk_of_due, unless_ended, talk_then, talk_of_arrivals, conversation}
 use Rattle.streams.specs.Settling.{item_talk}
@@ -35,9 +35,9 @@ long_over S c ledger k o w =
     subst (λ (x : Option Cause). IsSome (talk_of_due S c ledger (record k { ended = x; waiting = k.waiting ++ TooLong ∷ [] })).kept.ended) (sym o)
     (subst (λ (ws : List Arrival). IsSome (talk_of_due S c ledger (record k { ended = None; waiting = ws ++ TooLong ∷ [] })).kept.ended) (sym w) refl)
 
-strikes_version : (b : Bool) (k : Kept) → (if b then after_strike k else k).version ≡ k.version
-strikes_version true k = refl
-strikes_version false k = refl
+interrupts_version : (b : Bool) (k : Kept) → (if b then after_interrupt k else k).version ≡ k.version
+interrupts_version true k = refl
+interrupts_version false k = refl
 
 module _ (S : Setting) (c : ℕ) (v : Version) where
   abbrev Same : List Item → Type 0
@@ -78,7 +78,7 @@ module _ (S : Setting) (c : ℕ) (v : Version) where
   same_asked (Message b ∷ ys) a ledger k h e = go (request_of v b) refl (same_asked ys a.1)
     where
       go : (q : Result RequestView MsgFault) → request_of v b ≡ q → Same ys → talk_of_arrivals S c (then_request q (requests_in v ys)) ledger k ≡ item_talk S c (Message b ∷ ys) ledger k
-      go (Ok q) f more = one_more (Asked q) (requests_in v ys) (Message b) ys ledger k (ap arrival_by f) e (goes_on (Asked q) ys ledger k h e (strikes_version (is_reset (kind_of q) && interruptible k.state) (record k { waiting = k.waiting ++ Asked q ∷ [] })) more)
+      go (Ok q) f more = one_more (Asked q) (requests_in v ys) (Message b) ys ledger k (ap arrival_by f) e (goes_on (Asked q) ys ledger k h e (interrupts_version (is_reset (kind_of q) && interruptible k.state) (record k { waiting = k.waiting ++ Asked q ∷ [] })) more)
       go (Err x) f more = one_more (Unread x) [] (Message b) ys ledger k (ap arrival_by f) e (λ o. stops (Unread x) ys ledger k (unread_over S c ledger k x o (h.done o)))
 
 -- The offer, and what follows it.

@@ -6,8 +6,8 @@ use Rattle.engine.specs.declared.answer.Mode.{Mode as QueryMode}
 use Rattle.engine.specs.Views.{EntryView, WriteView, ParameterView, AnswerView, QueryFault}
 use Rattle.server.specs.declared.kinds.Refused.{Refused}
 use Rattle.server.specs.declared.kinds.Refused.TheVariants.{NoSuchConnection, SessionsFull, Memory}
-use Rattle.exchange.specs.declared.kinds.Worked.{Worked}
-use Rattle.exchange.specs.Rest.{Kept, worked_of, work_kept, commit_entries}
+use Rattle.session.specs.declared.kinds.Worked.{Worked}
+use Rattle.session.specs.Rest.{Kept, worked_of, work_kept, commit_entries}
 use Rattle.server.specs.Serving.{Live, Rest, find, replace, with_kept, with_session, on_live, after_step, setting, work_at}
 use Rattle.server.proofs.Answered.{Answers}
 use Rattle.server.proofs.Runs.{find-conn}

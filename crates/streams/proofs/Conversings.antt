@@ -5,8 +5,8 @@ use Rattle.std.specs.Io.KnownBytes.{Appends, Consumes, IsAtEnd, Keeps}
 use Rattle.std.proofs.KnownBytes.{Appends-nil, Consumes-kept, Consumes-trans}
 use Rattle.wire.specs.Reader.{state}
 use Rattle.wire.specs.Framing.{at_server, opening}
-use Rattle.exchange.specs.Session.{Setting}
-use Rattle.exchange.specs.Rest.{begun}
+use Rattle.session.specs.Session.{Setting}
+use Rattle.session.specs.Rest.{begun}
 use Rattle.server.specs.Serving.{Live, Rest, find, fresh}
 use Rattle.streams.specs.declared.fault.Standing.TheVariants.{Open, Over}
 use Rattle.streams.specs.declared.fault.StreamFault.{StreamFault}

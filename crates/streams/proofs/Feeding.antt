@@ -7,8 +7,8 @@ use Rattle.wire.proofs.Readers.{reads_pieces}
 use Rattle.engine.specs.Views.{EntryView}
 use Rattle.server.specs.declared.kinds.Refused.{Refused}
 use Rattle.server.specs.declared.kinds.Took.{Took}
-use Rattle.exchange.specs.declared.kinds.What.{What}
-use Rattle.exchange.specs.Rest.{Kept, shut, full, after_item}
+use Rattle.session.specs.declared.kinds.What.{What}
+use Rattle.session.specs.Rest.{Kept, shut, full, after_item}
 use Rattle.server.specs.Feeding.{Feeding, feeding, takes_none, takes_item, arrival}
 use Rattle.server.specs.Serving.{Live, Rest, find, fed_live, with_session, feed_at}
 use Rattle.server.proofs.Answered.{Answers}

@@ -2,9 +2,9 @@
 use Rattle.std.proofs.Common.{◌≡◌, refl, sym, ap, subst, ◌∙◌, ℕ, List, [], ◌++◌, Option, Some, Ok}
 use Rattle.std.specs.Prelude.{IsSome}
 use Rattle.engine.specs.Views.{EntryView}
-use Rattle.exchange.specs.Session.{Setting}
+use Rattle.session.specs.Session.{Setting}
 use Rattle.server.specs.Serving.{Live, Rest, empty, find, fresh, opened}
-use Rattle.streams.specs.declared.responding.End.{End}
+use Rattle.streams.specs.declared.response.End.{End}
 use Rattle.streams.specs.Conversing.{Talk, conversation, with_talk}
 use Rattle.streams.specs.Serving.{Converses}
 use Rattle.streams.specs.Responding.{end_of}

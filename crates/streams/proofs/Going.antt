@@ -4,8 +4,8 @@ use Rattle.std.specs.Io.KnownBytes.{Appends}
 use Rattle.std.proofs.KnownBytes.{Appends-trans}
 use Rattle.wire.specs.Framing.{Opened}
 use Rattle.engine.specs.Views.{EntryView}
-use Rattle.exchange.specs.Session.{Setting}
-use Rattle.exchange.specs.Rest.{Kept}
+use Rattle.session.specs.Session.{Setting}
+use Rattle.session.specs.Rest.{Kept}
 use Rattle.server.specs.Serving.{Rest}
 use Rattle.streams.specs.declared.fault.Standing.{Standing}
 use Rattle.streams.specs.declared.fault.StreamFault.{StreamFault}

@@ -4,11 +4,11 @@ use Rattle.std.specs.Prelude.{IsSome, Bool}
 use Rattle.wire.specs.Framing.{Opened}
 use Rattle.engine.specs.declared.answer.Mode.{Mode as QueryMode}
 use Rattle.engine.specs.Views.{EntryView, WriteView, ParameterView, AnswerView, QueryFault}
-use Rattle.exchange.specs.declared.kinds.Cause.{Cause}
+use Rattle.session.specs.declared.kinds.Cause.{Cause}
 use Rattle.server.specs.declared.kinds.Refused.{Refused}
 use Rattle.server.specs.declared.kinds.Took.{Took}
-use Rattle.exchange.specs.declared.kinds.Worked.{Worked}
-use Rattle.exchange.specs.Rest.{Kept, work_kept, commit_entries}
+use Rattle.session.specs.declared.kinds.Worked.{Worked}
+use Rattle.session.specs.Rest.{Kept, work_kept, commit_entries}
 use Rattle.server.specs.Serving.{Live, Rest, find, replace, on_live, fed_live, taken_from, setting, work_at}
 use Rattle.server.proofs.Answered.{Answers}
 use Rattle.server.proofs.Runs.{find-conn}

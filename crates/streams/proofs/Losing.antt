@@ -3,9 +3,9 @@ use Rattle.std.proofs.Common.{◌≡◌, ap, subst, ◌∙◌, ℕ, List, Option
 use Rattle.std.specs.Prelude.{IsSome, option_map, unwrap_or}
 use Rattle.engine.specs.Views.{EntryView}
 use Rattle.wire.specs.Framing.{Opened}
-use Rattle.exchange.specs.declared.kinds.Cause.{Cause}
-use Rattle.exchange.specs.Session.{Setting}
-use Rattle.exchange.specs.Rest.{Kept}
+use Rattle.session.specs.declared.kinds.Cause.{Cause}
+use Rattle.session.specs.Session.{Setting}
+use Rattle.session.specs.Rest.{Kept}
 use Rattle.server.specs.Serving.{cause_or, Live, Rest, find, lost_at}
 use Rattle.streams.specs.declared.fault.StreamFault.{StreamFault}
 use Rattle.streams.specs.Conversing.{conversation, with_talk, without_talk}

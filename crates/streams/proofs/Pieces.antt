@@ -1,12 +1,12 @@
 -- A piece is taken, item by item.
 use Rattle.std.proofs.Common.{◌≡◌, refl, sym, ap, subst, ◌∙◌, ℕ, List, [], ◌++◌, take, drop, append_assoc, append-nil, Option, Some, None, Ok, Err}
 use Rattle.std.specs.Prelude.{IsSome}
-use Rattle.exchange.specs.declared.kinds.Cause.{Cause}
-use Rattle.exchange.specs.Session.{Setting}
+use Rattle.session.specs.declared.kinds.Cause.{Cause}
+use Rattle.session.specs.Session.{Setting}
 use Rattle.server.specs.Serving.{Rest}
 use Rattle.streams.specs.declared.fault.Standing.TheVariants.{Open, Over}
 use Rattle.streams.specs.declared.fault.StreamFault.{StreamFault}
-use Rattle.streams.specs.declared.taking.Taken.{Taken}
+use Rattle.streams.specs.declared.intake.Taken.{Taken}
 use Rattle.streams.specs.Settling.{standing_of, Breaks, told_by, Stands, TakesOne, TakesPiece}
 use Rattle.streams.proofs.Parts.{fed_more}
 

@@ -3,7 +3,7 @@ use Rattle.std.proofs.Common.{◌≡◌, refl, subst, ◌∙◌, ℕ, ◌<◌, L
 use Rattle.std.specs.Prelude.{IsSome}
 use Rattle.wire.specs.Framing.{Opened}
 use Rattle.engine.specs.Views.{EntryView}
-use Rattle.exchange.specs.Rest.{Kept, take_kept}
+use Rattle.session.specs.Rest.{Kept, take_kept}
 use Rattle.server.specs.Serving.{Rest, find, taken_from, take_out_at, with_session, Live}
 use Rattle.server.proofs.Answered.{Answers}
 use Rattle.streams.specs.Conversing.{with_talk, heard_out}

@@ -5,7 +5,7 @@ use Rattle.std.proofs.lemmas.Bool.Decides.{nat_tests}
 use Rattle.server.specs.Serving.{Live, Rest, find, replace, without}
 use Rattle.engine.specs.Views.{EntryView}
 use Rattle.wire.specs.Framing.{Opened}
-use Rattle.exchange.specs.Rest.{Kept}
+use Rattle.session.specs.Rest.{Kept}
 use Rattle.streams.specs.Conversing.{with_talk}
 
 eqb-same : (n : ℕ) → eqb n n ≡ true

@@ -17,11 +17,11 @@ use Rattle.machine.specs.Rows.{row_at}
 use Rattle.machine.specs.Following.{interruptible}
 use Rattle.engine.specs.Tokens.{Found, Free, There, Other, found_in}
 use Rattle.engine.specs.Views.{Token, EntryView, AnswerView, QueryFault}
-use Rattle.exchange.specs.declared.kinds.Cause.{Cause}
-use Rattle.exchange.specs.declared.fault.Fault.{Fault}
-use Rattle.exchange.specs.Said.{fits}
-use Rattle.exchange.specs.Session.{Setting, Open, no_result, Tx, Change, change_alone, change_inside, commits_as, Reply, OneRow, Summary, Bye, fails, succeeds, close, close_last, if_fits, unwritable, pull, used_up, greets, reply_to_hello, reply_to_login, reply_to_run, result_of_answer, with_write, no_tx, in_transaction, fields_said, perform, serve, passed_over, is_halted}
-use Rattle.exchange.specs.Rest.{Kept, rests, turns, serves, Done, Idle, Full, WroteRow, Wrote, Ended, Step, work_kept, replies, after_strike, version_of, commit_entries}
+use Rattle.session.specs.declared.kinds.Cause.{Cause}
+use Rattle.session.specs.declared.fault.Fault.{Fault}
+use Rattle.session.specs.Said.{fits}
+use Rattle.session.specs.Session.{Setting, Open, no_result, Tx, Change, change_alone, change_inside, commits_as, Reply, OneRow, Summary, Bye, fails, succeeds, close, close_last, if_fits, unwritable, pull, used_up, greets, reply_to_hello, reply_to_login, reply_to_run, result_of_answer, with_write, no_tx, in_transaction, fields_said, perform, serve, passed_over, is_halted}
+use Rattle.session.specs.Rest.{Kept, rests, turns, serves, Done, Idle, Full, WroteRow, Wrote, Ended, Step, work_kept, replies, after_interrupt, version_of, commit_entries}
 use Rattle.streams.specs.Conversing.{Talk, silent, after_bytes, heard_out, step_then, steps, steps_due}
 use Rattle.streams.specs.Settling.{IsPlaced, due}
 
@@ -134,13 +134,13 @@ module _ (S : Setting) (c : ℕ) (ledger : List EntryView) (k : Kept) (sent : k.
   by_reply s q e w t v l Bye h = let d = waits_one (Asked q) e in over Cause.Goodbye refl refl refl t v (inr (omega arith))
   by_reply s q e w t v l (Summary d m left tx entry) h = let d = waits_one (Asked q) e in puts tt tt (omega arith) v
 
-  by_struck : (b : Bool) (q : RequestView) → k.waiting ≡ Asked q ∷ [] → StepKind k (serves S c ledger (if b then after_strike k else k) q [])
-  by_struck true q e = by_reply (after_strike k) q e refl sent refl (omega arith) _ (serve_lessens S (version_of k) c ledger State.Interrupted no_result no_tx q)
-  by_struck false q e = by_reply k q e refl sent refl (omega arith) _ (serve_lessens S (version_of k) c ledger k.state k.result k.tx q)
+  by_interrupted : (b : Bool) (q : RequestView) → k.waiting ≡ Asked q ∷ [] → StepKind k (serves S c ledger (if b then after_interrupt k else k) q [])
+  by_interrupted true q e = by_reply (after_interrupt k) q e refl sent refl (omega arith) _ (serve_lessens S (version_of k) c ledger State.Interrupted no_result no_tx q)
+  by_interrupted false q e = by_reply k q e refl sent refl (omega arith) _ (serve_lessens S (version_of k) c ledger k.state k.result k.tx q)
 
   by_turn : k.ended ≡ None → (xs : List Arrival) → k.waiting ≡ xs → IsPlaced xs → StepKind k (turns S c ledger k xs)
   by_turn o [] e p = idle refl o e sent
-  by_turn o (Asked q ∷ []) e p = by_struck ((is_reset (kind_of q) || false) && interruptible k.state) q e
+  by_turn o (Asked q ∷ []) e p = by_interrupted ((is_reset (kind_of q) || false) && interruptible k.state) q e
   by_turn o (Unread x ∷ []) e p = let d = waits_one (Unread x) e in over Cause.Malformed refl refl refl sent refl (inr (omega arith))
   by_turn o (TooLong ∷ []) e p = let d = waits_one TooLong e in over Cause.TooBig refl refl refl sent refl (inr (omega arith))
   by_turn o (Asked q ∷ y ∷ ys) e p = absurd p

@@ -6,9 +6,9 @@ use Rattle.std.proofs.KnownBytes.{Appends-trans}
 use Rattle.wire.specs.Reader.{Took, state, outputs, takes}
 use Rattle.wire.specs.Framing.{Item, Opened, at_server, items_received}
 use Rattle.wire.proofs.Readers.{outputs-append, state-append, takes_outputs}
-use Rattle.exchange.specs.declared.kinds.Cause.{Cause}
-use Rattle.exchange.specs.Session.{Setting}
-use Rattle.exchange.specs.Rest.{Kept, begun, after_item, shut, unread_among}
+use Rattle.session.specs.declared.kinds.Cause.{Cause}
+use Rattle.session.specs.Session.{Setting}
+use Rattle.session.specs.Rest.{Kept, begun, after_item, shut, unread_among}
 use Rattle.server.specs.Feeding.{arrival}
 use Rattle.server.specs.Serving.{Rest}
 use Rattle.streams.specs.declared.fault.Standing.{Standing}

@@ -7,9 +7,9 @@ use Rattle.messages.specs.Arrivals as arrival
 use Rattle.machine.specs.Asks.{kind_of, is_reset}
 use Rattle.machine.specs.Following.{interruptible}
 use Rattle.engine.specs.Views.{EntryView}
-use Rattle.exchange.specs.declared.kinds.Cause.{Cause}
-use Rattle.exchange.specs.Session.{Setting}
-use Rattle.exchange.specs.Rest.{Kept, after_item, after_strike, version_of}
+use Rattle.session.specs.declared.kinds.Cause.{Cause}
+use Rattle.session.specs.Session.{Setting}
+use Rattle.session.specs.Rest.{Kept, after_item, after_interrupt, version_of}
 use Rattle.server.specs.Feeding.{arrives, arrival as arrival_of}
 use Rattle.streams.specs.Conversing.{Talk, silent, after_bytes, heard_out, steps, talk_of_due, unless_ended, talk_then}
 use Rattle.streams.specs.Settling.{IsPlaced, due, item_talk}
@@ -23,9 +23,9 @@ settled_silent S c ledger k s w =
     ∙ ap (λ (z : List ℕ). silent ledger (record k { unsent = z })) (sym s)
 
 -- one at most waits once an item was taken
-struck_placed : (b : Bool) (k : Kept) → IsPlaced k.waiting → IsPlaced (if b then after_strike k else k).waiting
-struck_placed true k p = p
-struck_placed false k p = p
+interrupted_placed : (b : Bool) (k : Kept) → IsPlaced k.waiting → IsPlaced (if b then after_interrupt k else k).waiting
+interrupted_placed true k p = p
+interrupted_placed false k p = p
 
 pub fed_placed : (k : Kept) (o : Option Arrival) → k.waiting ≡ [] → IsPlaced (after_item k o).waiting
 fed_placed k None w = subst IsPlaced (sym w) tt
@@ -33,7 +33,7 @@ fed_placed k (Some (Shook (Some v))) w = subst IsPlaced (sym w) tt
 fed_placed k (Some (Shook None)) w = subst IsPlaced (sym w) tt
 fed_placed k (Some NoMagic) w = subst IsPlaced (sym w) tt
 fed_placed k (Some arrival.Idle) w = subst IsPlaced (sym w) tt
-fed_placed k (Some (Asked q)) w = struck_placed (is_reset (kind_of q) && interruptible k.state) (record k { waiting = k.waiting ++ Asked q ∷ [] }) (subst (λ (xs : List Arrival). IsPlaced (xs ++ Asked q ∷ [])) (sym w) tt)
+fed_placed k (Some (Asked q)) w = interrupted_placed (is_reset (kind_of q) && interruptible k.state) (record k { waiting = k.waiting ++ Asked q ∷ [] }) (subst (λ (xs : List Arrival). IsPlaced (xs ++ Asked q ∷ [])) (sym w) tt)
 fed_placed k (Some (Unread e)) w = subst (λ (xs : List Arrival). IsPlaced (xs ++ Unread e ∷ [])) (sym w) tt
 fed_placed k (Some TooLong) w = subst (λ (xs : List Arrival). IsPlaced (xs ++ TooLong ∷ [])) (sym w) tt
 

@@ -2,9 +2,9 @@
 use Rattle.std.proofs.Common.{◌≡◌, refl, sym, ap, subst, ◌∙◌, ℕ, zero, suc, ◌≤◌, List, [], ◌++◌, append-nil, append_assoc, Option, Some, None, Ok, Err, arith}
 use Rattle.wire.specs.Framing.{Opened}
 use Rattle.engine.specs.Views.{EntryView}
-use Rattle.exchange.specs.declared.kinds.Worked.{Worked}
-use Rattle.exchange.specs.Session.{Setting}
-use Rattle.exchange.specs.Rest.{Kept, Done, Idle, Full, WroteRow, Wrote, Ended, Step, worked_of, commit_entries}
+use Rattle.session.specs.declared.kinds.Worked.{Worked}
+use Rattle.session.specs.Session.{Setting}
+use Rattle.session.specs.Rest.{Kept, Done, Idle, Full, WroteRow, Wrote, Ended, Step, worked_of, commit_entries}
 use Rattle.server.specs.Serving.{Rest}
 use Rattle.streams.specs.declared.fault.Standing.{Standing}
 use Rattle.streams.specs.declared.fault.Standing.TheVariants.{Open, Over}

@@ -1,7 +1,7 @@
 -- Bytes that wait to go to a sink.
 use Rattle.std.specs.Prelude.{ℕ, List, drop, Option}
 use Rattle.std.specs.Io.KnownBytes.{Appends, append_known}
-use Rattle.streams.specs.declared.holding.Held.{Held}
+use Rattle.streams.specs.declared.held.Held.{Held}
 
 -- what waits to go
 abbrev pub waits : Held → List ℕ

@@ -3,7 +3,7 @@ use Rattle.std.specs.Prelude.{ℕ, List, Option, Result, Ok, Err}
 use Rattle.std.specs.Io.KnownBytes.{Appends}
 use Rattle.wire.specs.Framing.{Opened}
 use Rattle.engine.specs.Views.{EntryView}
-use Rattle.exchange.specs.Rest.{Kept}
+use Rattle.session.specs.Rest.{Kept}
 use Rattle.server.specs.Serving.{Rest}
 use Rattle.streams.specs.declared.fault.StreamFault.{StreamFault}
 use Rattle.streams.specs.Fronts.{AppendsFront}

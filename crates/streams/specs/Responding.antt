@@ -3,11 +3,11 @@ use Rattle.std.specs.Prelude.{ℕ, List, Bool, Option, Some, None, Result}
 use Rattle.engine.specs.declared.answer.Mode.{Mode as QueryMode}
 use Rattle.engine.specs.Views.{WriteView, ParameterView, EntryView, AnswerView, QueryFault}
 use Rattle.machine.specs.declared.states.State.{State}
-use Rattle.exchange.specs.declared.kinds.Cause.{Cause}
-use Rattle.exchange.specs.Session.{Setting}
-use Rattle.exchange.specs.Rest.{Kept}
-use Rattle.streams.specs.declared.responding.End.{End}
-use Rattle.streams.specs.declared.responding.End.TheVariants.{Live, Over}
+use Rattle.session.specs.declared.kinds.Cause.{Cause}
+use Rattle.session.specs.Session.{Setting}
+use Rattle.session.specs.Rest.{Kept}
+use Rattle.streams.specs.declared.response.End.{End}
+use Rattle.streams.specs.declared.response.End.TheVariants.{Live, Over}
 
 -- how a session stands: over by this cause, or live in this state where there is none
 abbrev pub end_by : Option Cause → State → End

@@ -3,9 +3,9 @@ use Rattle.std.specs.Prelude.{◌≡◌, ◌≤◌, ◌⊎◌, ℕ, List, ◌++�
 use Rattle.std.specs.Io.KnownBytes.{Appends, Consumes, IsAtEnd}
 use Rattle.wire.specs.Framing.{Opened}
 use Rattle.engine.specs.Views.{EntryView}
-use Rattle.exchange.specs.declared.kinds.Cause.{Cause}
-use Rattle.exchange.specs.Session.{Setting}
-use Rattle.exchange.specs.Rest.{Kept}
+use Rattle.session.specs.declared.kinds.Cause.{Cause}
+use Rattle.session.specs.Session.{Setting}
+use Rattle.session.specs.Rest.{Kept}
 use Rattle.server.specs.Serving.{cause_or, Rest}
 use Rattle.streams.specs.declared.fault.StreamFault.{StreamFault}
 use Rattle.streams.specs.declared.fault.StreamFault.TheVariants as stream_fault

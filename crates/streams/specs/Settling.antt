@@ -5,18 +5,18 @@ use Rattle.wire.specs.Reader.{state, takes}
 use Rattle.wire.specs.Framing.{Item, Opened, at_server, items_received}
 use Rattle.messages.specs.Arrivals.{Arrival, Asked, Unread, TooLong}
 use Rattle.engine.specs.Views.{EntryView}
-use Rattle.exchange.specs.declared.kinds.Cause.{Cause}
+use Rattle.session.specs.declared.kinds.Cause.{Cause}
 use Rattle.server.specs.declared.server.Server.{Server}
-use Rattle.exchange.specs.declared.kinds.Worked.{Worked}
-use Rattle.exchange.specs.declared.kinds.Worked.TheVariants as worked
-use Rattle.exchange.specs.Session.{Setting}
-use Rattle.exchange.specs.Rest.{Kept, begun, after_item, version_of}
+use Rattle.session.specs.declared.kinds.Worked.{Worked}
+use Rattle.session.specs.declared.kinds.Worked.TheVariants as worked
+use Rattle.session.specs.Session.{Setting}
+use Rattle.session.specs.Rest.{Kept, begun, after_item, version_of}
 use Rattle.server.specs.Feeding.{arrives, arrival}
 use Rattle.server.specs.Serving.{Rest, find}
 use Rattle.server.specs.Views.{Fits}
 use Rattle.streams.specs.declared.fault.StreamFault.{StreamFault}
 use Rattle.streams.specs.declared.fault.StreamFault.TheVariants.{ReadFailed, WriteFailed, Memory}
-use Rattle.streams.specs.declared.taking.Taken.{Taken}
+use Rattle.streams.specs.declared.intake.Taken.{Taken}
 use Rattle.streams.specs.declared.fault.Standing.{Standing}
 use Rattle.streams.specs.declared.fault.Standing.TheVariants.{Open, Over}
 use Rattle.streams.specs.Fronts.{AppendsFront}

@@ -12,8 +12,8 @@ ghost use Rattle.structures.specs.Answers.{Reads, Writes, HasGoodForm, HasBadFor
 ghost use Rattle.structures.specs.Form.{Form};
 
 use crate::fault::CellFault;
-use crate::reading::cell_of;
-use crate::writing::{pair_values, value_of, values_of};
+use crate::reader::cell_of;
+use crate::writer::{pair_values, value_of, values_of};
 use cells::{Cell, check_cell, check_cells, check_entries, check_value};
 use packstream::{PackFault, Packed, Value};
 use std::alloc::Global;

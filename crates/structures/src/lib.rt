@@ -6,13 +6,13 @@
 mod codec;
 mod fault;
 mod fields;
-mod fitting;
+mod form;
 pub mod laws;
 mod plain;
-mod reading;
-mod writing;
+mod reader;
+mod writer;
 
 pub use cells::{Cell, ElementIds, Node, Reason, Relationship, UnboundRelationship, same};
 pub use codec::{read, read_value, write, write_entries, write_members};
 pub use fault::CellFault;
-pub use fitting::fit;
+pub use form::fit;

@@ -6,7 +6,7 @@ ghost use Rattle.wire.specs.Unfinished.{Unfinished};
 ghost use Rattle.wire.specs.Items.{answer_to};
 ghost use Rattle.wire.specs.Scanning.{CutsAgree};
 ghost use Rattle.wire.specs.Whole.{ReadsMessages, ReadsWhole, OneWhole, RefusesPast, TextsOne, WritesRun, NoShorter, BeginsNone, KeepsFew};
-ghost use Rattle.wire.specs.Stream.{HandsOutItems, ReadsBack, KeepsWithin, ItemsOfParts, SplitsIntoRuns, TellsTooBig, TextIsShort, ReadsTexts, AnswerFacts, TakesFirst};
+ghost use Rattle.wire.specs.Stream.{HandsOutItems, ReadsBack, KeepsWithin, ItemsOfParts, SplitsIntoRuns, TellsTooBig, RunIsShort, ReadsTexts, AnswerFacts, TakesFirst};
 
 pub mod framing;
 
@@ -46,8 +46,8 @@ pub fn items_of_parts()
 {}
 
 /// Chunks add six bytes at most.
-pub fn text_is_short()
-    ensures { TextIsShort }
+pub fn run_is_short()
+    ensures { RunIsShort }
 {}
 
 /// An answer is a refusal exactly where the item is refused from then on.

@@ -3,7 +3,7 @@ use Rattle.std.proofs.Common.{◌≡◌, sym, ◌∙◌, ap, subst, ℕ, ◌^◌
 use Rattle.std.proofs.lemmas.Bool.{cond-true, cond-false}
 use Rattle.world.proofs.Alongside.{along_none, along_more}
 use Rattle.engine.specs.Views.{EntryView}
-use Rattle.exchange.specs.Session.{Setting}
+use Rattle.session.specs.Session.{Setting}
 use Rattle.server.specs.Serving as serving
 use Rattle.world.specs.declared.kinds.Refused.TheVariants.{NoSuchConnection, SessionsFull}
 use Rattle.world.specs.Connections.{Peer, Connection, fresh}

@@ -6,7 +6,7 @@ use Rattle.messages.specs.View.{RequestView}
 use Rattle.messages.specs.Arrivals.{IsWritten, hears}
 use Rattle.engine.specs.Views.{EntryView}
 use Rattle.server.specs.declared.Server.{Server}
-use Rattle.exchange.specs.Session.{Setting}
+use Rattle.session.specs.Session.{Setting}
 use Rattle.server.specs.Serving as serving
 use Rattle.client.specs.declared.SubmitFault.{SubmitFault}
 use Rattle.client.specs.Client.{knows_of, refusal_of}

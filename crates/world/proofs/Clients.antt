@@ -8,7 +8,7 @@ use Rattle.wire.specs.Framing.{Opened, at_client}
 use Rattle.messages.specs.View.{RequestView}
 use Rattle.messages.specs.Arrivals.{hears}
 use Rattle.engine.specs.Views.{EntryView}
-use Rattle.exchange.specs.Session.{Setting}
+use Rattle.session.specs.Session.{Setting}
 use Rattle.client.specs.Client.{reading_of, refusal_of}
 use Rattle.client.specs.Rest.{Knows, refuses}
 use Rattle.client.specs.Client.{knows_of}

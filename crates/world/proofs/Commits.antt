@@ -5,8 +5,8 @@ use Rattle.machine.specs.States.{phase_of}
 use Rattle.machine.specs.Asks.{kind_of}
 use Rattle.machine.specs.Following.{commits}
 use Rattle.engine.specs.Views.{EntryView}
-use Rattle.exchange.specs.Rest.{Step, work_kept, commit_entries}
-use Rattle.exchange.specs.Session.{Setting}
+use Rattle.session.specs.Rest.{Step, work_kept, commit_entries}
+use Rattle.session.specs.Session.{Setting}
 use Rattle.server.specs.Serving as serving
 use Rattle.server.specs.Serving.{Live, find}
 use Rattle.server.specs.Running as running

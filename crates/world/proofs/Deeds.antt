@@ -7,11 +7,11 @@ use Rattle.messages.specs.Arrivals.{Arrival, Asked, Unread, TooLong, arrivals}
 use Rattle.machine.specs.declared.State.{State}
 use Rattle.machine.specs.Following.{interruptible}
 use Rattle.engine.specs.Views.{EntryView}
-use Rattle.exchange.specs.declared.Cause.{Cause}
-use Rattle.exchange.specs.declared.What.{What}
-use Rattle.exchange.specs.Rest as serving
-use Rattle.exchange.specs.Rest.{Kept, Done, Ended, Step, worked_of, rests, replies, serves, turns, work_kept, after_strike, strikes, reset_among, shut, full, commit_entries}
-use Rattle.exchange.specs.Session.{Setting, Change, Open, no_result, Tx, no_tx, Reply, serve}
+use Rattle.session.specs.declared.Cause.{Cause}
+use Rattle.session.specs.declared.What.{What}
+use Rattle.session.specs.Rest as serving
+use Rattle.session.specs.Rest.{Kept, Done, Ended, Step, worked_of, rests, replies, serves, turns, work_kept, after_interrupt, interrupts, reset_among, shut, full, commit_entries}
+use Rattle.session.specs.Session.{Setting, Change, Open, no_result, Tx, no_tx, Reply, serve}
 use Rattle.client.specs.declared.SubmitFault.{SubmitFault}
 use Rattle.client.specs.Client.{refusal_of}
 use Rattle.client.specs.Rest.{Nothing}
@@ -69,11 +69,11 @@ pub if_case : (P : Effect → Type 0) (b : Bool) (x y : Effect) → P x → (b �
 if_case P true x y a f = a
 if_case P false x y a f = f refl
 
--- A RESET strikes, or it doesn't.
-pub strike_case : (P : Kept → Type 0) (b : Bool) (s : Kept) → P s → (b && interruptible s.state ≡ true → P (after_strike s)) → P (strikes b s)
-strike_case P b s x f = go (b && interruptible s.state) refl
+-- A RESET interrupts, or it doesn't.
+pub interrupt_case : (P : Kept → Type 0) (b : Bool) (s : Kept) → P s → (b && interruptible s.state ≡ true → P (after_interrupt s)) → P (interrupts b s)
+interrupt_case P b s x f = go (b && interruptible s.state) refl
   where
-    go : (h : Bool) → b && interruptible s.state ≡ h → P (if h then after_strike s else s)
+    go : (h : Bool) → b && interruptible s.state ≡ h → P (if h then after_interrupt s else s)
     go true e = f e
     go false e = x
 
@@ -88,7 +88,7 @@ feed_case P piece k q t =
 abbrev pub replied : Connection → List EntryView → State → Open → Tx → RequestView → List Arrival → Reply → Step
 replied k all st re tx q later r = replies all (record (kept_of k) { state = st; result = re; tx = tx }) q later r
 
--- A step of a session does nothing, ends it, or answers the first request that waits, after the strike of a RESET or without.
+-- A step of a session does nothing, ends it, or answers the first request that waits, after the interrupt of a RESET or without.
 pub step_case : (P : Step → Type 0) (S : Setting) (c : ℕ) (all : List EntryView) (k : Connection) → ((d : Done) → said_by d ≡ [] → P (rests (kept_of k) d))
     → (k.ended ≡ None → (cause : Cause) → P (rests (serving.ends cause (kept_of k)) (Ended cause)))
     → (k.ended ≡ None → (st : State) (re : Open) (tx : Tx) (q : RequestView) (later : List Arrival) → waiting k ≡ Asked q ∷ later → P (replied k all st re tx q later (serve S (said_version k) c all st re tx q))) → P (work_kept S c all (kept_of k) k.ended)
@@ -96,7 +96,7 @@ step_case P S c all k q over asks = go k.ended refl
   where
     first : (ws : List Arrival) → waiting k ≡ ws → k.ended ≡ None → P (turns S c all (kept_of k) ws)
     first (Asked r ∷ later) e n =
-        strike_case (λ s. P (serves S c all s r later)) (reset_among (Asked r ∷ later)) (kept_of k) (asks n k.state k.result k.tx r later e)
+        interrupt_case (λ s. P (serves S c all s r later)) (reset_among (Asked r ∷ later)) (kept_of k) (asks n k.state k.result k.tx r later e)
         (λ _. asks n State.Interrupted no_result no_tx r later e)
     first (Unread x ∷ later) e n = over n Cause.Malformed
     first (TooLong ∷ later) e n = over n Cause.TooBig

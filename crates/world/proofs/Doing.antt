@@ -11,8 +11,8 @@ use Rattle.machine.specs.declared.State.{State}
 use Rattle.machine.specs.declared.Phase.{Phase}
 use Rattle.machine.specs.Asks.{kind_of, is_reset}
 use Rattle.engine.specs.Views.{EntryView}
-use Rattle.exchange.specs.Session.{Setting, Open, Tx, Change, Reply, OneRow, Summary, Bye}
-use Rattle.exchange.specs.Rest.{Kept, Done, WroteRow, Wrote, after_item, what_of, work_kept, worked_of}
+use Rattle.session.specs.Session.{Setting, Open, Tx, Change, Reply, OneRow, Summary, Bye}
+use Rattle.session.specs.Rest.{Kept, Done, WroteRow, Wrote, after_item, what_of, work_kept, worked_of}
 use Rattle.client.specs.Client.{Reading, knows_of, reading_of, refusal_of}
 use Rattle.client.specs.Rest.{Nothing}
 use Rattle.world.specs.Connections.{Peer, Ours, Foreign, Connection, Said, SaysNoop, waiting, bytes_delivered, client, wish_of, input, kept_of}
@@ -21,7 +21,7 @@ use Rattle.world.specs.Rests.{client_rest}
 use Rattle.world.specs.Runs.{told_in}
 use Rattle.world.specs.Reports.{wrote_by, wrote_after}
 use Rattle.world.proofs.Deeds as deed
-use Rattle.world.proofs.Deeds.{Deed, strike_case, feed_case, replied, step_case, noop_case}
+use Rattle.world.proofs.Deeds.{Deed, interrupt_case, feed_case, replied, step_case, noop_case}
 use Rattle.world.proofs.Fed.{last_same, unsaid}
 use Rattle.world.proofs.Sound.{Sound, reads_on}
 use Rattle.world.proofs.Speaking.{spoken, MaySay, given_same}
@@ -100,7 +100,7 @@ noop_speaks k = noop_case (Speaks k) k (says (kept_of k) [] k.up None (SawNoop f
 module _ (k : Connection) (s : Sound k) where
   item_may : (o : Option Arrival) → ((v : Option Version) → o ≡ Some (Shook v) → k.says ≡ []) → MaySay k (after_item (kept_of k) o)
   item_may (Some (Shook v)) f = inl (f v refl)
-  item_may (Some (Asked q)) f = inr (strike_case (λ t. t.version ≡ k.version) (is_reset (kind_of q)) (record (kept_of k) { waiting = waiting k ++ Asked q ∷ [] }) refl (λ _. refl))
+  item_may (Some (Asked q)) f = inr (interrupt_case (λ t. t.version ≡ k.version) (is_reset (kind_of q)) (record (kept_of k) { waiting = waiting k ++ Asked q ∷ [] }) refl (λ _. refl))
   item_may _ f = inr refl
 
   pub feed_speaks : (piece : List ℕ) → Speaks k (feed piece k)

@@ -1,7 +1,7 @@
 -- What is taken out of a session is held.
 use Rattle.std.proofs.Common.{◌≡◌, sym, ◌∙◌, ap, ℕ, Option, Some, None, Result, Ok, Err, List, ◌++◌, inr}
 use Rattle.std.specs.declared.alloc.AllocError.{AllocError}
-use Rattle.exchange.specs.declared.Cause.{Cause}
+use Rattle.session.specs.declared.Cause.{Cause}
 use Rattle.server.specs.Serving as serving
 use Rattle.server.proofs.Answered as answered
 use Rattle.server.specs.Serving.{take_out_at}

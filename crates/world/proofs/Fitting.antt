@@ -12,8 +12,8 @@ use Rattle.messages.specs.Arrivals.{request_bytes, hears}
 use Rattle.machine.specs.declared.Phase.{Phase}
 use Rattle.machine.specs.States.{phase_of}
 use Rattle.engine.specs.Views.{EntryView}
-use Rattle.exchange.specs.declared.Cause.{Cause}
-use Rattle.exchange.specs.Session.{Setting}
+use Rattle.session.specs.declared.Cause.{Cause}
+use Rattle.session.specs.Session.{Setting}
 use Rattle.server.specs.Serving.{cause_or}
 use Rattle.client.specs.declared.Outcome.{Outcome}
 use Rattle.client.specs.Verdicts.{Told, GotRow, Got}

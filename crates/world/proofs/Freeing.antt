@@ -4,9 +4,9 @@ use Rattle.messages.specs.View.{RequestView}
 use Rattle.messages.specs.Arrivals.{Arrival}
 use Rattle.machine.specs.declared.State.{State}
 use Rattle.engine.specs.Views.{EntryView}
-use Rattle.exchange.proofs.Free.{entry_in, serve_free}
-use Rattle.exchange.specs.Acts.{IsFree}
-use Rattle.exchange.specs.Session.{Bye, OneRow, Open, Reply, Setting, Summary, Tx}
+use Rattle.session.proofs.Free.{entry_in, serve_free}
+use Rattle.session.specs.Acts.{IsFree}
+use Rattle.session.specs.Session.{Bye, OneRow, Open, Reply, Setting, Summary, Tx}
 use Rattle.world.specs.Connections.{Connection, said_version}
 use Rattle.world.specs.World.{Effect, IsCountedIn, effect_of_step, work}
 use Rattle.world.proofs.Deeds.{replied, step_case}

@@ -9,9 +9,9 @@ use Rattle.wire.specs.declared.Wish.{Wish}
 use Rattle.wire.specs.Reader.{reach}
 use Rattle.messages.specs.Arrivals.{hears}
 use Rattle.engine.specs.Views.{EntryView}
-use Rattle.exchange.specs.declared.Cause.{Cause}
+use Rattle.session.specs.declared.Cause.{Cause}
 use Rattle.server.specs.declared.Server.{Server}
-use Rattle.exchange.specs.Session.{Setting}
+use Rattle.session.specs.Session.{Setting}
 use Rattle.server.specs.Serving as serving
 use Rattle.server.proofs.Answered as answered
 use Rattle.server.specs.Views as server

@@ -3,8 +3,8 @@ use Rattle.std.proofs.Common.{◌≡◌, refl, sym, ◌∙◌, ap, subst, ℕ, s
 use Rattle.std.proofs.lemmas.Bool.{cases_Bool, cond-false}
 use Rattle.engine.specs.Views.{EntryView}
 use Rattle.client.specs.Rest.{Nothing}
-use Rattle.exchange.specs.Session.{Setting}
-use Rattle.exchange.specs.Rest.{Step, work_kept, worked_of}
+use Rattle.session.specs.Session.{Setting}
+use Rattle.session.specs.Rest.{Step, work_kept, worked_of}
 use Rattle.server.specs.Serving as serving
 use Rattle.server.specs.Serving.{Live, is_full}
 use Rattle.server.specs.Running as running

@@ -10,8 +10,8 @@ use Rattle.messages.specs.View.{RequestView}
 use Rattle.machine.specs.Following.{could}
 use Rattle.machine.specs.States.{phase_of}
 use Rattle.engine.specs.Views.{EntryView}
-use Rattle.exchange.specs.Rest.{Written}
-use Rattle.exchange.specs.Session.{Setting}
+use Rattle.session.specs.Rest.{Written}
+use Rattle.session.specs.Session.{Setting}
 use Rattle.client.specs.declared.Outcome.{Outcome}
 use Rattle.client.specs.Verdicts.{is_wished}
 use Rattle.client.specs.Rest.{Knows, losses, losses_from, lost_outcome}

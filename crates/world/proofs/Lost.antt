@@ -2,8 +2,8 @@
 use Rattle.std.proofs.Common.{◌≡◌, refl, sym, ◌∙◌, ap, ap₂, subst, ℕ, ◌+◌, ◌<◌, Bool, min, Option, Some, None, Ok, Err, List, [], ◌++◌, length, take, drop, slice_get, arith, length-take, append-nil, true≢false}
 use Rattle.std.proofs.lemmas.List.{set-set}
 use Rattle.engine.specs.Views.{EntryView}
-use Rattle.exchange.specs.declared.Cause.{Cause}
-use Rattle.exchange.specs.Session.{Setting}
+use Rattle.session.specs.declared.Cause.{Cause}
+use Rattle.session.specs.Session.{Setting}
 use Rattle.server.specs.declared.Server.{Server}
 use Rattle.server.specs.Serving.{cause_or}
 use Rattle.server.specs.Serving as serving

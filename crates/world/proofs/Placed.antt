@@ -6,7 +6,7 @@ use Rattle.engine.specs.Views.{EntryView}
 use Rattle.server.specs.declared.Server.{Server}
 use Rattle.server.specs.declared.Refused.{Refused as ServerRefused}
 use Rattle.server.specs.declared.Refused.TheVariants as server_refused
-use Rattle.exchange.specs.Session.{Setting}
+use Rattle.session.specs.Session.{Setting}
 use Rattle.server.specs.Serving as serving
 use Rattle.server.specs.Views as server
 use Rattle.world.specs.declared.kinds.Peer.{Peer as PeerTold}

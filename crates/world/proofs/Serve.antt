@@ -26,10 +26,10 @@ use Rattle.engine.specs.Views.{AnswerView, EntryView, ParameterView, QueryFault,
 use Rattle.world.specs.Good.{alone_after, commit_of, is_invalid, is_success, tx_after}
 use Rattle.client.specs.Verdicts.{outcome_of, verdict_of}
 use Rattle.client.specs.declared.Outcome.{Outcome}
-use Rattle.exchange.specs.Faults.{failure, of_query}
-use Rattle.exchange.specs.Said.{fits}
-use Rattle.exchange.specs.Session.{Bye, Change, OneRow, Open, Reply, Setting, Summary, Tx, change_alone, change_inside, close, commits_as, commits_over, no_result, fails, fields_said, is_halted, if_fits, left_after, no_tx, perform, pull, query_mode, reply_to_hello, reply_to_login, reply_to_run, serve, succeeds, unwritable, used_up}
-use Rattle.exchange.specs.declared.fault.Fault.{Fault}
+use Rattle.session.specs.Faults.{failure, of_query}
+use Rattle.session.specs.Said.{fits}
+use Rattle.session.specs.Session.{Bye, Change, OneRow, Open, Reply, Setting, Summary, Tx, change_alone, change_inside, close, commits_as, commits_over, no_result, fails, fields_said, is_halted, if_fits, left_after, no_tx, perform, pull, query_mode, reply_to_hello, reply_to_login, reply_to_run, serve, succeeds, unwritable, used_up}
+use Rattle.session.specs.declared.fault.Fault.{Fault}
 use Rattle.world.proofs.Trace.{Pays}
 use Rattle.world.proofs.Under.{place_within}
 use Rattle.world.proofs.Writing.{failure_fits, short_fits}

@@ -9,8 +9,8 @@ use Rattle.wire.specs.Framing.{Opened, at_server}
 use Rattle.messages.specs.Arrivals.{arrivals}
 use Rattle.engine.specs.declared.Mode.{Mode as QueryMode}
 use Rattle.engine.specs.Views.{EntryView, WriteView, ParameterView, AnswerView, QueryFault}
-use Rattle.exchange.specs.declared.Cause.{Cause}
-use Rattle.exchange.specs.Rest.{Kept, work_kept, worked_of, puts_noop, what_of, shut, full, unread_among, commit_entries}
+use Rattle.session.specs.declared.Cause.{Cause}
+use Rattle.session.specs.Rest.{Kept, work_kept, worked_of, puts_noop, what_of, shut, full, unread_among, commit_entries}
 use Rattle.server.specs.declared.Took.{Took}
 use Rattle.server.specs.Feeding.{Feeding, feeding, arrival, takes_item}
 use Rattle.server.specs.Serving as serving

@@ -4,7 +4,7 @@ use Rattle.std.proofs.lemmas.List.{take-append-le, drop-append-le}
 use Rattle.wire.specs.declared.Version.{Version}
 use Rattle.wire.specs.Framing.{bytes_newest_first}
 use Rattle.messages.specs.Arrivals.{Heard, heard_bytes}
-use Rattle.exchange.specs.Rest.{Kept}
+use Rattle.session.specs.Rest.{Kept}
 use Rattle.world.specs.Connections.{Connection, Said, heard_as, output, said_version, bytes_delivered, keeping}
 
 -- a connection whose session keeps this then, said more, and took these bytes

@@ -3,7 +3,7 @@ use Rattle.std.proofs.Common.{◌≡◌, refl, sym, ◌∙◌, ap, ap₂, ℕ, z
 use Rattle.std.proofs.lemmas.Bool.{eqb-true, eqb-false}
 use Rattle.messages.specs.Arrivals.{hears}
 use Rattle.engine.specs.Views.{EntryView}
-use Rattle.exchange.specs.Session.{Setting}
+use Rattle.session.specs.Session.{Setting}
 use Rattle.client.specs.declared.ClientFault.{ClientFault}
 use Rattle.client.specs.Verdicts.{Told}
 use Rattle.client.specs.Rest.{Note, feed_of}

@@ -2,7 +2,7 @@
 use Rattle.std.proofs.Common.{◌≡◌, refl, sym, ◌∙◌, ap, ap₂, subst, ℕ, suc, ◌+◌, ◌<◌, ◌≤◌, Bool, Option, Some, None, List, [], ◌∷◌, length, slice_get, slice_index_or, arith}
 use Rattle.world.proofs.Alongside.{along_at, along_none, as_long}
 use Rattle.engine.specs.Views.{EntryView}
-use Rattle.exchange.specs.declared.Cause.{Cause}
+use Rattle.session.specs.declared.Cause.{Cause}
 use Rattle.client.specs.Client.{knows_of}
 use Rattle.world.specs.declared.link.Link.{Link as LinkHeld}
 use Rattle.world.specs.declared.report.Standing.{Standing as StandingTold}

@@ -3,11 +3,11 @@ use Rattle.std.proofs.Common.{◌≡◌, refl, sym, ◌∙◌, ap, ap₂, subst,
 use Rattle.std.proofs.lemmas.Bool.{cond-true, cond-false}
 use Rattle.wire.specs.declared.Wish.{Wish}
 use Rattle.engine.specs.Views.{EntryView}
-use Rattle.exchange.specs.declared.Cause.{Cause}
-use Rattle.exchange.specs.declared.What.{What}
-use Rattle.exchange.specs.declared.Worked.{Worked}
-use Rattle.exchange.specs.Session.{Setting}
-use Rattle.exchange.specs.Rest.{work_kept, IsCounted}
+use Rattle.session.specs.declared.Cause.{Cause}
+use Rattle.session.specs.declared.What.{What}
+use Rattle.session.specs.declared.Worked.{Worked}
+use Rattle.session.specs.Session.{Setting}
+use Rattle.session.specs.Rest.{work_kept, IsCounted}
 use Rattle.server.specs.declared.Server.{Server}
 use Rattle.server.specs.declared.Took.{Took}
 use Rattle.server.specs.Serving as serving

@@ -15,7 +15,7 @@ use Rattle.messages.specs.Sound.{IsRequest}
 use Rattle.messages.proofs.Again.{request_reads_back}
 use Rattle.messages.proofs.Made.{requests_are_made}
 use Rattle.engine.specs.Views.{EntryView}
-use Rattle.exchange.specs.Session.{Setting}
+use Rattle.session.specs.Session.{Setting}
 use Rattle.client.specs.Rest.{writing_fault, writing_fault_by}
 use Rattle.client.specs.Client.{Reading, knows_of, refusal_of, reading_of}
 use Rattle.client.proofs.Refusing.{accepted_facts, accepted_written, knows_version}

@@ -8,9 +8,9 @@ use Rattle.wire.specs.Framing.{bytes_in_order, bytes_newest_first}
 use Rattle.messages.specs.View.{RequestView, ResponseView}
 use Rattle.messages.specs.Arrivals.{Arrival, Asked, Unread, TooLong, arrivals, request_bytes, Heard, Chosen, Quiet, heard_bytes}
 use Rattle.machine.specs.declared.State.{State}
-use Rattle.exchange.specs.declared.Cause.{Cause}
-use Rattle.exchange.specs.Session.{Open, no_result, Tx, no_tx}
-use Rattle.exchange.specs.Rest.{Written, Kept}
+use Rattle.session.specs.declared.Cause.{Cause}
+use Rattle.session.specs.Session.{Open, no_result, Tx, no_tx}
+use Rattle.session.specs.Rest.{Written, Kept}
 use Rattle.client.specs.Client.{Reading, reading_of}
 
 -- what a server says: the version, or that it takes none; a no-op; a row, as it was fitted; a summary

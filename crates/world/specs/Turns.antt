@@ -4,7 +4,7 @@ use Rattle.engine.specs.declared.Mode.{Mode as QueryMode}
 use Rattle.engine.specs.Views.{EntryView, WriteView, ParameterView, AnswerView, QueryFault}
 use Rattle.server.specs.declared.Server.{Server}
 use Rattle.server.specs.Serving as serving
-use Rattle.exchange.specs.Session.{Setting}
+use Rattle.session.specs.Session.{Setting}
 use Rattle.server.specs.Views as server
 use Rattle.messages.specs.View.{RequestView}
 use Rattle.client.specs.Fits.{IsAccepted}

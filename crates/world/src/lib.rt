@@ -3,21 +3,21 @@
 //! What clients may rely on is [`laws::clients_may_rely`]; what holds beside it of every list of events stands there too.
 #![tactic(auto)]
 
-mod drawing;
+mod events;
 mod flow;
+mod inflow;
 mod kinds;
 pub mod laws;
-mod leaving;
 mod link;
-mod moving;
-mod replaying;
+mod outflow;
 mod report;
-mod submitting;
+mod session_loss;
+mod submission;
 mod turns;
 mod world;
 
+pub use events::replay;
 pub use kinds::{Event, Peer, Refused, Seen};
 pub use link::{Read, Wrote};
-pub use replaying::replay;
 pub use report::{Connection, Report, Standing};
 pub use world::World;

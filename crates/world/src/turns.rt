@@ -6,11 +6,11 @@ ghost use Rattle.world.specs.Seeing.{IsOpens};
 ghost use Rattle.world.specs.Turns.{Turns};
 ghost use Rattle.world.specs.World.{Work, PutsNoop};
 
+use crate::inflow::{foreign, to_client, to_server};
 use crate::kinds::{Event, Refused, Seen};
-use crate::leaving::lose_server;
 use crate::link::{Link, Wrote};
-use crate::moving::{foreign, to_client, to_server};
-use crate::submitting::{lose_client, submit};
+use crate::session_loss::lose_server;
+use crate::submission::{lose_client, submit};
 use engine::{Engine, Gate};
 use machine::phase;
 use server::{Server, Worked};

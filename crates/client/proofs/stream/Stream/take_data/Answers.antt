@@ -3,7 +3,7 @@ use Rattle.std.proofs.Math.Logic.{∥∥₁_elim}
 use Rattle.std.proofs.Props.{props}
 use Rattle.packstream.proofs.Ranges.{bytes_from_each}
 use Rattle.reader.specs.Piecewise.{Points, Reads}
-use Rattle.client.specs.declared.feeding.Came.TheVariants as came
+use Rattle.client.specs.declared.data.Came.TheVariants as came
 use Rattle.client.proofs.Taking.{stands_then, held_at}
 use Rattle.client.proofs.Fronts.{data_taken, going_behind}
 use Rattle.client.proofs.Wanting.{chunks_want, data_wants}

@@ -1,5 +1,5 @@
 use Rattle.std.proofs.Common.{◌≡◌, ◌+◌, ◌++◌, ◌∙◌, sym, ap, subst, List, [], ◌∷◌, length, rules}
-use Rattle.server.specs.declared.session.Session.{Session}
+use Rattle.server.specs.declared.connected.Connected.{Connected}
 use Rattle.server.specs.Serving.{fresh}
 use Rattle.server.specs.Views.{Fits, IsLive, AreLive}
 use Rattle.server.proofs.Calls.{live_length, live_pushed, full_of, none_left, not_full}
@@ -33,7 +33,7 @@ returns-then-is_err g c =
     let s = c.args.self.now in
     let len : c.len.result ≡ length s.sessions.items = search rules in
     let same : c.push.new.self.items ≡ s.sessions.items = rw c.if-is_err.ensures.negation at c.push.ensures.items in
-    λ r fits. (not_full r c.len.result s.next (len ∙ live_length s.sessions.items r.sessions fits.live) fits.next_is c.if-len-ge-MAX_SESSIONS.false c.if-self-ge-MAX_NUMBERS.false, record { live = subst (λ (ss : List Session). AreLive ss r.sessions) (sym same) fits.live; next_is = fits.next_is; ledger_is = fits.ledger_is; gate_is = fits.gate_is })
+    λ r fits. (not_full r c.len.result s.next (len ∙ live_length s.sessions.items r.sessions fits.live) fits.next_is c.if-len-ge-MAX_SESSIONS.false c.if-self-ge-MAX_NUMBERS.false, record { live = subst (λ (ss : List Connected). AreLive ss r.sessions) (sym same) fits.live; next_is = fits.next_is; ledger_is = fits.ledger_is; gate_is = fits.gate_is })
 
 pub returns : goal.returns
 unfolding Fits
@@ -45,7 +45,7 @@ returns g c =
       room = not_full r c.len.result s.next (len ∙ live_length s.sessions.items r.sessions fits.live) fits.next_is c.if-len-ge-MAX_SESSIONS.false c.if-self-ge-MAX_NUMBERS.false;
       number = sym fits.next_is;
       now = record {
-        live = subst (λ (ss : List Session). AreLive ss (r.sessions ++ fresh r.next ∷ [])) (sym pushed) (live_pushed s.sessions.items r.sessions c.in-Ok.session (fresh r.next) fits.live (subst (λ n. IsLive c.in-Ok.session (fresh n)) (sym fits.next_is) c.in-Ok.ensures));
+        live = subst (λ (ss : List Connected). AreLive ss (r.sessions ++ fresh r.next ∷ [])) (sym pushed) (live_pushed s.sessions.items r.sessions c.in-Ok.session (fresh r.next) fits.live (subst (λ n. IsLive c.in-Ok.session (fresh n)) (sym fits.next_is) c.in-Ok.ensures));
         next_is = ap (λ n. n + 1) fits.next_is;
         ledger_is = fits.ledger_is;
         gate_is = fits.gate_is;

@@ -1,0 +1,119 @@
+use Rattle.std.proofs.Common.{◌≡◌, ℤ, ◌+◌, refl, ap, sym, ◌∙◌, rules, map, Err, to_z, of_z, w64}
+use Rattle.std.proofs.lemmas.Result.{err_from_is_err_and}
+use Rattle.packstream.specs.Tree.{Tree, int, structure, no_trees, tree_then}
+use Rattle.packstream.specs.View.{trees_of}
+use Rattle.cells.specs.Faults.{scan, structures, structures_in}
+use Rattle.cells.specs.Shape.{shape, entry, node_shape, unbound_shape}
+use Rattle.cells.specs.Writing.{fault_of_structure}
+use Rattle.cells.proofs.Views.{node_parts, unbound_parts, relationship_parts, shape-Dict, shape-Path, shape-Duration, node-out, unbound-out, relationship-out}
+use Rattle.cells.proofs.Scanning.{members_step, members_end, pairs_step, pairs_end, scan_append, onward, Found}
+use Rattle.cells.proofs.Judged.{duration_judged, node_ok, unbound_ok, relationship_ok, path_ok, path_err, mapped}
+use Rattle.cells.proofs.cell_check.+judge.Goals as goal
+
+pub check_cell-returns-in-Dict : goal.check_cell-returns-in-Dict
+check_cell-returns-in-Dict t c = c.check_entries.ensures ∙ ap (λ (u : Tree). scan (fault_of_structure c.args.version) c.args.seen (structures u)) (sym (ap shape c.in-Dict.is ∙ shape-Dict c.in-Dict.pairs))
+
+pub check_cell-returns-in-Duration : goal.check_cell-returns-in-Duration
+check_cell-returns-in-Duration t c =
+    let w = c.in-Duration in
+    let z0 : to_z w64 (of_z w64 w.months) ≡ w.months = search rules in
+    let z1 : to_z w64 (of_z w64 w.days) ≡ w.days = search rules in
+    let z2 : to_z w64 (of_z w64 w.seconds) ≡ w.seconds = search rules in
+    let z3 : to_z w64 (of_z w64 w.nanos) ≡ w.nanos = search rules in
+    let same : structure 0x45 (tree_then (int (to_z w64 (of_z w64 w.months))) (tree_then (int (to_z w64 (of_z w64 w.days))) (tree_then (int (to_z w64 (of_z w64 w.seconds))) (tree_then (int (to_z w64 (of_z w64 w.nanos))) no_trees))))
+    ≡ structure 0x45 (tree_then (int w.months) (tree_then (int w.days) (tree_then (int w.seconds) (tree_then (int w.nanos) no_trees)))) = rw (z0, z1, z2, z3) refl in
+    c.judge-in-Duration.ensures ∙ duration_judged c.args.version c.args.seen (to_z w64 (of_z w64 w.months)) (to_z w64 (of_z w64 w.days)) (to_z w64 (of_z w64 w.seconds)) (to_z w64 (of_z w64 w.nanos))
+    ∙ ap (λ (u : Tree). scan (fault_of_structure c.args.version) c.args.seen (structures u)) same
+    ∙ ap (λ (u : Tree). scan (fault_of_structure c.args.version) c.args.seen (structures u)) (sym (ap shape w.is ∙ shape-Duration w.months w.days w.seconds w.nanos))
+
+pub check_cells-returns-in_err-number : goal.check_cells-returns-in_err-number
+check_cells-returns-in_err-number t c =
+    let p = err_from_is_err_and c.from_residual.result c.from_residual.ensures.1 in
+    let e : c.from_residual.result ≡ Err c.in_err-number.field-0.0 = search (rules, p.1, p.2) in
+    e ∙ members_end shape (fault_of_structure c.args.version) c.loop-member.number c.in_err-number.field-0.0 c.args.members.now.items c.loop-member.member-index c.member-item.result (search rules) (search rules) c.in_err-number.ensures ∙ rw c.deref-member-items.ensures.value at c.loop-member.invariant
+
+pub check_cells-loop-member-preserved : goal.check_cells-loop-member-preserved
+check_cells-loop-member-preserved t c =
+    members_step shape (fault_of_structure c.args.version) c.loop-member.number c.in_ok-number.number _ c.loop-member.member-index c.member-item.result c.loop-member-test.true c.member-item.is c.in_ok-number.ensures ∙ c.loop-member.invariant
+
+pub check_entries-returns-in_err-number : goal.check_entries-returns-in_err-number
+check_entries-returns-in_err-number t c =
+    let p = err_from_is_err_and c.from_residual.result c.from_residual.ensures.1 in
+    let e : c.from_residual.result ≡ Err c.in_err-number.field-0.0 = search (rules, p.1, p.2) in
+    e ∙ pairs_end entry (fault_of_structure c.args.version) c.loop-pair.number c.in_err-number.field-0.0 c.args.pairs.now.items c.loop-pair.pair-index c.pair-item.result (search rules) (search rules) c.in_err-number.ensures ∙ rw c.deref-pair-items.ensures.value at c.loop-pair.invariant
+
+pub check_entries-loop-pair-preserved : goal.check_entries-loop-pair-preserved
+check_entries-loop-pair-preserved t c =
+    pairs_step entry (fault_of_structure c.args.version) c.loop-pair.number c.in_ok-number.number _ c.loop-pair.pair-index c.pair-item.result c.loop-pair-test.true c.pair-item.is c.in_ok-number.ensures ∙ c.loop-pair.invariant
+
+pub check_nodes-returns-in_err-number : goal.check_nodes-returns-in_err-number
+check_nodes-returns-in_err-number t c =
+    let p = err_from_is_err_and c.from_residual.result c.from_residual.ensures.1 in
+    let e : c.from_residual.result ≡ Err c.in_err-number.field-0.0 = search (rules, p.1, p.2) in
+    e ∙ members_end node_shape (fault_of_structure c.args.version) c.loop-node.number c.in_err-number.field-0.0 c.args.nodes.now.items c.loop-node.node-index c.node-item.result (search rules) (search rules) c.in_err-number.ensures ∙ rw c.deref-node-items.ensures.value at c.loop-node.invariant
+
+pub check_nodes-loop-node-preserved : goal.check_nodes-loop-node-preserved
+check_nodes-loop-node-preserved t c =
+    members_step node_shape (fault_of_structure c.args.version) c.loop-node.number c.in_ok-number.number _ c.loop-node.node-index c.node-item.result c.loop-node-test.true c.node-item.is c.in_ok-number.ensures ∙ c.loop-node.invariant
+
+pub check_unbounds-returns-in_err-number : goal.check_unbounds-returns-in_err-number
+check_unbounds-returns-in_err-number t c =
+    let p = err_from_is_err_and c.from_residual.result c.from_residual.ensures.1 in
+    let e : c.from_residual.result ≡ Err c.in_err-number.field-0.0 = search (rules, p.1, p.2) in
+    e ∙ members_end unbound_shape (fault_of_structure c.args.version) c.loop-unbound.number c.in_err-number.field-0.0 c.args.unbounds.now.items c.loop-unbound.unbound-index c.unbound-item.result (search rules) (search rules) c.in_err-number.ensures ∙ rw c.deref-unbound-items.ensures.value at c.loop-unbound.invariant
+
+pub check_unbounds-loop-unbound-preserved : goal.check_unbounds-loop-unbound-preserved
+check_unbounds-loop-unbound-preserved t c =
+    members_step unbound_shape (fault_of_structure c.args.version) c.loop-unbound.number c.in_ok-number.number _ c.loop-unbound.unbound-index c.unbound-item.result c.loop-unbound-test.true c.unbound-item.is c.in_ok-number.ensures ∙ c.loop-unbound.invariant
+
+pub check_node-returns : goal.check_node-returns
+check_node-returns t c =
+    let n = c.args.node.now in
+    let z : to_z w64 (of_z w64 n.id) ≡ n.id = search rules in
+    c.check_entries.ensures ∙ node_ok c.args.version c.args.seen c.in_ok-number.number (3 + c.element_count-count.result) (to_z w64 (of_z w64 n.id)) n.labels.items n.properties.items n.element_id (search rules) c.in_ok-number.ensures
+    ∙ ap (λ (x : ℤ). scan (fault_of_structure c.args.version) c.args.seen (structures (node_parts x n.labels.items n.properties.items n.element_id))) z ∙ ap (λ (u : Tree). scan (fault_of_structure c.args.version) c.args.seen (structures u)) (sym (node-out n))
+
+pub check_unbound-returns : goal.check_unbound-returns
+check_unbound-returns t c =
+    let n = c.args.unbound.now in
+    let z : to_z w64 (of_z w64 n.id) ≡ n.id = search rules in
+    c.check_entries.ensures ∙ unbound_ok c.args.version c.args.seen c.in_ok-number.number (3 + c.element_count-count.result) (to_z w64 (of_z w64 n.id)) n.kind n.properties.items n.element_id (search rules) c.in_ok-number.ensures
+    ∙ ap (λ (x : ℤ). scan (fault_of_structure c.args.version) c.args.seen (structures (unbound_parts x n.kind n.properties.items n.element_id))) z ∙ ap (λ (u : Tree). scan (fault_of_structure c.args.version) c.args.seen (structures u)) (sym (unbound-out n))
+
+pub check_relationship-returns : goal.check_relationship-returns
+check_relationship-returns t c =
+    let n = c.args.relationship.now in
+    let z0 : to_z w64 (of_z w64 n.id) ≡ n.id = search rules in
+    let z1 : to_z w64 (of_z w64 n.start) ≡ n.start = search rules in
+    let z2 : to_z w64 (of_z w64 n.end) ≡ n.end = search rules in
+    c.check_entries.ensures ∙ relationship_ok c.args.version c.args.seen c.in_ok-number.number (5 + c.elements_count-count.result) (to_z w64 (of_z w64 n.id)) (to_z w64 (of_z w64 n.start)) (to_z w64 (of_z w64 n.end)) n.kind n.properties.items n.element_ids (search rules) c.in_ok-number.ensures
+    ∙ ap (λ (x : ℤ). scan (fault_of_structure c.args.version) c.args.seen (structures (relationship_parts x (to_z w64 (of_z w64 n.start)) (to_z w64 (of_z w64 n.end)) n.kind n.properties.items n.element_ids))) z0
+    ∙ ap (λ (x : ℤ). scan (fault_of_structure c.args.version) c.args.seen (structures (relationship_parts n.id x (to_z w64 (of_z w64 n.end)) n.kind n.properties.items n.element_ids))) z1
+    ∙ ap (λ (x : ℤ). scan (fault_of_structure c.args.version) c.args.seen (structures (relationship_parts n.id n.start x n.kind n.properties.items n.element_ids))) z2 ∙ ap (λ (u : Tree). scan (fault_of_structure c.args.version) c.args.seen (structures u)) (sym (relationship-out n))
+
+pub check_cell-returns-in_err-number-in-Path : goal.check_cell-returns-in_err-number-in-Path
+check_cell-returns-in_err-number-in-Path t c =
+    let w = c.in-Path in
+    let p = err_from_is_err_and c.from_residual.result c.from_residual.ensures.1 in
+    let e : c.from_residual.result ≡ Err c.in_err-number-in-Path.field-0.0 = search (rules, p.1, p.2) in
+    e ∙ path_err c.args.version c.args.seen _ _ c.in_err-number-in-Path.field-0.0 (map node_shape w.nodes.items) (map unbound_shape w.relationships.items) w.indices.items (mapped node_shape _ w.nodes.items (search rules)) (mapped unbound_shape _ w.relationships.items (search rules)) (rw c.deref.ensures.value at c.in_err-number-in-Path.ensures) ∙ ap (λ (u : Tree). scan (fault_of_structure c.args.version) c.args.seen (structures u)) (sym (ap shape w.is ∙ shape-Path w.nodes w.relationships w.indices))
+
+pub check_cell-returns-in_err-number-in-Path-2 : goal.check_cell-returns-in_err-number-in-Path-2
+check_cell-returns-in_err-number-in-Path-2 t c =
+    let w = c.in-Path in
+    let j = fault_of_structure c.args.version in
+    let xs = structures_in (trees_of (map node_shape w.nodes.items)) in
+    let ys = structures_in (trees_of (map unbound_shape w.relationships.items)) in
+    let p = err_from_is_err_and c.from_residual-in_err-number-in-Path-2.result c.from_residual-in_err-number-in-Path-2.ensures.1 in
+    let e : c.from_residual-in_err-number-in-Path-2.result ≡ Err c.in_err-number-in-Path-2.field-0.0 = search (rules, p.1, p.2) in
+    e ∙ ap (λ (r : Found). onward j r ys) c.in_err-number-in-Path-2.ensures ∙ sym (scan_append j c.in_ok-number-in-Path.number xs ys)
+    ∙ path_ok c.args.version c.args.seen c.in_ok-number-in-Path.number _ _ (map node_shape w.nodes.items) (map unbound_shape w.relationships.items) w.indices.items (mapped node_shape _ w.nodes.items (search rules)) (mapped unbound_shape _ w.relationships.items (search rules)) (rw c.deref.ensures.value at c.in_ok-number-in-Path.ensures) ∙ ap (λ (u : Tree). scan (fault_of_structure c.args.version) c.args.seen (structures u)) (sym (ap shape w.is ∙ shape-Path w.nodes w.relationships w.indices))
+
+pub check_cell-returns-in_ok-number-in-Path-2 : goal.check_cell-returns-in_ok-number-in-Path-2
+check_cell-returns-in_ok-number-in-Path-2 t c =
+    let w = c.in-Path in
+    let j = fault_of_structure c.args.version in
+    let xs = structures_in (trees_of (map node_shape w.nodes.items)) in
+    let ys = structures_in (trees_of (map unbound_shape w.relationships.items)) in
+    c.check_unbounds.ensures ∙ ap (λ (r : Found). onward j r ys) c.in_ok-number-in-Path-2.ensures ∙ sym (scan_append j c.in_ok-number-in-Path.number xs ys)
+    ∙ path_ok c.args.version c.args.seen c.in_ok-number-in-Path.number _ _ (map node_shape w.nodes.items) (map unbound_shape w.relationships.items) w.indices.items (mapped node_shape _ w.nodes.items (search rules)) (mapped unbound_shape _ w.relationships.items (search rules)) (rw c.deref.ensures.value at c.in_ok-number-in-Path.ensures) ∙ ap (λ (u : Tree). scan (fault_of_structure c.args.version) c.args.seen (structures u)) (sym (ap shape w.is ∙ shape-Path w.nodes w.relationships w.indices))

@@ -1,0 +1,87 @@
+//! What a server answers to the bytes of a text.
+ghost use Rattle.std.specs.Prelude.{◌≡◌, ◌↔◌, ◌%◌, length, string_bytes, IsTrue, IsErr, IsOk, IfOk};
+ghost use Rattle.std.specs.List.{AllPass};
+ghost use Rattle.hex.specs.Hex.{decode_of, is_hex_digit};
+ghost use Rattle.commands.specs.Answers.{Answers};
+ghost use Rattle.commands.specs.Hexadecimal.{AnswersHex};
+ghost use Rattle.commands.specs.declared.answers.AnswerFault.TheVariants as fault;
+
+use engine::{FixedTable, OneUser};
+use std::alloc::{AllocError, Global};
+use streams::{End, Responded, respond};
+use thiserror::Error;
+
+/// What was put out, in lower case hex, and how the session stands then.
+#[derive(Debug, Drop)]
+pub struct Answered {
+    pub out: String,
+    pub last: End,
+}
+
+/// Why a text has no answer.
+#[derive(Clone, Copy, Debug, PartialEq, Eq, Error)]
+pub enum AnswerFault {
+    /// No memory was left.
+    #[error("I3")]
+    Memory,
+    /// The text isn't hex of whole bytes.
+    #[error("I4")]
+    BadHex,
+}
+
+/// What a server puts out for the bytes that the text spells in hex, of either case, and how it stands then.
+pub fn answer(alloc: Global, text: &str) -> Result<Answered, AnswerFault>
+    // The text is refused exactly where it isn't hex of whole bytes ..
+    ensures hex { (result ≡ Err fault.BadHex) ↔ IsErr (decode_of text.now) }
+
+    // .. and else, where memory suffices, the answer is that of its bytes.
+    ensures answer { IfOk result (λ a. AnswersHex text.now (string_bytes a.out) a.last) }
+{
+    if !is_hex(text) {
+        return Err(AnswerFault::BadHex);
+    }
+    let Ok(bytes) = hex::decode(alloc, text) else {
+        return Err(AnswerFault::Memory);
+    };
+    let Ok(responded) = answer_bytes(alloc, bytes.as_slice()) else {
+        return Err(AnswerFault::Memory);
+    };
+    let Ok(out) = hex::encode(alloc, responded.out.as_slice()) else {
+        return Err(AnswerFault::Memory);
+    };
+    Ok(Answered {
+        out,
+        last: responded.last,
+    })
+}
+
+/// Whether the text is hex of whole bytes.
+#[tactic(auto, using(crate::proofs::Digits::digits_decode, crate::proofs::Digits::decoded_digits))]
+pub(crate) fn is_hex(text: &str) -> bool
+    ensures { IsTrue result ↔ IsOk (decode_of text.now) }
+{
+    text.len() % 2 == 0 && are_digits(text.as_bytes())
+}
+
+fn are_digits(bytes: &[u8]) -> bool
+    ensures { IsTrue result ↔ AllPass is_hex_digit bytes.now }
+{
+    bytes.iter().all(|b| is_digit(*b))
+}
+
+fn is_digit(byte: u8) -> bool
+    ensures { result ≡ is_hex_digit byte }
+{
+    matches!(byte, b'0'..=b'9' | b'A'..=b'F' | b'a'..=b'f')
+}
+
+/// The same of bytes: a server over an empty table, with one user.
+fn answer_bytes(alloc: Global, bytes: &[u8]) -> Result<Responded, AllocError>
+    ensures { IfOk result (λ a. Answers bytes.now a.out.items a.last) }
+{
+    let gate = OneUser::new(alloc, "user", "pass")?;
+    let Ok(responded) = respond(alloc, FixedTable::new(alloc), gate, bytes) else {
+        return Err(AllocError);
+    };
+    Ok(responded)
+}

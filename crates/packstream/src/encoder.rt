@@ -1,0 +1,305 @@
+//! Bytes out of values.
+ghost use Rattle.std.specs.Prelude.{◌≡◌, ◌≤◌, ◌<◌, ◌+◌, ◌∷◌, [], ◌++◌, length};
+ghost use Rattle.packstream.specs.Canon.{long_head, head, int_bytes, text_bytes, canon, canon_all, canon_entries, IsShortest};
+ghost use Rattle.std.specs.Prelude.{string_bytes};
+ghost use Rattle.byteorder.specs.Endian.{big_bytes};
+ghost use Rattle.packstream.specs.Tree.{list, dict, structure};
+ghost use Rattle.packstream.specs.Good.{IsSound, AreSound, HaveSoundValues};
+ghost use Rattle.packstream.specs.View.{tree, trees, trees_of, entries, entries_of};
+ghost use Rattle.std.specs.Prelude.{ℕ, min, OnOk, OnErr, Err, ◌↔◌};
+ghost use Rattle.packstream.specs.Answers.{UnlessMemory};
+ghost use Rattle.packstream.specs.Writing.{Writes};
+ghost use Rattle.packstream.specs.declared.fault.Reason.{Reason};
+ghost use Rattle.packstream.specs.declared.fault.Reason.TheVariants as reason;
+ghost use Rattle.packstream.specs.declared.fault.PackFault.TheVariants as fault;
+ghost use Rattle.std.specs.Prelude.{List};
+ghost use Rattle.packstream.specs.Spelling.{Spells};
+ghost use Rattle.packstream.specs.Limits.{max_size};
+
+use crate::MAX_SIZE;
+use crate::fault::{PackFault, Reason, Unwritten};
+use crate::output::Adding;
+use crate::packed::Packed;
+use crate::sizes::value_size;
+use crate::value::Value;
+use bytes::BytesMut;
+use std::alloc::AllocError;
+use std::mem;
+
+/// Room for a small value, made at once.
+const SMALL: usize = 128;
+
+#[tactic(auto, unfolding(crate::specs::Canon::long_head))]
+fn put_long(out: &mut Adding, marker: u8, n: u32) -> Result<(), AllocError>
+    requires { marker ≤ 253 }
+    ensures before { out.new.before ≡ out.old.before }
+    ensures ok { OnOk result (out.new.more ≡ out.old.more ++ long_head marker n) }
+{
+    if n < 0x100 {
+        out.push(marker)?;
+        out.extend_from_slice(&(n as u8).to_be_bytes())
+    } else if n < 0x10000 {
+        out.push(marker + 1)?;
+        out.extend_from_slice(&(n as u16).to_be_bytes())
+    } else {
+        out.push(marker + 2)?;
+        out.extend_from_slice(&n.to_be_bytes())
+    }
+}
+
+#[tactic(auto, unfolding(crate::specs::Canon::head))]
+fn put_head(out: &mut Adding, tiny: u8, marker: u8, n: u32) -> Result<(), AllocError>
+    requires tiny { tiny ≤ 240 }
+    requires marker { marker ≤ 253 }
+    ensures before { out.new.before ≡ out.old.before }
+    ensures ok { OnOk result (out.new.more ≡ out.old.more ++ head tiny marker n) }
+{
+    if n < 16 {
+        out.push(tiny + n as u8)?;
+        Ok(())
+    } else {
+        put_long(out, marker, n)
+    }
+}
+
+#[tactic(auto, unfolding(crate::specs::Canon::int_bytes))]
+fn put_int(out: &mut Adding, n: i64) -> Result<(), AllocError>
+    ensures before { out.new.before ≡ out.old.before }
+    ensures ok { OnOk result (out.new.more ≡ out.old.more ++ int_bytes n) }
+{
+    if -16 <= n && n <= 127 {
+        out.extend_from_slice(&(n as i8).to_be_bytes())
+    } else if -128 <= n && n <= 127 {
+        out.push(0xC8)?;
+        out.extend_from_slice(&(n as i8).to_be_bytes())
+    } else if -32_768 <= n && n <= 32_767 {
+        out.push(0xC9)?;
+        out.extend_from_slice(&(n as i16).to_be_bytes())
+    } else if -2_147_483_648 <= n && n <= 2_147_483_647 {
+        out.push(0xCA)?;
+        out.extend_from_slice(&(n as i32).to_be_bytes())
+    } else {
+        out.push(0xCB)?;
+        out.extend_from_slice(&n.to_be_bytes())
+    }
+}
+
+fn put_float(out: &mut Adding, bits: u64) -> Result<(), AllocError>
+    ensures before { out.new.before ≡ out.old.before }
+    ensures ok { OnOk result (out.new.more ≡ out.old.more ++ (0xC1 ∷ big_bytes 8 bits)) }
+{
+    out.push(0xC1)?;
+    out.extend_from_slice(&bits.to_be_bytes())
+}
+
+/// A text, in place: the loop over a dictionary's pairs has no call for a key.
+#[tactic(auto, using(crate::proofs::Putting::length_appended, crate::proofs::Putting::three_parts))]
+#[inline]
+fn put_key(out: &mut Adding, key: &str) -> Result<(), Unwritten>
+    ensures before { out.new.before ≡ out.old.before }
+    ensures writes { Writes result out.old.more out.new.more (text_bytes key.now) }
+{
+    if key.len() > MAX_SIZE {
+        return Err(Unwritten::Size);
+    }
+    put_head(out, 0x80, 0xD0, key.len() as u32)?;
+    out.extend_from_slice(key.as_bytes())?;
+    Ok(())
+}
+
+/// The same by a call, which keeps `put_value` small.
+#[inline(never)]
+fn put_text(out: &mut Adding, text: &str) -> Result<(), Unwritten>
+    ensures before { out.new.before ≡ out.old.before }
+    ensures writes { Writes result out.old.more out.new.more (text_bytes text.now) }
+{
+    put_key(out, text)
+}
+
+#[tactic(auto, using(crate::proofs::Putting::length_appended, crate::proofs::Putting::three_parts))]
+#[inline(never)]
+fn put_bytes(out: &mut Adding, bytes: &[u8]) -> Result<(), Unwritten>
+    ensures before { out.new.before ≡ out.old.before }
+    ensures writes { Writes result out.old.more out.new.more
+        (long_head 0xCC (length bytes.now) ++ bytes.now) }
+{
+    if bytes.len() > MAX_SIZE {
+        return Err(Unwritten::Size);
+    }
+    put_long(out, 0xCC, bytes.len() as u32)?;
+    out.extend_from_slice(bytes)?;
+    Ok(())
+}
+
+#[cycle(encoder)]
+#[tactic(auto, using(crate::proofs::Putting::tree_of_dict))]
+fn put_value(out: &mut Adding, value: &Value) -> Result<(), Unwritten>
+    requires { IsSound (tree value.now) }
+    ensures before { out.new.before ≡ out.old.before }
+    ensures writes { Writes result out.old.more out.new.more (canon (tree value.now)) }
+{
+    match value {
+        Value::Null => out.push(0xC0)?,
+        Value::Bool(b) => out.push(if *b { 0xC3 } else { 0xC2 })?,
+        Value::Int(n) => put_int(out, *n)?,
+        Value::Float(bits) => put_float(out, *bits)?,
+        Value::Bytes(bytes) => return put_bytes(out, bytes),
+        Value::Text(text) => return put_text(out, text.as_str()),
+        Value::List(members) => return put_list(out, members),
+        Value::Dict(pairs) => return put_dict(out, pairs),
+        Value::Struct(tag, fields) => return put_struct(out, *tag, fields),
+    }
+    Ok(())
+}
+
+#[cycle(encoder)]
+#[tactic(auto, using(crate::proofs::Putting::len_trees, crate::proofs::Putting::len_le_flat, crate::proofs::Putting::length_appended, crate::proofs::Putting::three_parts))]
+#[inline(never)]
+fn put_list(out: &mut Adding, members: &[Value]) -> Result<(), Unwritten>
+    requires { AreSound (trees_of (trees members.now)) }
+    ensures before { out.new.before ≡ out.old.before }
+    ensures writes { Writes result out.old.more out.new.more
+        (canon (list (trees_of (trees members.now)))) }
+{
+    if members.len() > MAX_SIZE {
+        return Err(Unwritten::Size);
+    }
+    put_head(out, 0x90, 0xD4, members.len() as u32)?;
+    put_members(out, members)
+}
+
+#[cycle(encoder)]
+#[tactic(auto, using(crate::proofs::Putting::len_entries, crate::proofs::Putting::len_le_flats, crate::proofs::Putting::length_appended, crate::proofs::Putting::three_parts))]
+#[inline(never)]
+fn put_dict(out: &mut Adding, pairs: &[(String, Value)]) -> Result<(), Unwritten>
+    requires { HaveSoundValues (entries_of (entries pairs.now)) }
+    ensures before { out.new.before ≡ out.old.before }
+    ensures writes { Writes result out.old.more out.new.more
+        (canon (dict (entries_of (entries pairs.now)))) }
+{
+    if pairs.len() > MAX_SIZE {
+        return Err(Unwritten::Size);
+    }
+    put_head(out, 0xA0, 0xD8, pairs.len() as u32)?;
+    put_pairs(out, pairs)
+}
+
+#[cycle(encoder)]
+#[tactic(auto, using(crate::proofs::Putting::len_trees, crate::proofs::Putting::length_appended, crate::proofs::Putting::three_parts))]
+#[inline(never)]
+fn put_struct(out: &mut Adding, tag: u8, fields: &[Value]) -> Result<(), Unwritten>
+    requires { IsSound (structure tag (trees_of (trees fields.now))) }
+    ensures before { out.new.before ≡ out.old.before }
+    ensures writes { Writes result out.old.more out.new.more
+        (canon (structure tag (trees_of (trees fields.now)))) }
+{
+    out.push(0xB0 + fields.len() as u8)?;
+    out.push(tag)?;
+    put_members(out, fields)
+}
+
+#[cycle(encoder)]
+fn put_members(out: &mut Adding, members: &[Value]) -> Result<(), Unwritten>
+    requires { AreSound (trees_of (trees members.now)) }
+    ensures before { out.new.before ≡ out.old.before }
+    ensures writes { Writes result out.old.more out.new.more
+        (canon_all (trees_of (trees members.now))) }
+{
+    for member in members {
+        if out.len() > MAX_SIZE {
+            return Err(Unwritten::Size);
+        }
+        put_value(out, member)?;
+    }
+    Ok(())
+}
+
+#[cycle(encoder)]
+fn put_pairs(out: &mut Adding, pairs: &[(String, Value)]) -> Result<(), Unwritten>
+    requires { HaveSoundValues (entries_of (entries pairs.now)) }
+    ensures before { out.new.before ≡ out.old.before }
+    ensures writes { Writes result out.old.more out.new.more
+        (canon_entries (entries_of (entries pairs.now))) }
+{
+    for pair in pairs {
+        if out.len() > MAX_SIZE {
+            return Err(Unwritten::Size);
+        }
+        put_pair(out, pair)?;
+    }
+    Ok(())
+}
+
+#[cycle(encoder)]
+#[tactic(auto, using(crate::proofs::Putting::length_appended, crate::proofs::Putting::three_parts))]
+fn put_pair(out: &mut Adding, pair: &(String, Value)) -> Result<(), Unwritten>
+    requires { IsSound (tree pair.now.1) }
+    ensures before { out.new.before ≡ out.old.before }
+    ensures writes { Writes result out.old.more out.new.more
+        (text_bytes (string_bytes pair.now.0) ++ canon (tree pair.now.1)) }
+{
+    put_key(out, pair.0.as_str())?;
+    put_value(out, &pair.1)
+}
+
+/// Adds the shortest spelling, where it is not too long.
+#[tactic(auto, using(crate::proofs::Only::shortest, crate::proofs::Only::none_short))]
+fn spell(out: &mut Adding, packed: &Packed) -> Result<(), PackFault>
+    requires { out.old.more ≡ [] }
+    ensures before { out.new.before ≡ out.old.before }
+    ensures ok { OnOk result (out.new.more ≡ canon packed.now) }
+    ensures shortest { OnOk result (IsShortest packed.now (canon packed.now)) }
+    ensures size { UnlessMemory result
+        ((result ≡ Err (fault.Refused reason.Size 0)) ↔ (max_size < length (canon packed.now))) }
+    ensures none { (max_size < length (canon packed.now))
+        ↔ ((b : List ℕ) → Spells packed.now b → max_size < length b) }
+    ensures other { (r : Reason) (o : ℕ) → result ≡ Err (fault.Refused r o)
+        → (r ≡ reason.Size) × (o ≡ 0) }
+{
+    put_value(out, packed.value())?;
+    if out.len() > MAX_SIZE {
+        return Err(PackFault::Refused(Reason::Size, 0));
+    }
+    Ok(())
+}
+
+/// How many bytes the shortest spelling of the value takes, or 65,537 where that is more. It takes no memory.
+pub fn size(packed: &Packed) -> usize
+    ensures { result ≡ min (length (canon packed.now)) (max_size + 1) }
+{
+    value_size(packed.value())
+}
+
+/// Appends the shortest spelling (PackStream version 1), or nothing: `Size` at 0 exactly where no spelling has at most
+/// 65,536 bytes, or want of memory.
+pub fn encode(packed: &Packed, out: &mut BytesMut) -> Result<(), PackFault>
+    ensures ok { OnOk result (out.new.items ≡ out.old.items ++ canon packed.now) }
+    ensures shortest { OnOk result (IsShortest packed.now (canon packed.now)) }
+    ensures size { UnlessMemory result
+        ((result ≡ Err (fault.Refused reason.Size 0)) ↔ (max_size < length (canon packed.now))) }
+    ensures none { UnlessMemory result
+        ((result ≡ Err (fault.Refused reason.Size 0))
+        ↔ ((b : List ℕ) → Spells packed.now b → max_size < length b)) }
+    ensures other { (r : Reason) (o : ℕ) → result ≡ Err (fault.Refused r o)
+        → (r ≡ reason.Size) × (o ≡ 0) }
+    ensures err { OnErr result (out.new.items ≡ out.old.items) }
+{
+    let alloc = *out.allocator();
+    if out.capacity() == 0 {
+        let Ok(room) = Vec::with_capacity(alloc, SMALL) else {
+            return Err(PackFault::Memory);
+        };
+        *out = BytesMut::from_vec(room);
+    }
+    let mut adding = Adding::to(mem::replace(out, BytesMut::new(alloc)));
+    match spell(&mut adding, packed) {
+        Ok(()) => {
+            *out = adding.keep();
+            Ok(())
+        }
+        Err(fault) => {
+            *out = adding.undo();
+            Err(fault)
+        }
+    }
+}

@@ -1,0 +1,77 @@
+use Rattle.std.proofs.Common.{◌≡◌, ◌∙◌, sym, subst, refl, Bool, Ok, [], true}
+use Rattle.std.proofs.KnownBytes.{Appends-nil}
+use Rattle.client.specs.Fits.{Fits}
+use Rattle.streams.specs.Asking.{after_all}
+use Rattle.streams.proofs.Asked.{reads_none}
+use Rattle.programs.specs.Shelling.{HearsSome}
+use Rattle.programs.proofs.Heard.{all_heard, heard_at, heard_end, heard_more, heard_part, stands_so}
+use Rattle.programs.proofs.caller.Caller.hear_all.Goals as goal
+
+pub loop-self-init : goal.loop-self-init
+loop-self-init g c = record {
+  heard = λ p at. record {
+    notes = [];
+    reads = reads_none p.rest (g.S.Source.left c.args.source.now) [] (Fits c.args.self.now.client) at.fits;
+    prints = record { text = []; told = refl; printed = Appends-nil (g.O.Sink.taken c.args.out.now); version = at.version };
+  };
+  source = λ h. h;
+  out = λ h. h;
+}
+
+pub loop-self-preserved : goal.loop-self-preserved
+loop-self-preserved g c = record {
+  heard = λ p at.
+      let so = c.loop-self.invariant.heard p at in
+      let left = g.S.Source.left c.args.source.now in
+      let mid = g.S.Source.left c.loop-self.source in
+      let before = g.O.Sink.taken c.args.out.now in
+      let printed = g.O.Sink.taken c.loop-self.out in
+      let here = heard_at p so.reads.fed so.notes in
+      let waits = sym (c.awaits.ensures here.rest so.reads.now) ∙ c.loop-self-test.true in
+      heard_more p left mid before printed c.loop-self.self so (g.S.Source.left c.hear_some.new.source) (g.O.Sink.taken c.hear_some.new.out) c.hear_some.new.self waits
+      (subst (λ (b : Bool). HearsSome here mid (g.S.Source.left c.hear_some.new.source) printed (g.O.Sink.taken c.hear_some.new.out) c.hear_some.new.self (Ok b)) c.in-Ok-true.field-0-test (c.in-Ok-true.ensures.hears here (stands_so p left mid before printed c.loop-self.self so)));
+  source = λ h. c.loop-self.invariant.source (c.in-Ok-true.ensures.source h);
+  out = λ h. c.loop-self.invariant.out (c.in-Ok-true.ensures.out h);
+}
+
+pub returns-in-Ok-false-clause-hears : goal.returns-in-Ok-false-clause-hears
+returns-in-Ok-false-clause-hears g c = λ p at.
+    let so = c.loop-self.invariant.heard p at in
+    let left = g.S.Source.left c.args.source.now in
+    let mid = g.S.Source.left c.loop-self.source in
+    let before = g.O.Sink.taken c.args.out.now in
+    let printed = g.O.Sink.taken c.loop-self.out in
+    let here = heard_at p so.reads.fed so.notes in
+    heard_end p left mid before printed c.loop-self.self so (g.S.Source.left c.hear_some.new.source) (g.O.Sink.taken c.hear_some.new.out) c.hear_some.new.self
+    (subst (λ (b : Bool). HearsSome here mid (g.S.Source.left c.hear_some.new.source) printed (g.O.Sink.taken c.hear_some.new.out) c.hear_some.new.self (Ok b)) c.in-Ok-false.field-0-test (c.in-Ok-false.ensures.hears here (stands_so p left mid before printed c.loop-self.self so)))
+
+pub returns-in-Err-clause-hears : goal.returns-in-Err-clause-hears
+returns-in-Err-clause-hears g c = λ p at.
+    let so = c.loop-self.invariant.heard p at in
+    let left = g.S.Source.left c.args.source.now in
+    let mid = g.S.Source.left c.loop-self.source in
+    let before = g.O.Sink.taken c.args.out.now in
+    let printed = g.O.Sink.taken c.loop-self.out in
+    let here = heard_at p so.reads.fed so.notes in
+    let waits = sym (c.awaits.ensures here.rest so.reads.now) ∙ c.loop-self-test.true in
+    heard_part p left mid before printed c.loop-self.self so (g.S.Source.left c.hear_some.new.source) (g.O.Sink.taken c.hear_some.new.out) c.hear_some.new.self c.in-Err.fault waits
+    (c.in-Err.ensures.hears here (stands_so p left mid before printed c.loop-self.self so))
+
+pub returns-clause-hears : goal.returns-clause-hears
+returns-clause-hears g c = λ p at.
+    let so = c.loop-self.invariant.heard p at in
+    let here = heard_at p so.reads.fed so.notes in
+    all_heard p (g.S.Source.left c.args.source.now) (g.S.Source.left c.loop-self.source) (g.O.Sink.taken c.args.out.now) (g.O.Sink.taken c.loop-self.out) c.loop-self.self so
+    (sym (c.awaits.ensures here.rest so.reads.now) ∙ c.loop-self-test.false)
+
+pub returns-in-Ok-false-clause-source : goal.returns-in-Ok-false-clause-source
+returns-in-Ok-false-clause-source g c = λ h. c.loop-self.invariant.source (c.in-Ok-false.ensures.source h)
+
+pub returns-in-Ok-false-clause-out : goal.returns-in-Ok-false-clause-out
+returns-in-Ok-false-clause-out g c = λ h. c.loop-self.invariant.out (c.in-Ok-false.ensures.out h)
+
+pub returns-in-Err-clause-source : goal.returns-in-Err-clause-source
+returns-in-Err-clause-source g c = λ n h. c.loop-self.invariant.source (c.in-Err.ensures.source n h)
+
+pub returns-in-Err-clause-out : goal.returns-in-Err-clause-out
+returns-in-Err-clause-out g c = λ n h. c.loop-self.invariant.out (c.in-Err.ensures.out n h)

@@ -1,0 +1,23 @@
+use Rattle.std.proofs.Common.{◌≡◌, ◌∙◌, sym, subst, take_at, inr, rules}
+use Rattle.std.specs.Io.KnownBytes.{Consumes}
+use Rattle.programs.proofs.Taken.{other_then, same_then}
+use Rattle.programs.proofs.loops.pass.Goals as goal
+
+pub returns-clause-passes : goal.returns-clause-passes
+returns-clause-passes g c =
+    let read : c.as_slice.result.now ≡ c.read_known.new.buffer = c.as_slice.ensures.value ∙ take_at c.read_known.new.buffer _ c.in-Ok.part.len (search rules) in
+    record {
+      took = search rules;
+      gave = subst (Consumes (g.S.Source.left c.args.source.now) (g.S.Source.left c.read_known.new.source)) (sym read ∙ same_then c.as_slice.result.now c.args.bytes.now (sym c.ne.ensures ∙ c.if-ne.false)) c.in-Ok-read_known.ensures.reads;
+    }
+
+pub returns-then-ne-clause-read : goal.returns-then-ne-clause-read
+returns-then-ne-clause-read g c = λ e.
+    let read : c.as_slice.result.now ≡ c.read_known.new.buffer = c.as_slice.ensures.value ∙ take_at c.read_known.new.buffer _ c.in-Ok.part.len (search rules) in
+    inr (record {
+      written = c.args.bytes.now;
+      read = c.as_slice.result.now;
+      took = search rules;
+      gave = subst (Consumes (g.S.Source.left c.args.source.now) (g.S.Source.left c.read_known.new.source)) (sym read) c.in-Ok-read_known.ensures.reads;
+      other = other_then c.as_slice.result.now c.args.bytes.now (sym c.ne.ensures ∙ c.if-ne.true);
+    })

@@ -1,0 +1,34 @@
+use Rattle.std.proofs.Common.{◌≡◌, ◌∙◌, ◌++◌, ◌∷◌, [], append_assoc, append-nil, rules, refl, sym, ap, subst, map}
+use Rattle.std.proofs.lemmas.List.{nil_from_length}
+use Rattle.client.specs.Notes.{note}
+use Rattle.programs.specs.Looping.{Prints}
+use Rattle.programs.specs.Telling.{versions_after}
+use Rattle.programs.specs.Turns.{notes_shown}
+use Rattle.programs.proofs.Turned.{notes_next, prints_none, version_next}
+use Rattle.programs.proofs.loops.put_all.Goals as goal
+
+pub loop-one-init : goal.loop-one-init
+loop-one-init g c = record { client = refl; version = refl; prints = prints_none (g.O.Sink.taken c.args.out.now); parts = c.into_iter-one-iterator.ensures.into_iter_gives.0 }
+
+pub loop-one-preserved : goal.loop-one-preserved
+loop-one-preserved g c =
+    let so = c.loop-one.invariant in
+    let v = c.args.caller.now.version in
+    record {
+      client = c.in-Ok.ensures.client ∙ so.client;
+      version = version_next v note c.loop-one.yielded c.in-Some.one c.loop-one.caller.version c.put_heard.new.self.version so.version c.in-Ok.ensures.version;
+      prints = notes_next v note c.loop-one.yielded c.in-Some.one c.loop-one.caller.version (g.O.Sink.taken c.args.out.now) (g.O.Sink.taken c.loop-one.out) (g.O.Sink.taken c.put_heard.new.out) so.version so.prints c.in-Ok.ensures.told;
+      parts = append_assoc c.loop-one.yielded (c.in-Some.one ∷ []) c.next.new.self.rest.items ∙ ap (λ xs. c.loop-one.yielded ++ xs) (sym c.in-Some.ensures.steps.0) ∙ so.parts;
+    }
+
+pub returns-clause-prints : goal.returns-clause-prints
+returns-clause-prints g c =
+    let so = c.loop-one.invariant in
+    let all : c.loop-one.yielded ≡ c.args.heard.items = sym (append-nil c.loop-one.yielded) ∙ ap (λ xs. c.loop-one.yielded ++ xs) (sym (nil_from_length c.loop-one.one-iterator.rest.items (search rules))) ∙ so.parts in
+    subst (λ xs. Prints (notes_shown c.args.caller.now.version (map note xs)) (g.O.Sink.taken c.args.out.now) (g.O.Sink.taken c.loop-one.out)) all so.prints
+
+pub returns-clause-version : goal.returns-clause-version
+returns-clause-version g c =
+    let so = c.loop-one.invariant in
+    let all : c.loop-one.yielded ≡ c.args.heard.items = sym (append-nil c.loop-one.yielded) ∙ ap (λ xs. c.loop-one.yielded ++ xs) (sym (nil_from_length c.loop-one.one-iterator.rest.items (search rules))) ∙ so.parts in
+    subst (λ xs. c.loop-one.caller.version ≡ versions_after c.args.caller.now.version (map note xs)) all so.version

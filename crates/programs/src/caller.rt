@@ -1,0 +1,129 @@
+//! A client that takes its requests from the lines of a script.
+ghost use Rattle.std.specs.Prelude.{◌≡◌, ◌⊎◌, ℕ, List, true, IfOk, IfErr, OnOk, OnErr, IsErrOf};
+ghost use Rattle.std.specs.Io.KnownBytes.{Appends};
+ghost use Rattle.client.specs.Notes.{note};
+ghost use Rattle.streams.specs.Failing.{StaysSound, UnlessTold};
+ghost use Rattle.streams.specs.Fronts.{AppendsFront};
+ghost use Rattle.scripts.specs.Meant.{meant};
+ghost use Rattle.scripts.specs.Views.{script_request_view};
+ghost use Rattle.programs.specs.Telling.{IsExplained, IsTold, version_after};
+ghost use Rattle.programs.specs.Talking.{IsAt, Place, first_place};
+ghost use Rattle.programs.specs.Shelling.{PrintsPart, Submits};
+
+use crate::names::refusal_code;
+use crate::printed_lines::{put, put_heard, put_refused};
+use crate::summaries::failure_of;
+use client::{Client, Heard};
+use scripts::ScriptRequest;
+use std::alloc::Global;
+use streams::{Sink, StreamFault};
+use wire::{Version, Wish};
+
+/// A client that takes the newest version.
+#[derive(Drop)]
+pub(crate) struct Caller {
+    pub client: Client,
+    /// The version that was taken; the newest where none was, when the client has ended.
+    pub version: Version,
+    pub alloc: Global,
+}
+
+impl Caller {
+    pub fn new(alloc: Global) -> Result<Caller, StreamFault>
+        ensures new { IfOk result (λ c. IsAt c first_place) }
+        ensures memory { IfErr result (λ e. e ≡ StreamFault.Memory) }
+    {
+        let Ok(client) = Client::new(alloc, Wish::Newest) else {
+            return Err(StreamFault::Memory);
+        };
+        Ok(Caller {
+            client,
+            version: Version::V51,
+            alloc,
+        })
+    }
+
+    /// Keeps the version, where one was heard.
+    fn keep_version(&mut self, heard: &Heard)
+        ensures version { self.new.version ≡ version_after self.old.version (note heard.now) }
+        ensures client { self.new.client ≡ self.old.client }
+    {
+        if let Heard::Version(Some(version)) = heard {
+            self.version = *version;
+        }
+    }
+
+    /// Prints what was heard: `row HEX`, `heard ORDINAL OUTCOME PHASE`, or nothing.
+    pub fn put_heard<O: Sink>(&mut self, heard: Heard, out: &mut O) -> Result<(), StreamFault>
+        ensures told { OnOk result
+            ((text : List ℕ) × IsTold (version_after self.old.version (note heard)) (note heard)
+            text × Appends (O.taken out.old) (O.taken out.new) text) }
+        ensures read { IsErrOf result StreamFault.ReadFailed → ⊥ }
+        ensures written { IsErrOf result StreamFault.WriteFailed → O.has_failed out.new ≡ true }
+        ensures sound { UnlessTold result StreamFault.WriteFailed
+            (StaysSound (O.has_failed out.old) (O.has_failed out.new)) }
+        ensures part { OnErr result
+            ((O.taken out.new ≡ O.taken out.old)
+            ⊎ ((text : List ℕ) × IsTold (version_after self.old.version (note heard)) (note heard) text × AppendsFront (O.taken out.old) (O.taken out.new) text)) }
+        ensures version { self.new.version ≡ version_after self.old.version (note heard) }
+        ensures client { self.new.client ≡ self.old.client }
+    {
+        self.keep_version(&heard);
+        put_heard(self.alloc, self.version, heard, out)
+    }
+
+    /// The same, and after the line of a FAILURE `fault CODE MESSAGE`.
+    pub fn put_explained<O: Sink>(&mut self, heard: Heard, out: &mut O) -> Result<(), StreamFault>
+        ensures told { OnOk result
+            ((text : List ℕ) × IsExplained (version_after self.old.version (note heard)) (note heard) text × Appends (O.taken out.old) (O.taken out.new) text) }
+        ensures part { OnErr result
+            ((O.taken out.new ≡ O.taken out.old)
+            ⊎ PrintsPart (version_after self.old.version (note heard)) (note heard) (O.taken out.old)
+            (O.taken out.new)) }
+        ensures version { OnOk result
+            (self.new.version ≡ version_after self.old.version (note heard)) }
+        ensures read { IsErrOf result StreamFault.ReadFailed → ⊥ }
+        ensures written { IsErrOf result StreamFault.WriteFailed → O.has_failed out.new ≡ true }
+        ensures sound { UnlessTold result StreamFault.WriteFailed
+            (StaysSound (O.has_failed out.old) (O.has_failed out.new)) }
+        ensures client { self.new.client ≡ self.old.client }
+    {
+        let Ok(failure) = failure_of(self.alloc, &heard) else {
+            return Err(StreamFault::Memory);
+        };
+        match self.put_heard(heard, out) {
+            Ok(()) => put(failure.as_slice(), out),
+            Err(fault) => Err(fault),
+        }
+    }
+
+    /// Submits the request of a line, or prints why it is refused; whether it was submitted.
+    pub fn submit<O: Sink>(
+        &mut self,
+        number: usize,
+        request: ScriptRequest,
+        out: &mut O,
+    ) -> Result<bool, StreamFault>
+        ensures submits { (p : Place) → IsAt self.old p
+            → Submits p (meant p.version (script_request_view request)) number (O.taken out.old)
+            (O.taken out.new) (IsAt self.new) result }
+        ensures read { IsErrOf result StreamFault.ReadFailed → ⊥ }
+        ensures written { IsErrOf result StreamFault.WriteFailed → O.has_failed out.new ≡ true }
+        ensures sound { UnlessTold result StreamFault.WriteFailed
+            (StaysSound (O.has_failed out.old) (O.has_failed out.new)) }
+    {
+        let Ok(request) = request.into_request(self.alloc, self.version) else {
+            return Err(StreamFault::Memory);
+        };
+        let Err(fault) = self.client.submit(request) else {
+            return Ok(true);
+        };
+        let Some(code) = refusal_code(&fault) else {
+            return Err(StreamFault::Memory);
+        };
+        match put_refused(self.alloc, number, code, out) {
+            Ok(()) => Ok(false),
+            Err(fault) => Err(fault),
+        }
+    }
+}

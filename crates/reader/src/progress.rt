@@ -1,0 +1,540 @@
+//! What is read of a value whose bytes come in pieces.
+ghost use Rattle.std.specs.Prelude.{◌≡◌, ◌+◌, ◌++◌, ◌∷◌, List, [], length, drop, is_some, true, false, Ok, OnOk, OnErr, IfOk, IfErr, ◌≤◌};
+ghost use Rattle.std.specs.Str.{IsUtf8};
+ghost use Rattle.packstream.specs.Markers.{marker as marker_at};
+ghost use Rattle.packstream.specs.Plain.{AreBytes};
+ghost use Rattle.packstream.specs.Answers.{Tells, whole_of};
+ghost use Rattle.packstream.specs.declared.marker.Marker.TheVariants as announces;
+ghost use Rattle.reader.specs.declared.stop.Stop.TheVariants as stop;
+ghost use Rattle.reader.specs.declared.progress.Part.TheVariants as part;
+ghost use Rattle.reader.specs.Items.{size_with};
+ghost use Rattle.reader.specs.Frames.{Frame, AreLevels, place};
+ghost use Rattle.reader.specs.Piecewise.{nothing_read, Takes};
+ghost use Rattle.reader.specs.Holding.{holds, point, bytes_of, bytes_with, at_mark, mark_of, with_fault, with_item, Goes, IsStanding, IsKeeping, IsMark, HoldsOn, IsValue, IsListOf, HasGrown, HasTaken, Answers};
+
+use crate::item::{Item, body_len, field_len, join, size_in};
+use crate::open::Open;
+use crate::stop::Stop;
+use crate::texts::Texts;
+use crate::value::build;
+use packstream::marker::{Marker, Size, marker_of};
+use packstream::{PackFault, Packed, Reason};
+use simdutf8::basic::from_utf8;
+use std::alloc::{AllocError, Global};
+
+/// The part of a value or a key that isn't whole.
+#[derive(Clone, Copy)]
+pub(crate) enum Part {
+    /// There is none.
+    Nothing,
+    /// A marker, and so many bytes of the number after it.
+    Head { marker: u8, number: u64, has: usize },
+    /// A marker and its number; of the bytes that come then, so many are missing, and the others are the last of all texts.
+    Body { marker: u8, number: u64, lacks: u64 },
+}
+
+/// What a reader knows beside its lists.
+#[derive(Clone, Copy)]
+pub(crate) struct Standing {
+    pub(crate) open: Open,
+    pub(crate) part: Part,
+    /// How many bytes were read, but those of the part.
+    pub(crate) read: usize,
+    pub(crate) bad: Option<(Reason, usize)>,
+}
+
+/// A place to return to: the lengths of the lists, and what stood beside them.
+#[derive(Clone, Copy)]
+pub(crate) struct Mark {
+    pub(crate) items: usize,
+    pub(crate) store: usize,
+    pub(crate) keys: usize,
+    pub(crate) standing: Standing,
+}
+
+/// The values and keys that were read, in the order of their bytes, and what is known beside them.
+#[derive(Drop)]
+pub(crate) struct Reading {
+    alloc: Global,
+    items: Vec<Item>,
+    texts: Texts,
+    standing: Standing,
+}
+
+impl Reading {
+    pub(crate) fn new(alloc: Global) -> Reading
+        ensures keeping { IsKeeping (holds result) }
+        ensures point { point (holds result) ≡ nothing_read }
+    {
+        Reading {
+            alloc,
+            items: Vec::new(alloc),
+            texts: Texts::new(alloc),
+            standing: Standing {
+                open: Open::new(),
+                part: Part::Nothing,
+                read: 0,
+                bad: None,
+            },
+        }
+    }
+
+    /// Where it stands.
+    pub(crate) fn mark(&self) -> Mark
+        ensures { result ≡ mark_of (holds self.now) }
+    {
+        Mark {
+            items: self.items.len(),
+            store: self.texts.len(),
+            keys: self.texts.count(),
+            standing: self.standing,
+        }
+    }
+
+    /// Marks where it stands, in the place of another mark.
+    #[inline]
+    pub(crate) fn mark_in(&self, mark: &mut Mark)
+        ensures { IsMark (holds self.now) mark.new }
+    {
+        mark.items = self.items.len();
+        mark.store = self.texts.len();
+        mark.keys = self.texts.count();
+        mark.standing.open.copy_from(&self.standing.open);
+        mark.standing.part = self.standing.part;
+        mark.standing.read = self.standing.read;
+        mark.standing.bad = self.standing.bad;
+    }
+
+    /// Goes back to a place where it stood.
+    pub(crate) fn cut(&mut self, mark: &Mark)
+        requires { IsKeeping (at_mark mark.now (holds self.old)) }
+        ensures { holds self.new ≡ at_mark mark.now (holds self.old) }
+    {
+        self.items.truncate(mark.items);
+        self.texts.cut(mark.store, mark.keys);
+        self.standing = mark.standing;
+    }
+
+    /// The fault that every continuation has, where that is known.
+    pub(crate) fn bad(&self) -> Option<(Reason, usize)>
+        ensures { result ≡ (holds self.now).standing.bad }
+    {
+        self.standing.bad
+    }
+
+    /// Every continuation has this fault at this place.
+    pub(crate) fn turn_bad(&mut self, reason: Reason, place: usize)
+        ensures { holds self.new ≡ with_fault reason place (holds self.old) }
+    {
+        self.standing.bad = Some((reason, place));
+    }
+
+    /// What `decode` tells of the bytes.
+    pub(crate) fn finish(&self) -> Result<Packed, PackFault>
+        requires { IsKeeping (holds self.now) }
+        ensures { Tells (λ t. t) result (whole_of (bytes_of (holds self.now))) }
+    {
+        if self.standing.open.is_whole() {
+            let Ok(value) = build(self.alloc, &self.items, self.texts.bytes()) else {
+                return Err(PackFault::Memory);
+            };
+            return Ok(Packed::from_good(value));
+        }
+        Err(PackFault::Refused(Reason::Short, self.standing.read))
+    }
+
+    /// Takes a piece of the text or the byte string that isn't whole, where bytes of it are missing behind the piece too; and
+    /// answers whether it did. Else nothing changes.
+    pub(crate) fn take_within(&mut self, piece: &[u8]) -> Result<bool, AllocError>
+        requires { IsStanding (holds self.old) }
+        ensures taken { result ≡ Ok true
+            → ((holds self.old).standing.bad ≡ None)
+            × HasTaken (bytes_of (holds self.old) ++ piece.now) (holds self.new) [] }
+        ensures grown { HasGrown (holds self.old) (holds self.new) }
+        ensures other { result ≡ Ok false → self.new ≡ self.old }
+        ensures err { OnErr result (self.new ≡ self.old) }
+        ensures memory { OnErr result ((holds self.old).standing.bad ≡ None) }
+    {
+        if self.standing.bad.is_some() {
+            return Ok(false);
+        }
+        let Part::Body {
+            marker,
+            number,
+            lacks,
+        } = self.standing.part
+        else {
+            return Ok(false);
+        };
+        if piece.len() as u64 >= lacks {
+            return Ok(false);
+        }
+        self.texts.extend(piece)?;
+        self.standing.part = Part::Body {
+            marker,
+            number,
+            lacks: lacks - piece.len() as u64,
+        };
+        Ok(true)
+    }
+
+    /// Takes the piece; or, where a fault is in it, turns bad where the mark is. For want of memory it goes back there.
+    #[inline]
+    pub(crate) fn feed(&mut self, before: &Mark, piece: &[u8]) -> Result<(), AllocError>
+        requires before { IsMark (holds self.old) before.now }
+        requires keeping { IsKeeping (holds self.old) }
+        requires good { (holds self.old).standing.bad ≡ None }
+        ensures here { OnOk result
+            (Takes (point (holds self.old)) piece.now (point (holds self.new))) }
+        ensures held { HoldsOn (holds self.old) (holds self.new) }
+        ensures err { OnErr result (point (holds self.new) ≡ point (holds self.old)) }
+    {
+        match self.take(piece) {
+            Ok(()) => Ok(()),
+            Err(Stop::Memory) => {
+                self.cut(before);
+                Err(AllocError)
+            }
+            Err(Stop::Fault(reason, place)) => {
+                self.cut(before);
+                self.turn_bad(reason, place);
+                Ok(())
+            }
+        }
+    }
+
+    /// Takes the piece, item by item. Its lists only grow.
+    pub(crate) fn take(&mut self, piece: &[u8]) -> Result<(), Stop>
+        requires keeping { IsKeeping (holds self.old) }
+        requires good { (holds self.old).standing.bad ≡ None }
+        ensures told { Answers (λ x. []) result (bytes_of (holds self.old) ++ piece.now)
+            (holds self.new) }
+        ensures grown { HasGrown (holds self.old) (holds self.new) }
+    {
+        let mut rest = self.take_part(piece)?;
+        while let Some((&first, after)) = rest.split_first() {
+            rest = self.take_item(first, after)?;
+        }
+        Ok(())
+    }
+
+    /// Takes what the piece has of the part that isn't whole, and answers what follows it.
+    fn take_part<'a>(&mut self, piece: &'a [u8]) -> Result<&'a [u8], Stop>
+        requires stands { IsStanding (holds self.old) }
+        requires good { (holds self.old).standing.bad ≡ None }
+        ensures told { Answers (λ x. x.now) result (bytes_of (holds self.old) ++ piece.now)
+            (holds self.new) }
+        ensures grown { HasGrown (holds self.old) (holds self.new) }
+    {
+        match self.standing.part {
+            Part::Nothing => Ok(piece),
+            Part::Head {
+                marker,
+                number,
+                has,
+            } => {
+                let Some(announced) = marker_of(marker) else {
+                    unreachable!()
+                };
+                self.take_head(announced, marker, number, has, piece)
+            }
+            Part::Body {
+                marker,
+                number,
+                lacks,
+            } => {
+                let Some(announced) = marker_of(marker) else {
+                    unreachable!()
+                };
+                self.take_body(announced, marker, number, lacks, piece)
+            }
+        }
+    }
+
+    /// Takes an item of which this is the marker, and answers what follows it.
+    #[inline]
+    fn take_item<'a>(&mut self, marker: u8, bytes: &'a [u8]) -> Result<&'a [u8], Stop>
+        requires stands { IsStanding (holds self.old) }
+        requires good { (holds self.old).standing.bad ≡ None }
+        requires none { (holds self.old).standing.part ≡ part.Nothing }
+        requires bytes { AreBytes (bytes_of (holds self.old)) }
+        ensures told { Answers (λ x. x.now) result (bytes_of (holds self.old) ++ marker ∷ bytes.now)
+            (holds self.new) }
+        ensures shorter { IfOk result (λ x. length x.now ≤ length bytes.now) }
+        ensures grown { HasGrown (holds self.old) (holds self.new) }
+    {
+        let place = self.standing.read;
+        if self.standing.open.is_whole() {
+            return Err(Stop::Fault(Reason::Trailing, place));
+        }
+        let Some(announced) = marker_of(marker) else {
+            return Err(Stop::Fault(Reason::Marker, place));
+        };
+        if let Some(reason) = self.standing.open.refuses(announced) {
+            return Err(Stop::Fault(reason, place));
+        }
+        self.take_head(announced, marker, 0, 0, bytes)
+    }
+
+    /// Takes what follows a marker and so many bytes of its number.
+    #[inline]
+    fn take_head<'a>(
+        &mut self,
+        announced: Marker,
+        marker: u8,
+        number: u64,
+        has: usize,
+        bytes: &'a [u8],
+    ) -> Result<&'a [u8], Stop>
+        requires announced { marker_at marker ≡ Some announced }
+        requires goes { Goes (holds self.old) (part.Head marker number has) }
+        requires good { (holds self.old).standing.bad ≡ None }
+        ensures told { Answers (λ x. x.now) result
+            (bytes_with (holds self.old) (part.Head marker number has) ++ bytes.now)
+            (holds self.new) }
+        ensures shorter { IfOk result (λ x. length x.now ≤ length bytes.now) }
+        ensures grown { HasGrown (holds self.old) (holds self.new) }
+    {
+        let lacks = field_len(announced) - has;
+        if bytes.len() < lacks {
+            self.standing.part = Part::Head {
+                marker,
+                number: join(number, bytes),
+                has: has + bytes.len(),
+            };
+            return Ok(&[]);
+        }
+        let (front, rest) = bytes.split_at(lacks);
+        let number = join(number, front);
+        self.take_body(announced, marker, number, body_len(announced, number), rest)
+    }
+
+    /// Takes what follows a head, where so many bytes of its text or byte string are missing.
+    #[inline]
+    fn take_body<'a>(
+        &mut self,
+        announced: Marker,
+        marker: u8,
+        number: u64,
+        lacks: u64,
+        bytes: &'a [u8],
+    ) -> Result<&'a [u8], Stop>
+        requires announced { marker_at marker ≡ Some announced }
+        requires goes { Goes (holds self.old) (part.Body marker number lacks) }
+        requires good { (holds self.old).standing.bad ≡ None }
+        ensures told { Answers (λ x. x.now) result
+            (bytes_with (holds self.old) (part.Body marker number lacks) ++ bytes.now)
+            (holds self.new) }
+        ensures shorter { IfOk result (λ x. length x.now ≤ length bytes.now) }
+        ensures grown { HasGrown (holds self.old) (holds self.new) }
+    {
+        if lacks == 0 {
+            return self.end_item(announced, marker, number, bytes);
+        }
+        if (bytes.len() as u64) < lacks {
+            self.texts.extend(bytes)?;
+            self.standing.part = Part::Body {
+                marker,
+                number,
+                lacks: lacks - bytes.len() as u64,
+            };
+            return Ok(&[]);
+        }
+        let (front, rest) = bytes.split_at(lacks as usize);
+        self.texts.extend(front)?;
+        self.end_item(announced, marker, number, rest)
+    }
+
+    /// Ends an item of which all bytes are there, and answers what follows it.
+    #[inline]
+    fn end_item<'a>(
+        &mut self,
+        announced: Marker,
+        marker: u8,
+        number: u64,
+        rest: &'a [u8],
+    ) -> Result<&'a [u8], Stop>
+        requires announced { marker_at marker ≡ Some announced }
+        requires goes { Goes (holds self.old) (part.Body marker number 0) }
+        requires good { (holds self.old).standing.bad ≡ None }
+        ensures told { Answers (λ x. x.now) result
+            (bytes_with (holds self.old) (part.Body marker number 0) ++ rest.now)
+            (holds self.new) }
+        ensures after { IfOk result (λ x. x.now ≡ rest.now) }
+        ensures grown { HasGrown (holds self.old) (holds self.new) }
+    {
+        match announced {
+            Marker::Text(size) => self.end_text(size, marker, number, rest),
+            Marker::List(size) => self.end_list(
+                announced,
+                marker,
+                number,
+                size_in(size, number),
+                rest,
+            ),
+            Marker::Struct(count) => self.end_list(announced, marker, number, count, rest),
+            Marker::Dict(size) => self.end_dict(size, marker, number, rest),
+            _ => self.end_value(announced, marker, number, rest),
+        }
+    }
+
+    /// Ends a text, or a key.
+    fn end_text<'a>(
+        &mut self,
+        size: Size,
+        marker: u8,
+        number: u64,
+        rest: &'a [u8],
+    ) -> Result<&'a [u8], Stop>
+        requires announced { marker_at marker ≡ Some (announces.Text size) }
+        requires goes { Goes (holds self.old) (part.Body marker number 0) }
+        requires good { (holds self.old).standing.bad ≡ None }
+        ensures told { Answers (λ x. x.now) result
+            (bytes_with (holds self.old) (part.Body marker number 0) ++ rest.now)
+            (holds self.new) }
+        ensures after { IfOk result (λ x. x.now ≡ rest.now) }
+        ensures grown { HasGrown (holds self.old) (holds self.new) }
+    {
+        let start = self.texts.len() - size_in(size, number) as usize;
+        let text = &self.texts.bytes()[start..];
+        let Ok(_) = from_utf8(text) else {
+            return Err(Stop::Fault(Reason::Utf8, self.standing.read));
+        };
+        if self.standing.open.waits_for_key() {
+            return self.end_key(size, marker, number, start, rest);
+        }
+        self.end_value(Marker::Text(size), marker, number, rest)
+    }
+
+    /// Ends a key, which is to be none of its dictionary's yet.
+    fn end_key<'a>(
+        &mut self,
+        size: Size,
+        marker: u8,
+        number: u64,
+        start: usize,
+        rest: &'a [u8],
+    ) -> Result<&'a [u8], Stop>
+        requires announced { marker_at marker ≡ Some (announces.Text size) }
+        requires goes { Goes (holds self.old) (part.Body marker number 0) }
+        requires start { start + size_with size number ≡ length (holds self.old).store }
+        requires text { IsUtf8 (drop start (holds self.old).store) }
+        requires key { (fs : List Frame)
+            → AreLevels fs (holds self.old).standing.«open».depth
+            (holds self.old).standing.«open».around → is_some (place fs).key ≡ true }
+        requires good { (holds self.old).standing.bad ≡ None }
+        ensures told { Answers (λ x. x.now) result
+            (bytes_with (holds self.old) (part.Body marker number 0) ++ rest.now)
+            (holds self.new) }
+        ensures after { IfOk result (λ x. x.now ≡ rest.now) }
+        ensures grown { HasGrown (holds self.old) (holds self.new) }
+    {
+        let first = self.standing.open.keys();
+        let is_new = self.texts.join(first, start)?;
+        if !is_new {
+            return Err(Stop::Fault(Reason::KeyTwice, self.standing.read));
+        }
+        self.push(Marker::Text(size), marker, number)?;
+        self.standing.open.key_ends();
+        Ok(rest)
+    }
+
+    /// Ends a value without members, that isn't a key.
+    fn end_value<'a>(
+        &mut self,
+        announced: Marker,
+        marker: u8,
+        number: u64,
+        rest: &'a [u8],
+    ) -> Result<&'a [u8], Stop>
+        requires announced { marker_at marker ≡ Some announced }
+        requires goes { Goes (holds self.old) (part.Body marker number 0) }
+        requires value { IsValue (holds self.old) marker number }
+        requires good { (holds self.old).standing.bad ≡ None }
+        ensures told { Answers (λ x. x.now) result
+            (bytes_with (holds self.old) (part.Body marker number 0) ++ rest.now)
+            (holds self.new) }
+        ensures after { IfOk result (λ x. x.now ≡ rest.now) }
+        ensures grown { HasGrown (holds self.old) (holds self.new) }
+    {
+        self.push(announced, marker, number)?;
+        self.standing.open.value_ends();
+        Ok(rest)
+    }
+
+    /// Ends the head of a list or a structure, to have so many members.
+    fn end_list<'a>(
+        &mut self,
+        announced: Marker,
+        marker: u8,
+        number: u64,
+        count: u64,
+        rest: &'a [u8],
+    ) -> Result<&'a [u8], Stop>
+        requires announced { marker_at marker ≡ Some announced }
+        requires list { IsListOf announced number count }
+        requires goes { Goes (holds self.old) (part.Body marker number 0) }
+        requires good { (holds self.old).standing.bad ≡ None }
+        ensures told { Answers (λ x. x.now) result
+            (bytes_with (holds self.old) (part.Body marker number 0) ++ rest.now)
+            (holds self.new) }
+        ensures after { IfOk result (λ x. x.now ≡ rest.now) }
+        ensures grown { HasGrown (holds self.old) (holds self.new) }
+    {
+        if count == 0 {
+            return self.end_value(announced, marker, number, rest);
+        }
+        self.push(announced, marker, number)?;
+        self.standing.open.open(count);
+        Ok(rest)
+    }
+
+    /// Ends the head of a dictionary.
+    fn end_dict<'a>(
+        &mut self,
+        size: Size,
+        marker: u8,
+        number: u64,
+        rest: &'a [u8],
+    ) -> Result<&'a [u8], Stop>
+        requires announced { marker_at marker ≡ Some (announces.Dict size) }
+        requires goes { Goes (holds self.old) (part.Body marker number 0) }
+        requires good { (holds self.old).standing.bad ≡ None }
+        ensures told { Answers (λ x. x.now) result
+            (bytes_with (holds self.old) (part.Body marker number 0) ++ rest.now)
+            (holds self.new) }
+        ensures after { IfOk result (λ x. x.now ≡ rest.now) }
+        ensures grown { HasGrown (holds self.old) (holds self.new) }
+    {
+        let count = size_in(size, number);
+        if count == 0 {
+            return self.end_value(Marker::Dict(size), marker, number, rest);
+        }
+        self.push(Marker::Dict(size), marker, number)?;
+        let keys = self.texts.count();
+        self.standing.open.open_dict(count, keys);
+        Ok(rest)
+    }
+
+    /// Keeps an item, and that its bytes are read.
+    #[inline]
+    fn push(&mut self, announced: Marker, marker: u8, number: u64) -> Result<(), Stop>
+        ensures ok { OnOk result
+            (holds self.new ≡ with_item announced marker number (holds self.old)) }
+        ensures fault { IfErr result (λ e. e ≡ stop.Memory) }
+        ensures grown { HasGrown (holds self.old) (holds self.new) }
+        ensures opened { self.new.standing.«open» ≡ self.old.standing.«open» }
+    {
+        let head = self.standing.read.checked_add(1 + field_len(announced));
+        let Some(head) = head else {
+            return Err(Stop::Memory);
+        };
+        let Some(read) = head.checked_add(body_len(announced, number) as usize) else {
+            return Err(Stop::Memory);
+        };
+        self.items.push(Item { marker, number })?;
+        self.standing.part = Part::Nothing;
+        self.standing.read = read;
+        Ok(())
+    }
+}

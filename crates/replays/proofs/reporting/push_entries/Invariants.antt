@@ -1,8 +1,0 @@
-use Rattle.std.proofs.Common.{◌≡◌, ◌++◌, ◌-◌, take, string_bytes}
-use Rattle.std.specs.List.{flat_map}
-use Rattle.engine.specs.Views.{entries_view}
-use Rattle.programs.specs.Looping.{entry_line}
-use Rattle.replays.proofs.reporting.push_entries.Given as goal
-
-abbrev pub invariant-loop-entry : goal.invariant-loop-entry
-invariant-loop-entry l = string_bytes l.text ≡ string_bytes l.fn.text ++ flat_map entry_line (entries_view (take l.entry-index l.entries))

@@ -1,7 +1,0 @@
-use Rattle.std.proofs.Common.{◌≡◌, ◌++◌, ◌-◌, take, string_bytes}
-use Rattle.std.specs.List.{flat_map}
-use Rattle.programs.specs.Telling.{lost_line}
-use Rattle.replays.proofs.reporting.push_lost.Given as goal
-
-abbrev pub invariant-loop-ordinal : goal.invariant-loop-ordinal
-invariant-loop-ordinal l = string_bytes l.text ≡ string_bytes l.fn.text ++ flat_map lost_line (take l.ordinal-index l.losses)

@@ -1,8 +1,0 @@
-use Rattle.std.proofs.Common.{◌≡◌, ◌++◌, ◌-◌, string_bytes}
-use Rattle.std.specs.List.{flat_map}
-use Rattle.world.specs.Reports.{ordinals}
-use Rattle.replays.specs.Texts.{waits_line}
-use Rattle.replays.proofs.reporting.push_waits.Given as goal
-
-abbrev pub invariant-loop-ordinal : goal.invariant-loop-ordinal
-invariant-loop-ordinal l = string_bytes l.text ≡ string_bytes l.fn.text ++ flat_map waits_line (ordinals l.first (l.ordinal - l.first))

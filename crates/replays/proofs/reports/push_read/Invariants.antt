@@ -1,0 +1,8 @@
+use Rattle.std.proofs.Common.{◌≡◌, ◌++◌, ◌-◌, take, map, string_bytes}
+use Rattle.std.specs.List.{flat_map}
+use Rattle.world.specs.Views.{read_of}
+use Rattle.replays.specs.Texts.{read_line}
+use Rattle.replays.proofs.reports.push_read.Given as goal
+
+abbrev pub invariant-loop-read : goal.invariant-loop-read
+invariant-loop-read l = string_bytes l.text ≡ string_bytes l.fn.text ++ flat_map read_line (map read_of (take l.read-index l.summaries))

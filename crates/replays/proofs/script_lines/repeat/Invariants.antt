@@ -1,0 +1,12 @@
+use Rattle.std.proofs.Common.{List}
+use Rattle.engine.specs.Views.{EntryView}
+use Rattle.world.specs.World.{World, Reached}
+use Rattle.world.specs.Views.{event_of}
+use Rattle.world.specs.Turns.{FitsWorld, setting_of}
+use Rattle.replays.specs.Running.{Leads, Moves}
+use Rattle.replays.proofs.script_lines.repeat.Given as goal
+
+abbrev pub invariant-loop-time : goal.invariant-loop-time
+invariant-loop-time g l =
+    (gate : g.row.G.Denot) (brought : List EntryView) (w : World) → Reached (setting_of g.E.Engine.answer g.G.Gate.accepts gate) brought w → FitsWorld g.E.Engine.entries l.fn.world gate w
+    → Leads g.E.Engine.entries (setting_of g.E.Engine.answer g.G.Gate.accepts gate) gate brought (Moves (setting_of g.E.Engine.answer g.G.Gate.accepts gate) (event_of l.event) w) l.world

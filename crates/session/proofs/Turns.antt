@@ -1,0 +1,88 @@
+-- What a step does, as the model's step.
+use Rattle.std.proofs.Common.{◌≡◌, ◌∙◌, sym, ap, subst, refl, ℕ, Bool, true, false, cond, List, [], ◌∷◌, length, None, Result, Ok}
+use Rattle.std.specs.Prelude.{IfOk, if◌then◌else◌, ◌&&◌, is_some, nat_le}
+use Rattle.std.specs.declared.alloc.AllocError.{AllocError}
+use Rattle.wire.specs.declared.Version.{Version}
+use Rattle.messages.specs.View.{RequestView}
+use Rattle.messages.specs.Summaries.{response_of_summary, Passed}
+use Rattle.messages.specs.Arrivals.{Arrival, Shook, NoMagic, Idle, Asked, Unread, TooLong}
+use Rattle.machine.specs.declared.kinds.Kind.{Kind}
+use Rattle.machine.specs.declared.states.State.{State}
+use Rattle.machine.specs.declared.rows.Verdict.{Verdict}
+use Rattle.machine.specs.Asks.{kind_of, is_goodbye, is_reset}
+use Rattle.machine.specs.Following.{interruptible}
+use Rattle.engine.specs.Views.{Token, EntryView, AnswerView}
+use Rattle.session.specs.declared.acts.Turn.TheVariants as turn
+use Rattle.session.specs.declared.acts.Leaves.{Leaves}
+use Rattle.session.specs.declared.kinds.Worked.{Worked}
+use Rattle.session.specs.declared.fault.Fault.TheVariants as fault
+use Rattle.session.specs.Said.{fits}
+use Rattle.messages.specs.Writing.{response_spelling}
+use Rattle.session.specs.Session.{Setting, Open, no_result, Tx, no_tx, Reply, Summary, serve, reply_to_run, fails, unwritable, in_transaction, with_write, result_of_answer, fields_said}
+use Rattle.session.specs.Rest.{Kept, Step, replies, after_interrupt, turns, reset_among, version_of}
+use Rattle.session.specs.Acts.{Steps, served_interrupted, turn_in, left_result, left_tx, left_entry}
+
+pub asked_head : (a b : RequestView) (xs ys : List Arrival) → (Asked a ∷ xs) ≡ (Asked b ∷ ys) → a ≡ b
+asked_head a b xs ys e = cc
+
+-- a request waits
+pub serves_is : (xs : List Arrival) → turn_in xs ≡ turn.Serves → (q : RequestView) × (later : List Arrival) × (xs ≡ Asked q ∷ later)
+serves_is [] e = cc
+serves_is (Asked q ∷ later) e = (q, later, refl)
+serves_is (Unread f ∷ later) e = cc
+serves_is (TooLong ∷ later) e = cc
+serves_is (Shook v ∷ later) e = cc
+serves_is (NoMagic ∷ later) e = cc
+serves_is (Idle ∷ later) e = cc
+
+-- neither a GOODBYE nor a RESET
+pub interrupted_passed : (k : Kind) → is_goodbye k ≡ false → is_reset k ≡ false → Summary Verdict.Ignored (response_of_summary Passed) no_result no_tx None ≡ served_interrupted k
+interrupted_passed k bye reset = rw (bye, reset) refl
+
+-- where a RESET interrupts
+pub turns_interrupted : (S : Setting) (c : ℕ) (ledger : List EntryView) (k : Kept) (xs : List Arrival) (q : RequestView) (later : List Arrival) → xs ≡ Asked q ∷ later → (reset_among xs && interruptible k.state) ≡ true
+    → replies ledger (after_interrupt k) q later (served_interrupted (kind_of q)) ≡ turns S c ledger k xs
+turns_interrupted S c ledger k xs q later e h =
+    let interrupts_so : (reset_among (Asked q ∷ later) && interruptible k.state) ≡ true = ap (λ ys. reset_among ys && interruptible k.state) (sym e) ∙ h in
+    let at : Kept → Step = λ s. replies ledger s q later (serve S (version_of s) c ledger s.state s.result s.tx q) in
+    ap at (sym (chosen_true (reset_among (Asked q ∷ later) && interruptible k.state) (after_interrupt k) k interrupts_so)) ∙ ap (turns S c ledger k) (sym e)
+  where
+    chosen_true : (b : Bool) (s t : Kept) → b ≡ true → cond b s t ≡ s
+    chosen_true true s t p = refl
+    chosen_true false s t p = cc
+
+pub turns_served : (S : Setting) (c : ℕ) (ledger : List EntryView) (k : Kept) (xs : List Arrival) (q : RequestView) (later : List Arrival) → xs ≡ Asked q ∷ later → (reset_among xs && interruptible k.state) ≡ false
+    → replies ledger k q later (serve S (version_of k) c ledger k.state k.result k.tx q) ≡ turns S c ledger k xs
+turns_served S c ledger k xs q later e h =
+    let none : (reset_among (Asked q ∷ later) && interruptible k.state) ≡ false = ap (λ ys. reset_among ys && interruptible k.state) (sym e) ∙ h in
+    let at : Kept → Step = λ s. replies ledger s q later (serve S (version_of s) c ledger s.state s.result s.tx q) in
+    ap at (sym (chosen_false (reset_among (Asked q ∷ later) && interruptible k.state) (after_interrupt k) k none)) ∙ ap (turns S c ledger k) (sym e)
+  where
+    chosen_false : (b : Bool) (s t : Kept) → b ≡ false → cond b s t ≡ t
+    chosen_false true s t p = cc
+    chosen_false false s t p = refl
+
+-- of a step that has another name
+pub steps_at : (d e : Step) (conn first : ℕ) (r : Result Worked AllocError) (new : Kept) (before after : List EntryView) → d ≡ e
+    → IfOk r (λ w. Steps d conn first w new before after) → IfOk r (λ w. Steps e conn first w new before after)
+steps_at d e conn first r new before after same h = subst (λ (x : Step). IfOk r (λ w. Steps x conn first w new before after)) same h
+
+cond_true : (b : Bool) (x y : Reply) → b ≡ true → cond b x y ≡ x
+cond_true true x y e = refl
+cond_true false x y e = cc
+
+cond_false : (b : Bool) (x y : Reply) → b ≡ false → cond b x y ≡ y
+cond_false true x y e = cc
+cond_false false x y e = refl
+
+-- what an answer opens, where its fields can be said
+pub opens_as : (v : Version) (s : State) (left : Open) (tx : Tx) (token : Token) (a : AnswerView) (l : Leaves) → (in_transaction s && (is_some a.write && nat_le 1024 (length tx.writes))) ≡ false → fits v (fields_said a.fields) ≡ true
+    → left_result l left ≡ result_of_answer v s token a → left_tx l tx ≡ (if in_transaction s then with_write tx a.write else no_tx) → left_entry l left tx ≡ None
+    → reply_to_run v s tx token (Ok a) ≡ Summary Verdict.Success (fields_said a.fields) (left_result l left) (left_tx l tx) (left_entry l left tx)
+opens_as v s left tx token a l few fit o t e =
+    let m = fields_said a.fields in
+    let after : Tx = if in_transaction s then with_write tx a.write else no_tx in
+    let done : Reply = Summary Verdict.Success m (result_of_answer v s token a) after None in
+    cond_false (in_transaction s && (is_some a.write && nat_le 1024 (length tx.writes))) (fails fault.TooManyWrites) (cond (fits v m) done (fails (unwritable (response_spelling v m)))) few
+    ∙ cond_true (fits v m) done (fails (unwritable (response_spelling v m))) fit
+    ∙ sym (ap (λ x. Summary Verdict.Success m x (left_tx l tx) (left_entry l left tx)) o ∙ ap (λ x. Summary Verdict.Success m (result_of_answer v s token a) x (left_entry l left tx)) t ∙ ap (λ x. Summary Verdict.Success m (result_of_answer v s token a) after x) e)

@@ -1,0 +1,24 @@
+use Rattle.std.proofs.Common.{◌∙◌, sym, ap, subst}
+use Rattle.engine.specs.Views.{Token, AnswerView, answer_view, token_view}
+use Rattle.session.specs.Session.{fields_said}
+use Rattle.session.specs.Rest.{version_of}
+use Rattle.session.specs.Views.{kept_of}
+use Rattle.session.specs.Said.{fits}
+use Rattle.session.specs.Acts.{IsBody, opened_by}
+use Rattle.session.proofs.Turns.{opens_as}
+use Rattle.session.proofs.session.Session.open.Goals as goal
+
+pub returns-in-Ok : goal.returns-in-Ok
+returns-in-Ok c =
+    let k = kept_of c.args.self.now in
+    let v = version_of k in
+    let a : AnswerView = answer_view c.args.answer in
+    let token : Token = token_view c.args.token.now in
+    let leaves = c.in_ok-leaves-in-Ok.leaves in
+    let left = c.in_ok-leaves-in-Ok.ensures in
+    let ver = c.version-version.ensures in (
+      fields_said a.fields,
+      opens_as v k.state k.result k.tx token a leaves (sym c.has_too_many.ensures ∙ c.if-has_too_many.false) (ap (λ u. fits u (fields_said a.fields)) (sym ver) ∙ c.in-Ok.ensures.ok.1)
+          (left.result k.result ∙ ap (λ u. opened_by u k.state c.args.answer.rows.items c.args.answer.mode c.args.answer.write token) ver) (left.tx k.tx) (left.entry k.result k.tx),
+      subst (λ u. IsBody u (fields_said a.fields) c.in-Ok.body.items) ver c.in-Ok.ensures.ok.0,
+    )

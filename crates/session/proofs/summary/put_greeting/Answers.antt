@@ -1,0 +1,15 @@
+use Rattle.std.proofs.Common.{◌++◌, codes, refl}
+use Rattle.std.specs.Fmt.{decimal}
+use Rattle.packstream.specs.Tree.{text, entry_then, no_entries}
+use Rattle.packstream.specs.Canon.{head}
+use Rattle.packstream.specs.View.{entries_of}
+use Rattle.messages.specs.Summaries.{greeting}
+use Rattle.session.proofs.Summed.{headed, entry_first, entry_last}
+use Rattle.session.proofs.summary.put_greeting.Goals as goal
+
+pub returns-clause-spelled : goal.returns-clause-spelled
+unfolding head
+returns-clause-spelled c =
+    let id = text (codes "bolt-" ++ decimal c.args.conn) in
+    headed 0x70 0xA2 (entries_of (greeting c.args.conn)) _ _ _ refl c.in_ok-put_success.ensures.ok
+    (entry_first (codes "server") (codes "BoltTable/1") (entry_then (codes "connection_id") id no_entries) _ _ _ c.in_ok-put_entry.ensures.ok (entry_last (codes "connection_id") id _ _ c.in_ok-put_numbered.ensures.ok))

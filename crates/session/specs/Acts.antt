@@ -1,0 +1,237 @@
+-- What a step decides before it changes anything, and what it leaves.
+use Rattle.std.specs.Prelude.{◌≡◌, if◌then◌else◌, ℕ, suc, ◌+◌, ◌<◌, ◌≤◌, List, [], ◌∷◌, ◌++◌, length, drop, Option, Some, None, option_map, Ok, false}
+use Rattle.packstream.specs.Tree.{Tree}
+use Rattle.wire.specs.declared.Version.{Version}
+use Rattle.messages.specs.View.{ResponseView}
+use Rattle.messages.specs.Summaries as messages
+use Rattle.messages.specs.Writing.{response_spelling}
+use Rattle.wire.specs.Texts.{written_run}
+use Rattle.messages.specs.Arrivals.{Arrival, Asked, Unread, TooLong}
+use Rattle.machine.specs.declared.states.State.{State}
+use Rattle.machine.specs.declared.kinds.Kind.{Kind}
+use Rattle.machine.specs.declared.rows.Verdict.{Verdict}
+use Rattle.std.specs.declared.alloc.Global.{Global}
+use Rattle.std.specs.declared.vec.Vec.{Vec}
+use Rattle.cells.specs.declared.cell.Cell.{Cell}
+use Rattle.engine.specs.declared.answer.Mode.{Mode as QueryMode}
+use Rattle.engine.specs.declared.ledger.Write.{Write}
+use Rattle.engine.specs.declared.ledger.Commit.{Commit}
+use Rattle.engine.specs.declared.ledger.Commit.TheVariants.{Added, Repeat, Clash}
+use Rattle.engine.specs.Tokens.{Free, found_in}
+use Rattle.engine.specs.Views.{Token, WriteView, EntryView, token_view, write_view, rows_view}
+use Rattle.session.specs.declared.session.Waiting.{Waiting}
+use Rattle.session.specs.declared.session.Waiting.TheVariants as waiting
+use Rattle.session.specs.declared.kinds.Cause.{Cause}
+use Rattle.session.specs.declared.kinds.Cause.TheVariants as cause
+use Rattle.session.specs.declared.kinds.Worked.{Worked}
+use Rattle.session.specs.declared.acts.Turn.{Turn}
+use Rattle.session.specs.declared.acts.Turn.TheVariants as turn
+use Rattle.session.specs.declared.acts.Act.{Act}
+use Rattle.session.specs.declared.acts.Act.TheVariants as act
+use Rattle.session.specs.declared.acts.Leaves.{Leaves}
+use Rattle.session.specs.declared.acts.Leaves.TheVariants as leaves
+use Rattle.session.specs.declared.summary.Summary.{Summary}
+use Rattle.session.specs.declared.summary.Summary.TheVariants as summary
+use Rattle.messages.specs.declared.fault.MsgFault.{MsgFault}
+use Rattle.messages.specs.declared.fault.MsgFault.TheVariants as writer
+use Rattle.session.specs.declared.fault.Fault.{Fault}
+use Rattle.session.specs.declared.fault.Fault.TheVariants as fault
+use Rattle.session.specs.declared.spelling.Unwritten.{Unwritten}
+use Rattle.session.specs.declared.spelling.Unwritten.TheVariants as unwritten
+use Rattle.session.specs.Faults.{failure}
+use Rattle.session.specs.Said.{fits}
+use Rattle.machine.specs.Asks.{is_goodbye, is_reset}
+use Rattle.session.specs.Session.{Open, no_result, Tx, no_tx, Change, change_alone, change_inside, Reply, fails, with_write, unwritable, rows_fitted, result_mode, in_transaction, passed_over}
+use Rattle.session.specs.Rest.{Kept, Step, worked_of, commit_entries}
+use Rattle.session.specs.Views.{open_of}
+use Rattle.wire.specs.Limits.{max_message}
+use Rattle.engine.specs.Limits.{ledger_bound}
+
+-- a summary, as the definitions of messages have it
+abbrev pub summary_of : Summary → messages.Summary
+summary_of (summary.Greeting conn) = messages.Greeting conn
+summary_of summary.RowsLeft = messages.RowsLeft
+summary_of (summary.Closing len mode) = messages.Closing len mode
+summary_of (summary.Committed len) = messages.Committed len
+summary_of summary.Plain = messages.Plain
+summary_of (summary.Failure fault) = failure fault
+summary_of summary.Passed = messages.Passed
+
+-- the spelling of a response, as a message of the wire
+pub record IsBody (v : Version) (m : ResponseView) (b : List ℕ) : Type 0 where
+  pub text : response_spelling v m ≡ Ok b
+  pub some : 0 < length b
+  pub few : length b ≤ max_message
+
+-- why a writer wrote nothing
+abbrev pub unwritten_of : MsgFault → Unwritten
+unwritten_of writer.Memory = unwritten.Memory
+unwritten_of writer.Size = unwritten.Because fault.RowTooLarge
+unwritten_of _ = unwritten.Because fault.NotInVersion
+
+-- It can't be written, and this is why.
+pub record IsRefused (v : Version) (m : ResponseView) (f : Fault) : Type 0 where
+  pub misfit : fits v m ≡ false
+  pub why : unwritable (response_spelling v m) ≡ f
+
+-- the same, where it isn't for want of memory
+abbrev pub Refuses : Version → ResponseView → Unwritten → Type 0
+Refuses v m unwritten.Memory = Unit {0}
+Refuses v m (unwritten.Because f) = IsRefused v m f
+
+-- the result that is open after a summary, by the one that was open before
+abbrev pub left_result : Leaves → Open → Open
+left_result leaves.Nothing left = no_result
+left_result (leaves.Begun mode token) left = no_result
+left_result (leaves.Opened r) left = open_of r
+left_result (leaves.Joined r write) left = open_of r
+left_result (leaves.Rest n) left =
+    record left { rows = drop n left.rows; written = 0 }
+left_result leaves.Transaction left = no_result
+left_result leaves.CommitsResult left = no_result
+left_result leaves.CommitsTransaction left = no_result
+
+-- the transaction that is open after a summary, by the one that was open before
+abbrev pub left_tx : Leaves → Tx → Tx
+left_tx leaves.Nothing tx = no_tx
+left_tx (leaves.Begun mode token) tx = record { mode = mode; writes = []; token = token_view token }
+left_tx (leaves.Opened r) tx = no_tx
+left_tx (leaves.Joined r write) tx = with_write tx (option_map write_view write)
+left_tx (leaves.Rest n) tx = tx
+left_tx leaves.Transaction tx = tx
+left_tx leaves.CommitsResult tx = no_tx
+left_tx leaves.CommitsTransaction tx = no_tx
+
+-- what a summary adds to the ledger, where it does: the change of the result or of the transaction open before
+abbrev pub left_entry : Leaves → Open → Tx → Option Change
+left_entry leaves.CommitsResult left tx = Some (change_alone left)
+left_entry leaves.CommitsTransaction left tx = Some (change_inside tx)
+left_entry _ left tx = None
+
+-- these writes under this token, as a change
+abbrev pub change_of : List WriteView → Token → Change
+change_of writes token = record { writes = writes; token = token }
+
+-- how a commit is answered, by what its engine would answer to it
+abbrev pub commits_by : Change → (ℕ → ResponseView) → Commit → Reply
+commits_by change said (Added n) = Reply.Summary Verdict.Success (said n) no_result no_tx (Some change)
+commits_by change said (Repeat n) = Reply.Summary Verdict.Success (said n) no_result no_tx None
+commits_by change said Clash = fails fault.TokenClash
+
+-- What is to be added is free: the ledger has nothing under its token.
+abbrev pub IsFree : List EntryView → Option Change → Type 0
+IsFree ledger None = Unit {0}
+IsFree ledger (Some change) = found_in change.token change.writes ledger ≡ Free
+
+-- the same of what an act adds
+abbrev pub AddsFree : List EntryView → Open → Tx → Act → Type 0
+AddsFree ledger left tx (act.Sends body) = Unit {0}
+AddsFree ledger left tx (act.Says d body l) = IsFree ledger (left_entry l left tx)
+AddsFree ledger left tx act.Leaves = Unit {0}
+
+-- one row fewer
+abbrev pub one_less : Open → Open
+one_less left = record left { rows = drop 1 left.rows; written = suc left.written }
+
+-- A row is there, its text is this, and it is the reply.
+pub record IsRow (v : Version) (left : Open) (reply : Reply) (b : List ℕ) : Type 0 where
+  pub row : List Tree
+  pub is : reply ≡ Reply.OneRow row (one_less left)
+  pub body : IsBody v (ResponseView.Record row) b
+  pub some : 0 < length left.rows
+
+-- an act is this reply
+abbrev pub ActsAs : Version → Open → Tx → Act → Reply → Type 0
+ActsAs v left tx (act.Sends body) reply = IsRow v left reply body.items
+ActsAs v left tx (act.Says d body l) reply =
+    (m : ResponseView)
+    × (reply ≡ Reply.Summary d m (left_result l left) (left_tx l tx) (left_entry l left tx))
+    × IsBody v m body.items
+ActsAs v left tx act.Leaves reply = reply ≡ Reply.Bye
+
+-- a message may have these bytes
+abbrev pub IsSized : List ℕ → Type 0
+IsSized b = (0 < length b) × (length b ≤ max_message)
+
+-- what is written fits a message, and a row that is sent is there
+abbrev pub IsWritable : List (List Tree) → Act → Type 0
+IsWritable rows (act.Sends body) = IsSized body.items × (0 < length rows)
+IsWritable rows (act.Says d body l) = IsSized body.items
+IsWritable rows act.Leaves = Unit {0}
+
+-- what the first that waits is for a step
+abbrev pub turn_in : List Arrival → Turn
+turn_in (Asked q ∷ later) = turn.Serves
+turn_in (Unread e ∷ later) = turn.Ends cause.Malformed
+turn_in (TooLong ∷ later) = turn.Ends cause.TooBig
+turn_in _ = turn.Nothing
+
+-- the same of one that waits
+abbrev pub turn_of_one : Waiting → Turn
+turn_of_one (waiting.Asked request) = turn.Serves
+turn_of_one (waiting.Unread e) = turn.Ends cause.Malformed
+turn_of_one waiting.TooLong = turn.Ends cause.TooBig
+
+-- the same of the first that waits, where there is one
+abbrev pub turn_by : Option Waiting → Turn
+turn_by None = turn.Nothing
+turn_by (Some w) = turn_of_one w
+
+-- a summary was written, in the room that a request leaves
+abbrev pub after_summary : State → Option Cause → Open → Tx → List ℕ → Kept → Kept
+after_summary state ended left tx body k =
+    record {
+      version = k.version;
+      state = state;
+      ended = ended;
+      first = suc k.first;
+      waiting = drop 1 k.waiting;
+      result = left;
+      tx = tx;
+      unsent = k.unsent ++ written_run body;
+    }
+
+-- a row was written
+abbrev pub after_bytes : List ℕ → Kept → Kept
+after_bytes body k = record k { result = one_less k.result; unsent = k.unsent ++ written_run body }
+
+-- the ledger's length after it, where it commits
+abbrev pub length_after : List EntryView → Option Change → Option ℕ
+length_after ledger entry = option_map (λ _. length ledger + 1) entry
+
+-- a ledger may have this length, where there is one
+abbrev pub IsBelow : Option ℕ → Type 0
+IsBelow None = Unit {0}
+IsBelow (Some n) = n < ledger_bound
+
+-- the result that an answer opens
+abbrev pub opened_by : Version → State → List (Vec Cell Global) → QueryMode → Option Write → Token → Open
+opened_by v s rows mode write token =
+    record {
+      rows = rows_fitted v (rows_view rows);
+      mode = result_mode mode;
+      write = if in_transaction s then None else option_map write_view write;
+      written = 0;
+      token = if in_transaction s then None else token;
+    }
+
+-- Whatever was open before, this is left open; in a transaction its write is among the transaction's; nothing is committed.
+pub record LeavesOpen (v : Version) (s : State) (rows : List (Vec Cell Global)) (mode : QueryMode)
+    (write : Option Write) (token : Token) (l : Leaves) : Type 0 where
+  pub result : (left : Open) → left_result l left ≡ opened_by v s rows mode write token
+  pub tx :
+      (before : Tx)
+      → left_tx l before
+      ≡ (if in_transaction s then with_write before (option_map write_view write) else no_tx)
+  pub entry : (left : Open) (before : Tx) → left_entry l left before ≡ None
+
+-- what is answered to a request in Interrupted
+abbrev pub served_interrupted : Kind → Reply
+served_interrupted k = if is_goodbye k then Reply.Bye else passed_over (is_reset k)
+
+-- What a step told, what is kept after it, and the ledger, are those of the model.
+pub record Steps (d : Step) (conn first : ℕ) (w : Worked) (new : Kept)
+    (before after : List EntryView) : Type 0 where
+  pub told : worked_of d.answer ≡ w
+  pub kept : d.kept ≡ new
+  pub ledger : after ≡ before ++ commit_entries conn first d.commit

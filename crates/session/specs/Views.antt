@@ -1,0 +1,79 @@
+-- What contracts see of a session: what it keeps.
+use Rattle.std.specs.Prelude.{Bool, true, false, List, [], ◌∷◌, map, Option, Some, None, Result, Ok, Err}
+use Rattle.messages.specs.declared.fault.MsgFault.{MsgFault}
+use Rattle.messages.specs.declared.request.Request.{Request}
+use Rattle.messages.specs.View.{request_view}
+use Rattle.messages.specs.Arrivals.{Arrival, Asked, Unread, TooLong}
+use Rattle.machine.specs.Asks.{kind_of, is_reset}
+use Rattle.engine.specs.Views.{EntryView, token_view, writes_view}
+use Rattle.session.specs.declared.session.Session.{Session}
+use Rattle.session.specs.declared.session.Waiting.{Waiting}
+use Rattle.session.specs.declared.session.Waiting.TheVariants as waiting
+use Rattle.session.specs.declared.result.OpenResult.{OpenResult}
+use Rattle.session.specs.declared.result.Transaction.{Transaction}
+use Rattle.session.specs.Session.{Open, Tx}
+use Rattle.session.specs.Rest.{Kept, Snapshot}
+
+-- what waits
+abbrev pub arrival_of : Waiting → Arrival
+arrival_of (waiting.Asked request) = Asked (request_view request)
+arrival_of (waiting.Unread e) = Unread e
+arrival_of waiting.TooLong = TooLong
+
+-- what was asked, as it arrives
+abbrev pub arrival_told : Result Request MsgFault → Arrival
+arrival_told (Ok request) = Asked (request_view request)
+arrival_told (Err e) = Unread e
+
+-- what waits stands for no request
+abbrev pub is_unread : Waiting → Bool
+is_unread (waiting.Asked request) = false
+is_unread (waiting.Unread e) = true
+is_unread waiting.TooLong = true
+
+-- what waits is a RESET
+abbrev pub is_reset_in : Waiting → Bool
+is_reset_in (waiting.Asked request) = is_reset (kind_of (request_view request))
+is_reset_in (waiting.Unread e) = false
+is_reset_in waiting.TooLong = false
+
+-- all that waits, in its order
+abbrev pub waiting_in : List Waiting → List Arrival
+waiting_in ws = map arrival_of ws
+
+-- the first of a list, where there is one
+abbrev pub first_of : {A : Type 0} → List A → Option A
+first_of [] = None
+first_of (x ∷ xs) = Some x
+
+-- the open result, by what is held of it
+abbrev pub open_of : OpenResult → Open
+open_of r = record {
+  rows = r.rows.items;
+  mode = r.mode;
+  write = first_of (writes_view r.writes.items);
+  written = r.written;
+  token = token_view r.token;
+}
+
+-- the open transaction, by what is held of it
+abbrev pub tx_of : Transaction → Tx
+tx_of t = record { mode = t.mode; writes = writes_view t.writes.items; token = token_view t.token }
+
+-- what a session keeps, by what is held of it
+abbrev pub kept_of : Session → Kept
+kept_of x =
+    record {
+      version = x.version;
+      state = x.state;
+      ended = x.cause;
+      first = x.first;
+      waiting = waiting_in x.queue.items;
+      result = open_of x.result;
+      tx = tx_of x.tx;
+      unsent = x.out.items;
+    }
+
+-- a session beside an engine, by what it keeps and by the engine's ledger
+abbrev pub snapshot_of : {E : Type 0} → (E → List EntryView) → Session → E → Snapshot
+snapshot_of entries x engine = record { kept = kept_of x; ledger = entries engine }

@@ -1,0 +1,180 @@
+//! What is open after a summary, and the commit of it.
+ghost use Rattle.std.specs.Prelude.{◌≡◌, ◌+◌, ◌<◌, ◌≤◌, ◌++◌, length, drop, Some, option_map, option_to_list, IfOk, OnOk, OnErr};
+ghost use Rattle.engine.specs.Tokens.{Free, found_in};
+ghost use Rattle.engine.specs.Views.{token_view, write_view, writes_view};
+ghost use Rattle.session.specs.Session.{no_result, change_alone};
+ghost use Rattle.session.specs.Rest.{commit_entries};
+ghost use Rattle.session.specs.Views.{open_of, tx_of};
+ghost use Rattle.session.specs.Acts.{left_result, left_tx, left_entry, length_after, change_of, IsBelow, IsFree};
+ghost use Rattle.engine.specs.Limits.{ledger_bound};
+
+use crate::acts::Leaves;
+use crate::result::{OpenResult, Row, Transaction};
+use engine::{Commit, Engine, EntryId, NoMemory, Write};
+use std::alloc::{AllocError, Global};
+use std::collections::VecDeque;
+use std::mem;
+
+/// Leaves open what is to be left, and commits what is to be committed, of which the ledger has nothing: the ledger's length where
+/// it did. An `Err` changes nothing.
+pub(crate) fn leave<E: Engine>(
+    alloc: Global,
+    open: &mut OpenResult,
+    tx: &mut Transaction,
+    leaves: Leaves,
+    id: EntryId,
+    engine: &mut E,
+) -> Result<Option<u64>, AllocError>
+    requires { IsFree (E.entries engine.old)
+        (left_entry leaves (open_of open.old) (tx_of tx.old)) }
+    ensures open { OnOk result (open_of open.new ≡ left_result leaves (open_of open.old)) }
+    ensures tx { OnOk result (tx_of tx.new ≡ left_tx leaves (tx_of tx.old)) }
+    ensures ledger { OnOk result
+        (E.entries engine.new ≡ E.entries engine.old
+        ++ commit_entries id.conn id.ordinal
+        (left_entry leaves (open_of open.old) (tx_of tx.old))) }
+    ensures len { IfOk result
+        (λ n. n ≡ length_after (E.entries engine.old)
+        (left_entry leaves (open_of open.old) (tx_of tx.old))) }
+    ensures below { IfOk result IsBelow }
+    ensures open_kept { OnErr result (open_of open.new ≡ open_of open.old) }
+    ensures tx_kept { OnErr result (tx_of tx.new ≡ tx_of tx.old) }
+    ensures ledger_kept { OnErr result (E.entries engine.new ≡ E.entries engine.old) }
+{
+    match leaves {
+        Leaves::Nothing => {
+            *open = OpenResult::closed(alloc);
+            *tx = Transaction::none(alloc);
+            Ok(None)
+        }
+        Leaves::Begun(mode, token) => {
+            *open = OpenResult::closed(alloc);
+            *tx = Transaction::begun(alloc, mode, token);
+            Ok(None)
+        }
+        Leaves::Opened(next) => {
+            *open = next;
+            *tx = Transaction::none(alloc);
+            Ok(None)
+        }
+        Leaves::Joined(next, write) => {
+            join_write(&mut tx.writes, write)?;
+            *open = next;
+            Ok(None)
+        }
+        Leaves::Rest(count) => {
+            drop_rows(open, count);
+            Ok(None)
+        }
+        Leaves::Transaction => {
+            *open = OpenResult::closed(alloc);
+            Ok(None)
+        }
+        Leaves::CommitsResult => {
+            let len = commit_result(alloc, open, id, engine)?;
+            *tx = Transaction::none(alloc);
+            Ok(Some(len))
+        }
+        Leaves::CommitsTransaction => {
+            let len = commit_writes(alloc, &mut tx.writes, &mut tx.token, id, engine)?;
+            *open = OpenResult::closed(alloc);
+            *tx = Transaction::none(alloc);
+            Ok(Some(len))
+        }
+    }
+}
+
+/// The transaction takes over a write.
+fn join_write(writes: &mut Vec<Write>, write: Option<Write>) -> Result<(), AllocError>
+    ensures ok { OnOk result
+        (writes_view writes.new.items
+        ≡ writes_view writes.old.items ++ option_to_list (option_map write_view write)) }
+    ensures err { OnErr result (writes_view writes.new.items ≡ writes_view writes.old.items) }
+{
+    match write {
+        None => Ok(()),
+        Some(write) => {
+            writes.push(write)?;
+            Ok(())
+        }
+    }
+}
+
+/// Drops rows from the front of an open result. The count of written rows begins anew.
+fn drop_rows(open: &mut OpenResult, count: usize)
+    ensures { open_of open.new ≡ left_result (Leaves.Rest count) (open_of open.old) }
+{
+    drop_front(&mut open.rows, count);
+    open.written = 0;
+}
+
+fn drop_front(rows: &mut VecDeque<Row>, count: usize)
+    ensures items { rows.new.items ≡ drop count rows.old.items }
+    ensures few { length rows.new.items ≤ length rows.old.items }
+{
+    for _gone in 0..count {
+        rows.pop_front();
+    }
+}
+
+/// Commits the write of an open result, or none, under its token, and closes it.
+fn commit_result<E: Engine>(
+    alloc: Global,
+    open: &mut OpenResult,
+    id: EntryId,
+    engine: &mut E,
+) -> Result<u64, AllocError>
+    requires { IsFree (E.entries engine.old) (Some (change_alone (open_of open.old))) }
+    ensures open { OnOk result (open_of open.new ≡ no_result) }
+    ensures ledger { OnOk result
+        (E.entries engine.new ≡ E.entries engine.old
+        ++ commit_entries id.conn id.ordinal (Some (change_alone (open_of open.old)))) }
+    ensures len { IfOk result (λ n. n ≡ length (E.entries engine.old) + 1) }
+    ensures below { IfOk result (λ n. n < ledger_bound) }
+    ensures err { OnErr result
+        ((open_of open.new ≡ open_of open.old)
+        × (E.entries engine.new ≡ E.entries engine.old)) }
+{
+    let len = commit_writes(alloc, &mut open.writes, &mut open.token, id, engine)?;
+    *open = OpenResult::closed(alloc);
+    Ok(len)
+}
+
+/// Commits writes under a token, of which the ledger has nothing. An `Err` leaves both.
+fn commit_writes<E: Engine>(
+    alloc: Global,
+    writes: &mut Vec<Write>,
+    token: &mut Option<String>,
+    id: EntryId,
+    engine: &mut E,
+) -> Result<u64, AllocError>
+    requires { found_in (token_view token.old) (writes_view writes.old.items)
+        (E.entries engine.old) ≡ Free }
+    ensures ledger { OnOk result
+        (E.entries engine.new ≡ E.entries engine.old
+        ++ commit_entries id.conn id.ordinal
+        (Some (change_of (writes_view writes.old.items) (token_view token.old)))) }
+    ensures len { IfOk result (λ n. n ≡ length (E.entries engine.old) + 1) }
+    ensures below { IfOk result (λ n. n < ledger_bound) }
+    ensures err { OnErr result
+        ((writes_view writes.new.items ≡ writes_view writes.old.items)
+        × (token_view token.new ≡ token_view token.old)
+        × (E.entries engine.new ≡ E.entries engine.old)) }
+    ensures few { length writes.new.items ≤ length writes.old.items }
+{
+    let taken = mem::replace(writes, Vec::new(alloc));
+    match engine.commit(id, token.take(), taken) {
+        Ok(Commit::Added(len)) => Ok(len),
+        Ok(Commit::Repeat(_) | Commit::Clash) => unreachable!(),
+        Err(
+            NoMemory {
+                token: held,
+                writes: returned,
+            },
+        ) => {
+            *token = held;
+            *writes = returned;
+            Err(AllocError)
+        }
+    }
+}

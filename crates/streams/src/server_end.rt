@@ -1,0 +1,122 @@
+//! A whole conversation of a session with its client, over streams.
+ghost use Rattle.std.specs.Prelude.{◌≡◌, ◌<◌, ◌≤◌, [], Some, IsSome, length, IfErr};
+ghost use Rattle.server.specs.Serving.{Rest, find, fresh, setting};
+ghost use Rattle.server.specs.Views.{Fits};
+ghost use Rattle.streams.specs.Holding.{waits};
+ghost use Rattle.streams.specs.Settling.{IsDueTo, IsLive, LivesOn};
+ghost use Rattle.streams.specs.Serving.{Converses, IsTurn, LeavesOthers, LetsRead, Serves};
+ghost use Rattle.streams.specs.Limits.{max_piece};
+
+use crate::MAX_PIECE;
+use crate::fault::{Standing, StreamFault};
+use crate::held::Held;
+use crate::intake::take_held;
+use crate::traits::{Peer, Sink};
+use engine::{Engine, Gate};
+use server::{Cause, Server};
+use std::alloc::Global;
+
+/// Serves a session that lives: reads a piece of at most 4,096 bytes, feeds an item of it and works until nothing is due, one item after the
+/// other, writes what waits to go, and goes on, to the end of the input or of the session, or to a fault. Then the session is given up, and the
+/// cause of its end is answered: `Lost` where the input ends first. What a piece makes due is one write, or more of some 65,536 bytes.
+///
+/// It reads only while the session goes on and nothing is due any more: what the bytes so far make due was put out by then, all of it.
+pub fn serve_one<E: Engine, G: Gate, I: Peer, O: Sink>(
+    alloc: Global,
+    server: &mut Server<E, G>,
+    conn: u64,
+    source: &mut I,
+    sink: &mut O,
+) -> Result<Cause, StreamFault>
+    requires live { IsLive E.entries conn server.old }
+    // A source that says when it may be read has to allow it where a fresh session goes on after the bytes that were read and the sink took
+    // all that they make due, for at most 4,096 bytes. No other read is made.
+    requires turns { LetsRead I.may_read (λ s taken. (r : Rest G) → Fits E.entries server.old r
+        → find conn r.sessions ≡ Some (fresh conn)
+        → IsTurn r conn (setting E.answer G.accepts r) (I.left source.old) (I.left s) (O.taken sink.old) taken) }
+    // Of a fresh session, some bytes were read: the sink took what the conversation puts out for them, the ledger is as it leaves it, the
+    // cause is that of its end, and with that or the input the reading ended; at a fault the sink took a beginning, and the ledger is one.
+    // The session lives no more.
+    ensures serves { (r : Rest G) → Fits E.entries server.old r
+        → find conn r.sessions ≡ Some (fresh conn)
+        → Serves r conn (setting E.answer G.accepts r) (Fits E.entries server.new) (I.left source.old) (I.left source.new) (O.taken sink.old) (O.taken sink.new) result }
+    // Of any session that lived: it lives no more, the others are as before, and the ledger has at most grown.
+    ensures leaves { (r : Rest G) → Fits E.entries server.old r → IsSome (find conn r.sessions)
+        → LeavesOthers r conn (Fits E.entries server.new) }
+    // A stream is told to have failed only where it has.
+    ensures failed { IfErr result
+        (λ e. IsDueTo e (I.has_failed source.new) (O.has_failed sink.new)) }
+{
+    let done = converse(alloc, server, conn, source, sink);
+    let cause = server.lost(conn).unwrap_or(Cause::Lost);
+    match done {
+        Ok(()) => Ok(cause),
+        Err(fault) => Err(fault),
+    }
+}
+
+/// The same, and the session lives on.
+pub fn converse<E: Engine, G: Gate, I: Peer, O: Sink>(
+    alloc: Global,
+    server: &mut Server<E, G>,
+    conn: u64,
+    source: &mut I,
+    sink: &mut O,
+) -> Result<(), StreamFault>
+    requires live { IsLive E.entries conn server.old }
+    requires turns { LetsRead I.may_read (λ s taken. (r : Rest G) → Fits E.entries server.old r
+        → find conn r.sessions ≡ Some (fresh conn)
+        → IsTurn r conn (setting E.answer G.accepts r) (I.left source.old) (I.left s) (O.taken sink.old) taken) }
+    ensures live { IsLive E.entries conn server.new }
+    ensures grows { LivesOn conn (Fits E.entries server.old) (Fits E.entries server.new) }
+    ensures converses { (r : Rest G) → Fits E.entries server.old r
+        → find conn r.sessions ≡ Some (fresh conn)
+        → Converses r conn (setting E.answer G.accepts r) (Fits E.entries server.new) (I.left source.old) (I.left source.new) (O.taken sink.old) (O.taken sink.new) result }
+    ensures failed { IfErr result
+        (λ e. IsDueTo e (I.has_failed source.new) (O.has_failed sink.new)) }
+{
+    let Ok(mut buffer) = vec![in alloc; 0; MAX_PIECE] else {
+        return Err(StreamFault::Memory);
+    };
+    let mut held = Held::new(alloc);
+    converse_by(server, conn, source, sink, buffer.as_mut_slice(), &mut held)
+}
+
+/// The same, by a buffer for the pieces and the room for what waits to go.
+fn converse_by<E: Engine, G: Gate, I: Peer, O: Sink>(
+    server: &mut Server<E, G>,
+    conn: u64,
+    source: &mut I,
+    sink: &mut O,
+    buffer: &mut [u8],
+    held: &mut Held,
+) -> Result<(), StreamFault>
+    requires live { IsLive E.entries conn server.old }
+    requires room { 0 < length buffer.old }
+    requires few { length buffer.old ≤ max_piece }
+    requires none { waits held.old ≡ [] }
+    requires turns { LetsRead I.may_read (λ s taken. (r : Rest G) → Fits E.entries server.old r
+        → find conn r.sessions ≡ Some (fresh conn)
+        → IsTurn r conn (setting E.answer G.accepts r) (I.left source.old) (I.left s) (O.taken sink.old) taken) }
+    ensures live { IsLive E.entries conn server.new }
+    ensures grows { LivesOn conn (Fits E.entries server.old) (Fits E.entries server.new) }
+    ensures converses { (r : Rest G) → Fits E.entries server.old r
+        → find conn r.sessions ≡ Some (fresh conn)
+        → Converses r conn (setting E.answer G.accepts r) (Fits E.entries server.new) (I.left source.old) (I.left source.new) (O.taken sink.old) (O.taken sink.new) result }
+    ensures failed { IfErr result
+        (λ e. IsDueTo e (I.has_failed source.new) (O.has_failed sink.new)) }
+{
+    loop {
+        let Ok(count) = source.read_after(sink, buffer) else {
+            return Err(StreamFault::ReadFailed);
+        };
+        if count == 0 {
+            return Ok(());
+        }
+        match take_held(server, conn, &buffer[..count], held, sink) {
+            Ok(Standing::Open) => {}
+            Ok(Standing::Over) => return Ok(()),
+            Err(fault) => return Err(fault),
+        }
+    }
+}

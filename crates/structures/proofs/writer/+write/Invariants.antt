@@ -1,0 +1,18 @@
+use Rattle.std.proofs.Common.{◌≡◌, take, map}
+use Rattle.packstream.specs.View.{trees, entries as seen_entries}
+use Rattle.cells.specs.Shape.{shapes, entries, node_shape, unbound_shape}
+use Rattle.structures.specs.Form.{form}
+use Rattle.structures.specs.Steps.{form_entry}
+use Rattle.structures.proofs.writer.+write.Given as goal
+
+abbrev pub invariant-values_of-loop-member : goal.invariant-values_of-loop-member
+invariant-values_of-loop-member l = trees l.values.items ≡ map (form l.version) (shapes (take l.member-index l.member-items))
+
+abbrev pub invariant-pair_values-loop-key : goal.invariant-pair_values-loop-key
+invariant-pair_values-loop-key l = seen_entries l.values.items ≡ map (form_entry l.version) (entries (take l.key-index l.key-items))
+
+abbrev pub invariant-node_values-loop-node : goal.invariant-node_values-loop-node
+invariant-node_values-loop-node l = trees l.values.items ≡ map (form l.version) (map node_shape (take l.node-index l.node-items))
+
+abbrev pub invariant-unbound_values-loop-unbound : goal.invariant-unbound_values-loop-unbound
+invariant-unbound_values-loop-unbound l = trees l.values.items ≡ map (form l.version) (map unbound_shape (take l.unbound-index l.unbound-items))

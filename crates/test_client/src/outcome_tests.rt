@@ -1,0 +1,354 @@
+//! What a client tells, refuses and loses.
+
+use crate::calls::Asked::*;
+use crate::calls::Step::*;
+use crate::calls::{
+    AT_5_0, FAILURE, IGNORED, MORE, MORE_OF_ONE, NEW, OLD, ROW, SUCCESS, Step, Told, plays,
+};
+use client::*;
+use machine::Phase;
+use messages::Count;
+use std::test::*;
+use wire::{Version, Wish};
+
+const OLD_ALONE: Wish = Wish::Only(Version::V44);
+
+const ALONE_AT_5_0: Wish = Wish::Only(Version::V50);
+
+/// A client of 4.4 is logged on.
+const LOGS_ON: &[Step] = &[
+    Feeds(OLD, Told::Version),
+    Asks(HelloOld, "accepted"),
+    Hears(SUCCESS, Told::Summary(0, Outcome::Done, Phase::Ready)),
+];
+
+const ANOTHER_VERSION: &[Step] = &[Feeds(NEW, Told::BadPeer), Feeds(NEW, Told::Closed)];
+
+const AN_OLDER_VERSION: &[Step] = &[Feeds(OLD, Told::BadPeer), Feeds(OLD, Told::Closed)];
+
+const VERSION_5_0: &[Step] = &[Feeds(AT_5_0, Told::BadPeer), Feeds(AT_5_0, Told::Closed)];
+
+const A_STRANGE_VERSION: &[Step] = &[Feeds(&[0, 1, 1, 5], Told::BadPeer)];
+
+const NO_VERSION: &[Step] = &[
+    Feeds(&[0, 0], Told::Nothing(2)),
+    Asks(Reset, "C1"),
+    Feeds(&[0, 0, 9], Told::NoVersion),
+    Feeds(&[0, 0, 9], Told::Closed),
+    Asks(Reset, "C4"),
+    Takes(100, 20),
+];
+
+const OFFERS: &[Step] = &[
+    TakesOut(6, &[0x60, 0x60, 0xB0, 0x17, 0, 1]),
+    TakesOut(100, &[1, 5, 0, 0, 4, 4, 0, 0, 0, 0, 0, 0, 0, 0]),
+    Feeds(&[0, 0, 4, 4, 1], Told::Version),
+    Asks(Hello, "C7 with M5"),
+    Takes(100, 0),
+    Asks(Goodbye, "accepted"),
+    Stands(1, Phase::Fresh),
+    TakesOut(100, &[0, 2, 0xB0, 2, 0, 0]),
+];
+
+/// At 5.0 a HELLO has the login, and there are no LOGON and LOGOFF.
+const LOGS_ON_AT_5_0: &[Step] = &[
+    Takes(100, 20),
+    Feeds(AT_5_0, Told::Version),
+    Asks(Hello, "C7 with M5"),
+    Asks(Logon, "C1"),
+    Asks(HelloOld, "accepted"),
+    Asks(Logon, "C1"),
+    Takes(100, 67),
+    Hears(SUCCESS, Told::Summary(0, Outcome::Done, Phase::Ready)),
+    Asks(Logoff, "C1"),
+];
+
+/// A session at 5.1, with a result in two parts.
+const SESSION: &[Step] = &[
+    Feeds(NEW, Told::Version),
+    Asks(Hello, "accepted"),
+    Asks(Reset, "C1"),
+    Hears(SUCCESS, Told::Summary(0, Outcome::Done, Phase::Unauth)),
+    Asks(Logon, "accepted"),
+    Hears(SUCCESS, Told::Summary(1, Outcome::Done, Phase::Ready)),
+    Asks(Run, "accepted"),
+    Asks(Pull(Count::Of(2)), "accepted"),
+    Asks(Run, "C1"),
+    Hears(SUCCESS, Told::Summary(2, Outcome::Done, Phase::Streaming)),
+    Asks(Run, "C1"),
+    Hears(ROW, Told::Row),
+    Hears(MORE, Told::Summary(3, Outcome::Done, Phase::Streaming)),
+    Asks(Pull(Count::All), "accepted"),
+    Asks(Run, "accepted"),
+    Stands(2, Phase::Streaming),
+    Hears(
+        MORE_OF_ONE,
+        Told::Summary(4, Outcome::Committed, Phase::Ready),
+    ),
+    Stands(1, Phase::Ready),
+];
+
+const LOGGED_OFF: &[Step] = &[
+    Feeds(NEW, Told::Version),
+    Asks(Hello, "accepted"),
+    Asks(Logon, "accepted"),
+    Hears(SUCCESS, Told::Summary(0, Outcome::Done, Phase::Unauth)),
+    Hears(SUCCESS, Told::Summary(1, Outcome::Done, Phase::Ready)),
+    Asks(Logoff, "accepted"),
+    Asks(Reset, "C1"),
+];
+
+const LENDS_ITS_READER: &[Step] = &[
+    Feeds(NEW, Told::Version),
+    Asks(Hello, "accepted"),
+    Feeds(&[0, 2, 0xB1, 0x70], Told::Nothing(4)),
+    Reads(false),
+    Feeds(&[0, 1, 0xA0], Told::Nothing(3)),
+    Reads(true),
+    Feeds(&[0, 0], Told::Summary(0, Outcome::Done, Phase::Unauth)),
+    Reads(false),
+];
+
+/// A message that can't be a value is a bad answer with its last byte, and not before.
+const BAD_AT_ITS_END: &[Step] = &[
+    Feeds(NEW, Told::Version),
+    Asks(Hello, "accepted"),
+    Feeds(&[0, 2, 0xC4, 0xC4], Told::Nothing(4)),
+    Feeds(&[0, 1, 0xC4, 0], Told::Nothing(4)),
+    Feeds(&[0], Told::BadPeer),
+    Feeds(&[0], Told::Closed),
+];
+
+const ROW_FOR_A_RUN: &[Step] = &[
+    Asks(Run, "accepted"),
+    Hears(ROW, Told::BadPeer),
+    Hears(ROW, Told::Closed),
+];
+
+const MORE_WITHOUT_A_ROW: &[Step] = &[
+    Asks(Run, "accepted"),
+    Asks(Pull(Count::All), "accepted"),
+    Hears(SUCCESS, Told::Summary(1, Outcome::Done, Phase::Streaming)),
+    Hears(MORE, Told::BadPeer),
+];
+
+const IGNORED_RESET: &[Step] = &[Asks(Reset, "accepted"), Hears(IGNORED, Told::BadPeer)];
+
+const IGNORED_GOODBYE: &[Step] = &[
+    Asks(Goodbye, "accepted"),
+    Hears(IGNORED, Told::BadPeer),
+    Asks(Reset, "C4"),
+];
+
+const UNASKED: &[Step] = &[Hears(SUCCESS, Told::BadPeer)];
+
+const UNREADABLE: &[Step] = &[Asks(Reset, "accepted"), Hears(&[0xC0], Told::BadPeer)];
+
+const GOODBYE: &[Step] = &[
+    Awaits(false),
+    Asks(Reset, "accepted"),
+    Awaits(true),
+    Hears(SUCCESS, Told::Summary(1, Outcome::Done, Phase::Ready)),
+    Asks(Goodbye, "accepted"),
+    Awaits(false),
+    Asks(Reset, "C1"),
+    Loses(&[(2, Outcome::Lost)]),
+    Stands(0, Phase::Ready),
+    Loses(&[]),
+    Feeds(&[0, 0], Told::Closed),
+    Takes(1000, 99),
+];
+
+/// A transaction in one pipeline.
+const TRANSACTION: &[Step] = &[
+    Asks(Begin, "accepted"),
+    Asks(Run, "accepted"),
+    Asks(Pull(Count::All), "accepted"),
+    Asks(Commit, "accepted"),
+];
+
+const UNHEARD: &[Step] = &[Loses(&[
+    (1, Outcome::Lost),
+    (2, Outcome::Lost),
+    (3, Outcome::Lost),
+    (4, Outcome::Unknown),
+])];
+
+const FAILED: &[Step] = &[
+    Hears(SUCCESS, Told::Summary(1, Outcome::Done, Phase::TxReady)),
+    Hears(FAILURE, Told::Summary(2, Outcome::Refused, Phase::Halted)),
+    Loses(&[(3, Outcome::Lost), (4, Outcome::Lost)]),
+];
+
+const IGNORED_AFTER_A_FAILURE: &[Step] = &[
+    Asks(Begin, "accepted"),
+    Asks(Run, "accepted"),
+    Asks(Pull(Count::All), "accepted"),
+    Asks(Reset, "accepted"),
+    Hears(SUCCESS, Told::Summary(1, Outcome::Done, Phase::TxReady)),
+    Hears(FAILURE, Told::Summary(2, Outcome::Refused, Phase::Halted)),
+    Hears(IGNORED, Told::Summary(3, Outcome::Ignored, Phase::Halted)),
+    Hears(SUCCESS, Told::Summary(4, Outcome::Done, Phase::Ready)),
+];
+
+const IGNORED_BEFORE_A_RESET: &[Step] = &[
+    Asks(Run, "accepted"),
+    Asks(Reset, "accepted"),
+    Hears(IGNORED, Told::Summary(1, Outcome::Ignored, Phase::Halted)),
+];
+
+const IGNORED_ALONE: &[Step] = &[Asks(Run, "accepted"), Hears(IGNORED, Told::BadPeer)];
+
+const ASKS_A_RESET: Step = Asks(Reset, "accepted");
+
+const FULL: &[Step] = &[
+    Asks(Reset, "C2"),
+    Asks(Commit, "C1"),
+    Hears(SUCCESS, Told::Summary(1, Outcome::Done, Phase::Ready)),
+    Asks(Pull(Count::Of(0)), "C1"),
+    Asks(Reset, "accepted"),
+];
+
+const SIZES: &[Step] = &[
+    Takes(1000, 87),
+    Asks(Echo(65523), "C3"),
+    Asks(Echo(65522), "accepted"),
+    Takes(100_000, 65542),
+];
+
+/// A no-op and a message, one byte at a time.
+const BYTE_BY_BYTE: &[Step] = &[
+    Asks(Reset, "accepted"),
+    Feeds(&[0], Told::Nothing(1)),
+    Feeds(&[0], Told::Nothing(1)),
+    Feeds(&[0], Told::Nothing(1)),
+    Feeds(&[1], Told::Nothing(1)),
+    Feeds(&[0xB1], Told::Nothing(1)),
+    Feeds(&[0, 2], Told::Nothing(2)),
+    Feeds(&[0x70, 0xA0, 0], Told::Nothing(3)),
+    Feeds(&[0, 0, 0], Told::Summary(1, Outcome::Done, Phase::Ready)),
+    Feeds(&[0, 0, 0, 0], Told::Nothing(2)),
+];
+
+/// A message past the limit.
+const TOO_BIG: &[Step] = &[
+    Feeds(NEW, Told::Version),
+    FeedsTheLongest(Told::Nothing(65537)),
+    Feeds(&[0, 2], Told::BadPeer),
+    Feeds(&[0, 2], Told::Closed),
+];
+
+/// The answer to its HELLO has come, after a no-op, and its BEGIN and COMMIT are sent: it is lost then.
+const LOST_AFTER_A_COMMIT: &[Step] = &[
+    Takes(usize::MAX, 20),
+    FeedsAll(OLD, 0),
+    Asks(HelloOld, "accepted"),
+    FeedsAll(&[0, 0, 0, 3, 0xB1, 0x70, 0xA0, 0, 0], 1),
+    Asks(Begin, "accepted"),
+    Asks(Commit, "accepted"),
+    Takes(usize::MAX, 80),
+    First(1),
+    Loses(&[(1, Outcome::Lost), (2, Outcome::Unknown)]),
+];
+
+/// Calls of a client: a name, what it offers, and the calls in parts.
+const PLAYED: &[(&str, Wish, &[&[Step]])] = &[
+    ("another version", OLD_ALONE, &[ANOTHER_VERSION]),
+    ("a strange version", Wish::Newest, &[A_STRANGE_VERSION]),
+    ("no version", Wish::Newest, &[NO_VERSION]),
+    ("offers", Wish::Newest, &[OFFERS]),
+    ("session", Wish::Newest, &[SESSION]),
+    ("logged off", Wish::Newest, &[LOGGED_OFF]),
+    ("lends its reader", Wish::Newest, &[LENDS_ITS_READER]),
+    ("bad at its end", Wish::Newest, &[BAD_AT_ITS_END]),
+    ("a row for a RUN", OLD_ALONE, &[LOGS_ON, ROW_FOR_A_RUN]),
+    (
+        "more without a row",
+        OLD_ALONE,
+        &[LOGS_ON, MORE_WITHOUT_A_ROW],
+    ),
+    ("an ignored RESET", OLD_ALONE, &[LOGS_ON, IGNORED_RESET]),
+    ("an ignored GOODBYE", OLD_ALONE, &[LOGS_ON, IGNORED_GOODBYE]),
+    ("unasked", OLD_ALONE, &[LOGS_ON, UNASKED]),
+    ("unreadable", OLD_ALONE, &[LOGS_ON, UNREADABLE]),
+    ("goodbye", OLD_ALONE, &[LOGS_ON, GOODBYE]),
+    ("lost unheard", OLD_ALONE, &[LOGS_ON, TRANSACTION, UNHEARD]),
+    (
+        "lost after a failure",
+        OLD_ALONE,
+        &[LOGS_ON, TRANSACTION, FAILED],
+    ),
+    (
+        "ignored after a failure",
+        OLD_ALONE,
+        &[LOGS_ON, IGNORED_AFTER_A_FAILURE],
+    ),
+    (
+        "ignored before a RESET",
+        OLD_ALONE,
+        &[LOGS_ON, IGNORED_BEFORE_A_RESET],
+    ),
+    ("ignored alone", OLD_ALONE, &[LOGS_ON, IGNORED_ALONE]),
+    ("full", OLD_ALONE, &[LOGS_ON, &[ASKS_A_RESET; 32], FULL]),
+    ("sizes", OLD_ALONE, &[LOGS_ON, SIZES]),
+    ("byte by byte", OLD_ALONE, &[LOGS_ON, BYTE_BY_BYTE]),
+    ("too big", Wish::Newest, &[TOO_BIG]),
+    ("lost after a COMMIT", OLD_ALONE, &[LOST_AFTER_A_COMMIT]),
+];
+
+/// Those with an answer of 5.0, or a wish of it.
+const PLAYED_AT_5_0: &[(&str, Wish, &[&[Step]])] = &[
+    ("5.0 for 4.4", OLD_ALONE, &[VERSION_5_0]),
+    ("5.1 for 5.0", ALONE_AT_5_0, &[ANOTHER_VERSION]),
+    ("4.4 for 5.0", ALONE_AT_5_0, &[AN_OLDER_VERSION]),
+    ("5.0 for 5.1", Wish::Only(Version::V51), &[VERSION_5_0]),
+    ("wished 5.0", ALONE_AT_5_0, &[LOGS_ON_AT_5_0]),
+    ("5.0 of all", Wish::Newest, &[LOGS_ON_AT_5_0]),
+];
+
+#[test]
+fn answers(rt: HostRuntime) -> Result<(), Fail> {
+    for (name, wish, parts) in PLAYED {
+        plays(&rt, name, *wish, parts)?;
+    }
+    Ok(())
+}
+
+#[test]
+fn answers_at_5_0(rt: HostRuntime) -> Result<(), Fail> {
+    for (name, wish, parts) in PLAYED_AT_5_0 {
+        plays(&rt, name, *wish, parts)?;
+    }
+    Ok(())
+}
+
+/// Refusals of a submit, and their texts.
+const REFUSALS: &[(SubmitFault, &str)] = &[
+    (SubmitFault::NotAllowed, "C1"),
+    (SubmitFault::PipelineFull, "C2"),
+    (SubmitFault::Size, "C3"),
+    (SubmitFault::Closed, "C4"),
+    (SubmitFault::Memory, "out of memory"),
+    (
+        SubmitFault::Unwritable(Unwritable::Pack(packstream::Reason::Depth, 33)),
+        "P6 at 33",
+    ),
+    (SubmitFault::Unwritable(Unwritable::Extra), "M5"),
+    (
+        SubmitFault::Unwritable(Unwritable::Cell(structures::Reason::NotInVersion, 1)),
+        "S6 at 1",
+    ),
+    (
+        SubmitFault::Unwritable(Unwritable::CellPack(packstream::Reason::KeyTwice, 3)),
+        "P5 at 3",
+    ),
+];
+
+#[test]
+fn texts_of_refusals(rt: HostRuntime) -> Result<(), Fail> {
+    for (refusal, wanted) in REFUSALS {
+        let text = format!(in rt.alloc(); "{refusal}")?;
+        assert_eq!(rt; text.as_str(), *wanted);
+    }
+    Ok(())
+}

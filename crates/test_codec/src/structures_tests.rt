@@ -1,0 +1,413 @@
+use crate::answers::gives;
+use crate::reader_tests::DEEPEST;
+use packstream::decode;
+use std::alloc::{AllocError, Global};
+use std::test::*;
+use structures::*;
+use wire::Version;
+
+fn cell(alloc: Global, version: Version, input: &[u8]) -> Result<Cell, Fail> {
+    let packed = decode(alloc, input)?;
+    Ok(read(alloc, version, &packed)?)
+}
+
+/// Whether the cell is written as these bytes.
+fn is_written(alloc: Global, version: Version, cell: &Cell, output: &[u8]) -> bool {
+    match write(alloc, version, cell) {
+        Ok(packed) => gives(alloc, Ok(packed), output),
+        Err(_) => false,
+    }
+}
+
+/// A node, `A`, of the number 1, at either version.
+const OLD_NODE: &[u8] = &[0xB3, 0x4E, 0x01, 0x91, 0x81, 0x41, 0xA0];
+
+const NEW_NODE: &[u8] = &[0xB4, 0x4E, 0x01, 0x91, 0x81, 0x41, 0xA0, 0x81, 0x31];
+
+/// A relationship, `TO`, of the number 7, from the node 1 to the node 2, at either version.
+const OLD_RELATIONSHIP: &[u8] = &[0xB5, 0x52, 0x07, 0x01, 0x02, 0x82, 0x54, 0x4F, 0xA0];
+
+const NEW_RELATIONSHIP: &[u8] = &[
+    0xB8, 0x52, 0x07, 0x01, 0x02, 0x82, 0x54, 0x4F, 0xA0, 0x81, 0x37, 0x81, 0x31, 0x81, 0x32,
+];
+
+/// A path of two nodes, at either version.
+const OLD_PATH: &[u8] = &[
+    0x91, 0xB3, 0x50, 0x92, 0xB3, 0x4E, 0x01, 0x91, 0x81, 0x41, 0xA0, 0xB3, 0x4E, 0x02, 0x91, 0x81,
+    0x42, 0xA0, 0x91, 0xB3, 0x72, 0x07, 0x82, 0x54, 0x4F, 0xA0, 0x92, 0x01, 0x01,
+];
+
+const NEW_PATH: &[u8] = &[
+    0x91, 0xB3, 0x50, 0x92, 0xB4, 0x4E, 0x01, 0x91, 0x81, 0x41, 0xA0, 0x81, 0x31, 0xB4, 0x4E, 0x02,
+    0x91, 0x81, 0x42, 0xA0, 0x81, 0x32, 0x91, 0xB4, 0x72, 0x07, 0x82, 0x54, 0x4F, 0xA0, 0x81, 0x37,
+    0x92, 0x01, 0x01,
+];
+
+/// The first second of the calendar in a zone of one hour, at either version.
+const OLD_MOMENT: &[u8] = &[0xB3, 0x46, 0xC9, 0x0E, 0x10, 0x00, 0xC9, 0x0E, 0x10];
+
+const NEW_MOMENT: &[u8] = &[0xB3, 0x49, 0x00, 0x00, 0xC9, 0x0E, 0x10];
+
+/// A moment in a zone at 4.4.
+const ZONED: &[u8] = &[0xB3, 0x66, 0x00, 0x00, 0x83, 0x55, 0x54, 0x43];
+
+/// Bytes of a cell at one version, and what the cell is written as at another, or at the same.
+const WRITTEN: &[(Version, &[u8], Version, &[u8])] = &[
+    (Version::V44, OLD_NODE, Version::V44, OLD_NODE),
+    (Version::V50, NEW_NODE, Version::V50, NEW_NODE),
+    (Version::V51, NEW_NODE, Version::V51, NEW_NODE),
+    (
+        Version::V44,
+        OLD_RELATIONSHIP,
+        Version::V44,
+        OLD_RELATIONSHIP,
+    ),
+    (
+        Version::V51,
+        NEW_RELATIONSHIP,
+        Version::V51,
+        NEW_RELATIONSHIP,
+    ),
+    (Version::V44, OLD_PATH, Version::V44, OLD_PATH),
+    (Version::V51, NEW_PATH, Version::V51, NEW_PATH),
+    (Version::V44, OLD_MOMENT, Version::V51, NEW_MOMENT),
+    (Version::V44, OLD_MOMENT, Version::V50, NEW_MOMENT),
+    (Version::V51, NEW_MOMENT, Version::V44, OLD_MOMENT),
+    (Version::V44, ZONED, Version::V44, ZONED),
+    (Version::V44, DEEPEST, Version::V44, DEEPEST),
+    // days
+    (
+        Version::V44,
+        &[0xB1, 0x44, 0xC9, 0x48, 0xE5],
+        Version::V44,
+        &[0xB1, 0x44, 0xC9, 0x48, 0xE5],
+    ),
+    // a duration
+    (
+        Version::V51,
+        &[0xB4, 0x45, 0x01, 0x02, 0x03, 0x04],
+        Version::V51,
+        &[0xB4, 0x45, 0x01, 0x02, 0x03, 0x04],
+    ),
+    // a time with its offset
+    (
+        Version::V44,
+        &[0xB2, 0x54, 0x00, 0xCA, 0x00, 0x00, 0xFD, 0x20],
+        Version::V44,
+        &[0xB2, 0x54, 0x00, 0xCA, 0x00, 0x00, 0xFD, 0x20],
+    ),
+];
+
+/// Whether a copy of the cell of the bytes is written as these.
+fn is_copied(
+    alloc: Global,
+    version: Version,
+    input: &[u8],
+    to: Version,
+    output: &[u8],
+) -> Result<bool, Fail> {
+    let cell = cell(alloc, version, input)?;
+    let copy = cell.clone()?;
+    Ok(is_written(alloc, to, &copy, output))
+}
+
+#[test]
+fn written(rt: HostRuntime) -> Result<(), Fail> {
+    for (version, input, to, output) in WRITTEN {
+        assert!(rt;
+            is_copied(rt.alloc(), *version, input, *to, output)?,
+            "at {input:?}"
+        );
+    }
+    Ok(())
+}
+
+/// Bytes of a cell at one version, and what the cell is written as once it is fitted to another.
+const FITTED: &[(Version, &[u8], Version, &[u8])] = &[
+    (Version::V44, OLD_NODE, Version::V51, NEW_NODE),
+    (Version::V51, NEW_NODE, Version::V44, OLD_NODE),
+    (
+        Version::V44,
+        &[0xB3, 0x4E, 0xC8, 0xEF, 0x90, 0xA0],
+        Version::V51,
+        &[0xB4, 0x4E, 0xC8, 0xEF, 0x90, 0xA0, 0x83, 0x2D, 0x31, 0x37],
+    ),
+    (
+        Version::V44,
+        OLD_RELATIONSHIP,
+        Version::V51,
+        NEW_RELATIONSHIP,
+    ),
+    (
+        Version::V51,
+        NEW_RELATIONSHIP,
+        Version::V44,
+        OLD_RELATIONSHIP,
+    ),
+    (Version::V44, OLD_PATH, Version::V51, NEW_PATH),
+    (Version::V51, NEW_PATH, Version::V44, OLD_PATH),
+];
+
+fn is_fitted(
+    alloc: Global,
+    version: Version,
+    input: &[u8],
+    to: Version,
+    output: &[u8],
+) -> Result<bool, Fail> {
+    let fitted = fit(alloc, cell(alloc, version, input)?, to)?;
+    Ok(is_written(alloc, to, &fitted, output))
+}
+
+#[test]
+fn fitted(rt: HostRuntime) -> Result<(), Fail> {
+    for (version, input, to, output) in FITTED {
+        assert!(rt;
+            is_fitted(rt.alloc(), *version, input, *to, output)?,
+            "at {input:?}"
+        );
+    }
+    Ok(())
+}
+
+/// What a cell of a time holds.
+enum Time {
+    Days(i64),
+    /// Seconds, nanoseconds, and the offset.
+    Moment(i64, i64, i64),
+}
+
+/// Bytes of times.
+const TIMES: &[(Version, &[u8], Time)] = &[
+    (Version::V44, OLD_MOMENT, Time::Moment(0, 0, 3600)),
+    (Version::V51, NEW_MOMENT, Time::Moment(0, 0, 3600)),
+    (
+        Version::V51,
+        &[0xB1, 0x44, 0xC9, 0x48, 0xE5],
+        Time::Days(18_661),
+    ),
+];
+
+fn is_time(cell: &Cell, time: &Time) -> bool {
+    match (cell, time) {
+        (Cell::Date { days }, Time::Days(number)) => days == number,
+        (Cell::DateTime { utc, nanos, offset }, Time::Moment(seconds, rest, east)) => {
+            utc == seconds && nanos == rest && offset == east
+        }
+        _ => false,
+    }
+}
+
+#[test]
+fn times(rt: HostRuntime) -> Result<(), Fail> {
+    for (version, bytes, time) in TIMES {
+        let cell = cell(rt.alloc(), *version, bytes)?;
+        assert!(rt; is_time(&cell, time), "at {bytes:?}");
+    }
+    Ok(())
+}
+
+/// Bytes that are refused, and the faults.
+const UNREAD: &[(Version, &[u8], CellFault)] = &[
+    (
+        Version::V51,
+        &[0xB1, 0x5A, 0x00],
+        CellFault::Refused(Reason::UnknownTag, 0),
+    ),
+    (
+        Version::V51,
+        OLD_NODE,
+        CellFault::Refused(Reason::FieldCount, 0),
+    ),
+    (
+        Version::V50,
+        OLD_NODE,
+        CellFault::Refused(Reason::FieldCount, 0),
+    ),
+    (
+        Version::V44,
+        &[0x92, 0xB1, 0x44, 0x00, 0xB2, 0x44, 0x00, 0x00],
+        CellFault::Refused(Reason::FieldCount, 1),
+    ),
+    (
+        Version::V44,
+        &[0xB3, 0x46, 0xCB, 0x80, 0, 0, 0, 0, 0, 0, 0, 0x00, 0x01],
+        CellFault::Refused(Reason::Range, 0),
+    ),
+    (
+        Version::V44,
+        &[0xB2, 0x54, 0x00, 0xCA, 0x00, 0x00, 0xFD, 0x21],
+        CellFault::Refused(Reason::Range, 0),
+    ),
+    (
+        Version::V44,
+        &[
+            0xB2, 0x54, 0xCB, 0x00, 0x00, 0x4E, 0x94, 0x91, 0x4F, 0x00, 0x00, 0x00,
+        ],
+        CellFault::Refused(Reason::Range, 0),
+    ),
+    (
+        Version::V51,
+        &[0xB4, 0x45, 0x00, 0x00, 0x00, 0xCA, 0x3B, 0x9A, 0xCA, 0x00],
+        CellFault::Refused(Reason::Range, 0),
+    ),
+    (
+        Version::V44,
+        &[0xB3, 0x50, 0x90, 0x90, 0x90],
+        CellFault::Refused(Reason::PathShape, 0),
+    ),
+    (
+        Version::V44,
+        &[
+            0xB3, 0x50, 0x91, 0xB3, 0x4E, 0x01, 0x90, 0xA0, 0x90, 0x92, 0x01, 0x00,
+        ],
+        CellFault::Refused(Reason::PathShape, 0),
+    ),
+    (
+        Version::V51,
+        OLD_MOMENT,
+        CellFault::Refused(Reason::NotInVersion, 0),
+    ),
+    (
+        Version::V51,
+        ZONED,
+        CellFault::Refused(Reason::NotInVersion, 0),
+    ),
+    (
+        Version::V50,
+        OLD_MOMENT,
+        CellFault::Refused(Reason::NotInVersion, 0),
+    ),
+    (
+        Version::V50,
+        ZONED,
+        CellFault::Refused(Reason::NotInVersion, 0),
+    ),
+];
+
+fn is_fault(told: &CellFault, wanted: &CellFault) -> bool {
+    match (told, wanted) {
+        (CellFault::Refused(why, at), CellFault::Refused(reason, number)) => {
+            why == reason && at == number
+        }
+        (CellFault::Pack(why, at), CellFault::Pack(reason, place)) => why == reason && at == place,
+        _ => false,
+    }
+}
+
+fn is_unread(
+    alloc: Global,
+    version: Version,
+    input: &[u8],
+    wanted: &CellFault,
+) -> Result<bool, Fail> {
+    let packed = decode(alloc, input)?;
+    match read(alloc, version, &packed) {
+        Ok(_) => Ok(false),
+        Err(fault) => Ok(is_fault(&fault, wanted)),
+    }
+}
+
+#[test]
+fn unread(rt: HostRuntime) -> Result<(), Fail> {
+    for (version, input, fault) in UNREAD {
+        assert!(rt;
+            is_unread(rt.alloc(), *version, input, fault)?,
+            "at {input:?}"
+        );
+    }
+    Ok(())
+}
+
+/// Bytes of a cell at one version, and its fault at another.
+const UNWRITTEN: &[(Version, &[u8], Version, CellFault)] = &[
+    (
+        Version::V44,
+        OLD_NODE,
+        Version::V51,
+        CellFault::Refused(Reason::NotInVersion, 0),
+    ),
+    (
+        Version::V51,
+        NEW_NODE,
+        Version::V44,
+        CellFault::Refused(Reason::NotInVersion, 0),
+    ),
+    // a date, and behind it a moment in a zone
+    (
+        Version::V44,
+        &[
+            0x92, 0xB1, 0x44, 0x00, 0xB3, 0x66, 0x00, 0x00, 0x83, 0x55, 0x54, 0x43,
+        ],
+        Version::V51,
+        CellFault::Refused(Reason::NotInVersion, 1),
+    ),
+];
+
+fn is_unwritten(alloc: Global, version: Version, cell: Cell, wanted: &CellFault) -> bool {
+    match write(alloc, version, &cell) {
+        Ok(_) => false,
+        Err(fault) => is_fault(&fault, wanted),
+    }
+}
+
+#[test]
+fn unwritten(rt: HostRuntime) -> Result<(), Fail> {
+    for (version, input, to, fault) in UNWRITTEN {
+        let told = is_unwritten(rt.alloc(), *to, cell(rt.alloc(), *version, input)?, fault);
+        assert!(rt; told, "at {input:?}");
+    }
+    Ok(())
+}
+
+/// One list more around the deepest.
+fn too_deep(alloc: Global) -> Result<Cell, Fail> {
+    let deepest = cell(alloc, Version::V44, DEEPEST)?;
+    Ok(Cell::List(vec![in alloc; deepest]?))
+}
+
+/// A dictionary with a key twice.
+fn twice(alloc: Global) -> Result<Cell, AllocError> {
+    let first = (String::from_str(alloc, "a")?, Cell::Int(1));
+    let second = (String::from_str(alloc, "a")?, Cell::Int(2));
+    Ok(Cell::Dict(vec![in alloc; first, second]?))
+}
+
+const LATE: &CellFault = &CellFault::Refused(Reason::Range, 0);
+
+const TOO_DEEP: &CellFault = &CellFault::Pack(packstream::Reason::Depth, 32);
+
+const KEY_TWICE: &CellFault = &CellFault::Pack(packstream::Reason::KeyTwice, 2);
+
+#[test]
+fn cells_without_bytes(rt: HostRuntime) -> Result<(), Fail> {
+    let alloc = rt.alloc();
+    let late = Cell::LocalTime {
+        nanos: 86_400_000_000_000,
+    };
+    assert!(rt; is_unwritten(alloc, Version::V44, late, LATE));
+    assert!(rt; is_unwritten(alloc, Version::V44, too_deep(alloc)?, TOO_DEEP));
+    assert!(rt; is_unwritten(alloc, Version::V51, twice(alloc)?, KEY_TWICE));
+    Ok(())
+}
+
+/// Faults, and their texts.
+const TEXTS: &[(CellFault, &str)] = &[
+    (CellFault::Refused(Reason::UnknownTag, 4), "S1 at 4"),
+    (CellFault::Refused(Reason::FieldCount, 4), "S2 at 4"),
+    (CellFault::Refused(Reason::FieldKind, 4), "S3 at 4"),
+    (CellFault::Refused(Reason::Range, 4), "S4 at 4"),
+    (CellFault::Refused(Reason::PathShape, 4), "S5 at 4"),
+    (CellFault::Refused(Reason::NotInVersion, 4), "S6 at 4"),
+    (CellFault::Pack(packstream::Reason::KeyTwice, 2), "P5 at 2"),
+    (CellFault::Memory, "out of memory"),
+];
+
+#[test]
+fn texts_of_faults(rt: HostRuntime) -> Result<(), Fail> {
+    for (fault, wanted) in TEXTS {
+        let text = format!(in rt.alloc(); "{fault}")?;
+        assert_eq!(rt; text.as_str(), *wanted);
+    }
+    Ok(())
+}

@@ -1,0 +1,10 @@
+use Rattle.engine.specs.Kept.{ledger_of}
+use Rattle.server.specs.Serving.{empty}
+use Rattle.streams.proofs.Firsts.{one, one_lives}
+use Rattle.test_hostile.proofs.stream_tests.serves.Goals as goal
+
+pub serve_one-answer-requires : goal.serve_one-answer-requires
+serve_one-answer-requires c =
+    let ledger = ledger_of c.new-2.result in
+    let o = c.in_ok-conn.ensures (empty ledger c.in_ok-gate.gate) c.new-server.ensures in
+    record { live = (one ledger c.in_ok-gate.gate c.in_ok-conn.conn o.number, o.now, one_lives ledger c.in_ok-gate.gate c.in_ok-conn.conn o.number); turns = λ s taken n few turn. tt }

@@ -1,0 +1,30 @@
+use Rattle.std.proofs.Common.{sym, ap, subst}
+use Rattle.world.specs.World.{Feeds}
+use Rattle.world.specs.Seeing.{IsWrong}
+use Rattle.world.specs.Views.{end_peer}
+use Rattle.world.proofs.Turning.{wrong}
+use Rattle.world.proofs.Turned.{foreign_over, foreign_cut, foreign_lacks, foreign_done}
+use Rattle.world.proofs.inflow.foreign.Goals as goal
+
+pub returns-in_default : goal.returns-in_default
+returns-in_default g c = λ r w b.
+    let e = Feeds c.args.conn c.args.bytes.now in
+    wrong g.E.Engine.entries g.E.Engine.answer g.G.Gate.accepts e c.args.link.now c.args.server.now r w b (λ h. h) (subst (λ z. IsWrong (Feeds c.args.conn c.args.bytes.now) (end_peer z)) (sym c.in_default.is) tt)
+
+pub returns-in-Some : goal.returns-in-Some
+returns-in-Some g c = λ r w b.
+    foreign_over g.E.Engine.entries g.E.Engine.answer g.G.Gate.accepts c.args.conn c.args.link.now c.args.server.now r w c.args.bytes.now b (ap end_peer c.in-Foreign.is) c.in-Some.field-0 c.in-Some.is
+
+pub returns-then-link : goal.returns-then-link
+returns-then-link g c = λ r w b.
+    foreign_cut g.E.Engine.entries g.E.Engine.answer g.G.Gate.accepts c.args.conn c.args.link.now c.args.server.now r w c.args.bytes.now b (ap end_peer c.in-Foreign.is) c.in_default-gone.is c.if-link.true
+
+pub returns-in_default-feed : goal.returns-in_default-feed
+returns-in_default-feed g c = λ r w b.
+    foreign_lacks g.E.Engine.entries g.E.Engine.answer g.G.Gate.accepts c.args.conn c.args.link.now c.args.server.now r w c.args.bytes.now b (ap end_peer c.in-Foreign.is) c.feed.new.self
+    (c.in_default-feed.ensures.refused r.server b.server)
+
+pub returns : goal.returns
+returns g c = λ r w b.
+    foreign_done g.E.Engine.entries g.E.Engine.answer g.G.Gate.accepts c.args.conn c.args.link.now c.args.server.now r w c.args.bytes.now b (ap end_peer c.in-Foreign.is) c.feed.new.self c.in-Ok.took c.in_default-gone.is c.if-link.false
+    (c.in-Ok.ensures.done r.server b.server)
