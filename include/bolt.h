@@ -119,7 +119,7 @@ uint32_t bolt_message(bolt_client *c, uint8_t *into, size_t room, size_t *length
 enum { BOLT_MESSAGE = 65536 };
 
 /* No byte comes any more: the client has ended, and what became of each request that waited is told, in order, once. NO_ROOM
- * where there aren't BOLT_LOSSES places, and nothing has changed. */
+ * where there isn't room for BOLT_LOSSES, and nothing has changed. */
 uint32_t bolt_lost(bolt_client *c, bolt_loss *into, size_t room, size_t *count);
 
 uint32_t bolt_state(bolt_client *c, bolt_standing *state);

@@ -153,7 +153,7 @@ pub extern "C" fn bolt_message(
 }
 
 /// No byte comes any more: the client has ended, and the outcome of each request that waited goes into the buffer, in order.
-/// Where that hasn't 32 places, nothing has changed.
+/// Where that hasn't room for 32, nothing has changed.
 #[unsafe(no_mangle)]
 pub extern "C" fn bolt_lost(
     alloc: Global,

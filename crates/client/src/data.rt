@@ -284,7 +284,7 @@ impl Stream {
         }
     }
 
-    /// Takes chunks part by part. For want of memory the place is put back, and the reader returns to the point that it holds.
+    /// Takes chunks part by part. For want of memory the position is put back, and the reader returns to the point that it holds.
     fn take_parts(
         &mut self,
         alloc: Global,

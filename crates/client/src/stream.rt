@@ -13,7 +13,7 @@ use wire::Chunks;
 pub(crate) struct Stream {
     /// What has come of the version answer.
     pub opening: Opening,
-    /// The place in the chunks after it.
+    /// The position in the chunks after it.
     pub chunks: Chunks,
     /// What was read of the data of the message. Between two pieces it stands where its held point is.
     pub reader: Reader,

@@ -43,7 +43,7 @@ pub(crate) struct Standing {
     pub(crate) bad: Option<(Reason, usize)>,
 }
 
-/// A place to return to: the lengths of the lists, and what stood beside them.
+/// A point to return to: the lengths of the lists, and what stood beside them.
 #[derive(Clone, Copy)]
 pub(crate) struct Mark {
     pub(crate) items: usize,
@@ -91,7 +91,7 @@ impl Reading {
         }
     }
 
-    /// Marks where it stands, in the place of another mark.
+    /// Marks where it stands, instead of another mark.
     #[inline]
     pub(crate) fn mark_in(&self, mark: &mut Mark)
         ensures { IsMark (holds self.now) mark.new }
@@ -105,7 +105,7 @@ impl Reading {
         mark.standing.bad = self.standing.bad;
     }
 
-    /// Goes back to a place where it stood.
+    /// Goes back to a point where it stood.
     pub(crate) fn cut(&mut self, mark: &Mark)
         requires { IsKeeping (at_mark mark.now (holds self.old)) }
         ensures { holds self.new ≡ at_mark mark.now (holds self.old) }

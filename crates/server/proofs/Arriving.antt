@@ -14,7 +14,7 @@ use Rattle.session.specs.Rest.{arrival_by, unread_among}
 use Rattle.server.specs.Past.{places_of}
 use Rattle.wire.proofs.Opening.{AreChunks, IsChunk, MayBeChunk, MayOpen, Came, part, whole, came, opening_taken, chunk_taken}
 
--- what stands for no request takes a place
+-- what stands for no request takes a slot
 pub unread_placed : (xs : List Arrival) → unread_among (places_of xs) ≡ unread_among xs
 unread_placed [] = refl
 unread_placed (Asked q ∷ xs) = unread_placed xs

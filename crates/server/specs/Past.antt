@@ -57,7 +57,7 @@ module _ {G : Type 0} (answer : List EntryView → List WriteView → List ℕ �
   requests_answered conn (e ∷ es) r =
       call_answered conn e r ++ requests_answered conn es (after_event answer accepts e r)
 
--- what takes a place among arrivals: requests, and at last what stands for none
+-- what takes a slot among arrivals: requests, and at last what stands for none
 abbrev pub places_of : List Arrival → List Arrival
 places_of [] = []
 places_of (Asked q ∷ xs) = Asked q ∷ places_of xs

@@ -27,7 +27,7 @@ struct Filled {
     offer: Offer,
 }
 
-/// A stream of chunks: the place in it, a reader of the data of the message that isn't whole, and whether a message was refused.
+/// A stream of chunks: the position in it, a reader of the data of the message that isn't whole, and whether a message was refused.
 /// Nothing is read after that.
 #[derive(Drop)]
 pub(crate) struct Stream {
@@ -145,7 +145,7 @@ impl Incoming {
         self.take_parts(session, piece)
     }
 
-    /// Takes bytes of chunks part by part. For want of memory the place is put back, and the reader returns to the point that it
+    /// Takes bytes of chunks part by part. For want of memory the position is put back, and the reader returns to the point that it
     /// holds.
     fn take_parts(&mut self, session: &mut Session, piece: &[u8]) -> Result<Took, AllocError>
         requires room { full (kept_of session.old) ≡ false }
@@ -209,7 +209,7 @@ impl Stream {
     ghost use Rattle.session.specs.Views.{kept_of};
     ghost use Rattle.server.specs.Incoming.{IsAt, IsFedAt, IsFirst, Scans};
 
-    /// The place behind a piece, where that is data alone.
+    /// The position behind a piece, where that is data alone.
     fn behind_data(&self, piece: &[u8]) -> Option<Chunks>
         ensures { IfSome result
             (λ behind. (self.now.is_over ≡ false) × IsData self.now.chunks piece.now behind) }

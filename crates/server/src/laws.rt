@@ -14,7 +14,7 @@ pub fn leaves_others<E: Engine, G: Gate>()
         → find other (after_event E.answer G.accepts event r).sessions ≡ find other r.sessions }
 {}
 
-/// Over every list of calls, at most 16 sessions live, each number once, and what each keeps is within its limits: 32 places, 65,537
+/// Over every list of calls, at most 16 sessions live, each number once, and what each keeps is within its limits: 32 slots, 65,537
 /// bytes of an unfinished item, 131,077 bytes to go, 1,024 writes and 1,024 rows.
 pub fn keeps_limits<E: Engine, G: Gate>()
     ensures { (ledger : List EntryView) (gate : G) (events : List Event)

@@ -13,7 +13,7 @@ use session::{Session, What};
 use std::alloc::{AllocError, Global};
 use wire::Version;
 
-/// Takes the message that was read. A request takes a place, and a RESET interrupts. One that is bad takes no memory.
+/// Takes the message that was read. A request takes a slot, and a RESET interrupts. One that is bad takes no memory.
 pub(crate) fn ask(session: &mut Session, reader: &Reader) -> Result<What, AllocError>
     requires { full (kept_of session.old) ≡ false }
     ensures ok { (b : List ℕ) → Reads reader.now.here b
@@ -26,7 +26,7 @@ pub(crate) fn ask(session: &mut Session, reader: &Reader) -> Result<What, AllocE
     session.receive(asked)
 }
 
-/// Takes the message of these bytes. A request takes a place, and a RESET interrupts.
+/// Takes the message of these bytes. A request takes a slot, and a RESET interrupts.
 pub(crate) fn ask_bytes(session: &mut Session, message: &[u8]) -> Result<What, AllocError>
     requires { full (kept_of session.old) ≡ false }
     ensures ok { IfOk result

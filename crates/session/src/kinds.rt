@@ -38,7 +38,7 @@ pub enum What {
     Message,
     /// A message that stands for none, or the header that takes one past its limit. Nothing is read after it.
     Malformed,
-    /// Nothing was taken: no place or no number is left for a request.
+    /// Nothing was taken: no slot or no number is left for a request.
     Full,
     /// Nothing was taken: the session has ended, or ends at a malformed message.
     Closed,
@@ -55,7 +55,7 @@ pub enum Worked {
     Row,
     /// It wrote the summary of a request.
     Wrote {
-        /// The place of the request among those of the connection, from 0.
+        /// How many requests of the connection came before it.
         ordinal: u64,
         kind: Kind,
         /// The state after it.

@@ -1,4 +1,4 @@
-//! What is told of the places that wait.
+//! What is told of the slots that wait.
 ghost use Rattle.std.specs.Prelude.{◌≡◌, ◌∷◌, drop, option_copied};
 ghost use Rattle.std.specs.List.{list_any};
 ghost use Rattle.messages.specs.View.{request_view};

@@ -86,7 +86,7 @@ impl Session {
     ghost use Rattle.session.specs.Rest.{begun, shut, full, ends, version_of, taken_out, take_kept, puts_noop, noop_kept, after_interrupt, Receives};
     ghost use Rattle.session.specs.Views.{kept_of, arrival_told};
 
-    /// Before the first byte. Room is made for the 32 places; `Err` is want of memory.
+    /// Before the first byte. Room is made for the 32 slots; `Err` is want of memory.
     pub fn new(alloc: Global) -> Result<Session, AllocError>
         ensures { IfOk result (λ x. kept_of x ≡ begun) }
     {
@@ -110,7 +110,7 @@ impl Session {
         self.cause.is_some() || has_unread(&self.queue)
     }
 
-    /// Whether nothing more can be received: 32 places wait, or no ordinal below 2^63 is left. Takes no memory.
+    /// Whether nothing more can be received: 32 slots wait, or no ordinal below 2^63 is left. Takes no memory.
     pub fn is_full(&self) -> bool
         ensures { result ≡ full (kept_of self.now) }
     {
@@ -166,8 +166,8 @@ impl Session {
         Ok(What::Handshake(version))
     }
 
-    /// Takes what was asked, by a message at its version: a request takes a place, and a RESET interrupts; what stands for no request takes a
-    /// place too. Want of memory in `asked`, and no other, is handed on as an `Err`, and changes nothing. It takes no memory.
+    /// Takes what was asked, by a message at its version: a request takes a slot, and a RESET interrupts; what stands for no request takes a
+    /// slot too. Want of memory in `asked`, and no other, is handed on as an `Err`, and changes nothing. It takes no memory.
     pub fn receive(&mut self, asked: Result<Request, MsgFault>) -> Result<What, AllocError>
         requires { full (kept_of self.old) ≡ false }
         ensures taken { IfOk result
@@ -206,7 +206,7 @@ impl Session {
         }
     }
 
-    /// A message past its limit takes a place. Takes no memory.
+    /// A message past its limit takes a slot. Takes no memory.
     pub fn refuse(&mut self) -> What
         requires { full (kept_of self.old) ≡ false }
         ensures { Receives result (kept_of self.old) (kept_of self.new) TooLong }

@@ -194,7 +194,7 @@ const CONVERSATIONS: &[(&str, &[Turn])] = &[
         ],
     ),
     (
-        "full at 32 places",
+        "full at 32 slots",
         &[
             (0, 1, OPENS_AT_THE_NEWER),
             (0, 32, &[Send(RESET, What::Message)]),

@@ -1,4 +1,4 @@
--- The place behind a piece that is data alone.
+-- The position behind a piece that is data alone.
 use Rattle.std.proofs.Common.{◌≡◌, ◌↔◌, sym, ◌∙◌, ap, subst, ℕ, ◌<◌, ◌≤◌, List, length, Option, Some, None, arith}
 use Rattle.wire.specs.declared.parts.Cut.{Cut}
 use Rattle.wire.specs.declared.parts.Part.{Part}

@@ -31,7 +31,7 @@ pub struct Cut {
     pub what: Part,
 }
 
-/// The place in a stream of chunks. It holds no data.
+/// The position in a stream of chunks. It holds no data.
 #[derive(Clone, Copy)]
 pub struct Chunks {
     /// The first byte of a header that isn't whole.
@@ -141,7 +141,7 @@ impl Chunks {
         }
     }
 
-    /// The place behind a piece that is data of the chunk alone; none for any other piece. It takes no memory.
+    /// The position behind a piece that is data of the chunk alone; none for any other piece. It takes no memory.
     pub fn behind_data(mut self, piece: &[u8]) -> Option<Chunks>
         ensures { (behind : Place) → (result ≡ Some behind) ↔ IsData self piece.now behind }
     {
