@@ -1,0 +1,44 @@
+-- Cells and entries, and one more behind them.
+use Rattle.std.proofs.Common.{◌≡◌, ℕ, List, [], ◌∷◌, ◌++◌, map, String, Vec, Global, string_bytes, refl, sym, ap, ◌∙◌, append_assoc}
+use Rattle.std.proofs.lemmas.List.{append-nil}
+use Rattle.packstream.specs.Tree.{Tree, Trees, dict}
+use Rattle.packstream.specs.View.{trees_of, entries_of}
+use Rattle.packstream.specs.Reading.{keys}
+use Rattle.packstream.proofs.Complete.{Pairs}
+use Rattle.cells.specs.declared.cell.Cell.{Cell, Dict as DictCase}
+use Rattle.cells.specs.Faults.{structures, structures_in, structures_under}
+use Rattle.cells.specs.Shape.{shape, entries}
+use Rattle.cells.proofs.Views.{Pair, shape-Dict}
+
+abbrev pub names : List Pair → List (List ℕ)
+names es = map (λ e. string_bytes e.0) es
+
+pub shape_of_dict : (v : Vec Pair Global) → shape (DictCase v) ≡ dict (entries_of (entries v.items))
+shape_of_dict v = shape-Dict v
+
+pub keys_are : (es : List Pair) → keys (entries es) ≡ names es
+keys_are [] = refl
+keys_are (e ∷ es) = ap (λ r. string_bytes e.0 ∷ r) (keys_are es)
+
+abbrev Structures : Type 0
+Structures = List (ℕ × Trees)
+
+member_joins : (ts : List Tree) (t : Tree) → structures_in (trees_of (ts ++ t ∷ [])) ≡ structures_in (trees_of ts) ++ structures t
+member_joins [] t = append-nil (structures t)
+member_joins (u ∷ ts) t =
+    ap (λ (x : Structures). structures u ++ x) (member_joins ts t)
+    ∙ sym (append_assoc (structures u) (structures_in (trees_of ts)) (structures t))
+
+-- a member without structures joins members without structures
+pub plain_member : (ts : List Tree) (t : Tree) → structures_in (trees_of ts) ≡ [] → structures t ≡ [] → structures_in (trees_of (ts ++ t ∷ [])) ≡ []
+plain_member ts t all one = member_joins ts t ∙ rw (all, one) refl
+
+entry_joins : (es : Pairs) (k : List ℕ) (t : Tree) → structures_under (entries_of (es ++ (k, t) ∷ [])) ≡ structures_under (entries_of es) ++ structures t
+entry_joins [] k t = append-nil (structures t)
+entry_joins (e ∷ es) k t =
+    ap (λ (x : Structures). structures e.1 ++ x) (entry_joins es k t)
+    ∙ sym (append_assoc (structures e.1) (structures_under (entries_of es)) (structures t))
+
+-- an entry without structures joins entries without structures
+pub plain_entry : (es : Pairs) (k : List ℕ) (t : Tree) → structures_under (entries_of es) ≡ [] → structures t ≡ [] → structures_under (entries_of (es ++ (k, t) ∷ [])) ≡ []
+plain_entry es k t all one = entry_joins es k t ∙ rw (all, one) refl
