@@ -1,5 +1,5 @@
 //! Cells at the front of bytes.
-ghost use Rattle.std.specs.Prelude.{◌≡◌, ◌≤◌, Ok, IfOk, [], length, map, string_bytes};
+ghost use Rattle.std.specs.Prelude.{◌≡◌, ◌≤◌, ℕ, suc, pos, Ok, IfOk, OnOk, IfSome, [], length, map, string_bytes};
 ghost use Rattle.packstream.specs.Good.{is_among};
 ghost use Rattle.packstream.specs.Reading.{key_at, items_at, entries_at, list_at, dict_at, layer, inner};
 ghost use Rattle.packstream.specs.Tree.{int, text, list, dict};
@@ -41,6 +41,18 @@ pub(crate) fn int_in(bytes: &[u8]) -> Result<(i64, &[u8]), Unscanned>
         Some(Marker::Tiny(n)) => Ok((n, rest)),
         Some(Marker::Int(wide)) => signed_of(wide, rest),
         _ => Err(Unscanned),
+    }
+}
+
+/// An integer from 0 on that stands in its marker.
+#[tactic(auto, using(crate::proofs::Members::small_read))]
+fn small_in(bytes: &[u8]) -> Option<(u8, &[u8])>
+    ensures { (room : ℕ)
+        → IfSome result (λ x. layer (inner room) bytes.now ≡ Ok (int (pos x.0), x.1.now)) }
+{
+    match bytes.split_first() {
+        Some((&first, rest)) if first < 0x80 => Some((first, rest)),
+        _ => None,
     }
 }
 
@@ -155,6 +167,30 @@ fn list_of(
     Ok((members, rest))
 }
 
+/// A member joins those before it. Integers are put there by this function itself: a cell has 160 bytes, and is moved from where a call
+/// answers it.
+#[cycle(scanner)]
+fn push_member<'a>(
+    members: &mut Vec<Cell>,
+    alloc: Global,
+    room: u8,
+    bytes: &'a [u8],
+) -> Result<&'a [u8], Unscanned>
+    ensures read { (n : ℕ) → IfOk result
+        (λ x. items_at (layer (inner room)) n (shapes members.new.items) x.now
+        ≡ items_at (layer (inner room)) (suc n) (shapes members.old.items) bytes.now) }
+    ensures plain { structures_in (trees_of (shapes members.old.items)) ≡ []
+        → OnOk result (structures_in (trees_of (shapes members.new.items)) ≡ []) }
+{
+    if let Some((n, rest)) = small_in(bytes) {
+        members.push(Cell::Int(i64::from(n)))?;
+        return Ok(rest);
+    }
+    let (member, rest) = cell_in(alloc, room, bytes)?;
+    members.push(member)?;
+    Ok(rest)
+}
+
 #[cycle(scanner)]
 fn members_of(
     alloc: Global,
@@ -169,8 +205,7 @@ fn members_of(
     let mut members = Vec::with_capacity(alloc, first_room(count, bytes))?;
     let mut rest = bytes;
     for _ in 0..count {
-        let (member, after) = cell_in(alloc, room, rest)?;
-        members.push(member)?;
+        let after = push_member(&mut members, alloc, room, rest)?;
         rest = after;
     }
     Ok((members, rest))

@@ -1,9 +1,10 @@
-use Rattle.std.proofs.Common.{◌≡◌, ◌++◌, ◌∷◌, [], ap, ◌∙◌, Ok, List, ℕ, refl}
+use Rattle.std.proofs.Common.{◌≡◌, ◌++◌, ◌∷◌, [], ◌+◌, ◌-◌, suc, pos, ap, ◌∙◌, List, ℕ, refl, arith, rules, to_z, of_z, w64}
 use Rattle.std.proofs.lemmas.List.{map_push}
+use Rattle.packstream.specs.Tree.{Tree, int}
 use Rattle.packstream.specs.Reading.{list_at, dict_at, layer, inner, items_at, entries_at}
-use Rattle.packstream.proofs.Steps.{inner_more, items_on, items_done, entries_on, entries_done}
+use Rattle.packstream.proofs.Steps.{inner_more, items_done, entries_on, entries_done}
 use Rattle.cells.specs.Shape.{shape, shapes, entry, entries}
-use Rattle.scanner.proofs.Members.{keys_are, plain_member, plain_entry}
+use Rattle.scanner.proofs.Members.{shape_of_int, keys_are, member_on, plain_member, plain_entry}
 use Rattle.scanner.proofs.scanning.+scanner.Goals as goal
 
 pub list_of-returns-clause-read : goal.list_of-returns-clause-read
@@ -14,12 +15,39 @@ pub dict_of-returns-clause-read : goal.dict_of-returns-clause-read
 unfolding dict_at
 dict_of-returns-clause-read t c = rw (inner_more c.args.room c.if-room-eq0.false, c.in_ok-count.ensures, c.in_ok-pairs.ensures.read) refl
 
+pub push_member-returns-in-Some-clause-read : goal.push_member-returns-in-Some-clause-read
+push_member-returns-in-Some-clause-read t c =
+    let z : to_z w64 (of_z w64 c.from.result) ≡ pos c.in-Some.n = search rules in
+    let e : shapes c.push.new.self.items ≡ shapes c.args.members.now.items ++ int (pos c.in-Some.n) ∷ [] =
+    rw c.in_ok-push.ensures.items (map_push shape c.args.members.now.items _ ∙ ap (λ (u : Tree). shapes c.args.members.now.items ++ u ∷ []) (shape_of_int _ ∙ ap int z)) in
+    λ n. rw e (member_on (layer (inner c.args.room)) n (shapes c.args.members.now.items) c.args.bytes.now c.in-Some.rest.now (int (pos c.in-Some.n)) (c.in-Some.ensures c.args.room))
+
+pub push_member-returns-in-Some-clause-plain : goal.push_member-returns-in-Some-clause-plain
+push_member-returns-in-Some-clause-plain t c =
+    let z : to_z w64 (of_z w64 c.from.result) ≡ pos c.in-Some.n = search rules in
+    let e : shapes c.push.new.self.items ≡ shapes c.args.members.now.items ++ int (pos c.in-Some.n) ∷ [] =
+    rw c.in_ok-push.ensures.items (map_push shape c.args.members.now.items _ ∙ ap (λ (u : Tree). shapes c.args.members.now.items ++ u ∷ []) (shape_of_int _ ∙ ap int z)) in
+    λ h. rw e (plain_member (shapes c.args.members.now.items) (int (pos c.in-Some.n)) h refl)
+
+pub push_member-returns-clause-read : goal.push_member-returns-clause-read
+push_member-returns-clause-read t c =
+    let m = c.in_ok-member.member in
+    let e : shapes c.push-2.new.self.items ≡ shapes c.args.members.now.items ++ shape m ∷ [] = rw c.in_ok-push-2.ensures.items (map_push shape c.args.members.now.items m) in
+    λ n. rw e (member_on (layer (inner c.args.room)) n (shapes c.args.members.now.items) c.args.bytes.now c.in_ok-member.rest.now (shape m) c.in_ok-member.ensures.read)
+
+pub push_member-returns-clause-plain : goal.push_member-returns-clause-plain
+push_member-returns-clause-plain t c =
+    let m = c.in_ok-member.member in
+    let e : shapes c.push-2.new.self.items ≡ shapes c.args.members.now.items ++ shape m ∷ [] = rw c.in_ok-push-2.ensures.items (map_push shape c.args.members.now.items m) in
+    λ h. rw e (plain_member (shapes c.args.members.now.items) (shape m) h c.in_ok-member.ensures.plain)
+
 pub members_of-loop-preserved : goal.members_of-loop-preserved
 members_of-loop-preserved t c =
-    let n = c.in_ok-member.member in
-    let e : shapes c.push.new.self.items ≡ shapes c.loop.members.items ++ shape n ∷ [] = rw c.in_ok-push.ensures.items (map_push shape c.loop.members.items n) in (
-      rw e (items_on (layer (inner c.args.room)) c.args.count c.loop.counter (shapes c.loop.members.items) c.loop.rest.now c.in_ok-member.after.now (shape n) (items_at (layer (inner c.args.room)) c.args.count [] c.args.bytes.now) c.loop-test.true c.in_ok-member.ensures.read c.loop.invariant.0),
-      rw e (plain_member (shapes c.loop.members.items) (shape n) c.loop.invariant.1 c.in_ok-member.ensures.plain),
+    let read = layer (inner c.args.room) in
+    let left = c.args.count - (c.loop.counter + 1) in
+    let one : suc left ≡ c.args.count - c.loop.counter = omega (arith, c.loop-test.true) in (
+      c.in_ok-after.ensures.read left ∙ ap (λ (n : ℕ). items_at read n (shapes c.loop.members.items) c.loop.rest.now) one ∙ c.loop.invariant.0,
+      c.in_ok-after.ensures.plain c.loop.invariant.1,
     )
 
 pub members_of-returns-clause-read : goal.members_of-returns-clause-read

@@ -15,7 +15,10 @@ abbrev pub decreases-dict_of : goal.decreases-dict_of
 decreases-dict_of l = 4 * l.room + 1
 
 abbrev pub decreases-members_of : goal.decreases-members_of
-decreases-members_of l = 4 * l.room + 3
+decreases-members_of l = 4 * l.room + 4
+
+abbrev pub decreases-push_member : goal.decreases-push_member
+decreases-push_member l = 4 * l.room + 3
 
 abbrev pub decreases-pairs_of : goal.decreases-pairs_of
 decreases-pairs_of l = 4 * l.room + 3
