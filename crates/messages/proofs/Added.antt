@@ -165,7 +165,7 @@ by_test : (v : Version) (z : ℤ) (b : Bool) → int_le (pos 1) z ≡ b → name
 by_test v z true e = rw e refl
 by_test v z false e = rw e refl
 
-count_named : (v : Version) (c : Count) → named_put v how_many (count_tree c ∷ []) ≡ (count_number (count_tree c) >>= λ t. Ok (entry_then (codes "n") t no_entries))
+pub count_named : (v : Version) (c : Count) → named_put v how_many (count_tree c ∷ []) ≡ (count_number (count_tree c) >>= λ t. Ok (entry_then (codes "n") t no_entries))
 count_named v All = refl
 count_named v (Of z) = by_test v z (int_le (pos 1) z) refl
 
@@ -190,7 +190,7 @@ number_added v c z old new e g a = record {
 pub mode_added : (old a b new : List ℕ) → a ≡ old ++ 0xA1 ∷ [] → b ≡ a ++ text_bytes (codes "mode") → new ≡ b ++ text_bytes (codes "r") → new ≡ old ++ canon (dict (entries_of (mode_pairs Read)))
 mode_added old a b new p q r = one_entry (codes "mode") (text (codes "r")) old a b new p q r
 
-mode_good : (m : Mode) → IsGood (dict (entries_of (mode_pairs m)))
+pub mode_good : (m : Mode) → IsGood (dict (entries_of (mode_pairs m)))
 unfolding lib.Utf8.encode
 mode_good Read = record {
   deep = omega arith;
@@ -199,7 +199,7 @@ mode_good Read = record {
 }
 mode_good Write = record { deep = omega arith; sound = (tt, tt); plain = tt }
 
-mode_deep : (m : Mode) → depth (dict (entries_of (mode_pairs m))) ≤ 31
+pub mode_deep : (m : Mode) → depth (dict (entries_of (mode_pairs m))) ≤ 31
 mode_deep Read = omega arith
 mode_deep Write = omega arith
 

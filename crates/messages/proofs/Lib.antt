@@ -21,3 +21,4 @@ pub mod Apart
 pub mod Made
 pub mod Valued
 pub mod Added
+pub mod Scanned

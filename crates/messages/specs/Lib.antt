@@ -8,6 +8,7 @@ pub mod Messages
 pub mod Cells
 pub mod Writing
 pub mod Added
+pub mod Scanned
 pub mod Arrivals
 pub mod Summaries
 pub mod Saying

@@ -15,6 +15,7 @@ use crate::fault::MsgFault;
 use crate::of_packed;
 use crate::request::Request;
 use crate::response::Response;
+use crate::scanning::{scan_request, scan_response};
 use crate::spelling::{spell_request, spell_response};
 use crate::values::{request_value, response_value};
 use bytes::BytesMut;
@@ -26,6 +27,9 @@ fn request_in(alloc: Global, version: Version, bytes: &[u8]) -> Result<Request, 
     ensures { Answers (λ r. request_contents (request_view r)) result
         (contents_in version requests bytes.now) }
 {
+    if let Ok(request) = scan_request(alloc, bytes) {
+        return Ok(request);
+    }
     let packed = decode(alloc, bytes)?;
     of_packed::request_of(alloc, version, &packed)
 }
@@ -34,6 +38,9 @@ fn response_in(alloc: Global, version: Version, bytes: &[u8]) -> Result<Response
     ensures { Answers (λ r. response_contents (response_view r)) result
         (contents_in version responses bytes.now) }
 {
+    if let Ok(response) = scan_response(alloc, bytes) {
+        return Ok(response);
+    }
     let packed = decode(alloc, bytes)?;
     of_packed::response_of(alloc, version, &packed)
 }

@@ -14,6 +14,7 @@ mod of_packed;
 mod reader;
 mod request;
 mod response;
+mod scanning;
 mod spelling;
 mod tags;
 mod values;

@@ -1,4 +1,4 @@
-//! What the tests of all three crates ask of an answer.
+//! What the tests of more than one crate ask of an answer.
 
 use bytes::BytesMut;
 use packstream::{PackFault, Packed, Reason, encode, size};

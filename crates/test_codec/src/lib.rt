@@ -1,4 +1,4 @@
-//! Tests of values: the crates packstream, reader and structures, by their public calls. A crate of their own, so that none of those
+//! Tests of values: the crates packstream, reader, scanner and structures, by their public calls. A crate of their own, so that none of those
 //! is proved twice.
 #![tactic(auto)]
 
@@ -8,5 +8,7 @@ mod answers;
 mod packstream_tests;
 #[cfg(test)]
 mod reader_tests;
+#[cfg(test)]
+mod scanner_tests;
 #[cfg(test)]
 mod structures_tests;

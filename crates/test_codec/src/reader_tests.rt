@@ -20,14 +20,14 @@ pub const DEEPEST: &[u8] = &[
 ];
 
 /// One list more.
-const TOO_DEEP: &[u8] = &[
+pub const TOO_DEEP: &[u8] = &[
     0x91, 0x91, 0x91, 0x91, 0x91, 0x91, 0x91, 0x91, 0x91, 0x91, 0x91, 0x91, 0x91, 0x91, 0x91, 0x91,
     0x91, 0x91, 0x91, 0x91, 0x91, 0x91, 0x91, 0x91, 0x91, 0x91, 0x91, 0x91, 0x91, 0x91, 0x91, 0x91,
     0x90,
 ];
 
 /// A dictionary of 40 keys.
-const MANY_KEYS: &[u8] = b"\xD8\x28\
+pub const MANY_KEYS: &[u8] = b"\xD8\x28\
     \x82aa\x01\x82ab\x01\x82ac\x01\x82ad\x01\x82ae\x01\x82af\x01\x82ag\x01\x82ah\x01\x82ai\x01\x82aj\x01\
     \x82ak\x01\x82al\x01\x82am\x01\x82an\x01\x82ao\x01\x82ap\x01\x82ba\x01\x82bb\x01\x82bc\x01\x82bd\x01\
     \x82be\x01\x82bf\x01\x82bg\x01\x82bh\x01\x82bi\x01\x82bj\x01\x82bk\x01\x82bl\x01\x82bm\x01\x82bn\x01\

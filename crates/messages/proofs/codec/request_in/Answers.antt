@@ -5,7 +5,7 @@ use Rattle.messages.specs.Table.{requests}
 use Rattle.messages.specs.View.{request_view}
 use Rattle.messages.specs.Reading.{request_contents}
 use Rattle.messages.specs.Messages.{contents_by}
-use Rattle.messages.proofs.Meanings.{bad_answers, err_is}
+use Rattle.messages.proofs.Meanings.{bad_answers, err_is, means_said}
 use Rattle.messages.proofs.codec.request_in.Goals as goal
 
 pub returns-in_err-packed : goal.returns-in_err-packed
@@ -13,3 +13,6 @@ returns-in_err-packed c = bad_answers (λ r. request_contents (request_view r)) 
 
 pub returns : goal.returns
 returns c = rw (ap (contents_by c.args.version requests) ((whole_value c.args.bytes.now (bytes_from_each c.args.bytes.now c.type_inv.bytes) c.in_ok-packed.packed).1 ((c.in_ok-packed.ensures.value c.in_ok-packed.packed).0 refl))) c.request_of.ensures.told
+
+pub returns-in-Ok : goal.returns-in-Ok
+returns-in-Ok c = means_said c.args.version requests (request_contents (request_view c.in-Ok.request)) c.args.bytes.now (bytes_from_each c.args.bytes.now c.type_inv.bytes) (c.in-Ok.ensures c.args.version)

@@ -5,7 +5,7 @@ use Rattle.messages.specs.Table.{responses}
 use Rattle.messages.specs.View.{response_view}
 use Rattle.messages.specs.Reading.{response_contents}
 use Rattle.messages.specs.Messages.{contents_by}
-use Rattle.messages.proofs.Meanings.{bad_answers, err_is}
+use Rattle.messages.proofs.Meanings.{bad_answers, err_is, means_said}
 use Rattle.messages.proofs.codec.response_in.Goals as goal
 
 pub returns-in_err-packed : goal.returns-in_err-packed
@@ -13,3 +13,6 @@ returns-in_err-packed c = bad_answers (λ r. response_contents (response_view r)
 
 pub returns : goal.returns
 returns c = rw (ap (contents_by c.args.version responses) ((whole_value c.args.bytes.now (bytes_from_each c.args.bytes.now c.type_inv.bytes) c.in_ok-packed.packed).1 ((c.in_ok-packed.ensures.value c.in_ok-packed.packed).0 refl))) c.response_of.ensures.told
+
+pub returns-in-Ok : goal.returns-in-Ok
+returns-in-Ok c = means_said c.args.version responses (response_contents (response_view c.in-Ok.response)) c.args.bytes.now (bytes_from_each c.args.bytes.now c.type_inv.bytes) (c.in-Ok.ensures c.args.version)

@@ -1,0 +1,20 @@
+//! That something wasn't scanned.
+
+use std::alloc::{AllocError, AllocFailed};
+
+/// It isn't scanned here: the bytes spell no good value, or one with a structure, with many keys in one dictionary or too deep, or
+/// there is no memory.
+#[derive(Clone, Copy, Debug)]
+pub struct Unscanned;
+
+impl From<AllocError> for Unscanned {
+    fn from(_e: AllocError) -> Unscanned {
+        Unscanned
+    }
+}
+
+impl<T: Drop> From<AllocFailed<T>> for Unscanned {
+    fn from(_e: AllocFailed<T>) -> Unscanned {
+        Unscanned
+    }
+}

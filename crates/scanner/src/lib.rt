@@ -1,0 +1,13 @@
+//! Cells without structures, read straight from bytes, in one walk and without a value of them.
+//!
+//! What is promised is promised one way: where a function says yes, the front of the bytes spells the cell, which is good and has no
+//! structure, and what is left is what follows it. Where it says no, nothing is said of why: the way over a value tells that.
+#![tactic(auto)]
+
+mod fault;
+mod numbers;
+mod scanning;
+mod whole;
+
+pub use fault::Unscanned;
+pub use whole::{scan_cell, scan_dict, scan_int, scan_list, scan_text};
