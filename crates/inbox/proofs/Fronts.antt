@@ -58,7 +58,7 @@ module _ (u : Unfinished) (piece : List ℕ) (c : Cut) (small : u.too_big ≡ fa
       let took : ℕ → Took Unfinished Item = λ n. record { used = n; item = None; rest = unfinished_at s.chunks scan.body } in
       used_up (takes chunks u piece) piece (unfinished_at s.chunks scan.body) s (scan.takes ∙ ap took all) (at_part s scan.body going scan.after scan.reads)
 
--- the reader has read it, and the place is the one behind it
+-- the reader has read it, and the position is the one behind it
 pub alone_taken : (u : Unfinished) (piece : List ℕ) (old new : Stream) → IsAt old u → (old.is_over ≡ false) × IsData old.chunks piece new.chunks → new.is_over ≡ old.is_over → ((b : List ℕ) → Reads old.reader.here b → Reads new.reader.here (b ++ piece))
     → UsesUpAt (takes chunks u piece) piece new
 alone_taken u piece old new is alone same read =

@@ -1,4 +1,4 @@
--- What a part of a piece uses, and where the place goes: a place that isn't past the limit goes on.
+-- What a part of a piece uses, and where the position goes: one that isn't past the limit goes on.
 use Rattle.std.proofs.Common.{◌≡◌, refl, sym, ◌∙◌, ap, subst, ℕ, zero, suc, ◌+◌, ◌*◌, ◌<◌, Bool, true, false, cond, eqb, ltb, Option, Some, None, List, [], ◌∷◌, length, arith, true≢false}
 use Rattle.std.specs.Prelude.{min}
 use Rattle.wire.specs.declared.parts.Cut.{Cut}
@@ -6,7 +6,7 @@ use Rattle.wire.specs.declared.parts.Part.TheVariants as part
 use Rattle.wire.specs.Place.{Place, start}
 use Rattle.wire.specs.Parts.{Bite, bite, inside, past, on_length, on_header, on_data, cut_at}
 
--- some bytes are used, and the place isn't past the limit unless the part says so
+-- some bytes are used, and the position isn't past the limit unless the part says so
 pub record Goes (b : Bite) : Type 0 where
   pub some : 0 < b.cut.used
   pub going : (b.cut.what ≡ part.TooBig → ⊥) → b.place.too_big ≡ false

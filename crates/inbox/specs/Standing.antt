@@ -6,7 +6,7 @@ use Rattle.reader.specs.Piecewise.{Reads}
 use Rattle.inbox.specs.declared.stream.Stream.{Stream}
 use Rattle.inbox.specs.declared.inbox.Inbox.{Inbox}
 
--- The stream stands in this item: its reader has read the data, and while no message was refused its place is that of the item.
+-- The stream stands in this item: its reader has read the data, and while no message was refused its position is that of the item.
 pub record IsAt (s : Stream) (u : Unfinished) : Type 0 where
   pub over : u.too_big ≡ s.is_over
   pub reads : Reads s.reader.here u.body

@@ -10,7 +10,7 @@ use reader::laws::{good_may_go_on, reads_more, reads_nothing};
 use std::alloc::{AllocError, Global};
 use wire::{Chunks, Version};
 
-/// What has come of the message that isn't whole: the place in the chunks, and what was read of its data.
+/// What has come of the message that isn't whole: the position in the chunks, and what was read of its data.
 #[derive(Drop)]
 pub struct Inbox {
     stream: Stream,

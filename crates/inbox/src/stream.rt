@@ -20,8 +20,8 @@ use reader::laws::reads_more;
 use std::alloc::{AllocError, Global};
 use wire::{Chunks, Cut, Part, Version};
 
-/// The place in a stream of chunks, a reader of the data of the message that isn't whole, and whether a message was refused. Nothing is read
-/// after that.
+/// The position in a stream of chunks, a reader of the data of the message that isn't whole, and whether a message was refused. Nothing is
+/// read after that.
 #[derive(Drop)]
 pub(crate) struct Stream {
     pub chunks: Chunks,
