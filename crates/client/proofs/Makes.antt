@@ -1,7 +1,6 @@
 -- What a client makes of an item: a bad answer, or that no version is taken, or one; nothing, a row, or a summary.
-use Rattle.std.proofs.Common.{◌≡◌, refl, ◌∙◌, ap, subst, Bool, true, false, if◌then◌else◌, Option, Some, None, List, [], ◌∷◌}
+use Rattle.std.proofs.Common.{◌≡◌, refl, ◌∙◌, ap, Bool, true, false, if◌then◌else◌, Option, Some, None, List, [], ◌∷◌}
 use Rattle.std.specs.Prelude.{option_map}
-use Rattle.std.specs.Option.{ForSome}
 use Rattle.packstream.specs.Tree.{Tree}
 use Rattle.wire.specs.declared.Version.{Version}
 use Rattle.wire.specs.declared.Wish.{Wish}
@@ -102,15 +101,6 @@ module _ (wish : Wish) (k : Knows) where
   version_stays v e x h tells_none = e
   version_stays v e x h (tells_row cells n later w) = e
   version_stays v e x h (tells_summary a s) = e
-
-  -- the version that is known is one that was wished
-  pub wished_stays : ForSome k.version (λ v. is_wished wish v ≡ true) → (x : Heard) (h : Hearing) → Makes wish k x h → ForSome h.knows.version (λ v. is_wished wish v ≡ true)
-  wished_stays w x h (spoils y) = w
-  wished_stays w x h (turns_away n) = w
-  wished_stays w x h (takes_version v n i) = λ u e. let same : v ≡ u = cc in subst (λ (z : Version). is_wished wish z ≡ true) same i
-  wished_stays w x h tells_none = w
-  wished_stays w x h (tells_row cells n later q) = w
-  wished_stays w x h (tells_summary a s) = w
 
 -- what tells a verdict is no row
 hears_told : (k : Knows) (part : Bool) (a : ResponseView) (d : Verdict) → verdict_of part a ≡ Some d → hears_response k a ≡ hears_summary k a

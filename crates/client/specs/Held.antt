@@ -13,8 +13,8 @@ use Rattle.client.specs.Answers.{held_bytes}
 abbrev pub IsHeld : Opening → Inbox → Opened → Type 0
 IsHeld o i item = HasCome 4 (held_bytes o) i item
 
--- the stream stands in this item
-abbrev pub IsItem : Stream → Opened → Type 0
+-- the stream stands in this item; opened where a stream is what is proved of
+unfoldable pub IsItem : Stream → Opened → Type 0
 IsItem s item = IsHeld s.opening s.inbox item
 
 -- Room is wanted where data comes, and where a message ends: never for the version answer, headers and no-ops.

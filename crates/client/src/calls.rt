@@ -41,6 +41,7 @@ fn used_up(used: usize) -> Result<(usize, Heard), ClientFault>
 
 impl Client {
     /// Its offer is to be taken out. C5 for want of memory.
+    #[tactic(auto, unfolding(crate::specs::Held::IsItem))]
     pub fn new(alloc: Global, wish: Wish) -> Result<Client, ClientFault>
         ensures new { IfOk result (λ client. Fits client (begun wish)) }
         ensures fault { IfErr result (λ e. e ≡ ClientFault.Memory) }

@@ -1,9 +1,5 @@
 //! What a client holds.
 
-ghost use Rattle.std.specs.Prelude.{◌≡◌, true};
-ghost use Rattle.std.specs.Option.{ForSome};
-ghost use Rattle.client.specs.Verdicts.{is_wished};
-
 use crate::pipeline::Pipeline;
 use crate::stream::Stream;
 use bytes::BytesMut;
@@ -27,5 +23,4 @@ pub struct Client {
     /// What isn't taken out.
     pub(crate) out: BytesMut,
     pub(crate) alloc: Global,
-    ghost wished: { ForSome pipeline.version (λ v. is_wished wish v ≡ true) },
 }

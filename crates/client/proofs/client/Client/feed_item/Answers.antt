@@ -1,20 +1,13 @@
-use Rattle.std.proofs.Common.{◌≡◌, Ok, Err, rules, sym, ◌∙◌, ap}
+use Rattle.std.proofs.Common.{◌≡◌, Ok, Err, rules, ◌∙◌, ap}
 use Rattle.wire.specs.Framing.{at_client}
 use Rattle.wire.specs.Reader.{takes}
 use Rattle.client.specs.declared.faults.ClientFault.{ClientFault}
 use Rattle.client.specs.Rest.{Knows, hears_item, note_of}
 use Rattle.client.specs.Hearings.{came_as, came_in}
+use Rattle.client.specs.Held.{IsItem}
 use Rattle.client.specs.Fits.{Fits, knowledge_of}
-use Rattle.client.proofs.Makes.{makes, wished_stays}
 use Rattle.client.proofs.Pieces.{err_note, heard_feeds, refused_feeds, memory_feeds, hears_by}
 use Rattle.client.proofs.client.Client.feed_item.Goals as goal
-
-pub invariant_of-self-2 : goal.invariant_of-self-2
-invariant_of-self-2 c =
-    let s = c.args.self.now in
-    let k = knowledge_of s.pipeline in
-    let x = came_as c.in_ok-taken.taken.came in
-    record { wished = λ v e. wished_stays s.wish k s.wished x (hears_item s.wish k x) (makes s.wish k x) v (sym (ap (λ (z : Knows). z.version) c.hear.ensures.1) ∙ e) }
 
 pub returns-in_err-taken-clause-feeds : goal.returns-in_err-taken-clause-feeds
 returns-in_err-taken-clause-feeds c = λ r f.
@@ -24,6 +17,7 @@ returns-in_err-taken-clause-feeds c = λ r f.
     (record { wish = f.wish; knows = f.knows; item = (e.err r.item f.item).0; unsent = f.unsent })
 
 pub returns-in-Ok-clause-feeds : goal.returns-in-Ok-clause-feeds
+unfolding IsItem
 returns-in-Ok-clause-feeds c = λ r f.
     let s = c.args.self.now in
     let t = c.in_ok-taken.taken in
@@ -34,6 +28,7 @@ returns-in-Ok-clause-feeds c = λ r f.
     (hears_by s.wish r.wish (knowledge_of s.pipeline) r.knows (came_as t.came) (Ok c.in-Ok.heard) knows f.wish f.knows c.in-Ok.ensures)
 
 pub returns-in-Err-clause-feeds : goal.returns-in-Err-clause-feeds
+unfolding IsItem
 returns-in-Err-clause-feeds c = λ r f.
     let s = c.args.self.now in
     let t = c.in_ok-taken.taken in

@@ -2,11 +2,13 @@ use Rattle.std.proofs.Common.{Bool, Ok, Err, ap}
 use Rattle.wire.specs.Framing.{at_client}
 use Rattle.wire.specs.Reader.{takes}
 use Rattle.client.specs.declared.faults.ClientFault.{ClientFault}
+use Rattle.client.specs.Held.{IsItem}
 use Rattle.client.specs.Fits.{Fits}
 use Rattle.client.proofs.Pieces.{quiet_feeds, told_feeds, memory_feeds}
 use Rattle.client.proofs.client.Client.feed_open.Goals as goal
 
 pub returns-in-Ok-true-clause-feeds : goal.returns-in-Ok-true-clause-feeds
+unfolding IsItem
 returns-in-Ok-true-clause-feeds c = λ r f.
     let m = takes at_client r.item c.args.piece.now in
     let took = c.in-Ok-true.ensures.data r.knows.version r.item f.item (ap (λ (b : Bool). Ok b) c.in-Ok-true.field-0-test) in

@@ -2,6 +2,7 @@ use Rattle.std.proofs.Common.{◌≡◌, ◌∙◌, refl, sym, ap, ◌<◌, ◌�
 use Rattle.inbox.proofs.Opening.{by_part, by_whole}
 use Rattle.client.specs.declared.data.Came.TheVariants as came
 use Rattle.client.specs.Answers.{held_bytes}
+use Rattle.client.specs.Held.{IsItem}
 use Rattle.client.specs.Taking.{Comes}
 use Rattle.client.proofs.Versions.{plain_version, held-length}
 use Rattle.client.proofs.stream.Stream.take_answer.Goals as goal
@@ -10,6 +11,7 @@ pub invariant_of-self : goal.invariant_of-self
 invariant_of-self c = record { answering = omega (arith, c.with-used.ensures.len, c.with-used.ensures.used, c.requires) }
 
 pub returns-then-opening-lt-LENGTH-clause-ok : goal.returns-then-opening-lt-LENGTH-clause-ok
+unfolding IsItem
 returns-then-opening-lt-LENGTH-clause-ok c = λ version item is.
     let s = c.args.self.now in
     let w = c.with-used in
@@ -22,6 +24,7 @@ returns-then-opening-lt-LENGTH-clause-ok c = λ version item is.
     (λ unread. record { used = refl; rest = record { few = less; bytes_are = refl; unread = unread }; came = refl }) item is
 
 pub returns-clause-ok : goal.returns-clause-ok
+unfolding IsItem
 returns-clause-ok c = λ version item is.
     let s = c.args.self.now in
     let w = c.with-used in

@@ -6,11 +6,13 @@ use Rattle.wire.specs.Reader.{takes}
 use Rattle.wire.specs.Framing.{chunks}
 use Rattle.inbox.proofs.Opening.{by_chunks}
 use Rattle.client.specs.Answers.{held_bytes}
+use Rattle.client.specs.Held.{IsItem}
 use Rattle.client.specs.Taking.{Comes}
 use Rattle.client.proofs.Versions.{held-length, chunks_stay, BringsAt}
 use Rattle.client.proofs.stream.Stream.take_chunks.Goals as goal
 
 pub returns-clause-ok : goal.returns-clause-ok
+unfolding IsItem
 returns-clause-ok c = λ item is.
     let s = c.args.self.now in
     let version = c.args.version in
@@ -22,6 +24,7 @@ returns-clause-ok c = λ item is.
     (λ v at. let t = c.in-Ok.ensures.ok v at in let item = (takes chunks v piece).item in record { used = t.used_is; rest = (whole, t.rest); came = c.came_of.ensures item (subst (λ (w : Version). BringsAt item c.in-Ok.brought w) at_version t.item) }) item is
 
 pub returns-in_default-clause-err : goal.returns-in_default-clause-err
+unfolding IsItem
 returns-in_default-clause-err c = λ item is.
     let s = c.args.self.now in
     let four : length s.opening.bytes ≡ 4 = search rules in

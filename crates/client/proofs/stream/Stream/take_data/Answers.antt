@@ -2,12 +2,13 @@ use Rattle.std.proofs.Common.{◌≡◌, ◌≤◌, sym, ap, Bool, true, false, 
 use Rattle.inbox.proofs.Opening.{by_chunks}
 use Rattle.client.specs.Answers.{held_bytes}
 use Rattle.client.specs.Hearings.{came_in}
-use Rattle.client.specs.Held.{IsHeld}
+use Rattle.client.specs.Held.{IsHeld, IsItem}
 use Rattle.client.specs.Taking.{Comes, all_of}
 use Rattle.client.proofs.Versions.{held-length, chunks_stay}
 use Rattle.client.proofs.stream.Stream.take_data.Goals as goal
 
 pub returns-in-Ok-clause-data : goal.returns-in-Ok-clause-data
+unfolding IsItem
 returns-in-Ok-clause-data c = λ version item is e.
     let s = c.args.self.now in
     let piece = c.args.piece.now in
@@ -17,6 +18,7 @@ returns-in-Ok-clause-data c = λ version item is e.
     (λ v at. let is_data : c.in-Ok.is_data ≡ true = cc in let t = c.in-Ok.ensures.data v at (ap (λ (b : Bool). Ok b) is_data) in record { used = sym t.used; rest = (whole, t.rest); came = sym (ap (came_in version) t.none) }) item is
 
 pub returns-in-Ok-clause-other : goal.returns-in-Ok-clause-other
+unfolding IsItem
 returns-in-Ok-clause-other c = λ item is e.
     let s = c.args.self.now in
     let four : length s.opening.bytes ≡ 4 = search rules in
@@ -24,6 +26,7 @@ returns-in-Ok-clause-other c = λ item is e.
     by_chunks 4 (held_bytes s.opening) s.inbox c.args.piece.now (λ u m. IsHeld s.opening c.take_data.new.self u) whole (λ v at. let other : c.in-Ok.is_data ≡ false = cc in (whole, c.in-Ok.ensures.other v at (ap (λ (b : Bool). Ok b) other))) item is
 
 pub returns-in-Err-clause-err : goal.returns-in-Err-clause-err
+unfolding IsItem
 returns-in-Err-clause-err c = λ item is.
     let s = c.args.self.now in
     let four : length s.opening.bytes ≡ 4 = search rules in
