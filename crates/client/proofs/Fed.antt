@@ -6,12 +6,13 @@ use Rattle.wire.specs.Reader.{Took, state, takes}
 use Rattle.wire.specs.Framing.{Item, Opened, at_client}
 use Rattle.messages.specs.View.{RequestView}
 use Rattle.messages.specs.Arrivals.{Heard, hears}
+use Rattle.inbox.proofs.Arriving.{rest_then}
 use Rattle.client.specs.declared.faults.ClientFault.TheVariants as client_fault
 use Rattle.client.specs.Rest.{Knows, Rest, Fed, heard_as, fed_item, fed_open, feed_of}
 use Rattle.client.specs.Client.{Reading, knows_of, hear, reading, reading_of}
 use Rattle.client.specs.Moments.{tellings_in}
 use Rattle.client.proofs.Steps.{hear_knows, item_tells}
-use Rattle.client.proofs.Hears.{hear_keeps, more_heard, state_more}
+use Rattle.client.proofs.Hears.{hear_keeps, more_heard}
 
 -- where a client stands that took these bytes and isn't lost
 abbrev pub rest_at : Wish → List RequestView → List ℕ → List ℕ → Rest
@@ -70,7 +71,7 @@ module _ (wish : Wish) (sent : List RequestView) (unsent bytes : List ℕ) (on :
   open_fed = subst (λ b. Leaves (read_with t.item) (if b then record { rest = before; answer = Err client_fault.Closed } else fed_open before t)) (sym goes) (by_item t.item)
 
   pub fed_rest : (feed_of before piece).rest ≡ rest_at wish sent unsent took
-  fed_rest = open_fed.0 ∙ ap₂ (λ (z : Reading) (i : Opened). record before { knows = knows_of z sent false; item = i }) (sym read_then) (sym (state_more bytes piece))
+  fed_rest = open_fed.0 ∙ ap₂ (λ (z : Reading) (i : Opened). record before { knows = knows_of z sent false; item = i }) (sym read_then) (sym (rest_then 4 bytes piece))
 
   pub fed_told : (reading_of wish sent took).told ≡ tellings_in (feed_of before piece).answer ++ r.told
   fed_told = ap (λ (z : Reading). z.told) read_then ∙ open_fed.1

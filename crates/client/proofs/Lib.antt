@@ -1,10 +1,7 @@
 pub mod Makes
 pub mod Judging
 pub mod Waiting
-pub mod Parts
-pub mod Taking
-pub mod Fronts
-pub mod Values
+pub mod Versions
 pub mod Pieces
 pub mod Refusing
 pub mod Steps
@@ -13,4 +10,3 @@ pub mod Hears
 pub mod Fed
 pub mod Runs
 pub mod Few
-pub mod Wanting

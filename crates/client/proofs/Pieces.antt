@@ -1,10 +1,9 @@
 -- What a piece does to the rest of a client's run.
-use Rattle.std.proofs.Common.{◌≡◌, refl, sym, ◌∙◌, ap, subst, ℕ, ◌<◌, ◌≤◌, Bool, true, false, Option, Some, None, Result, Ok, Err, List, [], ◌∷◌, length, arith}
-use Rattle.std.specs.Prelude.{IfOk, IsErrOf, if◌then◌else◌}
+use Rattle.std.proofs.Common.{◌≡◌, refl, sym, ◌∙◌, ap, subst, ℕ, Bool, true, false, Option, Some, None, Result, Ok, Err, List}
+use Rattle.std.specs.Prelude.{IsErrOf, if◌then◌else◌}
 use Rattle.wire.specs.declared.Wish.{Wish}
 use Rattle.wire.specs.Framing.{Item, Opened, at_client}
-use Rattle.wire.specs.Reader.{Took, ends_at, takes}
-use Rattle.wire.proofs.Readers.{reads_pieces}
+use Rattle.wire.specs.Reader.{Took, takes}
 use Rattle.messages.specs.Arrivals.{Heard as AnyHeard}
 use Rattle.client.specs.declared.heard.Heard.{Heard}
 use Rattle.client.specs.declared.heard.Heard.TheVariants.{Nothing}
@@ -75,11 +74,6 @@ pub hears_by : (wish other : Wish) (k l : Knows) (x : AnyHeard) (result : Result
 hears_by wish other k l x result knows same known h =
     subst (λ (w : Wish). Hears (hears_item w l x) x result knows) same (subst (λ (z : Knows). Hears (hears_item wish z x) x result knows) known h)
 
--- a message past the limit ends the client
-pub spoils_going : (wish : Wish) (k : Knows) (x : AnyHeard) (big : Bool) → (big ≡ true → x ≡ AnyHeard.Strange) → (hears_item wish k x).knows.over ≡ false → big ≡ false
-spoils_going wish k x false h o = refl
-spoils_going wish k x true h o = let e = ap (λ y. (hears_item wish k y).knows.over) (h refl) in absurd cc
-
 -- for every rest that the client fitted
 same_open : (r : Rest) (piece : List ℕ) → r.knows.over ≡ false → feed_of r piece ≡ fed_open r (takes at_client r.item piece)
 same_open r piece o = rw o refl
@@ -99,32 +93,3 @@ keeps_rests r f (Ok used) Now h m = absurd cc
 keeps_rests r f (Err client_fault.Closed) Now h m = absurd cc
 keeps_rests r f (Err client_fault.BadPeer) Now h m = absurd cc
 keeps_rests r f (Err client_fault.Memory) Now h m = h
-
--- how many bytes are used: some, where there are any, and no more than there are
-some_used : (s : Opened) (piece : List ℕ) → 0 < length piece → 0 < (takes at_client s piece).used
-some_used s [] h = h
-some_used s (b ∷ bs) h = go (at_client.item s b) (takes at_client (at_client.byte s b) bs)
-  where
-    go : (o : Option Item) (t : Took Opened Item) → 0 < (ends_at (at_client.byte s b) o t).used
-    go None t = omega arith
-    go (Some x) t = omega arith
-
-abbrev used_in : Result (ℕ × Note) ClientFault → ℕ
-used_in (Ok t) = t.0
-used_in (Err e) = 0
-
-told_used : (used n : ℕ) (m note : Note) (b : Bool) → ◌≡◌ {A = Result (ℕ × Note) ClientFault} (Ok (used, m)) (if b then Err client_fault.BadPeer else Ok (n, note)) → used ≡ n
-told_used used n m note true h = absurd cc
-told_used used n m note false h = ap used_in h
-
-item_used : (r : Rest) (used n : ℕ) (m : Note) (o : Option Item) → Ok (used, m) ≡ (fed_item r n o).answer → used ≡ n
-item_used r used n m None h = ap used_in h
-item_used r used n m (Some x) h = told_used used n m _ (hears_item r.wish r.knows (heard_as r.knows.version x)).bad h
-
-pub piece_used : (r : Rest) (piece : List ℕ) (result : Result (ℕ × Heard) ClientFault) (Now : Rest → Type 0) → Feeds Now r (fed_open r (takes at_client r.item piece)) result → IfOk result (λ t. t.0 ≤ length piece) × (0 < length piece → IfOk result (λ t. 0 < t.0))
-piece_used r piece (Err e) Now h = (tt, λ some. tt)
-piece_used r piece (Ok t) Now h =
-    let took = takes at_client r.item piece in
-    let same : t.0 ≡ took.used = item_used (record r { item = took.rest }) t.0 took.used (note t.1) took.item h.0 in
-    let most = (reads_pieces Opened Item at_client).within r.item piece in
-    (omega arith, λ some. let l = some_used r.item piece some in omega arith)

@@ -24,7 +24,7 @@ knowledge_of p = record {
 pub record Fits (c : Client) (r : Rest) : Type 0 where
   pub wish : c.wish ≡ r.wish
   pub knows : knowledge_of c.pipeline ≡ r.knows
-  pub item : IsItem c.stream.opening c.stream.chunks c.stream.reader.here r.item
+  pub item : IsItem c.stream r.item
   pub unsent : c.out.items ≡ r.unsent
 
 -- The request has a spelling at this version that stands for it.

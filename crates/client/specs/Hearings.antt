@@ -1,23 +1,16 @@
 -- What of a piece comes to be heard, and what is told of it.
-use Rattle.std.specs.Prelude.{◌≡◌, ℕ, true, if◌then◌else◌, Option, Some, None, Result, Ok, Err}
+use Rattle.std.specs.Prelude.{◌≡◌, ℕ, if◌then◌else◌, Option, Some, None, Result, Ok, Err}
 use Rattle.wire.specs.declared.Version.{Version}
-use Rattle.wire.specs.Place.{Place}
-use Rattle.wire.specs.Framing.{Item, Opened}
-use Rattle.wire.specs.Reader.{Took}
-use Rattle.reader.specs.Piecewise.{Point}
+use Rattle.wire.specs.Framing.{Item}
 use Rattle.messages.specs.View.{response_view}
 use Rattle.messages.specs.Arrivals.{Heard as AnyHeard}
-use Rattle.client.specs.declared.version_answer.Opening.{Opening}
 use Rattle.client.specs.declared.data.Came.{Came}
 use Rattle.client.specs.declared.data.Came.TheVariants as came
-use Rattle.client.specs.declared.data.Taken.{Taken}
-use Rattle.client.specs.declared.stream.Stream.{Stream}
 use Rattle.client.specs.declared.heard.Heard.{Heard}
 use Rattle.client.specs.declared.faults.ClientFault.{ClientFault}
 use Rattle.client.specs.declared.faults.ClientFault.TheVariants as client_fault
 use Rattle.client.specs.Rest.{Knows, Hearing, Note, note_of, heard_as, Rest, Fed}
 use Rattle.client.specs.Notes.{note, note_result}
-use Rattle.client.specs.Held.{IsItem}
 
 -- what is told of an item, or that it is bad
 abbrev pub note_or : AnyHeard → Hearing → Result Note ClientFault
@@ -52,20 +45,6 @@ came_as came.Nothing = AnyHeard.Quiet
 came_as came.Bad = AnyHeard.Strange
 came_as (came.Version o) = AnyHeard.Chosen o
 came_as (came.Response response) = AnyHeard.Told (response_view response)
-
--- what came of a piece, and what is held of the stream after it
-pub record TakesPiece (v : Option Version) (m : Took Opened Item) (t : Taken) (o : Opening)
-    (place : Place) (p : Point) : Type 0 where
-  pub used : t.used ≡ m.used
-  pub rest : IsItem o place p m.rest
-  pub came : came_as t.came ≡ came_in v m.item
-  pub goes_on : place.too_big ≡ true → came_as t.came ≡ AnyHeard.Strange
-
--- What is held of the stream is what was.
-pub record TakesNothing (old new : Stream) : Type 0 where
-  pub opening : new.opening ≡ old.opening
-  pub chunks : new.chunks ≡ old.chunks
-  pub reader : new.reader ≡ old.reader
 
 -- what a feed answers, and that the client stands at the rest after it; not for want of memory
 abbrev pub Feeds : (Rest → Type 0) → Rest → Fed → Result (ℕ × Heard) ClientFault → Type 0

@@ -1,39 +1,21 @@
 -- What a client holds of an item that isn't whole.
-use Rattle.std.specs.Prelude.{◌≡◌, ℕ, ◌<◌, ◌≤◌, Bool, true, false, List, [], length}
-use Rattle.wire.specs.Place.{Place, start}
-use Rattle.wire.specs.Unfinished.{Unfinished, unfinished_at}
+use Rattle.std.specs.Prelude.{◌≡◌, ℕ, Bool, true, false, List, length}
 use Rattle.wire.specs.Items.{answer_to, wants_room}
 use Rattle.wire.specs.Framing.{Opened, opening, reading}
-use Rattle.wire.specs.Scanning.{Holds}
-use Rattle.reader.specs.Piecewise.{Point, Reads, MayGoOn}
+use Rattle.reader.specs.Piecewise.{MayGoOn}
+use Rattle.inbox.specs.declared.inbox.Inbox.{Inbox}
+use Rattle.inbox.specs.Opening.{HasCome, data_of}
 use Rattle.client.specs.declared.version_answer.Opening.{Opening}
+use Rattle.client.specs.declared.stream.Stream.{Stream}
 use Rattle.client.specs.Answers.{held_bytes}
 
--- the data of a message that isn't whole
-abbrev pub data_of : Opened → List ℕ
-data_of (opening bytes) = []
-data_of (reading u) = u.body
+-- the item is what has come of the version answer, and then of chunks
+abbrev pub IsHeld : Opening → Inbox → Opened → Type 0
+IsHeld o i item = HasCome 4 (held_bytes o) i item
 
--- bytes of a version answer that isn't whole
-pub record IsOpening (o : Opening) (place : Place) (bytes : List ℕ) : Type 0 where
-  pub part : o.len < 4
-  pub held : bytes ≡ held_bytes o
-  pub begins : place ≡ start
-
--- chunks, after a version answer, at this place
-pub record IsReading (o : Opening) (place : Place) (u : Unfinished) : Type 0 where
-  pub opened : 4 ≤ o.len
-  pub held : u ≡ unfinished_at place u.body
-  pub counts : Holds u.body place
-
--- The item is bytes of a version answer; or chunks, after such an answer, at this place.
-abbrev pub IsAt : Opening → Place → Opened → Type 0
-IsAt o place (opening bytes) = IsOpening o place bytes
-IsAt o place (reading u) = IsReading o place u
-
--- And this was read of its data.
-abbrev pub IsItem : Opening → Place → Point → Opened → Type 0
-IsItem o place p item = IsAt o place item × Reads p (data_of item)
+-- the stream stands in this item; opened where a stream is what is proved of
+unfoldable pub IsItem : Stream → Opened → Type 0
+IsItem s item = IsHeld s.opening s.inbox item
 
 -- Room is wanted where data comes, and where a message ends: never for the version answer, headers and no-ops.
 abbrev pub wants_some : Opened → List ℕ → Bool

@@ -8,7 +8,8 @@ ghost use Rattle.wire.specs.Framing.{at_client};
 ghost use Rattle.wire.specs.Reader.{takes};
 ghost use Rattle.reader.specs.Piecewise.{Reads};
 ghost use Rattle.client.specs.Hearings.{Feeds};
-ghost use Rattle.client.specs.Held.{data_of, WantsRoom};
+ghost use Rattle.inbox.specs.Opening.{data_of};
+ghost use Rattle.client.specs.Held.{WantsRoom};
 ghost use Rattle.client.specs.Fits.{Fits, IsAccepted, UnlessMemory};
 ghost use Rattle.machine.specs.Limits.{max_waiting};
 
@@ -22,12 +23,13 @@ use crate::stream::Stream;
 use crate::submission::spelling_of;
 use crate::version_answer::Opening;
 use bytes::{Bytes, BytesMut};
+use inbox::Inbox;
 use machine::{MAX_WAITING, Phase};
 use messages::Request;
 use reader::Reader;
 use std::alloc::Global;
 use std::collections::VecDeque;
-use wire::{Chunks, Version, Wish, offer, put_reserved, written_len};
+use wire::{Version, Wish, offer, put_reserved, written_len};
 
 /// All of a piece was used, and nothing ended with it. A call of its own writes the answer once, where the caller reads it.
 #[inline(never)]
@@ -39,6 +41,7 @@ fn used_up(used: usize) -> Result<(usize, Heard), ClientFault>
 
 impl Client {
     /// Its offer is to be taken out. C5 for want of memory.
+    #[tactic(auto, unfolding(crate::specs::Held::IsItem))]
     pub fn new(alloc: Global, wish: Wish) -> Result<Client, ClientFault>
         ensures new { IfOk result (λ client. Fits client (begun wish)) }
         ensures fault { IfErr result (λ e. e ≡ ClientFault.Memory) }
@@ -61,8 +64,7 @@ impl Client {
             },
             stream: Stream {
                 opening: Opening::new(),
-                chunks: Chunks::new(),
-                reader: Reader::new(alloc),
+                inbox: Inbox::new(alloc),
             },
             out,
             alloc,
@@ -143,6 +145,8 @@ impl Client {
             → Feeds (Fits self.new) r (fed_open r (takes at_client r.item piece.now)) result }
         ensures room { (r : Rest) → Fits self.old r → IsErrOf result ClientFault.Memory
             → WantsRoom r.item piece.now }
+        ensures within { IfOk result (λ t. t.0 ≤ length piece.now) }
+        ensures goes_on { 0 < length piece.now → IfOk result (λ t. 0 < t.0) }
     {
         match self.stream.take_data(piece) {
             Ok(true) => used_up(piece.len()),
@@ -159,6 +163,8 @@ impl Client {
             → Feeds (Fits self.new) r (fed_open r (takes at_client r.item piece.now)) result }
         ensures room { (r : Rest) → Fits self.old r → IsErrOf result ClientFault.Memory
             → WantsRoom r.item piece.now }
+        ensures within { IfOk result (λ t. t.0 ≤ length piece.now) }
+        ensures goes_on { 0 < length piece.now → IfOk result (λ t. 0 < t.0) }
     {
         let taken = self.stream.take(self.alloc, self.pipeline.version, piece)?;
         let Taken { used, came } = taken;
@@ -174,7 +180,7 @@ impl Client {
         ensures data { (r : Rest) → Fits self.now r → Reads result.now.here (data_of r.item) }
         ensures held { result.now.held ≡ result.now.here }
     {
-        &self.stream.reader
+        self.stream.inbox.reader()
     }
 
     /// The client is lost: no byte comes any more, and the outcome of each request that waited is known. It takes no memory.

@@ -1,7 +1,5 @@
 //! What a client holds.
 
-ghost use Rattle.std.specs.Prelude.{◌≡◌, false};
-
 use crate::pipeline::Pipeline;
 use crate::stream::Stream;
 use bytes::BytesMut;
@@ -25,5 +23,4 @@ pub struct Client {
     /// What isn't taken out.
     pub(crate) out: BytesMut,
     pub(crate) alloc: Global,
-    ghost going: { pipeline.over ≡ false → stream.chunks.too_big ≡ false },
 }

@@ -10,7 +10,6 @@ mod client;
 mod data;
 mod faults;
 mod heard;
-mod items;
 pub mod laws;
 mod losses;
 mod outcomes;

@@ -1,23 +1,120 @@
-//! What a client keeps of its server's bytes.
+//! What a client keeps of its server's bytes, and what it takes of a piece: the answer to its offer, then chunks.
 
 ghost use Rattle.std.specs.Prelude.{◌≡◌, ◌≤◌};
-ghost use Rattle.wire.specs.Framing.{Opened};
-ghost use Rattle.client.specs.Held.{IsItem};
 
-use crate::version_answer::Opening;
-use reader::Reader;
-use wire::Chunks;
+use crate::data::{Came, Taken, answer_of, came_of};
+use crate::faults::ClientFault;
+use crate::version_answer::{LENGTH, Opening};
+use inbox::Inbox;
+use messages::Response;
+use std::alloc::Global;
+use wire::Version;
 
 /// What has come of the item that isn't whole.
 #[derive(Drop)]
 pub(crate) struct Stream {
     /// What has come of the version answer.
     pub opening: Opening,
-    /// The position in the chunks after it.
-    pub chunks: Chunks,
-    /// What was read of the data of the message. Between two pieces it stands where its held point is.
-    pub reader: Reader,
+    /// The chunks after it.
+    pub inbox: Inbox,
     ghost answering: { opening.len ≤ 4 },
-    ghost stands: { ∥ ((item : Opened) × IsItem opening chunks reader.here item) ∥₁ },
-    ghost still: { reader.held ≡ reader.here },
+}
+
+impl Stream {
+    ghost use Rattle.std.specs.Prelude.{◌<◌, length, true, false, Option, Ok, IfOk, IfErr, OnErr};
+    ghost use Rattle.wire.specs.declared.Version.{Version};
+    ghost use Rattle.wire.specs.Framing.{Opened, at_client};
+    ghost use Rattle.wire.specs.Reader.{takes};
+    ghost use Rattle.client.specs.Held.{IsItem, WantsRoom};
+    ghost use Rattle.client.specs.Taking.{TakesPiece, all_of};
+
+    /// Takes a piece that is data alone, and answers whether it is; else, and for want of memory, nothing changes.
+    pub fn take_data(&mut self, piece: &[u8]) -> Result<bool, ClientFault>
+        ensures data { (version : Option Version) (item : Opened) → IsItem self.old item
+            → result ≡ Ok true
+            → TakesPiece version (takes at_client item piece.now) (all_of piece.now) self.new }
+        ensures other { (item : Opened) → IsItem self.old item → result ≡ Ok false
+            → IsItem self.new item }
+        ensures fault { IfErr result (λ e. e ≡ ClientFault.Memory) }
+        ensures err { (item : Opened) → IsItem self.old item
+            → OnErr result (IsItem self.new item × WantsRoom item piece.now) }
+    {
+        if self.opening.len < LENGTH {
+            return Ok(false);
+        }
+        match self.inbox.take_data(piece) {
+            Ok(is_data) => Ok(is_data),
+            Err(_) => Err(ClientFault::Memory),
+        }
+    }
+
+    /// Takes the piece to the end of the item begun, else all of it; or nothing, for want of memory.
+    pub fn take(
+        &mut self,
+        alloc: Global,
+        version: Option<Version>,
+        piece: &[u8],
+    ) -> Result<Taken, ClientFault>
+        ensures ok { (item : Opened) → IsItem self.old item
+            → IfOk result (λ t. TakesPiece version (takes at_client item piece.now) t self.new) }
+        ensures within { IfOk result (λ t. t.used ≤ length piece.now) }
+        ensures some { 0 < length piece.now → IfOk result (λ t. 0 < t.used) }
+        ensures fault { IfErr result (λ e. e ≡ ClientFault.Memory) }
+        ensures err { (item : Opened) → IsItem self.old item
+            → OnErr result (IsItem self.new item × WantsRoom item piece.now) }
+    {
+        if self.opening.len < LENGTH {
+            Ok(self.take_answer(piece))
+        } else {
+            self.take_chunks(alloc, version, piece)
+        }
+    }
+
+    /// The answer to the offer comes first.
+    fn take_answer(&mut self, piece: &[u8]) -> Taken
+        requires { self.old.opening.len < 4 }
+        ensures ok { (version : Option Version) (item : Opened) → IsItem self.old item
+            → TakesPiece version (takes at_client item piece.now) result self.new }
+        ensures within { result.used ≤ length piece.now }
+        ensures some { 0 < length piece.now → 0 < result.used }
+    {
+        let (opening, used) = self.opening.with(piece);
+        self.opening = opening;
+        if opening.len < LENGTH {
+            return Taken {
+                used,
+                came: Came::Nothing,
+            };
+        }
+        Taken {
+            used,
+            came: answer_of(opening),
+        }
+    }
+
+    /// Then come chunks. Before a version is known a message says nothing, at whatever version it is read.
+    fn take_chunks(
+        &mut self,
+        alloc: Global,
+        version: Option<Version>,
+        piece: &[u8],
+    ) -> Result<Taken, ClientFault>
+        requires { 4 ≤ self.old.opening.len }
+        ensures ok { (item : Opened) → IsItem self.old item
+            → IfOk result (λ t. TakesPiece version (takes at_client item piece.now) t self.new) }
+        ensures within { IfOk result (λ t. t.used ≤ length piece.now) }
+        ensures some { 0 < length piece.now → IfOk result (λ t. 0 < t.used) }
+        ensures fault { IfErr result (λ e. e ≡ ClientFault.Memory) }
+        ensures err { (item : Opened) → IsItem self.old item
+            → OnErr result (IsItem self.new item × WantsRoom item piece.now) }
+    {
+        let at = version.unwrap_or(Version::V51);
+        let Ok((used, brought)) = self.inbox.take::<Response>(alloc, at, piece) else {
+            return Err(ClientFault::Memory);
+        };
+        Ok(Taken {
+            used,
+            came: came_of(version, brought),
+        })
+    }
 }

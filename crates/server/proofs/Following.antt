@@ -16,10 +16,11 @@ use Rattle.server.specs.declared.kinds.Took.{Took}
 use Rattle.session.specs.declared.kinds.What.{What}
 use Rattle.session.specs.Session.{Setting, Reply, OneRow, Summary, Bye}
 use Rattle.session.specs.Rest.{Kept, Step, Ended, Full, puts, cause_of, ends, after_item, full, noop_kept, puts_noop, replies, rests, reset_among, shut, after_interrupt, turns, unread_among, version_of, work_kept}
+use Rattle.inbox.proofs.Arriving.{rest_then}
 use Rattle.server.specs.Feeding.{arrival, takes_item, takes_none}
 use Rattle.server.specs.Serving.{Live, after_feeding, fresh, fed_live, with_kept}
 use Rattle.server.specs.Past.{Agrees, Follows, IsLater, answers_by, places_of}
-use Rattle.server.proofs.Arriving.{is_shake, IsNext, more_arrives, next_arrival, placed-append, rest_after}
+use Rattle.server.proofs.Arriving.{is_shake, IsNext, unread_placed, more_arrives, next_arrival, placed-append}
 
 pub map-append : (xs ys : List RequestView) → map Asked (xs ++ ys) ≡ map Asked xs ++ map Asked ys
 map-append [] ys = refl
@@ -149,8 +150,8 @@ module _ (bytes : List ℕ) (answered : List RequestView) (s : Live) (h : Follow
   none_taken : (what : What) → Fed (record { used = 0; what = what }, record { conn = s.conn; kept = s.kept; unfinished = s.unfinished })
   none_taken what = follows_same bytes (bytes ++ take 0 piece) answered answered _ (append-nil bytes) refl (record { places = h.places; first = h.first; handshake = h.handshake; unfinished = h.unfinished })
 
-  good : unread_among s.kept.waiting ≡ false → unread_among (places_of (arrivals bytes)) ≡ false
-  good e = ap unread_among (sym h.places) ∙ unread_after answered s.kept.waiting ∙ e
+  good : unread_among s.kept.waiting ≡ false → unread_among (arrivals bytes) ≡ false
+  good e = sym (unread_placed (arrivals bytes)) ∙ ap unread_among (sym h.places) ∙ unread_after answered s.kept.waiting ∙ e
 
   item_taken : shut s.kept ≡ false → (u : Opened) → u ≡ state at_server at_server.start bytes → Fed (after_feeding s.conn (takes_item s.kept (takes at_server u piece)))
   item_taken opens u e =
@@ -158,7 +159,7 @@ module _ (bytes : List ℕ) (answered : List RequestView) (s : Live) (h : Follow
       let stage = stage_of (arrivals bytes) s.kept h.handshake parts.0 in
       let v = version_of s.kept in
       let quiet = good parts.1 in
-      subst (λ w. Fed (after_feeding s.conn (takes_item s.kept (takes at_server w piece)))) (sym e) (taken (more_arrives bytes v stage quiet piece) (next_arrival bytes v stage quiet piece) (rest_after bytes piece))
+      subst (λ w. Fed (after_feeding s.conn (takes_item s.kept (takes at_server w piece)))) (sym e) (taken (more_arrives bytes v stage quiet piece) (next_arrival bytes v stage quiet piece) (rest_then 20 bytes piece))
     where
       t : TookOf Opened Item
       t = takes at_server (state at_server at_server.start bytes) piece

@@ -1,9 +1,5 @@
-pub mod Readings
-pub mod Requests
-pub mod Room
-pub mod Coming
+pub mod Arrived
 pub mod Feeds
-pub mod Fronts
 pub mod Placed
 pub mod Calls
 pub mod Answered
@@ -13,4 +9,3 @@ pub mod Ledgers
 pub mod Arriving
 pub mod Following
 pub mod Pasts
-pub mod Wanting

@@ -1,10 +1,11 @@
 -- What a piece of bytes makes of a session.
-use Rattle.std.specs.Prelude.{◌≡◌, ℕ, ◌+◌, nat_le, Bool, true, if◌then◌else◌, Option, option_map, List, [], length}
+use Rattle.std.specs.Prelude.{◌≡◌, ℕ, ◌+◌, nat_le, Bool, true, if◌then◌else◌, Option, option_map, List, length}
 use Rattle.wire.specs.declared.Version.{Version}
 use Rattle.wire.specs.Reader.{Took as TookOf, takes}
 use Rattle.wire.specs.Framing.{Item, Opening, Noop, Message, TooBig, Opened, opening, reading, at_server}
 use Rattle.wire.specs.Items.{answer_to, wants_room}
 use Rattle.reader.specs.Piecewise.{MayGoOn}
+use Rattle.inbox.specs.Opening.{data_of}
 use Rattle.messages.specs.Messages.{request_of}
 use Rattle.messages.specs.Arrivals.{Arrival, TooLong, arrival_of_offer}
 use Rattle.session.specs.declared.kinds.What.{What}
@@ -44,11 +45,6 @@ takes_item s t = record {
 abbrev pub feeding : Opened → List ℕ → Kept → Feeding
 feeding u piece s = if shut s then takes_none What.Closed s u
     else (if full s then takes_none What.Full s u else takes_item s (takes at_server u piece))
-
--- the data of a message that isn't whole
-abbrev pub data_of : Opened → List ℕ
-data_of (opening bytes) = []
-data_of (reading u) = u.body
 
 -- Room is wanted where a handshake is answered, where data comes, and where a message ends: never for headers and no-ops.
 abbrev pub wants_some : Opened → List ℕ → Bool

@@ -8,7 +8,7 @@ use Rattle.server.specs.declared.server.Server.{Server}
 use Rattle.server.specs.declared.connected.Connected.{Connected}
 use Rattle.session.specs.Rest.{Step, worked_of, commit_entries}
 use Rattle.session.specs.Views.{kept_of}
-use Rattle.server.specs.Feeding.{data_of}
+use Rattle.inbox.specs.Opening.{data_of}
 use Rattle.server.specs.Serving.{Live, Rest, with_kept}
 use Rattle.server.specs.Incoming.{IsOpened}
 

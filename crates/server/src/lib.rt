@@ -9,7 +9,7 @@ mod input;
 mod kinds;
 pub mod laws;
 mod places;
-mod request;
+mod receipt;
 mod server;
 
 pub use kinds::{Refused, Took};

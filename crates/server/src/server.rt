@@ -216,7 +216,7 @@ impl<E: Engine, G: Gate> Server<E, G> {
     {
         let at = place_of(&self.sessions, conn)?;
         let session = &self.sessions[at];
-        Some(&session.incoming.stream.reader)
+        Some(session.incoming.inbox.reader())
     }
 
     /// Lends the engine. Takes no memory.

@@ -1,37 +1,48 @@
-use Rattle.std.proofs.Common.{◌≡◌, Option, Ok, Err, sym, subst}
-use Rattle.std.specs.Prelude.{IfOk}
-use Rattle.packstream.specs.declared.fault.PackFault.{PackFault}
-use Rattle.packstream.specs.declared.fault.PackFault.TheVariants as fault
+use Rattle.std.proofs.Common.{◌≡◌, refl, sym, ◌∙◌, ap, subst, ⊎_elim, ℕ, List, Option, Some, None, Ok, Err}
+use Rattle.std.specs.Prelude.{unwrap_or}
 use Rattle.wire.specs.declared.Version.{Version}
-use Rattle.reader.specs.Piecewise.{Finishes}
+use Rattle.wire.specs.declared.Version.TheVariants.{V51}
+use Rattle.wire.specs.Framing.{Noop, TooBig}
+use Rattle.messages.specs.declared.MsgFault.{MsgFault}
+use Rattle.messages.specs.declared.Response.{Response}
+use Rattle.messages.specs.View.{response_view}
+use Rattle.messages.specs.Messages.{response_of}
 use Rattle.messages.specs.Arrivals.{Strange}
-use Rattle.client.specs.Rest.{heard_message}
-use Rattle.client.specs.Hearings.{plain, came_as}
-use Rattle.client.proofs.Values.{value_spells, no_value}
-use Rattle.client.proofs.Wanting.{err_holds, good_ok, good_memory}
+use Rattle.inbox.specs.declared.Brought.{Brought}
+use Rattle.client.specs.Rest.{heard_response, heard_message}
+use Rattle.client.specs.Hearings.{plain, came_in}
+use Rattle.client.proofs.Versions.{BringsAt}
 use Rattle.client.proofs.data.came_of.Goals as goal
 
-pub returns-in-Ok-clause-ok : goal.returns-in-Ok-clause-ok
-returns-in-Ok-clause-ok c = λ b reads.
-    let p = c.args.reader.now.here in
-    let t = c.in-Ok.packed in
-    let e = c.in-Ok.ensures in
-    let finishes : Finishes p (Ok t) = record { value = e.value; fault = e.fault; bad = e.bad } in
-    subst (λ (o : Option Version). IfOk c.came_of_value.result (λ came. came_as came ≡ plain (heard_message o b))) (sym c.in-Some.is)
-    (c.came_of_value.ensures.ok b (value_spells b t (c.finish_reads.ensures.value p b (Ok t) reads finishes)))
+-- what can't be read is strange, as is all before a version
+unread_is : (o : Option Version) (b : List ℕ) (e : MsgFault) → response_of (unwrap_or o V51) b ≡ Err e → Strange ≡ plain (heard_message o b)
+unread_is None b e h = refl
+unread_is (Some v) b e h = sym (ap (λ r. plain (heard_response r)) h)
 
-pub returns-in-Err-Refused-clause-ok : goal.returns-in-Err-Refused-clause-ok
-returns-in-Err-Refused-clause-ok c = λ b reads.
-    let p = c.args.reader.now.here in
-    let r = c.in-Err-Refused.field-0-0 in
-    let o = c.in-Err-Refused.field-0-1 in
-    let e = c.in-Err-Refused.ensures in
-    let told : Finishes p (Err c.in-Err-Refused.field-0) = record { value = e.value; fault = e.fault; bad = e.bad } in
-    let finishes : Finishes p (Err (fault.Refused r o)) = subst (λ (z : PackFault). Finishes p (Err z)) c.in-Err-Refused.field-0-is told in
-    subst (λ (v : Option Version). Strange ≡ plain (heard_message v b)) (sym c.in-Some.is) (no_value c.in-Some.version b r o (c.finish_reads.ensures.same p b (Err (fault.Refused r o)) reads finishes))
+pub returns-in-Nothing : goal.returns-in-Nothing
+returns-in-Nothing c = λ item is.
+    let o = c.args.version in
+    ⊎_elim
+    (λ e. let none : item ≡ None = subst (λ (x : Brought Response). BringsAt item x (unwrap_or o V51)) e is in sym (ap (came_in o) none))
+    (λ e. let noop : item ≡ Some Noop = subst (λ (x : Brought Response). BringsAt item x (unwrap_or o V51)) e is in sym (ap (came_in o) noop)) c.in-Nothing.is
 
-pub returns-in-Ok-clause-memory : goal.returns-in-Ok-clause-memory
-returns-in-Ok-clause-memory c = err_holds c.came_of_value.result _ (good_ok c.args.reader.now.here.bad c.in-Ok.packed c.in-Ok.ensures.bad)
+pub returns-in-Some : goal.returns-in-Some
+returns-in-Some c = λ item is.
+    let h = subst (λ (x : Brought Response). BringsAt item x (unwrap_or c.args.version V51)) c.in-Message.is is in
+    sym (ap (came_in c.args.version) h.1 ∙ ap (λ o. plain (heard_message o h.0)) c.in-Some.is
+    ∙ ap (λ r. plain (heard_response r)) (subst (λ o. response_of (unwrap_or o V51) h.0 ≡ Ok (response_view c.in-Message.response)) c.in-Some.is h.2))
 
-pub returns-in-Err-Memory-clause-memory : goal.returns-in-Err-Memory-clause-memory
-returns-in-Err-Memory-clause-memory c = good_memory c.args.reader.now.here.bad c.in-Err-Memory.field-0 c.in-Err-Memory.field-0-is c.in-Err-Memory.ensures.bad
+pub returns-in-None : goal.returns-in-None
+returns-in-None c = λ item is.
+    let h = subst (λ (x : Brought Response). BringsAt item x (unwrap_or c.args.version V51)) c.in-Message.is is in
+    sym (ap (came_in c.args.version) h.1 ∙ ap (λ o. plain (heard_message o h.0)) c.in-None.is)
+
+pub returns-in-Bad : goal.returns-in-Bad
+returns-in-Bad c = λ item is.
+    let h = subst (λ (x : Brought Response). BringsAt item x (unwrap_or c.args.version V51)) c.in-Bad.is is in
+    unread_is c.args.version h.0 c.in-Bad.field-0 (h.2 h.3) ∙ sym (ap (came_in c.args.version) h.1)
+
+pub returns-in-TooBig : goal.returns-in-TooBig
+returns-in-TooBig c = λ item is.
+    let big : item ≡ Some TooBig = subst (λ (x : Brought Response). BringsAt item x (unwrap_or c.args.version V51)) c.in-TooBig.is is in
+    sym (ap (came_in c.args.version) big)

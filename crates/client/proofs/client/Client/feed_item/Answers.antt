@@ -1,35 +1,23 @@
-use Rattle.std.proofs.Common.{◌≡◌, Ok, Err, rules, sym, ◌∙◌, ap}
-use Rattle.std.proofs.Math.Logic.{∥∥₁_elim}
-use Rattle.std.proofs.Props.{props}
+use Rattle.std.proofs.Common.{◌≡◌, Ok, Err, rules, ◌∙◌, ap}
 use Rattle.wire.specs.Framing.{at_client}
 use Rattle.wire.specs.Reader.{takes}
 use Rattle.client.specs.declared.faults.ClientFault.{ClientFault}
-use Rattle.client.specs.Rest.{Knows}
+use Rattle.client.specs.Rest.{Knows, hears_item, note_of}
 use Rattle.client.specs.Hearings.{came_as, came_in}
+use Rattle.client.specs.Held.{IsItem}
 use Rattle.client.specs.Fits.{Fits, knowledge_of}
-use Rattle.client.proofs.Taking.{same_item}
-use Rattle.client.specs.Rest.{hears_item, note_of}
-use Rattle.client.proofs.Pieces.{err_note, heard_feeds, refused_feeds, memory_feeds, hears_by, spoils_going}
+use Rattle.client.proofs.Pieces.{err_note, heard_feeds, refused_feeds, memory_feeds, hears_by}
 use Rattle.client.proofs.client.Client.feed_item.Goals as goal
-
-pub invariant_of-self-2 : goal.invariant_of-self-2
-invariant_of-self-2 c =
-    let s = c.args.self.now in
-    let n = c.take.new.self in
-    let x = came_as c.in_ok-taken.taken.came in
-    record {
-      going = λ o. ∥∥₁_elim s.stream.stands (hlevel props) (λ h.
-          spoils_going s.wish (knowledge_of s.pipeline) x n.chunks.too_big (c.in_ok-taken.ensures.ok h.0 h.1).goes_on (sym (ap (λ (k : Knows). k.over) c.hear.ensures.1) ∙ o));
-    }
 
 pub returns-in_err-taken-clause-feeds : goal.returns-in_err-taken-clause-feeds
 returns-in_err-taken-clause-feeds c = λ r f.
     let e = c.in_err-taken.ensures in
     let is : c.from_residual.result ≡ Err c.in_err-taken.field-0.0 = search rules in
-    memory_feeds r (takes at_client r.item c.args.piece.now) (Fits _) c.from_residual.result (is ∙ ap (λ (z : ClientFault). Err z) e.err)
-    (record { wish = f.wish; knows = f.knows; item = same_item c.args.self.now.stream c.take.new.self r.item e.same f.item; unsent = f.unsent })
+    memory_feeds r (takes at_client r.item c.args.piece.now) (Fits _) c.from_residual.result (is ∙ ap (λ (z : ClientFault). Err z) e.fault)
+    (record { wish = f.wish; knows = f.knows; item = (e.err r.item f.item).0; unsent = f.unsent })
 
 pub returns-in-Ok-clause-feeds : goal.returns-in-Ok-clause-feeds
+unfolding IsItem
 returns-in-Ok-clause-feeds c = λ r f.
     let s = c.args.self.now in
     let t = c.in_ok-taken.taken in
@@ -40,6 +28,7 @@ returns-in-Ok-clause-feeds c = λ r f.
     (hears_by s.wish r.wish (knowledge_of s.pipeline) r.knows (came_as t.came) (Ok c.in-Ok.heard) knows f.wish f.knows c.in-Ok.ensures)
 
 pub returns-in-Err-clause-feeds : goal.returns-in-Err-clause-feeds
+unfolding IsItem
 returns-in-Err-clause-feeds c = λ r f.
     let s = c.args.self.now in
     let t = c.in_ok-taken.taken in
@@ -50,7 +39,7 @@ returns-in-Err-clause-feeds c = λ r f.
     (hears_by s.wish r.wish (knowledge_of s.pipeline) r.knows (came_as t.came) (Err c.in-Err.fault) knows f.wish f.knows c.in-Err.ensures)
 
 pub returns-in_err-taken-clause-room : goal.returns-in_err-taken-clause-room
-returns-in_err-taken-clause-room c = λ r f e. c.in_err-taken.ensures.room r.item f.item
+returns-in_err-taken-clause-room c = λ r f e. (c.in_err-taken.ensures.err r.item f.item).1
 
 pub returns-in-Err-clause-room : goal.returns-in-Err-clause-room
 returns-in-Err-clause-room c = λ r f e.

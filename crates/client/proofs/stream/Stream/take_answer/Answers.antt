@@ -1,34 +1,38 @@
-use Rattle.std.proofs.Common.{◌≡◌, length, rules, arith, length-take}
-use Rattle.std.proofs.Math.Logic.{∥∥₁_map}
+use Rattle.std.proofs.Common.{◌≡◌, ◌∙◌, refl, sym, ap, ◌<◌, ◌≤◌, ◌-◌, min, length, rules, arith, length-take}
+use Rattle.inbox.proofs.Opening.{by_part, by_whole}
+use Rattle.client.specs.declared.data.Came.TheVariants as came
 use Rattle.client.specs.Answers.{held_bytes}
-use Rattle.client.proofs.Taking.{goes_on_of, ends_of, held_then}
+use Rattle.client.specs.Held.{IsItem}
+use Rattle.client.specs.Taking.{Comes}
+use Rattle.client.proofs.Versions.{plain_version, held-length}
 use Rattle.client.proofs.stream.Stream.take_answer.Goals as goal
 
 pub invariant_of-self : goal.invariant_of-self
-invariant_of-self c =
-    let s = c.args.self.now in
-    let w = c.with-used in
-    record {
-      answering = omega (arith, w.ensures.len, w.ensures.used, c.requires);
-      stands = ∥∥₁_map s.stands (λ h. held_then s.opening w.result.0 s.chunks s.reader.here c.requires h.0 h.1);
-      still = s.still;
-    }
+invariant_of-self c = record { answering = omega (arith, c.with-used.ensures.len, c.with-used.ensures.used, c.requires) }
 
-pub returns-then-opening-lt-LENGTH : goal.returns-then-opening-lt-LENGTH
-returns-then-opening-lt-LENGTH c = λ version item is.
+pub returns-then-opening-lt-LENGTH-clause-ok : goal.returns-then-opening-lt-LENGTH-clause-ok
+unfolding IsItem
+returns-then-opening-lt-LENGTH-clause-ok c = λ version item is.
     let s = c.args.self.now in
-    let o = s.opening in
     let w = c.with-used in
-    let four : length o.bytes ≡ 4 = search rules in
-    let holds : length (held_bytes o) ≡ o.len = omega (arith, length-take o.len o.bytes, c.requires) in
-    goes_on_of version o w.result.0 s.chunks s.reader.here c.args.piece.now w.result.1 c.requires holds w.ensures.used w.ensures.len w.ensures.bytes item is c.if-opening-lt-LENGTH.true
+    let piece = c.args.piece.now in
+    let four : length s.opening.bytes ≡ 4 = search rules in
+    let holds : length (held_bytes s.opening) ≡ s.opening.len = held-length s.opening four (omega (arith, c.requires)) in
+    let less : length (held_bytes w.result.0) < 4 = omega (arith, length-take w.result.0.len w.result.0.bytes, c.if-opening-lt-LENGTH.true) in
+    by_part 4 (held_bytes s.opening) s.inbox piece (λ u m. Comes version m (record { used = w.result.1; came = came.Nothing }) w.result.0 s.inbox) (held_bytes w.result.0) w.result.1
+    (omega (arith, holds, c.requires)) (w.ensures.used ∙ ap (λ n. min (4 - n) (length piece)) (sym holds)) w.ensures.bytes less
+    (λ unread. record { used = refl; rest = record { few = less; bytes_are = refl; unread = unread }; came = refl }) item is
 
-pub returns : goal.returns
-returns c = λ version item is.
+pub returns-clause-ok : goal.returns-clause-ok
+unfolding IsItem
+returns-clause-ok c = λ version item is.
     let s = c.args.self.now in
-    let o = s.opening in
     let w = c.with-used in
-    let four : length o.bytes ≡ 4 = search rules in
-    let holds : length (held_bytes o) ≡ o.len = omega (arith, length-take o.len o.bytes, c.requires) in
-    ends_of version o w.result.0 s.chunks s.reader.here c.args.piece.now w.result.1 c.requires holds w.ensures.used w.ensures.len w.ensures.bytes item is
-    c.answer_of.result c.if-opening-lt-LENGTH.false c.answer_of.ensures
+    let piece = c.args.piece.now in
+    let four : length s.opening.bytes ≡ 4 = search rules in
+    let holds : length (held_bytes s.opening) ≡ s.opening.len = held-length s.opening four (omega (arith, c.requires)) in
+    let long : length w.result.0.bytes ≡ 4 = search rules in
+    let all : 4 ≤ length (held_bytes w.result.0) = omega (arith, length-take w.result.0.len w.result.0.bytes, c.if-opening-lt-LENGTH.false) in
+    by_whole 4 (held_bytes s.opening) s.inbox piece (λ u m. Comes version m (record { used = w.result.1; came = c.answer_of.result }) w.result.0 s.inbox) (held_bytes w.result.0) w.result.1
+    (omega (arith, holds, c.requires)) (w.ensures.used ∙ ap (λ n. min (4 - n) (length piece)) (sym holds)) w.ensures.bytes all
+    (λ unread. record { used = refl; rest = (all, unread); came = c.answer_of.ensures ∙ sym (plain_version (held_bytes w.result.0)) }) item is

@@ -1,24 +1,32 @@
-use Rattle.std.proofs.Common.{refl}
-use Rattle.client.proofs.Fronts.{whole_taken, on_err}
-use Rattle.client.proofs.Wanting.{first_wants, err_holds}
+use Rattle.std.proofs.Common.{◌≡◌, ◌≤◌, subst, length, rules, arith}
+use Rattle.std.specs.Prelude.{unwrap_or}
+use Rattle.wire.specs.declared.Version.{Version}
+use Rattle.wire.specs.declared.Version.TheVariants.{V51}
+use Rattle.wire.specs.Reader.{takes}
+use Rattle.wire.specs.Framing.{chunks}
+use Rattle.inbox.proofs.Opening.{by_chunks}
+use Rattle.client.specs.Answers.{held_bytes}
+use Rattle.client.specs.Held.{IsItem}
+use Rattle.client.specs.Taking.{Comes}
+use Rattle.client.proofs.Versions.{held-length, chunks_stay, BringsAt}
 use Rattle.client.proofs.stream.Stream.take_chunks.Goals as goal
 
-pub take_message-requires : goal.take_message-requires
-take_message-requires c = ((c.in-Some.ensures c.in-Some.message.now).0 refl).1.fits
-
-pub returns-in-Some-clause-ok : goal.returns-in-Some-clause-ok
-returns-in-Some-clause-ok c =
+pub returns-clause-ok : goal.returns-clause-ok
+unfolding IsItem
+returns-clause-ok c = λ item is.
     let s = c.args.self.now in
-    let message = c.in-Some.message.now in
-    let found = (c.in-Some.ensures message).0 refl in
-    whole_taken c.args.version s.opening s.chunks s.reader.here message c.args.piece.now c.take_message.result c.requires.0 found.0 found.1 c.take_message.ensures.used c.take_message.ensures.came
+    let version = c.args.version in
+    let piece = c.args.piece.now in
+    let four : length s.opening.bytes ≡ 4 = search rules in
+    let whole : 4 ≤ length (held_bytes s.opening) = omega (arith, held-length s.opening four s.answering, c.requires) in
+    let at_version : c.unwrap_or-at.result ≡ unwrap_or version V51 = search rules in
+    by_chunks 4 (held_bytes s.opening) s.inbox piece (λ u m. Comes version m (record { used = c.in-Ok.used; came = c.came_of.result }) s.opening c.take.new.self) whole
+    (λ v at. let t = c.in-Ok.ensures.ok v at in let item = (takes chunks v piece).item in record { used = t.used_is; rest = (whole, t.rest); came = c.came_of.ensures item (subst (λ (w : Version). BringsAt item c.in-Ok.brought w) at_version t.item) }) item is
 
-pub returns-in-Some-clause-same : goal.returns-in-Some-clause-same
-returns-in-Some-clause-same c = on_err c.take_message.result _ (record { opening = refl; chunks = refl; reader = refl })
-
-pub returns-in-Some-clause-room : goal.returns-in-Some-clause-room
-returns-in-Some-clause-room c = λ item is.
+pub returns-in_default-clause-err : goal.returns-in_default-clause-err
+unfolding IsItem
+returns-in_default-clause-err c = λ item is.
     let s = c.args.self.now in
-    let message = c.in-Some.message.now in
-    let found = (c.in-Some.ensures message).0 refl in
-    err_holds c.take_message.result _ (first_wants s.opening s.chunks s.reader.here message c.args.piece.now c.requires.0 found.0 found.1 item is)
+    let four : length s.opening.bytes ≡ 4 = search rules in
+    let whole : 4 ≤ length (held_bytes s.opening) = omega (arith, held-length s.opening four s.answering, c.requires) in
+    chunks_stay s.opening s.inbox c.take.new.self c.args.piece.now whole c.in_default.ensures.err item is

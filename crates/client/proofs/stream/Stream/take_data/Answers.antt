@@ -1,58 +1,34 @@
-use Rattle.std.proofs.Common.{refl, sym, ◌∙◌, ap, None, List, ℕ, ◌++◌, length}
-use Rattle.std.proofs.Math.Logic.{∥∥₁_elim}
-use Rattle.std.proofs.Props.{props}
-use Rattle.packstream.proofs.Ranges.{bytes_from_each}
-use Rattle.reader.specs.Piecewise.{Points, Reads}
-use Rattle.client.specs.declared.data.Came.TheVariants as came
-use Rattle.client.proofs.Taking.{stands_then, held_at}
-use Rattle.client.proofs.Fronts.{data_taken, going_behind}
-use Rattle.client.proofs.Wanting.{chunks_want, data_wants}
+use Rattle.std.proofs.Common.{◌≡◌, ◌≤◌, sym, ap, Bool, true, false, Ok, length, rules, arith}
+use Rattle.inbox.proofs.Opening.{by_chunks}
+use Rattle.client.specs.Answers.{held_bytes}
+use Rattle.client.specs.Hearings.{came_in}
+use Rattle.client.specs.Held.{IsHeld, IsItem}
+use Rattle.client.specs.Taking.{Comes, all_of}
+use Rattle.client.proofs.Versions.{held-length, chunks_stay}
 use Rattle.client.proofs.stream.Stream.take_data.Goals as goal
 
-pub invariant_of-self : goal.invariant_of-self
-invariant_of-self c =
+pub returns-in-Ok-clause-data : goal.returns-in-Ok-clause-data
+unfolding IsItem
+returns-in-Ok-clause-data c = λ version item is e.
     let s = c.args.self.now in
-    let same = c.in_default-advance.ensures.err in
-    record {
-      answering = s.answering;
-      stands = held_at s.opening s.chunks s.reader.here c.advance.new.self.here (ap (λ (y : Points). y.here) same) s.stands;
-      still = ap (λ (y : Points). y.held) same ∙ s.still ∙ sym (ap (λ (y : Points). y.here) same);
-    }
+    let piece = c.args.piece.now in
+    let four : length s.opening.bytes ≡ 4 = search rules in
+    let whole : 4 ≤ length (held_bytes s.opening) = omega (arith, held-length s.opening four s.answering, c.if-self-lt-LENGTH.false) in
+    by_chunks 4 (held_bytes s.opening) s.inbox piece (λ u m. Comes version m (all_of piece) s.opening c.take_data.new.self) whole
+    (λ v at. let is_data : c.in-Ok.is_data ≡ true = cc in let t = c.in-Ok.ensures.data v at (ap (λ (b : Bool). Ok b) is_data) in record { used = sym t.used; rest = (whole, t.rest); came = sym (ap (came_in version) t.none) }) item is
 
-pub invariant_of-self-2 : goal.invariant_of-self-2
-invariant_of-self-2 c =
+pub returns-in-Ok-clause-other : goal.returns-in-Ok-clause-other
+unfolding IsItem
+returns-in-Ok-clause-other c = λ item is e.
     let s = c.args.self.now in
-    let bytes = c.args.piece.now in
-    let p = s.reader.here in
-    let q = c.advance.new.self.here in
-    let more : (b : List ℕ) → Reads p b → Reads q (b ++ bytes) = λ b reads. c.reads_more.ensures p q b bytes reads (bytes_from_each bytes c.type_inv.piece) c.in-Ok.ensures.here in
-    record {
-      answering = s.answering;
-      stands = stands_then None s.opening s.chunks c.in-Some.behind p q bytes (record { used = length bytes; came = came.Nothing })
-          (data_taken None s.opening s.chunks c.in-Some.behind p q bytes c.if-self-lt-LENGTH.false c.requires ((c.in-Some.ensures c.in-Some.behind).0 refl) more) s.stands;
-      still = c.in-Ok.ensures.held;
-    }
+    let four : length s.opening.bytes ≡ 4 = search rules in
+    let whole : 4 ≤ length (held_bytes s.opening) = omega (arith, held-length s.opening four s.answering, c.if-self-lt-LENGTH.false) in
+    by_chunks 4 (held_bytes s.opening) s.inbox c.args.piece.now (λ u m. IsHeld s.opening c.take_data.new.self u) whole (λ v at. let other : c.in-Ok.is_data ≡ false = cc in (whole, c.in-Ok.ensures.other v at (ap (λ (b : Bool). Ok b) other))) item is
 
-pub returns-clause-data : goal.returns-clause-data
-returns-clause-data c = λ yes version item is.
+pub returns-in-Err-clause-err : goal.returns-in-Err-clause-err
+unfolding IsItem
+returns-in-Err-clause-err c = λ item is.
     let s = c.args.self.now in
-    let bytes = c.args.piece.now in
-    let p = s.reader.here in
-    let q = c.advance.new.self.here in
-    data_taken version s.opening s.chunks c.in-Some.behind p q bytes c.if-self-lt-LENGTH.false c.requires ((c.in-Some.ensures c.in-Some.behind).0 refl)
-    (λ b reads. c.reads_more.ensures p q b bytes reads (bytes_from_each bytes c.type_inv.piece) c.in-Ok.ensures.here) item is
-
-pub returns-clause-going : goal.returns-clause-going
-returns-clause-going c =
-    let s = c.args.self.now in
-    let bytes = c.args.piece.now in
-    let p = s.reader.here in
-    let q = c.advance.new.self.here in
-    let more : (b : List ℕ) → Reads p b → Reads q (b ++ bytes) = λ b reads. c.reads_more.ensures p q b bytes reads (bytes_from_each bytes c.type_inv.piece) c.in-Ok.ensures.here in
-    ∥∥₁_elim s.stands (hlevel props) (λ h. going_behind s.opening s.chunks c.in-Some.behind p q bytes c.if-self-lt-LENGTH.false c.requires ((c.in-Some.ensures c.in-Some.behind).0 refl) more h.0 h.1)
-
-pub returns-in_default-advance-clause-room : goal.returns-in_default-advance-clause-room
-returns-in_default-advance-clause-room c =
-    let s = c.args.self.now in
-    chunks_want s.opening s.chunks s.reader.here c.args.piece.now c.if-self-lt-LENGTH.false c.requires c.in_default-advance.ensures.memory c.good_may_go_on.ensures
-    (λ body counts reads. data_wants s.chunks c.in-Some.behind c.args.piece.now c.requires ((c.in-Some.ensures c.in-Some.behind).0 refl) body)
+    let four : length s.opening.bytes ≡ 4 = search rules in
+    let whole : 4 ≤ length (held_bytes s.opening) = omega (arith, held-length s.opening four s.answering, c.if-self-lt-LENGTH.false) in
+    chunks_stay s.opening s.inbox c.take_data.new.self c.args.piece.now whole c.in-Err.ensures.err item is

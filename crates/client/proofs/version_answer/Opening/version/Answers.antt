@@ -1,7 +1,7 @@
 use Rattle.std.proofs.Common.{◌∙◌, sym, rules}
 use Rattle.wire.specs.Versions.{versions}
 use Rattle.client.specs.Answers.{held_bytes}
-use Rattle.client.proofs.Taking.{heard_later}
+use Rattle.client.proofs.Versions.{heard_later}
 use Rattle.client.proofs.version_answer.Opening.version.Goals as goal
 
 pub loop-version-preserved : goal.loop-version-preserved

@@ -1,45 +1,63 @@
-use Rattle.std.proofs.Common.{◌+◌, length, refl}
-use Rattle.packstream.proofs.Ranges.{bytes_from_each}
-use Rattle.server.specs.declared.input.Stream.{Stream}
+use Rattle.std.proofs.Common.{◌≤◌, refl, sym, ap, ap₂, subst, length, Ok, Bool, arith}
+use Rattle.wire.specs.declared.Version.{Version}
+use Rattle.wire.specs.Reader.{takes}
+use Rattle.wire.specs.Framing.{chunks}
+use Rattle.inbox.proofs.Opening.{by_chunks}
+use Rattle.inbox.proofs.Told.{err_holds}
 use Rattle.session.specs.declared.kinds.What.{What}
+use Rattle.session.specs.Rest.{what_of, after_item}
 use Rattle.session.specs.Views.{kept_of}
-use Rattle.server.proofs.Feeds.{stream_fed}
-use Rattle.server.proofs.Fronts.{fed_data, fed_whole}
-use Rattle.server.proofs.Requests.{err_holds}
-use Rattle.server.proofs.Wanting.{chunks_want, data_wants, first_good, first_wants}
+use Rattle.server.specs.Feeding.{arrival, takes_item}
+use Rattle.server.specs.Incoming.{offered, IsFedBy}
+use Rattle.server.proofs.Arrived.{BringsAt}
+use Rattle.server.proofs.Feeds.{took_of, offered-length, chunks_stay}
 use Rattle.server.proofs.input.Incoming.take_chunks.Goals as goal
 
-pub returns-in-Some-clause-ok : goal.returns-in-Some-clause-ok
-returns-in-Some-clause-ok c =
+pub returns-in_err-take_data-clause-err : goal.returns-in_err-take_data-clause-err
+returns-in_err-take_data-clause-err c = λ u is.
     let i = c.args.self.now in
-    let k = kept_of c.args.session.now in
-    let piece = c.args.piece.now in
-    let t : Stream = record { chunks = c.in-Some.behind; reader = c.advance.new.self; is_over = i.stream.is_over } in
-    stream_fed i.offer i.stream t k k piece (record { used = length piece; what = What.Part }) c.requires.whole
-    (λ v at. fed_data k v piece i.stream t at c.in-Some.ensures refl
-    (λ b reads. c.reads_more.ensures i.stream.reader.here c.advance.new.self.here b piece reads (bytes_from_each piece c.type_inv.piece) c.in_ok-advance.ensures.here))
+    let s = chunks_stay i.offer i.inbox c.take_data.new.self c.args.piece.now (omega (arith, offered-length i.offer, c.requires.whole)) c.in_err-take_data.ensures.err u is in
+    err_holds c.from_residual.result _ (s.0, refl, s.1)
 
-pub returns-in-Some-message_in-clause-ok : goal.returns-in-Some-message_in-clause-ok
-returns-in-Some-message_in-clause-ok c =
+pub returns-then-branch-clause-ok : goal.returns-then-branch-clause-ok
+returns-then-branch-clause-ok c =
     let i = c.args.self.now in
     let k = kept_of c.args.session.now in
-    let after = kept_of c.ask_bytes.new.session in
     let piece = c.args.piece.now in
-    let m = c.in-Some-message_in.message.now in
+    let whole : 20 ≤ length (offered i.offer) = omega (arith, offered-length i.offer, c.requires.whole) in
+    by_chunks 20 (offered i.offer) i.inbox piece (λ u t. IsFedBy (takes_item k t) (took_of (length piece) What.Part) k i.offer c.take_data.new.self) whole
+    (λ v at.
+    let all = c.in_ok-take_data.ensures.data v at (ap (λ (b : Bool). Ok b) c.if-branch.true) in
+    record { told = ap₂ (λ n o. took_of n (what_of (arrival k o))) all.used all.none; kept = ap (λ o. after_item k (arrival k o)) all.none; come = (whole, all.rest) })
+
+pub returns-in_err-used-clause-err : goal.returns-in_err-used-clause-err
+returns-in_err-used-clause-err c = λ u is.
+    let i = c.args.self.now in
+    let s = chunks_stay i.offer i.inbox c.take.new.self c.args.piece.now (omega (arith, offered-length i.offer, c.requires.whole)) (λ v at. c.in_err-used.ensures.err v (c.in_ok-take_data.ensures.other v at (ap (λ (b : Bool). Ok b) c.if-branch.false))) u is in
+    err_holds c.from_residual-in_err-used.result _ (s.0, refl, s.1)
+
+pub returns-in_err-what-clause-err : goal.returns-in_err-what-clause-err
+returns-in_err-what-clause-err c = λ u is.
+    let i = c.args.self.now in
+    let never = by_chunks 20 (offered i.offer) i.inbox c.args.piece.now (λ u t. ⊥) (omega (arith, offered-length i.offer, c.requires.whole))
+    (λ v at.
+    let t = c.in_ok-used.ensures.ok v (c.in_ok-take_data.ensures.other v at (ap (λ (b : Bool). Ok b) c.if-branch.false)) in
+    let item = (takes chunks v c.args.piece.now).item in
+    c.in_err-what.ensures item (subst (λ (w : Version). BringsAt item c.in_ok-used.brought w) c.version-version.ensures t.item)) in
+    absurd (never u is)
+
+pub returns-clause-ok : goal.returns-clause-ok
+returns-clause-ok c =
+    let i = c.args.self.now in
+    let k = kept_of c.args.session.now in
+    let after = kept_of c.receive.new.session in
+    let piece = c.args.piece.now in
+    let used = c.in_ok-used.used in
     let what = c.in_ok-what.what in
-    stream_fed i.offer i.stream i.stream k after piece (record { used = length m + 4; what = what }) c.requires.whole
-    (λ v at. fed_whole k v piece m what after i.stream at c.in-Some-message_in.ensures c.in_ok-what.ensures.ok)
-
-pub returns-in_err-advance-clause-memory : goal.returns-in_err-advance-clause-memory
-returns-in_err-advance-clause-memory c =
-    let i = c.args.self.now in
-    λ u is. err_holds c.from_residual.result _
-    (chunks_want i.offer i.stream c.args.piece.now c.requires.whole (λ v at. c.good_may_go_on.ensures v.body at.reads c.in_err-advance.ensures.memory)
-    (data_wants i.stream c.args.piece.now c.in-Some.behind c.in-Some.ensures) u is)
-
-pub returns-in_err-what-clause-memory : goal.returns-in_err-what-clause-memory
-returns-in_err-what-clause-memory c =
-    let i = c.args.self.now in
-    let m = c.in-Some-message_in.message.now in
-    λ u is. err_holds c.from_residual-in_err-what.result _
-    (chunks_want i.offer i.stream c.args.piece.now c.requires.whole (first_good i.stream c.args.piece.now m c.in-Some-message_in.ensures) (first_wants i.stream c.args.piece.now m c.in-Some-message_in.ensures) u is)
+    let whole : 20 ≤ length (offered i.offer) = omega (arith, offered-length i.offer, c.requires.whole) in
+    by_chunks 20 (offered i.offer) i.inbox piece (λ u t. IsFedBy (takes_item k t) (took_of used what) after i.offer c.take.new.self) whole
+    (λ v at.
+    let t = c.in_ok-used.ensures.ok v (c.in_ok-take_data.ensures.other v at (ap (λ (b : Bool). Ok b) c.if-branch.false)) in
+    let item = (takes chunks v piece).item in
+    let r = c.in_ok-what.ensures item (subst (λ (w : Version). BringsAt item c.in_ok-used.brought w) c.version-version.ensures t.item) in
+    record { told = ap₂ took_of (sym t.used_is) (sym r.0); kept = sym r.1; come = (whole, t.rest) })

@@ -1,7 +1,8 @@
 use Rattle.std.proofs.Common.{◌≡◌, get_or, rules}
+use Rattle.inbox.proofs.Opening.{data_read}
+use Rattle.server.specs.Incoming.{offered}
 use Rattle.server.specs.Views.{Fits}
 use Rattle.server.proofs.Calls.{live_at}
-use Rattle.server.proofs.Feeds.{data_read}
 use Rattle.server.proofs.server.Server.reader.Goals as goal
 
 pub returns : goal.returns
@@ -13,4 +14,4 @@ returns g c =
     let here : c.index-session.result.now ≡ get_or s.sessions.items c.in_ok-at.at c.index-session.result.now = search rules in
     λ r fits.
     let w = live_at c.args.conn c.in_ok-at.at s.sessions.items old place here r.sessions fits.live in
-    record { session = w.0; is = w.1; reads = data_read old.incoming w.0.unfinished w.2.unfinished; still = old.incoming.still }
+    record { session = w.0; is = w.1; reads = data_read 20 (offered old.incoming.offer) old.incoming.inbox c.reader.result.now.here c.reader.ensures.data w.0.unfinished w.2.unfinished; still = c.reader.ensures.held }

@@ -1,0 +1,129 @@
+//! What an end keeps of a stream of chunks.
+ghost use Rattle.std.specs.Prelude.{◌≡◌, false};
+
+use crate::brought::Brought;
+use crate::readable::Readable;
+use crate::stream::Stream;
+use crate::whole_message::read_bytes;
+use reader::Reader;
+use reader::laws::{good_may_go_on, reads_more, reads_nothing};
+use std::alloc::{AllocError, Global};
+use wire::{Chunks, Version};
+
+/// What has come of the message that isn't whole: the position in the chunks, and what was read of its data.
+#[derive(Drop)]
+pub struct Inbox {
+    stream: Stream,
+    ghost still: { stream.reader.held ≡ stream.reader.here },
+    ghost going: { stream.is_over ≡ false → stream.chunks.too_big ≡ false },
+}
+
+impl Inbox {
+    ghost use Rattle.std.specs.Prelude.{ℕ, List, ◌<◌, ◌≤◌, length, true, Ok, IfOk, OnErr};
+    ghost use Rattle.wire.specs.Unfinished.{Unfinished, fresh};
+    ghost use Rattle.wire.specs.Framing.{chunks};
+    ghost use Rattle.wire.specs.Reader.{takes};
+    ghost use Rattle.reader.specs.Piecewise.{Reads};
+    ghost use Rattle.inbox.specs.Standing.{Stands};
+    ghost use Rattle.inbox.specs.Taking.{Takes, UsesUp, WantsRoom};
+
+    /// Before the first byte of the chunks. It takes no memory.
+    pub fn new(alloc: Global) -> Inbox
+        ensures { Stands result fresh }
+    {
+        reads_nothing();
+        Inbox {
+            stream: Stream {
+                chunks: Chunks::new(),
+                reader: Reader::new(alloc),
+                is_over: false,
+            },
+        }
+    }
+
+    /// Takes a piece that is data of one chunk alone, and answers whether it is; else nothing changes. `Err` is want of memory, and changes
+    /// nothing; a message that is known to be bad takes none.
+    #[inline]
+    pub fn take_data(&mut self, piece: &[u8]) -> Result<bool, AllocError>
+        ensures data { (u : Unfinished) → Stands self.old u → result ≡ Ok true
+            → UsesUp (takes chunks u piece.now) piece.now self.new }
+        ensures other { (u : Unfinished) → Stands self.old u → result ≡ Ok false
+            → Stands self.new u }
+        ensures err { (u : Unfinished) → Stands self.old u
+            → OnErr result (Stands self.new u × WantsRoom u piece.now) }
+    {
+        reads_more();
+        good_may_go_on(&self.stream.reader);
+        let Some(behind) = self.stream.behind_data(piece) else {
+            return Ok(false);
+        };
+        self.stream.reader.advance(piece)?;
+        self.stream.chunks = behind;
+        Ok(true)
+    }
+
+    /// Takes a piece to the end of the item begun, a no-op or a message, else all of it; and answers how many bytes were used and what ended
+    /// with the last of them. After a message past 65,536 bytes nothing ends any more.
+    ///
+    /// `Err` is want of memory, and changes nothing. Memory is wanted where data of the piece is kept and where a message ends: never for
+    /// headers and no-ops, and never once the message that isn't whole is known to be bad.
+    pub fn take<M: Readable>(
+        &mut self,
+        alloc: Global,
+        version: Version,
+        piece: &[u8],
+    ) -> Result<(usize, Brought<M>), AllocError>
+        ensures ok { (u : Unfinished) → Stands self.old u
+            → IfOk result (λ t. Takes (M.reads version) (takes chunks u piece.now) t.0 t.1
+            self.new) }
+        ensures within { IfOk result (λ t. t.0 ≤ length piece.now) }
+        ensures some { 0 < length piece.now → IfOk result (λ t. 0 < t.0) }
+        ensures err { (u : Unfinished) → Stands self.old u
+            → OnErr result (Stands self.new u × WantsRoom u piece.now) }
+    {
+        if self.stream.is_over {
+            return Ok((piece.len(), Brought::Nothing));
+        }
+        if let Some(message) = self.stream.chunks.message_in(piece) {
+            let brought = read_bytes(alloc, version, message)?;
+            return Ok((message.len() + 4, brought));
+        }
+        self.take_parts(alloc, version, piece)
+    }
+
+    /// Takes a piece part by part. For want of memory the position is put back, and the reader returns to the point that it holds.
+    fn take_parts<M: Readable>(
+        &mut self,
+        alloc: Global,
+        version: Version,
+        piece: &[u8],
+    ) -> Result<(usize, Brought<M>), AllocError>
+        requires { self.old.stream.is_over ≡ false }
+        ensures ok { (u : Unfinished) → Stands self.old u
+            → IfOk result (λ t. Takes (M.reads version) (takes chunks u piece.now) t.0 t.1
+            self.new) }
+        ensures within { IfOk result (λ t. t.0 ≤ length piece.now) }
+        ensures some { 0 < length piece.now → IfOk result (λ t. 0 < t.0) }
+        ensures err { (u : Unfinished) → Stands self.old u
+            → OnErr result (Stands self.new u × WantsRoom u piece.now) }
+    {
+        good_may_go_on(&self.stream.reader);
+        let place = self.stream.chunks;
+        let Ok(taken) = self.stream.take(alloc, version, piece) else {
+            self.stream.chunks = place;
+            self.stream.reader.back();
+            return Err(AllocError);
+        };
+        self.stream.reader.hold();
+        Ok(taken)
+    }
+
+    /// What was read of the message that isn't whole: its data, or a fault that each continuation of them has. The point that it holds is
+    /// where it stands. It takes no memory.
+    pub fn reader(&self) -> &Reader
+        ensures data { (u : Unfinished) → Stands self.now u → Reads result.now.here u.body }
+        ensures held { result.now.held ≡ result.now.here }
+    {
+        &self.stream.reader
+    }
+}

@@ -1,0 +1,55 @@
+//! A message that is whole, by its bytes or by what a reader has read of them.
+ghost use Rattle.std.specs.Prelude.{◌≡◌, ℕ, List, None, Some, Err, IfOk, OnErr};
+ghost use Rattle.wire.specs.Framing.{Message};
+ghost use Rattle.reader.specs.Piecewise.{Reads};
+ghost use Rattle.inbox.specs.Taking.{Brings};
+
+use crate::brought::Brought;
+use crate::readable::Readable;
+use messages::MsgFault;
+use reader::Reader;
+use reader::laws::finish_reads;
+use std::alloc::{AllocError, Global};
+use wire::Version;
+
+/// The message of these bytes.
+pub(crate) fn read_bytes<M: Readable>(
+    alloc: Global,
+    version: Version,
+    message: &[u8],
+) -> Result<Brought<M>, AllocError>
+    ensures { IfOk result (λ x. Brings (M.reads version) (Some (Message message.now)) x) }
+{
+    match M::of_bytes(alloc, version, message) {
+        Ok(told) => Ok(Brought::Message(told)),
+        Err(MsgFault::Memory) => Err(AllocError),
+        Err(fault) => Ok(Brought::Bad(fault)),
+    }
+}
+
+/// The message of which all data was read. One that is bad takes no memory.
+pub(crate) fn read_data<M: Readable>(
+    alloc: Global,
+    version: Version,
+    reader: &Reader,
+) -> Result<Brought<M>, AllocError>
+    ensures ok { (b : List ℕ) → Reads reader.now.here b
+        → IfOk result (λ x. Brings (M.reads version) (Some (Message b)) x) }
+    ensures memory { OnErr result (reader.now.here.bad ≡ None) }
+{
+    match told_of::<M>(alloc, version, reader) {
+        Ok(told) => Ok(Brought::Message(told)),
+        Err(MsgFault::Memory) => Err(AllocError),
+        Err(fault) => Ok(Brought::Bad(fault)),
+    }
+}
+
+/// What is told of a message of which all data was read.
+fn told_of<M: Readable>(alloc: Global, version: Version, reader: &Reader) -> Result<M, MsgFault>
+    ensures told { (b : List ℕ) → Reads reader.now.here b → M.reads version b result }
+    ensures memory { result ≡ Err MsgFault.Memory → reader.now.here.bad ≡ None }
+{
+    finish_reads();
+    let packed = reader.finish()?;
+    M::of_value(alloc, version, &packed)
+}

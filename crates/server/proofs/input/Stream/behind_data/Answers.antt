@@ -1,5 +1,0 @@
-use Rattle.server.proofs.Fronts.{is_alone}
-use Rattle.server.proofs.input.Stream.behind_data.Goals as goal
-
-pub returns : goal.returns
-returns c = is_alone c.behind_data.result c.args.self.now c.args.piece.now c.if-self.false c.behind_data.ensures

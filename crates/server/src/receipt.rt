@@ -1,0 +1,33 @@
+//! What is received of a piece of chunks.
+ghost use Rattle.std.specs.Prelude.{◌≡◌, Option, false};
+ghost use Rattle.wire.specs.Framing.{Item};
+ghost use Rattle.messages.specs.View.{request_view};
+ghost use Rattle.messages.specs.Reading.{Answers};
+ghost use Rattle.messages.specs.Messages.{request_of};
+ghost use Rattle.inbox.specs.Taking.{Brings};
+ghost use Rattle.session.specs.Rest.{full, version_of};
+ghost use Rattle.session.specs.Views.{kept_of};
+ghost use Rattle.server.specs.Feeding.{arrival};
+ghost use Rattle.server.specs.Incoming.{IsReceived};
+
+use inbox::Brought;
+use messages::Request;
+use session::{Session, What};
+use std::alloc::AllocError;
+
+/// What the session receives of what a piece of chunks brought, which never wants memory.
+pub(crate) fn receive(session: &mut Session, brought: Brought<Request>) -> Result<What, AllocError>
+    requires { full (kept_of session.old) ≡ false }
+    ensures { (item : Option Item) → Brings
+        (λ b told. Answers request_view told (request_of (version_of (kept_of session.old)) b)) item
+        brought → IsReceived result (kept_of session.old) (kept_of session.new)
+        (arrival (kept_of session.old) item) }
+{
+    match brought {
+        Brought::Nothing => Ok(What::Part),
+        Brought::Noop => Ok(What::Noop),
+        Brought::Message(request) => session.receive(Ok(request)),
+        Brought::Bad(fault) => session.receive(Err(fault)),
+        Brought::TooBig => Ok(session.refuse()),
+    }
+}
