@@ -15,7 +15,7 @@ use crate::fault::MsgFault;
 use crate::of_packed;
 use crate::request::Request;
 use crate::response::Response;
-use crate::scanning::{scan_request, scan_response};
+use crate::scan::{scan_request, scan_response};
 use crate::spelling::{spell_request, spell_response};
 use crate::values::{request_value, response_value};
 use bytes::BytesMut;

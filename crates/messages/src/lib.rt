@@ -14,7 +14,7 @@ mod of_packed;
 mod reader;
 mod request;
 mod response;
-mod scanning;
+mod scan;
 mod spelling;
 mod tags;
 mod values;

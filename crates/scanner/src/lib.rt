@@ -6,7 +6,7 @@
 
 mod fault;
 mod numbers;
-mod scanning;
+mod scan;
 mod whole;
 
 pub use fault::Unscanned;

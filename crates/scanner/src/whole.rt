@@ -8,7 +8,7 @@ ghost use Rattle.cells.specs.Shape.{shape, shapes, entries};
 ghost use Rattle.scanner.specs.Fronts.{SpellsFront};
 
 use crate::fault::Unscanned;
-use crate::scanning::{cell_in, dict_in, int_in, list_in, text_in};
+use crate::scan::{cell_in, dict_in, int_in, list_in, text_in};
 use cells::Cell;
 use std::alloc::Global;
 

@@ -1,6 +1,6 @@
 use Rattle.std.proofs.Common.{◌≡◌, rules, to_z, of_z, w64}
 use Rattle.messages.proofs.Scanned.{discard_scanned}
-use Rattle.messages.proofs.scanning.discard_of.Goals as goal
+use Rattle.messages.proofs.scan.discard_of.Goals as goal
 
 pub returns : goal.returns
 returns c =

@@ -1,7 +1,7 @@
 use Rattle.packstream.proofs.Ranges.{bytes_from_each}
 use Rattle.cells.specs.Shape.{shapes}
 use Rattle.messages.proofs.Scanned.{record_scanned}
-use Rattle.messages.proofs.scanning.record_of.Goals as goal
+use Rattle.messages.proofs.scan.record_of.Goals as goal
 
 pub returns : goal.returns
 returns c =

@@ -1,7 +1,7 @@
 use Rattle.packstream.proofs.Ranges.{bytes_from_each}
 use Rattle.cells.specs.Shape.{entries}
 use Rattle.messages.proofs.Scanned.{success_scanned}
-use Rattle.messages.proofs.scanning.success_of.Goals as goal
+use Rattle.messages.proofs.scan.success_of.Goals as goal
 
 pub returns : goal.returns
 returns c =

@@ -1,7 +1,7 @@
 use Rattle.std.proofs.Common.{◌≡◌, rules, to_z, of_z, w64}
 use Rattle.packstream.proofs.Ranges.{bytes_from_each}
 use Rattle.messages.proofs.Scanned.{rows_spelled}
-use Rattle.messages.proofs.scanning.rows_of.Goals as goal
+use Rattle.messages.proofs.scan.rows_of.Goals as goal
 
 pub returns-clause-spelled : goal.returns-clause-spelled
 returns-clause-spelled c =

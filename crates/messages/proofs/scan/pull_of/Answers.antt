@@ -1,6 +1,6 @@
 use Rattle.std.proofs.Common.{◌≡◌, rules, to_z, of_z, w64}
 use Rattle.messages.proofs.Scanned.{pull_scanned}
-use Rattle.messages.proofs.scanning.pull_of.Goals as goal
+use Rattle.messages.proofs.scan.pull_of.Goals as goal
 
 pub returns : goal.returns
 returns c =

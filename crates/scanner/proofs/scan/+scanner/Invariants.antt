@@ -3,7 +3,7 @@ use Rattle.packstream.specs.Reading.{layer, inner, items_at, entries_at}
 use Rattle.packstream.specs.View.{trees_of, entries_of}
 use Rattle.cells.specs.Faults.{structures_in, structures_under}
 use Rattle.cells.specs.Shape.{shapes, entries}
-use Rattle.scanner.proofs.scanning.+scanner.Given as goal
+use Rattle.scanner.proofs.scan.+scanner.Given as goal
 
 abbrev pub decreases-cell_in : goal.decreases-cell_in
 decreases-cell_in l = 4 * l.room + 2

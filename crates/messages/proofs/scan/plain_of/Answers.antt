@@ -1,6 +1,6 @@
 use Rattle.std.proofs.Common.{refl, arith}
 use Rattle.messages.proofs.Scanned.{plain_scanned}
-use Rattle.messages.proofs.scanning.plain_of.Goals as goal
+use Rattle.messages.proofs.scan.plain_of.Goals as goal
 
 pub returns-in-2 : goal.returns-in-2
 returns-in-2 c = λ v. rw c.in-2.is (plain_scanned _ 2 (omega arith) refl)

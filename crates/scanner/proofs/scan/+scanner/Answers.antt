@@ -5,7 +5,7 @@ use Rattle.packstream.specs.Reading.{list_at, dict_at, layer, inner, items_at, e
 use Rattle.packstream.proofs.Steps.{inner_more, items_done, entries_on, entries_done}
 use Rattle.cells.specs.Shape.{shape, shapes, entry, entries}
 use Rattle.scanner.proofs.Members.{shape_of_int, keys_are, member_on, plain_member, plain_entry}
-use Rattle.scanner.proofs.scanning.+scanner.Goals as goal
+use Rattle.scanner.proofs.scan.+scanner.Goals as goal
 
 pub list_of-returns-clause-read : goal.list_of-returns-clause-read
 unfolding list_at
