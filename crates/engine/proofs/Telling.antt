@@ -4,7 +4,7 @@ use Rattle.std.specs.Str.{bytes_eq}
 use Rattle.std.proofs.lemmas.Bool.{eqb-true, eq-eqb}
 use Rattle.std.proofs.lemmas.Slice.Eq.{bytes_eq-Decides}
 use Rattle.engine.specs.Tokens.{is_token}
-use Rattle.engine.specs.Places.{has_token_at, fingerprint, first_of, other_of, told_by, place_in, kept_at, where_none, IsWith}
+use Rattle.engine.specs.Places.{has_token_at, fingerprint, first_of, other_of, told_by, place_in, kept_at, where_none, AreBehindFirsts, IsWith}
 use Rattle.engine.specs.Views.{Token, EntryView, entries_view, token_view}
 use Rattle.engine.specs.declared.ledger.Entry.{Entry}
 use Rattle.engine.specs.declared.places.Places.{Places}
@@ -31,18 +31,6 @@ told_other : (t : List ℕ) (es : List EntryView) (e : EntryView) (a b : Option 
 told_other t es e None b h = refl
 told_other t es e (Some p) b h = ap (λ c. if c then Some p else b) (push_other t es e p h)
 
--- of what nothing is told nothing is kept by its text
-told_none : (t : List ℕ) (es : List EntryView) (a b : Option ℕ) → told_by es t a b ≡ None → b ≡ None
-told_none t es None b h = h
-told_none t es (Some p) b h = go (has_token_at es p t) h
-  where
-    go : (c : Bool) → (if c then Some p else b) ≡ None → b ≡ None
-    go true h = absurd cc
-    go false h = h
-
-pub unkept : (places : Places) (es : List EntryView) (t : List ℕ) → place_in places es t ≡ None → other_of places t ≡ None
-unkept places es t h = told_none t es (first_of places (fingerprint t)) (other_of places t) h
-
 told_free : (t : List ℕ) (es : List EntryView) (p : ℕ) (b : Option ℕ) → told_by es t (Some p) b ≡ None → has_token_at es p t ≡ false
 told_free t es p b h = go (has_token_at es p t) refl h
   where
@@ -52,16 +40,16 @@ told_free t es p b h = go (has_token_at es p t) refl h
 
 -- what is told of q once a token is kept: by the first of the token's fingerprint, that of q's own, and what is kept by q's text
 told_with : (q : List ℕ) (es : List EntryView) (e : EntryView) (first own other : Option ℕ) (same alike : Bool)
-    → is_token q e.token ≡ same → (same ≡ true → alike ≡ true) → (alike ≡ true → own ≡ first) → (same ≡ true → told_by es q own other ≡ None)
+    → is_token q e.token ≡ same → (same ≡ true → alike ≡ true) → (alike ≡ true → own ≡ first) → (own ≡ None → other ≡ None) → (same ≡ true → told_by es q own other ≡ None)
     → told_by (es ++ e ∷ []) q (where_none first (if alike then Some (length es) else own) own) (where_none first other (if same then Some (length es) else other))
     ≡ (if same then Some (length es) else told_by es q own other)
-told_with q es e None own other true true i a o f = ap (λ c. if c then Some (length es) else other) (push_last q es e ∙ i)
-told_with q es e None own other true false i a o f = absurd (let z : false ≡ true = a refl in cc)
-told_with q es e None own other false true i a o f =
-    ap (λ c. if c then Some (length es) else other) (push_last q es e ∙ i) ∙ ap (λ x. told_by es q x other) (sym (o refl))
-told_with q es e None own other false false i a o f = told_other q es e own other i
-told_with q es e (Some p) own other false alike i a o f = told_other q es e own other i
-told_with q es e (Some p) own other true alike i a o f = ap (λ x. told_by (es ++ e ∷ []) q x (Some (length es))) is ∙ last (has_token_at (es ++ e ∷ []) p q) refl
+told_with q es e None own other true true i a o b f = ap (λ c. if c then Some (length es) else other) (push_last q es e ∙ i)
+told_with q es e None own other true false i a o b f = absurd (let z : false ≡ true = a refl in cc)
+told_with q es e None own other false true i a o b f =
+    ap (λ c. if c then Some (length es) else other) (push_last q es e ∙ i) ∙ b (o refl) ∙ ap (λ x. told_by es q x other) (sym (o refl))
+told_with q es e None own other false false i a o b f = told_other q es e own other i
+told_with q es e (Some p) own other false alike i a o b f = told_other q es e own other i
+told_with q es e (Some p) own other true alike i a o b f = ap (λ x. told_by (es ++ e ∷ []) q x (Some (length es))) is ∙ last (has_token_at (es ++ e ∷ []) p q) refl
   where
     is : own ≡ Some p
     is = o (a refl)
@@ -71,9 +59,9 @@ told_with q es e (Some p) own other true alike i a o f = ap (λ x. told_by (es +
     last false h = refl
 
 -- An entry whose token was free, with its place.
-pub told_on : (old new : Places) (es : List EntryView) (e : EntryView) → IsWith old new e.token (length es) → ((t : List ℕ) → e.token ≡ Some t → place_in old es t ≡ None)
+pub told_on : (old new : Places) (es : List EntryView) (e : EntryView) → IsWith old new e.token (length es) → AreBehindFirsts old → ((t : List ℕ) → e.token ≡ Some t → place_in old es t ≡ None)
     → (q : List ℕ) → place_in new (es ++ e ∷ []) q ≡ kept_at e.token (length es) q (place_in old es q)
-told_on old new es e with free q = go e.token refl with free
+told_on old new es e with behind free q = go e.token refl with free
   where
     more : List EntryView
     more = es ++ e ∷ []
@@ -93,7 +81,25 @@ told_on old new es e with free q = go e.token refl with free
         (ap (is_token q) h)
         (λ s. eq-eqb (fingerprint t) (fingerprint q) (ap fingerprint ((bytes_eq-Decides t q).0 s)))
         (λ a. ap (first_of old) (sym (eqb-true (fingerprint t) (fingerprint q) a)))
+        (behind q)
         (λ s. ap (place_in old es) (sym ((bytes_eq-Decides t q).0 s)) ∙ f t refl)
+
+behind_step : (first own other : Option ℕ) (place : ℕ) (same alike : Bool) → (same ≡ true → alike ≡ true) → (alike ≡ true → own ≡ first) → (own ≡ None → other ≡ None)
+    → where_none first (if alike then Some place else own) own ≡ None → where_none first other (if same then Some place else other) ≡ None
+behind_step None own other place same true a o b h = absurd cc
+behind_step None own other place same false a o b h = b h
+behind_step (Some p) own other place true alike a o b h = absurd (let z : Some p ≡ None = sym (o (a refl)) ∙ h in cc)
+behind_step (Some p) own other place false alike a o b h = b h
+
+-- with the place of a token more, what is kept by its text still stands behind a first
+pub behind_on : (old new : Places) (token : Token) (place : ℕ) → IsWith old new token place → AreBehindFirsts old → AreBehindFirsts new
+behind_on old new None place with behind q h = with.1 q ∙ behind q (sym (with.0 (fingerprint q)) ∙ h)
+behind_on old new (Some t) place with behind q h =
+    with.1 q
+    ∙ behind_step (first_of old (fingerprint t)) (first_of old (fingerprint q)) (other_of old q) place (bytes_eq t q) (fingerprint t == fingerprint q)
+    (λ s. eq-eqb (fingerprint t) (fingerprint q) (ap fingerprint ((bytes_eq-Decides t q).0 s)))
+    (λ a. ap (first_of old) (sym (eqb-true (fingerprint t) (fingerprint q) a)))
+    (behind q) (sym (with.0 (fingerprint q)) ∙ h)
 
 -- whether the entry that a place names has the token
 pub token_there : (es : List Entry) (p : ℕ) (t : List ℕ) (e : Entry) → p < length es → e ≡ get_or es p e → is_token t (token_view e.token) ≡ has_token_at (entries_view es) p t

@@ -1,15 +1,18 @@
 -- The places of tokens in a ledger.
-use Rattle.std.specs.Prelude.{◌≡◌, ◌==◌, ℕ, zero, suc, Bool, false, if◌then◌else◌, Option, Some, None, option_map, List, [], ◌∷◌, String}
+use Rattle.std.specs.Prelude.{◌≡◌, ◌<◌, ◌+◌, ◌==◌, ℕ, zero, suc, Bool, false, if◌then◌else◌, Option, Some, None, option_map, List, [], ◌∷◌, String, vec_len, vec_capacity}
 use Rattle.std.specs.BTreeMap.{get, get_by_text}
 use Rattle.std.specs.Hash.FoldHasher.{initial, write, finish}
 use Rattle.std.specs.Ordering.{nat_cmp}
 use Rattle.std.specs.Str.{bytes_eq}
-use Rattle.engine.specs.Views.{Token, EntryView, pairs_view}
+use Rattle.engine.specs.Limits.{ledger_bound}
+use Rattle.engine.specs.Views.{WriteView, Token, EntryView, pairs_view}
 use Rattle.engine.specs.Tokens.{is_token, TokensOnce}
-use Rattle.engine.specs.Table.{table, writes_of}
+use Rattle.engine.specs.Table.{table, with_writes, writes_of}
+use Rattle.engine.specs.declared.ledger.Entry.{Entry}
 use Rattle.engine.specs.declared.places.Places.{Places}
 use Rattle.indexmap.specs.IndexMap.{IndexMap}
 use Rattle.std.specs.declared.alloc.Global.{Global}
+use Rattle.std.specs.declared.vec.Vec.{Vec}
 use Rattle.cells.specs.declared.cell.Cell.{Cell}
 
 -- the place of the first entry with a token, from 0
@@ -35,9 +38,9 @@ first_of places f = get nat_cmp places.firsts f
 abbrev pub other_of : Places → List ℕ → Option ℕ
 other_of places t = get_by_text places.others t
 
--- what these two tell of a token: the first, where the entry there has the token
+-- what these two tell of a token: nothing, where no token has its fingerprint; the first, where the entry there has the token
 abbrev pub told_by : List EntryView → List ℕ → Option ℕ → Option ℕ → Option ℕ
-told_by es t None other = other
+told_by es t None other = None
 told_by es t (Some p) other = if has_token_at es p t then Some p else other
 
 -- the place that is told of a token
@@ -47,6 +50,11 @@ place_in places es t = told_by es t (first_of places (fingerprint t)) (other_of 
 -- each token of the entries, and no other, has its place
 abbrev pub HasPlaces : Places → List EntryView → Type 0
 HasPlaces places es = (t : List ℕ) → place_in places es t ≡ place_of t es
+
+-- a token that is kept by its text stands behind the first with its fingerprint
+abbrev pub AreBehindFirsts : Places → Type 0
+AreBehindFirsts places = (t : List ℕ) → first_of places (fingerprint t) ≡ None
+    → other_of places t ≡ None
 
 -- the place of a token, once it is kept for this one
 abbrev pub kept_at : Token → ℕ → List ℕ → Option ℕ → Option ℕ
@@ -72,16 +80,15 @@ IsWith old new (Some t) place =
     × ((q : List ℕ) → other_of new q ≡ where_none (first_of old (fingerprint t)) (other_of old q)
     (if bytes_eq t q then Some place else other_of old q))
 
--- places from which that of a token was taken: what is kept by its text, or, where nothing is, by its fingerprint
-abbrev pub IsWithout : Places → Places → Token → Type 0
-IsWithout old new None = IsSame old new
-IsWithout old new (Some t) =
-    ((f : ℕ) → first_of new f ≡ where_none (other_of old t)
-    (if fingerprint t == f then None else first_of old f) (first_of old f))
-    × ((q : List ℕ) → other_of new q ≡ (if bytes_eq t q then None else other_of old q))
+-- What is ready for the next entry of a ledger: room, below the bound, and its writes in the pairs.
+pub record IsReady {S : Type 0} (ledger : Vec Entry Global) (old new : IndexMap (String Global) Cell S) (writes : List WriteView) : Type 0 where
+  pub room : vec_len ledger < vec_capacity ledger
+  pub counted : vec_len ledger + 1 < ledger_bound
+  pub taken : pairs_view new ≡ with_writes (pairs_view old) writes
 
--- What a fixed table keeps beside its ledger: the table of its writes, the places of its tokens; and no two entries have one token.
+-- What a fixed table keeps beside its ledger: the table of its writes, the places of its tokens, by their fingerprints first; and no two entries have one token.
 pub record IsKept {S : Type 0} (pairs : IndexMap (String Global) Cell S) (places : Places) (es : List EntryView) : Type 0 where
   pub table_is : pairs_view pairs ≡ table (writes_of es)
   pub places_are : HasPlaces places es
+  pub behind_firsts : AreBehindFirsts places
   pub once : TokensOnce es

@@ -1,16 +1,18 @@
 //! The places of tokens.
-ghost use Rattle.std.specs.Prelude.{◌≡◌, ◌==◌, ℕ, List, Some, None, if◌then◌else◌, string_bytes, OnOk, OnErr};
-ghost use Rattle.std.specs.BTreeMap.{get, get_by_text};
-ghost use Rattle.std.specs.Ordering.{nat_cmp};
+ghost use Rattle.std.specs.Prelude.{◌≡◌, ℕ, List, length, Some, None, MatchOption, if◌then◌else◌, string_bytes, IfOk, OnErr};
+ghost use Rattle.std.specs.BTreeMap.{get_by_text};
 ghost use Rattle.std.specs.Str.{bytes_eq};
-ghost use Rattle.engine.specs.Places.{fingerprint, has_token_at, place_in, IsSame, IsWith, IsWithout};
-ghost use Rattle.engine.specs.Views.{EntryView, entries_view, token_view};
+ghost use Rattle.engine.specs.Places.{fingerprint, has_token_at, place_in, where_none, AreBehindFirsts, IsReady, IsSame, IsWith};
+ghost use Rattle.engine.specs.Views.{EntryView, entries_view, pairs_view, token_view, writes_view};
 
-use crate::Entry;
 use crate::lookup::has_token;
+use crate::next::take_next;
+use crate::{Entry, Write};
+use indexmap::IndexMap;
 use std::alloc::{AllocError, Global};
-use std::collections::BTreeMap;
+use std::collections::{BTreeMap, btree_map};
 use std::hash::{FoldHasher, Hasher};
+use structures::Cell;
 
 /// The places of a ledger's tokens, from 0. Strangers can choose tokens of one fingerprint: the first of them is found by it, and all others
 /// by their texts, in an ordered map too.
@@ -25,7 +27,8 @@ pub(crate) struct Places {
 impl Places {
     /// No places. Takes no memory.
     pub fn new(alloc: Global) -> Places
-        ensures { (es : List EntryView) (t : List ℕ) → place_in result es t ≡ None }
+        ensures none { (es : List EntryView) (t : List ℕ) → place_in result es t ≡ None }
+        ensures behind_firsts { AreBehindFirsts result }
     {
         Places {
             firsts: BTreeMap::new(alloc),
@@ -37,83 +40,99 @@ impl Places {
     pub fn find(&self, ledger: &[Entry], token: &str) -> Option<usize>
         ensures { result ≡ place_in self.now (entries_view ledger.now) token.now }
     {
-        if let Some(place) = self.firsts.get(&fingerprint(token)) {
-            if has_token_at(ledger, *place, token) {
-                return Some(*place);
-            }
+        let Some(place) = self.firsts.get(&fingerprint(token)) else {
+            return None;
+        };
+        if has_token_at(ledger, *place, token) {
+            return Some(*place);
         }
         self.others.get(token).copied()
     }
 
-    /// Keeps the place of a token; without a token nothing.
-    pub fn keep(&mut self, token: &Option<String>, place: usize) -> Result<(), AllocError>
-        ensures kept { OnOk result (IsWith self.old self.new (token_view token.now) place) }
+    /// The place of a token's entry in the ledger. Where none has the token, takes what the next entry takes, and keeps that one's place; where memory is refused,
+    /// entries, places and pairs are as they were.
+    ///
+    /// It goes one way through the map of fingerprints, by its entry. `entry` fails only at a key that isn't there, so an occupied one takes no memory. A vacant one
+    /// has its room already: its insert comes last, and can't fail.
+    pub fn find_or_keep(
+        &mut self,
+        alloc: Global,
+        ledger: &mut Vec<Entry>,
+        pairs: &mut IndexMap<String, Cell>,
+        token: &String,
+        writes: &[Write],
+    ) -> Result<Option<usize>, AllocError>
+        ensures entries { ledger.new.items ≡ ledger.old.items }
+        ensures found { IfOk result
+            (λ found. found
+            ≡ place_in self.old (entries_view ledger.old.items) (string_bytes token.now)) }
+        ensures wanted { OnErr result
+            (place_in self.old (entries_view ledger.old.items) (string_bytes token.now) ≡ None) }
+        ensures ready { IfOk result
+            (λ found. MatchOption found (IsReady ledger.new pairs.old pairs.new (writes_view writes.now))
+            (λ _. pairs_view pairs.new ≡ pairs_view pairs.old)) }
+        ensures kept { IfOk result
+            (λ found. MatchOption found
+            (IsWith self.old self.new (Some (string_bytes token.now)) (length ledger.old.items))
+            (λ _. IsSame self.old self.new)) }
+        ensures pairs_unchanged { OnErr result (pairs_view pairs.new ≡ pairs_view pairs.old) }
         ensures unchanged { OnErr result (IsSame self.old self.new) }
     {
-        match token {
-            None => Ok(()),
-            Some(token) => self.keep_one(token, place),
-        }
-    }
-
-    fn keep_one(&mut self, token: &String, place: usize) -> Result<(), AllocError>
-        ensures kept { OnOk result
-            (IsWith self.old self.new (Some (string_bytes token.now)) place) }
-        ensures unchanged { OnErr result (IsSame self.old self.new) }
-    {
-        let print = fingerprint(token.as_str());
-        if self.firsts.contains_key(&print) {
-            return keep_other(&mut self.others, token, place);
-        }
-        keep_first(&mut self.firsts, print, place)
-    }
-
-    /// Gives up the place of a token that was kept last. Takes no memory.
-    pub fn forget(&mut self, token: &Option<String>)
-        ensures { IsWithout self.old self.new (token_view token.now) }
-    {
-        if let Some(token) = token {
-            self.forget_one(token.as_str());
-        }
-    }
-
-    fn forget_one(&mut self, token: &str)
-        ensures { IsWithout self.old self.new (Some token.now) }
-    {
-        if self.others.remove(token).is_none() {
-            self.firsts.remove(&fingerprint(token));
+        match self.firsts.entry(fingerprint(token.as_str())) {
+            Err(_) => Err(AllocError),
+            Ok(btree_map::Entry::Occupied(first)) => {
+                let place = *first.get();
+                if has_token_at(ledger.as_slice(), place, token.as_str()) {
+                    return Ok(Some(place));
+                }
+                find_or_keep_other(&mut self.others, alloc, ledger, pairs, token, writes)
+            }
+            Ok(btree_map::Entry::Vacant(first)) => {
+                take_next(alloc, ledger, pairs, writes)?;
+                first.insert(ledger.len());
+                Ok(None)
+            }
         }
     }
 }
 
-fn keep_first(firsts: &mut BTreeMap<u64, usize>, print: u64, place: usize) -> Result<(), AllocError>
-    ensures kept { OnOk result ((f : ℕ) → get nat_cmp firsts.new f
-        ≡ (if print == f then Some place else get nat_cmp firsts.old f)) }
-    ensures unchanged { OnErr result
-        ((f : ℕ) → get nat_cmp firsts.new f ≡ get nat_cmp firsts.old f) }
-{
-    let Ok(_) = firsts.insert(print, place) else {
-        return Err(AllocError);
-    };
-    Ok(())
-}
-
-fn keep_other(
+/// The same of a token whose fingerprint another has. A place by its text wants a copy of it, so it is looked for first: where it is there, no memory is taken. Its
+/// place is given up again where the next entry finds none.
+fn find_or_keep_other(
     others: &mut BTreeMap<String, usize>,
+    alloc: Global,
+    ledger: &mut Vec<Entry>,
+    pairs: &mut IndexMap<String, Cell>,
     token: &String,
-    place: usize,
-) -> Result<(), AllocError>
-    ensures kept { OnOk result ((q : List ℕ) → get_by_text others.new q
-        ≡ (if bytes_eq (string_bytes token.now) q then Some place
-        else get_by_text others.old q)) }
+    writes: &[Write],
+) -> Result<Option<usize>, AllocError>
+    ensures entries { ledger.new.items ≡ ledger.old.items }
+    ensures found { IfOk result
+        (λ found. found ≡ get_by_text others.old (string_bytes token.now)) }
+    ensures wanted { OnErr result (get_by_text others.old (string_bytes token.now) ≡ None) }
+    ensures ready { IfOk result
+        (λ found. MatchOption found (IsReady ledger.new pairs.old pairs.new (writes_view writes.now))
+        (λ _. pairs_view pairs.new ≡ pairs_view pairs.old)) }
+    ensures kept { IfOk result (λ found. (q : List ℕ) → get_by_text others.new q
+        ≡ where_none found
+        (if bytes_eq (string_bytes token.now) q then Some (length ledger.old.items)
+        else get_by_text others.old q) (get_by_text others.old q)) }
+    ensures pairs_unchanged { OnErr result (pairs_view pairs.new ≡ pairs_view pairs.old) }
     ensures unchanged { OnErr result
         ((q : List ℕ) → get_by_text others.new q ≡ get_by_text others.old q) }
 {
+    if let Some(place) = others.get(token.as_str()) {
+        return Ok(Some(*place));
+    }
     let copy = token.clone()?;
-    let Ok(_) = others.insert(copy, place) else {
+    let Ok(_) = others.insert(copy, ledger.len()) else {
         return Err(AllocError);
     };
-    Ok(())
+    if take_next(alloc, ledger, pairs, writes).is_err() {
+        others.remove(token.as_str());
+        return Err(AllocError);
+    }
+    Ok(None)
 }
 
 fn has_token_at(ledger: &[Entry], place: usize, token: &str) -> bool
