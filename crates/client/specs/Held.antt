@@ -13,7 +13,7 @@ use Rattle.client.specs.Answers.{held_bytes}
 abbrev pub IsHeld : Opening → Inbox → Opened → Type 0
 IsHeld o i item = HasCome 4 (held_bytes o) i item
 
--- the stream stands in this item; opened where a stream is what is proved of
+-- The stream stands in this item. Proofs about a stream open the word; callers cite it as a whole.
 unfoldable pub IsItem : Stream → Opened → Type 0
 IsItem s item = IsHeld s.opening s.inbox item
 
