@@ -52,7 +52,7 @@ impl Places {
     /// The place of a token's entry in the ledger. Where none has the token, takes what the next entry takes, and keeps that one's place; where memory is refused,
     /// entries, places and pairs are as they were.
     ///
-    /// It goes one way through the map of fingerprints, by its entry. `entry` fails only at a key that isn't there, so an occupied one takes no memory. A vacant one
+    /// It goes one way through the map of fingerprints, by its entry. `entry` fails only at a key that isn't there, so an occupied one can't want memory. A vacant one
     /// has its room already: its insert comes last, and can't fail.
     pub fn find_or_keep(
         &mut self,
