@@ -1,4 +1,5 @@
 /* commit ADDRESS PORT VERSION KEY: puts a key in a transaction, all of it in one pipeline, and prints what became of each of its requests.
+ * VERSION is 44, 50 or 51, or 0 for the newest that the server takes.
  * cc -I include examples/commit.c LIBRARY -o commit, where LIBRARY is the libbolt.a that bench/build_c makes. */
 #include "bolt.h"
 #include <arpa/inet.h>
