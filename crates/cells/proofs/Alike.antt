@@ -10,12 +10,13 @@ use Rattle.cells.specs.contracts.cell.Cell.{the_type}
 use Rattle.cells.specs.declared.cell.Cell.{Cell, the_lemmas}
 use Rattle.cells.specs.Table.{relationship_tag}
 use Rattle.cells.specs.Same.{same_tree, same_trees}
-use Rattle.cells.specs.Shape.{shape, node_shape, unbound_shape, relationship_shape, entry, text_of, element_of, elements_of, path_of}
+use Rattle.cells.specs.Shape.{shape, node_shape, unbound_shape, relationship_shape, path_shape, entry, text_of, element_of, elements_of}
 use Rattle.cells.specs.declared.cell.ElementIds.{ElementIds}
 use Rattle.cells.specs.declared.cell.Node.{Node}
+use Rattle.cells.specs.declared.cell.Path.{Path, out-Path}
 use Rattle.cells.specs.declared.cell.Relationship.{Relationship}
 use Rattle.cells.specs.declared.cell.UnboundRelationship.{UnboundRelationship}
-use Rattle.cells.proofs.Views.{node-out, unbound-out, relationship-out}
+use Rattle.cells.proofs.Views.{node-out, unbound-out, relationship-out, path-out}
 use Rattle.cells.proofs.Walking.{SameMembers, SamePairs}
 
 and_true : (b : Bool) → (b && true) ≡ b
@@ -88,10 +89,14 @@ last_left i l p r x y z = ap (λ b. b && (l && (p && r))) x ∙ ap (λ b. b && (
 pub ints_same : (x y : ℤ) → x ≡ y → int_eq x y ≡ true
 ints_same x y h = (Decides-int_eq x y).1 h
 
-pub path_alike : (ns ms : List Node) (rs qs : List UnboundRelationship) (is js : List ℤ) → SameMembers node_shape ns ms ≡ true → SameMembers unbound_shape rs qs ≡ true
-    → same_tree (path_of (map node_shape ns) (map unbound_shape rs) is) (path_of (map node_shape ms) (map unbound_shape qs) js) ≡ pointwise int_eq is js
-path_alike ns ms rs qs is js x y =
-    ap (λ b. b && (SameMembers unbound_shape rs qs && (SameMembers int is js && true))) x ∙ ap (λ b. b && (SameMembers int is js && true)) y ∙ and_true (SameMembers int is js) ∙ numbers_same is js
+pub path_alike : (a b : Path) → same_tree (path_shape a) (path_shape b)
+    ≡ (SameMembers node_shape (out-Path a).nodes.items (out-Path b).nodes.items && (SameMembers unbound_shape (out-Path a).relationships.items (out-Path b).relationships.items && pointwise int_eq (out-Path a).indices.items (out-Path b).indices.items))
+path_alike a b =
+    ap₂ same_tree (path-out a) (path-out b)
+    ∙ ap (λ e. SameMembers node_shape (out-Path a).nodes.items (out-Path b).nodes.items && (SameMembers unbound_shape (out-Path a).relationships.items (out-Path b).relationships.items && e)) (and_true (SameMembers int (out-Path a).indices.items (out-Path b).indices.items) ∙ numbers_same (out-Path a).indices.items (out-Path b).indices.items)
+
+pub third_left : (n u r : Bool) → n ≡ true → u ≡ true → (n && (u && r)) ≡ r
+third_left n u r x y = ap (λ b. b && (u && r)) x ∙ ap (λ b. b && r) y
 
 -- the tag of a structure
 abbrev pub tag_in : Tree → Option ℕ

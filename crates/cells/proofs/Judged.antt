@@ -3,6 +3,7 @@ use Rattle.std.proofs.Common.{◌≡◌, ℕ, suc, ◌+◌, ℤ, pos, neg_ℤ, L
 use Rattle.packstream.specs.Tree.{Tree, int, list, dict, structure, Trees, no_trees, tree_then}
 use Rattle.packstream.specs.Good.{count}
 use Rattle.packstream.specs.View.{trees_of, entries_of}
+use Rattle.packstream.proofs.Sound.{count-trees_of}
 use Rattle.wire.specs.declared.Version.{Version}
 use Rattle.wire.specs.declared.Version.TheVariants.{V44, V50, V51}
 use Rattle.cells.specs.declared.cell.ElementIds.{ElementIds}
@@ -109,25 +110,13 @@ pub node_ok : (v : Version) (k m n : ℕ) (id : ℤ) (labels : List (String Glob
     → scan (fault_of_structure v) m (structures_under (entries_of (entries ps))) ≡ scan (fault_of_structure v) k (structures (node_parts id labels ps e))
 node_ok v k m n id labels ps e h o = typed_ok (fault_of_structure v) k m _ 0x4E (tree_then (int id) (tree_then (texts_of labels) (tree_then (dict (entries_of (entries ps))) (element_of e)))) _ o (node_judged v n id labels ps e h) (node_inner id labels ps e)
 
-pub node_err : (v : Version) (k n : ℕ) (b : Reason × ℕ) (id : ℤ) (labels : List (String Global)) (ps : List Pair) (e : Option (String Global)) → n ≡ 3 + count (element_of e) → Err b ≡ fault_or_rest (range_fault v 0x4E n (id ∷ [])) k (Ok (next k))
-    → Err b ≡ scan (fault_of_structure v) k (structures (node_parts id labels ps e))
-node_err v k n b id labels ps e h o = typed_err (fault_of_structure v) k b _ 0x4E (tree_then (int id) (tree_then (texts_of labels) (tree_then (dict (entries_of (entries ps))) (element_of e)))) o (node_judged v n id labels ps e h)
-
 pub unbound_ok : (v : Version) (k m n : ℕ) (id : ℤ) (kind : String Global) (ps : List Pair) (e : Option (String Global)) → n ≡ 3 + count (element_of e) → Ok m ≡ fault_or_rest (range_fault v 0x72 n (id ∷ [])) k (Ok (next k))
     → scan (fault_of_structure v) m (structures_under (entries_of (entries ps))) ≡ scan (fault_of_structure v) k (structures (unbound_parts id kind ps e))
 unbound_ok v k m n id kind ps e h o = typed_ok (fault_of_structure v) k m _ 0x72 (tree_then (int id) (tree_then (text_of kind) (tree_then (dict (entries_of (entries ps))) (element_of e)))) _ o (unbound_judged v n id kind ps e h) (unbound_inner id kind ps e)
 
-pub unbound_err : (v : Version) (k n : ℕ) (b : Reason × ℕ) (id : ℤ) (kind : String Global) (ps : List Pair) (e : Option (String Global)) → n ≡ 3 + count (element_of e) → Err b ≡ fault_or_rest (range_fault v 0x72 n (id ∷ [])) k (Ok (next k))
-    → Err b ≡ scan (fault_of_structure v) k (structures (unbound_parts id kind ps e))
-unbound_err v k n b id kind ps e h o = typed_err (fault_of_structure v) k b _ 0x72 (tree_then (int id) (tree_then (text_of kind) (tree_then (dict (entries_of (entries ps))) (element_of e)))) o (unbound_judged v n id kind ps e h)
-
 pub relationship_ok : (v : Version) (k m n : ℕ) (id s d : ℤ) (kind : String Global) (ps : List Pair) (e : Option ElementIds) → n ≡ 5 + count (elements_of e) → Ok m ≡ fault_or_rest (range_fault v 0x52 n (id ∷ s ∷ d ∷ [])) k (Ok (next k))
     → scan (fault_of_structure v) m (structures_under (entries_of (entries ps))) ≡ scan (fault_of_structure v) k (structures (relationship_parts id s d kind ps e))
 relationship_ok v k m n id s d kind ps e h o = typed_ok (fault_of_structure v) k m _ 0x52 (tree_then (int id) (tree_then (int s) (tree_then (int d) (tree_then (text_of kind) (tree_then (dict (entries_of (entries ps))) (elements_of e)))))) _ o (relationship_judged v n id s d kind ps e h) (relationship_inner id s d kind ps e)
-
-pub relationship_err : (v : Version) (k n : ℕ) (b : Reason × ℕ) (id s d : ℤ) (kind : String Global) (ps : List Pair) (e : Option ElementIds) → n ≡ 5 + count (elements_of e) → Err b ≡ fault_or_rest (range_fault v 0x52 n (id ∷ s ∷ d ∷ [])) k (Ok (next k))
-    → Err b ≡ scan (fault_of_structure v) k (structures (relationship_parts id s d kind ps e))
-relationship_err v k n b id s d kind ps e h o = typed_err (fault_of_structure v) k b _ 0x52 (tree_then (int id) (tree_then (int s) (tree_then (int d) (tree_then (text_of kind) (tree_then (dict (entries_of (entries ps))) (elements_of e)))))) o (relationship_judged v n id s d kind ps e h)
 
 path_inner : (ns rs : List Tree) (is : List ℤ) → structures_in (tree_then (list (trees_of ns)) (tree_then (list (trees_of rs)) (tree_then (numbers_of is) no_trees))) ≡ structures_in (trees_of ns) ++ structures_in (trees_of rs)
 path_inner ns rs is = ap (λ (x : List (ℕ × Trees)). structures_in (trees_of ns) ++ (structures_in (trees_of rs) ++ (x ++ []))) (numbers_plain is) ∙ ap (λ (x : List (ℕ × Trees)). structures_in (trees_of ns) ++ x) (no_more (structures_in (trees_of rs)))
@@ -136,14 +125,10 @@ pub mapped : {A B : Type 0} (f : A → B) (n : ℕ) (xs : List A) → n ≡ leng
 mapped f n [] h = h
 mapped f n (x ∷ xs) h = h ∙ ap suc (mapped f (length xs) xs refl)
 
-counted : (ts : List Tree) → length ts ≡ count (trees_of ts)
-counted [] = refl
-counted (t ∷ ts) = ap suc (counted ts)
-
 path_judged : (v : Version) (ns rs : List Tree) (is : List ℤ) → walk_fault (length ns) (length rs) is ≡ fault_of_structure v 0x50 (tree_then (list (trees_of ns)) (tree_then (list (trees_of rs)) (tree_then (numbers_of is) no_trees)))
-path_judged V44 ns rs is = rw (counted ns, counted rs) refl
-path_judged V50 ns rs is = rw (counted ns, counted rs) refl
-path_judged V51 ns rs is = rw (counted ns, counted rs) refl
+path_judged V44 ns rs is = rw (count-trees_of ns, count-trees_of rs) refl
+path_judged V50 ns rs is = rw (count-trees_of ns, count-trees_of rs) refl
+path_judged V51 ns rs is = rw (count-trees_of ns, count-trees_of rs) refl
 
 pub path_ok : (v : Version) (k m n l : ℕ) (ns rs : List Tree) (is : List ℤ) → n ≡ length ns → l ≡ length rs → Ok m ≡ fault_or_rest (walk_fault n l is) k (Ok (next k))
     → scan (fault_of_structure v) m (structures_in (trees_of ns) ++ structures_in (trees_of rs)) ≡ scan (fault_of_structure v) k (structures (path_of ns rs is))

@@ -5,14 +5,15 @@ use Rattle.packstream.specs.Tree.{Tree, tree_then, int, dict}
 use Rattle.packstream.specs.View.{trees_of, entries_of}
 use Rattle.cells.specs.declared.cell.Cell.{Cell}
 use Rattle.cells.specs.declared.cell.Node.{Node}
+use Rattle.cells.specs.declared.cell.Path.{Path}
 use Rattle.cells.specs.declared.cell.Relationship.{Relationship}
 use Rattle.cells.specs.declared.cell.UnboundRelationship.{UnboundRelationship}
 use Rattle.cells.specs.declared.cell.ElementIds.{ElementIds}
-use Rattle.cells.specs.declared.cell.Cell.TheOpen.{Cell-F, Node-F, Relationship-F, UnboundRelationship-F}
-use Rattle.cells.specs.declared.cell.Cell.TheFolds.{ind-Cell, map-Cell, map-Node, map-Relationship, map-UnboundRelationship, fold-roll-Cell, fold-roll-Node, fold-roll-Relationship, fold-roll-UnboundRelationship}
+use Rattle.cells.specs.declared.cell.Cell.TheOpen.{Cell-F, Node-F, Path-F, Relationship-F, UnboundRelationship-F}
+use Rattle.cells.specs.declared.cell.Cell.TheFolds.{ind-Cell, map-Cell, map-Node, map-Path, map-Relationship, map-UnboundRelationship, fold-roll-Cell, fold-roll-Node, fold-roll-Path, fold-roll-Relationship, fold-roll-UnboundRelationship}
 use Rattle.cells.specs.declared.table.Field.TheVariants.{Text as TextField}
 use Rattle.cells.specs.Faults.{is_text, is_int, has_tag, each, are_kinds}
-use Rattle.cells.specs.Shape.{shape, shapes, entries, node_shape, unbound_shape, relationship_shape, cell_step, node_step, relationship_step, unbound_step, text_of, texts_of, element_of, elements_of}
+use Rattle.cells.specs.Shape.{shape, shapes, entries, node_shape, unbound_shape, relationship_shape, path_shape, cell_step, node_step, path_step, relationship_step, unbound_step, text_of, texts_of, element_of, elements_of}
 use Rattle.cells.specs.Cells.{is_typed, are_typed, have_typed}
 use Rattle.cells.proofs.Both.{both_true}
 use Rattle.cells.proofs.Views.{node-out, unbound-out}
@@ -25,6 +26,9 @@ TypedNode = (n : Node) × (is_typed (node_shape n) ≡ true)
 
 abbrev TypedRelationship : Type 0
 TypedRelationship = (r : Relationship) × (is_typed (relationship_shape r) ≡ true)
+
+abbrev TypedPath : Type 0
+TypedPath = (p : Path) × (is_typed (path_shape p) ≡ true)
 
 abbrev TypedUnbound : Type 0
 TypedUnbound = (r : UnboundRelationship) × (is_typed (unbound_shape r) ≡ true)
@@ -106,13 +110,13 @@ relationship_count : (a b d f g : Tree) (e : Option ElementIds) → ((count (tre
 relationship_count a b d f g None = refl
 relationship_count a b d f g (Some s) = refl
 
-abbrev cell_of : Cell-F TypedCell TypedNode TypedRelationship TypedUnbound → Cell-F Cell Node Relationship UnboundRelationship
-cell_of y = map-Cell TypedCell TypedNode TypedRelationship TypedUnbound Cell Node Relationship UnboundRelationship (λ x. x.0) (λ x. x.0) (λ x. x.0) (λ x. x.0) y
+abbrev cell_of : Cell-F TypedCell TypedNode TypedPath TypedRelationship TypedUnbound → Cell-F Cell Node Path Relationship UnboundRelationship
+cell_of y = map-Cell TypedCell TypedNode TypedPath TypedRelationship TypedUnbound Cell Node Path Relationship UnboundRelationship (λ x. x.0) (λ x. x.0) (λ x. x.0) (λ x. x.0) (λ x. x.0) y
 
-abbrev seen : Cell-F Cell Node Relationship UnboundRelationship → Tree
-seen x = cell_step (map-Cell Cell Node Relationship UnboundRelationship Tree Tree Tree Tree shape node_shape relationship_shape unbound_shape x)
+abbrev seen : Cell-F Cell Node Path Relationship UnboundRelationship → Tree
+seen x = cell_step (map-Cell Cell Node Path Relationship UnboundRelationship Tree Tree Tree Tree Tree shape node_shape path_shape relationship_shape unbound_shape x)
 
-cell_typed : (y : Cell-F TypedCell TypedNode TypedRelationship TypedUnbound) → is_typed (seen (cell_of y)) ≡ true
+cell_typed : (y : Cell-F TypedCell TypedNode TypedPath TypedRelationship TypedUnbound) → is_typed (seen (cell_of y)) ≡ true
 cell_typed Cell-F.Null = refl
 cell_typed (Cell-F.Bool b) = refl
 cell_typed (Cell-F.Int z) = refl
@@ -121,10 +125,10 @@ cell_typed (Cell-F.Bytes v) = refl
 cell_typed (Cell-F.Text s) = refl
 cell_typed (Cell-F.List v) = cells_typed v.items
 cell_typed (Cell-F.Dict v) = entries_typed v.items
-cell_typed (Cell-F.Node n) = n.1
-cell_typed (Cell-F.Relationship r) = r.1
-cell_typed (Cell-F.UnboundRelationship r) = r.1
-cell_typed (Cell-F.Path ns rs is) = rw (nodes_kind ns.items, unbounds_kind rs.items, numbers_kind is.items, nodes_typed ns.items, unbounds_typed rs.items, numbers_typed is.items) refl
+cell_typed (Cell-F.Node n) = n.value.1
+cell_typed (Cell-F.Relationship r) = r.value.1
+cell_typed (Cell-F.UnboundRelationship r) = r.value.1
+cell_typed (Cell-F.Path p) = p.value.1
 cell_typed (Cell-F.Date d) = refl
 cell_typed (Cell-F.Time n o) = refl
 cell_typed (Cell-F.LocalTime n) = refl
@@ -136,24 +140,29 @@ cell_typed (Cell-F.Duration m d s n) = refl
 cell_typed (Cell-F.Point2D i x y) = refl
 cell_typed (Cell-F.Point3D i x y z) = refl
 
-node_typed : (y : Node-F TypedCell TypedNode TypedRelationship TypedUnbound)
-    → is_typed (node_step (map-Node Cell Node Relationship UnboundRelationship Tree Tree Tree Tree shape node_shape relationship_shape unbound_shape (map-Node TypedCell TypedNode TypedRelationship TypedUnbound Cell Node Relationship UnboundRelationship (λ x. x.0) (λ x. x.0) (λ x. x.0) (λ x. x.0) y))) ≡ true
+node_typed : (y : Node-F TypedCell TypedNode TypedPath TypedRelationship TypedUnbound)
+    → is_typed (node_step (map-Node Cell Node Path Relationship UnboundRelationship Tree Tree Tree Tree Tree shape node_shape path_shape relationship_shape unbound_shape (map-Node TypedCell TypedNode TypedPath TypedRelationship TypedUnbound Cell Node Path Relationship UnboundRelationship (λ x. x.0) (λ x. x.0) (λ x. x.0) (λ x. x.0) (λ x. x.0) y))) ≡ true
 node_typed y = rw (node_count (int y.id) (texts_of y.labels.items) (properties_of y.properties.items) y.element_id, texts_kind y.labels.items, texts_typed y.labels.items, entries_typed y.properties.items, element_kind y.element_id, element_typed y.element_id) refl
 
-unbound_typed : (y : UnboundRelationship-F TypedCell TypedNode TypedRelationship TypedUnbound)
-    → is_typed (unbound_step (map-UnboundRelationship Cell Node Relationship UnboundRelationship Tree Tree Tree Tree shape node_shape relationship_shape unbound_shape (map-UnboundRelationship TypedCell TypedNode TypedRelationship TypedUnbound Cell Node Relationship UnboundRelationship (λ x. x.0) (λ x. x.0) (λ x. x.0) (λ x. x.0) y))) ≡ true
+path_typed : (y : Path-F TypedCell TypedNode TypedPath TypedRelationship TypedUnbound)
+    → is_typed (path_step (map-Path Cell Node Path Relationship UnboundRelationship Tree Tree Tree Tree Tree shape node_shape path_shape relationship_shape unbound_shape (map-Path TypedCell TypedNode TypedPath TypedRelationship TypedUnbound Cell Node Path Relationship UnboundRelationship (λ x. x.0) (λ x. x.0) (λ x. x.0) (λ x. x.0) (λ x. x.0) y))) ≡ true
+path_typed y = rw (nodes_kind y.nodes.items, unbounds_kind y.relationships.items, numbers_kind y.indices.items, nodes_typed y.nodes.items, unbounds_typed y.relationships.items, numbers_typed y.indices.items) refl
+
+unbound_typed : (y : UnboundRelationship-F TypedCell TypedNode TypedPath TypedRelationship TypedUnbound)
+    → is_typed (unbound_step (map-UnboundRelationship Cell Node Path Relationship UnboundRelationship Tree Tree Tree Tree Tree shape node_shape path_shape relationship_shape unbound_shape (map-UnboundRelationship TypedCell TypedNode TypedPath TypedRelationship TypedUnbound Cell Node Path Relationship UnboundRelationship (λ x. x.0) (λ x. x.0) (λ x. x.0) (λ x. x.0) (λ x. x.0) y))) ≡ true
 unbound_typed y = rw (node_count (int y.id) (text_of y.kind) (properties_of y.properties.items) y.element_id, entries_typed y.properties.items, element_kind y.element_id, element_typed y.element_id) refl
 
-relationship_typed : (y : Relationship-F TypedCell TypedNode TypedRelationship TypedUnbound)
-    → is_typed (relationship_step (map-Relationship Cell Node Relationship UnboundRelationship Tree Tree Tree Tree shape node_shape relationship_shape unbound_shape (map-Relationship TypedCell TypedNode TypedRelationship TypedUnbound Cell Node Relationship UnboundRelationship (λ x. x.0) (λ x. x.0) (λ x. x.0) (λ x. x.0) y))) ≡ true
+relationship_typed : (y : Relationship-F TypedCell TypedNode TypedPath TypedRelationship TypedUnbound)
+    → is_typed (relationship_step (map-Relationship Cell Node Path Relationship UnboundRelationship Tree Tree Tree Tree Tree shape node_shape path_shape relationship_shape unbound_shape (map-Relationship TypedCell TypedNode TypedPath TypedRelationship TypedUnbound Cell Node Path Relationship UnboundRelationship (λ x. x.0) (λ x. x.0) (λ x. x.0) (λ x. x.0) (λ x. x.0) y))) ≡ true
 relationship_typed y = rw (relationship_count (int y.id) (int y.start) (int y.end) (text_of y.kind) (properties_of y.properties.items) y.element_ids, entries_typed y.properties.items, elements_kind y.element_ids, elements_typed y.element_ids) refl
 
 pub typed_shape : (c : Cell) → is_typed (shape c) ≡ true
-typed_shape = ind-Cell (λ c. is_typed (shape c) ≡ true) (λ n. is_typed (node_shape n) ≡ true) (λ r. is_typed (relationship_shape r) ≡ true) (λ r. is_typed (unbound_shape r) ≡ true)
-    (λ x y e. ap is_typed (fold-roll-Cell Tree Tree Tree Tree cell_step node_step relationship_step unbound_step x) ∙ subst (λ z. is_typed (seen z) ≡ true) e (cell_typed y))
-    (λ x y e. ap is_typed (fold-roll-Node Tree Tree Tree Tree cell_step node_step relationship_step unbound_step x) ∙ subst (λ z. is_typed (node_step (map-Node Cell Node Relationship UnboundRelationship Tree Tree Tree Tree shape node_shape relationship_shape unbound_shape z)) ≡ true) e (node_typed y))
-    (λ x y e. ap is_typed (fold-roll-Relationship Tree Tree Tree Tree cell_step node_step relationship_step unbound_step x) ∙ subst (λ z. is_typed (relationship_step (map-Relationship Cell Node Relationship UnboundRelationship Tree Tree Tree Tree shape node_shape relationship_shape unbound_shape z)) ≡ true) e (relationship_typed y))
-    (λ x y e. ap is_typed (fold-roll-UnboundRelationship Tree Tree Tree Tree cell_step node_step relationship_step unbound_step x) ∙ subst (λ z. is_typed (unbound_step (map-UnboundRelationship Cell Node Relationship UnboundRelationship Tree Tree Tree Tree shape node_shape relationship_shape unbound_shape z)) ≡ true) e (unbound_typed y))
+typed_shape = ind-Cell (λ c. is_typed (shape c) ≡ true) (λ n. is_typed (node_shape n) ≡ true) (λ p. is_typed (path_shape p) ≡ true) (λ r. is_typed (relationship_shape r) ≡ true) (λ r. is_typed (unbound_shape r) ≡ true)
+    (λ x y e. ap is_typed (fold-roll-Cell Tree Tree Tree Tree Tree cell_step node_step path_step relationship_step unbound_step x) ∙ subst (λ z. is_typed (seen z) ≡ true) e (cell_typed y))
+    (λ x y e. ap is_typed (fold-roll-Node Tree Tree Tree Tree Tree cell_step node_step path_step relationship_step unbound_step x) ∙ subst (λ z. is_typed (node_step (map-Node Cell Node Path Relationship UnboundRelationship Tree Tree Tree Tree Tree shape node_shape path_shape relationship_shape unbound_shape z)) ≡ true) e (node_typed y))
+    (λ x y e. ap is_typed (fold-roll-Path Tree Tree Tree Tree Tree cell_step node_step path_step relationship_step unbound_step x) ∙ subst (λ z. is_typed (path_step (map-Path Cell Node Path Relationship UnboundRelationship Tree Tree Tree Tree Tree shape node_shape path_shape relationship_shape unbound_shape z)) ≡ true) e (path_typed y))
+    (λ x y e. ap is_typed (fold-roll-Relationship Tree Tree Tree Tree Tree cell_step node_step path_step relationship_step unbound_step x) ∙ subst (λ z. is_typed (relationship_step (map-Relationship Cell Node Path Relationship UnboundRelationship Tree Tree Tree Tree Tree shape node_shape path_shape relationship_shape unbound_shape z)) ≡ true) e (relationship_typed y))
+    (λ x y e. ap is_typed (fold-roll-UnboundRelationship Tree Tree Tree Tree Tree cell_step node_step path_step relationship_step unbound_step x) ∙ subst (λ z. is_typed (unbound_step (map-UnboundRelationship Cell Node Path Relationship UnboundRelationship Tree Tree Tree Tree Tree shape node_shape path_shape relationship_shape unbound_shape z)) ≡ true) e (unbound_typed y))
 
 -- so are cells on their own, and entries
 pub shapes_typed : (cs : List Cell) → are_typed (trees_of (shapes cs)) ≡ true

@@ -2,13 +2,14 @@
 use Rattle.std.proofs.Common.{◌≡◌, ℕ, ℤ, List, [], ◌∷◌, map, String, Vec, Global, string_bytes, refl, sym, ap, ◌∙◌, rules, Option}
 use Rattle.packstream.specs.Tree.{Tree, int, float, list, dict, structure, no_trees, tree_then}
 use Rattle.packstream.specs.View.{trees_of, entries_of}
-use Rattle.cells.specs.Shape.{shape, node_shape, unbound_shape, relationship_shape, shapes, entry, entries, text_of, texts_of, element_of, elements_of, path_of}
+use Rattle.cells.specs.Shape.{shape, node_shape, unbound_shape, relationship_shape, path_shape, shapes, entry, entries, text_of, texts_of, element_of, elements_of, path_of}
 use Rattle.cells.specs.declared.cell.ElementIds.{ElementIds}
-use Rattle.cells.specs.declared.cell.Cell.{Cell, List as ListCase, Path, Dict as DictCase, Date, Time, LocalTime, LocalDateTime, DateTime, ZonedLocal, ZonedUtc, Duration, Point2D, Point3D, the_lemmas}
-use Rattle.cells.specs.declared.cell.Cell.TheViews.{roll-Node, roll-UnboundRelationship, roll-Relationship}
-use Rattle.cells.specs.declared.cell.Cell.TheOpen.{Node-F, UnboundRelationship-F, Relationship-F}
+use Rattle.cells.specs.declared.cell.Cell.{Cell, List as ListCase, Dict as DictCase, Date, Time, LocalTime, LocalDateTime, DateTime, ZonedLocal, ZonedUtc, Duration, Point2D, Point3D, the_lemmas}
+use Rattle.cells.specs.declared.cell.Cell.TheViews.{roll-Node, roll-UnboundRelationship, roll-Relationship, roll-Path, roll-out-Path}
+use Rattle.cells.specs.declared.cell.Cell.TheOpen.{Node-F, UnboundRelationship-F, Relationship-F, Path-F}
 use Rattle.cells.specs.declared.cell.UnboundRelationship.{UnboundRelationship}
 use Rattle.cells.specs.declared.cell.Relationship.{Relationship}
+use Rattle.cells.specs.declared.cell.Path.{Path, out-Path}
 use Rattle.cells.specs.declared.cell.Node.{Node}
 
 abbrev pub Pair : Type 0
@@ -35,7 +36,7 @@ node-out n =
     let one : node_shape n ≡ structure 0x4E (tree_then (int n.id) (tree_then (texts_of n.labels.items) (tree_then (dict (entries_of (map named (map seen n.properties.items)))) (element_of n.element_id)))) = search (rules, the_lemmas) in
     one ∙ ap (λ es. structure 0x4E (tree_then (int n.id) (tree_then (texts_of n.labels.items) (tree_then (dict (entries_of (es))) (element_of n.element_id))))) (entries_in_two n.properties.items)
 
-pub node-roll : (n : Node-F Cell Node Relationship UnboundRelationship) → node_shape (roll-Node n) ≡ node_parts n.id n.labels.items n.properties.items n.element_id
+pub node-roll : (n : Node-F Cell Node Path Relationship UnboundRelationship) → node_shape (roll-Node n) ≡ node_parts n.id n.labels.items n.properties.items n.element_id
 node-roll n =
     let one : node_shape (roll-Node n) ≡ structure 0x4E (tree_then (int n.id) (tree_then (texts_of n.labels.items) (tree_then (dict (entries_of (map named (map seen n.properties.items)))) (element_of n.element_id)))) = search (rules, the_lemmas) in
     one ∙ ap (λ es. structure 0x4E (tree_then (int n.id) (tree_then (texts_of n.labels.items) (tree_then (dict (entries_of (es))) (element_of n.element_id))))) (entries_in_two n.properties.items)
@@ -48,7 +49,7 @@ unbound-out n =
     let one : unbound_shape n ≡ structure 0x72 (tree_then (int n.id) (tree_then (text_of n.kind) (tree_then (dict (entries_of (map named (map seen n.properties.items)))) (element_of n.element_id)))) = search (rules, the_lemmas) in
     one ∙ ap (λ es. structure 0x72 (tree_then (int n.id) (tree_then (text_of n.kind) (tree_then (dict (entries_of (es))) (element_of n.element_id))))) (entries_in_two n.properties.items)
 
-pub unbound-roll : (n : UnboundRelationship-F Cell Node Relationship UnboundRelationship) → unbound_shape (roll-UnboundRelationship n) ≡ unbound_parts n.id n.kind n.properties.items n.element_id
+pub unbound-roll : (n : UnboundRelationship-F Cell Node Path Relationship UnboundRelationship) → unbound_shape (roll-UnboundRelationship n) ≡ unbound_parts n.id n.kind n.properties.items n.element_id
 unbound-roll n =
     let one : unbound_shape (roll-UnboundRelationship n) ≡ structure 0x72 (tree_then (int n.id) (tree_then (text_of n.kind) (tree_then (dict (entries_of (map named (map seen n.properties.items)))) (element_of n.element_id)))) = search (rules, the_lemmas) in
     one ∙ ap (λ es. structure 0x72 (tree_then (int n.id) (tree_then (text_of n.kind) (tree_then (dict (entries_of (es))) (element_of n.element_id))))) (entries_in_two n.properties.items)
@@ -61,25 +62,36 @@ relationship-out n =
     let one : relationship_shape n ≡ structure 0x52 (tree_then (int n.id) (tree_then (int n.start) (tree_then (int n.end) (tree_then (text_of n.kind) (tree_then (dict (entries_of (map named (map seen n.properties.items)))) (elements_of n.element_ids)))))) = search (rules, the_lemmas) in
     one ∙ ap (λ es. structure 0x52 (tree_then (int n.id) (tree_then (int n.start) (tree_then (int n.end) (tree_then (text_of n.kind) (tree_then (dict (entries_of (es))) (elements_of n.element_ids))))))) (entries_in_two n.properties.items)
 
-pub relationship-roll : (n : Relationship-F Cell Node Relationship UnboundRelationship) → relationship_shape (roll-Relationship n) ≡ relationship_parts n.id n.start n.end n.kind n.properties.items n.element_ids
+pub relationship-roll : (n : Relationship-F Cell Node Path Relationship UnboundRelationship) → relationship_shape (roll-Relationship n) ≡ relationship_parts n.id n.start n.end n.kind n.properties.items n.element_ids
 relationship-roll n =
     let one : relationship_shape (roll-Relationship n) ≡ structure 0x52 (tree_then (int n.id) (tree_then (int n.start) (tree_then (int n.end) (tree_then (text_of n.kind) (tree_then (dict (entries_of (map named (map seen n.properties.items)))) (elements_of n.element_ids)))))) = search (rules, the_lemmas) in
     one ∙ ap (λ es. structure 0x52 (tree_then (int n.id) (tree_then (int n.start) (tree_then (int n.end) (tree_then (text_of n.kind) (tree_then (dict (entries_of (es))) (elements_of n.element_ids))))))) (entries_in_two n.properties.items)
 
-pub same_node : (x : Node-F Cell Node Relationship UnboundRelationship) (n : Node) → x.id ≡ n.id → map text_of x.labels.items ≡ map text_of n.labels.items → entries x.properties.items ≡ entries n.properties.items → element_of x.element_id ≡ element_of n.element_id → node_shape (roll-Node x) ≡ node_shape n
+pub path-roll : (p : Path-F Cell Node Path Relationship UnboundRelationship) → path_shape (roll-Path p) ≡ path_of (map node_shape p.nodes.items) (map unbound_shape p.relationships.items) p.indices.items
+path-roll p = search (rules, the_lemmas)
+
+pub path-out : (p : Path) → path_shape p ≡ path_of (map node_shape (out-Path p).nodes.items) (map unbound_shape (out-Path p).relationships.items) (out-Path p).indices.items
+path-out p = ap path_shape (sym (roll-out-Path p)) ∙ path-roll (out-Path p)
+
+pub same_node : (x : Node-F Cell Node Path Relationship UnboundRelationship) (n : Node) → x.id ≡ n.id → map text_of x.labels.items ≡ map text_of n.labels.items → entries x.properties.items ≡ entries n.properties.items → element_of x.element_id ≡ element_of n.element_id → node_shape (roll-Node x) ≡ node_shape n
 same_node x n i l p e =
     let m : node_parts x.id x.labels.items x.properties.items x.element_id ≡ node_parts n.id n.labels.items n.properties.items n.element_id = cc in
     node-roll x ∙ m ∙ sym (node-out n)
 
-pub same_unbound : (x : UnboundRelationship-F Cell Node Relationship UnboundRelationship) (n : UnboundRelationship) → x.id ≡ n.id → string_bytes x.kind ≡ string_bytes n.kind → entries x.properties.items ≡ entries n.properties.items → element_of x.element_id ≡ element_of n.element_id → unbound_shape (roll-UnboundRelationship x) ≡ unbound_shape n
+pub same_unbound : (x : UnboundRelationship-F Cell Node Path Relationship UnboundRelationship) (n : UnboundRelationship) → x.id ≡ n.id → string_bytes x.kind ≡ string_bytes n.kind → entries x.properties.items ≡ entries n.properties.items → element_of x.element_id ≡ element_of n.element_id → unbound_shape (roll-UnboundRelationship x) ≡ unbound_shape n
 same_unbound x n i k p e =
     let m : unbound_parts x.id x.kind x.properties.items x.element_id ≡ unbound_parts n.id n.kind n.properties.items n.element_id = cc in
     unbound-roll x ∙ m ∙ sym (unbound-out n)
 
-pub same_relationship : (x : Relationship-F Cell Node Relationship UnboundRelationship) (n : Relationship) → x.id ≡ n.id → x.start ≡ n.start → x.end ≡ n.end → string_bytes x.kind ≡ string_bytes n.kind → entries x.properties.items ≡ entries n.properties.items → elements_of x.element_ids ≡ elements_of n.element_ids → relationship_shape (roll-Relationship x) ≡ relationship_shape n
+pub same_relationship : (x : Relationship-F Cell Node Path Relationship UnboundRelationship) (n : Relationship) → x.id ≡ n.id → x.start ≡ n.start → x.end ≡ n.end → string_bytes x.kind ≡ string_bytes n.kind → entries x.properties.items ≡ entries n.properties.items → elements_of x.element_ids ≡ elements_of n.element_ids → relationship_shape (roll-Relationship x) ≡ relationship_shape n
 same_relationship x n i s d k p e =
     let m : relationship_parts x.id x.start x.end x.kind x.properties.items x.element_ids ≡ relationship_parts n.id n.start n.end n.kind n.properties.items n.element_ids = cc in
     relationship-roll x ∙ m ∙ sym (relationship-out n)
+
+pub same_path : (x : Path-F Cell Node Path Relationship UnboundRelationship) (p : Path) → map node_shape x.nodes.items ≡ map node_shape (out-Path p).nodes.items → map unbound_shape x.relationships.items ≡ map unbound_shape (out-Path p).relationships.items → x.indices.items ≡ (out-Path p).indices.items → path_shape (roll-Path x) ≡ path_shape p
+same_path x p n r i =
+    let m : path_of (map node_shape x.nodes.items) (map unbound_shape x.relationships.items) x.indices.items ≡ path_of (map node_shape (out-Path p).nodes.items) (map unbound_shape (out-Path p).relationships.items) (out-Path p).indices.items = cc in
+    path-roll x ∙ m ∙ sym (path-out p)
 
 pub shape-Date : (days : ℤ) → shape (Date days) ≡ structure 0x44 (tree_then (int days) no_trees)
 shape-Date days = search (rules, the_lemmas)
@@ -113,6 +125,3 @@ shape-Point3D srid x y z = search (rules, the_lemmas)
 
 pub shape-List : (v : Vec Cell Global) → shape (ListCase v) ≡ list (trees_of (shapes v.items))
 shape-List v = search (rules, the_lemmas)
-
-pub shape-Path : (ns : Vec Node Global) (ls : Vec UnboundRelationship Global) (is : Vec ℤ Global) → shape (Path ns ls is) ≡ path_of (map node_shape ns.items) (map unbound_shape ls.items) is.items
-shape-Path ns ls is = search (rules, the_lemmas)

@@ -4,11 +4,12 @@ use Rattle.std.specs.declared.alloc.Global.{Global}
 use Rattle.packstream.specs.Tree.{Tree, null, boolean, int, float, byte_string, text, list, dict, structure, Trees, no_trees, tree_then}
 use Rattle.packstream.specs.View.{trees_of, entries_of}
 use Rattle.cells.specs.declared.cell.Cell.{Cell}
-use Rattle.cells.specs.declared.cell.Cell.TheOpen.{Cell-F, Node-F, UnboundRelationship-F, Relationship-F}
-use Rattle.cells.specs.declared.cell.Cell.TheFolds.{fold-Cell, fold-Node, fold-UnboundRelationship, fold-Relationship}
+use Rattle.cells.specs.declared.cell.Cell.TheOpen.{Cell-F, Node-F, UnboundRelationship-F, Relationship-F, Path-F}
+use Rattle.cells.specs.declared.cell.Cell.TheFolds.{fold-Cell, fold-Node, fold-UnboundRelationship, fold-Relationship, fold-Path}
 use Rattle.cells.specs.declared.cell.Node.{Node}
 use Rattle.cells.specs.declared.cell.UnboundRelationship.{UnboundRelationship}
 use Rattle.cells.specs.declared.cell.Relationship.{Relationship}
+use Rattle.cells.specs.declared.cell.Path.{Path}
 use Rattle.cells.specs.declared.cell.ElementIds.{ElementIds}
 use Rattle.cells.specs.Table.{node_tag, relationship_tag, unbound_tag, path_tag, date_tag, time_tag, local_time_tag, local_date_time_tag, date_time_tag, legacy_zoned_tag, zoned_tag, duration_tag, point_2d_tag, point_3d_tag}
 
@@ -40,21 +41,21 @@ elements_of (Some e) = tree_then (text_of e.own)
     (tree_then (text_of e.start) (tree_then (text_of e.end) no_trees))
 
 -- a node, a relationship in a path, a relationship, and a path
-abbrev pub node_step : Node-F Tree Tree Tree Tree → Tree
+abbrev pub node_step : Node-F Tree Tree Tree Tree Tree → Tree
 node_step n =
     structure node_tag (tree_then (int n.id)
     (tree_then (texts_of n.labels.items)
     (tree_then (dict_of n.properties.items) (element_of n.element_id))))
 
 -- a relationship in a path: id, type, properties, and the element id where it is there
-abbrev pub unbound_step : UnboundRelationship-F Tree Tree Tree Tree → Tree
+abbrev pub unbound_step : UnboundRelationship-F Tree Tree Tree Tree Tree → Tree
 unbound_step r =
     structure unbound_tag (tree_then (int r.id)
     (tree_then (text_of r.kind)
     (tree_then (dict_of r.properties.items) (element_of r.element_id))))
 
 -- a relationship: id, those of its ends, type, properties, and the element ids where they are there
-abbrev pub relationship_step : Relationship-F Tree Tree Tree Tree → Tree
+abbrev pub relationship_step : Relationship-F Tree Tree Tree Tree Tree → Tree
 relationship_step r =
     structure relationship_tag
     (tree_then (int r.id) (tree_then (int r.start)
@@ -68,8 +69,12 @@ path_of nodes relationships indices =
     (tree_then (list (trees_of relationships))
     (tree_then (numbers_of indices) no_trees)))
 
+-- the same of a path whose parts are already seen as their trees
+abbrev pub path_step : Path-F Tree Tree Tree Tree Tree → Tree
+path_step p = path_of p.nodes.items p.relationships.items p.indices.items
+
 -- one level, with each cell inside already seen as its tree
-abbrev pub cell_step : Cell-F Tree Tree Tree Tree → Tree
+abbrev pub cell_step : Cell-F Tree Tree Tree Tree Tree → Tree
 cell_step Cell-F.Null = null
 cell_step (Cell-F.Bool b) = boolean b
 cell_step (Cell-F.Int z) = int z
@@ -78,10 +83,10 @@ cell_step (Cell-F.Bytes v) = byte_string v.items
 cell_step (Cell-F.Text s) = text_of s
 cell_step (Cell-F.List v) = list (trees_of v.items)
 cell_step (Cell-F.Dict v) = dict_of v.items
-cell_step (Cell-F.Node n) = n
-cell_step (Cell-F.Relationship r) = r
-cell_step (Cell-F.UnboundRelationship r) = r
-cell_step (Cell-F.Path ns rs is) = path_of ns.items rs.items is.items
+cell_step (Cell-F.Node n) = n.value
+cell_step (Cell-F.Relationship r) = r.value
+cell_step (Cell-F.UnboundRelationship r) = r.value
+cell_step (Cell-F.Path p) = p.value
 cell_step (Cell-F.Date d) = structure date_tag (tree_then (int d) no_trees)
 cell_step (Cell-F.Time n o) = structure time_tag (tree_then (int n) (tree_then (int o) no_trees))
 cell_step (Cell-F.LocalTime n) = structure local_time_tag (tree_then (int n) no_trees)
@@ -105,20 +110,26 @@ cell_step (Cell-F.Point3D i x y z) =
 
 -- a cell, and what stands in it, as trees
 abbrev pub shape : Cell → Tree
-shape = fold-Cell Tree Tree Tree Tree cell_step node_step relationship_step unbound_step
+shape = fold-Cell Tree Tree Tree Tree Tree cell_step node_step path_step relationship_step unbound_step
 
 -- a node, and what stands in it, as a tree
 abbrev pub node_shape : Node → Tree
-node_shape = fold-Node Tree Tree Tree Tree cell_step node_step relationship_step unbound_step
+node_shape = fold-Node Tree Tree Tree Tree Tree cell_step node_step path_step relationship_step
+    unbound_step
 
 -- a relationship in a path, and what stands in it, as a tree
 abbrev pub unbound_shape : UnboundRelationship → Tree
-unbound_shape = fold-UnboundRelationship Tree Tree Tree Tree cell_step node_step relationship_step
-    unbound_step
+unbound_shape = fold-UnboundRelationship Tree Tree Tree Tree Tree cell_step node_step
+    path_step relationship_step unbound_step
 
 -- a relationship, and what stands in it, as a tree
 abbrev pub relationship_shape : Relationship → Tree
-relationship_shape = fold-Relationship Tree Tree Tree Tree cell_step node_step relationship_step
+relationship_shape = fold-Relationship Tree Tree Tree Tree Tree cell_step node_step
+    path_step relationship_step unbound_step
+
+-- a path, and what stands in it, as a tree
+abbrev pub path_shape : Path → Tree
+path_shape = fold-Path Tree Tree Tree Tree Tree cell_step node_step path_step relationship_step
     unbound_step
 
 -- cells as trees, in order

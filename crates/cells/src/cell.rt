@@ -24,16 +24,10 @@ pub enum Cell {
     List(Vec<Cell>),
     /// The entries in their order.
     Dict(Vec<(String, Cell)>),
-    Node(Node),
-    Relationship(Relationship),
-    UnboundRelationship(UnboundRelationship),
-    /// A walk from node 0. `indices` has in turn the number of a relationship, from 1, negative where it is
-    /// walked against its direction, and the number of the node that it leads to, from 0.
-    Path {
-        nodes: Vec<Node>,
-        relationships: Vec<UnboundRelationship>,
-        indices: Vec<i64>,
-    },
+    Node(Box<Node>),
+    Relationship(Box<Relationship>),
+    UnboundRelationship(Box<UnboundRelationship>),
+    Path(Box<Path>),
     /// Days since 1970-01-01.
     Date {
         days: i64,
@@ -121,6 +115,16 @@ pub struct UnboundRelationship {
     pub kind: String,
     pub properties: Vec<(String, Cell)>,
     pub element_id: Option<String>,
+}
+
+/// A walk from node 0. `indices` has in turn the number of a relationship, from 1, negative where it is
+/// walked against its direction, and the number of the node that it leads to, from 0.
+#[derive(Debug, Drop)]
+#[cycle(cells)]
+pub struct Path {
+    pub nodes: Vec<Node>,
+    pub relationships: Vec<UnboundRelationship>,
+    pub indices: Vec<i64>,
 }
 
 /// The element ids of a relationship, its start and its end.

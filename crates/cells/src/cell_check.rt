@@ -3,11 +3,11 @@ ghost use Rattle.std.specs.Prelude.{◌≡◌, ◌≤◌, Ok, length, map, true}
 ghost use Rattle.packstream.specs.View.{trees_of, entries_of};
 ghost use Rattle.cells.specs.Faults.{scan, fault_or_rest, next, structures, structures_in, structures_under};
 ghost use Rattle.packstream.specs.Good.{count};
-ghost use Rattle.cells.specs.Shape.{element_of, elements_of, shape, shapes, entries, node_shape, unbound_shape, relationship_shape};
+ghost use Rattle.cells.specs.Shape.{element_of, elements_of, shape, shapes, entries, node_shape, unbound_shape, relationship_shape, path_shape};
 ghost use Rattle.cells.specs.Writing.{fault_of_structure, tag_at};
 ghost use Rattle.cells.specs.Steps.{range_fault, numbers_in_range, walk_fault};
 
-use crate::cell::{Cell, ElementIds, Node, Relationship, UnboundRelationship};
+use crate::cell::{Cell, ElementIds, Node, Path, Relationship, UnboundRelationship};
 use crate::fault::Reason;
 use crate::kinds::is_within;
 use crate::path::indices_walk;
@@ -112,15 +112,7 @@ pub fn check_cell(version: Version, cell: &Cell, seen: usize) -> Result<usize, (
         Cell::Node(node) => check_node(version, node, seen),
         Cell::Relationship(relationship) => check_relationship(version, relationship, seen),
         Cell::UnboundRelationship(unbound) => check_unbound(version, unbound, seen),
-        Cell::Path {
-            nodes,
-            relationships,
-            indices,
-        } => {
-            let number = check_walk(nodes.len(), relationships.len(), indices, seen)?;
-            let number = check_nodes(version, nodes, number)?;
-            check_unbounds(version, relationships, number)
-        }
+        Cell::Path(path) => check_path(version, path, seen),
         Cell::Date { days } => judge(version, tags::DATE, 1, &[*days], seen),
         Cell::Time { nanos, offset } => judge(version, tags::TIME, 2, &[*nanos, *offset], seen),
         Cell::LocalTime { nanos } => judge(version, tags::LOCAL_TIME, 1, &[*nanos], seen),
@@ -260,6 +252,20 @@ fn check_relationship(
     let numbers = [relationship.id, relationship.start, relationship.end];
     let number = judge(version, tags::RELATIONSHIP, count, &numbers, seen)?;
     check_entries(version, &relationship.properties, number)
+}
+
+#[cycle(judge)]
+fn check_path(version: Version, path: &Path, seen: usize) -> Result<usize, (Reason, usize)>
+    ensures { result ≡ scan (fault_of_structure version) seen (structures (path_shape path.now)) }
+{
+    let number = check_walk(
+        path.nodes.len(),
+        path.relationships.len(),
+        &path.indices,
+        seen,
+    )?;
+    let number = check_nodes(version, &path.nodes, number)?;
+    check_unbounds(version, &path.relationships, number)
 }
 
 #[cycle(judge)]

@@ -1,8 +1,8 @@
 //! `clone`, written out since a derived one says nothing of types that hold each other.
 ghost use Rattle.std.specs.Prelude.{◌≡◌, IfOk, map};
-ghost use Rattle.cells.specs.Shape.{shape, node_shape, unbound_shape, relationship_shape, entries, shapes};
+ghost use Rattle.cells.specs.Shape.{shape, node_shape, unbound_shape, relationship_shape, path_shape, entries, shapes};
 
-use crate::cell::{Cell, Node, Relationship, UnboundRelationship};
+use crate::cell::{Cell, Node, Path, Relationship, UnboundRelationship};
 use crate::parts::{copy_element, copy_elements, copy_texts};
 use std::alloc::AllocError;
 
@@ -27,20 +27,22 @@ fn copy(cell: &Cell) -> Result<Cell, AllocError>
         Cell::Text(text) => Ok(Cell::Text(text.clone()?)),
         Cell::List(members) => Ok(Cell::List(copy_members(members)?)),
         Cell::Dict(pairs) => Ok(Cell::Dict(copy_pairs(pairs)?)),
-        Cell::Node(node) => Ok(Cell::Node(copy_node(node)?)),
-        Cell::Relationship(relationship) => Ok(Cell::Relationship(copy_relationship(
-            relationship,
-        )?)),
-        Cell::UnboundRelationship(unbound) => Ok(Cell::UnboundRelationship(copy_unbound(unbound)?)),
-        Cell::Path {
-            nodes,
-            relationships,
-            indices,
-        } => Ok(Cell::Path {
-            nodes: copy_nodes(nodes)?,
-            relationships: copy_unbounds(relationships)?,
-            indices: indices.clone()?,
-        }),
+        Cell::Node(node) => {
+            let copied = copy_node(node)?;
+            Ok(Cell::Node(Box::new(*node.labels.allocator(), copied)?))
+        }
+        Cell::Relationship(relationship) => {
+            let copied = copy_relationship(relationship)?;
+            Ok(Cell::Relationship(Box::new(*relationship.properties.allocator(), copied)?))
+        }
+        Cell::UnboundRelationship(unbound) => {
+            let copied = copy_unbound(unbound)?;
+            Ok(Cell::UnboundRelationship(Box::new(*unbound.properties.allocator(), copied)?))
+        }
+        Cell::Path(path) => {
+            let copied = copy_path(path)?;
+            Ok(Cell::Path(Box::new(*path.nodes.allocator(), copied)?))
+        }
         Cell::Date { days } => Ok(Cell::Date { days: *days }),
         Cell::Time { nanos, offset } => Ok(Cell::Time {
             nanos: *nanos,
@@ -194,5 +196,19 @@ fn copy_relationship(relationship: &Relationship) -> Result<Relationship, AllocE
         kind,
         properties,
         element_ids,
+    })
+}
+
+#[cycle(copy)]
+fn copy_path(path: &Path) -> Result<Path, AllocError>
+    ensures { IfOk result (λ p. path_shape p ≡ path_shape path.now) }
+{
+    let nodes = copy_nodes(&path.nodes)?;
+    let relationships = copy_unbounds(&path.relationships)?;
+    let indices = path.indices.clone()?;
+    Ok(Path {
+        nodes,
+        relationships,
+        indices,
     })
 }

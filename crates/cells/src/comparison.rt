@@ -2,9 +2,9 @@
 ghost use Rattle.std.specs.Prelude.{◌≡◌, ◌↔◌, ◌&&◌, IsTrue, map};
 ghost use Rattle.packstream.specs.View.{trees_of, entries_of};
 ghost use Rattle.cells.specs.Same.{same_tree, same_trees, same_entries};
-ghost use Rattle.cells.specs.Shape.{shape, shapes, entries, node_shape, unbound_shape, relationship_shape};
+ghost use Rattle.cells.specs.Shape.{shape, shapes, entries, node_shape, unbound_shape, relationship_shape, path_shape};
 
-use crate::cell::{Cell, Node, Relationship, UnboundRelationship};
+use crate::cell::{Cell, Node, Path, Relationship, UnboundRelationship};
 
 /// Whether two cells are equal: of one kind, with equal parts in the same order, a float by its bits. Takes no memory.
 pub fn same(one: &Cell, other: &Cell) -> bool
@@ -32,18 +32,7 @@ fn same_cell(one: &Cell, other: &Cell) -> bool
         (Cell::UnboundRelationship(one), Cell::UnboundRelationship(other)) => same_unbound(
             one, other,
         ),
-        (
-            Cell::Path {
-                nodes: ones,
-                relationships: one_walked,
-                indices: one,
-            },
-            Cell::Path {
-                nodes: others,
-                relationships: other_walked,
-                indices: other,
-            },
-        ) => same_nodes(ones, others) && same_unbounds(one_walked, other_walked) && one == other,
+        (Cell::Path(one), Cell::Path(other)) => same_path(one, other),
         (Cell::Date { days: one }, Cell::Date { days: other }) => *one == *other,
         (
             Cell::Time {
@@ -258,4 +247,17 @@ fn same_relationship(one: &Relationship, other: &Relationship) -> bool
         return false;
     }
     one.element_ids == other.element_ids
+}
+
+#[cycle(same_cell)]
+fn same_path(one: &Path, other: &Path) -> bool
+    ensures { result ≡ same_tree (path_shape one.now) (path_shape other.now) }
+{
+    if !same_nodes(&one.nodes, &other.nodes) {
+        return false;
+    }
+    if !same_unbounds(&one.relationships, &other.relationships) {
+        return false;
+    }
+    one.indices == other.indices
 }

@@ -14,7 +14,7 @@ pub mod tags;
 mod value_check;
 mod wrong;
 
-pub use cell::{Cell, ElementIds, Node, Relationship, UnboundRelationship};
+pub use cell::{Cell, ElementIds, Node, Path, Relationship, UnboundRelationship};
 pub use cell_check::{check_cell, check_cells, check_entries};
 pub use comparison::same;
 pub use fault::Reason;

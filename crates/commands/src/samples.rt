@@ -2,7 +2,7 @@
 use bytes::BytesMut;
 use messages::{MsgFault, Response, read_request, write_request, write_response};
 use std::alloc::{AllocError, Global};
-use structures::{Cell, Node, UnboundRelationship, fit};
+use structures::{Cell, Node, Path, UnboundRelationship, fit};
 use wire::Version;
 
 /// Whether the bytes are a request of the version, and are what is written of it.
@@ -75,11 +75,12 @@ fn path(alloc: Global) -> Result<Cell, AllocError> {
     let nodes = nodes(alloc)?;
     let relationships = relationships(alloc)?;
     let indices = vec![in alloc; 1, 1]?;
-    Ok(Cell::Path {
+    let path = Path {
         nodes,
         relationships,
         indices,
-    })
+    };
+    Ok(Cell::Path(Box::new(alloc, path)?))
 }
 
 fn nodes(alloc: Global) -> Result<Vec<Node>, AllocError> {

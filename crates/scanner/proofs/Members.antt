@@ -1,11 +1,9 @@
 -- Cells and entries, and one more behind them.
-use Rattle.std.proofs.Common.{◌≡◌, ℕ, suc, ℤ, pos, ◌<◌, true, nat_lt, Ok, rules, List, [], ◌∷◌, ◌++◌, map, Vec, Global, string_bytes, refl, sym, ap, ◌∙◌, append_assoc}
+use Rattle.std.proofs.Common.{◌≡◌, ℕ, suc, ℤ, Ok, rules, List, [], ◌∷◌, ◌++◌, map, Vec, Global, string_bytes, refl, sym, ap, ◌∙◌, append_assoc}
 use Rattle.std.proofs.lemmas.List.{append-nil}
-use Rattle.std.proofs.lemmas.Bool.{lt-ltb}
 use Rattle.packstream.specs.Tree.{Tree, Trees, int, dict}
 use Rattle.packstream.specs.View.{trees_of, entries_of}
-use Rattle.packstream.specs.Markers.{marker}
-use Rattle.packstream.specs.Reading.{Read, keys, items_at, form_at, layer, inner}
+use Rattle.packstream.specs.Reading.{Read, keys, key_at, items_at, entries_at}
 use Rattle.packstream.proofs.Complete.{Pairs}
 use Rattle.cells.specs.declared.cell.Cell.{Int as IntCase, Dict as DictCase, the_lemmas}
 use Rattle.cells.specs.Faults.{structures, structures_in, structures_under}
@@ -25,15 +23,16 @@ pub keys_are : (es : List Pair) → keys (entries es) ≡ names es
 keys_are [] = refl
 keys_are (e ∷ es) = ap (λ r. string_bytes e.0 ∷ r) (keys_are es)
 
--- a byte below 128 is an integer
-pub small_read : (room m : ℕ) (tail : List ℕ) → m < 128 → layer (inner room) (m ∷ tail) ≡ Ok (int (pos m), tail)
-unfolding layer form_at marker
-small_read room m tail lt = let e : nat_lt m 128 ≡ true = lt-ltb m 128 lt in rw e refl
-
 -- a member that is read joins those before it
 pub member_on : (read : List ℕ → Read Tree) (n : ℕ) (done : List Tree) (bs after : List ℕ) (t : Tree) → read bs ≡ Ok (t, after) → items_at read n (done ++ t ∷ []) after ≡ items_at read (suc n) done bs
 unfolding items_at
 member_on read n done bs after t h = rw h refl
+
+-- an entry that is read joins those before it
+pub entry_on : (read : List ℕ → Read Tree) (n : ℕ) (done : Pairs) (bs mid after : List ℕ) (k : List ℕ) (t : Tree) → key_at (keys done) bs ≡ Ok (k, mid) → read mid ≡ Ok (t, after)
+    → entries_at read n (done ++ (k, t) ∷ []) after ≡ entries_at read (suc n) done bs
+unfolding entries_at
+entry_on read n done bs mid after k t h e = rw (h, e) refl
 
 abbrev Structures : Type 0
 Structures = List (ℕ × Trees)

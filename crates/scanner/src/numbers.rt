@@ -1,5 +1,5 @@
 //! What follows a marker: numbers, lengths, bytes and texts.
-ghost use Rattle.std.specs.Prelude.{◌≡◌, ◌≤◌, Ok, IfOk, length};
+ghost use Rattle.std.specs.Prelude.{◌≡◌, ◌≤◌, Ok, IfOk, IfSome, IsUtf8, length};
 ghost use Rattle.byteorder.specs.Endian.{big_number, twos_complement};
 ghost use Rattle.packstream.specs.Markers.{width};
 ghost use Rattle.packstream.specs.Reading.{number_at, int_at, size_at, bytes_at, text_at};
@@ -10,6 +10,9 @@ use crate::fault::Unscanned;
 use byteorder::{BigEndian, ByteOrder};
 use packstream::marker::{Size, Width};
 use simdutf8::basic::from_utf8;
+
+/// From so many bytes on it pays to check many at a time.
+const MANY: usize = 64;
 
 fn unsigned(wide: Width, bytes: &[u8]) -> u64
     requires { width wide ≤ length bytes.now }
@@ -87,15 +90,27 @@ pub(crate) fn bytes_of(size: Size, bytes: &[u8]) -> Result<(&[u8], &[u8]), Unsca
     Ok((front, rest))
 }
 
+/// The text that the bytes are, if they are one.
+#[inline(always)]
+fn checked(bytes: &[u8]) -> Option<&str>
+    ensures { IfSome result (λ text. (text.now ≡ bytes.now) × IsUtf8 bytes.now) }
+{
+    if bytes.len() >= MANY {
+        return from_utf8(bytes).ok();
+    }
+    std::str::from_utf8(bytes).ok()
+}
+
 /// A text of as many bytes as a marker announces.
 #[tactic(auto, unfolding(packstream::specs::Reading::text_at))]
+#[inline(always)]
 pub(crate) fn text_of(size: Size, bytes: &[u8]) -> Result<(&str, &[u8]), Unscanned>
     ensures { IfOk result (λ x. text_at (with_marker bytes.now) size bytes.now
         ≡ Ok (x.0.now, x.1.now)) }
 {
     let (front, rest) = bytes_of(size, bytes)?;
-    match from_utf8(front) {
-        Ok(text) => Ok((text, rest)),
-        Err(_) => Err(Unscanned),
+    match checked(front) {
+        Some(text) => Ok((text, rest)),
+        None => Err(Unscanned),
     }
 }

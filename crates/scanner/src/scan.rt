@@ -1,7 +1,7 @@
 //! Cells at the front of bytes.
-ghost use Rattle.std.specs.Prelude.{◌≡◌, ◌≤◌, ℕ, suc, pos, Ok, IfOk, OnOk, IfSome, [], length, map, string_bytes};
+ghost use Rattle.std.specs.Prelude.{◌≡◌, ◌≤◌, ℕ, List, suc, Ok, IfOk, OnOk, [], ◌∷◌, ◌++◌, length, map, string_bytes};
 ghost use Rattle.packstream.specs.Good.{is_among};
-ghost use Rattle.packstream.specs.Reading.{key_at, items_at, entries_at, list_at, dict_at, layer, inner};
+ghost use Rattle.packstream.specs.Reading.{keys, key_at, items_at, entries_at, list_at, dict_at, layer, inner};
 ghost use Rattle.packstream.specs.Tree.{int, text, list, dict};
 ghost use Rattle.packstream.specs.View.{trees_of, entries_of};
 ghost use Rattle.cells.specs.Faults.{structures, structures_in, structures_under};
@@ -32,7 +32,8 @@ fn first_room(count: u64, bytes: &[u8]) -> usize
 /// An integer.
 #[tactic(auto, unfolding(packstream::specs::Reading::layer, packstream::specs::Reading::form_at))]
 pub(crate) fn int_in(bytes: &[u8]) -> Result<(i64, &[u8]), Unscanned>
-    ensures { IfOk result (λ x. layer (inner 0) bytes.now ≡ Ok (int x.0, x.1.now)) }
+    ensures { (room : ℕ)
+        → IfOk result (λ x. layer (inner room) bytes.now ≡ Ok (int x.0, x.1.now)) }
 {
     let Some((&first, rest)) = bytes.split_first() else {
         return Err(Unscanned);
@@ -44,22 +45,11 @@ pub(crate) fn int_in(bytes: &[u8]) -> Result<(i64, &[u8]), Unscanned>
     }
 }
 
-/// An integer from 0 on that stands in its marker.
-#[tactic(auto, using(crate::proofs::Members::small_read))]
-fn small_in(bytes: &[u8]) -> Option<(u8, &[u8])>
-    ensures { (room : ℕ)
-        → IfSome result (λ x. layer (inner room) bytes.now ≡ Ok (int (pos x.0), x.1.now)) }
-{
-    match bytes.split_first() {
-        Some((&first, rest)) if first < 0x80 => Some((first, rest)),
-        _ => None,
-    }
-}
-
 /// A text.
 #[tactic(auto, unfolding(packstream::specs::Reading::layer, packstream::specs::Reading::form_at))]
 pub(crate) fn text_in(bytes: &[u8]) -> Result<(&str, &[u8]), Unscanned>
-    ensures { IfOk result (λ x. layer (inner 0) bytes.now ≡ Ok (text x.0.now, x.1.now)) }
+    ensures { (room : ℕ)
+        → IfOk result (λ x. layer (inner room) bytes.now ≡ Ok (text x.0.now, x.1.now)) }
 {
     let Some((&first, rest)) = bytes.split_first() else {
         return Err(Unscanned);
@@ -167,8 +157,8 @@ fn list_of(
     Ok((members, rest))
 }
 
-/// A member joins those before it. Integers are put there by this function itself: a cell has 160 bytes, and is moved from where a call
-/// answers it.
+/// A member joins those before it. Integers are put there by this function itself, where there is room: a cell that a call answers is
+/// moved from where it was answered.
 #[cycle(scanner)]
 fn push_member<'a>(
     members: &mut Vec<Cell>,
@@ -182,10 +172,30 @@ fn push_member<'a>(
     ensures plain { structures_in (trees_of (shapes members.old.items)) ≡ []
         → OnOk result (structures_in (trees_of (shapes members.new.items)) ≡ []) }
 {
-    if let Some((n, rest)) = small_in(bytes) {
-        members.push(Cell::Int(i64::from(n)))?;
-        return Ok(rest);
+    if members.len() < members.capacity() {
+        if let Ok((n, rest)) = int_in(bytes) {
+            members.push_reserved(Cell::Int(n));
+            return Ok(rest);
+        }
     }
+    push_other(members, alloc, room, bytes)
+}
+
+/// A member of any kind joins those before it. Where this stands in its caller, each member pays for its locals.
+#[cycle(scanner)]
+#[inline(never)]
+fn push_other<'a>(
+    members: &mut Vec<Cell>,
+    alloc: Global,
+    room: u8,
+    bytes: &'a [u8],
+) -> Result<&'a [u8], Unscanned>
+    ensures read { (n : ℕ) → IfOk result
+        (λ x. items_at (layer (inner room)) n (shapes members.new.items) x.now
+        ≡ items_at (layer (inner room)) (suc n) (shapes members.old.items) bytes.now) }
+    ensures plain { structures_in (trees_of (shapes members.old.items)) ≡ []
+        → OnOk result (structures_in (trees_of (shapes members.new.items)) ≡ []) }
+{
     let (member, rest) = cell_in(alloc, room, bytes)?;
     members.push(member)?;
     Ok(rest)
@@ -228,6 +238,9 @@ fn dict_of(
         return Err(Unscanned);
     }
     let (count, rest) = size_of(size, bytes)?;
+    if count == 0 {
+        return Ok((Vec::new(alloc), rest));
+    }
     if count > FEW {
         return Err(Unscanned);
     }
@@ -235,7 +248,90 @@ fn dict_of(
     Ok((pairs, rest))
 }
 
+/// A text joins the entries before it; room was made for each entry. Where this stands in its caller, each entry pays for the locals
+/// of every kind.
+#[inline(never)]
+fn push_text(
+    pairs: &mut Vec<(String, Cell)>,
+    alloc: Global,
+    name: String,
+    told: &str,
+) -> Result<(), Unscanned>
+    ensures { OnOk result (entries pairs.new.items
+        ≡ entries pairs.old.items ++ (string_bytes name, text told.now) ∷ []) }
+{
+    let copy = String::from_str(alloc, told)?;
+    if pairs.len() >= pairs.capacity() {
+        return Err(Unscanned);
+    }
+    pairs.push_reserved((name, Cell::Text(copy)));
+    Ok(())
+}
+
+/// An integer joins the entries before it.
+#[inline(never)]
+fn push_int(pairs: &mut Vec<(String, Cell)>, name: String, n: i64) -> Result<(), Unscanned>
+    ensures { OnOk result (entries pairs.new.items
+        ≡ entries pairs.old.items ++ (string_bytes name, int n) ∷ []) }
+{
+    if pairs.len() >= pairs.capacity() {
+        return Err(Unscanned);
+    }
+    pairs.push_reserved((name, Cell::Int(n)));
+    Ok(())
+}
+
+/// An entry of any kind, behind its key, joins those before it.
 #[cycle(scanner)]
+#[inline(never)]
+fn push_named<'a>(
+    pairs: &mut Vec<(String, Cell)>,
+    alloc: Global,
+    room: u8,
+    name: String,
+    bytes: &'a [u8],
+) -> Result<&'a [u8], Unscanned>
+    ensures read { (n : ℕ) (before : List ℕ)
+        → key_at (keys (entries pairs.old.items)) before ≡ Ok (string_bytes name, bytes.now)
+        → IfOk result (λ x. entries_at (layer (inner room)) n (entries pairs.new.items) x.now
+        ≡ entries_at (layer (inner room)) (suc n) (entries pairs.old.items) before) }
+    ensures plain { structures_under (entries_of (entries pairs.old.items)) ≡ []
+        → OnOk result (structures_under (entries_of (entries pairs.new.items)) ≡ []) }
+{
+    let (cell, rest) = cell_in(alloc, room, bytes)?;
+    pairs.push((name, cell))?;
+    Ok(rest)
+}
+
+/// An entry joins those before it.
+#[cycle(scanner)]
+fn push_entry<'a>(
+    pairs: &mut Vec<(String, Cell)>,
+    alloc: Global,
+    room: u8,
+    bytes: &'a [u8],
+) -> Result<&'a [u8], Unscanned>
+    ensures read { (n : ℕ) → IfOk result
+        (λ x. entries_at (layer (inner room)) n (entries pairs.new.items) x.now
+        ≡ entries_at (layer (inner room)) (suc n) (entries pairs.old.items) bytes.now) }
+    ensures plain { structures_under (entries_of (entries pairs.old.items)) ≡ []
+        → OnOk result (structures_under (entries_of (entries pairs.new.items)) ≡ []) }
+{
+    let (key, value) = key_in(pairs, bytes)?;
+    let name = String::from_str(alloc, key)?;
+    if let Ok((told, rest)) = text_in(value) {
+        push_text(pairs, alloc, name, told)?;
+        return Ok(rest);
+    }
+    if let Ok((n, rest)) = int_in(value) {
+        push_int(pairs, name, n)?;
+        return Ok(rest);
+    }
+    push_named(pairs, alloc, room, name, value)
+}
+
+#[cycle(scanner)]
+#[inline(never)]
 fn pairs_of(
     alloc: Global,
     room: u8,
@@ -249,10 +345,7 @@ fn pairs_of(
     let mut pairs = Vec::with_capacity(alloc, first_room(count, bytes))?;
     let mut rest = bytes;
     for _ in 0..count {
-        let (key, after) = key_in(&pairs, rest)?;
-        let name = String::from_str(alloc, key)?;
-        let (cell, after) = cell_in(alloc, room, after)?;
-        pairs.push((name, cell))?;
+        let after = push_entry(&mut pairs, alloc, room, rest)?;
         rest = after;
     }
     Ok((pairs, rest))

@@ -40,9 +40,6 @@ never_both v s k r w u = let both : ◌≡◌ {A = Found} (Ok w.0) (Err (r, k)) 
 good_or_not : (t : Tree) (q : PackReason) (o : ℕ) → IsGood t → IsUnpacked t q o → ⊥
 good_or_not t q o good bad = bad_when t (q, o) (sym bad) good
 
-one_unwritable : (v : Version) (s : Tree) (k j : ℕ) (q r : Reason) → IsUnwritable v s k q → IsUnwritable v s j r → ◌≡◌ {A = Result Tree CellFault} (Err (fault.Refused q k)) (Err (fault.Refused r j))
-one_unwritable v s k j q r a b = let both : ◌≡◌ {A = Found} (Err (q, k)) (Err (r, j)) = sym a ∙ b in let same : (q, k) ≡ (r, j) = cc in ap (λ (x : Reason × ℕ). Err (fault.Refused x.0 x.1)) same
-
 one_unpacked : (t : Tree) (q r : PackReason) (o p : ℕ) → IsUnpacked t q o → IsUnpacked t r p → ◌≡◌ {A = Result Tree CellFault} (Err (fault.Pack q o)) (Err (fault.Pack r p))
 one_unpacked t q r o p a b = let both : ◌≡◌ {A = Result ℕ (PackReason × ℕ)} (Err (q, o)) (Err (r, p)) = sym a ∙ b in let same : (q, o) ≡ (r, p) = cc in ap (λ (x : PackReason × ℕ). Err (fault.Pack x.0 x.1)) same
 
@@ -67,13 +64,6 @@ module _ (v : Version) (s : Tree) where
   writes_value (Err fault.Memory) w t = tt
   writes_value (Err (fault.Pack q o)) w t = ((λ e. absurd cc), (λ h. absurd (both_forms t h q o w)))
 
-  pub writes_fault : (r : Result Tree CellFault) → Writes v s r → (q : Reason) (k : ℕ) → UnlessMemory r ((r ≡ Err (fault.Refused q k)) ↔ IsUnwritable v s k q)
-  writes_fault (Ok u) w q k = ((λ e. absurd cc), (λ h. absurd (never_both v s k q w.writable h)))
-  writes_fault (Err (fault.Refused p j)) w q k = ((λ e. subst (λ r. Writes v s r) e w), (λ h. one_unwritable v s j k p q w h))
-  writes_fault (Err fault.Memory) w q k = tt
-  writes_fault (Err (fault.Pack p o)) w q k =
-      ((λ e. absurd cc), (λ h. absurd (never_both v s k q w.writable h)))
-
   pub writes_pack : (r : Result Tree CellFault) → Writes v s r → (q : PackReason) (o : ℕ)
       → UnlessMemory r ((r ≡ Err (fault.Pack q o)) ↔ HasBadForm v s q o)
   writes_pack (Ok u) w q o = ((λ e. absurd cc), (λ h. absurd (both_forms u w q o h)))
@@ -84,9 +74,6 @@ module _ (v : Version) (s : Tree) where
     (λ e. subst (λ r. Writes v s r) e w),
     (λ h. one_unpacked w.value p q i o w.unpacked (unpacked_of w.value w.formed q o h)),
   )
-
-  pub writes_memory : (r : Result Tree CellFault) → Writes v s r → r ≡ Err fault.Memory → IsWritable v s
-  writes_memory r w e = subst (λ r. Writes v s r) e w
 
   -- the clauses are all
   pub writes_by : (r : Result Tree CellFault)

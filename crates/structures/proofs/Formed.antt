@@ -1,6 +1,7 @@
 -- The form of a cell that can be written has no fault.
 use Rattle.std.proofs.Common.{◌≡◌, ℕ, suc, ℤ, pos, neg_ℤ, ◌+ℤ◌, ◌≤ℤ◌, int_le, List, [], ◌∷◌, ◌++◌, length, Bool, true, false, not, cond, ◌&&◌, ◌==◌, Option, Some, None, is_none, Result, Ok, Err, inl, inr, ◌⊎◌, refl, sym, ap, ◌∙◌, arith, eqb-true, subst}
 use Rattle.std.proofs.lemmas.Int.{ints}
+use Rattle.std.proofs.lemmas.Bool.{not-true}
 use Rattle.packstream.specs.Tree.{Tree, null, boolean, int, float, byte_string, text, list, dict, structure, Trees, no_trees, tree_then, Entries, no_entries, entry_then}
 use Rattle.packstream.specs.Good.{count}
 use Rattle.wire.specs.declared.Version.{Version}
@@ -25,7 +26,7 @@ use Rattle.structures.proofs.Standing.{stood}
 use Rattle.structures.specs.Form.{Form, form, form_all, form_under, moment}
 use Rattle.structures.specs.Steps.{has_kinds}
 use Rattle.structures.specs.Laying.{date_time_fields as three}
-use Rattle.structures.proofs.Got.{le_true, at_both}
+use Rattle.structures.proofs.Got.{le_true, at_both, first_none}
 use Rattle.structures.proofs.Back.{back, an_int, Three, three_ints, there_and_back}
 
 int_same : (v : Version) (t : Tree) → is_int t ≡ true → form v t ≡ t
@@ -189,10 +190,6 @@ pub record Written (ks : List Field) (tag : ℕ) (ts : Trees) : Type 0 where
   pub ranged : are_in_range ks ts ≡ true
   pub shaped : cond (tag == 0x50) (is_path ts) true ≡ true
 
-first_none : (p : Bool) (r : Reason) (rest : Option Reason) → cond p rest (Some r) ≡ None → (p ≡ true) × (rest ≡ None)
-first_none true r rest h = (refl, h)
-first_none false r rest h = absurd cc
-
 pub passes : (ks : List Field) (tag : ℕ) (ts : Trees) → fault_of_structure_by (Ok ks) tag ts ≡ None → Written ks tag ts
 passes ks tag ts h =
     let a = first_none (count ts == length ks) _ _ h in
@@ -208,10 +205,6 @@ shape_kept v tag ts true e r (inr n) h = absurd cc
 path_count : (v : Version) (tag : ℕ) (ks : List Field) (ts : Trees) (b : Bool) → (tag == 0x50) ≡ b → kinds v tag ≡ Ok ks → (count ts == length ks) ≡ true → count ts ≡ 3 ⊎ (b ≡ false)
 path_count v tag ks ts false e k n = inr refl
 path_count v tag ks ts true e k n = inl (let f : kinds v 0x50 ≡ Ok (Nodes ∷ Relationships ∷ Indices ∷ []) = at_both v 0x50 _ refl in let d : kinds v 0x50 ≡ Ok ks = subst (λ m. kinds v m ≡ Ok ks) (eqb-true _ _ e) k in let l : length ks ≡ 3 = cc in eqb-true _ _ n ∙ l)
-
-is_not : (b : Bool) → not b ≡ true → b ≡ false
-is_not true h = absurd cc
-is_not false h = refl
 
 moment_three : (v : Version) (a b d : ℤ) → are_in_range moment_fields (three a b d) ≡ true → all_fine (fault v) (structures (moment v (three a b d))) ≡ true
 moment_three V44 a b d h =
@@ -248,7 +241,7 @@ structure_fine : (v : Version) (tag : ℕ) (ts : Trees) (b : Bool) → (tag == 0
 structure_fine v tag ts true e n r u i =
     moment_fine v ts (subst (λ m. has_kinds (row_in m table) ts ≡ true) (eqb-true _ _ e) r) (subst (λ m. fault_of_structure v m ts ≡ None) (eqb-true _ _ e) u)
 structure_fine v tag ts false e n r u i =
-    both_true _ _ (plain_fine v tag ts (kinds v tag) refl (subst (λ c. fault_of_structure_by (kinds v (cond c (moment_tag v) tag)) tag ts ≡ None) e u) (is_not _ n) r) i
+    both_true _ _ (plain_fine v tag ts (kinds v tag) refl (subst (λ c. fault_of_structure_by (kinds v (cond c (moment_tag v) tag)) tag ts ≡ None) e u) (not-true _ n) r) i
 
 kinds_of : (o : Option Row) (ts : Trees) → is_row o ts ≡ true → has_kinds o ts ≡ true
 kinds_of None ts h = absurd cc

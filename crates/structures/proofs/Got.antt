@@ -1,10 +1,11 @@
 -- The fields of a structure.
-use Rattle.std.proofs.Common.{◌≡◌, ◌++◌, take, Result, IfOk, add-one, ℤ, pos, neg_ℤ, ◌-ℤ◌, ◌≤ℤ◌, int_le, ℕ, suc, zero, ◌+◌, ◌<◌, ◌≤◌, List, [], ◌∷◌, map, length, get_or, append-nil, Bool, true, false, ◌&&◌, ◌==◌, cond, Option, Some, None, Ok, Err, refl, sym, ap, ◌∙◌, arith, eqb-true, subst}
+use Rattle.std.proofs.Common.{◌≡◌, ◌++◌, take, add-one, ℤ, pos, neg_ℤ, ◌-ℤ◌, ◌≤ℤ◌, int_le, ℕ, suc, zero, ◌+◌, ◌<◌, ◌≤◌, List, [], ◌∷◌, map, length, get_or, append-nil, Bool, true, false, ◌&&◌, ◌==◌, cond, Option, Some, None, Ok, Err, refl, sym, ap, ◌∙◌, arith, eqb-true, subst}
 use Rattle.std.proofs.lemmas.Int.{ints}
 use Rattle.packstream.specs.Tree.{Tree, null, int, structure, Trees, no_trees, tree_then, entry_then}
 use Rattle.packstream.specs.Good.{count}
 use Rattle.packstream.specs.View.{tree, trees, trees_of, entries_of}
 use Rattle.packstream.specs.declared.value.Value.{Value}
+use Rattle.packstream.proofs.Putting.{len_trees}
 use Rattle.wire.specs.declared.Version.{Version}
 use Rattle.wire.specs.Versions.{has_element_ids, has_utc_times, every_version, lacks}
 use Rattle.cells.specs.declared.table.Field.{Field}
@@ -14,7 +15,6 @@ use Rattle.cells.specs.declared.fault.Reason.TheVariants.{NotInVersion}
 use Rattle.cells.specs.Table.{row, row_in, table, fields_in, fields_of, kinds}
 use Rattle.cells.specs.Faults.{moment_fields, to_utc, each, is_kind, are_kinds, are_in_range, utc_fields, is_path, wrong, fault, fault_by}
 use Rattle.cells.proofs.Both.{and_left, and_right}
-use Rattle.cells.proofs.Faulty.{count_seen}
 use Rattle.structures.specs.Form.{typed, typed_all, typed_under}
 use Rattle.structures.specs.Steps.{tree_at, ReadElements, typed_entry}
 
@@ -51,7 +51,7 @@ fields_are (k ∷ ks) (tree_then u us) (tree_then t ts) n m h g =
     let r = fields_are ks us ts (omega arith) (omega arith) (and_right _ _ h) (got_tail 0 ks us t ts g.1) in
     ap (λ x. tree_then x us) e ∙ ap (λ x. tree_then (typed t) x) r
 
-first_none : (p : Bool) (r : Reason) (rest : Option Reason) → cond p rest (Some r) ≡ None → (p ≡ true) × (rest ≡ None)
+pub first_none : (p : Bool) (r : Reason) (rest : Option Reason) → cond p rest (Some r) ≡ None → (p ≡ true) × (rest ≡ None)
 first_none true r rest h = (refl, h)
 first_none false r rest h = absurd cc
 
@@ -154,10 +154,6 @@ each_at p [] i d h e a = absurd (omega arith)
 each_at p (x ∷ xs) zero d h e a = ap (λ v. p (tree v)) e ∙ and_left _ _ a
 each_at p (x ∷ xs) (suc i) d h e a = each_at p xs i d (omega arith) e (and_right _ _ a)
 
-pub if_ok : {A E : Type 0} (r : Result A E) (P Q : A → Type 0) → ((x : A) → P x → Q x) → IfOk r P → IfOk r Q
-if_ok (Ok x) P Q f h = f x h
-if_ok (Err e) P Q f h = h
-
 go : {A B : Type 0} (f : A → B) (xs : List A) (i : ℕ) (d : A) → i < length xs → d ≡ get_or xs i d → map f (take (suc i) xs) ≡ map f (take i xs) ++ f d ∷ []
 go f [] i d h e = absurd (omega arith)
 go f (x ∷ xs) zero d h e = ap (λ v. f v ∷ []) (sym e)
@@ -209,7 +205,7 @@ named_by v tag ts k0 k1 k2 u0 u1 u2 element e h g absent there = go (has_element
 pub path_length : (v : Version) (xs : List Value) → fault v 0x50 (trees_of (trees xs)) ≡ None → length xs ≡ 3
 path_length v xs h =
     let p = passed v 0x50 (trees_of (trees xs)) (Nodes ∷ Relationships ∷ Indices ∷ []) (at_both v 0x50 _ refl) h in
-    sym (count_seen xs) ∙ p.counted
+    sym (len_trees xs) ∙ p.counted
 
 pub path_field : (v : Version) (xs : List Value) (i : ℕ) (d : Value) (k : Field) → fault v 0x50 (trees_of (trees xs)) ≡ None → d ≡ get_or xs i d → i < length xs → field_at i (Nodes ∷ Relationships ∷ Indices ∷ []) ≡ Some k → is_kind k (tree d) ≡ true
 path_field v xs i d k h e lt f =

@@ -1,10 +1,10 @@
 //! Cells in the form of a version.
 ghost use Rattle.std.specs.Prelude.{◌≡◌, IfOk, map};
-ghost use Rattle.cells.specs.Shape.{shape, node_shape, unbound_shape, relationship_shape, element_of, elements_of, entries, shapes};
+ghost use Rattle.cells.specs.Shape.{shape, node_shape, unbound_shape, relationship_shape, path_shape, element_of, elements_of, entries, shapes};
 ghost use Rattle.structures.specs.Fitting.{fitted, fitted_entry, element_at, elements_at, Fits};
 
 use crate::fault::CellFault;
-use cells::{Cell, ElementIds, Node, Relationship, UnboundRelationship};
+use cells::{Cell, ElementIds, Node, Path, Relationship, UnboundRelationship};
 use std::alloc::{AllocError, Global};
 use wire::Version;
 
@@ -69,20 +69,53 @@ fn fit_cell(alloc: Global, version: Version, cell: &mut Cell) -> Result<(), Allo
     match cell {
         Cell::List(members) => fit_members(alloc, version, members)?,
         Cell::Dict(pairs) => fit_pairs(alloc, version, pairs)?,
-        Cell::Node(node) => fit_node(alloc, version, node)?,
-        Cell::Relationship(relationship) => fit_relationship(alloc, version, relationship)?,
-        Cell::UnboundRelationship(unbound) => fit_unbound(alloc, version, unbound)?,
-        Cell::Path {
-            nodes,
-            relationships,
-            indices: _indices,
-        } => {
-            fit_nodes(alloc, version, nodes)?;
-            fit_unbounds(alloc, version, relationships)?;
-        }
+        Cell::Node(node) => fit_boxed_node(alloc, version, node)?,
+        Cell::Relationship(relationship) => fit_boxed_relationship(alloc, version, relationship)?,
+        Cell::UnboundRelationship(unbound) => fit_boxed_unbound(alloc, version, unbound)?,
+        Cell::Path(path) => fit_boxed_path(alloc, version, path)?,
         _ => {}
     }
     Ok(())
+}
+
+#[cycle(fitting)]
+fn fit_boxed_node(alloc: Global, version: Version, node: &mut Box<Node>) -> Result<(), AllocError>
+    ensures { IfOk result (λ _. node_shape node.new.value
+        ≡ fitted version (node_shape node.old.value)) }
+{
+    fit_node(alloc, version, node)
+}
+
+#[cycle(fitting)]
+fn fit_boxed_relationship(
+    alloc: Global,
+    version: Version,
+    relationship: &mut Box<Relationship>,
+) -> Result<(), AllocError>
+    ensures { IfOk result (λ _. relationship_shape relationship.new.value
+        ≡ fitted version (relationship_shape relationship.old.value)) }
+{
+    fit_relationship(alloc, version, relationship)
+}
+
+#[cycle(fitting)]
+fn fit_boxed_unbound(
+    alloc: Global,
+    version: Version,
+    unbound: &mut Box<UnboundRelationship>,
+) -> Result<(), AllocError>
+    ensures { IfOk result (λ _. unbound_shape unbound.new.value
+        ≡ fitted version (unbound_shape unbound.old.value)) }
+{
+    fit_unbound(alloc, version, unbound)
+}
+
+#[cycle(fitting)]
+fn fit_boxed_path(alloc: Global, version: Version, path: &mut Box<Path>) -> Result<(), AllocError>
+    ensures { IfOk result (λ _. path_shape path.new.value
+        ≡ fitted version (path_shape path.old.value)) }
+{
+    fit_path(alloc, version, path)
 }
 
 #[cycle(fitting)]
@@ -135,6 +168,14 @@ fn fit_unbounds(
         fit_unbound(alloc, version, &mut relationships[i])?;
     }
     Ok(())
+}
+
+#[cycle(fitting)]
+fn fit_path(alloc: Global, version: Version, path: &mut Path) -> Result<(), AllocError>
+    ensures { IfOk result (λ _. path_shape path.new ≡ fitted version (path_shape path.old)) }
+{
+    fit_nodes(alloc, version, &mut path.nodes)?;
+    fit_unbounds(alloc, version, &mut path.relationships)
 }
 
 #[cycle(fitting)]

@@ -13,6 +13,7 @@ ghost use Rattle.wire.specs.declared.Version.{Version as AnyVersion};
 pub mod laying;
 
 /// A value stands for one cell, or has one first fault, and never both.
+#[tactic(auto, using(crate::proofs::OneReading::one_reading_is))]
 pub fn one_reading()
     ensures { (v : AnyVersion) (t : Tree) → HasOneReading v t }
 {}
@@ -24,6 +25,7 @@ pub fn cells_are_typed()
 {}
 
 /// A cell has one form, or one first fault, and never both.
+#[tactic(auto, using(crate::proofs::OneWriting::one_writing_is))]
 pub fn one_writing()
     ensures { (v : AnyVersion) (c : AnyCell) → HasOneWriting v (shape c) }
 {}

@@ -12,7 +12,7 @@ mod plain;
 mod reader;
 mod writer;
 
-pub use cells::{Cell, ElementIds, Node, Reason, Relationship, UnboundRelationship, same};
+pub use cells::{Cell, ElementIds, Node, Path, Reason, Relationship, UnboundRelationship, same};
 pub use codec::{read, read_value, write, write_entries, write_members};
 pub use fault::CellFault;
 pub use form::fit;

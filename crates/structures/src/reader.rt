@@ -4,14 +4,14 @@ ghost use Rattle.packstream.specs.Tree.{structure, dict, list};
 ghost use Rattle.packstream.specs.View.{tree, trees, trees_of, entries_of, entries as seen_entries};
 ghost use Rattle.cells.specs.Faults.{fault, structures, structures_in, structures_under, is_kind, each, has_tag};
 ghost use Rattle.cells.specs.Steps.{all_fine};
-ghost use Rattle.cells.specs.Shape.{shape, shapes, node_shape, unbound_shape, relationship_shape, entries};
+ghost use Rattle.cells.specs.Shape.{shape, shapes, node_shape, unbound_shape, relationship_shape, path_shape, entries};
 ghost use Rattle.cells.specs.Table.{node_tag, relationship_tag, unbound_tag, path_tag};
 ghost use Rattle.structures.specs.Form.{typed};
 ghost use Rattle.structures.specs.Steps.{typed_entry, tree_at};
 
 use crate::fields::{element_at, elements_at, int_at, ints_of, text_at, texts_at};
 use crate::plain::plain_of;
-use cells::{Cell, Field, Node, Relationship, UnboundRelationship, tags};
+use cells::{Cell, Field, Node, Path, Relationship, UnboundRelationship, tags};
 use packstream::Value;
 use std::alloc::{AllocError, Global};
 use wire::Version;
@@ -82,12 +82,22 @@ fn structure_of(
         ≡ typed (structure tag (trees_of (trees fields.now.items)))) }
 {
     match tag {
-        tags::NODE => Ok(Cell::Node(node_of(alloc, version, fields)?)),
-        tags::UNBOUND_RELATIONSHIP => Ok(Cell::UnboundRelationship(unbound_of(
-            alloc, version, fields,
-        )?)),
-        tags::RELATIONSHIP => Ok(Cell::Relationship(relationship_of(alloc, version, fields)?)),
-        tags::PATH => path_of(alloc, version, fields),
+        tags::NODE => {
+            let node = node_of(alloc, version, fields)?;
+            Ok(Cell::Node(Box::new(alloc, node)?))
+        }
+        tags::UNBOUND_RELATIONSHIP => {
+            let unbound = unbound_of(alloc, version, fields)?;
+            Ok(Cell::UnboundRelationship(Box::new(alloc, unbound)?))
+        }
+        tags::RELATIONSHIP => {
+            let relationship = relationship_of(alloc, version, fields)?;
+            Ok(Cell::Relationship(Box::new(alloc, relationship)?))
+        }
+        tags::PATH => {
+            let path = path_of(alloc, version, fields)?;
+            Ok(Cell::Path(Box::new(alloc, path)?))
+        }
         _ => plain_of(alloc, version, tag, fields),
     }
 }
@@ -165,17 +175,17 @@ fn relationship_of(
 }
 
 #[cycle(read)]
-fn path_of(alloc: Global, version: Version, fields: &Vec<Value>) -> Result<Cell, AllocError>
+fn path_of(alloc: Global, version: Version, fields: &Vec<Value>) -> Result<Path, AllocError>
     requires fine { fault version path_tag (trees_of (trees fields.now.items)) ≡ None }
     requires inner { all_fine (fault version) (structures_in (trees_of (trees fields.now.items)))
         ≡ true }
-    ensures { IfOk result (λ c. shape c
+    ensures { IfOk result (λ p. path_shape p
         ≡ typed (structure path_tag (trees_of (trees fields.now.items)))) }
 {
     let nodes = nodes_of(alloc, version, &fields[0])?;
     let relationships = unbounds_of(alloc, version, &fields[1])?;
     let indices = ints_of(alloc, &fields[2])?;
-    Ok(Cell::Path {
+    Ok(Path {
         nodes,
         relationships,
         indices,

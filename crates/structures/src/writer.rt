@@ -5,12 +5,12 @@ ghost use Rattle.packstream.specs.View.{tree, trees, trees_of, entries_of, entri
 ghost use Rattle.cells.specs.Faults.{structures, structures_in, structures_under};
 ghost use Rattle.cells.specs.Steps.{all_fine};
 ghost use Rattle.cells.specs.Writing.{fault_of_structure};
-ghost use Rattle.cells.specs.Shape.{shape, shapes, entries, node_shape, unbound_shape, relationship_shape, text_of, texts_of, numbers_of, element_of, elements_of};
+ghost use Rattle.cells.specs.Shape.{shape, shapes, entries, node_shape, unbound_shape, relationship_shape, path_shape, text_of, texts_of, numbers_of, element_of, elements_of};
 ghost use Rattle.cells.specs.Table.{relationship_tag, path_tag, date_time_tag};
 ghost use Rattle.structures.specs.Form.{form};
 ghost use Rattle.structures.specs.Steps.{form_entry};
 
-use cells::{Cell, ElementIds, Node, Relationship, UnboundRelationship, tags};
+use cells::{Cell, ElementIds, Node, Path, Relationship, UnboundRelationship, tags};
 use packstream::Value;
 use std::alloc::{AllocError, Global};
 use wire::Version;
@@ -144,16 +144,7 @@ pub(crate) fn value_of(alloc: Global, version: Version, cell: &Cell) -> Result<V
         Cell::Node(node) => Ok(node_value(alloc, version, node)?),
         Cell::UnboundRelationship(unbound) => Ok(unbound_value(alloc, version, unbound)?),
         Cell::Relationship(relationship) => Ok(relationship_value(alloc, version, relationship)?),
-        Cell::Path {
-            nodes,
-            relationships,
-            indices,
-        } => {
-            let places = Value::List(node_values(alloc, version, nodes)?);
-            let ways = Value::List(unbound_values(alloc, version, relationships)?);
-            let steps = list_of_ints(alloc, indices)?;
-            Ok(of_path(alloc, places, ways, steps)?)
-        }
+        Cell::Path(path) => Ok(path_value(alloc, version, path)?),
         Cell::Date { days } => Ok(of_ints(alloc, tags::DATE, &[*days])?),
         Cell::Time { nanos, offset } => Ok(of_ints(alloc, tags::TIME, &[*nanos, *offset])?),
         Cell::LocalTime { nanos } => Ok(of_ints(alloc, tags::LOCAL_TIME, &[*nanos])?),
@@ -348,6 +339,17 @@ fn of_path(
         (tree_then (tree relationships) (tree_then (tree steps) no_trees)))) }
 {
     Ok(Value::Struct(tags::PATH, vec![in alloc; nodes, relationships, steps]?))
+}
+
+#[cycle(write)]
+fn path_value(alloc: Global, version: Version, path: &Path) -> Result<Value, AllocError>
+    requires { all_fine (fault_of_structure version) (structures (path_shape path.now)) ≡ true }
+    ensures { IfOk result (λ w. tree w ≡ form version (path_shape path.now)) }
+{
+    let places = Value::List(node_values(alloc, version, &path.nodes)?);
+    let ways = Value::List(unbound_values(alloc, version, &path.relationships)?);
+    let steps = list_of_ints(alloc, &path.indices)?;
+    Ok(of_path(alloc, places, ways, steps)?)
 }
 
 #[cycle(write)]

@@ -294,18 +294,13 @@ fn text(alloc: Global, text: &Option<&str>) -> Result<Option<String>, AllocError
 
 /// Nodes 1 and 2, relationship 7 and two indices of 1.
 fn is_path(cell: &Cell) -> bool {
-    let Cell::Path {
-        nodes,
-        relationships,
-        indices,
-    } = cell
-    else {
+    let Cell::Path(path) = cell else {
         return false;
     };
-    match (nodes.as_slice(), relationships.as_slice()) {
+    match (path.nodes.as_slice(), path.relationships.as_slice()) {
         ([first, second], [walked]) => {
             let ids = [first.id, second.id, walked.id];
-            ids == [1, 2, 7] && indices.as_slice() == [1, 1].as_slice()
+            ids == [1, 2, 7] && path.indices.as_slice() == [1, 1].as_slice()
         }
         _ => false,
     }

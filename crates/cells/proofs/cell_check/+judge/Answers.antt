@@ -3,9 +3,10 @@ use Rattle.std.proofs.lemmas.Result.{err_from_is_err_and}
 use Rattle.packstream.specs.Tree.{Tree, int, structure, no_trees, tree_then}
 use Rattle.packstream.specs.View.{trees_of}
 use Rattle.cells.specs.Faults.{scan, structures, structures_in}
+use Rattle.cells.specs.declared.cell.Path.{out-Path}
 use Rattle.cells.specs.Shape.{shape, entry, node_shape, unbound_shape}
 use Rattle.cells.specs.Writing.{fault_of_structure}
-use Rattle.cells.proofs.Views.{node_parts, unbound_parts, relationship_parts, shape-Dict, shape-Path, shape-Duration, node-out, unbound-out, relationship-out}
+use Rattle.cells.proofs.Views.{node_parts, unbound_parts, relationship_parts, shape-Dict, shape-Duration, node-out, unbound-out, relationship-out, path-out}
 use Rattle.cells.proofs.Scanning.{members_step, members_end, pairs_step, pairs_end, scan_append, onward, Found}
 use Rattle.cells.proofs.Judged.{duration_judged, node_ok, unbound_ok, relationship_ok, path_ok, path_err, mapped}
 use Rattle.cells.proofs.cell_check.+judge.Goals as goal
@@ -91,29 +92,29 @@ check_relationship-returns t c =
     ∙ ap (λ (x : ℤ). scan (fault_of_structure c.args.version) c.args.seen (structures (relationship_parts n.id x (to_z w64 (of_z w64 n.end)) n.kind n.properties.items n.element_ids))) z1
     ∙ ap (λ (x : ℤ). scan (fault_of_structure c.args.version) c.args.seen (structures (relationship_parts n.id n.start x n.kind n.properties.items n.element_ids))) z2 ∙ ap (λ (u : Tree). scan (fault_of_structure c.args.version) c.args.seen (structures u)) (sym (relationship-out n))
 
-pub check_cell-returns-in_err-number-in-Path : goal.check_cell-returns-in_err-number-in-Path
-check_cell-returns-in_err-number-in-Path t c =
-    let w = c.in-Path in
+pub check_path-returns-in_err-number : goal.check_path-returns-in_err-number
+check_path-returns-in_err-number t c =
+    let w = out-Path c.args.path.now in
     let p = err_from_is_err_and c.from_residual.result c.from_residual.ensures.1 in
-    let e : c.from_residual.result ≡ Err c.in_err-number-in-Path.field-0.0 = search (rules, p.1, p.2) in
-    e ∙ path_err c.args.version c.args.seen _ _ c.in_err-number-in-Path.field-0.0 (map node_shape w.nodes.items) (map unbound_shape w.relationships.items) w.indices.items (mapped node_shape _ w.nodes.items (search rules)) (mapped unbound_shape _ w.relationships.items (search rules)) (rw c.deref.ensures.value at c.in_err-number-in-Path.ensures) ∙ ap (λ (u : Tree). scan (fault_of_structure c.args.version) c.args.seen (structures u)) (sym (ap shape w.is ∙ shape-Path w.nodes w.relationships w.indices))
+    let e : c.from_residual.result ≡ Err c.in_err-number.field-0.0 = search (rules, p.1, p.2) in
+    e ∙ path_err c.args.version c.args.seen _ _ c.in_err-number.field-0.0 (map node_shape w.nodes.items) (map unbound_shape w.relationships.items) w.indices.items (mapped node_shape _ w.nodes.items (search rules)) (mapped unbound_shape _ w.relationships.items (search rules)) (rw c.deref.ensures.value at c.in_err-number.ensures) ∙ ap (λ (u : Tree). scan (fault_of_structure c.args.version) c.args.seen (structures u)) (sym (path-out c.args.path.now))
 
-pub check_cell-returns-in_err-number-in-Path-2 : goal.check_cell-returns-in_err-number-in-Path-2
-check_cell-returns-in_err-number-in-Path-2 t c =
-    let w = c.in-Path in
+pub check_path-returns-in_err-number-2 : goal.check_path-returns-in_err-number-2
+check_path-returns-in_err-number-2 t c =
+    let w = out-Path c.args.path.now in
     let j = fault_of_structure c.args.version in
     let xs = structures_in (trees_of (map node_shape w.nodes.items)) in
     let ys = structures_in (trees_of (map unbound_shape w.relationships.items)) in
-    let p = err_from_is_err_and c.from_residual-in_err-number-in-Path-2.result c.from_residual-in_err-number-in-Path-2.ensures.1 in
-    let e : c.from_residual-in_err-number-in-Path-2.result ≡ Err c.in_err-number-in-Path-2.field-0.0 = search (rules, p.1, p.2) in
-    e ∙ ap (λ (r : Found). onward j r ys) c.in_err-number-in-Path-2.ensures ∙ sym (scan_append j c.in_ok-number-in-Path.number xs ys)
-    ∙ path_ok c.args.version c.args.seen c.in_ok-number-in-Path.number _ _ (map node_shape w.nodes.items) (map unbound_shape w.relationships.items) w.indices.items (mapped node_shape _ w.nodes.items (search rules)) (mapped unbound_shape _ w.relationships.items (search rules)) (rw c.deref.ensures.value at c.in_ok-number-in-Path.ensures) ∙ ap (λ (u : Tree). scan (fault_of_structure c.args.version) c.args.seen (structures u)) (sym (ap shape w.is ∙ shape-Path w.nodes w.relationships w.indices))
+    let p = err_from_is_err_and c.from_residual-in_err-number-2.result c.from_residual-in_err-number-2.ensures.1 in
+    let e : c.from_residual-in_err-number-2.result ≡ Err c.in_err-number-2.field-0.0 = search (rules, p.1, p.2) in
+    e ∙ ap (λ (r : Found). onward j r ys) c.in_err-number-2.ensures ∙ sym (scan_append j c.in_ok-number.number xs ys)
+    ∙ path_ok c.args.version c.args.seen c.in_ok-number.number _ _ (map node_shape w.nodes.items) (map unbound_shape w.relationships.items) w.indices.items (mapped node_shape _ w.nodes.items (search rules)) (mapped unbound_shape _ w.relationships.items (search rules)) (rw c.deref.ensures.value at c.in_ok-number.ensures) ∙ ap (λ (u : Tree). scan (fault_of_structure c.args.version) c.args.seen (structures u)) (sym (path-out c.args.path.now))
 
-pub check_cell-returns-in_ok-number-in-Path-2 : goal.check_cell-returns-in_ok-number-in-Path-2
-check_cell-returns-in_ok-number-in-Path-2 t c =
-    let w = c.in-Path in
+pub check_path-returns : goal.check_path-returns
+check_path-returns t c =
+    let w = out-Path c.args.path.now in
     let j = fault_of_structure c.args.version in
     let xs = structures_in (trees_of (map node_shape w.nodes.items)) in
     let ys = structures_in (trees_of (map unbound_shape w.relationships.items)) in
-    c.check_unbounds.ensures ∙ ap (λ (r : Found). onward j r ys) c.in_ok-number-in-Path-2.ensures ∙ sym (scan_append j c.in_ok-number-in-Path.number xs ys)
-    ∙ path_ok c.args.version c.args.seen c.in_ok-number-in-Path.number _ _ (map node_shape w.nodes.items) (map unbound_shape w.relationships.items) w.indices.items (mapped node_shape _ w.nodes.items (search rules)) (mapped unbound_shape _ w.relationships.items (search rules)) (rw c.deref.ensures.value at c.in_ok-number-in-Path.ensures) ∙ ap (λ (u : Tree). scan (fault_of_structure c.args.version) c.args.seen (structures u)) (sym (ap shape w.is ∙ shape-Path w.nodes w.relationships w.indices))
+    c.check_unbounds.ensures ∙ ap (λ (r : Found). onward j r ys) c.in_ok-number-2.ensures ∙ sym (scan_append j c.in_ok-number.number xs ys)
+    ∙ path_ok c.args.version c.args.seen c.in_ok-number.number _ _ (map node_shape w.nodes.items) (map unbound_shape w.relationships.items) w.indices.items (mapped node_shape _ w.nodes.items (search rules)) (mapped unbound_shape _ w.relationships.items (search rules)) (rw c.deref.ensures.value at c.in_ok-number.ensures) ∙ ap (λ (u : Tree). scan (fault_of_structure c.args.version) c.args.seen (structures u)) (sym (path-out c.args.path.now))

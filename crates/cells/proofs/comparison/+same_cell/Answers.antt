@@ -4,28 +4,15 @@ use Rattle.std.proofs.lemmas.Bool.{true≢false, not-true, not-false, and_left}
 use Rattle.cells.specs.Same.{same_tree}
 use Rattle.cells.specs.Shape.{shape, entry, node_shape, unbound_shape}
 use Rattle.cells.specs.declared.cell.Cell.{the_lemmas}
-use Rattle.cells.proofs.Alike.{node_alike, unbound_alike, relationship_alike, path_alike, second_differs, third_differs, last_left, ints_same, relationship_is_alone}
-use Rattle.cells.proofs.Views.{shape-Dict, shape-Path}
+use Rattle.cells.proofs.Alike.{node_alike, unbound_alike, relationship_alike, path_alike, third_left, second_differs, third_differs, last_left, ints_same, relationship_is_alone}
+use Rattle.cells.proofs.Views.{shape-Dict}
 use Rattle.cells.proofs.Walking.{SameMembers, members_apart, pairs_apart}
-use Rattle.cells.proofs.comparison.+same_cell.Goals.{same_cell-then-same_nodes, same_cell-else-same_nodes}
 use Rattle.cells.proofs.comparison.+same_cell.Goals as goal
 
 pub same_cell-returns-in-Dict-Dict : goal.same_cell-returns-in-Dict-Dict
 same_cell-returns-in-Dict-Dict t c =
     let w = c.in-Dict-Dict in
     c.same_pairs.ensures ∙ sym (ap₂ same_tree (ap shape w.is-0 ∙ shape-Dict w.one) (ap shape w.is-1 ∙ shape-Dict w.other))
-
-pub same_cell-returns-then-same_unbounds : goal.same_cell-returns-then-same_unbounds
-same_cell-returns-then-same_unbounds t c =
-    let w = c.in-Path-Path in
-    let both : (c.same_nodes.result ≡ true) × (SameMembers unbound_shape w.one_walked.items w.other_walked.items ≡ true) =
-    elim c.if-same_nodes.branch [
-      | same_cell-then-same_nodes v ↦ (v.if-same_nodes.true, sym v.same_unbounds.ensures ∙ sym v.value-is ∙ c.if-same_unbounds.true)
-      | same_cell-else-same_nodes v ↦ absurd (true≢false (sym c.if-same_unbounds.true ∙ v.value-is ∙ v.if-same_nodes.false))
-    ] in
-    c.eq-then-same_unbounds.ensures
-    ∙ sym (ap₂ same_tree (ap shape w.is-0 ∙ shape-Path w.ones w.one_walked w.one) (ap shape w.is-1 ∙ shape-Path w.others w.other_walked w.other)
-    ∙ path_alike w.ones.items w.others.items w.one_walked.items w.other_walked.items w.one.items w.other.items (sym c.same_nodes.ensures ∙ both.0) both.1)
 
 pub same_cell-returns-in_default-10 : goal.same_cell-returns-in_default-10
 same_cell-returns-in_default-10 t c = relationship_is_alone (shape c.args.one.now) c.args.other.now (search (rules, the_lemmas)) (omega arith) (λ e. omega arith)
@@ -86,3 +73,12 @@ same_relationship-returns t c =
     let z5 : to_z w64 (of_z w64 b.end) ≡ b.end = search rules in
     let ids : c.ne.result ≡ not (pointwise int_eq (a.id ∷ a.start ∷ a.end ∷ []) (b.id ∷ b.start ∷ b.end ∷ [])) = c.ne.ensures ∙ rw (z0, z1, z2, z3, z4, z5) refl in
     c.eq.ensures ∙ sym (relationship_alike a b ∙ last_left _ _ _ _ (not-false _ (sym ids ∙ c.if-ne.false)) (not-false _ (sym c.ne-2.ensures ∙ c.if-ne-2.false)) (sym c.same_pairs.ensures ∙ c.if-not-same_pairs.false))
+
+pub same_path-returns-then-not-same_nodes : goal.same_path-returns-then-not-same_nodes
+same_path-returns-then-not-same_nodes t c = sym (path_alike c.args.one.now c.args.other.now ∙ and_left _ _ (sym c.same_nodes.ensures ∙ c.if-not-same_nodes.true))
+
+pub same_path-returns-then-not-same_unbounds : goal.same_path-returns-then-not-same_unbounds
+same_path-returns-then-not-same_unbounds t c = sym (path_alike c.args.one.now c.args.other.now ∙ second_differs _ _ _ (sym c.same_unbounds.ensures ∙ c.if-not-same_unbounds.true))
+
+pub same_path-returns : goal.same_path-returns
+same_path-returns t c = c.eq.ensures ∙ sym (path_alike c.args.one.now c.args.other.now ∙ third_left _ _ _ (sym c.same_nodes.ensures ∙ c.if-not-same_nodes.false) (sym c.same_unbounds.ensures ∙ c.if-not-same_unbounds.false))

@@ -4,8 +4,8 @@ use Rattle.std.specs.Str.{is_utf8}
 use Rattle.packstream.specs.Reading.{text_at}
 use Rattle.scanner.proofs.numbers.text_of.Goals as goal
 
-pub returns-in-Ok : goal.returns-in-Ok
+pub returns-in-Some : goal.returns-in-Some
 unfolding text_at
-returns-in-Ok c =
-    let e : is_utf8 c.in_ok-front.front.now ≡ true = is_utf8-from_IsUtf8 _ c.in-Ok.ensures.1 in
-    rw (c.in_ok-front.ensures, e) (ap (λ (t : List ℕ). Ok (t, c.in_ok-front.rest.now)) (sym c.in-Ok.ensures.0))
+returns-in-Some c =
+    let e : is_utf8 c.in_ok-front.front.now ≡ true = is_utf8-from_IsUtf8 _ c.in-Some.ensures.1 in
+    rw (c.in_ok-front.ensures, e) (ap (λ (t : List ℕ). Ok (t, c.in_ok-front.rest.now)) (sym c.in-Some.ensures.0))

@@ -1,10 +1,10 @@
 use Rattle.std.proofs.Common.{List, ap, sym, ◌∙◌}
 use Rattle.packstream.specs.Tree.{Tree, list}
 use Rattle.packstream.specs.View.{trees_of}
+use Rattle.packstream.proofs.Views.{tree-List}
 use Rattle.cells.specs.Faults.{structures}
 use Rattle.cells.specs.Shape.{shapes}
 use Rattle.cells.specs.Writing.{fault_of_structure}
-use Rattle.cells.proofs.Faulty.{tree-List}
 use Rattle.cells.proofs.Fine.{fine_scan}
 use Rattle.cells.proofs.Typed.{shapes_typed}
 use Rattle.structures.proofs.Packing.{packed_is}

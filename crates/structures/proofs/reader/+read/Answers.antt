@@ -1,19 +1,21 @@
 use Rattle.std.proofs.Common.{◌≡◌, List, ◌∷◌, [], ℤ, ℕ, eqb-true, ap, sym, refl, ◌∙◌, rules, arith, map, to_z, of_z, w64}
 use Rattle.std.proofs.lemmas.List.Elements.{same_from_all_zip}
+use Rattle.std.proofs.lemmas.Result.{IfOk-weaker}
 use Rattle.packstream.specs.Tree.{Tree, Trees, int, list, dict, structure, no_trees, tree_then}
 use Rattle.packstream.specs.View.{tree, entry, trees, trees_of, entries_of, entries as seen_entries}
 use Rattle.packstream.specs.declared.value.Value.{the_lemmas as value_lemmas}
+use Rattle.packstream.proofs.Putting.{len_trees}
+use Rattle.packstream.proofs.Views.{tree-List}
 use Rattle.cells.specs.declared.table.Field.TheVariants.{Integer, Text, Labels, Properties, Nodes, Relationships, Indices}
 use Rattle.cells.specs.Faults.{structures, fault, is_list_of, has_tag}
 use Rattle.cells.specs.Steps.{all_fine}
 use Rattle.cells.specs.Shape.{entries, text_of, texts_of, numbers_of, element_of, elements_of, node_shape, unbound_shape}
 use Rattle.cells.specs.declared.cell.Cell.{the_lemmas}
 use Rattle.cells.proofs.Scanning.{tree-Dict}
-use Rattle.cells.proofs.Faulty.{tree-List, count_seen}
-use Rattle.cells.proofs.Views.{shape-List, shape-Dict, shape-Path, node-roll, unbound-roll, relationship-roll, relationship_parts}
+use Rattle.cells.proofs.Views.{shape-List, shape-Dict, path-roll, node-roll, unbound-roll, relationship-roll, relationship_parts}
 use Rattle.cells.proofs.Fine.{tree-Struct, fine_itself, fine_within, fine_member, fine_pair}
 use Rattle.structures.specs.Form.{typed}
-use Rattle.structures.proofs.Got.{typed_pairs, at_some, at_none, if_ok, typed_list, named_by, bound_by, each_at, path_length, path_field, read_by, at_both}
+use Rattle.structures.proofs.Got.{typed_pairs, at_some, at_none, typed_list, named_by, bound_by, each_at, path_length, path_field, read_by, at_both}
 use Rattle.structures.proofs.reader.+read.Goals as goal
 
 pub cell_of-pairs_of-requires : goal.cell_of-pairs_of-requires
@@ -54,7 +56,7 @@ cell_of-returns-in_ok-pairs_of-in-Dict t c =
 
 pub properties_in-returns-in-Dict : goal.properties_in-returns-in-Dict
 properties_in-returns-in-Dict t c =
-    if_ok c.pairs_of.result _ _ (λ v p h. ap (λ es. dict (entries_of es)) p ∙ ap dict (sym (typed_pairs (seen_entries c.in-Dict.pairs.items))) ∙ ap typed (sym (ap tree c.in-Dict.is ∙ tree-Dict c.in-Dict.pairs))) c.pairs_of.ensures
+    IfOk-weaker c.pairs_of.result _ _ (λ v p h. ap (λ es. dict (entries_of es)) p ∙ ap dict (sym (typed_pairs (seen_entries c.in-Dict.pairs.items))) ∙ ap typed (sym (ap tree c.in-Dict.is ∙ tree-Dict c.in-Dict.pairs))) c.pairs_of.ensures
 
 pub properties_of-returns-in-Some : goal.properties_of-returns-in-Some
 properties_of-returns-in-Some t c = rw (at_some c.args.fields.now.items c.args.i c.in-Some.value.now (search rules) (search rules)) c.properties_in.ensures
@@ -71,7 +73,7 @@ node_of-returns t c =
     let a3 = rw c.deref-3.ensures.value at c.in_ok-element_id.ensures.absent in
     let a4 = rw c.deref-3.ensures.value at c.in_ok-element_id.ensures.there in
     let e = named_by c.args.version 0x4E (trees_of (trees xs)) Integer Labels Properties (int c.int_at-id.result) (texts_of c.in_ok-labels.labels.items) (dict (entries_of (entries c.in_ok-properties.properties.items))) (element_of c.in_ok-element_id.element_id) refl c.requires.fine (a0, (a1, (c.in_ok-properties.ensures, tt)))
-    (λ n. a3 (sym (count_seen xs) ∙ n)) (λ n. a4 (omega (arith, count_seen xs))) in
+    (λ n. a3 (sym (len_trees xs) ∙ n)) (λ n. a4 (omega (arith, len_trees xs))) in
     node-roll _ ∙ ap (λ (n : ℤ). structure 0x4E (tree_then (int n) (tree_then (texts_of c.in_ok-labels.labels.items) (tree_then (dict (entries_of (entries c.in_ok-properties.properties.items))) (element_of c.in_ok-element_id.element_id))))) z ∙ ap (λ (x : Trees). structure 0x4E x) e
 
 pub unbound_of-returns : goal.unbound_of-returns
@@ -83,7 +85,7 @@ unbound_of-returns t c =
     let a3 = rw c.deref-3.ensures.value at c.in_ok-element_id.ensures.absent in
     let a4 = rw c.deref-3.ensures.value at c.in_ok-element_id.ensures.there in
     let e = named_by c.args.version 0x72 (trees_of (trees xs)) Integer Text Properties (int c.int_at-id.result) (text_of c.in_ok-kind.kind) (dict (entries_of (entries c.in_ok-properties.properties.items))) (element_of c.in_ok-element_id.element_id) refl c.requires.fine (a0, (a1, (c.in_ok-properties.ensures, tt)))
-    (λ n. a3 (sym (count_seen xs) ∙ n)) (λ n. a4 (omega (arith, count_seen xs))) in
+    (λ n. a3 (sym (len_trees xs) ∙ n)) (λ n. a4 (omega (arith, len_trees xs))) in
     unbound-roll _ ∙ ap (λ (n : ℤ). structure 0x72 (tree_then (int n) (tree_then (text_of c.in_ok-kind.kind) (tree_then (dict (entries_of (entries c.in_ok-properties.properties.items))) (element_of c.in_ok-element_id.element_id))))) z ∙ ap (λ (x : Trees). structure 0x72 x) e
 
 pub nodes_of-nodes_in-requires : goal.nodes_of-nodes_in-requires
@@ -93,7 +95,7 @@ nodes_of-nodes_in-requires t c =
 
 pub nodes_of-returns : goal.nodes_of-returns
 nodes_of-returns t c =
-    if_ok c.nodes_in.result _ _ (λ v p. ap (λ (ts : List Tree). list (trees_of ts)) p ∙ ap list (sym (typed_list (trees c.in-List.members.items))) ∙ ap typed (sym (ap tree c.in-List.is ∙ tree-List c.in-List.members))) c.nodes_in.ensures
+    IfOk-weaker c.nodes_in.result _ _ (λ v p. ap (λ (ts : List Tree). list (trees_of ts)) p ∙ ap list (sym (typed_list (trees c.in-List.members.items))) ∙ ap typed (sym (ap tree c.in-List.is ∙ tree-List c.in-List.members))) c.nodes_in.ensures
 
 pub nodes_in-node_from-requires : goal.nodes_in-node_from-requires
 nodes_in-node_from-requires t c =
@@ -114,7 +116,7 @@ unbounds_of-unbounds_in-requires t c =
 
 pub unbounds_of-returns : goal.unbounds_of-returns
 unbounds_of-returns t c =
-    if_ok c.unbounds_in.result _ _ (λ v p. ap (λ (ts : List Tree). list (trees_of ts)) p ∙ ap list (sym (typed_list (trees c.in-List.members.items))) ∙ ap typed (sym (ap tree c.in-List.is ∙ tree-List c.in-List.members))) c.unbounds_in.ensures
+    IfOk-weaker c.unbounds_in.result _ _ (λ v p. ap (λ (ts : List Tree). list (trees_of ts)) p ∙ ap list (sym (typed_list (trees c.in-List.members.items))) ∙ ap typed (sym (ap tree c.in-List.is ∙ tree-List c.in-List.members))) c.unbounds_in.ensures
 
 pub unbounds_in-unbound_from-requires : goal.unbounds_in-unbound_from-requires
 unbounds_in-unbound_from-requires t c =
@@ -150,7 +152,7 @@ path_of-returns t c =
     let k2 = path_field c.args.version xs 2 c.index-3.result.now Indices c.requires.fine c.index-3.ensures (omega (arith, n)) refl in
     let e = read_by c.args.version 0x50 (trees_of (trees xs)) (tree_then (list (trees_of (map node_shape c.in_ok-nodes.nodes.items))) (tree_then (list (trees_of (map unbound_shape c.in_ok-relationships.relationships.items))) (tree_then (numbers_of c.in_ok-indices.indices.items) no_trees))) (Nodes ∷ Relationships ∷ Indices ∷ []) (at_both c.args.version 0x50 _ refl) c.requires.fine refl
     ((λ h. c.in_ok-nodes.ensures ∙ ap typed (sym s0)), ((λ h. c.in_ok-relationships.ensures ∙ ap typed (sym s1)), ((λ h. c.in_ok-indices.ensures k2 ∙ ap typed (sym s2)), tt))) in
-    shape-Path c.in_ok-nodes.nodes c.in_ok-relationships.relationships c.in_ok-indices.indices ∙ ap (λ (x : Trees). structure 0x50 x) e
+    path-roll _ ∙ ap (λ (x : Trees). structure 0x50 x) e
 
 pub relationship_of-returns : goal.relationship_of-returns
 relationship_of-returns t c =
@@ -165,6 +167,6 @@ relationship_of-returns t c =
     let a5 = rw c.deref-5.ensures.value at c.in_ok-element_ids.ensures.absent in
     let a6 = rw c.deref-5.ensures.value at c.in_ok-element_ids.ensures.there in
     let e = bound_by c.args.version (trees_of (trees xs)) (int c.int_at-id.result) (int c.int_at-start.result) (int c.int_at-end.result) (text_of c.in_ok-kind.kind) (dict (entries_of (entries c.in_ok-properties.properties.items))) (elements_of c.in_ok-element_ids.element_ids) c.requires.fine
-    (a0, (a1, (a2, (a3, (c.in_ok-properties.ensures, tt))))) (λ n. a5 (sym (count_seen xs) ∙ n)) (λ n. a6 (omega (arith, count_seen xs))) in
+    (a0, (a1, (a2, (a3, (c.in_ok-properties.ensures, tt))))) (λ n. a5 (sym (len_trees xs) ∙ n)) (λ n. a6 (omega (arith, len_trees xs))) in
     let m : relationship_parts (to_z w64 (of_z w64 c.int_at-id.result)) (to_z w64 (of_z w64 c.int_at-start.result)) (to_z w64 (of_z w64 c.int_at-end.result)) c.in_ok-kind.kind c.in_ok-properties.properties.items c.in_ok-element_ids.element_ids ≡ relationship_parts c.int_at-id.result c.int_at-start.result c.int_at-end.result c.in_ok-kind.kind c.in_ok-properties.properties.items c.in_ok-element_ids.element_ids = rw (z0, z1, z2) refl in
     relationship-roll _ ∙ m ∙ ap (λ (x : Trees). structure 0x52 x) e

@@ -3,6 +3,7 @@ use Rattle.std.proofs.lemmas.List.Elements.{same_from_all_zip}
 use Rattle.packstream.specs.Tree.{Tree, int, list, dict}
 use Rattle.packstream.specs.View.{tree, trees_of, entries_of}
 use Rattle.packstream.specs.declared.value.Value.{the_lemmas as value_lemmas}
+use Rattle.packstream.proofs.Views.{tree-List}
 use Rattle.cells.specs.Faults.{structures}
 use Rattle.cells.specs.Steps.{all_fine}
 use Rattle.cells.specs.Writing.{fault_of_structure}
@@ -10,9 +11,9 @@ use Rattle.cells.proofs.Fine.{fine_member, fine_pair}
 use Rattle.cells.proofs.Judged.{node_fine, unbound_fine, relationship_fine, path_nodes_fine, path_unbounds_fine}
 use Rattle.cells.specs.Shape.{shape, shapes, entry, entries, node_shape, unbound_shape}
 use Rattle.cells.specs.declared.cell.Cell.{the_lemmas}
-use Rattle.cells.proofs.Faulty.{tree-List}
+use Rattle.cells.specs.declared.cell.Path.{out-Path}
 use Rattle.cells.proofs.Scanning.{tree-Dict}
-use Rattle.cells.proofs.Views.{shape-List, shape-Dict, node-out, unbound-out, relationship-out, shape-Path}
+use Rattle.cells.proofs.Views.{shape-List, shape-Dict, node-out, unbound-out, relationship-out, path-out}
 use Rattle.structures.specs.Form.{form}
 use Rattle.structures.proofs.Written.{tree-Int, form_list, form_pairs, node_written, unbound_written, relationship_written, path_written}
 use Rattle.structures.proofs.writer.+write.Goals as goal
@@ -48,24 +49,24 @@ relationship_value-returns t c =
     let z2 : to_z w64 (of_z w64 n.end) ≡ n.end = search rules in
     rw (z0, z1, z2) at c.in_ok-of_bound.ensures ∙ relationship_written c.args.version n.id n.start n.end n.kind n.properties.items n.element_ids _ _ (search (rules, value_lemmas)) (tree-Dict c.in_ok-properties.properties ∙ ap (λ es. dict (entries_of es)) c.in_ok-properties.ensures) ∙ ap (form c.args.version) (sym (relationship-out n))
 
-pub value_of-returns-in_ok-of_path-in-Path : goal.value_of-returns-in_ok-of_path-in-Path
-value_of-returns-in_ok-of_path-in-Path t c =
-    let w = c.in-Path in
-    c.in_ok-of_path-in-Path.ensures ∙ path_written c.args.version (map node_shape w.nodes.items) (map unbound_shape w.relationships.items) w.indices.items _ _ (tree c.in_ok-steps-in-Path.steps) (tree-List _ ∙ ap (λ (ts : List Tree). list (trees_of ts)) c.in_ok-node_values-in-Path.ensures) (tree-List _ ∙ ap (λ (ts : List Tree). list (trees_of ts)) c.in_ok-unbound_values-in-Path.ensures) (search rules) ∙ ap (form c.args.version) (sym (ap shape w.is ∙ shape-Path w.nodes w.relationships w.indices))
+pub path_value-returns : goal.path_value-returns
+path_value-returns t c =
+    let w = out-Path c.args.path.now in
+    c.in_ok-of_path.ensures ∙ path_written c.args.version (map node_shape w.nodes.items) (map unbound_shape w.relationships.items) w.indices.items _ _ (tree c.in_ok-steps.steps) (tree-List _ ∙ ap (λ (ts : List Tree). list (trees_of ts)) c.in_ok-node_values.ensures) (tree-List _ ∙ ap (λ (ts : List Tree). list (trees_of ts)) c.in_ok-unbound_values.ensures) (search rules) ∙ ap (form c.args.version) (sym (path-out c.args.path.now))
 
 pub value_of-pair_values-requires : goal.value_of-pair_values-requires
 value_of-pair_values-requires t c = (search (rules, the_lemmas), sym (ap (λ (u : Tree). all_fine (fault_of_structure c.args.version) (structures u)) (ap shape c.in-Dict.is ∙ shape-Dict c.in-Dict.pairs)) ∙ c.requires)
 
-pub value_of-node_values-requires : goal.value_of-node_values-requires
-value_of-node_values-requires t c =
-    let w = c.in-Path in
-    let h = sym (ap (λ (u : Tree). all_fine (fault_of_structure c.args.version) (structures u)) (ap shape w.is ∙ shape-Path w.nodes w.relationships w.indices)) ∙ c.requires in
+pub path_value-node_values-requires : goal.path_value-node_values-requires
+path_value-node_values-requires t c =
+    let w = out-Path c.args.path.now in
+    let h = sym (ap (λ (u : Tree). all_fine (fault_of_structure c.args.version) (structures u)) (path-out c.args.path.now)) ∙ c.requires in
     (search (rules, the_lemmas), path_nodes_fine (fault_of_structure c.args.version) (map node_shape w.nodes.items) (map unbound_shape w.relationships.items) w.indices.items h)
 
-pub value_of-unbound_values-requires : goal.value_of-unbound_values-requires
-value_of-unbound_values-requires t c =
-    let w = c.in-Path in
-    let h = sym (ap (λ (u : Tree). all_fine (fault_of_structure c.args.version) (structures u)) (ap shape w.is ∙ shape-Path w.nodes w.relationships w.indices)) ∙ c.requires in
+pub path_value-unbound_values-requires : goal.path_value-unbound_values-requires
+path_value-unbound_values-requires t c =
+    let w = out-Path c.args.path.now in
+    let h = sym (ap (λ (u : Tree). all_fine (fault_of_structure c.args.version) (structures u)) (path-out c.args.path.now)) ∙ c.requires in
     (search (rules, the_lemmas), path_unbounds_fine (fault_of_structure c.args.version) (map node_shape w.nodes.items) (map unbound_shape w.relationships.items) w.indices.items h)
 
 pub values_of-value_of-requires : goal.values_of-value_of-requires

@@ -1,10 +1,10 @@
 use Rattle.std.proofs.Common.{◌≡◌, ◌+ℤ◌, false, cond, ap, sym, ◌∙◌, rules, arith, to_z, of_z, w64}
 use Rattle.std.proofs.lemmas.Int.{ints}
+use Rattle.std.proofs.lemmas.Result.{IfOk-weaker}
 use Rattle.packstream.specs.Tree.{int, structure, tree_then, no_trees}
 use Rattle.packstream.specs.View.{tree}
 use Rattle.wire.specs.Versions.{has_utc_times}
 use Rattle.structures.specs.Form.{to_local}
-use Rattle.structures.proofs.Got.{if_ok}
 use Rattle.structures.proofs.Formed.{local_sum}
 use Rattle.structures.proofs.writer.of_moment.Goals as goal
 
@@ -17,6 +17,6 @@ returns-else-has_utc_times c =
     let zu : to_z w64 (of_z w64 c.args.utc) ≡ c.args.utc = search rules in
     let legacy : has_utc_times c.args.version ≡ false = sym c.if-has_utc_times.ensures in
     let fields = tree_then (int c.args.utc) (tree_then (int c.args.nanos) (tree_then (int c.args.offset) no_trees)) in
-    if_ok c.of_ints-else-has_utc_times.result _ _ (λ w p.
+    IfOk-weaker c.of_ints-else-has_utc_times.result _ _ (λ w p.
     (let q : tree w ≡ structure 0x46 (tree_then (int (to_z w64 (of_z w64 (to_z w64 (of_z w64 c.args.utc) +ℤ to_z w64 (of_z w64 c.args.offset))))) (tree_then (int (to_z w64 (of_z w64 c.args.nanos))) (tree_then (int (to_z w64 (of_z w64 c.args.offset))) no_trees))) = p in rw (zu, z2, z1, z0) at q)
     ∙ sym (ap (λ b. cond b (structure 0x49 fields) (structure 0x46 (to_local fields))) legacy)) c.of_ints-else-has_utc_times.ensures
