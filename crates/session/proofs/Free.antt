@@ -93,7 +93,7 @@ serve_free S v c ledger s left tx q =
     (either ledger (is_some (row_at v s (kind_of q) Verdict.Success)) (perform S v c ledger s left tx q) _ (perform_free S v c ledger s left tx q) tt))
 
 -- an act adds what its reply does
-pub acts_free : (ledger : List EntryView) (v : Version) (left : Open) (tx : Tx) (a : Act) (reply : Reply) → ActsAs v left tx a reply → IsFree ledger (entry_in reply) → AddsFree ledger left tx a
-acts_free ledger v left tx (acts.Sends body) reply h f = tt
-acts_free ledger v left tx (acts.Says d body l) reply h f = subst (λ r. IsFree ledger (entry_in r)) h.1 f
-acts_free ledger v left tx acts.Leaves reply h f = tt
+pub acts_free : (ledger : List EntryView) (v : Version) (left : Open) (tx : Tx) (b : List ℕ) (a : Act) (reply : Reply) → ActsAs v left tx b a reply → IsFree ledger (entry_in reply) → AddsFree ledger left tx a
+acts_free ledger v left tx b acts.Sends reply h f = tt
+acts_free ledger v left tx b (acts.Says d l) reply h f = subst (λ r. IsFree ledger (entry_in r)) h.1 f
+acts_free ledger v left tx b acts.Leaves reply h f = tt

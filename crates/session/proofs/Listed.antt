@@ -1,6 +1,6 @@
 -- A row that was fitted as a list of cells.
-use Rattle.std.proofs.Common.{◌≡◌, List, [], ◌∷◌, map, IfOk, Result, Ok, Err, Vec, Global, refl, ap, sym, ◌∙◌}
-use Rattle.packstream.specs.Tree.{Tree, list, Trees, tree_then}
+use Rattle.std.proofs.Common.{◌≡◌, List, [], ◌∷◌, map, IfOk, Result, Ok, Err, Vec, Global, refl, ap, ◌∙◌}
+use Rattle.packstream.specs.Tree.{Tree, list}
 use Rattle.packstream.specs.View.{trees_of}
 use Rattle.wire.specs.declared.Version.{Version}
 use Rattle.cells.specs.declared.cell.Cell.{Cell, List as ListCell}

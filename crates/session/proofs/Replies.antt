@@ -6,26 +6,27 @@ use Rattle.packstream.specs.Tree.{Tree}
 use Rattle.wire.specs.declared.Version.{Version}
 use Rattle.messages.specs.declared.request.Count.{Count}
 use Rattle.messages.specs.declared.request.Count.TheVariants as counts
-use Rattle.messages.specs.Summaries.{response_of_summary, RowsLeft}
+use Rattle.messages.specs.Summaries.{response_of_summary, RowsLeft, Closing}
 use Rattle.machine.specs.declared.states.State.{State}
+use Rattle.machine.specs.declared.states.State.TheVariants as states
 use Rattle.machine.specs.declared.rows.Verdict.{Verdict}
 use Rattle.engine.specs.Views.{EntryView}
 use Rattle.session.specs.declared.acts.Act.{Act}
-use Rattle.session.specs.Session.{Open, Tx, Reply, Summary, close, close_last, used_up, count_at, left_after, pull}
+use Rattle.session.specs.Session.{Open, no_result, Tx, Reply, Summary, close, close_last, used_up, count_at, left_after, pull}
 use Rattle.session.specs.declared.acts.Act.TheVariants as acts
 use Rattle.session.specs.Acts.{ActsAs, IsWritable}
 
 -- of an act whose reply is another name of the same
-pub acts_same : (v : Version) (left : Open) (tx : Tx) (r : Result Act AllocError) (x y : Reply) → x ≡ y → IfOk r (λ act. ActsAs v left tx act x) → IfOk r (λ act. ActsAs v left tx act y)
-acts_same v left tx r x y e h = subst (λ z. IfOk r (λ act. ActsAs v left tx act z)) e h
+pub acts_same : (v : Version) (left : Open) (tx : Tx) (b : List ℕ) (r : Result Act AllocError) (x y : Reply) → x ≡ y → IfOk r (λ act. ActsAs v left tx b act x) → IfOk r (λ act. ActsAs v left tx b act y)
+acts_same v left tx b r x y e h = subst (λ z. IfOk r (λ act. ActsAs v left tx b act z)) e h
 
 -- with these rows left
 abbrev pub more_left : List (List Tree) → Open → Tx → Reply
 more_left rows left tx = Summary Verdict.More (response_of_summary RowsLeft) (record left { rows = rows; written = 0 }) tx None
 
 -- the same, where the version has another name too
-pub acts_at : (v w : Version) (left : Open) (tx : Tx) (r : Result Act AllocError) (x y : Reply) → v ≡ w → x ≡ y → IfOk r (λ act. ActsAs v left tx act x) → IfOk r (λ act. ActsAs w left tx act y)
-acts_at v w left tx r x y e f h = acts_same w left tx r x y f (subst (λ u. IfOk r (λ act. ActsAs u left tx act x)) e h)
+pub acts_at : (v w : Version) (left : Open) (tx : Tx) (b : List ℕ) (r : Result Act AllocError) (x y : Reply) → v ≡ w → x ≡ y → IfOk r (λ act. ActsAs v left tx b act x) → IfOk r (λ act. ActsAs w left tx b act y)
+acts_at v w left tx b r x y e f h = acts_same w left tx b r x y f (subst (λ u. IfOk r (λ act. ActsAs u left tx b act x)) e h)
 
 pub close_more : (s : State) (ledger : List EntryView) (rows : List (List Tree)) (left : Open) (tx : Tx) → 0 < length rows → more_left rows left tx ≡ close s ledger rows left tx
 close_more s ledger [] left tx h = absurd (omega arith)
@@ -56,12 +57,24 @@ pub discard_last : (s : State) (ledger : List EntryView) (n : ℕ) (count : Coun
 discard_last s ledger n count rows left tx e h =
     close_none s ledger (drop n rows) left tx (omega (arith, length-drop n rows)) ∙ ap (λ rs. close s ledger rs left tx) (left_is count rows n e)
 
--- what acts as a reply can be written
-pub acts_writable : (v : Version) (left : Open) (tx : Tx) (a : Act) (reply : Reply) → ActsAs v left tx a reply → IsWritable left.rows a
-acts_writable v left tx (acts.Sends body) reply h = ((h.body.some, h.body.few), h.some)
-acts_writable v left tx (acts.Says d body l) reply h = (h.2.some, h.2.few)
-acts_writable v left tx acts.Leaves reply h = tt
+-- the last summary of a result that commits nothing
+pub close_inside : (s : State) (ledger : List EntryView) (left : Open) (tx : Tx) → (s ≡ states.Streaming → ⊥) → Summary Verdict.Success (response_of_summary (Closing None left.mode)) no_result tx None ≡ close_last s ledger left tx
+close_inside states.Fresh ledger left tx other = refl
+close_inside states.Unauth ledger left tx other = refl
+close_inside states.Ready ledger left tx other = refl
+close_inside states.Streaming ledger left tx other = absurd (other refl)
+close_inside states.TxReady ledger left tx other = refl
+close_inside states.TxStreaming ledger left tx other = refl
+close_inside states.Failed ledger left tx other = refl
+close_inside states.Interrupted ledger left tx other = refl
+close_inside states.Defunct ledger left tx other = refl
 
-pub all_writable : (v : Version) (left : Open) (tx : Tx) (r : Result Act AllocError) (reply : Reply) → IfOk r (λ a. ActsAs v left tx a reply) → IfOk r (IsWritable left.rows)
-all_writable v left tx (Ok a) reply h = acts_writable v left tx a reply h
-all_writable v left tx (Err e) reply h = tt
+-- what acts as a reply can be written
+pub acts_writable : (v : Version) (left : Open) (tx : Tx) (b : List ℕ) (a : Act) (reply : Reply) → ActsAs v left tx b a reply → IsWritable left.rows b a
+acts_writable v left tx b acts.Sends reply h = ((h.body.some, h.body.few), h.some)
+acts_writable v left tx b (acts.Says d l) reply h = (h.2.some, h.2.few)
+acts_writable v left tx b acts.Leaves reply h = tt
+
+pub all_writable : (v : Version) (left : Open) (tx : Tx) (b : List ℕ) (r : Result Act AllocError) (reply : Reply) → IfOk r (λ a. ActsAs v left tx b a reply) → IfOk r (IsWritable left.rows b)
+all_writable v left tx b (Ok a) reply h = acts_writable v left tx b a reply h
+all_writable v left tx b (Err e) reply h = tt

@@ -15,6 +15,7 @@ use Rattle.engine.specs.Views.{Token, EntryView, AnswerView}
 use Rattle.session.specs.declared.acts.Turn.TheVariants as turn
 use Rattle.session.specs.declared.acts.Leaves.{Leaves}
 use Rattle.session.specs.declared.kinds.Worked.{Worked}
+use Rattle.session.specs.declared.fault.Fault.{Fault}
 use Rattle.session.specs.declared.fault.Fault.TheVariants as fault
 use Rattle.session.specs.Said.{fits}
 use Rattle.messages.specs.Writing.{response_spelling}
@@ -86,3 +87,14 @@ opens_as v s left tx token a l few fit o t e =
     cond_false (in_transaction s && (is_some a.write && nat_le 1024 (length tx.writes))) (fails fault.TooManyWrites) (cond (fits v m) done (fails (unwritable (response_spelling v m)))) few
     ∙ cond_true (fits v m) done (fails (unwritable (response_spelling v m))) fit
     ∙ sym (ap (λ x. Summary Verdict.Success m x (left_tx l tx) (left_entry l left tx)) o ∙ ap (λ x. Summary Verdict.Success m (result_of_answer v s token a) x (left_entry l left tx)) t ∙ ap (λ x. Summary Verdict.Success m (result_of_answer v s token a) after x) e)
+
+-- what an answer is refused for, where its fields can't be said
+pub refused_as : (v : Version) (s : State) (tx : Tx) (token : Token) (a : AnswerView) (f : Fault) → (in_transaction s && (is_some a.write && nat_le 1024 (length tx.writes))) ≡ false → fits v (fields_said a.fields) ≡ false
+    → unwritable (response_spelling v (fields_said a.fields)) ≡ f → fails f ≡ reply_to_run v s tx token (Ok a)
+refused_as v s tx token a f few misfit why =
+    let m = fields_said a.fields in
+    let after : Tx = if in_transaction s then with_write tx a.write else no_tx in
+    let done : Reply = Summary Verdict.Success m (result_of_answer v s token a) after None in
+    let else_fails : Reply = fails (unwritable (response_spelling v m)) in
+    sym (cond_false (in_transaction s && (is_some a.write && nat_le 1024 (length tx.writes))) (fails fault.TooManyWrites) (cond (fits v m) done else_fails) few
+    ∙ cond_false (fits v m) done else_fails misfit ∙ ap fails why)

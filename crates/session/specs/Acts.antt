@@ -84,7 +84,7 @@ abbrev pub left_result : Leaves → Open → Open
 left_result leaves.Nothing left = no_result
 left_result (leaves.Begun mode token) left = no_result
 left_result (leaves.Opened r) left = open_of r
-left_result (leaves.Joined r write) left = open_of r
+left_result (leaves.Joined r) left = record (open_of r) { write = None }
 left_result (leaves.Rest n) left =
     record left { rows = drop n left.rows; written = 0 }
 left_result leaves.Transaction left = no_result
@@ -96,7 +96,7 @@ abbrev pub left_tx : Leaves → Tx → Tx
 left_tx leaves.Nothing tx = no_tx
 left_tx (leaves.Begun mode token) tx = record { mode = mode; writes = []; token = token_view token }
 left_tx (leaves.Opened r) tx = no_tx
-left_tx (leaves.Joined r write) tx = with_write tx (option_map write_view write)
+left_tx (leaves.Joined r) tx = with_write tx (open_of r).write
 left_tx (leaves.Rest n) tx = tx
 left_tx leaves.Transaction tx = tx
 left_tx leaves.CommitsResult tx = no_tx
@@ -125,8 +125,8 @@ IsFree ledger (Some change) = found_in change.token change.writes ledger ≡ Fre
 
 -- the same of what an act adds
 abbrev pub AddsFree : List EntryView → Open → Tx → Act → Type 0
-AddsFree ledger left tx (act.Sends body) = Unit {0}
-AddsFree ledger left tx (act.Says d body l) = IsFree ledger (left_entry l left tx)
+AddsFree ledger left tx act.Sends = Unit {0}
+AddsFree ledger left tx (act.Says d l) = IsFree ledger (left_entry l left tx)
 AddsFree ledger left tx act.Leaves = Unit {0}
 
 -- one row fewer
@@ -140,24 +140,24 @@ pub record IsRow (v : Version) (left : Open) (reply : Reply) (b : List ℕ) : Ty
   pub body : IsBody v (ResponseView.Record row) b
   pub some : 0 < length left.rows
 
--- an act is this reply
-abbrev pub ActsAs : Version → Open → Tx → Act → Reply → Type 0
-ActsAs v left tx (act.Sends body) reply = IsRow v left reply body.items
-ActsAs v left tx (act.Says d body l) reply =
+-- an act, which writes this body, is this reply
+abbrev pub ActsAs : Version → Open → Tx → List ℕ → Act → Reply → Type 0
+ActsAs v left tx body act.Sends reply = IsRow v left reply body
+ActsAs v left tx body (act.Says d l) reply =
     (m : ResponseView)
     × (reply ≡ Reply.Summary d m (left_result l left) (left_tx l tx) (left_entry l left tx))
-    × IsBody v m body.items
-ActsAs v left tx act.Leaves reply = reply ≡ Reply.Bye
+    × IsBody v m body
+ActsAs v left tx body act.Leaves reply = reply ≡ Reply.Bye
 
 -- a message may have these bytes
 abbrev pub IsSized : List ℕ → Type 0
 IsSized b = (0 < length b) × (length b ≤ max_message)
 
 -- what is written fits a message, and a row that is sent is there
-abbrev pub IsWritable : List (List Tree) → Act → Type 0
-IsWritable rows (act.Sends body) = IsSized body.items × (0 < length rows)
-IsWritable rows (act.Says d body l) = IsSized body.items
-IsWritable rows act.Leaves = Unit {0}
+abbrev pub IsWritable : List (List Tree) → List ℕ → Act → Type 0
+IsWritable rows body act.Sends = IsSized body × (0 < length rows)
+IsWritable rows body (act.Says d l) = IsSized body
+IsWritable rows body act.Leaves = Unit {0}
 
 -- what the first that waits is for a step
 abbrev pub turn_in : List Arrival → Turn

@@ -1,10 +1,10 @@
 //! What is open after a summary, and the commit of it.
-ghost use Rattle.std.specs.Prelude.{◌≡◌, ◌+◌, ◌<◌, ◌≤◌, ◌++◌, length, drop, Some, option_map, option_to_list, IfOk, OnOk, OnErr};
+ghost use Rattle.std.specs.Prelude.{◌≡◌, ◌+◌, ◌<◌, ◌≤◌, ◌++◌, [], length, drop, Some, option_to_list, IfOk, OnOk, OnErr};
 ghost use Rattle.engine.specs.Tokens.{Free, found_in};
-ghost use Rattle.engine.specs.Views.{token_view, write_view, writes_view};
+ghost use Rattle.engine.specs.Views.{token_view, writes_view};
 ghost use Rattle.session.specs.Session.{no_result, change_alone};
 ghost use Rattle.session.specs.Rest.{commit_entries};
-ghost use Rattle.session.specs.Views.{open_of, tx_of};
+ghost use Rattle.session.specs.Views.{first_of, open_of, tx_of};
 ghost use Rattle.session.specs.Acts.{left_result, left_tx, left_entry, length_after, change_of, IsBelow, IsFree};
 ghost use Rattle.engine.specs.Limits.{ledger_bound};
 
@@ -57,8 +57,8 @@ pub(crate) fn leave<E: Engine>(
             *tx = Transaction::none(alloc);
             Ok(None)
         }
-        Leaves::Joined(next, write) => {
-            join_write(&mut tx.writes, write)?;
+        Leaves::Joined(mut next) => {
+            join_write(&mut tx.writes, &mut next.writes)?;
             *open = next;
             Ok(None)
         }
@@ -84,14 +84,19 @@ pub(crate) fn leave<E: Engine>(
     }
 }
 
-/// The transaction takes over a write.
-fn join_write(writes: &mut Vec<Write>, write: Option<Write>) -> Result<(), AllocError>
+/// The transaction takes over the write of a result, where it has one.
+#[tactic(auto, using(crate::proofs::Writes::none_popped, crate::proofs::Writes::one_popped))]
+fn join_write(writes: &mut Vec<Write>, joined: &mut Vec<Write>) -> Result<(), AllocError>
+    requires { length joined.old.items ≤ 1 }
     ensures ok { OnOk result
         (writes_view writes.new.items
-        ≡ writes_view writes.old.items ++ option_to_list (option_map write_view write)) }
+        ≡ writes_view writes.old.items
+        ++ option_to_list (first_of (writes_view joined.old.items))) }
+    ensures none { OnOk result (joined.new.items ≡ []) }
+    ensures few { length joined.new.items ≤ 1 }
     ensures err { OnErr result (writes_view writes.new.items ≡ writes_view writes.old.items) }
 {
-    match write {
+    match joined.pop() {
         None => Ok(()),
         Some(write) => {
             writes.push(write)?;

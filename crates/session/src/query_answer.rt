@@ -1,19 +1,18 @@
 //! What a query's answer opens.
-ghost use Rattle.std.specs.Prelude.{◌≡◌, ◌≤◌, true, false, length, map, option_map, IfOk, IfErr, string_bytes};
+ghost use Rattle.std.specs.Prelude.{◌≡◌, ◌≤◌, true, length, map, option_map, IfOk, OnOk, IfErr, string_bytes};
 ghost use Rattle.messages.specs.View.{response_view};
 ghost use Rattle.cells.specs.Shape.{shapes};
 ghost use Rattle.packstream.specs.Tree.{text};
-ghost use Rattle.engine.specs.Views.{Token, rows_view, token_view, write_view, writes_view};
-ghost use Rattle.machine.specs.declared.states.State.{State as AnyState};
-ghost use Rattle.session.specs.Session.{fields_said, rows_fitted, in_transaction};
-ghost use Rattle.session.specs.Views.{first_of};
+ghost use Rattle.engine.specs.Views.{rows_view, token_view, write_view, writes_view};
+ghost use Rattle.session.specs.Session.{fields_said, rows_fitted, result_mode as as_said};
+ghost use Rattle.session.specs.Views.{first_of, open_of};
 ghost use Rattle.session.specs.Said.{fits};
 ghost use Rattle.session.specs.Acts.{LeavesOpen, IsBody, Refuses};
 ghost use Rattle.engine.specs.Limits.{max_rows};
 
 use crate::acts::Leaves;
 use crate::result::{OpenResult, Row};
-use crate::spelling::{Unwritten, spelling_of};
+use crate::spelling::{Unwritten, spell_response};
 use crate::words::{is_in_transaction, result_mode};
 use bytes::BytesMut;
 use engine::{Mode as QueryMode, Write};
@@ -24,18 +23,19 @@ use std::collections::VecDeque;
 use structures::Cell;
 use wire::Version;
 
-/// The text of the SUCCESS of a RUN, or why it wasn't written.
-pub(crate) fn fields_spelling(
+/// Spells the SUCCESS of a RUN in place of what the body held, or tells why it wasn't written.
+pub(crate) fn spell_fields(
     alloc: Global,
     version: Version,
     fields: Vec<String>,
-) -> Result<BytesMut, Unwritten>
+    body: &mut BytesMut,
+) -> Result<(), Unwritten>
     ensures ok { let said = fields_said (map string_bytes fields.items) in
-        IfOk result (λ b. IsBody version said b.items × (fits version said ≡ true)) }
+        OnOk result (IsBody version said body.new.items × (fits version said ≡ true)) }
     ensures err { IfErr result (Refuses version (fields_said (map string_bytes fields.items))) }
 {
     match fields_response(alloc, fields) {
-        Ok(response) => spelling_of(alloc, version, &response),
+        Ok(response) => spell_response(version, &response, body),
         Err(AllocError) => Err(Unwritten::Memory),
     }
 }
@@ -78,56 +78,43 @@ pub(crate) fn leaves_open(
     ensures { IfOk result
         (LeavesOpen version state rows.items mode write (token_view token.now)) }
 {
+    let writes = writes_of(alloc, write)?;
     if is_in_transaction(state) {
-        return joined(alloc, version, rows, mode, write);
+        let joined = opened(alloc, version, rows, mode, writes, None)?;
+        return Ok(Leaves::Joined(joined));
     }
-    opened(alloc, version, rows, mode, write, token)
+    let token = copy_token(token)?;
+    let open = opened(alloc, version, rows, mode, writes, token)?;
+    Ok(Leaves::Opened(open))
 }
 
-/// A result outside a transaction.
+/// A result of these rows, of which none is written yet.
 fn opened(
     alloc: Global,
     version: Version,
     rows: Vec<Vec<Cell>>,
     mode: QueryMode,
-    write: Option<Write>,
-    token: &Option<String>,
-) -> Result<Leaves, AllocError>
-    requires { length rows.items ≤ max_rows }
-    ensures { (state : AnyState) → in_transaction state ≡ false
-        → IfOk result (LeavesOpen version state rows.items mode write (token_view token.now)) }
+    writes: Vec<Write>,
+    token: Option<String>,
+) -> Result<OpenResult, AllocError>
+    requires few { length rows.items ≤ max_rows }
+    requires one { length writes.items ≤ 1 }
+    ensures { IfOk result (λ r. open_of r
+        ≡ record {
+          rows = rows_fitted version (rows_view rows.items);
+          mode = as_said mode;
+          write = first_of (writes_view writes.items);
+          written = 0;
+          token = token_view token;
+        }) }
 {
-    let writes = writes_of(alloc, write)?;
-    let token = copy_token(token)?;
-    Ok(Leaves::Opened(OpenResult {
+    Ok(OpenResult {
         rows: fitted_rows(alloc, version, rows)?,
         mode: result_mode(mode),
         writes,
         token,
         written: 0,
-    }))
-}
-
-/// A result in the transaction, for any token of its RUN.
-fn joined(
-    alloc: Global,
-    version: Version,
-    rows: Vec<Vec<Cell>>,
-    mode: QueryMode,
-    write: Option<Write>,
-) -> Result<Leaves, AllocError>
-    requires { length rows.items ≤ max_rows }
-    ensures { (state : AnyState) (token : Token) → in_transaction state ≡ true
-        → IfOk result (LeavesOpen version state rows.items mode write token) }
-{
-    let result = OpenResult {
-        rows: fitted_rows(alloc, version, rows)?,
-        mode: result_mode(mode),
-        writes: Vec::new(alloc),
-        token: None,
-        written: 0,
-    };
-    Ok(Leaves::Joined(result, write))
+    })
 }
 
 /// A copy of a token, where there is one.

@@ -13,9 +13,10 @@ use crate::acts::{Act, Leaves};
 use crate::decision::{refuses, says};
 use crate::fault::Fault;
 use crate::session::Session;
-use crate::spelling::{Unwritten, spelling_of};
+use crate::spelling::{Unwritten, spell_response};
 use crate::summary::Summary;
 use crate::words::{count_of, is_used_up};
+use bytes::BytesMut;
 use engine::{Commit, Engine, LEDGER_BOUND, Write};
 use machine::{State, Verdict};
 use messages::Count;
@@ -62,9 +63,9 @@ fn next_len<E: Engine>(engine: &E) -> Result<u64, AllocError>
 
 impl Session {
     /// The summary of a COMMIT, by what the engine would answer to it.
-    pub(crate) fn committed(&self, commit: Commit) -> Result<Act, AllocError>
+    pub(crate) fn committed(&self, commit: Commit, body: &mut BytesMut) -> Result<Act, AllocError>
         ensures { let k = kept_of self.now in IfOk result
-            (λ act. ActsAs (version_of k) k.result k.tx act
+            (λ act. ActsAs (version_of k) k.result k.tx body.new.items act
             (commits_by (change_inside k.tx) (λ n. response_of_summary (Committed n)) commit)) }
     {
         let version = self.version();
@@ -75,6 +76,7 @@ impl Session {
                 Verdict::Success,
                 Summary::Committed(len),
                 Leaves::CommitsTransaction,
+                body,
             ),
             Commit::Repeat(place) => says(
                 self.alloc,
@@ -82,15 +84,16 @@ impl Session {
                 Verdict::Success,
                 Summary::Committed(place),
                 Leaves::Nothing,
+                body,
             ),
-            Commit::Clash => refuses(self.alloc, version, Fault::TokenClash),
+            Commit::Clash => refuses(self.alloc, version, Fault::TokenClash, body),
         }
     }
 
     /// The last summary of a result outside a transaction, by what the engine would answer to its commit.
-    fn closed(&self, commit: Commit) -> Result<Act, AllocError>
+    fn closed(&self, commit: Commit, body: &mut BytesMut) -> Result<Act, AllocError>
         ensures { let k = kept_of self.now in IfOk result
-            (λ act. ActsAs (version_of k) k.result k.tx act
+            (λ act. ActsAs (version_of k) k.result k.tx body.new.items act
             (commits_by (change_alone k.result)
             (λ n. response_of_summary (Closing (Some n) k.result.mode)) commit)) }
     {
@@ -102,6 +105,7 @@ impl Session {
                 Verdict::Success,
                 Summary::Closing(Some(len), mode),
                 Leaves::CommitsResult,
+                body,
             ),
             Commit::Repeat(place) => says(
                 alloc,
@@ -109,21 +113,27 @@ impl Session {
                 Verdict::Success,
                 Summary::Closing(Some(place), mode),
                 Leaves::Nothing,
+                body,
             ),
-            Commit::Clash => refuses(alloc, version, Fault::TokenClash),
+            Commit::Clash => refuses(alloc, version, Fault::TokenClash, body),
         }
     }
 
     /// The next row, or a summary where the count or the rows are used up.
-    pub(crate) fn pull<E: Engine>(&self, count: Count, engine: &E) -> Result<Act, AllocError>
+    pub(crate) fn pull<E: Engine>(
+        &self,
+        count: Count,
+        engine: &E,
+        body: &mut BytesMut,
+    ) -> Result<Act, AllocError>
         ensures { let k = kept_of self.now in IfOk result
-            (λ act. ActsAs (version_of k) k.result k.tx act
+            (λ act. ActsAs (version_of k) k.result k.tx body.new.items act
             (pull (version_of k) k.state (E.entries engine.now) count k.result.rows k.result
             k.tx)) }
     {
         let (alloc, version) = (self.alloc, self.version());
         match self.result.rows.front() {
-            None => self.last(engine),
+            None => self.last(engine, body),
             Some(row) => {
                 if is_used_up(count, self.result.written) {
                     return says(
@@ -132,21 +142,27 @@ impl Session {
                         Verdict::More,
                         Summary::RowsLeft,
                         Leaves::Rest(0),
+                        body,
                     );
                 }
-                match spelling_of(alloc, version, row.record()) {
-                    Ok(body) => Ok(Act::Sends(body)),
+                match spell_response(version, row.record(), body) {
+                    Ok(()) => Ok(Act::Sends),
                     Err(Unwritten::Memory) => Err(AllocError),
-                    Err(Unwritten::Because(fault)) => refuses(alloc, version, fault),
+                    Err(Unwritten::Because(fault)) => refuses(alloc, version, fault, body),
                 }
             }
         }
     }
 
     /// Drops as many rows as the count takes.
-    pub(crate) fn discard<E: Engine>(&self, count: Count, engine: &E) -> Result<Act, AllocError>
+    pub(crate) fn discard<E: Engine>(
+        &self,
+        count: Count,
+        engine: &E,
+        body: &mut BytesMut,
+    ) -> Result<Act, AllocError>
         ensures { let k = kept_of self.now in IfOk result
-            (λ act. ActsAs (version_of k) k.result k.tx act
+            (λ act. ActsAs (version_of k) k.result k.tx body.new.items act
             (close k.state (E.entries engine.now) (left_after count k.result.rows) k.result
             k.tx)) }
     {
@@ -158,22 +174,23 @@ impl Session {
                 Verdict::More,
                 Summary::RowsLeft,
                 Leaves::Rest(dropped),
+                body,
             );
         }
-        self.last(engine)
+        self.last(engine, body)
     }
 
     /// The last summary of a result, which commits outside a transaction.
-    fn last<E: Engine>(&self, engine: &E) -> Result<Act, AllocError>
+    fn last<E: Engine>(&self, engine: &E, body: &mut BytesMut) -> Result<Act, AllocError>
         ensures { let k = kept_of self.now in IfOk result
-            (λ act. ActsAs (version_of k) k.result k.tx act
+            (λ act. ActsAs (version_of k) k.result k.tx body.new.items act
             (close_last k.state (E.entries engine.now) k.result k.tx)) }
     {
         let (alloc, version, mode) = (self.alloc, self.version(), self.result.mode);
         match self.state {
             State::Streaming => {
                 let commit = commit_of(engine, &self.result.token, &self.result.writes)?;
-                self.closed(commit)
+                self.closed(commit, body)
             }
             _ => says(
                 alloc,
@@ -181,6 +198,7 @@ impl Session {
                 Verdict::Success,
                 Summary::Closing(None, mode),
                 Leaves::Transaction,
+                body,
             ),
         }
     }

@@ -38,6 +38,8 @@ pub struct Session {
     pub(crate) result: OpenResult,
     pub(crate) tx: Transaction,
     pub(crate) out: BytesMut,
+    /// Room for what a step writes, kept from one to the next.
+    pub(crate) body: BytesMut,
     pub(crate) alloc: Global,
     ghost places: { deque_len queue ≤ max_waiting },
     ghost room: { max_waiting ≤ deque_capacity queue },
@@ -99,6 +101,7 @@ impl Session {
             result: OpenResult::closed(alloc),
             tx: Transaction::none(alloc),
             out: BytesMut::new(alloc),
+            body: BytesMut::new(alloc),
             alloc,
         })
     }

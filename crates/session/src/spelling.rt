@@ -1,5 +1,5 @@
 //! The spellings of responses.
-ghost use Rattle.std.specs.Prelude.{◌≡◌, true, Ok, IfOk, IfErr};
+ghost use Rattle.std.specs.Prelude.{◌≡◌, true, Ok, OnOk, IfErr};
 ghost use Rattle.messages.specs.View.{response_view};
 ghost use Rattle.messages.specs.Summaries.{response_of_summary, IsShort};
 ghost use Rattle.session.specs.Said.{fits};
@@ -21,20 +21,20 @@ pub(crate) enum Unwritten {
     Because(Fault),
 }
 
-/// The spelling of a response, or why it wasn't written.
-pub(crate) fn spelling_of(
-    alloc: Global,
+/// Spells a response in place of what the body held, or tells why it wasn't written.
+pub(crate) fn spell_response(
     version: Version,
     response: &Response,
-) -> Result<BytesMut, Unwritten>
-    ensures ok { IfOk result
-        (λ b. IsBody version (response_view response.now) b.items
+    body: &mut BytesMut,
+) -> Result<(), Unwritten>
+    ensures ok { OnOk result
+        (IsBody version (response_view response.now) body.new.items
         × (fits version (response_view response.now) ≡ true)) }
     ensures err { IfErr result (Refuses version (response_view response.now)) }
 {
-    let mut text = BytesMut::new(alloc);
-    match write_response(version, response, &mut text) {
-        Ok(()) => Ok(text),
+    body.clear();
+    match write_response(version, response, body) {
+        Ok(()) => Ok(()),
         Err(fault) => Err(why_unwritten(fault)),
     }
 }
@@ -49,17 +49,20 @@ fn why_unwritten(fault: MsgFault) -> Unwritten
     }
 }
 
-/// The spelling of a summary, which always fits.
-pub(crate) fn summary_spelling(
+/// Spells a summary, which always fits, in place of what the body held.
+pub(crate) fn spell_summary(
     alloc: Global,
     version: Version,
     summary: Summary,
-) -> Result<BytesMut, AllocError>
+    body: &mut BytesMut,
+) -> Result<(), AllocError>
     requires { IsShort (summary_of summary) }
-    ensures { IfOk result (λ b. IsBody version (response_of_summary (summary_of summary)) b.items) }
+    ensures { OnOk result
+        (IsBody version (response_of_summary (summary_of summary)) body.new.items) }
 {
-    let mut none = BytesMut::new(alloc);
-    let mut text = Adding::to(&mut none);
-    summary.put(alloc, &mut text)?;
-    Ok(text.keep())
+    body.clear();
+    let mut adding = Adding::to(body);
+    summary.put(alloc, &mut adding)?;
+    *body = adding.keep();
+    Ok(())
 }

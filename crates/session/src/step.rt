@@ -17,13 +17,18 @@ use crate::commit::leave;
 use crate::kinds::{Cause, Worked};
 use crate::queue::{has_reset, request_in, turn_of};
 use crate::session::Session;
-use crate::spelling::summary_spelling;
+use crate::spelling::spell_summary;
 use crate::summary::Summary;
 use crate::words::is_interruptible;
+use bytes::BytesMut;
 use engine::{Engine, EntryId, Gate};
 use machine::{Kind, State, Verdict, is_goodbye, is_reset, kind, row};
 use std::alloc::AllocError;
+use std::mem;
 use wire::{put_message, put_reserved, written_len};
+
+/// The most room of a body that is kept for the next.
+const MAX_KEPT: usize = 8192;
 
 impl Session {
     /// One step of the connection with this number: nothing, a row, a summary or an end. An `Err` is want of memory, and changes nothing,
@@ -56,7 +61,14 @@ impl Session {
                 self.end(cause);
                 Ok(Worked::Ended(cause))
             }
-            Turn::Serves => self.serve(conn, engine, gate),
+            Turn::Serves => {
+                let mut body = mem::replace(&mut self.body, BytesMut::new(self.alloc));
+                let worked = self.serve(conn, engine, gate, &mut body);
+                if body.capacity() <= MAX_KEPT {
+                    self.body = body;
+                }
+                worked
+            }
         }
     }
 
@@ -66,6 +78,7 @@ impl Session {
         conn: u64,
         engine: &mut E,
         gate: &G,
+        body: &mut BytesMut,
     ) -> Result<Worked, AllocError>
         requires { turn_in (kept_of self.old).waiting ≡ Turn.Serves }
         ensures ok { let k = kept_of self.old in IfOk result
@@ -78,12 +91,12 @@ impl Session {
         ensures counted { IfOk result IsCounted }
     {
         if self.is_interrupted() {
-            return self.serve_interrupted(conn, engine);
+            return self.serve_interrupted(conn, engine, body);
         }
         let request = request_in(&self.queue);
         let asked = kind(request);
-        let act = self.decide(conn, request, engine, gate)?;
-        self.perform(act, conn, asked, engine)
+        let act = self.decide(conn, request, engine, gate, body)?;
+        self.perform(act, body, conn, asked, engine)
     }
 
     /// Whether a RESET waits that interrupts the state.
@@ -98,17 +111,18 @@ impl Session {
     fn perform<E: Engine>(
         &mut self,
         act: Act,
+        body: &[u8],
         conn: u64,
         kind: Kind,
         engine: &mut E,
     ) -> Result<Worked, AllocError>
         requires some { 0 < length self.old.queue.items }
-        requires writable { IsWritable self.old.result.rows.items act }
+        requires writable { IsWritable self.old.result.rows.items body.now act }
         requires free { let k = kept_of self.old in
             AddsFree (E.entries engine.old) k.result k.tx act }
         ensures ok { let k = kept_of self.old in
             (q : RequestView) (later : List Arrival) (reply : Reply) → k.waiting ≡ Asked q ∷ later
-            → kind ≡ kind_of q → ActsAs (version_of k) k.result k.tx act reply
+            → kind ≡ kind_of q → ActsAs (version_of k) k.result k.tx body.now act reply
             → IfOk result (λ w. Steps (replies (E.entries engine.old) k q later reply) conn k.first
             w (kept_of self.new) (E.entries engine.old) (E.entries engine.new)) }
         ensures err { OnErr result
@@ -117,12 +131,10 @@ impl Session {
         ensures counted { IfOk result IsCounted }
     {
         match act {
-            Act::Sends(body) => self.send(&body),
-            Act::Says {
-                verdict,
-                body,
-                leaves,
-            } => self.summarize(self.state, verdict, &body, leaves, conn, kind, engine),
+            Act::Sends => self.send(body),
+            Act::Says { verdict, leaves } => {
+                self.summarize(self.state, verdict, body, leaves, conn, kind, engine)
+            }
             Act::Leaves => {
                 self.end(Cause::Goodbye);
                 Ok(Worked::Ended(Cause::Goodbye))
@@ -207,6 +219,7 @@ impl Session {
         &mut self,
         conn: u64,
         engine: &mut E,
+        body: &mut BytesMut,
     ) -> Result<Worked, AllocError>
         requires { turn_in (kept_of self.old).waiting ≡ Turn.Serves }
         ensures ok { let k = kept_of self.old in
@@ -226,9 +239,9 @@ impl Session {
             return Ok(Worked::Ended(Cause::Goodbye));
         }
         if is_reset(request) {
-            return self.pass(Verdict::Success, Summary::Plain, conn, asked, engine);
+            return self.pass(Verdict::Success, Summary::Plain, conn, asked, engine, body);
         }
-        self.pass(Verdict::Ignored, Summary::Passed, conn, asked, engine)
+        self.pass(Verdict::Ignored, Summary::Passed, conn, asked, engine, body)
     }
 
     /// Answers the first request in Interrupted.
@@ -239,6 +252,7 @@ impl Session {
         conn: u64,
         kind: Kind,
         engine: &mut E,
+        body: &mut BytesMut,
     ) -> Result<Worked, AllocError>
         requires some { 0 < length self.old.queue.items }
         requires short { IsShort (summary_of summary) }
@@ -253,11 +267,11 @@ impl Session {
             × (E.entries engine.new ≡ E.entries engine.old)) }
         ensures counted { IfOk result IsCounted }
     {
-        let body = summary_spelling(self.alloc, self.version(), summary)?;
+        spell_summary(self.alloc, self.version(), summary, body)?;
         self.summarize(
             State::Interrupted,
             verdict,
-            &body,
+            body,
             Leaves::Nothing,
             conn,
             kind,

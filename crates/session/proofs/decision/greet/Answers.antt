@@ -11,7 +11,7 @@ returns-else-hello_has_login g c = λ left tx run.
     let S : Setting = record { run = run; check = g.G.Gate.accepts c.args.gate.now } in
     let m = response_of_summary (Greeting c.args.conn) in
     let no : hello_has_login c.args.version ≡ false = sym c.if-hello_has_login.ensures in
-    acts_same c.args.version left tx c.says.result (succeeds m) (greets S c.args.version c.args.conn (auth_in c.args.auth.now))
+    acts_same c.args.version left tx c.says.new.body.items c.says.result (succeeds m) (greets S c.args.version c.args.conn (auth_in c.args.auth.now))
     (ap (λ b. if b then reply_to_hello S (auth_in c.args.auth.now) m else succeeds m) (sym no)) (c.says.ensures.acts left tx)
 
 pub returns-in-Some : goal.returns-in-Some
@@ -19,5 +19,5 @@ returns-in-Some g c = λ left tx run.
     let S : Setting = record { run = run; check = g.G.Gate.accepts c.args.gate.now } in
     let m = response_of_summary (Greeting c.args.conn) in
     let yes : hello_has_login c.args.version ≡ true = sym c.if-hello_has_login.ensures in
-    acts_same c.args.version left tx c.admit.result (reply_to_login S (auth_view c.in-Some.auth) m) (greets S c.args.version c.args.conn (auth_in c.args.auth.now))
+    acts_same c.args.version left tx c.admit.new.body.items c.admit.result (reply_to_login S (auth_view c.in-Some.auth) m) (greets S c.args.version c.args.conn (auth_in c.args.auth.now))
     (ap (λ a. reply_to_hello S (auth_in a) m) (sym c.in-Some.is) ∙ ap (λ b. if b then reply_to_hello S (auth_in c.args.auth.now) m else succeeds m) (sym yes)) (c.admit.ensures left tx run)

@@ -1,5 +1,5 @@
 use Rattle.std.proofs.Common.{◌≡◌, ◌++◌, pos, codes, subst}
-use Rattle.packstream.specs.Tree.{Tree, int, entry_then, no_entries}
+use Rattle.packstream.specs.Tree.{int, entry_then, no_entries}
 use Rattle.packstream.specs.Canon.{canon_entries}
 use Rattle.session.proofs.Summed.{entry_first, key_then}
 use Rattle.session.proofs.summary.put_ending.Goals as goal

@@ -14,4 +14,4 @@ returns-in-Added c =
     let k = kept_of c.args.self.now in
     let said : ℕ → ResponseView = λ n. response_of_summary (Committed n) in
     let change : Change = change_inside k.tx in
-    acts_at c.version-version.result (version_of k) k.result k.tx c.says.result (commits_by change said (Added c.in-Added.len)) (commits_by change said c.args.commit) c.version-version.ensures (ap (commits_by change said) (sym c.in-Added.is)) (c.says.ensures.acts k.result k.tx)
+    acts_at c.version-version.result (version_of k) k.result k.tx c.says.new.body.items c.says.result (commits_by change said (Added c.in-Added.len)) (commits_by change said c.args.commit) c.version-version.ensures (ap (commits_by change said) (sym c.in-Added.is)) (c.says.ensures.acts k.result k.tx)

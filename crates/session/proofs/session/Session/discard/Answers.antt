@@ -12,7 +12,7 @@ returns-then-dropped-len g c =
     let ledger = g.E.Engine.entries c.args.engine.now in
     let same : deque_len s.result.rows ≡ length s.result.rows.items = omega arith in
     let less : c.count_of-dropped.result < length s.result.rows.items = omega (arith, c.if-dropped-len.true, c.len-2.ensures, same) in
-    acts_at c.version.result (version_of k) k.result k.tx c.says.result (more_left (drop c.count_of-dropped.result k.result.rows) k.result k.tx) (close k.state ledger (left_after c.args.count k.result.rows) k.result k.tx) c.version.ensures
+    acts_at c.version.result (version_of k) k.result k.tx c.says.new.body.items c.says.result (more_left (drop c.count_of-dropped.result k.result.rows) k.result k.tx) (close k.state ledger (left_after c.args.count k.result.rows) k.result k.tx) c.version.ensures
     (discard_more k.state ledger c.count_of-dropped.result c.args.count k.result.rows k.result k.tx (c.count_of-dropped.ensures ∙ ap (count_at c.args.count) (c.len.ensures ∙ same)) less) (c.says.ensures.acts k.result k.tx)
 
 pub returns : goal.returns
@@ -22,5 +22,5 @@ returns g c =
     let ledger = g.E.Engine.entries c.args.engine.now in
     let same : deque_len s.result.rows ≡ length s.result.rows.items = omega arith in
     let most : length s.result.rows.items ≤ c.count_of-dropped.result = omega (arith, c.if-dropped-len.false, c.len-2.ensures, same) in
-    acts_same (version_of k) k.result k.tx c.last.result (close_last k.state ledger k.result k.tx) (close k.state ledger (left_after c.args.count k.result.rows) k.result k.tx)
+    acts_same (version_of k) k.result k.tx c.last.new.body.items c.last.result (close_last k.state ledger k.result k.tx) (close k.state ledger (left_after c.args.count k.result.rows) k.result k.tx)
     (discard_last k.state ledger c.count_of-dropped.result c.args.count k.result.rows k.result k.tx (c.count_of-dropped.ensures ∙ ap (count_at c.args.count) (c.len.ensures ∙ same)) most) c.last.ensures

@@ -1,15 +1,16 @@
-use Rattle.std.proofs.Common.{ℕ, ◌∙◌, sym, ap, List, length, Some}
+use Rattle.std.proofs.Common.{ℕ, ◌∙◌, sym, ap, List, length, None, Some}
 use Rattle.messages.specs.View.{ResponseView}
 use Rattle.messages.specs.Summaries.{response_of_summary, Closing}
 use Rattle.engine.specs.Tokens.{found_in, commit_by}
 use Rattle.engine.specs.declared.ledger.Commit.{Commit}
 use Rattle.engine.specs.Views.{WriteView, token_view, writes_view}
-use Rattle.session.specs.Session.{Change, change_alone, close_last}
+use Rattle.machine.specs.declared.rows.Verdict.{Verdict}
+use Rattle.session.specs.Session.{Change, Summary, no_result, change_alone, close_last}
 use Rattle.session.specs.Rest.{version_of}
 use Rattle.session.specs.Views.{kept_of}
 use Rattle.session.specs.Acts.{commits_by}
 use Rattle.session.proofs.Commits.{commits_told}
-use Rattle.session.proofs.Replies.{acts_same}
+use Rattle.session.proofs.Replies.{acts_at, acts_same, close_inside}
 use Rattle.session.proofs.Writes.{one_write}
 use Rattle.session.proofs.session.Session.last.Goals as goal
 
@@ -23,5 +24,12 @@ returns-in_ok-commit-in-Streaming g c =
     let commit = c.in_ok-commit-in-Streaming.commit in
     let found : List WriteView → Commit = λ ws. commit_by (length ledger) (found_in (token_view s.result.token) ws ledger) in
     let is = c.in_ok-commit-in-Streaming.ensures ∙ ap (λ ws. found (writes_view ws)) c.deref.ensures.value ∙ ap found (sym (one_write s.result.writes.items s.result.one)) in
-    acts_same (version_of k) k.result k.tx c.closed.result (commits_by change said commit) (close_last k.state ledger k.result k.tx)
+    acts_same (version_of k) k.result k.tx c.closed.new.body.items c.closed.result (commits_by change said commit) (close_last k.state ledger k.result k.tx)
     (commits_told ledger change said commit is ∙ ap (λ t. close_last t ledger k.result k.tx) (sym c.in-Streaming.is)) c.closed.ensures
+
+pub returns-in_default : goal.returns-in_default
+returns-in_default g c =
+    let k = kept_of c.args.self.now in
+    let ledger = g.E.Engine.entries c.args.engine.now in
+    acts_at c.version-version.result (version_of k) k.result k.tx c.says.new.body.items c.says.result (Summary Verdict.Success (response_of_summary (Closing None k.result.mode)) no_result k.tx None) (close_last k.state ledger k.result k.tx)
+    c.version-version.ensures (close_inside k.state ledger k.result k.tx c.in_default.not-Streaming) (c.says.ensures.acts k.result k.tx)

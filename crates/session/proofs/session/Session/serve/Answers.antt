@@ -1,9 +1,9 @@
-use Rattle.std.proofs.Common.{◌∙◌, sym, drop}
+use Rattle.std.proofs.Common.{ℕ, ◌∙◌, sym, subst, List, drop}
 use Rattle.messages.specs.View.{request_view}
 use Rattle.machine.specs.Asks.{kind_of}
 use Rattle.session.specs.Session.{Setting, serve}
 use Rattle.session.specs.Rest.{replies, after_interrupt, turns, version_of}
-use Rattle.session.specs.Acts.{served_interrupted}
+use Rattle.session.specs.Acts.{ActsAs, IsWritable, served_interrupted}
 use Rattle.session.specs.Views.{kept_of}
 use Rattle.session.proofs.Free.{acts_free, serve_free}
 use Rattle.session.proofs.Turns.{serves_is, turns_interrupted, turns_served, steps_at}
@@ -27,7 +27,8 @@ returns-clause-ok g c =
     let later = drop 1 k.waiting in
     let reply = serve S (version_of k) c.args.conn ledger k.state k.result k.tx q in
     steps_at (replies ledger k q later reply) (turns S c.args.conn ledger k k.waiting) c.args.conn k.first c.perform.result (kept_of c.perform.new.self) ledger (g.E.Engine.entries c.perform.new.engine)
-    (turns_served S c.args.conn ledger k k.waiting q later c.request_in-request.ensures (sym c.is_interrupted.ensures ∙ c.if-is_interrupted.false)) (c.perform.ensures.ok q later reply c.request_in-request.ensures c.kind-asked.ensures c.in_ok-act.ensures.acts)
+    (turns_served S c.args.conn ledger k k.waiting q later c.request_in-request.ensures (sym c.is_interrupted.ensures ∙ c.if-is_interrupted.false)) (c.perform.ensures.ok q later reply c.request_in-request.ensures c.kind-asked.ensures
+    (subst (λ (b : List ℕ). ActsAs (version_of k) k.result k.tx b c.in_ok-act.act reply) (sym c.deref.ensures) c.in_ok-act.ensures.acts))
 
 pub perform-requires-clause-free : goal.perform-requires-clause-free
 perform-requires-clause-free g c =
@@ -35,4 +36,8 @@ perform-requires-clause-free g c =
     let S : Setting = record { run = g.E.Engine.answer; check = g.G.Gate.accepts c.args.gate.now } in
     let ledger = g.E.Engine.entries c.args.engine.now in
     let q = request_view c.request_in-request.result.now in
-    acts_free ledger (version_of k) k.result k.tx c.in_ok-act.act (serve S (version_of k) c.args.conn ledger k.state k.result k.tx q) c.in_ok-act.ensures.acts (serve_free S (version_of k) c.args.conn ledger k.state k.result k.tx q)
+    acts_free ledger (version_of k) k.result k.tx c.decide.new.body.items c.in_ok-act.act (serve S (version_of k) c.args.conn ledger k.state k.result k.tx q) c.in_ok-act.ensures.acts (serve_free S (version_of k) c.args.conn ledger k.state k.result k.tx q)
+
+pub perform-requires-clause-writable : goal.perform-requires-clause-writable
+perform-requires-clause-writable g c =
+    subst (λ (b : List ℕ). IsWritable c.args.self.now.result.rows.items b c.in_ok-act.act) (sym c.deref.ensures) c.in_ok-act.ensures.writable

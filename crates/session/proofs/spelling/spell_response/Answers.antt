@@ -2,10 +2,10 @@ use Rattle.messages.specs.View.{response_view}
 use Rattle.session.proofs.Saids.{written, refused}
 use Rattle.std.proofs.Common.{sym, subst}
 use Rattle.session.specs.Acts.{Refuses}
-use Rattle.session.proofs.spelling.spelling_of.Goals as goal
+use Rattle.session.proofs.spelling.spell_response.Goals as goal
 
 pub returns-in-Ok : goal.returns-in-Ok
-returns-in-Ok c = record { ok = written c.args.version (response_view c.args.response.now) c.new-text.result.items c.write_response.new.out.items c.new-text.ensures.items c.in-Ok.ensures.text c.in-Ok.ensures.read_back; err = tt }
+returns-in-Ok c = record { ok = written c.args.version (response_view c.args.response.now) c.clear.new.self.items c.write_response.new.out.items c.clear.ensures.items c.in-Ok.ensures.text c.in-Ok.ensures.read_back; err = tt }
 
 pub returns-in-Err : goal.returns-in-Err
 returns-in-Err c = record { ok = tt; err = subst (Refuses c.args.version (response_view c.args.response.now)) (sym c.why_unwritten.ensures) (refused c.args.version (response_view c.args.response.now) c.in-Err.fault c.in-Err.ensures.text.1) }
