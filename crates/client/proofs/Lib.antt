@@ -10,3 +10,4 @@ pub mod Hears
 pub mod Fed
 pub mod Runs
 pub mod Few
+pub mod Framed

@@ -1,5 +1,6 @@
 pub mod Verdicts
 pub mod Rest
+pub mod Passed
 pub mod Client
 pub mod Answers
 pub mod Held

@@ -14,7 +14,7 @@ use crate::faults::ClientFault;
 use crate::heard::{Heard, Outcome};
 use crate::pipeline::Pipeline;
 use crate::verdicts::{accepted, is_over, is_wished, outcome, verdict};
-use machine::{Phase, is_partial, is_reset, kind};
+use machine::{Phase, PhaseSet, is_partial, is_reset, kind};
 use messages::{Request, Response};
 use structures::Cell;
 use wire::{Version, Wish};
@@ -47,6 +47,8 @@ impl Pipeline {
                     return self.spoil();
                 }
                 self.version = Some(chosen);
+                self.passed = 0;
+                self.following = PhaseSet::of(self.phase);
                 Ok(Heard::Version(Some(chosen)))
             }
         }
@@ -128,6 +130,8 @@ impl Pipeline {
         };
         self.first += 1;
         self.phase = phase;
+        self.passed = 0;
+        self.following = PhaseSet::of(phase);
         self.over = is_over(phase);
         Ok(Heard::Summary {
             ordinal,

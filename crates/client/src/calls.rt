@@ -13,6 +13,7 @@ ghost use Rattle.client.specs.Held.{WantsRoom};
 ghost use Rattle.client.specs.Fits.{Fits, IsAccepted, UnlessMemory};
 ghost use Rattle.machine.specs.Limits.{max_waiting};
 
+use crate::asking::append;
 use crate::client::Client;
 use crate::data::Taken;
 use crate::faults::{ClientFault, SubmitFault};
@@ -20,16 +21,15 @@ use crate::heard::Heard;
 use crate::losses::Losses;
 use crate::pipeline::Pipeline;
 use crate::stream::Stream;
-use crate::submission::spelling_of;
 use crate::version_answer::Opening;
 use bytes::{Bytes, BytesMut};
 use inbox::Inbox;
-use machine::{MAX_WAITING, Phase};
+use machine::{MAX_WAITING, Phase, PhaseSet};
 use messages::Request;
 use reader::Reader;
 use std::alloc::Global;
 use std::collections::VecDeque;
-use wire::{Version, Wish, offer, put_reserved, written_len};
+use wire::{Version, Wish, offer};
 
 /// All of a piece was used, and nothing ended with it. A call of its own writes the answer once, where the caller reads it.
 #[inline(never)]
@@ -61,6 +61,8 @@ impl Client {
                 first: 0,
                 phase: Phase::Fresh,
                 waiting,
+                passed: 0,
+                following: PhaseSet::of(Phase::Fresh),
             },
             stream: Stream {
                 opening: Opening::new(),
@@ -88,11 +90,7 @@ impl Client {
             → refuses_at_once r.knows (request_view request) ≡ None }
     {
         let version = self.pipeline.admit(&request)?;
-        let text = spelling_of(self.alloc, version, &request)?;
-        if self.out.reserve(written_len(&text)).is_err() {
-            return Err(SubmitFault::Memory);
-        }
-        put_reserved(&text, &mut self.out);
+        append(version, &request, &mut self.out)?;
         Ok(self.pipeline.place(request))
     }
 

@@ -5,6 +5,7 @@
 #![tactic(auto)]
 
 mod answer;
+mod asking;
 mod calls;
 mod client;
 mod data;
