@@ -27,17 +27,8 @@ name_is (x ∷ es) (suc i) e h is = name_is es i e (omega arith) is
 pub before_is : (es : List Pair) (i : ℕ) (e : Pair) → i < length es → e ≡ get_or es i e → stands_before es i ≡ is_among (string_bytes e.0) (names (take i es))
 before_is es i e h is = ap (λ (s : List ℕ). is_among s (names (take i es))) (name_is es i e h is)
 
-pub none_yet : (es : List Pair) → AllNew es 0
-none_yet es k h = absurd (omega arith)
-
 pub new_more : (es : List Pair) (i : ℕ) (e : Pair) → i < length es → e ≡ get_or es i e → AllNew es i → is_among (string_bytes e.0) (names (take i es)) ≡ false → AllNew es (i + 1)
 new_more es i e h is all f = below_more (λ k. stands_before es k ≡ false) i all (before_is es i e h is ∙ f)
-
-pub twin_here : (es : List Pair) (i : ℕ) (e : Pair) → i < length es → e ≡ get_or es i e → AllNew es i → is_among (string_bytes e.0) (names (take i es)) ≡ true → IsFirstTwin es i
-twin_here es i e h is all t = record { within = omega arith; fresh = all; twin = λ l. before_is es i e h is ∙ t }
-
-pub no_twin : (es : List Pair) (i : ℕ) → length es ≤ i → AllNew es i → IsFirstTwin es (length es)
-no_twin es i h all = record { within = omega arith; fresh = λ k l. all k (omega arith); twin = λ l. absurd (omega arith) }
 
 same_by : (es : List Pair) (n i : ℕ) (b : Bool) → (i == n) ≡ b → IsFirstTwin es n → i ≤ n → i < length es → stands_before es i ≡ b
 same_by es n i true e t le lt = let at : i ≡ n = eqb-true _ _ e in subst (λ (k : ℕ). stands_before es k ≡ true) (sym at) (t.twin (omega arith))

@@ -1,16 +1,17 @@
 -- What the builder's functions make of the first item.
-use Rattle.std.proofs.Common.{◌≡◌, ◌≤◌, ◌<◌, ◌-◌, ◌^◌, ℕ, Bool, true, ℤ, List, [], ◌∷◌, length, take, drop, Option, Some, None, Ok, Err, Vec, Global, refl, sym, ap, subst, ◌∙◌, arith, rules}
+use Rattle.std.proofs.Common.{◌≡◌, ◌<◌, ◌-◌, ◌^◌, ℕ, Bool, true, List, [], ◌∷◌, length, take, drop, Option, Some, None, Ok, Vec, Global, refl, sym, ap, subst, ◌∙◌, arith, rules}
 use Rattle.std.proofs.lemmas.Str.{IsUtf8-from_is_utf8}
 use Rattle.std.specs.Str.{IsUtf8, is_utf8}
 use Rattle.packstream.specs.declared.marker.Size.{Size}
 use Rattle.packstream.specs.declared.marker.Marker.{Marker}
 use Rattle.packstream.specs.declared.marker.Marker.TheVariants as announces
-use Rattle.packstream.specs.declared.value.Value.{Value, Null as NullCase, Bool as BoolCase, Int as IntCase, Float as FloatCase, Bytes as BytesCase, Struct as StructCase, the_lemmas}
-use Rattle.packstream.specs.Tree.{Tree, null, boolean, int, float, byte_string, list, dict, structure}
+use Rattle.packstream.specs.declared.value.Value.{Value, Null as NullCase, Bool as BoolCase, Float as FloatCase, Bytes as BytesCase, Struct as StructCase, the_lemmas}
+use Rattle.packstream.specs.Tree.{Tree, null, boolean, float, byte_string, list, dict, structure}
 use Rattle.packstream.specs.View.{tree, trees, trees_of, entries_of}
 use Rattle.packstream.specs.Markers.{marker}
 use Rattle.packstream.specs.Reading.{Read, ◌>>=◌, items_at, entries_at, layer, inner}
-use Rattle.packstream.specs.Answers.{only_value, whole_of}
+use Rattle.packstream.specs.Answers.{whole_of}
+use Rattle.packstream.proofs.Deciding.{ended_ok}
 use Rattle.reader.specs.declared.item.Item.{Item}
 use Rattle.reader.specs.Items.{field, size_with, body, bodies, AreItems, bytes_of_items}
 use Rattle.reader.specs.Building.{IsRead}
@@ -23,9 +24,6 @@ tree-Null = search (rules, the_lemmas)
 
 pub tree-Bool : (b : Bool) → tree (BoolCase b) ≡ boolean b
 tree-Bool b = search (rules, the_lemmas)
-
-pub tree-Int : (z : ℤ) → tree (IntCase z) ≡ int z
-tree-Int z = search (rules, the_lemmas)
 
 pub tree-Float : (n : ℕ) → tree (FloatCase n) ≡ float n
 tree-Float n = search (rules, the_lemmas)
@@ -65,9 +63,6 @@ pub left_behind : (items : List Item) (store : List ℕ) (i : Item) (is : List I
 left_behind items store i is what len f m e =
     let n : len ≡ body (marker i.marker) i.number = e ∙ ap (λ (o : Option Marker). body o i.number) (sym m) in
     (ap (λ (k : ℕ). length (drop k store)) n ∙ rest_sized i is store f.sized, f.fit)
-
-pub enough_left : (items : List Item) (store : List ℕ) (i : Item) (is : List Item) (what : Marker) (len : ℕ) → IsFirst items store i is → marker i.marker ≡ Some what → len ≡ body (Some what) i.number → len ≤ length store
-enough_left items store i is what len f m e = omega (arith, f.sized, e, ap (λ (o : Option Marker). body o i.number) m)
 
 -- an item alone
 pub builds_alone : (read : Option (List ℕ → Read Tree)) (items : List Item) (store : List ℕ) (i : Item) (is : List Item) (what : Marker) (t u : Tree) → IsFirst items store i is → marker i.marker ≡ Some what → body (Some what) i.number ≡ 0
@@ -137,11 +132,6 @@ struct_members room items store i is n f m h =
     l.0 (ap (λ (x : List Item). layer (inner room) (bytes_of_items x [] store)) f.all) l.1 first
 
 -- ---- the whole
-
-ended_ok : (len : ℕ) (r : Read Tree) (t : Tree) → only_value len r ≡ Ok t → r ≡ Ok (t, [])
-ended_ok len (Ok (u, [])) t e = cc
-ended_ok len (Ok (u, b ∷ rest)) t e = absurd cc
-ended_ok len (Err (q, left)) t e = absurd cc
 
 pub whole_read : (b : List ℕ) (t : Tree) → whole_of b ≡ Ok t → IsRead (layer (inner 32) b)
 unfolding whole_of

@@ -81,9 +81,6 @@ small i what e lt = subst (λ (o : Option Marker). i.number < 256 ^ field o) e l
 
 -- ---- each kind of item
 
-reads_by : {A : Type 0} (r s : Read A) → r ≡ s → IsRead r → IsRead s
-reads_by r s e h = (h.0, sym e ∙ h.1)
-
 pub read_null : (read : Option (List ℕ → Read Tree)) (i : Item) (is : List Item) (store : List ℕ) → marker i.marker ≡ Some announces.Null → layer read (bytes_of_items (i ∷ is) [] store) ≡ Ok (null, bytes_of_items is [] store)
 unfolding form_at
 read_null read i is store e = let a = at_item read i is store announces.Null e in a.1 ∙ ap (λ (o : Option Marker). Ok (null, take (body o i.number) store ++ bytes_of_items is [] (drop (body o i.number) store))) e
@@ -274,10 +271,6 @@ unfolding key_at
 key_not_empty [] [] before e f h = let k : ◌≡◌ {A = Read (List ℕ)} (Err (reason.Short, 0)) (Ok h.0) = h.1 in cc
 key_not_empty [] (x ∷ store) before e f h = absurd (omega (arith, f))
 key_not_empty (i ∷ items) store before e f h = absurd (omega (arith, e))
-
--- the bytes behind the marker of the first item
-behind : Item → List Item → List ℕ → List ℕ
-behind i is store = big_bytes (field (marker i.marker)) i.number ++ (front i store ++ others i is store)
 
 key_announced : (before : List (List ℕ)) (left : ℕ) (o : Option Marker) (rest : List ℕ) → IsRead (key_of before left o rest) → (size : Size) × (o ≡ Some (announces.Text size))
 unfolding key_of

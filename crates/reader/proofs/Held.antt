@@ -1,5 +1,5 @@
 -- Points that a reader leaves and returns to.
-use Rattle.std.proofs.Common.{◌≡◌, ◌≤◌, Bool, ℕ, List, [], ◌++◌, length, take, None, refl, sym, ap, subst, ◌∙◌, append_assoc, arith, inl, inr}
+use Rattle.std.proofs.Common.{◌≡◌, ◌≤◌, Bool, ℕ, List, [], ◌++◌, length, take, None, refl, sym, ap, subst, ◌∙◌, append_assoc, arith, inl, inr, true≢false}
 use Rattle.std.proofs.lemmas.List.{take-take, take_at, length-take-le, append-nil, length-append}
 use Rattle.std.proofs.Math.Seq.{take-length}
 use Rattle.std.specs.Prelude.{true, false, Result, Ok, Err}
@@ -24,13 +24,10 @@ use Rattle.reader.specs.Frames.{Frame, AreLevels}
 use Rattle.reader.specs.Items.{bytes_of_items, part_head, bodies, AreItems}
 use Rattle.reader.specs.Naming.{ArePlaced}
 use Rattle.reader.specs.Piecewise.{Point, Points, IsBeginning, Takes, MayGoOn}
-use Rattle.reader.specs.Holding.{Holds, bytes_of, point, mark_of, at_mark, with_fault, points, points_at, IsKeptAt, Goes, IsLacking, IsDone, IsStanding, IsKeeping, HasGrown, IsKept, IsMark, HoldsOn, IsFaultOf}
+use Rattle.reader.specs.Holding.{Holds, bytes_of, point, mark_of, at_mark, with_fault, points_at, IsKeptAt, Goes, IsLacking, IsDone, IsStanding, IsKeeping, HasGrown, IsKept, IsMark, HoldsOn, IsFaultOf}
 use Rattle.reader.proofs.Opening.{bad_behind}
 use Rattle.reader.proofs.Faulting.{part_is_short}
 use Rattle.reader.proofs.Standing.{bytes_behind}
-
-pub cut_all : (h : Holds) → at_mark (mark_of h) h ≡ h
-cut_all h = rw (take-length h.items, take-length h.store, take-length h.names) refl
 
 pub cut_cut : (m k : Mark) (h : Holds) → m.items ≤ k.items → m.store ≤ k.store → m.keys ≤ k.keys → at_mark m (at_mark k h) ≡ at_mark m h
 cut_cut m k h a b c = rw (take-take m.items k.items h.items a, take-take m.store k.store h.store b, take-take m.keys k.keys h.names c) refl
@@ -75,16 +72,6 @@ keeps_start h items store names read unread depth none =
 begins_itself : (b : List ℕ) → IsBeginning b b
 begins_itself b = ([], sym (append-nil b))
 
-pub kept_here : (h : Holds) → IsKeeping h → IsKept h (mark_of h)
-kept_here h keeps = record {
-  items = omega arith;
-  store = omega arith;
-  names = omega arith;
-  here = keeps;
-  behind = subst IsKeeping (sym (cut_all h)) keeps;
-  held = subst (λ (x : Holds). IsBeginning (bytes_of x) (bytes_of h)) (sym (cut_all h)) (begins_itself (bytes_of h));
-}
-
 pub kept_back : (h : Holds) (m : Mark) → IsKept h m → IsKept (at_mark m h) m
 kept_back h m kept =
     let again : at_mark m (at_mark m h) ≡ at_mark m h = cut_cut m m h (omega arith) (omega arith) (omega arith) in
@@ -96,9 +83,6 @@ kept_back h m kept =
       behind = subst IsKeeping (sym again) kept.behind;
       held = subst (λ (x : Holds). IsBeginning (bytes_of x) (bytes_of (at_mark m h))) (sym again) (begins_itself (bytes_of (at_mark m h)));
     }
-
-pub points_back : (h : Holds) (m : Mark) → points (at_mark m h) m ≡ record { here = point (at_mark m h); held = point (at_mark m h) }
-points_back h m = ap (λ (x : Holds). record { here = point (at_mark m h); held = point x }) (cut_cut m m h (omega arith) (omega arith) (omega arith))
 
 -- a cut at the held point undoes no growth since
 cut_on : (old new : Holds) (m : Mark) → HasGrown old new → m.items ≤ length old.items → m.store ≤ length old.store → m.keys ≤ length old.names → at_mark m new ≡ at_mark m old
@@ -125,9 +109,6 @@ held_on old new m kept grown = ap point (cut_on old new m grown kept.items kept.
 
 -- ---- a point that is held here, or at a mark
 
-true_not_false : true ≡ false → ⊥
-true_not_false e = cc
-
 pub keeps_at : (still : Bool) (h : Holds) (m : Mark) → IsKeptAt still h m → IsKeeping h
 keeps_at true h m keeps = keeps
 keeps_at false h m kept = kept.here
@@ -147,21 +128,9 @@ begins_at false h m kept = kept.held
 
 -- the way back to a mark
 
-pub behind_at : (still : Bool) (h : Holds) (m : Mark) → still ≡ false → IsKeptAt still h m → IsKeeping (at_mark m h)
-behind_at true h m e kept = absurd (true_not_false e)
-behind_at false h m e kept = kept.behind
-
 pub back_at : (still : Bool) (h back : Holds) (m : Mark) → still ≡ false → back ≡ at_mark m h → IsKeptAt still h m → IsKeptAt still back m
-back_at true h back m e b kept = absurd (true_not_false e)
+back_at true h back m e b kept = absurd (true≢false e)
 back_at false h back m e b kept = subst (λ (x : Holds). IsKept x m) (sym b) (kept_back h m kept)
-
-pub points_back_at : (still : Bool) (h back : Holds) (m : Mark) → still ≡ false → back ≡ at_mark m h → ((points_at still back m).here ≡ (points_at still h m).held) × ((points_at still back m).held ≡ (points_at still h m).held)
-points_back_at true h back m e b = absurd (true_not_false e)
-points_back_at false h back m e b = (ap point b, ap (λ (x : Holds). point (at_mark m x)) b ∙ ap point (cut_cut m m h (omega arith) (omega arith) (omega arith)))
-
-pub still_points : (still : Bool) (h : Holds) (m : Mark) → still ≡ true → (points_at still h m).here ≡ (points_at still h m).held
-still_points true h m e = refl
-still_points false h m e = absurd (true_not_false (sym e))
 
 -- ---- what the bytes have
 
@@ -196,7 +165,7 @@ may_go_on h keeps = λ r o bad.
 pub done_of : (h : Holds) → IsKeeping h → h.standing.«open».is_whole ≡ true → IsDone h
 done_of h keeps ended = elim (keeps.stands) as (λ _. IsDone h) [
   | inl d ↦ d
-  | inr u ↦ absurd (true_not_false (sym ended ∙ (u.0).unread))
+  | inr u ↦ absurd (true≢false (sym ended ∙ (u.0).unread))
 ]
 
 pub built_from : (h : Holds) → IsKeeping h → (d : IsDone h) → (t : Tree) × (whole_of (bytes_of_items h.items [] h.store) ≡ Ok t)
@@ -212,7 +181,7 @@ good_tree h t keeps e = ((whole_value (bytes_of h) keeps.bytes t).0 e).0
 -- where it isn't, the place is that of the part
 pub short_place : (h : Holds) → IsKeeping h → h.standing.«open».is_whole ≡ false → whole_of (bytes_of h) ≡ Err (reason.Short, h.standing.read)
 short_place h keeps unread = elim (keeps.stands) as (λ _. whole_of (bytes_of h) ≡ Err (reason.Short, h.standing.read)) [
-  | inl d ↦ absurd (true_not_false (sym d.whole ∙ unread))
+  | inl d ↦ absurd (true≢false (sym d.whole ∙ unread))
   | inr u ↦ (whole_fault (bytes_of h) keeps.bytes reason.Short h.standing.read).1 (goes_short h u.0 u.1)
 ]
 
@@ -363,10 +332,6 @@ marked_keeps h m is keeps = subst IsKeeping (sym (at_marked h m is)) (alike_keep
 pub marked_point : (h : Holds) (m : Mark) → IsMark h m → point (at_mark m h) ≡ point h
 marked_point h m is = ap point (at_marked h m is) ∙ alike_point h m.standing (marked h m is)
 
--- the mark of where it stands is one
-pub its_mark : (h : Holds) (m : Mark) → m ≡ mark_of h → IsMark h m
-its_mark h m e = subst (λ (k : Mark). IsMark h k) (sym e) (record { items = refl; store = refl; names = refl; part = refl; read = refl; bad = refl; is_whole = refl; levels = λ fs are. are })
-
 -- the point that is marked is held
 pub kept_marked : (h : Holds) (m : Mark) → IsMark h m → IsKeeping h → IsKept h m
 kept_marked h m is keeps = record {
@@ -429,28 +394,16 @@ turns_back old new bad b piece r o is grown good e fault =
 
 pub still_held : (still : Bool) (h : Holds) (m : Mark) (value : Points) → still ≡ true → points_at still h m ≡ value → point h ≡ value.held
 still_held true h m value e is = ap (λ (p : Points). p.held) is
-still_held false h m value e is = absurd (true_not_false (sym e))
-
-pub still_same : (still : Bool) (old back : Holds) (m k : Mark) (value : Points) → still ≡ true → points_at still old m ≡ value → point back ≡ point old → points_at still back k ≡ value
-still_same true old back m k value e is same = ap (λ (p : Point). record { here = p; held = p }) same ∙ is
-still_same false old back m k value e is same = absurd (true_not_false (sym e))
+still_held false h m value e is = absurd (true≢false (sym e))
 
 pub still_keeps : (still : Bool) (h : Holds) (m : Mark) → still ≡ true → IsKeeping h → IsKeptAt still h m
 still_keeps true h m e keeps = keeps
-still_keeps false h m e keeps = absurd (true_not_false (sym e))
+still_keeps false h m e keeps = absurd (true≢false (sym e))
 
 pub kept_behind : (still : Bool) (h : Holds) (m : Mark) → still ≡ false → IsKeptAt still h m → IsKept h m
-kept_behind true h m e kept = absurd (true_not_false e)
+kept_behind true h m e kept = absurd (true≢false e)
 kept_behind false h m e kept = kept
 
 pub behind_keeps : (still : Bool) (h : Holds) (m : Mark) → still ≡ false → IsKept h m → IsKeptAt still h m
-behind_keeps true h m e kept = absurd (true_not_false e)
+behind_keeps true h m e kept = absurd (true≢false e)
 behind_keeps false h m e kept = kept
-
-pub behind_held : (still : Bool) (old new : Holds) (m : Mark) (value : Points) → still ≡ false → points_at still old m ≡ value → point (at_mark m new) ≡ point (at_mark m old) → (points_at still new m).held ≡ value.held
-behind_held true old new m value e is same = absurd (true_not_false e)
-behind_held false old new m value e is same = same ∙ ap (λ (p : Points). p.held) is
-
-pub behind_same : (still : Bool) (old new : Holds) (m : Mark) (value : Points) → still ≡ false → points_at still old m ≡ value → point new ≡ point old → point (at_mark m new) ≡ point (at_mark m old) → points_at still new m ≡ value
-behind_same true old new m value e is here held = absurd (true_not_false e)
-behind_same false old new m value e is here held = rw (here, held) is

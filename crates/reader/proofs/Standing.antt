@@ -1,6 +1,6 @@
 -- Where an item ends, something is open behind it, or the value is whole.
 use Rattle.std.proofs.Common.{◌≡◌, ◌⊎◌, ◌≤◌, ◌<◌, ◌+◌, ◌-◌, ◌^◌, nat_lt, ℕ, suc, Bool, true, false, ◌||◌, List, [], ◌∷◌, ◌++◌, length, Option, Some, None, refl, sym, ap, subst, ◌∙◌, arith, inl, inr}
-use Rattle.std.proofs.lemmas.Bool.{lt-ltb, le-ltb, cases_lt}
+use Rattle.std.proofs.lemmas.Bool.{lt-ltb, le-ltb, cases_lt, or_left, or_right, or_cases}
 use Rattle.std.proofs.lemmas.List.{append-nil, length-append}
 use Rattle.std.proofs.lemmas.Option.{slice_get_within}
 use Rattle.std.specs.Str.{bytes_eq}
@@ -147,18 +147,6 @@ names_push (f ∷ fs) b names n store are none lt h =
 
 -- ---- keys among keys
 
-or_parts : (a b : Bool) → (a || b) ≡ true → (a ≡ true) ⊎ (b ≡ true)
-or_parts true b e = inl refl
-or_parts false b e = inr e
-
-or_left : (a b : Bool) → a ≡ true → (a || b) ≡ true
-or_left true b e = refl
-or_left false b e = absurd cc
-
-or_right : (a b : Bool) → b ≡ true → (a || b) ≡ true
-or_right true b e = refl
-or_right false b e = e
-
 or_false : (a : Bool) → (a || false) ≡ true → a ≡ true
 or_false true e = refl
 or_false false e = e
@@ -168,7 +156,7 @@ same_text k = (bytes_eq-Decides k k).1 refl
 
 among_push : (x : List ℕ) (keys : List (List ℕ)) (k : List ℕ) → is_among x (keys ++ k ∷ []) ≡ true → (is_among x keys ≡ true) ⊎ (x ≡ k)
 among_push x keys k e =
-    elim (or_parts (list_any (bytes_eq x) keys) (list_any (bytes_eq x) (k ∷ [])) (sym (list_any-append (bytes_eq x) keys (k ∷ [])) ∙ e)) as (λ _. (is_among x keys ≡ true) ⊎ (x ≡ k)) [
+    elim (or_cases (list_any (bytes_eq x) keys) (list_any (bytes_eq x) (k ∷ [])) (sym (list_any-append (bytes_eq x) keys (k ∷ [])) ∙ e)) as (λ _. (is_among x keys ≡ true) ⊎ (x ≡ k)) [
       | inl a ↦ inl a
       | inr b ↦ inr ((bytes_eq-Decides x k).0 (or_false (bytes_eq x k) b))
     ]

@@ -16,14 +16,13 @@ use Rattle.packstream.specs.Good.{is_among}
 use Rattle.packstream.specs.Faults.{fault_at, is_text, nests, keys_of, Bad}
 use Rattle.packstream.proofs.Bounds.{good_spelled}
 use Rattle.packstream.proofs.Ranges.{front_bytes}
-use Rattle.reader.specs.declared.item.Item.{Item}
 use Rattle.reader.specs.declared.progress.Part.{Part}
 use Rattle.reader.specs.declared.progress.Part.TheVariants as part
 use Rattle.reader.specs.Items.{field, body, size_with, number_from, head_bytes, part_head, bytes_of_items}
 use Rattle.reader.specs.declared.open.Level.{Level}
 use Rattle.reader.specs.Naming.{Name, IsNamed}
 use Rattle.reader.specs.Frames.{Frame, place, AreLevels, HaveNames, head_fault}
-use Rattle.reader.specs.Holding.{Holds, bytes_with, bytes_of, IsAdmitted, IsLacking, Goes, IsDone, IsStanding, HasGrown, HasTaken}
+use Rattle.reader.specs.Holding.{Holds, bytes_with, bytes_of, IsAdmitted, IsLacking, Goes, IsDone, IsStanding, HasTaken}
 use Rattle.reader.proofs.Heads.{joined_bytes, joined_fits}
 use Rattle.reader.proofs.Opening.{bad_behind, heads_are}
 use Rattle.reader.proofs.Faulting.{not_text, twice}
@@ -40,16 +39,6 @@ stored s h = record h { store = h.store ++ s }
 
 -- ---- growth
 
-pub grown_same : (h : Holds) → HasGrown h h
-grown_same h = record { items = ([], sym (append-nil h.items)); store = ([], sym (append-nil h.store)); names = ([], sym (append-nil h.names)) }
-
-pub grown_on : (a b c : Holds) → HasGrown a b → HasGrown b c → HasGrown a c
-grown_on a b c g h = record {
-  items = (g.items.0 ++ h.items.0, h.items.1 ∙ ap (λ (x : List Item). x ++ h.items.0) g.items.1 ∙ append_assoc a.items g.items.0 h.items.0);
-  store = (g.store.0 ++ h.store.0, h.store.1 ∙ ap (λ (x : List ℕ). x ++ h.store.0) g.store.1 ∙ append_assoc a.store g.store.0 h.store.0);
-  names = (g.names.0 ++ h.names.0, h.names.1 ∙ ap (λ (x : List Name). x ++ h.names.0) g.names.1 ∙ append_assoc a.names g.names.0 h.names.0);
-}
-
 -- ---- faults
 
 pub fault_behind : (h : Holds) (p : Part) (rest : List ℕ) (r : Reason) → (g : Goes h p) → fault_at (place g.frames) ((part_head p ++ g.tail) ++ rest) ≡ Some r → (r ≡ reason.Short → ⊥) → Bad (bytes_with h p ++ rest) h.standing.read r × (r ≡ reason.Short → ⊥)
@@ -61,9 +50,6 @@ fault_behind h p rest r g fault other =
     )
 
 -- ---- a head
-
-pub admitted_by : (h : Holds) (m number has : ℕ) → (g : Goes h (part.Head m number has)) → IsAdmitted (place g.frames) m
-admitted_by h m number has g = g.isa.admitted
 
 -- more bytes of the number
 pub head_longer : (h : Holds) (m number has : ℕ) (bytes : List ℕ) → AreBytes bytes → (g : Goes h (part.Head m number has)) → has + length bytes ≤ field (marker m) → Goes h (part.Head m (number_from number bytes) (has + length bytes))
@@ -173,9 +159,6 @@ bytes_stored h m number lacks left s g =
     ∙ ap (λ (x : List ℕ). front ++ x) (sym (append_assoc head g.tail s))
     ∙ sym (append_assoc front (head ++ g.tail) s)
     ∙ ap (λ (b : List ℕ). b ++ s) (sym (bytes_behind h (part.Body m number lacks) g))
-
-pub grown_stored : (h : Holds) (s : List ℕ) → HasGrown h (stored s h)
-grown_stored h s = record { items = ([], sym (append-nil h.items)); store = (s, refl); names = ([], sym (append-nil h.names)) }
 
 -- where the text begins
 pub tail_at : (h : Holds) (m number start : ℕ) (size : Size) → marker m ≡ Some (announces.Text size) → (g : Goes h (part.Body m number 0)) → start + size_with size number ≡ length h.store → drop start h.store ≡ g.tail
@@ -312,23 +295,6 @@ bytes_begin h m rest none g =
     ap (λ (b : List ℕ). b ++ rest) (bytes_start h m g) ∙ append_assoc (bytes_with h part.Nothing) (m ∷ []) rest ∙ ap (λ (p : Part). bytes_with h p ++ m ∷ rest) (sym none)
 
 -- ---- a whole piece
-
-pub taken_more : (b c : List ℕ) (new : Holds) (rest : List ℕ) → b ≡ c → HasTaken b new rest → HasTaken c new rest
-taken_more b c new rest e t = subst (λ (x : List ℕ). HasTaken x new rest) e t
-
-pub taken_itself : (h : Holds) (b rest : List ℕ) → HasTaken b h rest → HasTaken (bytes_of h ++ rest) h rest
-taken_itself h b rest t = record { stands = t.stands; bytes = refl; ends = t.ends; bad = t.bad }
-
--- what is fed where no part is open
-pub taken_none : (h : Holds) (piece : List ℕ) → IsStanding h → h.standing.bad ≡ None → h.standing.part ≡ part.Nothing → HasTaken (bytes_of h ++ piece) h piece
-taken_none h piece stands good none = record { stands = stands; bytes = refl; ends = inl none; bad = good }
-
--- where bytes rest, no part is open
-pub none_open : (b : List ℕ) (new : Holds) (rest : List ℕ) → HasTaken b new rest → 0 < length rest → new.standing.part ≡ part.Nothing
-none_open b new rest t lt = elim (t.ends) as (λ _. new.standing.part ≡ part.Nothing) [
-  | inl none ↦ none
-  | inr e ↦ absurd (omega (arith, ap length e))
-]
 
 pub has_bytes : (b : List ℕ) (new : Holds) (rest : List ℕ) → HasTaken b new rest → AreBytes b → AreBytes (bytes_of new)
 has_bytes b new rest t are = front_bytes (bytes_of new) rest (subst AreBytes (sym t.bytes) are)

@@ -1,6 +1,6 @@
 -- An item as a value, as the head of what opens, and as a key.
 use Rattle.std.proofs.Common.{◌≡◌, ◌≤◌, ◌<◌, ◌+◌, ◌-◌, ◌%◌, ◌^◌, ◌&&◌, cond, nat_le, ℕ, Bool, true, false, List, [], ◌∷◌, ◌++◌, length, take, drop, Option, Some, None, is_some, refl, sym, ap, subst, ◌∙◌, arith, inl, inr}
-use Rattle.std.proofs.lemmas.Bool.{leb-false}
+use Rattle.std.proofs.lemmas.Bool.{leb-false, false_from_ne_true}
 use Rattle.std.proofs.lemmas.List.{append-nil}
 use Rattle.std.proofs.Math.Seq.{take-length}
 use Rattle.std.proofs.lemmas.Option.{slice_get_within}
@@ -260,13 +260,9 @@ pub key_frame : (fs : List Frame) → is_some (place fs).key ≡ true → IsKeyF
 key_frame [] e = absurd cc
 key_frame (f ∷ fs) e = frame_by f fs f.opened refl e
 
-not_true : (b : Bool) → (b ≡ true → ⊥) → b ≡ false
-not_true true h = absurd (h refl)
-not_true false h = refl
-
 -- a text that is no name of a dictionary is none of its keys
 pub fresh_key : (names : List Name) (store : List ℕ) (first : ℕ) (keys : List (List ℕ)) (k : List ℕ) → AreNames names store first keys → (IsNamed names store first k → ⊥) → is_among k keys ≡ false
-fresh_key names store first keys k h unnamed = not_true (is_among k keys) (λ e. unnamed ((h k).0 e))
+fresh_key names store first keys k h unnamed = false_from_ne_true (is_among k keys) (λ e. unnamed ((h k).0 e))
 
 -- a name that is placed
 pub placed_push : (names : List Name) (n : Name) (len : ℕ) → ArePlaced names len → n.first ≤ length names → n.start + n.len ≤ len → ArePlaced (names ++ n ∷ []) len

@@ -3,17 +3,10 @@ use Rattle.std.proofs.Common.{◌≡◌, ◌≤◌, ◌-◌, ◌↔◌, ◌==◌
 use Rattle.std.specs.Prelude.{find}
 use Rattle.std.specs.Option.{option_or}
 use Rattle.std.proofs.lemmas.Bool.Decides.{nat_tests}
+use Rattle.std.proofs.lemmas.Bool.{and_from, and_parts}
 use Rattle.wire.specs.declared.versions.Version.{Version}
 use Rattle.wire.specs.Versions.{versions, major_of, minor_of}
 use Rattle.wire.specs.Offers.{is_covered, covered_by, choice_of, Covers, IsFirstCovered, CoversNone, Chooses, ProposalsChoose}
-
-and_both : (a b : Bool) → (a && b) ≡ true → (a ≡ true) × (b ≡ true)
-and_both true b e = (refl, e)
-and_both false b e = absurd cc
-
-both_and : (a b : Bool) → a ≡ true → b ≡ true → (a && b) ≡ true
-both_and true b e f = f
-both_and false b e f = e
 
 some_same : (u v : Version) → ◌≡◌ {A = Option Version} (Some u) (Some v) → u ≡ v
 some_same u v e = cc
@@ -24,15 +17,15 @@ is_le m n h = grind (arith, nat_tests)
 -- the test is the rule
 covers_is : (a b c d : ℕ) (v : Version) → is_covered a b c d v ≡ true → Covers a b c d v
 covers_is a b c d v e =
-    let p = and_both ((a == 0) && (d == major_of v) && nat_le (c - b) (minor_of v)) (nat_le (minor_of v) c) e in
-    let q = and_both ((a == 0) && (d == major_of v)) (nat_le (c - b) (minor_of v)) p.0 in
-    let r = and_both (a == 0) (d == major_of v) q.0 in
+    let p = and_parts ((a == 0) && (d == major_of v) && nat_le (c - b) (minor_of v)) (nat_le (minor_of v) c) e in
+    let q = and_parts ((a == 0) && (d == major_of v)) (nat_le (c - b) (minor_of v)) p.0 in
+    let r = and_parts (a == 0) (d == major_of v) q.0 in
     record { zero_first = eqb-true _ _ r.0; same_major = eqb-true _ _ r.1; from_least = leb-true _ _ q.1; to_most = leb-true _ _ p.1 }
 
 is_covers : (a b c d : ℕ) (v : Version) → Covers a b c d v → is_covered a b c d v ≡ true
 is_covers a b c d v h =
-    both_and ((a == 0) && (d == major_of v) && nat_le (c - b) (minor_of v)) (nat_le (minor_of v) c)
-    (both_and ((a == 0) && (d == major_of v)) (nat_le (c - b) (minor_of v)) (both_and (a == 0) (d == major_of v) (eq-eqb _ _ h.zero_first) (eq-eqb _ _ h.same_major)) (is_le _ _ h.from_least))
+    and_from ((a == 0) && (d == major_of v) && nat_le (c - b) (minor_of v)) (nat_le (minor_of v) c)
+    (and_from ((a == 0) && (d == major_of v)) (nat_le (c - b) (minor_of v)) (and_from (a == 0) (d == major_of v) (eq-eqb _ _ h.zero_first) (eq-eqb _ _ h.same_major)) (is_le _ _ h.from_least))
     (is_le _ _ h.to_most)
 
 not_covers : (a b c d : ℕ) (v : Version) → is_covered a b c d v ≡ false → Covers a b c d v → ⊥

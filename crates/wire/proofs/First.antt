@@ -85,16 +85,7 @@ found_only high low rest m h =
     let behind = head_is _ _ _ _ all.1 in
     record { len = ap (λ x. x * 256 + low) all.0 ∙ ap (λ x. ((length m / 256) % 256) * 256 + x) behind.0 ∙ header-number (length m) h.fits; more = h.more; rest_is = behind.1 }
 
-pub not_in_none : (m : List ℕ) → BeginsWith m [] → ⊥
-not_in_none m h = let e = h.whole ∙ two_bytes m h.more in cc
-
-pub not_in_one : (x : ℕ) (m : List ℕ) → BeginsWith m (x ∷ []) → ⊥
-not_in_one x m h = let e = (head_is _ _ _ _ (h.whole ∙ two_bytes m h.more)).1 in cc
-
 -- ---- for the answers
-
-pub none_found : (p : Place) (piece m : List ℕ) → (p ≡ start → BeginsWith m piece → ⊥) → (◌≡◌ {A = Option (List ℕ)} None (Some m)) ↔ ((p ≡ start) × BeginsWith m piece)
-none_found p piece m never = ((λ (e : ◌≡◌ {A = Option (List ℕ)} None (Some m)). cc), (λ h. absurd (never h.0 h.1)))
 
 pub one_found : (p : Place) (piece m n : List ℕ) → p ≡ start → BeginsWith n piece → (BeginsWith m piece → n ≡ m) → (◌≡◌ {A = Option (List ℕ)} (Some n) (Some m)) ↔ ((p ≡ start) × BeginsWith m piece)
 one_found p piece m n at begins only = (

@@ -112,7 +112,7 @@ ours_after start ms n len h =
     ∙ ap (λ k. if nat_le k n then Opening start ∷ within item_bytes (n - k) (map Message ms) else []) (sym len)
     ∙ ap (λ l. if nat_le (length start) n then Opening start ∷ l else []) (within-map (List ℕ) written_run Message message_text (n - length start) ms)
 
-offered_length : (wish : Wish) → length (offer_of wish) ≡ 20
+pub offered_length : (wish : Wish) → length (offer_of wish) ≡ 20
 offered_length Newest = refl
 offered_length (Only v) = refl
 

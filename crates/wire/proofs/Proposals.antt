@@ -34,7 +34,7 @@ taken (Only V44) = record { long = refl; magical = refl; version = refl }
 taken (Only V50) = record { long = refl; magical = refl; version = refl }
 taken (Only V51) = record { long = refl; magical = refl; version = refl }
 
-answer_length : (v : Option Version) → length (version_answer v) ≡ 4
+pub answer_length : (v : Option Version) → length (version_answer v) ≡ 4
 answer_length None = refl
 answer_length (Some v) = refl
 

@@ -16,19 +16,16 @@ use Rattle.wire.specs.Items.{Step, goes, ends, refused, open_at, on_header, next
 is_lt : (m n : ℕ) → m < n → nat_lt m n ≡ true
 is_lt m n h = grind (arith, nat_tests)
 
-later_hands : (n : ℕ) (r : Result Fed WireFault) → hands_out (later n r) ≡ hands_out r
+pub later_hands : (n : ℕ) (r : Result Fed WireFault) → hands_out (later n r) ≡ hands_out r
 later_hands n (Ok fed) = refl
 later_hands n (Err (TooBig used)) = refl
 later_hands n (Err Memory) = refl
 
-further_wants : (k n : ℕ) (c : Answered) → wants_room n (further k c) ≡ wants_room n c
+pub further_wants : (k n : ℕ) (c : Answered) → wants_room n (further k c) ≡ wants_room n c
 further_wants k n c = ap (λ b. nat_lt n (length c.rest.body) || b) (later_hands k c.answer)
 
-more_held : (n : ℕ) (c : Answered) → n < length c.rest.body → wants_room n c ≡ true
-more_held n c h = or_left (nat_lt n (length c.rest.body)) (hands_out c.answer) (is_lt n _ h)
-
 -- a message ends with some data
-ends_wants : (n used : ℕ) (body : List ℕ) → 0 < length body → wants_room n (record { answer = Ok (record { used = used; what = item_of body }); rest = fresh }) ≡ true
+pub ends_wants : (n used : ℕ) (body : List ℕ) → 0 < length body → wants_room n (record { answer = Ok (record { used = used; what = item_of body }); rest = fresh }) ≡ true
 ends_wants n used [] h = absurd (omega arith)
 ends_wants n used (x ∷ xs) h = or_right (nat_lt n 0) true refl
 

@@ -1,5 +1,5 @@
 -- What a client is asked, and its loss, at the link of its connection.
-use Rattle.std.proofs.Common.{◌≡◌, refl, sym, ◌∙◌, ap, subst, ℕ, ◌+◌, ◌≤◌, Bool, true, false, if◌then◌else◌, Option, Some, None, option_map, Result, Ok, Err, List, [], ◌∷◌, ◌++◌, length, drop, slice_get, slice_set, ⊎_elim, arith, length-drop}
+use Rattle.std.proofs.Common.{◌≡◌, refl, sym, ◌∙◌, ap, subst, ℕ, ◌+◌, ◌≤◌, Bool, true, false, if◌then◌else◌, Option, Some, None, option_map, Result, Ok, Err, List, [], ◌∷◌, ◌++◌, length, drop, slice_get, slice_set, ⊎_elim, arith, length-drop, ◌⊎◌}
 use Rattle.wire.specs.declared.Wish.{Wish}
 use Rattle.wire.specs.Offers.{wish_version}
 use Rattle.messages.specs.View.{RequestView}
@@ -14,10 +14,10 @@ use Rattle.client.specs.Fits.{IsWrittenBy, IsAccepted}
 use Rattle.client.specs.Rest as asking
 use Rattle.client.proofs.Later.{reading_count}
 use Rattle.world.specs.declared.kinds.Refused.{Refused}
-use Rattle.world.specs.declared.kinds.Refused.TheVariants.{NoSuchConnection, WrongPeer, SessionsFull, Memory}
+use Rattle.world.specs.declared.kinds.Refused.TheVariants.{WrongPeer, Memory}
 use Rattle.world.specs.declared.link.Link.{Link as LinkHeld}
 use Rattle.world.specs.Connections.{Peer, Ours, Foreign, Connection, client, wish_of, bytes_delivered}
-use Rattle.world.specs.World.{World, Effect, Submit, ClientLost, Seen, Opened, Submitted, Fed, Gave, SawWork, SawNoop, SawNothing, Refusal, at_peer, ledger, effect_of_submit}
+use Rattle.world.specs.World.{World, Effect, Submit, ClientLost, Seen, Submitted, SawNothing, Refusal, at_peer, ledger, effect_of_submit}
 use Rattle.world.specs.Rests.{client_rest}
 use Rattle.world.specs.Reports.{by_peer}
 use Rattle.world.specs.Fits.{Link, Rest, FitsClient, FitsLink, Fits}
@@ -27,10 +27,10 @@ use Rattle.world.specs.declared.kinds.Event.{Event as EventTold}
 use Rattle.world.specs.declared.kinds.Seen.{Seen as SeenTold}
 use Rattle.world.specs.Views.{link_of, event_of}
 use Rattle.world.specs.Turns.{Definition, Turns, Now, Before, Holds, Submits, LosesClient, after_loss}
-use Rattle.world.proofs.Deeds.{some_is}
+use Rattle.std.proofs.lemmas.Option.{same_Some}
 use Rattle.world.proofs.Fitting.{submit_link, lost_link, lost_again}
 use Rattle.world.proofs.Seeing.{refuses_exactly}
-use Rattle.world.proofs.Becoming.{knows_wished, accepts_written}
+use Rattle.world.proofs.Becoming.{knows_wished}
 use Rattle.world.proofs.Written.{accepting}
 use Rattle.world.proofs.Turning.{same_set, found, may, acts_unseen}
 
@@ -87,55 +87,42 @@ module _ {E G : Type 0} (entries : E → List EntryView) (answer : Definition) (
       old = subst (λ p. FitsClient p m.client m.up k) ours here.2.client
 
       is : y ≡ client_rest old.out k
-      is = some_is y (client_rest old.out k) (sym is_there ∙ old.client_is)
+      is = same_Some y (client_rest old.out k) (sym is_there ∙ old.client_is)
 
       asked : (o : Option SubmitFault) → asking.refuses y.knows q ≡ o → at_peer T c (ledger w) (Submit c q) k.peer k ≡ Ok (effect_of_submit q k o)
-      asked o h = ap (λ p. at_peer T c (ledger w) (Submit c q) p k) ours ∙ ap (λ z. let x : Result Effect Refusal = Ok (effect_of_submit q k z) in x) (refused o h)
-        where
-          refused : (o : Option SubmitFault) → asking.refuses y.knows q ≡ o → refusal_of (client k) k.client_lost k.sent q ≡ o
-          refused o h = ap (λ z. asking.refuses z.knows q) (sym is) ∙ h
+      asked o h = ap (λ p. at_peer T c (ledger w) (Submit c q) p k) ours ∙ ap (λ z. let x : Result Effect Refusal = Ok (effect_of_submit q k z) in x) (ap (λ (z : asking.Rest). asking.refuses z.knows q) (sym is) ∙ h)
 
       refuses_turn : (fault : SubmitFault) (l2 : LinkHeld) → asking.refuses y.knows q ≡ Some fault → Holds l2 m → Answers T w (Submit c q) (Ok (Submitted (Err fault))) (Now_ l2)
       refuses_turn fault l2 refused h =
           acts_unseen entries answer accepts (Submit c q) l s r w b refl k (Submitted (Err fault)) (asked (Some fault) refused) refl (λ _ j. refl) l2 h.client h.ends (subst (λ z. FitsLink z k) h.link_is here.2)
-          (λ k2 g wish2 p none. absurd (never (subst (λ z. refusal_of (client z) z.client_lost z.sent q ≡ None) (some_is k2 k (sym g ∙ here.1)) none))) tt
-        where
-          never : refusal_of (client k) k.client_lost k.sent q ≡ None → ⊥
-          never none = let no : Some fault ≡ None = sym refused ∙ ap (λ z. asking.refuses z.knows q) is ∙ none in cc
+          (λ k2 g wish2 p none. let no : Some fault ≡ None = sym refused ∙ ap (λ z. asking.refuses z.knows q) is ∙ subst (λ z. refusal_of (client z) z.client_lost z.sent q ≡ None) (same_Some k2 k (sym g ∙ here.1)) none in absurd cc) tt
 
       accepts_turn : (n : ℕ) (l2 : LinkHeld) → IsAccepted y q n → Holds l2 (record m { client = Some (asking.after_submit y q) }) → Answers T w (Submit c q) (Ok (Submitted (Ok n))) (Now_ l2)
       accepts_turn n l2 accepted h =
           subst (λ i. Answers T w (Submit c q) (Ok (Submitted (Ok i))) (Now_ l2)) (sym (accepted.next ∙ ordinal_is))
           (acts_unseen entries answer accepts (Submit c q) l s r w b refl (record k { sent = k.sent ++ q ∷ [] }) (Submitted (Ok (length k.sent))) (asked None accepted.allowed) refl (λ _ j. refl) l2 h.client h.ends
-          (subst (λ z. FitsLink z (record k { sent = k.sent ++ q ∷ [] })) (ap (λ z. let m2 : Link = record m { client = option_map (λ v. asking.after_submit v q) z } in m2) is_there ∙ h.link_is) (submit_link m k q here.2 open_now.1 open_now.0 version_is))
-          (λ k2 g wish2 p no. subst (λ wi. IsWritten (wish_version wi) q) (same_wish k2 wish2 g p) (accepts_written T b.brought w b.reached c k wish here.1 ours q (subst (λ z. IsWrittenBy z.knows.version q) is accepted.written))) tt)
+          (subst (λ z. FitsLink z (record k { sent = k.sent ++ q ∷ [] })) (ap (λ z. let m2 : Link = record m { client = option_map (λ v. asking.after_submit v q) z } in m2) is_there ∙ h.link_is) (submit_link m k q here.2 open_now.1 open_now.0
+          (⊎_elim (λ e. absurd (open_now.2 e)) (λ e. e ∙ ap (λ p. Some (wish_version (wish_of p))) (sym ours)) knows)))
+          (λ k2 g wish2 p no.
+          let text : IsWrittenBy (client k).version q = subst (λ z. IsWrittenBy z.knows.version q) is accepted.written in
+          subst (λ wi. IsWritten (wish_version wi) q) (ap wish_of (sym ours ∙ ap (λ (y : Connection). y.peer) (same_Some k k2 (sym here.1 ∙ g)) ∙ p))
+          (⊎_elim (λ e. let n : ⊥ = subst (λ z. IsWrittenBy z q) e text in absurd n) (λ e. subst (λ z. IsWrittenBy z q) e text) knows)) tt)
         where
           open_now : (k.client_lost ≡ false) × ((client k).bad ≡ false) × ((client k).version ≡ None → ⊥)
           open_now = accepting (client k) k.client_lost k.sent q (ap (λ z. asking.refuses z.knows q) (sym is) ∙ accepted.allowed)
 
-          version_is : (client k).version ≡ Some (wish_version (wish_of k.peer))
-          version_is = ⊎_elim (λ e. absurd (open_now.2 e)) (λ e. e ∙ ap (λ p. Some (wish_version (wish_of p))) (sym ours)) (knows_wished T b.brought w b.reached c k wish here.1 ours)
-
-          same_wish : (k2 : Connection) (wish2 : Wish) → slice_get w.conns c ≡ Some k2 → k2.peer ≡ Ours wish2 → wish ≡ wish2
-          same_wish k2 wish2 g p = ap wish_of (sym ours ∙ ap (λ y. y.peer) (some_is k k2 (sym here.1 ∙ g)) ∙ p)
+          knows : ((client k).version ≡ None) ⊎ ((client k).version ≡ Some (wish_version wish))
+          knows = knows_wished T b.brought w b.reached c k wish here.1 ours
 
           ordinal_is : asking.next_ordinal y ≡ length k.sent
-          ordinal_is = ap asking.next_ordinal is ∙ ap (λ b. (client k).count + length (if b then [] else drop (client k).count k.sent)) open_now.0 ∙ counted
-            where
-              counted : (client k).count + length (drop (client k).count k.sent) ≡ length k.sent
-              counted = let few : (client k).count ≤ length k.sent = reading_count (wish_of k.peer) k.sent (hears (bytes_delivered k)) in omega (arith, length-drop (client k).count k.sent)
+          ordinal_is =
+              let few : (client k).count ≤ length k.sent = reading_count (wish_of k.peer) k.sent (hears (bytes_delivered k)) in
+              let counted : (client k).count + length (drop (client k).count k.sent) ≡ length k.sent = omega (arith, length-drop (client k).count k.sent) in
+              ap asking.next_ordinal is ∙ ap (λ b. (client k).count + length (if b then [] else drop (client k).count k.sent)) open_now.0 ∙ counted
 
     pub submit_turns : (res : Result Seen Refused) (l2 : LinkHeld) → Submits m q res (Holds l2) → Answers T w (Submit c q) res (Now_ l2)
     submit_turns (Ok (Submitted (Ok n))) l2 x = accepts_turn x.client x.here n l2 x.accepted x.now
     submit_turns (Ok (Submitted (Err fault))) l2 x = refuses_turn x.client x.here fault l2 x.refused x.now
-    submit_turns (Ok (Opened n)) l2 x = absurd x
-    submit_turns (Ok (Fed used what)) l2 x = absurd x
-    submit_turns (Ok (Gave used note)) l2 x = absurd x
-    submit_turns (Ok (SawWork worked)) l2 x = absurd x
-    submit_turns (Ok (SawNoop put)) l2 x = absurd x
-    submit_turns (Ok SawNothing) l2 x = absurd x
-    submit_turns (Err NoSuchConnection) l2 x = absurd x
-    submit_turns (Err SessionsFull) l2 x = absurd x
     submit_turns (Err WrongPeer) l2 x =
         let comes : ComesWrong w (Submit c q) = record {
           connection = k;
@@ -152,6 +139,7 @@ module _ {E G : Type 0} (entries : E → List EntryView) (answer : Definition) (
           leaves = refl;
           now = unchanged l2 x.now;
         }
+    submit_turns _ l2 x = absurd x
 
   module _ (b : Before entries answer accepts (ClientLost c) l s r w) where
     abbrev m_lost : Link
@@ -178,21 +166,12 @@ module _ {E G : Type 0} (entries : E → List EntryView) (answer : Definition) (
             let old : FitsClient (Ours wish) m_lost.client m_lost.up k = subst (λ p. FitsClient p m_lost.client m_lost.up k) ours at_lost.2.client in
             subst (λ o. FitsLink (record m_lost { client = option_map asking.after_drop o; client_lost = true; lost = asking.losses y.knows }) (record k { client_lost = true })) is
             (lost_link m_lost k (asking.losses y.knows) at_lost.2
-            (ap (λ z. asking.losses z.knows) (some_is y (client_rest old.out k) (sym is ∙ old.client_is))
+            (ap (λ z. asking.losses z.knows) (same_Some y (client_rest old.out k) (sym is ∙ old.client_is))
             ∙ ap (λ b. asking.losses (knows_of (client k) k.sent b)) (sym at_lost.2.flags.1 ∙ was)
             ∙ ap (λ p. by_peer p (asking.losses (knows_of (client k) k.sent false))) (sym ours)))
 
     pub loses_turns : (res : Result Seen Refused) (l2 : LinkHeld) → LosesClient m_lost res (Holds l2) → Answers T w (ClientLost c) res (Now_ l2)
     loses_turns (Ok SawNothing) l2 x = loses_turn m_lost.client_lost refl l2 x.client x.here x.now
-    loses_turns (Ok (Submitted answer)) l2 x = absurd x
-    loses_turns (Ok (Opened n)) l2 x = absurd x
-    loses_turns (Ok (Fed used what)) l2 x = absurd x
-    loses_turns (Ok (Gave used note)) l2 x = absurd x
-    loses_turns (Ok (SawWork worked)) l2 x = absurd x
-    loses_turns (Ok (SawNoop put)) l2 x = absurd x
-    loses_turns (Err NoSuchConnection) l2 x = absurd x
-    loses_turns (Err SessionsFull) l2 x = absurd x
-    loses_turns (Err Memory) l2 x = absurd x
     loses_turns (Err WrongPeer) l2 x = (
       (refuses_exactly T w (ClientLost c)).wrong_peer.1 (record {
         connection = at_lost.0;
@@ -209,6 +188,7 @@ module _ {E G : Type 0} (entries : E → List EntryView) (answer : Definition) (
         fits = subst (λ ls. Fits (record { links = ls; server = r.server }) w) (sym (ap (slice_set r.links c) (sym x.1.link_is) ∙ same_set r.links c m_lost b.at)) b.fits;
       },
     )
+    loses_turns _ l2 x = absurd x
 
 -- of an event that is known by an equation
 pub event_is : {E G : Type 0} (entries : E → List EntryView) (answer : Definition) (accepts : G → List ℕ → List ℕ → Bool) (x y : EventTold) (l : LinkHeld) (s : Server E G) (res : Result SeenTold Refused) (l2 : LinkHeld) (s2 : Server E G)

@@ -1,6 +1,6 @@
 -- How much a client keeps, over every list of steps: the requests that its connection sent and the bytes that it was given are those of
 -- a list of calls.
-use Rattle.std.proofs.Common.{◌≡◌, refl, sym, ◌∙◌, ap, ap₂, subst, ℕ, ◌≤◌, true, false, ◌||◌, if◌then◌else◌, Option, Some, None, List, [], ◌∷◌, ◌++◌, length, take, drop, slice_get}
+use Rattle.std.proofs.Common.{◌≡◌, refl, sym, ◌∙◌, ap, ap₂, subst, ℕ, ◌≤◌, false, ◌||◌, if◌then◌else◌, Option, Some, None, List, [], ◌∷◌, ◌++◌, length, take, drop, slice_get}
 use Rattle.wire.specs.declared.Version.{Version}
 use Rattle.wire.specs.declared.Wish.{Wish}
 use Rattle.wire.specs.Reader.{reach, takes, state}
@@ -16,7 +16,7 @@ use Rattle.client.specs.Moments.{Call, Submits, Feeds as FeedsCall, Loses, Run, 
 use Rattle.client.proofs.Runs.{tells_by_bytes}
 use Rattle.client.proofs.Few.{keeps_few}
 use Rattle.client.proofs.Later.{reading_later}
-use Rattle.world.specs.Connections.{Peer, Ours, Foreign, Connection, fresh, output, bytes_delivered, client, wish_of}
+use Rattle.world.specs.Connections.{Ours, Foreign, Connection, output, bytes_delivered, client, wish_of}
 use Rattle.world.specs.World.{World, Effect, give, taken_for, place, Reached}
 use Rattle.world.specs.Rests.{client_rest}
 use Rattle.world.specs.Limits.{IsFew}
@@ -78,11 +78,6 @@ module _ (wish : Wish) (k : Connection) (ours : k.peer ≡ Ours wish) (h : Follo
         before = λ n. let a = accepting (client k) k.client_lost k.sent q none in absurd (a.2 (ap (λ z. z.version) (sym (reading_later (wish_of k.peer) k.sent (q ∷ []) (hears (bytes_delivered k)) a.1)) ∙ n));
       }
 
-  loses_follow : Follows wish (record k { client_lost = true })
-  loses_follow =
-      let is = calls_more h.made Loses (starts wish) in
-      record { made = h.made ++ Loses ∷ []; sent = ap (λ (x : Run). x.sent) is ∙ h.sent; took = ap (λ (x : Run). x.took) is ∙ h.took; lost = ap (λ (x : Run). x.lost) is; before = h.before }
-
   hears_more : (n : ℕ) → k.client_lost ≡ false → ((client k).ended ≡ false) × ((client k).bad ≡ false) → Follows wish (give n k).conn
   hears_more n lives on =
       let is = calls_more h.made (FeedsCall piece) (starts wish) in
@@ -101,12 +96,9 @@ module _ (wish : Wish) (k : Connection) (ours : k.peer ≡ Ours wish) (h : Follo
       piece : List ℕ
       piece = take n (drop k.down (output k))
 
-      goes_on : run.rest.knows.over ≡ false
-      goes_on = ap (λ (y : Knows). y.over) knows_is ∙ ap₂ (λ a b. a || b) lives (ap₂ (λ a b. a || b) on.0 on.1)
-
       used : used_of run.rest piece ≡ reach hears (bytes_delivered k) piece
       used =
-          ap (λ b. if b then 0 else (takes at_client run.rest.item piece).used) goes_on
+          ap (λ b. if b then 0 else (takes at_client run.rest.item piece).used) (ap (λ (y : Knows). y.over) knows_is ∙ ap₂ (λ a b. a || b) lives (ap₂ (λ a b. a || b) on.0 on.1))
           ∙ ap (λ (o : Opened). (takes at_client o piece).used) item_is
           ∙ sym (used_same (wish_of k.peer) k.sent (bytes_delivered k) on piece)
 
@@ -114,17 +106,14 @@ module _ (wish : Wish) (k : Connection) (ours : k.peer ≡ Ours wish) (h : Follo
 does_follow : (k : Connection) (x : Effect) → Does k x → Follow k → Follow x.conn
 does_follow k x (stays y a e) f = alike_follows k y.conn a f
 does_follow k x (asks q none) f = λ wish p. accepts wish k p (f wish p) q none
-does_follow k x loses f = λ wish p. loses_follow wish k p (f wish p)
+does_follow k x loses f = λ wish p.
+    let h = f wish p in
+    let is = calls_more h.made Loses (starts wish) in
+    record { made = h.made ++ Loses ∷ []; sent = ap (λ (x : Run). x.sent) is ∙ h.sent; took = ap (λ (x : Run). x.took) is ∙ h.took; lost = ap (λ (x : Run). x.lost) is; before = h.before }
 does_follow k x (gives wish n p lives on) f = λ wish2 p2. hears_more wish2 k p2 (f wish2 p2) n lives on
 does_follow k x (strange n p) f = λ wish p2. let bad : Foreign ≡ Ours wish = sym p ∙ p2 in absurd (cc)
 
-fresh_follows : (peer : Peer) → Follow (fresh peer)
-fresh_follows peer wish p = record { made = []; sent = refl; took = refl; lost = refl; before = λ e. refl }
-
 pub reached_follow : (S : Setting) (brought : List EntryView) {w : World} → Reached S brought w → (c : ℕ) (k : Connection) → slice_get w.conns c ≡ Some k → Follow k
 reached_follow S brought r =
-    along S brought (λ _ _ _ k. Follow k) (λ w peer _ _. fresh_follows peer) (λ w e k x reached here f d _ _. does_follow k x (deed_does k (reached_sound S brought reached (place e) k here) d) f)
+    along S brought (λ _ _ _ k. Follow k) (λ w peer _ _ wish p. record { made = []; sent = refl; took = refl; lost = refl; before = λ e. refl }) (λ w e k x reached here f d _ _. does_follow k x (deed_does k (reached_sound S brought reached (place e) k here) d) f)
     (λ _ _ _ _ _ _ _ _ f. f) (λ _ _ _ n k f. alike_follows k (record k { taken = taken_for n k }) (record { peer = refl; sent = refl; lost = refl; given = refl }) f) r
-
-pub clients_few : (S : Setting) (brought : List EntryView) (w : World) → Reached S brought w → (c : ℕ) (k : Connection) → slice_get w.conns c ≡ Some k → (wish : Wish) (out : ℕ) → k.peer ≡ Ours wish → IsFew (client_rest out k)
-clients_few S brought w r c k here wish out p = few wish k p (reached_follow S brought r c k here wish p) out

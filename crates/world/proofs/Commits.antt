@@ -1,5 +1,6 @@
 -- That an entry comes by a row that commits, for a request that came whole.
 use Rattle.std.proofs.Common.{◌≡◌, refl, sym, ◌∙◌, ap, subst, ℕ, Bool, false, if◌then◌else◌, Some, None, is_some, List, ◌++◌, slice_get, ◌⊎◌, inl, inr, ⊎_elim, arith, append-nil}
+use Rattle.std.proofs.lemmas.Option.{same_Some}
 use Rattle.messages.specs.Arrivals.{Asked}
 use Rattle.machine.specs.States.{phase_of}
 use Rattle.machine.specs.Asks.{kind_of}
@@ -18,13 +19,10 @@ use Rattle.world.specs.Rests.{server_rest, live_of}
 use Rattle.world.specs.Turns.{Definition, setting_of}
 use Rattle.world.specs.Others.{Commits, GrowsByCommits}
 use Rattle.world.proofs.Deeds as deed
-use Rattle.world.proofs.Deeds.{Deed, Did, opens, acts, step_did, step_case, some_is}
+use Rattle.world.proofs.Deeds.{Deed, Did, opens, acts, step_did, step_case}
 use Rattle.world.proofs.Sound.{Sound, first_of, still_lives, reached_sound}
 use Rattle.world.proofs.Served.{find_at, work_served}
 use Rattle.world.proofs.Others.{deed_commits}
-
-works_is : (c d : ℕ) → running.works c ≡ running.works d → c ≡ d
-works_is c d h = cc
 
 module _ {G : Type 0} (answer : Definition) (accepts : G → List ℕ → List ℕ → Bool) (gate : G) (w : World) (c : ℕ) (k : Connection) (here : slice_get w.conns c ≡ Some k) (s : Sound k) where
   abbrev S : Setting
@@ -45,13 +43,11 @@ module _ {G : Type 0} (answer : Definition) (accepts : G → List ℕ → List �
       g2 : Grows (running.works c) (rest w) (rest w2)
       g2 = subst (λ r. Grows (running.works c) (rest w) r) (ap (λ o. after_call o (rest w)) (work_served G gate w c k here lives s answer accepts)) (grows answer accepts (running.works c) (rest w))
 
-      session : (conn : ℕ) (t : Live) → conn ≡ c → find conn (rest w).sessions ≡ Some t → t ≡ live_of c k
-      session conn t e found = some_is t (live_of c k) (sym found ∙ ap (λ n. find n (rest w).sessions) e ∙ find_at w.conns 0 c c k (omega arith) here ∙ ap (λ b. if b then None else Some (live_of c k)) lives)
-
       go : (more : List EntryView) → ledger w2 ≡ ledger w ++ more → (ev : running.Event) → ev ≡ running.works c → Adds (rest w) ev more → Comes w2
       go more h ev e (nothing x) = inl (h ∙ append-nil (ledger w))
       go more h ev e (one conn t q later change found first row) =
-          let same : t ≡ live_of c k = session conn t (works_is conn c e) found in
+          let at : conn ≡ c = cc in
+          let same : t ≡ live_of c k = same_Some t (live_of c k) (sym found ∙ ap (λ n. find n (rest w).sessions) at ∙ find_at w.conns 0 c c k (omega arith) here ∙ ap (λ b. if b then None else Some (live_of c k)) lives) in
           inr
           (record {
             conn = c;

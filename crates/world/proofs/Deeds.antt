@@ -1,5 +1,6 @@
 -- What a step of the world is: an opening, or one deed at a connection that is there; and the induction along it.
 use Rattle.std.proofs.Common.{◌≡◌, refl, sym, ap, subst, ℕ, zero, suc, ◌-◌, ◌^◌, Bool, true, false, not, ◌||◌, if◌then◌else◌, nat_le, Option, Some, None, is_some, ◌&&◌, Result, Ok, Err, List, [], ◌∷◌, ◌++◌, ◌≢◌, length, slice_get, slice_set, ◌⊎◌, inl, inr, ⊎_elim, arith}
+use Rattle.std.proofs.lemmas.Bool.{cond_both, or_parts}
 use Rattle.wire.specs.declared.Wish.{Wish}
 use Rattle.wire.specs.Reader.{reach}
 use Rattle.messages.specs.View.{RequestView}
@@ -39,18 +40,9 @@ set_same (a ∷ xs) zero x y h = refl
 set_same (a ∷ xs) (suc i) x y h = set_same xs i x y h
 
 pub set_other : {A : Type 0} (xs : List A) (i j : ℕ) (y : A) → i ≢ j → slice_get (slice_set xs i y) j ≡ slice_get xs j
-set_other [] i j y n = refl
 set_other (a ∷ xs) zero zero y n = absurd (n refl)
-set_other (a ∷ xs) zero (suc j) y n = refl
-set_other (a ∷ xs) (suc i) zero y n = refl
 set_other (a ∷ xs) (suc i) (suc j) y n = set_other xs i j y (λ e. n (ap suc e))
-
-pub some_is : {A : Type 0} (x y : A) → Some x ≡ Some y → x ≡ y
-some_is {A} x y h = ap or_this h
-  where
-    or_this : Option A → A
-    or_this (Some v) = v
-    or_this None = x
+set_other _ _ _ y n = refl
 
 -- what a step answered, in parts
 abbrev world_of : World → Result (World × Seen) Refusal → World
@@ -66,16 +58,11 @@ ok_parts w w2 x x2 h = (ap (world_of w) h, ap (seen_of x) h)
 
 -- by a test, which is known to be false in the second case
 pub if_case : (P : Effect → Type 0) (b : Bool) (x y : Effect) → P x → (b ≡ false → P y) → P (if b then x else y)
-if_case P true x y a f = a
-if_case P false x y a f = f refl
+if_case P b x y a f = cond_both b x y P (λ _. a) f
 
 -- A RESET interrupts, or it doesn't.
 pub interrupt_case : (P : Kept → Type 0) (b : Bool) (s : Kept) → P s → (b && interruptible s.state ≡ true → P (after_interrupt s)) → P (interrupts b s)
-interrupt_case P b s x f = go (b && interruptible s.state) refl
-  where
-    go : (h : Bool) → b && interruptible s.state ≡ h → P (if h then after_interrupt s else s)
-    go true e = f e
-    go false e = x
+interrupt_case P b s x f = cond_both (b && interruptible s.state) (after_interrupt s) s P f (λ _. x)
 
 -- A feed takes nothing, or a piece up to the end of an item.
 pub feed_case : (P : Effect → Type 0) (piece : List ℕ) (k : Connection) → ((what : What) → P (quiet k (Fed 0 what)))
@@ -104,11 +91,7 @@ step_case P S c all k q over asks = go k.ended refl
 
     go : (o : Option Cause) → k.ended ≡ o → P (work_kept S c all (kept_of k) o)
     go (Some cause) e = q (Ended cause) refl
-    go None e = at (nat_le 65536 (length (kept_of k).unsent)) (first (waiting k) refl e)
-      where
-        at : (b : Bool) → P (turns S c all (kept_of k) (waiting k)) → P (if b then rests (kept_of k) serving.Full else turns S c all (kept_of k) (waiting k))
-        at true h = q serving.Full refl
-        at false h = h
+    go None e = cond_both (nat_le 65536 (length (kept_of k).unsent)) _ _ P (λ _. q serving.Full refl) (λ _. first (waiting k) refl e)
 
 -- what was done where nothing was said
 pub silent_step : (P : Effect → Type 0) (k : Connection) (d : Done) → said_by d ≡ [] → P (quiet k (SawWork (worked_of d))) → P (effect_of_step k (rests (kept_of k) d))
@@ -121,9 +104,7 @@ noop_case P k q t = go (is_some k.version) (is_some k.ended) (nat_le 65536 (leng
     go : (a b c : Bool) → (a ≡ true → b ≡ false → P (quiet (record k { says = SaysNoop ∷ k.says }) (SawNoop true)))
         → P (let put = not (not a || b || c) in quiet (record k { says = if put then SaysNoop ∷ k.says else k.says }) (SawNoop put))
     go true false false t = t refl refl
-    go true false true t = q
-    go true true c t = q
-    go false b c t = q
+    go _ _ _ t = q
 
 -- What is taken out for a peer is what was taken, or more.
 pub taken_case : (P : ℕ → Type 0) (p : Peer) (n : ℕ) (k : Connection) → P k.taken → P (taken_for n k) → P (effect_at_peer p n k).conn.taken
@@ -159,23 +140,17 @@ module _ (S : Setting) (c : ℕ) (all : List EntryView) (k : Connection) where
   submit_deed i q wish p None e = submits i q wish p e
   submit_deed i q wish p (Some fault) e = declines i q fault
 
-  event_deed : (e : Event) (p : Peer) → k.peer ≡ p → IfDone (Deed S c all k e) (at_peer S c all e p k)
-  event_deed (Submit i q) (Ours wish) p = submit_deed i q wish p (refusal_of (client k) k.client_lost k.sent q) refl
-  event_deed (ToServer i n) (Ours wish) p = hands i n wish p
-  event_deed (ToClient i n) (Ours wish) p = if_case (Deed S c all k (ToClient i n)) (k.cut || (k.client_lost || ((client k).ended || (client k).bad))) _ _ (misses i n) (λ e. gives i n wish p e)
-  event_deed (ToClient i n) Foreign p = if_case (Deed S c all k (ToClient i n)) k.cut _ _ (misses i n) (λ _. drains i n p)
-  event_deed (Feeds i piece) Foreign p = feeds i piece p
-  event_deed (Work i) (Ours wish) p = works i
-  event_deed (Work i) Foreign p = works i
-  event_deed (PutsNoop i) (Ours wish) p = noops i
-  event_deed (PutsNoop i) Foreign p = noops i
-  event_deed (Cut i) (Ours wish) p = cuts i
-  event_deed (Cut i) Foreign p = cuts i
-  event_deed (ClientLost i) (Ours wish) p = loses i wish p
-  event_deed (ServerLost i) (Ours wish) p = ends i
-  event_deed (ServerLost i) Foreign p = ends i
-  event_deed (Opens peer) (Ours wish) p = tt
-  event_deed (Opens peer) Foreign p = tt
+  event_deed : (p : Peer) (e : Event) → k.peer ≡ p → IfDone (Deed S c all k e) (at_peer S c all e p k)
+  event_deed (Ours wish) (Submit i q) p = submit_deed i q wish p (refusal_of (client k) k.client_lost k.sent q) refl
+  event_deed (Ours wish) (ToServer i n) p = hands i n wish p
+  event_deed (Ours wish) (ToClient i n) p = if_case (Deed S c all k (ToClient i n)) (k.cut || (k.client_lost || ((client k).ended || (client k).bad))) _ _ (misses i n) (λ e. gives i n wish p e)
+  event_deed Foreign (ToClient i n) p = if_case (Deed S c all k (ToClient i n)) k.cut _ _ (misses i n) (λ _. drains i n p)
+  event_deed Foreign (Feeds i piece) p = feeds i piece p
+  event_deed _ (Work i) p = works i
+  event_deed _ (PutsNoop i) p = noops i
+  event_deed _ (Cut i) p = cuts i
+  event_deed (Ours wish) (ClientLost i) p = loses i wish p
+  event_deed _ (ServerLost i) p = ends i
   event_deed _ _ p = tt
 
 -- a world with one connection more
@@ -204,7 +179,7 @@ module _ (S : Setting) (w : World) where
 
       go : (o : Option Connection) → slice_get w.conns (place e) ≡ o → at_conn S w e (place e) o ≡ Ok (w2, seen) → Did S w e seen w2
       go None g h = cc
-      go (Some k) g h = made k g (at_peer S (place e) (ledger w) e k.peer k) (event_deed S (place e) (ledger w) k e k.peer refl) h
+      go (Some k) g h = made k g (at_peer S (place e) (ledger w) e k.peer k) (event_deed S (place e) (ledger w) k k.peer e refl) h
 
   pub step_did : (e : Event) (seen : Seen) (w2 : World) → step S w e ≡ Ok (w2, seen) → Did S w e seen w2
   step_did (Opens peer) seen w2 h = open_did peer seen w2 h
@@ -227,11 +202,7 @@ module _ (S : Setting) (brought : List EntryView) (P : (brought since : List Ent
 
   step_along : (w : World) (e : Event) (seen : Seen) (w2 : World) → Reached S brought w → All w → Did S w e seen w2 → IsMade w e seen → IsCountedIn seen → All w2
   step_along w e seen w2 r all (opens peer room) made counted = λ j k g. ⊎_elim (λ h. all j k h)
-      (λ h. subst (λ i. P w.brought w.since i k) (sym h.0) (subst (P w.brought w.since (length w.conns)) h.1 (begun w peer r (second (nat_le 16 (live w)) _ room)))) (get_more w.conns j (fresh peer) k g)
-    where
-      second : (a b : Bool) → (a || b) ≡ false → b ≡ false
-      second false b h = h
-      second true b h = cc
+      (λ h. subst (λ i. P w.brought w.since i k) (sym h.0) (subst (P w.brought w.since (length w.conns)) h.1 (begun w peer r (or_parts (nat_le 16 (live w)) _ room).1))) (get_more w.conns j (fresh peer) k g)
   step_along w e seen w2 r all (acts event k x here d) made counted =
       set_all w (place event) k x.conn (w.since ++ commit_entries (place event) (answer_count k.says) x.commit) here (did w event k x r here (all (place event) k here) d made counted)
       (λ j k3 n g. others w.brought w.since j (place event) (answer_count k.says) x.commit k3 n (all j k3 g))

@@ -11,8 +11,8 @@ use Rattle.machine.specs.declared.State.{State}
 use Rattle.machine.specs.declared.Phase.{Phase}
 use Rattle.machine.specs.Asks.{kind_of, is_reset}
 use Rattle.engine.specs.Views.{EntryView}
-use Rattle.session.specs.Session.{Setting, Open, Tx, Change, Reply, OneRow, Summary, Bye}
-use Rattle.session.specs.Rest.{Kept, Done, WroteRow, Wrote, after_item, what_of, work_kept, worked_of}
+use Rattle.session.specs.Session.{Setting, Open, Tx, Change, Reply, OneRow}
+use Rattle.session.specs.Rest.{Kept, Done, WroteRow, after_item, what_of, work_kept, worked_of}
 use Rattle.client.specs.Client.{Reading, knows_of, reading_of, refusal_of}
 use Rattle.client.specs.Rest.{Nothing}
 use Rattle.world.specs.Connections.{Peer, Ours, Foreign, Connection, Said, SaysNoop, waiting, bytes_delivered, client, wish_of, input, kept_of}
@@ -36,9 +36,6 @@ pub record Alike (k k2 : Connection) : Type 0 where
   pub lost : k2.client_lost ≡ k.client_lost
   pub given : bytes_delivered k2 ≡ bytes_delivered k
 
-alike_itself : (k : Connection) → Alike k k
-alike_itself k = record { peer = refl; sent = refl; lost = refl; given = refl }
-
 -- its client reads the same
 pub client_alike : (k k2 : Connection) → Alike k k2 → client k2 ≡ client k
 client_alike k k2 a = ap (λ p. reading_of (wish_of p) k2.sent (bytes_delivered k2)) a.peer ∙ ap₂ (λ (qs : List RequestView) (bs : List ℕ). reading_of (wish_of k.peer) qs bs) a.sent a.given
@@ -60,10 +57,7 @@ pub data Does (k : Connection) : Effect → Type 0 where
 
 pub does_peer : (k : Connection) (x : Effect) → Does k x → x.conn.peer ≡ k.peer
 does_peer k x (stays y a e) = a.peer
-does_peer k x (asks q none) = refl
-does_peer k x loses = refl
-does_peer k x (gives wish n p lives on) = refl
-does_peer k x (strange n p) = refl
+does_peer k x _ = refl
 
 -- what a work step adds to the report
 abbrev pub wrote_seen : Seen → List (ℕ × Phase)
@@ -76,7 +70,6 @@ pub data Speaks (k : Connection) : Effect → Type 0 where
 
 said_written : (d : Done) → wrote_after (said_by d) [] ≡ wrote_by (worked_of d)
 said_written (WroteRow row) = refl
-said_written (Wrote x) = refl
 said_written _ = refl
 
 answer_written : (o : Option Arrival) → wrote_after (said_to o) [] ≡ []
@@ -85,8 +78,7 @@ answer_written _ = refl
 
 reply_version : (k : Connection) (all : List EntryView) (st : State) (re : Open) (tx : Tx) (q : RequestView) (later : List Arrival) (r : Reply) → (replied k all st re tx q later r).kept.version ≡ k.version
 reply_version k all st re tx q later (OneRow row left) = refl
-reply_version k all st re tx q later Bye = refl
-reply_version k all st re tx q later (Summary d a left t entry) = refl
+reply_version k all st re tx q later _ = refl
 
 pub work_speaks : (S : Setting) (c : ℕ) (all : List EntryView) (k : Connection) → Speaks k (work S c all k)
 work_speaks S c all k =
@@ -121,15 +113,12 @@ module _ (k : Connection) (s : Sound k) where
 
   -- each deed
   pub deed_does : {S : Setting} {c : ℕ} {all : List EntryView} {e : Event} {x : Effect} → Deed S c all k e x → Does k x
-  deed_does (deed.declines i q fault) = stays _ (alike_itself k) refl
   deed_does (deed.submits i q wish p none) = asks q none
   deed_does (deed.hands i n wish p) = speaks_does (feed_speaks (take n (drop (length k.up) (input wish k.sent))))
   deed_does (deed.feeds i piece p) = speaks_does (feed_speaks piece)
-  deed_does (deed.misses i n) = stays _ (alike_itself k) refl
   deed_does (deed.gives i n wish p e) = let o = none_of k.cut k.client_lost (client k).ended (client k).bad e in gives wish n p o.0 (o.1, o.2)
   deed_does (deed.drains i n p) = strange n p
   deed_does {S = S} {c = c} {all = all} (deed.works i) = speaks_does (work_speaks S c all k)
   deed_does (deed.noops i) = speaks_does (noop_speaks k)
-  deed_does (deed.cuts i) = stays _ (record { peer = refl; sent = refl; lost = refl; given = refl }) refl
   deed_does (deed.loses i wish p) = loses
-  deed_does (deed.ends i) = stays _ (record { peer = refl; sent = refl; lost = refl; given = refl }) refl
+  deed_does _ = stays _ (record { peer = refl; sent = refl; lost = refl; given = refl }) refl

@@ -1,8 +1,8 @@
 -- The links of a world, event by event: from what they held and what the calls answered, what they hold then fits the model's step.
-use Rattle.std.proofs.Common.{◌≡◌, refl, sym, ◌∙◌, ap, ap₂, subst, ℕ, ◌+◌, ◌-◌, ◌≤◌, Bool, true, false, if◌then◌else◌, min, max, Option, Some, None, option_map, List, [], ◌∷◌, ◌++◌, length, take, drop, slice_get, slice_set, arith, append-nil, length-append, length-take, length-drop, take-append-drop, zero, suc}
-use Rattle.std.proofs.lemmas.List.{take-append-le, drop-append-le, drop-drop, take_min}
+use Rattle.std.proofs.Common.{◌≡◌, refl, sym, ◌∙◌, ap, ap₂, subst, ℕ, ◌+◌, ◌-◌, ◌≤◌, Bool, true, false, if◌then◌else◌, min, max, Option, Some, None, option_map, List, [], ◌∷◌, ◌++◌, length, take, drop, arith, append-nil, length-append, length-take, length-drop, take-append-drop}
+use Rattle.std.proofs.lemmas.List.{take-append-le, drop-append-le, drop-drop, take_min, take_all, length-take-le}
 use Rattle.std.proofs.Math.Seq.{take-add}
-use Rattle.world.proofs.Fronts.{take_within, drop_within, take_whole}
+use Rattle.world.proofs.Fronts.{parts, rest_of, take_within, drop_within}
 use Rattle.wire.specs.declared.Wish.{Wish}
 use Rattle.wire.specs.Offers.{offer_of, wish_version}
 use Rattle.wire.specs.Reader.{state, reach}
@@ -11,9 +11,7 @@ use Rattle.messages.specs.View.{RequestView}
 use Rattle.messages.specs.Arrivals.{request_bytes, hears}
 use Rattle.machine.specs.declared.Phase.{Phase}
 use Rattle.machine.specs.States.{phase_of}
-use Rattle.engine.specs.Views.{EntryView}
 use Rattle.session.specs.declared.Cause.{Cause}
-use Rattle.session.specs.Session.{Setting}
 use Rattle.server.specs.Serving.{cause_or}
 use Rattle.client.specs.declared.Outcome.{Outcome}
 use Rattle.client.specs.Verdicts.{Told, GotRow, Got}
@@ -22,32 +20,29 @@ use Rattle.client.specs.Moments.{tellings_in}
 use Rattle.client.specs.Rest as asking
 use Rattle.client.specs.Rest.{losses}
 use Rattle.client.proofs.Later.{reading_later}
-use Rattle.world.specs.Connections.{Peer, Ours, Foreign, Connection, fresh, Said, SaysVersion, SaysNoop, SaysRow, SaysSummary, output, bytes_delivered, client, wish_of, input}
-use Rattle.world.specs.World.{Effect, work, noop, give, taken_for, server_gone}
+use Rattle.world.specs.Connections.{Peer, Ours, Foreign, Connection, fresh, Said, SaysSummary, output, bytes_delivered, client, wish_of, input}
+use Rattle.world.specs.World.{Effect, give, taken_for, server_gone}
 use Rattle.world.specs.Rests.{client_rest}
 use Rattle.world.specs.Reports.{ReadSummary, wrote_after, summaries_told, read_after, by_peer}
 use Rattle.world.specs.Views.{opened_link}
-use Rattle.world.specs.Fits.{Link, FitsClient, FitsLink, cause_seen}
-use Rattle.world.proofs.Deeds.{some_is}
+use Rattle.world.specs.Fits.{Link, FitsClient, FitsLink, cause_seen, FitsFlags}
+use Rattle.std.proofs.lemmas.Option.{same_Some}
 use Rattle.world.proofs.Sound.{Sound}
 use Rattle.world.proofs.Speaking.{spoken, falling_same}
-use Rattle.world.proofs.Doing.{client_alike, rest_alike, Speaks, says, wrote_seen, work_speaks, noop_speaks, speaks_alike}
-use Rattle.world.proofs.Giving.{longer, submitted_same, give_same, give_told}
+use Rattle.world.proofs.Doing.{client_alike, rest_alike, Speaks, says, wrote_seen, speaks_alike}
+use Rattle.world.proofs.Giving.{submitted_same, give_same, give_told}
 use Rattle.world.proofs.Reaching.{reach_within}
+use Rattle.world.proofs.Growth.{input_more}
 
 wrote-append : (xs : List Said) (later more : List (ℕ × Phase)) → wrote_after xs (later ++ more) ≡ wrote_after xs later ++ more
 wrote-append [] later more = refl
-wrote-append (SaysVersion o ∷ xs) later more = wrote-append xs later more
-wrote-append (SaysNoop ∷ xs) later more = wrote-append xs later more
-wrote-append (SaysRow row ∷ xs) later more = wrote-append xs later more
 wrote-append (SaysSummary x ∷ xs) later more = wrote-append xs ((x.ordinal, phase_of x.state) ∷ later) more
+wrote-append (_ ∷ xs) later more = wrote-append xs later more
 
 wrote_more : (xs ys : List Said) (later : List (ℕ × Phase)) → wrote_after (xs ++ ys) later ≡ wrote_after ys (wrote_after xs later)
 wrote_more [] ys later = refl
-wrote_more (SaysVersion o ∷ xs) ys later = wrote_more xs ys later
-wrote_more (SaysNoop ∷ xs) ys later = wrote_more xs ys later
-wrote_more (SaysRow row ∷ xs) ys later = wrote_more xs ys later
 wrote_more (SaysSummary x ∷ xs) ys later = wrote_more xs ys ((x.ordinal, phase_of x.state) ∷ later)
+wrote_more (_ ∷ xs) ys later = wrote_more xs ys later
 
 -- the client of a connection of which it sees no change
 pub same_client : (p : Peer) (o : Option asking.Rest) (u : List ℕ) (k k2 : Connection) → k2.up ≡ k.up → k2.sent ≡ k.sent → ((out : ℕ) → client_rest out k2 ≡ client_rest out k) → FitsClient p o u k → FitsClient p o u k2
@@ -77,56 +72,28 @@ module _ (l : Link) (k : Connection) (f : FitsLink l k) (s : Sound k) (lives : k
       }
 
   -- where no bytes of the peer were taken
-  alone_link : {x : Effect} → Speaks k x → x.conn.up ≡ k.up → (wrote : List (ℕ × Phase)) → wrote ≡ l.wrote ++ wrote_seen x.seen → FitsLink (record l { wrote = wrote }) x.conn
+  pub alone_link : {x : Effect} → Speaks k x → x.conn.up ≡ k.up → (wrote : List (ℕ × Phase)) → wrote ≡ l.wrote ++ wrote_seen x.seen → FitsLink (record l { wrote = wrote }) x.conn
   alone_link {x} h u wrote e = let a = speaks_alike k s h in speaks_link h l.client l.up wrote e (same_client k.peer l.client l.up k x.conn u a.sent (rest_alike k x.conn a) f.client)
 
-  -- `work` and `noop`
-  pub work_link : (S : Setting) (c : ℕ) (entries : List EntryView) → let x = work S c entries k in FitsLink (record l { wrote = l.wrote ++ wrote_seen x.seen }) x.conn
-  work_link S c entries = alone_link (work_speaks S c entries k) refl _ refl
-
-  pub noop_link : FitsLink l (noop k).conn
-  noop_link = alone_link (noop_speaks k) refl l.wrote (sym (append-nil l.wrote))
-
--- a cut
-pub cut_link : (l : Link) (k : Connection) → FitsLink l k → FitsLink (record l { cut = true }) (record k { cut = true })
-cut_link l k f =
-    record {
-      peer = f.peer;
-      client = same_client k.peer l.client l.up k (record k { cut = true }) refl refl (λ out. refl) f.client;
-      down = f.down;
-      flags = (refl, f.flags.1, f.flags.2);
-      report = f.report;
-    }
+-- bytes that were taken out, a cut, or the server's loss, of which the client sees nothing
+pub unseen_link : (l m : Link) (k z : Connection) → FitsLink l k → let l2 = record l { down = m.down; cut = m.cut; gone = m.gone } in
+    let k2 = record k { taken = z.taken; cut = z.cut; server_lost = z.server_lost; state = z.state; ended = z.ended; result = z.result; tx = z.tx } in
+    m.down ≡ take (z.taken - k.down) (drop k.down (output k)) → FitsFlags l2 k2 → FitsLink l2 k2
+unseen_link l m k z f down flags =
+    let k2 = record k { taken = z.taken; cut = z.cut; server_lost = z.server_lost; state = z.state; ended = z.ended; result = z.result; tx = z.tx } in
+    record { peer = f.peer; client = same_client k.peer l.client l.up k k2 refl refl (λ out. refl) f.client; down = down; flags = flags; report = f.report }
 
 -- `lost` of the server, of which the rest was taken out first
 pub gone_link : (l : Link) (k : Connection) → FitsLink l k → Sound k → k.server_lost ≡ false → FitsLink (record l { down = l.down ++ drop k.taken (output k); gone = Some (cause_or k.ended) }) (server_gone k).conn
 gone_link l k f s lives =
-    record {
-      peer = f.peer;
-      client = same_client k.peer l.client l.up k (server_gone k).conn refl refl (λ out. refl) f.client;
-      down = ap (λ z. z ++ drop k.taken (output k)) f.down ∙ all;
-      flags = (f.flags.0, f.flags.1, refl);
-      report = f.report;
-    }
-  where
-    all : take (k.taken - k.down) (drop k.down (output k)) ++ drop k.taken (output k) ≡ take (length (output k) - k.down) (drop k.down (output k))
-    all =
-        let a = s.counts in let b = s.below in
-        let e : k.down + (k.taken - k.down) ≡ k.taken = omega arith in
-        ap (λ z. take (k.taken - k.down) (drop k.down (output k)) ++ z) (ap (λ n. drop n (output k)) (sym e) ∙ sym (drop-drop (k.taken - k.down) k.down (output k)))
-        ∙ take-append-drop (k.taken - k.down) (drop k.down (output k))
-        ∙ sym (take_whole (length (output k) - k.down) (drop k.down (output k)) (let m = length-drop k.down (output k) in omega arith))
-
--- and once it was given up before
-pub gone_again : (l : Link) (k : Connection) → FitsLink l k → Sound k → (cause : Cause) → l.gone ≡ Some cause → k.server_lost ≡ true → k.ended ≡ Some cause → FitsLink l (server_gone k).conn
-gone_again l k f s cause g gone ended =
-    record {
-      peer = f.peer;
-      client = same_client k.peer l.client l.up k (server_gone k).conn refl refl (λ out. refl) f.client;
-      down = f.down ∙ ap (λ t. take (t - k.down) (drop k.down (output k))) (s.gone gone).1;
-      flags = (f.flags.0, f.flags.1, g ∙ ap (λ o. Some (cause_or o)) (sym ended));
-      report = f.report;
-    }
+    let a = s.counts in let b = s.below in
+    let e : k.down + (k.taken - k.down) ≡ k.taken = omega arith in
+    unseen_link l (record l { down = l.down ++ drop k.taken (output k); gone = Some (cause_or k.ended) }) k (server_gone k).conn f
+    (ap (λ z. z ++ drop k.taken (output k)) f.down
+    ∙ ap (λ z. take (k.taken - k.down) (drop k.down (output k)) ++ z) (ap (λ n. drop n (output k)) (sym e) ∙ sym (drop-drop (k.taken - k.down) k.down (output k)))
+    ∙ take-append-drop (k.taken - k.down) (drop k.down (output k))
+    ∙ sym (take_all (length (output k) - k.down) (drop k.down (output k)) (let m = length-drop k.down (output k) in omega arith)))
+    (f.flags.0, f.flags.1, refl)
 
 -- `lost` of the client
 dropped_client : (p : Peer) (o : Option asking.Rest) (u : List ℕ) (k : Connection) → FitsClient p o u k → FitsClient p (option_map asking.after_drop o) u (record k { client_lost = true })
@@ -172,7 +139,7 @@ submitted_client Foreign o u k q e good lives ver h = (ap (option_map (λ r. ask
 submitted_client (Ours wish) o u k q e good lives ver h =
     let is : wish_of k.peer ≡ wish = ap wish_of e in
     let few : h.out ≤ length (input (wish_of k.peer) k.sent) = subst (λ z. h.out ≤ length (input z k.sent)) (sym is) h.most in
-    let long : input wish (k.sent ++ q ∷ []) ≡ input wish k.sent ++ request_bytes (wish_version wish) q = subst (λ z. input z (k.sent ++ q ∷ []) ≡ input z k.sent ++ request_bytes (wish_version z) q) is (longer k h.out q few) in
+    let long : input wish (k.sent ++ q ∷ []) ≡ input wish k.sent ++ request_bytes (wish_version wish) q = subst (λ z. input z (k.sent ++ q ∷ []) ≡ input z k.sent ++ request_bytes (wish_version z) q) is (input_more (wish_of k.peer) k.sent q) in
     let b = h.least in let c = h.most in
     record {
       out = h.out;
@@ -239,10 +206,7 @@ module _ (l : Link) (k : Connection) (f : FitsLink l k) (s : Sound k) (n : ℕ) 
   few = let a = s.counts in let b = s.below in let m = length-drop k.down (output k) in omega arith
 
   pub held_long : length l.down ≡ h
-  held_long = ap length f.down ∙ length-take h bytes ∙ smaller h (length bytes) few
-    where
-      smaller : (a b : ℕ) → a ≤ b → min a b ≡ a
-      smaller a b l = omega arith
+  held_long = ap length f.down ∙ length-take-le h bytes few
 
   pub held_all : held ≡ take (taken_for n k - k.down) bytes
   held_all =
@@ -252,9 +216,6 @@ module _ (l : Link) (k : Connection) (f : FitsLink l k) (s : Sound k) (n : ℕ) 
       ap₂ (λ x (y : List ℕ × ℕ). x ++ take (n - y.1) y.0) f.down (ap₂ (λ (x : List ℕ) (y : ℕ). (x, y)) d held_long) ∙ sym (take-add h (n - h) bytes) ∙ sym (take_min (h + (n - h)) bytes)
       ∙ ap (λ i. take i bytes) (same k.taken k.down (length (output k)) n (length bytes) m a b)
     where
-      parts : (a b : ℕ) → b ≤ a → a ≡ b + (a - b)
-      parts a b l = omega arith
-
       same : (taken down len n m : ℕ) → m ≡ len - down → taken ≤ len → down ≤ taken → min ((taken - down) + (n - (taken - down))) m ≡ max taken (min (down + n) len) - down
       same taken down len n m e a b = omega arith
 
@@ -263,31 +224,17 @@ module _ (l : Link) (k : Connection) (f : FitsLink l k) (s : Sound k) (n : ℕ) 
       let a = s.counts in let b = s.below in
       ap (take n) held_all ∙ take_within n (taken_for n k - k.down) bytes (omega (arith, length-drop k.down (output k)))
 
-  -- where it is held, and taken out alone
-  pub left_link : FitsLink (record l { down = held }) (record k { taken = taken_for n k })
-  left_link =
-      record {
-        peer = f.peer;
-        client = same_client k.peer l.client l.up k (record k { taken = taken_for n k }) refl refl (λ out. refl) f.client;
-        down = held_all;
-        flags = f.flags;
-        report = f.report;
-      }
-
-  -- and where a foreign peer drops it
+  -- where a foreign peer drops it
   pub drained_link : k.peer ≡ Foreign → FitsLink (record l { down = [] }) (record k { taken = taken_for n k; down = taken_for n k })
   drained_link foreign =
       record {
         peer = f.peer;
         client = subst (λ p. FitsClient p l.client l.up (record k { taken = taken_for n k; down = taken_for n k })) (sym foreign) (subst (λ p. FitsClient p l.client l.up k) foreign f.client);
-        down = sym (ap (λ i. take i (drop (taken_for n k) (output k))) (none (taken_for n k)));
+        down = let none : taken_for n k - taken_for n k ≡ 0 = omega arith in sym (ap (λ i. take i (drop (taken_for n k) (output k))) none);
         flags = f.flags;
         report = (f.report.0, f.report.1 ∙ unknown k.peer foreign _ _, f.report.2 ∙ unknown k.peer foreign _ _);
       }
     where
-      none : (i : ℕ) → i - i ≡ 0
-      none i = omega arith
-
       unknown : {A : Type 0} (p : Peer) → p ≡ Foreign → (xs ys : List A) → by_peer p xs ≡ by_peer p ys
       unknown Foreign e xs ys = refl
       unknown (Ours wish) e xs ys = cc
@@ -313,10 +260,7 @@ module _ (l : Link) (k : Connection) (f : FitsLink l k) (s : Sound k) (n : ℕ) 
       let u = reach_within hears (bytes_delivered k) (take n coming) in
       let t = length-take n coming in
       ap (drop used) (held_all l k f s n) ∙ drop_within used (taken_for n k - k.down) coming (omega arith)
-      ∙ ap₂ (λ i z. take i z) (same (taken_for n k) k.down used) (drop-drop used k.down (output k))
-    where
-      same : (t d u : ℕ) → (t - d) - u ≡ t - (d + u)
-      same t d u = omega arith
+      ∙ ap₂ (λ i z. take i z) (rest_of (taken_for n k) k.down used) (drop-drop used k.down (output k))
 
   pub give_link : FitsLink (record l { client = Some (asking.feed_of r (take n holding)).rest; down = drop used holding; read = l.read ++ read_after (tellings_in (asking.feed_of r (take n holding)).answer) [] }) k3
   give_link =
@@ -332,7 +276,7 @@ module _ (l : Link) (k : Connection) (f : FitsLink l k) (s : Sound k) (n : ℕ) 
       old = subst (λ p. FitsClient p l.client l.up k) ours f.client
 
       is : r ≡ client_rest old.out k
-      is = some_is r (client_rest old.out k) (sym here ∙ old.client_is)
+      is = same_Some r (client_rest old.out k) (sym here ∙ old.client_is)
 
       fits : FitsClient (Ours wish) (Some (asking.feed_of r (take n holding)).rest) l.up k3
       fits =

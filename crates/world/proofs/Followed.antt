@@ -15,19 +15,14 @@ pub replays_more : (S : Setting) (w w2 w3 : World) (es : List Event) (e : Event)
 replays_more S w w2 w3 [] e h f = (w3, subst (λ z. Follows S z e w3) h f, refl)
 replays_more S w w2 w3 (x ∷ es) e h f = (h.0, h.1, replays_more S h.0 w2 w3 es e h.2 f)
 
-refused_err : (S : Setting) (w : World) (e : Event) (v : Refusal) → step S w e ≡ Err v → IsErr (step S w e)
-refused_err S w e v h = subst IsErr (sym h) refl
-
 -- an answer that isn't want of memory isn't seen as one
 pub seen_lacks : (res : Result SeenTold Refused) → (res ≡ Err Memory → ⊥) → seen_in res ≡ Err Memory → ⊥
 seen_lacks (Ok seen) h e = cc
 seen_lacks (Err refused) h e = h (ap (λ x. Err x) (fault_is refused e))
   where
     fault_is : (f : Refused) → ◌≡◌ {A = Result Seen Refused} (Err f) (Err Memory) → f ≡ Memory
-    fault_is NoSuchConnection e = cc
-    fault_is WrongPeer e = cc
-    fault_is SessionsFull e = cc
     fault_is Memory e = refl
+    fault_is _ e = cc
 
 module _ {E G : Type 0} (entries : E → List EntryView) (S : Setting) (gate : G) (brought : List EntryView) (w : World) where
   -- one more event
@@ -48,7 +43,7 @@ module _ {E G : Type 0} (entries : E → List EntryView) (S : Setting) (gate : G
   left_out : (e : Event) (t : WorldHeld E G) (v : Refusal) → Reached S brought w → step S w e ≡ Err v
       → FitsWorld entries t gate w → GoesBy entries S gate brought w e t
   left_out e t v r h f =
-      record { after = w; follows = inr (refused_err S w e v h, refl); reached = r; fits = f }
+      record { after = w; follows = inr (subst IsErr (sym h) refl, refl); reached = r; fits = f }
 
   follows : (e : Event) (t : WorldHeld E G) → Reached S brought w → (res : Result Seen Refused)
       → (res ≡ Err Memory → ⊥) → Answers S w e res (FitsWorld entries t gate)

@@ -33,11 +33,11 @@ use Rattle.world.specs.Views.{FitsEnd, link_of, end_peer}
 use Rattle.world.specs.Turns.{Definition, Now, Before}
 use Rattle.world.proofs.Sound.{Sound}
 use Rattle.world.proofs.Served.{unseen, alike, take_served}
-use Rattle.world.proofs.Fitting.{held_long, held_all, front_is, left_link, drained_link, give_link}
+use Rattle.world.proofs.Fitting.{held_long, held_all, front_is, drained_link, give_link, unseen_link}
 use Rattle.world.proofs.Giving.{seen_as, give_same}
 use Rattle.world.proofs.Seeing.{gives_said}
-use Rattle.world.proofs.Deeds.{some_is}
-use Rattle.world.proofs.Turning.{found, sound, lives, given_up, may, acts, holds_then, rests, lacks, either, answer_is}
+use Rattle.std.proofs.lemmas.Option.{same_Some, some_pair_parts}
+use Rattle.world.proofs.Turning.{found, sound, lives, given_up, may, acts, holds_then, rests, lacks, either}
 
 moved_by : (a b : ℕ) → (a + b) - a ≡ b
 moved_by a b = omega arith
@@ -97,15 +97,11 @@ module _ {E G : Type 0} (entries : E → List EntryView) (answer : Definition) (
   out_of gone taken server2 h k2 seen g e =
       let alive = lives entries answer accepts (ToClient c n) l s r w b gone in
       let t = min (k.taken + missing) (length (output k)) in
-      let one = answer_is taken (take missing (drop k.taken (output k))) server2 _ (sym h ∙ ap (serving.take_out_at c missing) b.fits.server ∙ take_served G r.server.gate w c k here.1 alive so missing) in (
+      let one = some_pair_parts taken (take missing (drop k.taken (output k))) server2 _ (sym h ∙ ap (serving.take_out_at c missing) b.fits.server ∙ take_served G r.server.gate w c k here.1 alive so missing) in (
         one.0,
         one.1 ∙ alike r.server.gate w c k here.1 (record k { taken = t }) k2 SawNothing seen alive alive (g ∙ alive)
             (ap (λ i. live_of c (record k { taken = i })) (counts_of k.taken k.down (length (output k)) n (length m.down) so.counts so.below (held_long m k here.2 so n)) ∙ e),
       )
-
-  -- where it was given up, nothing is missing
-  all_out : k.server_lost ≡ true → drop k.taken (output k) ≡ []
-  all_out gone = ap (λ i. drop i (output k)) (so.gone gone).1 ∙ drop-length (output k)
 
   unseen_then : k.server_lost ≡ true → (k2 : Connection) (seen : Seen) → k2.server_lost ≡ k.server_lost → r.server ≡ server_rest r.server.gate (after_effect w c k (quiet k2 seen))
   unseen_then gone k2 seen g = b.fits.server ∙ unseen r.server.gate w c k here.1 k2 seen g (λ alive j. absurd (true≢false (sym gone ∙ alive)))
@@ -119,7 +115,7 @@ module _ {E G : Type 0} (entries : E → List EntryView) (answer : Definition) (
     old = subst (λ p. FitsClient p m.client m.up k) peer_is here.2.client
 
     is : y ≡ client_rest old.out k
-    is = some_is y (client_rest old.out k) (sym client_is ∙ old.client_is)
+    is = same_Some y (client_rest old.out k) (sym client_is ∙ old.client_is)
 
     over_is : y.knows.over ≡ (k.client_lost || ((client k).ended || (client k).bad))
     over_is = ap (λ z. z.knows.over) is
@@ -147,18 +143,16 @@ module _ {E G : Type 0} (entries : E → List EntryView) (answer : Definition) (
       came_out l2 s2 gone taken server2 h same ends serves =
           let k2 = record k { taken = taken_for n k } in
           let d = out_of gone taken server2 h k2 SawNothing refl refl in
-          let link = subst (λ z. FitsLink z k2) (sym (same ∙ ap (λ x. let z : Link = record m { down = m.down ++ x } in z) d.0)) (left_link m k here.2 so n) in
+          let out_is : taken_out w c n (slice_get w.conns c) ≡ after_effect w c k (quiet k2 SawNothing) =
+          ap (taken_out w c n) here.1
+          ∙ ap₂ (λ t es. record { conns = slice_set w.conns c (record k { taken = t }); brought = w.brought; since = es }) (ap (λ p. (effect_at_peer p n k).conn.taken) peer_is ∙ ap (λ (x : Effect). x.conn.taken) goes) (sym (append-nil w.since)) in
+          let link = subst (λ z. FitsLink z k2) (sym (same ∙ ap (λ x. let z : Link = record m { down = m.down ++ x } in z) d.0)) (unseen_link m (record m { down = m.down ++ take missing (drop k.taken (output k)) }) k k2 here.2 (held_all m k here.2 so n) here.2.flags) in
           record {
             may = may entries answer accepts (ToClient c n) l s r w b refl _ takes;
             after = taken_out w c n (slice_get w.conns c);
             leaves = inr refl;
             now = subst (Now_ l2 s2) (sym out_is) (holds_then entries answer accepts (ToClient c n) l s r w b (quiet k2 SawNothing) l2 s2 b.client server2 ends serves d.1 link);
           }
-        where
-          out_is : taken_out w c n (slice_get w.conns c) ≡ after_effect w c k (quiet (record k { taken = taken_for n k }) SawNothing)
-          out_is =
-              ap (taken_out w c n) here.1
-              ∙ ap₂ (λ t es. record { conns = slice_set w.conns c (record k { taken = t }); brought = w.brought; since = es }) (ap (λ p. (effect_at_peer p n k).conn.taken) peer_is ∙ ap (λ (x : Effect). x.conn.taken) goes) (sym (append-nil w.since))
 
       pub given_draws : (gone : Option Cause) → l.gone ≡ gone → (res : Result (Unit {0}) AllocError) (bytes : List ℕ) (l2 : LinkHeld) (s2 : Server E G)
           → Draws gone c missing r.server m.down res bytes (server.Fits entries s2) → link_of l2 b.client ≡ record m { down = bytes } → FitsEnd l2.end b.client
@@ -180,7 +174,7 @@ module _ {E G : Type 0} (entries : E → List EntryView) (answer : Definition) (
           → (server2 : serving.Rest G) × server.Fits entries s2 server2 × (server2 ≡ server_rest r.server.gate (after_effect w c k (give n k))) × (bytes ≡ held)
       drew (Some cause) is bytes s2 d =
           let gone = (given_up entries answer accepts (ToClient c n) l s r w b cause is).0 in
-          (r.server, d.1, unseen_then gone (give n k).conn (give n k).seen refl, d.0 ∙ sym (ap (λ z. m.down ++ take missing z) (all_out gone) ∙ ap (λ z. m.down ++ z) (take-nil missing) ∙ append-nil m.down))
+          (r.server, d.1, unseen_then gone (give n k).conn (give n k).seen refl, d.0 ∙ sym (ap (λ z. m.down ++ take missing z) (ap (λ i. drop i (output k)) (so.gone gone).1 ∙ drop-length (output k)) ∙ ap (λ z. m.down ++ z) (take-nil missing) ∙ append-nil m.down))
       drew None is bytes s2 d =
           let o = out_of is d.taken d.after d.out (give n k).conn (give n k).seen refl refl in
           (d.after, d.now, o.1, d.held ∙ ap (λ z. m.down ++ z) o.0)
@@ -252,16 +246,13 @@ module _ {E G : Type 0} (entries : E → List EntryView) (answer : Definition) (
         → Answers T w (ToClient c n) (Ok (Gave used (Ok Nothing))) (Now_ l2 s)
     drains_gone cause gone l2 used is same ends =
         let lost = (given_up entries answer accepts (ToClient c n) l s r w b cause gone).0 in
-        drained l2 s used (is ∙ held_long m k here.2 so n ∙ all (length (output k)) (so.gone lost).1) r.server b.server (unseen_then lost k2 (Gave (taken_for n k - k.down) (Ok Nothing)) refl) same ends
-      where
-        all : (len : ℕ) → k.taken ≡ len → k.taken - k.down ≡ max k.taken (min (k.down + n) len) - k.down
-        all len e = omega arith
+        let full = (so.gone lost).1 in
+        let level : k.taken - k.down ≡ taken_for n k - k.down = omega arith in
+        drained l2 s used (is ∙ held_long m k here.2 so n ∙ level) r.server b.server (unseen_then lost k2 (Gave (taken_for n k - k.down) (Ok Nothing)) refl) same ends
 
     pub drains_done : l.gone ≡ None → (l2 : LinkHeld) (s2 : Server E G) (taken : List ℕ) (used : ℕ) → answered.Answers (Ok taken) (serving.take_out_at c missing r.server) r.server (server.Fits entries s2)
         → used ≡ length (m.down ++ taken) → link_of l2 b.client ≡ record m { down = [] } → FitsEnd l2.end b.client → Answers T w (ToClient c n) (Ok (Gave used (Ok Nothing))) (Now_ l2 s2)
     drains_done gone l2 s2 taken used a is same ends =
         let o = out_of gone taken a.0 a.1 k2 (Gave (taken_for n k - k.down) (Ok Nothing)) refl refl in
-        drained l2 s2 used (is ∙ ap (λ z. length (m.down ++ z)) o.0 ∙ ap length (held_all m k here.2 so n) ∙ within) a.0 a.2 o.1 same ends
-      where
-        within : length (take (taken_for n k - k.down) (drop k.down (output k))) ≡ taken_for n k - k.down
-        within = let x = so.counts in let y = so.below in length-take-le (taken_for n k - k.down) (drop k.down (output k)) (omega (arith, length-drop k.down (output k)))
+        drained l2 s2 used (is ∙ ap (λ z. length (m.down ++ z)) o.0 ∙ ap length (held_all m k here.2 so n)
+        ∙ (let x = so.counts in let y = so.below in length-take-le (taken_for n k - k.down) (drop k.down (output k)) (omega (arith, length-drop k.down (output k))))) a.0 a.2 o.1 same ends

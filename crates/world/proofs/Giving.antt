@@ -1,14 +1,14 @@
 -- What the ends of a connection keep is enough for what a client is given, and for what it submits.
-use Rattle.std.proofs.Common.{◌≡◌, refl, sym, ◌∙◌, ap, ap₂, ℕ, suc, ◌+◌, ◌-◌, ◌≤◌, Bool, true, false, ◌||◌, if◌then◌else◌, nat_lt, Option, Some, None, unwrap_or, option_map, option_to_list, Result, Ok, Err, List, [], ◌∷◌, ◌++◌, length, take, drop, arith, append_assoc, append-nil, true≢false, length-take}
-use Rattle.std.proofs.lemmas.Bool.{lt-ltb, le-ltb, cond-false}
+use Rattle.std.proofs.Common.{◌≡◌, refl, sym, ◌∙◌, ap, ap₂, ℕ, suc, ◌+◌, ◌-◌, ◌≤◌, Bool, true, false, ◌||◌, if◌then◌else◌, nat_lt, Option, Some, None, unwrap_or, option_map, option_to_list, Result, Ok, Err, List, [], ◌∷◌, ◌++◌, length, take, drop, arith, true≢false, length-take}
+use Rattle.std.proofs.lemmas.Bool.{lt-ltb, le-ltb, cond-false, cond-true}
 use Rattle.std.proofs.lemmas.List.{drop-append-le}
 use Rattle.std.proofs.Math.Seq.{take-add}
 use Rattle.world.proofs.Fronts.{take_within}
 use Rattle.wire.specs.declared.Version.{Version}
 use Rattle.wire.specs.declared.Wish.{Wish}
-use Rattle.wire.specs.Offers.{offer_of, wish_version}
+use Rattle.wire.specs.Offers.{wish_version}
 use Rattle.wire.specs.Reader.{Took, state, takes, reach}
-use Rattle.wire.specs.Framing.{Item, Opened, at_client, bytes_in_order}
+use Rattle.wire.specs.Framing.{Item, Opened, at_client}
 use Rattle.messages.specs.View.{RequestView}
 use Rattle.messages.specs.Arrivals.{Heard, hears, request_bytes}
 use Rattle.client.specs.declared.ClientFault.{ClientFault}
@@ -16,16 +16,16 @@ use Rattle.client.specs.Rest as asking
 use Rattle.client.specs.Rest.{Note, Nothing, heard_as, hears_item, note_of}
 use Rattle.client.specs.Client.{Reading, knows_of, after_item, hear, reading, reading_of}
 use Rattle.client.specs.Moments.{tellings_in}
-use Rattle.client.proofs.Makes.{Makes, spoils, turns_away, takes_version, tells_none, tells_row, tells_summary, makes}
+use Rattle.client.proofs.Makes.{Makes, spoils, makes}
 use Rattle.client.proofs.Later.{reading_later, reading_count}
 use Rattle.client.proofs.Hears.{more_heard}
 use Rattle.client.proofs.Fed.{rest_at, version_then, fed_rest, fed_told}
 use Rattle.world.specs.Connections.{Connection, output, bytes_delivered, client, wish_of, input}
-use Rattle.world.specs.World.{Seen, Gave, give, taken_for, note_now, tells_newest, note_given, tells_of}
+use Rattle.world.specs.World.{Seen, Gave, give, taken_for, note_now, note_given, tells_of}
 use Rattle.world.specs.Rests.{client_rest}
-use Rattle.world.proofs.Growth.{texts_append}
 use Rattle.world.proofs.Hearing.{used_same}
 use Rattle.world.proofs.Reaching.{reach_within}
+use Rattle.world.proofs.Growth.{input_more}
 
 -- what is seen of a client's answer; used, where it tells none
 abbrev pub seen_as : ℕ → Result (ℕ × Note) ClientFault → Seen
@@ -35,24 +35,12 @@ seen_as used (Err e) = Gave used (Err e)
 -- what is told of an item that isn't bad, as the reading after it tells it
 made_note : (wish : Wish) (k : asking.Knows) (r : Reading) (x : Heard) (h : asking.Hearing) → Makes wish k x h → h.bad ≡ false → note_of x h ≡ tells_of x (after_item r h)
 made_note wish k r x h (spoils y) e = absurd (true≢false e)
-made_note wish k r x h (turns_away n) e = refl
-made_note wish k r x h (takes_version v n w) e = refl
-made_note wish k r x h tells_none e = refl
-made_note wish k r x h (tells_row cells n later w) e = refl
-made_note wish k r x h (tells_summary a s) e = refl
+made_note wish k r x h _ e = refl
 
 -- one more item is told
 told_item : (xs : List Heard) (o : Option Heard) (r2 : Reading) → note_now xs (option_to_list o ++ xs) r2 ≡ unwrap_or (option_map (λ x. tells_of x r2) o) Nothing
-told_item xs None r2 = go (nat_lt (length xs) (length xs)) (le-ltb (length xs) (length xs) (omega arith))
-  where
-    go : (b : Bool) → b ≡ false → (if b then tells_newest xs r2 else Nothing) ≡ Nothing
-    go false e = refl
-    go true e = cc
-told_item xs (Some x) r2 = go (nat_lt (length xs) (length (x ∷ xs))) (lt-ltb (length xs) (length (x ∷ xs)) (omega arith))
-  where
-    go : (b : Bool) → b ≡ true → (if b then tells_of x r2 else Nothing) ≡ tells_of x r2
-    go true e = refl
-    go false e = cc
+told_item xs None r2 = cond-false (nat_lt (length xs) (length xs)) _ _ (le-ltb (length xs) (length xs) (omega arith))
+told_item xs (Some x) r2 = cond-true (nat_lt (length xs) (length (x ∷ xs))) _ _ (lt-ltb (length xs) (length (x ∷ xs)) (omega arith))
 
 -- what is seen of a client that goes on
 module _ (wish : Wish) (sent : List RequestView) (xs : List Heard) (on : ((reading wish sent xs).ended ≡ false) × ((reading wish sent xs).bad ≡ false)) (item : Opened) (unsent : List ℕ) (used : ℕ) where
@@ -126,18 +114,15 @@ module _ (k : Connection) (out n : ℕ) (lives : k.client_lost ≡ false) (on : 
   held_is bytes = ap (λ b. record (held bytes) { knows = knows_of (reading_of (wish_of k.peer) k.sent bytes) k.sent b }) lives
 
   -- what the client keeps is enough: the rest then, what is seen, and what it has told
-  fed_seen : seen_as t.used (asking.feed_of (held (bytes_delivered k)) piece).answer ≡ Gave t.used (note_given (client k2).bad (note_now (hears (bytes_delivered k)) (hears (bytes_delivered k2)) (client k2)))
-  fed_seen =
-      ap (λ f. seen_as t.used f.answer) (cond-false ((client k).ended || (client k).bad) (record { rest = held (bytes_delivered k); answer = Err ClientFault.Closed }) (asking.fed_open (held (bytes_delivered k)) t) (ap₂ (λ a b. a || b) on.0 on.1))
-      ∙ item_seen (wish_of k.peer) k.sent (hears (bytes_delivered k)) on t.rest unsent t.used t.item
-      ∙ ap (λ ys. let r = reading (wish_of k.peer) k.sent ys in Gave t.used (note_given r.bad (note_now (hears (bytes_delivered k)) ys r))) (sym heard_more)
-
   pub give_same : let f = asking.feed_of (client_rest out k) piece in (f.rest ≡ client_rest out (give n k).conn) × (seen_as ((give n k).conn.down - k.down) f.answer ≡ (give n k).seen)
   give_same =
       let used : (k.down + m) - k.down ≡ t.used = let u = used_same (wish_of k.peer) k.sent (bytes_delivered k) on piece in omega arith in
       let is = held_is (bytes_delivered k) in (
         ap (λ r. (asking.feed_of r piece).rest) is ∙ fed_rest (wish_of k.peer) k.sent unsent (bytes_delivered k) on piece ∙ ap held (sym taken_more) ∙ sym (held_is (bytes_delivered k2)),
-        ap₂ (λ r u. seen_as u (asking.feed_of r piece).answer) is used ∙ fed_seen
+        ap₂ (λ r u. seen_as u (asking.feed_of r piece).answer) is used
+            ∙ ap (λ (f : asking.Fed). seen_as t.used f.answer) (cond-false ((client k).ended || (client k).bad) (record { rest = held (bytes_delivered k); answer = Err ClientFault.Closed }) (asking.fed_open (held (bytes_delivered k)) t) (ap₂ (λ a b. a || b) on.0 on.1))
+            ∙ item_seen (wish_of k.peer) k.sent (hears (bytes_delivered k)) on t.rest unsent t.used t.item
+            ∙ ap (λ ys. let r = reading (wish_of k.peer) k.sent ys in Gave t.used (note_given r.bad (note_now (hears (bytes_delivered k)) ys r))) (sym heard_more)
             ∙ ap (λ u. Gave u (note_given (client k2).bad (note_now (hears (bytes_delivered k)) (hears (bytes_delivered k2)) (client k2)))) (sym used),
       )
 
@@ -149,11 +134,6 @@ module _ (k : Connection) (out n : ℕ) (lives : k.client_lost ≡ false) (on : 
 
 -- what it keeps is enough for a submit: the rest after one that isn't refused
 module _ (k : Connection) (out : ℕ) (q : RequestView) (few : out ≤ length (input (wish_of k.peer) k.sent)) where
-  pub longer : input (wish_of k.peer) (k.sent ++ q ∷ []) ≡ input (wish_of k.peer) k.sent ++ request_bytes (wish_version (wish_of k.peer)) q
-  longer =
-      ap (λ z. offer_of (wish_of k.peer) ++ z) (texts_append (request_bytes (wish_version (wish_of k.peer))) k.sent (q ∷ []) ∙ ap (λ z. bytes_in_order (request_bytes (wish_version (wish_of k.peer))) k.sent ++ z) (append-nil (request_bytes (wish_version (wish_of k.peer)) q)))
-      ∙ sym (append_assoc (offer_of (wish_of k.peer)) (bytes_in_order (request_bytes (wish_version (wish_of k.peer))) k.sent) (request_bytes (wish_version (wish_of k.peer)) q))
-
   abbrev rest_of : Reading → List RequestView → List ℕ → asking.Rest
   rest_of rd w u =
       record {
@@ -166,15 +146,12 @@ module _ (k : Connection) (out : ℕ) (q : RequestView) (few : out ≤ length (i
   -- where the client knows the version that it wished
   pub submitted_same : (client k).bad ≡ false → k.client_lost ≡ false → (client k).version ≡ Some (wish_version (wish_of k.peer)) → asking.after_submit (client_rest out k) q ≡ client_rest out (record k { sent = k.sent ++ q ∷ [] })
   submitted_same good lives ver =
-      ap₂ (λ w u. rest_of (client k) w u) (waits k.client_lost lives) sends
+      ap₂ (λ w u. rest_of (client k) w u) (waits k.client_lost lives)
+      (ap (λ o. drop out (input (wish_of k.peer) k.sent) ++ asking.asking_bytes o q) ver
+      ∙ sym (drop-append-le out (input (wish_of k.peer) k.sent) (request_bytes (wish_version (wish_of k.peer)) q) few)
+      ∙ ap (drop out) (sym (input_more (wish_of k.peer) k.sent q)))
       ∙ ap (λ rd. rest_of rd (if k.client_lost then [] else drop rd.count (k.sent ++ q ∷ [])) (drop out (input (wish_of k.peer) (k.sent ++ q ∷ [])))) (sym (reading_later (wish_of k.peer) k.sent (q ∷ []) (hears (bytes_delivered k)) good))
     where
       waits : (b : Bool) → b ≡ false → (if b then [] else drop (client k).count k.sent) ++ q ∷ [] ≡ (if b then [] else drop (client k).count (k.sent ++ q ∷ []))
       waits false e = sym (drop-append-le (client k).count k.sent (q ∷ []) (reading_count (wish_of k.peer) k.sent (hears (bytes_delivered k))))
       waits true e = cc
-
-      sends : drop out (input (wish_of k.peer) k.sent) ++ asking.asking_bytes (client k).version q ≡ drop out (input (wish_of k.peer) (k.sent ++ q ∷ []))
-      sends =
-          ap (λ o. drop out (input (wish_of k.peer) k.sent) ++ asking.asking_bytes o q) ver
-          ∙ sym (drop-append-le out (input (wish_of k.peer) k.sent) (request_bytes (wish_version (wish_of k.peer)) q) few)
-          ∙ ap (drop out) (sym longer)

@@ -21,7 +21,7 @@ use Rattle.world.specs.Views.{FitsEnd, link_of, flow_of, read_of}
 use Rattle.messages.specs.View.{RequestView}
 use Rattle.client.specs.declared.SubmitFault.{SubmitFault}
 use Rattle.client.specs.declared.SubmitFault.TheVariants as submit_fault
-use Rattle.world.specs.Turns.{Holds, Submits, SubmitsInVain, refusal_seen, LosesClient, after_loss}
+use Rattle.world.specs.Turns.{Holds, Submits, refusal_seen, LosesClient, after_loss}
 
 -- a link whose end is replaced
 abbrev pub with_end : LinkHeld → End → LinkHeld
@@ -57,16 +57,9 @@ module _ (wish : Wish) (c : Client) (lost : Option (List (ℕ × Outcome))) wher
 
 -- a request that the client refuses
 module _ (m : Link) (q : RequestView) (Now : Link → Type 0) (y : asking.Rest) (is : m.client ≡ Some y) (now : Now m) where
-  vain : (fault : SubmitFault) → asking.refuses y.knows q ≡ Some fault → SubmitsInVain m q fault Now
-  vain fault h = record { client = y; here = is; refused = h; now = now }
-
   pub refused_submits : (fault : SubmitFault) → ((fault ≡ submit_fault.Memory → ⊥) → asking.refuses y.knows q ≡ Some fault) → Submits m q (refusal_seen fault) Now
   refused_submits submit_fault.Memory h = record { client = y; here = is; now = now }
-  refused_submits submit_fault.NotAllowed h = vain _ (h (λ e. cc))
-  refused_submits submit_fault.PipelineFull h = vain _ (h (λ e. cc))
-  refused_submits submit_fault.Size h = vain _ (h (λ e. cc))
-  refused_submits submit_fault.Closed h = vain _ (h (λ e. cc))
-  refused_submits (submit_fault.Unwritable why) h = vain _ (h (λ e. cc))
+  refused_submits _ h = record { client = y; here = is; refused = h (λ e. cc); now = now }
 
 -- the client's loss
 module _ (wish : Wish) (c : Client) (lost : Option (List (ℕ × Outcome))) (l : LinkHeld) (is : l.end ≡ end.Ours wish c lost) (m : Link) (h : Holds l m) where
@@ -113,5 +106,4 @@ module _ (wish : Wish) (c : Client) (lost : Option (List (ℕ × Outcome))) (l :
 -- what a client answers but want of memory
 pub unless : (A : Type 0) (e : ClientFault) (p : Type 0) → client.UnlessMemory {A = A} (Err e) p → (e ≡ client_fault.Memory → ⊥) → p
 unless A client_fault.Memory p h differs = absurd (differs refl)
-unless A client_fault.Closed p h differs = h
-unless A client_fault.BadPeer p h differs = h
+unless A _ p h differs = h

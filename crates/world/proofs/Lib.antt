@@ -33,7 +33,6 @@ pub mod Fitting
 pub mod Rising
 pub mod Becoming
 pub mod Answering
-pub mod Reporting
 pub mod Drawn
 pub mod Turning
 pub mod Turned

@@ -6,7 +6,7 @@ use Rattle.client.specs.Rest.{Nothing}
 use Rattle.session.specs.Session.{Setting}
 use Rattle.session.specs.Rest.{Step, work_kept, worked_of}
 use Rattle.server.specs.Serving as serving
-use Rattle.server.specs.Serving.{Live, is_full}
+use Rattle.server.specs.Serving.{is_full}
 use Rattle.server.specs.Running as running
 use Rattle.server.specs.Running.{after_call, after_event, after_events, Bounded, AllBounded, IsKept}
 use Rattle.world.specs.Connections.{Connection, output, input, kept_of}
@@ -27,10 +27,7 @@ all_at [] c i j k e b h l = cc
 all_at (x ∷ ks) c zero j k e b h l =
     let same : x ≡ k = cc in
     let first : AllBounded (live_of c k ∷ sessions_from (suc c) ks) = subst AllBounded (ap (λ z. if z.server_lost then sessions_from (suc c) ks else live_of c z ∷ sessions_from (suc c) ks) same ∙ cond-false k.server_lost _ _ l) b in
-    subst (λ n. Bounded (live_of n k)) (right c j e) first.0
-  where
-    right : (c j : ℕ) → j ≡ c + 0 → c ≡ j
-    right c j e = omega arith
+    subst (λ n. Bounded (live_of n k)) (let here : c ≡ j = omega arith in here) first.0
 all_at (x ∷ ks) c (suc i) j k e b h l = all_at ks (suc c) i j k (omega arith) (rest x.server_lost b) h l
   where
     rest : (d : Bool) → AllBounded (if d then sessions_from (suc c) ks else live_of c x ∷ sessions_from (suc c) ks) → AllBounded (sessions_from (suc c) ks)
@@ -117,11 +114,6 @@ module _ {G : Type 0} (answer : Definition) (accepts : G → List ℕ → List �
     deed_moves (deed.loses i wish p) = hidden (record k { client_lost = true }) SawNothing refl (λ _ j. refl)
     deed_moves (deed.ends i) = loses
 
-    taken_moves : (n : ℕ) → MovesTo w (rest (taken_out w c n (Some k)))
-    taken_moves n =
-        let put = λ (t : ℕ) (es : List EntryView). rest (record { conns = slice_set w.conns c (record k { taken = t }); brought = w.brought; since = es }) in
-        taken_case (λ t. MovesTo w (put t w.since)) k.peer n k (subst (λ es. MovesTo w (put k.taken es)) (append-nil w.since) (still SawNothing)) (subst (λ es. MovesTo w (put (taken_for n k) es)) (append-nil w.since) (takes n k.down SawNothing))
-
   did_moves : (w : World) → AllSound w → (e : Event) (seen : Seen) (w2 : World) → Did S w e seen w2 → MovesTo w (rest w2)
   did_moves w sound e seen w2 (opens peer room) = let served = open_served G gate w peer in inr (running.opens, sym (cond-false (is_full (rest w)) _ _ (served.0 ∙ room) ∙ served.1))
   did_moves w sound e seen w2 (acts event k x here d) = deed_moves w (place event) k here (sound (place event) k here) d
@@ -145,7 +137,11 @@ module _ {G : Type 0} (answer : Definition) (accepts : G → List ℕ → List �
     where
       go : (o : Option Connection) → slice_get w.conns c ≡ o → MovesTo w (rest (taken_out w c n o))
       go None g = inl refl
-      go (Some k) g = taken_moves w c k g (reached_sound S brought r c k g) n
+      go (Some k) g =
+          let s = reached_sound S brought r c k g in
+          let put = λ (t : ℕ) (es : List EntryView). rest (record { conns = slice_set w.conns c (record k { taken = t }); brought = w.brought; since = es }) in
+          taken_case (λ t. MovesTo w (put t w.since)) k.peer n k (subst (λ es. MovesTo w (put k.taken es)) (append-nil w.since) (still w c k g s SawNothing))
+          (subst (λ es. MovesTo w (put (taken_for n k) es)) (append-nil w.since) (takes w c k g s n k.down SawNothing))
 
   pub sessions_within : ((brought : List EntryView) (events : List running.Event) → IsKept (after_events answer accepts events (serving.empty brought gate)))
       → (brought : List EntryView) (w : World) → Reached S brought w → (live w ≤ 16) × ((c : ℕ) (k : Connection) → slice_get w.conns c ≡ Some k → k.server_lost ≡ false → Bounded (live_of c k))

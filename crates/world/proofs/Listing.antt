@@ -1,5 +1,5 @@
 -- A report has each request that was sent in one of its lists, with its outcome.
-use Rattle.std.proofs.Common.{◌≡◌, refl, sym, ◌∙◌, ap, ap₂, subst, ℕ, zero, suc, ◌+◌, ◌-◌, ◌≤◌, Bool, true, false, if◌then◌else◌, Option, Some, None, unwrap_or, List, [], ◌∷◌, ◌++◌, length, drop, map, append_assoc, append-nil, length-drop, arith, ◌⊎◌, inl, inr}
+use Rattle.std.proofs.Common.{◌≡◌, refl, sym, ◌∙◌, ap, ap₂, subst, ℕ, zero, suc, ◌+◌, ◌-◌, ◌≤◌, Bool, true, false, if◌then◌else◌, Option, Some, None, unwrap_or, List, [], ◌∷◌, ◌++◌, length, drop, map, append_assoc, append-nil, length-drop, arith, ◌⊎◌, inl, inr, ⊎_elim}
 use Rattle.std.specs.Option.{option_or}
 use Rattle.std.proofs.Math.Seq.{drop-nil}
 use Rattle.wire.specs.declared.Version.{Version}
@@ -17,7 +17,7 @@ use Rattle.client.specs.Verdicts.{is_wished}
 use Rattle.client.specs.Rest.{Knows, losses, losses_from, lost_outcome}
 use Rattle.client.specs.Client.{knows_of}
 use Rattle.client.proofs.Later.{reading_count}
-use Rattle.world.specs.Connections.{Ours, Connection, Said, SaysVersion, SaysNoop, SaysRow, SaysSummary, answer_count, said_version, bytes_delivered, client, wish_of}
+use Rattle.world.specs.Connections.{Ours, Connection, Said, SaysVersion, SaysSummary, answer_count, said_version, bytes_delivered, client, wish_of}
 use Rattle.world.specs.Good.{Each, SaidAt, tellings_of, delivered_whole, last_phase, server_outcome, outcome, outcome_in, if_lost, loss, ReportsOutcomes}
 use Rattle.world.specs.Reports.{ReadSummary, by_peer, read_after, summaries_told, outcomes_at_loss, waits, ordinals}
 use Rattle.world.proofs.Kept.{Talk, Tells, part, tells}
@@ -43,22 +43,19 @@ read_ordinals : (S : Setting) (v : Version) (all : List EntryView) (sent : List 
     → ordinals_in (read_after (tellings_of xs) later) ≡ ordinals 0 (answer_count xs) ++ ordinals_in later
 read_ordinals S v all sent [] t later = elim t [ ]
 read_ordinals S v all sent (SaysVersion o ∷ xs) t later = ap (λ ys. ordinals_in (read_after (tellings_of ys) later)) t.1 ∙ sym (ap (λ ys. ordinals 0 (answer_count ys) ++ ordinals_in later) t.1)
-read_ordinals S v all sent (SaysNoop ∷ xs) t later = read_ordinals S v all sent xs t later
-read_ordinals S v all sent (SaysRow row ∷ xs) t later = read_ordinals S v all sent xs t.1 later
 read_ordinals S v all sent (SaysSummary x ∷ xs) t later =
     let n = answer_count xs in
     let last : ordinals 0 (suc n) ≡ ordinals 0 n ++ n ∷ [] = let same : suc n ≡ n + 1 = omega arith in let none : 0 + n ≡ n = omega arith in ap (ordinals 0) same ∙ ordinals_add 0 n 1 ∙ ap (λ j. ordinals 0 n ++ ordinals j 1) none in
     read_ordinals S v all sent xs t.1 (read_as x ∷ later)
-    ∙ ap (λ i. ordinals 0 n ++ i ∷ ordinals_in later) t.0.ordinal
+    ∙ ap (λ i. ordinals 0 n ++ i ∷ ordinals_in later) t.0.ever.ordinal
     ∙ sym (append_assoc (ordinals 0 n) (n ∷ []) (ordinals_in later))
     ∙ sym (ap (λ l. l ++ ordinals_in later) last)
+read_ordinals S v all sent (_ ∷ xs) t later = read_ordinals S v all sent xs t.1 later
 
 read_each : (P : ReadSummary → Type 0) (xs : List Said) (later : List ReadSummary) → ((x : Written) → SaidAt x.ordinal x xs → P (read_as x)) → Each P later → Each P (read_after (tellings_of xs) later)
 read_each P [] later f l = l
-read_each P (SaysVersion o ∷ xs) later f l = read_each P xs later f l
-read_each P (SaysNoop ∷ xs) later f l = read_each P xs later f l
-read_each P (SaysRow row ∷ xs) later f l = read_each P xs later f l
 read_each P (SaysSummary x ∷ xs) later f l = read_each P xs (read_as x ∷ later) (λ y h. f y (inr h)) (f x (inl (refl, refl)), l)
+read_each P (_ ∷ xs) later f l = read_each P xs later f l
 
 losses_ordinals : (v : Version) (y : Knows) (i : ℕ) (qs : List RequestView) → map (λ x. x.0) (losses_from v y i qs) ≡ ordinals (y.first + i) (length qs)
 losses_ordinals v y i [] = refl
@@ -114,11 +111,9 @@ module _ (S : Setting) (brought since : List EntryView) (c : ℕ) (wish : Wish) 
 
   -- each ordinal once
   first_ones : ordinals_in (read_after (tellings_of W) []) ≡ ordinals 0 count
-  first_ones = go delivered
-    where
-      go : Part → ordinals_in (read_after (tellings_of W) []) ≡ ordinals 0 count
-      go (inl e) = ap (λ xs. ordinals_in (read_after (tellings_of xs) [])) e ∙ ap (ordinals 0) (sym (ap answer_count e) ∙ sym t.count)
-      go (inr d) = read_ordinals S v (brought ++ since) k.sent W d.0 [] ∙ append-nil (ordinals 0 (answer_count W)) ∙ ap (ordinals 0) (sym t.count)
+  first_ones =
+      ⊎_elim (λ e. ap (λ xs. ordinals_in (read_after (tellings_of xs) [])) e ∙ ap (ordinals 0) (sym (ap answer_count e) ∙ sym t.count))
+      (λ d. read_ordinals S v (brought ++ since) k.sent W d.0 [] ∙ append-nil (ordinals 0 (answer_count W)) ∙ ap (ordinals 0) (sym t.count)) delivered
 
   others : (b : Bool) → map (λ x. x.0) (at_loss b) ++ still b ≡ ordinals count left
   others true = append-nil (map (λ x. x.0) (losses knows)) ∙ losses_ordinals (unwrap_or (client k).version version.V51) knows 0 (drop count k.sent) ∙ (let same : count + 0 ≡ count = omega arith in ap (λ i. ordinals i left) same)
@@ -136,11 +131,7 @@ module _ (S : Setting) (brought since : List EntryView) (c : ℕ) (wish : Wish) 
 
   -- nothing was told of those past the count
   untold : (i : ℕ) → count ≤ i → outcome_in i (tellings_of W) ≡ None
-  untold i l = go delivered
-    where
-      go : Part → outcome_in i (tellings_of W) ≡ None
-      go (inl e) = ap (λ xs. outcome_in i (tellings_of xs)) e
-      go (inr d) = let n = t.count in outcome_none S v (brought ++ since) k.sent i W d.0 (omega (arith, n, l))
+  untold i l = ⊎_elim (λ e. ap (λ xs. outcome_in i (tellings_of xs)) e) (λ d. outcome_none S v (brought ++ since) k.sent i W d.0 (omega (arith, t.count, l))) delivered
 
   abbrev unheard : ℕ → Option Outcome
   unheard i = if_lost k.client_lost (loss v W k.sent i)

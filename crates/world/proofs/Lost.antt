@@ -1,6 +1,7 @@
 -- The loss of a session, at the link of its connection.
-use Rattle.std.proofs.Common.{◌≡◌, refl, sym, ◌∙◌, ap, ap₂, subst, ℕ, ◌+◌, ◌<◌, Bool, min, Option, Some, None, Ok, Err, List, [], ◌++◌, length, take, drop, slice_get, arith, length-take, append-nil, true≢false}
-use Rattle.std.proofs.lemmas.List.{set-set}
+use Rattle.std.proofs.Common.{◌≡◌, refl, sym, ◌∙◌, ap, ap₂, subst, ℕ, ◌+◌, ◌<◌, Bool, min, Option, Some, None, Ok, Err, List, [], ◌++◌, length, take, drop, slice_get, arith, length-take, append-nil, true≢false, ◌-◌}
+use Rattle.std.proofs.lemmas.Option.{some_pair_parts}
+use Rattle.std.proofs.lemmas.List.{set-set, take_all}
 use Rattle.engine.specs.Views.{EntryView}
 use Rattle.session.specs.declared.Cause.{Cause}
 use Rattle.session.specs.Session.{Setting}
@@ -20,15 +21,14 @@ use Rattle.world.specs.Contract.{Answers}
 use Rattle.world.specs.Views.{FitsEnd, link_of, flow_of}
 use Rattle.world.specs.Turns.{Definition, Now, Before}
 use Rattle.world.proofs.Deeds.{set_same}
-use Rattle.world.proofs.Fronts.{take_whole}
 use Rattle.world.proofs.Sound.{Sound, counted_sound}
 use Rattle.world.proofs.Served.{take_served, lost_served}
-use Rattle.world.proofs.Fitting.{gone_link, gone_again}
-use Rattle.world.proofs.Turning.{found, sound, lives, given_up, may, acts, acts_unseen, lacks, either, answer_is}
+use Rattle.world.proofs.Fitting.{gone_link, unseen_link}
+use Rattle.world.proofs.Turning.{found, sound, lives, given_up, may, acts, acts_unseen, lacks, either}
 
 -- all that waits came out, where less than was asked for came
 all_taken : (n : ℕ) (xs said : List ℕ) → said ≡ take n xs → length said < n → said ≡ xs
-all_taken n xs said e few = let long : length said ≡ min n (length xs) = ap length e ∙ length-take n xs in e ∙ take_whole n xs (omega arith)
+all_taken n xs said e few = let long : length said ≡ min n (length xs) = ap length e ∙ length-take n xs in e ∙ take_all n xs (omega arith)
 
 module _ {E G : Type 0} (entries : E → List EntryView) (answer : Definition) (accepts : G → List ℕ → List ℕ → Bool)
     (c : ℕ) (l : LinkHeld) (s : Server E G) (r : Rest G) (w : World) (b : Before entries answer accepts (ServerLost c) l s r w) where
@@ -53,7 +53,9 @@ module _ {E G : Type 0} (entries : E → List EntryView) (answer : Definition) (
   pub lost_before : (cause : Cause) → l.gone ≡ Some cause → Answers T w (ServerLost c) (Ok SawNothing) (Now entries answer accepts r c l s)
   lost_before cause gone =
       let was = given_up entries answer accepts (ServerLost c) l s r w b cause gone in
-      acts_unseen entries answer accepts (ServerLost c) l s r w b refl (server_gone k).conn SawNothing goes (sym was.0) (λ alive j. absurd (true≢false (sym was.0 ∙ alive))) l b.client b.ends (gone_again m k here.2 so cause gone was.0 was.1) tt tt
+      acts_unseen entries answer accepts (ServerLost c) l s r w b refl (server_gone k).conn SawNothing goes (sym was.0) (λ alive j. absurd (true≢false (sym was.0 ∙ alive))) l b.client b.ends
+      (unseen_link m m k (server_gone k).conn here.2 (here.2.down ∙ ap (λ t. take (t - k.down) (drop k.down (output k))) (so.gone was.0).1)
+      (here.2.flags.0, here.2.flags.1, gone ∙ ap (λ o. Some (cause_or o)) (sym was.1))) tt tt
 
   pub lost_lacks : (l2 : LinkHeld) (s2 : Server E G) → link_of l2 b.client ≡ m → FitsEnd l2.end b.client → server.Fits entries s2 r.server → Answers T w (ServerLost c) (Err Memory) (Now entries answer accepts r c l2 s2)
   lost_lacks = lacks entries answer accepts (ServerLost c) l s r w b (may entries answer accepts (ServerLost c) l s r w b refl _ goes) refl
@@ -69,7 +71,7 @@ module _ {E G : Type 0} (entries : E → List EntryView) (answer : Definition) (
       -- all that was said came out of the session, and it was given up
       let out = min (k.taken + n) (length (output k)) in
       let k1 = record k { taken = out } in
-      let one = answer_is said _ a.0 _ (sym a.1 ∙ ap (serving.take_out_at c n) b.fits.server ∙ take_served G r.server.gate w c k here.1 alive so n) in
+      let one = some_pair_parts said _ a.0 _ (sym a.1 ∙ ap (serving.take_out_at c n) b.fits.server ∙ take_served G r.server.gate w c k here.1 alive so n) in
       let lost = ap (serving.lost_at c) one.1
       ∙ lost_served G r.server.gate (after_effect w c k (quiet k1 SawNothing)) c k1 (set_same w.conns c k k1 here.1) alive (let x = so.counts in let y = so.below in counted_sound k so out k.down (omega arith) (omega arith) (omega arith)) in
       let rest = ap (λ z. z.1) lost

@@ -1,5 +1,5 @@
 -- From what an event does at its connection to what the world then stands for.
-use Rattle.std.proofs.Common.{◌≡◌, refl, sym, ◌∙◌, ap, subst, ℕ, zero, suc, ◌<◌, ◌≤◌, Bool, true, false, Some, None, Result, Ok, Err, List, [], ◌∷◌, ◌++◌, length, slice_get, slice_set, slice_index_or, arith, append-nil}
+use Rattle.std.proofs.Common.{◌≡◌, refl, sym, ◌∙◌, ap, subst, ℕ, ◌<◌, ◌≤◌, Bool, false, Some, None, Result, Ok, Err, List, [], ◌∷◌, ◌++◌, length, slice_get, slice_set, slice_index_or, append-nil}
 use Rattle.std.proofs.lemmas.Option.{slice_get-get_or, slice_get_past}
 use Rattle.world.proofs.Alongside.{along_at, along_none, along_set, along_more}
 use Rattle.engine.specs.Views.{EntryView}
@@ -12,7 +12,7 @@ use Rattle.server.specs.Views as server
 use Rattle.world.specs.declared.kinds.Peer.{Peer as PeerTold}
 use Rattle.world.specs.declared.kinds.Seen.{Seen as SeenTold}
 use Rattle.world.specs.declared.kinds.Refused.{Refused}
-use Rattle.world.specs.declared.kinds.Refused.TheVariants.{NoSuchConnection, WrongPeer, SessionsFull, Memory}
+use Rattle.world.specs.declared.kinds.Refused.TheVariants.{NoSuchConnection, Memory}
 use Rattle.world.specs.declared.link.Link.{Link as LinkHeld}
 use Rattle.world.specs.declared.world.World.{World as WorldHeld}
 use Rattle.world.specs.Connections.{Peer}
@@ -22,24 +22,21 @@ use Rattle.world.specs.Contract.{Answers}
 use Rattle.world.specs.Seeing.{IsOpens}
 use Rattle.world.specs.Views.{link_of, peer_of, client_of, opened_link, IsOpened}
 use Rattle.world.specs.Turns.{Definition, setting_of, seen_in, Holds, IsWorld, Turns, Now, Before}
-use Rattle.world.proofs.Answering.{answers, opens_fits, no_connection, sessions_full}
+use Rattle.world.proofs.Answering.{answers, opens_fits, no_connection}
 use Rattle.world.proofs.Turning.{ok_of}
 
 -- what holds of the answer's world may be said otherwise
 pub answers_with : (S : Setting) (w : World) (e : Event) (res : Result Seen Refused) (P Q : World → Type 0) → ((w2 : World) → P w2 → Q w2) → Answers S w e res P → Answers S w e res Q
 answers_with S w e (Ok seen) P Q f a =
     record { after = a.after; steps = a.steps; good = a.good; now = f a.after a.now }
-answers_with S w e (Err NoSuchConnection) P Q f a = (a.0, f w a.1)
-answers_with S w e (Err WrongPeer) P Q f a = (a.0, f w a.1)
-answers_with S w e (Err SessionsFull) P Q f a = (a.0, f w a.1)
 answers_with S w e (Err Memory) P Q f a =
     record { may = a.may; after = a.after; leaves = a.leaves; now = f a.after a.now }
+answers_with S w e (Err _) P Q f a = (a.0, f w a.1)
 
 -- what a server holds that refused to open a session
 pub open_refused : {G : Type 0} (e : ServerRefused) (r : serving.Rest G) (P : serving.Rest G → Type 0) → serving.Opens (Err e) r P → P r
 open_refused server_refused.NoSuchConnection r P a = absurd a
-open_refused server_refused.SessionsFull r P a = a.1
-open_refused server_refused.Memory r P a = a.1
+open_refused _ r P a = a.1
 
 -- a new server fits the world without connections
 pub new_fits : {G : Type 0} (gate : G) (es : List EntryView) → Fits (record { links = []; server = serving.empty es gate }) (empty es)
@@ -57,9 +54,6 @@ module _ {E G : Type 0} (entries : E → List EntryView) (answer : Definition) (
   abbrev r : Rest G
   r = f.rest
 
-  reached_here : Reached (serving.setting answer accepts r.server) brought w
-  reached_here = subst (λ (g : G). Reached (setting_of answer accepts g) brought w) (sym f.gated) reached
-
   pub nowhere : (e : Event) → (IsOpens e → ⊥) → length s.links.items ≤ place e → Answers (setting_of answer accepts gate) w e (Err NoSuchConnection) (IsWorld entries s gate)
   nowhere e opens past = let a = no_connection (setting_of answer accepts gate) r w f.fits e opens (held_past s.links.items r.links (place e) f.links past) in (a.0, f)
 
@@ -69,7 +63,7 @@ module _ {E G : Type 0} (entries : E → List EntryView) (answer : Definition) (
   placed e c at few l is res l2 s2 turn t links_are server_is =
       let h = held_at s.links.items r.links c l f.links few is in
       let link_is : slice_get r.links (place e) ≡ Some (link_of l h.2.client) = ap (slice_get r.links) (sym at) ∙ h.1 ∙ ap (λ z. Some z) h.2.link_is in
-      let b : Before entries answer accepts e l s.server r w = record { brought = brought; reached = reached_here; client = h.2.client; ends = h.2.ends; server = f.server; at = link_is; fits = f.fits } in
+      let b : Before entries answer accepts e l s.server r w = record { brought = brought; reached = subst (λ (g : G). Reached (setting_of answer accepts g) brought w) (sym f.gated) reached; client = h.2.client; ends = h.2.ends; server = f.server; at = link_is; fits = f.fits } in
       answers_with (setting_of answer accepts gate) w e (seen_in res) (Now entries answer accepts r (place e) l2 s2) (IsWorld entries t gate)
       (λ w2 n. record {
         rest = record { links = slice_set r.links (place e) (link_of l2 n.client); server = n.rest };
@@ -83,9 +77,6 @@ module _ {E G : Type 0} (entries : E → List EntryView) (answer : Definition) (
       (subst (λ (g : G). Answers (setting_of answer accepts g) w e (seen_in res) (Now entries answer accepts r (place e) l2 s2)) f.gated (turn r w b))
 
   -- an opening
-  pub opens_full : (peer : Peer) → serving.is_full r.server ≡ true → Answers (setting_of answer accepts gate) w (Opens peer) (Err SessionsFull) (IsWorld entries s gate)
-  opens_full peer full = let a = sessions_full G (setting_of answer accepts gate) r w f.fits peer full in (a.0, f)
-
   pub opens_lacks : (peer : Peer) → serving.is_full r.server ≡ false → (t : WorldHeld E G) → t.links.items ≡ s.links.items → server.Fits entries t.server r.server
       → Answers (setting_of answer accepts gate) w (Opens peer) (Err Memory) (IsWorld entries t gate)
   opens_lacks peer room t links_are serves =

@@ -1,18 +1,18 @@
 -- The links of a world: bytes that go to the server.
 use Rattle.std.proofs.Common.{◌≡◌, refl, sym, ◌∙◌, ap, ap₂, subst, ℕ, ◌+◌, ◌-◌, ◌≤◌, min, Option, Some, List, [], ◌++◌, length, take, drop, arith, append-nil, length-append, length-take, length-drop, false}
-use Rattle.std.proofs.lemmas.List.{drop-drop, take_min, length-take-le}
+use Rattle.std.proofs.lemmas.Option.{same_Some}
+use Rattle.std.proofs.lemmas.List.{drop-drop, take_min, length-take-le, drop_min}
 use Rattle.std.proofs.Math.Seq.{take-add}
 use Rattle.wire.specs.declared.Wish.{Wish}
 use Rattle.messages.specs.Arrivals.{arrivals}
-use Rattle.machine.specs.declared.Phase.{Phase}
 use Rattle.client.specs.Rest as asking
-use Rattle.world.specs.Connections.{Ours, Foreign, Connection, wish_of, input}
+use Rattle.world.specs.Connections.{Ours, Connection, wish_of, input}
 use Rattle.world.specs.World.{Effect, Seen, Fed, feed}
 use Rattle.world.specs.Rests.{client_rest}
 use Rattle.world.specs.Fits.{Link, FitsOurs, FitsClient, FitsLink}
 use Rattle.world.proofs.Reaching.{reach_within}
-use Rattle.world.proofs.Fronts.{take_within, drop_within, drop_min}
-use Rattle.world.proofs.Deeds.{some_is, feed_case}
+use Rattle.world.proofs.Fronts.{parts, rest_of, take_within, drop_within}
+use Rattle.world.proofs.Deeds.{feed_case}
 use Rattle.world.proofs.Doing.{Alike, rest_alike, wrote_seen, feed_speaks, speaks_alike}
 use Rattle.world.proofs.Sound.{Sound}
 use Rattle.world.proofs.Fitting.{speaks_link}
@@ -25,19 +25,9 @@ used_seen seen = 0
 abbrev Takes : Connection → List ℕ → Effect → Type 0
 Takes k piece e = (e.conn.up ≡ k.up ++ take (used_seen e.seen) piece) × (used_seen e.seen ≤ length piece)
 
-pub feed_takes : (k : Connection) (piece : List ℕ) → Takes k piece (feed piece k)
-feed_takes k piece = feed_case (Takes k piece) piece k (λ what. (sym (append-nil k.up), omega arith)) (λ _ _ _. (refl, reach_within arrivals k.up piece))
-
 -- the link after a feed, with the client and the bytes that are held for the server
-feed_link : (l : Link) (k : Connection) → FitsLink l k → Sound k → k.server_lost ≡ false → (piece : List ℕ) (o : Option asking.Rest) (u : List ℕ) → FitsClient k.peer o u (feed piece k).conn → FitsLink (record l { client = o; up = u }) (feed piece k).conn
-feed_link l k f s lives piece o u c = speaks_link l k f s lives (feed_speaks k s piece) o u l.wrote (sym (nothing_wrote (feed_case (λ x. wrote_seen x.seen ≡ []) piece k (λ _. refl) (λ _ _ _. refl)))) c
-  where
-    nothing_wrote : {ws : List (ℕ × Phase)} → ws ≡ [] → l.wrote ++ ws ≡ l.wrote
-    nothing_wrote e = ap (λ z. l.wrote ++ z) e ∙ append-nil l.wrote
-
--- a feed of bytes of a foreign peer
-pub foreign_feeds : (l : Link) (k : Connection) (piece : List ℕ) → FitsLink l k → Sound k → k.server_lost ≡ false → k.peer ≡ Foreign → FitsLink l (feed piece k).conn
-foreign_feeds l k piece f s lives e = feed_link l k f s lives piece l.client l.up (subst (λ p. FitsClient p l.client l.up (feed piece k).conn) (sym e) (subst (λ p. FitsClient p l.client l.up k) e f.client))
+pub feed_link : (l : Link) (k : Connection) → FitsLink l k → Sound k → k.server_lost ≡ false → (piece : List ℕ) (o : Option asking.Rest) (u : List ℕ) → FitsClient k.peer o u (feed piece k).conn → FitsLink (record l { client = o; up = u }) (feed piece k).conn
+feed_link l k f s lives piece o u c = speaks_link l k f s lives (feed_speaks k s piece) o u l.wrote (sym (ap (λ z. l.wrote ++ z) (feed_case (λ x. wrote_seen x.seen ≡ []) piece k (λ _. refl) (λ _ _ _. refl)) ∙ append-nil l.wrote)) c
 
 -- what is held of a client of ours
 pub old_fits : (l : Link) (k : Connection) → FitsLink l k → (wish : Wish) → k.peer ≡ Ours wish → FitsOurs wish l.client l.up k
@@ -64,18 +54,12 @@ module _ (l : Link) (k : Connection) (f : FitsLink l k) (wish : Wish) (ours : k.
   out = min (old.out + j) (length all)
 
   is : r ≡ client_rest old.out k
-  is = some_is r (client_rest old.out k) (sym here ∙ old.client_is)
-
-  unsent_is : r.unsent ≡ drop h bytes
-  unsent_is = ap (λ z. z.unsent) is ∙ ap (λ p. drop old.out (input (wish_of p) k.sent)) ours ∙ ap (λ i. drop i all) (parts old.out a old.least) ∙ sym (drop-drop h a all)
-    where
-      parts : (x y : ℕ) → y ≤ x → x ≡ y + (x - y)
-      parts x y l = omega arith
+  is = same_Some r (client_rest old.out k) (sym here ∙ old.client_is)
 
   pub up_is : l.up ++ take j r.unsent ≡ take (out - a) bytes
   up_is =
       let m = length-drop a all in
-      ap₂ (λ x y. x ++ take j y) old.up_is unsent_is ∙ sym (take-add h j bytes) ∙ sym (take_min (h + j) bytes)
+      ap₂ (λ x y. x ++ take j y) old.up_is (ap (λ (z : asking.Rest). z.unsent) is ∙ ap (λ p. drop old.out (input (wish_of p) k.sent)) ours ∙ ap (λ i. drop i all) (parts old.out a old.least) ∙ sym (drop-drop h a all)) ∙ sym (take-add h j bytes) ∙ sym (take_min (h + j) bytes)
       ∙ ap (λ i. take i bytes) (same old.out a (length all) j (length bytes) m old.least old.most)
     where
       same : (o a i j m : ℕ) → m ≡ i - a → a ≤ o → o ≤ i → min ((o - a) + j) m ≡ min (o + j) i - a
@@ -133,7 +117,7 @@ module _ (l : Link) (k : Connection) (f : FitsLink l k) (s : Sound k) (lives : k
   used = used_seen e3.seen
 
   tk : Takes k (take n coming) e3
-  tk = feed_takes k (take n coming)
+  tk = feed_case (Takes k (take n coming)) (take n coming) k (λ what. (sym (append-nil k.up), omega arith)) (λ _ _ _. (refl, reach_within arrivals k.up (take n coming)))
 
   up_long : length e3.conn.up ≡ length k.up + used
   up_long = ap length tk.0 ∙ length-append k.up (take used (take n coming)) ∙ ap (λ z. length k.up + z) (length-take-le used (take n coming) tk.1)
@@ -146,9 +130,6 @@ module _ (l : Link) (k : Connection) (f : FitsLink l k) (s : Sound k) (lives : k
 
       within : used ≤ fit.out - length k.up
       within = let t = tk.1 in let u = length-take n coming in let w = enough in omega arith
-
-      rest_of : (o a u : ℕ) → (o - a) - u ≡ o - (a + u)
-      rest_of o a u = omega arith
 
       fits : FitsClient (Ours wish) (Some (asking.taken_out r lacking)) (drop used held) e3.conn
       fits =

@@ -1,5 +1,6 @@
 -- What one answer of the session keeps, for a request that its phase allows.
 use Rattle.std.proofs.Common.{Bool, Err, List, None, Ok, Option, Result, Some, [], ap, arith, bytes_eq, codes, false, if◌then◌else◌, is_some, length, nat_le, not, refl, slice_get, subst, sym, true, true≢false, ℕ, ◌&&◌, ◌+◌, ◌<◌, ◌^◌, ◌∙◌, ◌∷◌, ◌≡◌}
+use Rattle.std.proofs.lemmas.Bool.{cond_both}
 use Rattle.std.specs.List.{list_all}
 use Rattle.packstream.specs.Tree.{Tree}
 use Rattle.wire.specs.Framing.{bytes_in_order}
@@ -22,7 +23,7 @@ use Rattle.machine.specs.declared.Kind.{Kind}
 use Rattle.machine.specs.declared.State.{State}
 use Rattle.machine.specs.declared.Verdict.{Verdict}
 use Rattle.engine.specs.Tokens.{Found, Free, There, Other, found_in}
-use Rattle.engine.specs.Views.{AnswerView, EntryView, ParameterView, QueryFault, Token, bad_parameter, too_many_rows, unknown_text, write_in_read_mode}
+use Rattle.engine.specs.Views.{AnswerView, EntryView, ParameterView, QueryFault, Token, unknown_text}
 use Rattle.world.specs.Good.{alone_after, commit_of, is_invalid, is_success, tx_after}
 use Rattle.client.specs.Verdicts.{outcome_of, verdict_of}
 use Rattle.client.specs.declared.Outcome.{Outcome}
@@ -69,21 +70,14 @@ Keeps S v front s q t w tx (OneRow row left) = ((n : Count) × (q ≡ RequestVie
 Keeps S v front s q t w tx Bye = Unit {0}
 Keeps S v front s q t w tx (Summary d a left tx2 entry) = Closes S v front s q t w d a left tx2 entry
 
--- a count below 2^63 is short
-wider : (n : ℕ) → n < 2 ^ 63 → n < 2 ^ 64
-wider n h = omega arith
-
 -- none of the faults of queries and of rows is that of a request without a row
 unwritable_valid : (r : Result (List ℕ) MsgFault) → is_invalid (response_of_summary (failure (unwritable r))) ≡ false
-unwritable_valid (Ok b) = refl
 unwritable_valid (Err msg_fault.Size) = refl
-unwritable_valid (Err _) = refl
+unwritable_valid _ = refl
 
 query_valid : (e : QueryFault) → is_invalid (response_of_summary (failure (of_query e))) ≡ false
 query_valid unknown_text = refl
-query_valid bad_parameter = refl
-query_valid write_in_read_mode = refl
-query_valid too_many_rows = refl
+query_valid _ = refl
 
 abbrev option_is : Option State → State → Bool
 option_is None s = false
@@ -118,8 +112,7 @@ hello_row v b e =
 module _ (S : Setting) (c : ℕ) (numbered : c < 2 ^ 64) (front : List EntryView) (few : length front < 2 ^ 64) where
   keeps_if : (v : Version) (s : State) (q : RequestView) (t : Tx) (w : Change) (tx : Tx) (b : Bool) (x y : Reply)
       → (b ≡ true → Keeps S v front s q t w tx x) → (b ≡ false → Keeps S v front s q t w tx y) → Keeps S v front s q t w tx (if b then x else y)
-  keeps_if v s q t w tx true x y f g = f refl
-  keeps_if v s q t w tx false x y f g = g refl
+  keeps_if v s q t w tx b x y f g = cond_both b x y (Keeps S v front s q t w tx) f g
 
   keeps_fails : (v : Version) (s s2 : State) (q : RequestView) (t : Tx) (w : Change) (tx : Tx) (f : Fault) → is_invalid (response_of_summary (failure f)) ≡ false
       → row_at v s (kind_of q) Verdict.Failure ≡ Some s2 → Held s2 no_result no_tx t w → Keeps S v front s q t w tx (fails f)
@@ -138,11 +131,8 @@ module _ (S : Setting) (c : ℕ) (numbered : c < 2 ^ 64) (front : List EntryView
       → Keeps S v front s q t w tx (commits_over front its said)
   keeps_commit v s q t w tx its said same told valid fit done failed comes = go (found_in its.token its.writes front) refl
     where
-      committed : outcome_of (phase_of s) (kind_of q) Verdict.Success ≡ Outcome.Committed
-      committed = ap (λ b. if b then Outcome.Committed else Outcome.Done) comes
-
       go : (f : Found) → found_in its.token its.writes front ≡ f → Keeps S v front s q t w tx (commits_as (length front) its said f)
-      go Free h = record { told = told (length front + 1); written = λ n. fit (length front + 1) (wider (length front + 1) n); valid = valid (length front + 1); state = State.Ready; rows = done; holds = tt; paid = (same, committed); commit = λ p. comes }
+      go Free h = record { told = told (length front + 1); written = λ n. fit (length front + 1) (omega arith); valid = valid (length front + 1); state = State.Ready; rows = done; holds = tt; paid = (same, ap (λ b. if b then Outcome.Committed else Outcome.Done) comes); commit = λ p. comes }
       go (There n) h =
           record { told = told n; written = λ _. fit n (omega (arith, few, place_within its.token its.writes front n h)); valid = valid n; state = State.Ready; rows = done; holds = tt; paid = λ _. (n, subst (λ z. found_in z.token z.writes front ≡ There n) same h); commit = λ p. cc }
       go Other h = keeps_fails v s State.Failed q t w tx Fault.TokenClash refl failed tt
@@ -219,10 +209,7 @@ module _ (S : Setting) (c : ℕ) (numbered : c < 2 ^ 64) (front : List EntryView
       → row_at v s (kind_of q) Verdict.Success ≡ Some s2 → Held s2 no_result no_tx (tx_then S front q (response_of_summary x) t) (alone_then S front q (response_of_summary x) w)
       → commits (phase_of s) (kind_of q) ≡ false → Keeps S v front s q t w tx (succeeds (response_of_summary x))
   keeps_succeeds v s s2 q t w tx x short bytes_in_order told valid e h none =
-      record { told = told; written = λ _. short_fits v x short bytes_in_order; valid = valid; state = s2; rows = e; holds = h; paid = λ p. absurd (not_committed p); commit = λ p. cc }
-    where
-      not_committed : outcome_of (phase_of s) (kind_of q) Verdict.Success ≡ Outcome.Committed → ⊥
-      not_committed p = let no : Outcome.Done ≡ Outcome.Committed = sym (ap (λ b. if b then Outcome.Committed else Outcome.Done) none) ∙ p in absurd cc
+      record { told = told; written = λ _. short_fits v x short bytes_in_order; valid = valid; state = s2; rows = e; holds = h; paid = λ p. let no : Outcome.Done ≡ Outcome.Committed = sym (ap (λ b. if b then Outcome.Committed else Outcome.Done) none) ∙ p in cc; commit = λ p. cc }
 
   logs_on : (v : Version) (s : State) (q : RequestView) (a : AuthView) (tx t : Tx) (w : Change) (x : summaries.Summary) → Keeps S v front s q t w tx (succeeds (response_of_summary x)) → Keeps S v front s q t w tx (fails Fault.Unauthorized)
       → Keeps S v front s q t w tx (reply_to_login S a (response_of_summary x))
@@ -257,33 +244,10 @@ module _ (S : Setting) (c : ℕ) (numbered : c < 2 ^ 64) (front : List EntryView
   performs v State.TxReady left tx t w RequestView.Rollback h r = keeps_succeeds v State.TxReady State.Ready _ t w tx summaries.Plain tt tt refl refl refl tt refl
   performs v State.TxStreaming left tx t w (RequestView.Pull n) h r = pull_inside v n left.rows left tx t w h
   performs v State.TxStreaming left tx t w (RequestView.Discard n) h r = (close_inside v n (left_after n left.rows) left tx t w h (discard_part n left.rows)).1
-  performs v State.Ready left tx t w RequestView.Reset h r = keeps_succeeds v State.Ready State.Ready _ t w tx summaries.Plain tt tt refl refl refl tt refl
-  performs v State.Streaming left tx t w RequestView.Reset h r = keeps_succeeds v State.Streaming State.Ready _ t w tx summaries.Plain tt tt refl refl refl tt refl
-  performs v State.TxReady left tx t w RequestView.Reset h r = keeps_succeeds v State.TxReady State.Ready _ t w tx summaries.Plain tt tt refl refl refl tt refl
-  performs v State.TxStreaming left tx t w RequestView.Reset h r = keeps_succeeds v State.TxStreaming State.Ready _ t w tx summaries.Plain tt tt refl refl refl tt refl
-  performs v State.Failed left tx t w RequestView.Reset h r = keeps_succeeds v State.Failed State.Ready _ t w tx summaries.Plain tt tt refl refl refl tt refl
-  performs v State.Interrupted left tx t w RequestView.Reset h r = keeps_succeeds v State.Interrupted State.Ready _ t w tx summaries.Plain tt tt refl refl refl tt refl
-  performs v State.Fresh left tx t w (RequestView.Logon a) h r = absurd (true≢false (no_row State.Fresh Kind.Logon refl v r))
-  performs v State.Ready left tx t w (RequestView.Logon a) h r = absurd (true≢false (no_row State.Ready Kind.Logon refl v r))
-  performs v State.Streaming left tx t w (RequestView.Logon a) h r = absurd (true≢false (no_row State.Streaming Kind.Logon refl v r))
-  performs v State.TxReady left tx t w (RequestView.Logon a) h r = absurd (true≢false (no_row State.TxReady Kind.Logon refl v r))
-  performs v State.TxStreaming left tx t w (RequestView.Logon a) h r = absurd (true≢false (no_row State.TxStreaming Kind.Logon refl v r))
-  performs v State.Failed left tx t w (RequestView.Logon a) h r = absurd (true≢false (no_row State.Failed Kind.Logon refl v r))
-  performs v State.Interrupted left tx t w (RequestView.Logon a) h r = absurd (true≢false (no_row State.Interrupted Kind.Logon refl v r))
-  performs v State.Defunct left tx t w (RequestView.Logon a) h r = absurd (true≢false (no_row State.Defunct Kind.Logon refl v r))
-  performs v State.Fresh left tx t w RequestView.Logoff h r = absurd (true≢false (no_row State.Fresh Kind.Logoff refl v r))
-  performs v State.Unauth left tx t w RequestView.Logoff h r = absurd (true≢false (no_row State.Unauth Kind.Logoff refl v r))
-  performs v State.Streaming left tx t w RequestView.Logoff h r = absurd (true≢false (no_row State.Streaming Kind.Logoff refl v r))
-  performs v State.TxReady left tx t w RequestView.Logoff h r = absurd (true≢false (no_row State.TxReady Kind.Logoff refl v r))
-  performs v State.TxStreaming left tx t w RequestView.Logoff h r = absurd (true≢false (no_row State.TxStreaming Kind.Logoff refl v r))
-  performs v State.Failed left tx t w RequestView.Logoff h r = absurd (true≢false (no_row State.Failed Kind.Logoff refl v r))
-  performs v State.Interrupted left tx t w RequestView.Logoff h r = absurd (true≢false (no_row State.Interrupted Kind.Logoff refl v r))
-  performs v State.Defunct left tx t w RequestView.Logoff h r = absurd (true≢false (no_row State.Defunct Kind.Logoff refl v r))
+  performs v s left tx t w RequestView.Reset h r = keeps_succeeds v s State.Ready _ t w tx summaries.Plain tt tt refl refl (row_beside s Kind.Reset Verdict.Success State.Ready refl v r) tt refl
+  performs v s left tx t w (RequestView.Logon a) h r = absurd (true≢false (no_row s Kind.Logon refl v r))
+  performs v s left tx t w RequestView.Logoff h r = absurd (true≢false (no_row s Kind.Logoff refl v r))
   performs v _ left tx t w _ h r = cc
-
-  ignored_keeps : (v : Version) (s : State) (q : RequestView) (tx t : Tx) (w : Change) → row_at v s (kind_of q) Verdict.Ignored ≡ Some s → Held s no_result no_tx t w
-      → Keeps S v front s q t w tx (Summary Verdict.Ignored (response_of_summary summaries.Passed) no_result no_tx None)
-  ignored_keeps v s q tx t w r h = record { told = refl; written = λ _. short_fits v summaries.Passed tt tt; valid = refl; state = s; rows = r; holds = h; paid = λ p. cc; commit = λ p. cc }
 
   -- a request that its phase allows has a row
   has_row : (v : Version) (s : State) (k : Kind) → allows v (phase_of s) k ≡ true → is_goodbye k ≡ false → is_halted s ≡ false → is_some (row_at v s k Verdict.Success) ≡ true
@@ -315,7 +279,7 @@ module _ (S : Setting) (c : ℕ) (numbered : c < 2 ^ 64) (front : List EntryView
       keeps_if v s q t w tx (is_goodbye (kind_of q)) _ _ (λ g. tt)
       (λ g. keeps_if v s q t w tx (is_halted s) _ _
       (λ e. keeps_if v s q t w tx (is_reset (kind_of q)) _ _ (λ r. reset_keeps v s q tx t w e r)
-      (λ r. ignored_keeps v s q tx t w (ignored_row v s (kind_of q) a g e r) (halted_held s tx t w e)))
+      (λ r. record { told = refl; written = λ _. short_fits v summaries.Passed tt tt; valid = refl; state = s; rows = ignored_row v s (kind_of q) a g e r; holds = halted_held s tx t w e; paid = λ p. cc; commit = λ p. cc }))
       (λ e. keeps_if v s q t w tx (is_some (row_at v s (kind_of q) Verdict.Success)) _ _
       (λ r. performs v s left tx t w q h r)
       (λ r. absurd (true≢false (sym (has_row v s (kind_of q) a g e) ∙ r)))))

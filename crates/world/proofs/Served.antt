@@ -1,9 +1,8 @@
 -- The server's rest of a world, call by call.
 use Rattle.std.proofs.Common.{◌≡◌, refl, sym, ◌∙◌, ap, ap₂, subst, ℕ, zero, suc, ◌+◌, ◌^◌, ◌<◌, ◌==◌, Bool, true, false, not, ◌||◌, if◌then◌else◌, nat_le, min, Option, Some, None, option_map, Result, List, [], ◌∷◌, ◌++◌, length, take, drop, slice_get, slice_set, count_by, arith, append_assoc, append-nil, length-append, length-set, cond}
-use Rattle.std.proofs.lemmas.Bool.{eq-eqb, ne_eqb, cond-true, cond-false}
-use Rattle.std.proofs.lemmas.List.{drop-drop}
+use Rattle.std.proofs.lemmas.Bool.{eq-eqb, ne_eqb, cond-true, cond-false, cond_both}
+use Rattle.std.proofs.lemmas.List.{drop-drop, drop_min}
 use Rattle.std.proofs.lemmas.List.Recursion.{is_count_by}
-use Rattle.world.proofs.Fronts.{drop_min}
 use Rattle.wire.specs.Reader.{state, reach, takes as reads}
 use Rattle.wire.specs.Framing.{Opened, at_server}
 use Rattle.messages.specs.Arrivals.{arrivals}
@@ -24,11 +23,12 @@ use Rattle.world.proofs.Rests.{step_keeps, noop_keeps, item_keeps}
 
 -- the sessions from a place on, by whether the first of them was given up
 by_loss : (P : List Live → Type 0) (c : ℕ) (k : Connection) (ss : List Live) → (k.server_lost ≡ true → P ss) → (k.server_lost ≡ false → P (live_of c k ∷ ss)) → P (if k.server_lost then ss else live_of c k ∷ ss)
-by_loss P c k ss x y = go k.server_lost refl
-  where
-    go : (b : Bool) → k.server_lost ≡ b → P (if b then ss else live_of c k ∷ ss)
-    go true e = x e
-    go false e = y e
+by_loss P c k ss x y = cond_both k.server_lost ss (live_of c k ∷ ss) P x y
+
+-- two choices by one test, where what is chosen stands so
+same_choice : {A B : Type 0} (R : A → B → Type 0) (b : Bool) (x y : A) (z w : B) → R x z → R y w → R (if b then x else y) (if b then z else w)
+same_choice R true x y z w p q = p
+same_choice R false x y z w p q = q
 
 below : (c j : ℕ) → j < c → (c == j) ≡ false
 below c j l = ne_eqb c j (λ e. absurd (omega arith))
@@ -70,12 +70,7 @@ replace_at (x ∷ ks) c zero j k k2 s e h l l2 m =
     ∙ sym (cond-false k2.server_lost _ _ l2)
 replace_at (x ∷ ks) c (suc i) j k k2 s e h l l2 m =
     let r = replace_at ks (suc c) i j k k2 s (omega arith) h l l2 m in
-    go x.server_lost r
-  where
-    go : (b : Bool) → replace j s (sessions_from (suc c) ks) ≡ sessions_from (suc c) (slice_set ks i k2)
-        → replace j s (if b then sessions_from (suc c) ks else live_of c x ∷ sessions_from (suc c) ks) ≡ (if b then sessions_from (suc c) (slice_set ks i k2) else live_of c x ∷ sessions_from (suc c) (slice_set ks i k2))
-    go true r = r
-    go false r = cond-false (c == j) _ _ (above c i j e) ∙ ap (λ z. live_of c x ∷ z) r
+    same_choice (λ (ss : List Live) (zs : List Live). replace j s ss ≡ zs) x.server_lost _ _ _ _ r (cond-false (c == j) _ _ (above c i j e) ∙ ap (λ z. live_of c x ∷ z) r)
 
 -- a session that is given up
 without_below : (ks : List Connection) (c j : ℕ) → j < c → without j (sessions_from c ks) ≡ sessions_from c ks
@@ -86,12 +81,9 @@ pub without_at : (ks : List Connection) (c i j : ℕ) (k k2 : Connection) → j 
 without_at [] c i j k k2 e h l = cc
 without_at (x ∷ ks) c zero j k k2 e h l =
     by_loss (λ ss. without j ss ≡ sessions_from (suc c) ks) c x (sessions_from (suc c) ks) (λ _. without_below ks (suc c) j (omega arith)) (λ _. cond-true (c == j) _ _ (at_place c j e)) ∙ sym (cond-true k2.server_lost _ _ l)
-without_at (x ∷ ks) c (suc i) j k k2 e h l = go x.server_lost (without_at ks (suc c) i j k k2 (omega arith) h l)
-  where
-    go : (b : Bool) → without j (sessions_from (suc c) ks) ≡ sessions_from (suc c) (slice_set ks i k2)
-        → without j (if b then sessions_from (suc c) ks else live_of c x ∷ sessions_from (suc c) ks) ≡ (if b then sessions_from (suc c) (slice_set ks i k2) else live_of c x ∷ sessions_from (suc c) (slice_set ks i k2))
-    go true r = r
-    go false r = cond-false (c == j) _ _ (above c i j e) ∙ ap (λ z. live_of c x ∷ z) r
+without_at (x ∷ ks) c (suc i) j k k2 e h l =
+    let r = without_at ks (suc c) i j k k2 (omega arith) h l in
+    same_choice (λ (ss : List Live) (zs : List Live). without j ss ≡ zs) x.server_lost _ _ _ _ r (cond-false (c == j) _ _ (above c i j e) ∙ ap (λ z. live_of c x ∷ z) r)
 
 -- a change that no session sees
 pub unseen_at : (ks : List Connection) (c i : ℕ) (k k2 : Connection) → slice_get ks i ≡ Some k → k2.server_lost ≡ k.server_lost → (k.server_lost ≡ false → (j : ℕ) → live_of j k2 ≡ live_of j k) → sessions_from c (slice_set ks i k2) ≡ sessions_from c ks
@@ -102,29 +94,16 @@ unseen_at (x ∷ ks) c (suc i) k k2 h l m = ap (λ z. if x.server_lost then z el
 
 -- one more session
 pub sessions-append : (ks : List Connection) (c : ℕ) (k : Connection) → k.server_lost ≡ false → sessions_from c (ks ++ k ∷ []) ≡ sessions_from c ks ++ live_of (c + length ks) k ∷ []
-sessions-append [] c k l = cond-false k.server_lost _ _ l ∙ ap (λ n. live_of n k ∷ []) (right-nil c)
-  where
-    right-nil : (c : ℕ) → c ≡ c + 0
-    right-nil c = omega arith
-sessions-append (x ∷ ks) c k l = go x.server_lost (sessions-append ks (suc c) k l ∙ ap (λ n. sessions_from (suc c) ks ++ live_of n k ∷ []) (carry c (length ks)))
-  where
-    carry : (c n : ℕ) → suc c + n ≡ c + suc n
-    carry c n = omega arith
-
-    go : (b : Bool) → sessions_from (suc c) (ks ++ k ∷ []) ≡ sessions_from (suc c) ks ++ live_of (c + suc (length ks)) k ∷ []
-        → (if b then sessions_from (suc c) (ks ++ k ∷ []) else live_of c x ∷ sessions_from (suc c) (ks ++ k ∷ [])) ≡ (if b then sessions_from (suc c) ks else live_of c x ∷ sessions_from (suc c) ks) ++ live_of (c + suc (length ks)) k ∷ []
-    go true r = r
-    go false r = ap (λ z. live_of c x ∷ z) r
+sessions-append [] c k l = let same : c ≡ c + 0 = omega arith in cond-false k.server_lost _ _ l ∙ ap (λ n. live_of n k ∷ []) same
+sessions-append (x ∷ ks) c k l =
+    let same : suc c + length ks ≡ c + suc (length ks) = omega arith in
+    let r = sessions-append ks (suc c) k l ∙ ap (λ n. sessions_from (suc c) ks ++ live_of n k ∷ []) same in
+    same_choice (λ (ss : List Live) (zs : List Live). ss ≡ zs ++ live_of (c + suc (length ks)) k ∷ []) x.server_lost _ _ _ _ r (ap (λ z. live_of c x ∷ z) r)
 
 -- as many sessions as live
 lengths_same : (ks : List Connection) (c d : ℕ) → length (sessions_from c ks) ≡ length (sessions_from d ks)
 lengths_same [] c d = refl
-lengths_same (x ∷ ks) c d = go x.server_lost (lengths_same ks (suc c) (suc d))
-  where
-    go : (b : Bool) → length (sessions_from (suc c) ks) ≡ length (sessions_from (suc d) ks)
-        → length (if b then sessions_from (suc c) ks else live_of c x ∷ sessions_from (suc c) ks) ≡ length (if b then sessions_from (suc d) ks else live_of d x ∷ sessions_from (suc d) ks)
-    go true r = r
-    go false r = ap suc r
+lengths_same (x ∷ ks) c d = let r = lengths_same ks (suc c) (suc d) in same_choice (λ (ss : List Live) (zs : List Live). length ss ≡ length zs) x.server_lost _ _ _ _ r (ap suc r)
 
 pub sessions-length : (ks : List Connection) → length (sessions_from 0 ks) ≡ count_by (λ k. not k.server_lost) ks
 sessions-length ks = is_count_by (λ xs. length (sessions_from 0 xs)) (λ k. not k.server_lost) refl (λ x xs. go x xs x.server_lost (lengths_same xs 1 0)) ks
@@ -248,8 +227,5 @@ pub open_served : (G : Type 0) (gate : G) (w : World) (peer : Peer)
 open_served G gate w peer = (
   ap (λ n. nat_le 16 n || nat_le (2 ^ 63) (length w.conns)) (sessions-length w.conns),
   ap₂ (λ (ss : List Live) (n : ℕ). record { sessions = ss; next = n; ledger = ledger w; gate = gate })
-      (ap (λ n. sessions_from 0 w.conns ++ live_of n (fresh peer) ∷ []) (zero-left (length w.conns)) ∙ sym (sessions-append w.conns 0 (fresh peer) refl)) (sym (length-append w.conns (fresh peer ∷ []))),
+      (ap (λ n. sessions_from 0 w.conns ++ live_of n (fresh peer) ∷ []) (let same : length w.conns ≡ 0 + length w.conns = omega arith in same) ∙ sym (sessions-append w.conns 0 (fresh peer) refl)) (sym (length-append w.conns (fresh peer ∷ []))),
 )
-  where
-    zero-left : (n : ℕ) → n ≡ 0 + n
-    zero-left n = omega arith

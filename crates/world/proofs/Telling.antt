@@ -9,8 +9,8 @@ use Rattle.client.specs.Verdicts.{Told}
 use Rattle.client.specs.Rest.{Note, feed_of}
 use Rattle.client.specs.Moments.{tellings_in}
 use Rattle.client.proofs.Later.{reading_later}
-use Rattle.world.specs.Connections.{Peer, Ours, Foreign, Connection, fresh, client, wish_of, bytes_delivered, output}
-use Rattle.world.specs.World.{World, Event, Opens, Seen, Effect, effect_at_peer, give, taken_for, after_effect, place, taken_out, Reached}
+use Rattle.world.specs.Connections.{Peer, Ours, Connection, fresh, client, wish_of, bytes_delivered, output}
+use Rattle.world.specs.World.{World, Event, Opens, Seen, Effect, effect_at_peer, give, taken_for, place, taken_out, Reached}
 use Rattle.world.specs.World as world
 use Rattle.world.specs.Runs.{Ran, begins, goes_on, takes_out, told_in, told_at}
 use Rattle.world.specs.Reports.{by_peer}
@@ -55,10 +55,8 @@ does_tell k x (strange n p) = ap (λ q. by_peer q (client k).told) p ∙ sym (ap
 -- a connection that is opened told nothing
 opened_told : (xs : List Connection) (j : ℕ) (peer : Peer) → told_of (slice_get (xs ++ fresh peer ∷ []) j) ≡ told_of (slice_get xs j)
 opened_told [] zero (Ours wish) = refl
-opened_told [] zero Foreign = refl
-opened_told [] (suc j) peer = refl
-opened_told (x ∷ xs) zero peer = refl
 opened_told (x ∷ xs) (suc j) peer = opened_told xs j peer
+opened_told _ _ _ = refl
 
 -- at each number
 abbrev pub AllTold : List (Event × Seen) → World → Type 0
@@ -69,35 +67,28 @@ either_way true x y e = e
 either_way false x y e = refl
 
 module _ (S : Setting) (w : World) (sound : (c : ℕ) (k : Connection) → slice_get w.conns c ≡ Some k → Sound k) (past : List (Event × Seen)) (all : AllTold past w) where
-  effect_tells : (e : Event) (k : Connection) → slice_get w.conns (place e) ≡ Some k → (x : Effect) → Does k x → AllTold ((e, x.seen) ∷ past) (after_effect w (place e) k x)
-  effect_tells e k here x d j = go (place e == j) refl
+  -- where one connection was set
+  set_tells : (c : ℕ) (k k2 : Connection) → slice_get w.conns c ≡ Some k → (new : List Told) → new ++ told_of (Some k) ≡ told_of (Some k2)
+      → (j : ℕ) → (if c == j then new ++ told_at j past else told_at j past) ≡ told_of (slice_get (slice_set w.conns c k2) j)
+  set_tells c k k2 here new e j = go (c == j) refl
     where
-      go : (b : Bool) → (place e == j) ≡ b → (if b then told_in x.seen ++ told_at j past else told_at j past) ≡ told_of (slice_get (slice_set w.conns (place e) x.conn) j)
+      go : (b : Bool) → (c == j) ≡ b → (if b then new ++ told_at j past else told_at j past) ≡ told_of (slice_get (slice_set w.conns c k2) j)
       go true h =
-          let same : place e ≡ j = eqb-true (place e) j h in
-          ap (λ i. told_in x.seen ++ told_at i past) (sym same) ∙ ap (λ ts. told_in x.seen ++ ts) (all (place e) ∙ ap told_of here) ∙ does_tell k x d
-          ∙ sym (ap told_of (set_same w.conns (place e) k x.conn here)) ∙ ap (λ i. told_of (slice_get (slice_set w.conns (place e) x.conn) i)) same
-      go false h = all j ∙ ap told_of (sym (set_other w.conns (place e) j x.conn (eqb-false (place e) j h)))
+          let same : c ≡ j = eqb-true c j h in
+          ap (λ i. new ++ told_at i past) (sym same) ∙ ap (λ ts. new ++ ts) (all c ∙ ap told_of here) ∙ e
+          ∙ sym (ap told_of (set_same w.conns c k k2 here)) ∙ ap (λ i. told_of (slice_get (slice_set w.conns c k2) i)) same
+      go false h = all j ∙ ap told_of (sym (set_other w.conns c j k2 (eqb-false c j h)))
 
   did_tells : (e : Event) (seen : Seen) (w2 : World) → Did S w e seen w2 → AllTold ((e, seen) ∷ past) w2
   did_tells e seen w2 (opens peer room) j = either_way (place (Opens peer) == j) (told_at j past) (told_at j past) refl ∙ all j ∙ sym (opened_told w.conns j peer)
-  did_tells e seen w2 (acts event k x here d) j = effect_tells event k here x (deed_does k (sound (place event) k here) d) j
+  did_tells e seen w2 (acts event k x here d) j = set_tells (place event) k x.conn here (told_in x.seen) (does_tell k x (deed_does k (sound (place event) k here) d)) j
 
   takes_tell : (c n : ℕ) → AllTold past (taken_out w c n (slice_get w.conns c))
   takes_tell c n = go (slice_get w.conns c) refl
     where
       go : (o : Option Connection) → slice_get w.conns c ≡ o → AllTold past (taken_out w c n o)
       go None g = all
-      go (Some k) g = λ j. pick j (c == j) refl
-        where
-          k2 : Connection
-          k2 = record k { taken = (effect_at_peer k.peer n k).conn.taken }
-
-          pick : (j : ℕ) (b : Bool) → (c == j) ≡ b → told_at j past ≡ told_of (slice_get (slice_set w.conns c k2) j)
-          pick j true h =
-              let same : c ≡ j = eqb-true c j h in
-              ap (λ i. told_at i past) (sym same) ∙ all c ∙ ap told_of g ∙ sym (ap told_of (set_same w.conns c k k2 g)) ∙ ap (λ i. told_of (slice_get (slice_set w.conns c k2) i)) same
-          pick j false h = all j ∙ ap told_of (sym (set_other w.conns c j k2 (eqb-false c j h)))
+      go (Some k) g = λ j. sym (either_way (c == j) (told_at j past) (told_at j past) refl) ∙ set_tells c k (record k { taken = (effect_at_peer k.peer n k).conn.taken }) g [] refl j
 
 pub reached_tell : {S : Setting} {brought : List EntryView} {past : List (Event × Seen)} {w : World} → Ran S brought past w → AllTold past w
 reached_tell (begins l) = λ j. refl

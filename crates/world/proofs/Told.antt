@@ -1,45 +1,39 @@
 -- A report tells what the model has.
-use Rattle.std.proofs.Common.{◌≡◌, refl, sym, ◌∙◌, ap, ap₂, subst, ℕ, suc, ◌+◌, ◌<◌, ◌≤◌, Bool, Option, Some, None, List, [], ◌∷◌, length, slice_get, slice_index_or, arith}
-use Rattle.world.proofs.Alongside.{along_at, along_none, as_long}
+use Rattle.std.proofs.Common.{◌≡◌, refl, sym, ◌∙◌, ap, ap₂, subst, ℕ, ◌+◌, ◌<◌, ◌≤◌, Bool, Option, Some, None, List, [], ◌∷◌, length, slice_get, slice_index_or, arith, if◌then◌else◌, option_and_then, option_map}
+use Rattle.world.proofs.Alongside.{along_at}
 use Rattle.engine.specs.Views.{EntryView}
 use Rattle.session.specs.declared.Cause.{Cause}
 use Rattle.client.specs.Client.{knows_of}
 use Rattle.world.specs.declared.link.Link.{Link as LinkHeld}
 use Rattle.world.specs.declared.report.Standing.{Standing as StandingTold}
 use Rattle.world.specs.declared.world.World.{World as WorldHeld}
-use Rattle.world.specs.Connections.{Peer, Ours, Foreign, Connection, Said, SaysVersion, SaysNoop, SaysRow, SaysSummary, answer_count, client}
+use Rattle.world.specs.Connections.{Peer, Ours, Foreign, Connection, Said, SaysSummary, answer_count, client}
 use Rattle.world.specs.World.{World, Reached}
 use Rattle.machine.specs.States.{phase_of}
 use Rattle.world.specs.Good.{tellings_of, delivered_whole, server_outcome, Good}
 use Rattle.world.specs.Reports.{ReadSummary, by_peer, read_after, summaries_told, waits, ordinals, standing, standing_of}
-use Rattle.world.specs.Rests.{client_rest}
+use Rattle.world.specs.Rests.{client_rest, live_of}
 use Rattle.world.specs.Fits.{Link, FitsClient, FitsLink}
 use Rattle.world.specs.Views.{link_of, waiting_at}
 use Rattle.world.specs.Turns.{Definition, setting_of, Holds, IsWorld}
 use Rattle.world.specs.Reported.{standing_seen, StandsBy}
-use Rattle.world.proofs.Sound.{Sound, reached_sound}
+use Rattle.world.proofs.Sound.{reached_sound}
 use Rattle.world.proofs.Headline.{all_good}
-use Rattle.world.proofs.Reporting.{standing_lives, standing_gone, waits_are}
-use Rattle.world.proofs.Placed.{held_at, held_past}
-
-pub as_many : {E G : Type 0} (entries : E → List EntryView) (s : WorldHeld E G) (gate : G) (w : World) → IsWorld entries s gate w → length s.links.items ≡ length w.conns
-as_many entries s gate w f = as_long Holds s.links.items f.rest.links f.links ∙ as_long FitsLink f.rest.links w.conns f.fits.links
+use Rattle.world.proofs.Placed.{held_at}
+use Rattle.world.proofs.Answering.{cause_is, still_there}
+use Rattle.server.specs.Serving.{Live, find}
+use Rattle.world.proofs.Served.{find_at}
 
 read_long : (xs : List Said) (later : List ReadSummary) → length (read_after (tellings_of xs) later) ≡ answer_count xs + length later
 read_long [] later = omega arith
-read_long (SaysVersion o ∷ xs) later = read_long xs later
-read_long (SaysNoop ∷ xs) later = read_long xs later
-read_long (SaysRow row ∷ xs) later = read_long xs later
 read_long (SaysSummary x ∷ xs) later =
     let y : ReadSummary = record { ordinal = x.ordinal; phase = phase_of x.state; outcome = server_outcome x } in
     let h = read_long xs (y ∷ later) in omega (arith, h)
+read_long (_ ∷ xs) later = read_long xs later
 
 module _ {E G : Type 0} (entries : E → List EntryView) (answer : Definition) (accepts : G → List ℕ → List ℕ → Bool)
     (s : WorldHeld E G) (gate : G) (w : World) (f : IsWorld entries s gate w) (brought : List EntryView) (reached : Reached (setting_of answer accepts gate) brought w)
     (c : ℕ) where
-  pub not_opened : length s.links.items ≤ c → slice_get w.conns c ≡ None
-  not_opened past = along_none FitsLink f.rest.links w.conns c f.fits.links (held_past s.links.items f.rest.links c f.links past)
-
   module _ (few : c < length s.links.items) (l : LinkHeld) (is : l ≡ slice_index_or s.links.items c l) where
     abbrev pub held : (m : Link) × (slice_get f.rest.links c ≡ Some m) × Holds l m
     held = held_at s.links.items f.rest.links c l f.links few is
@@ -53,14 +47,13 @@ module _ {E G : Type 0} (entries : E → List EntryView) (answer : Definition) (
     abbrev k : Connection
     k = there.0
 
-    sound : Sound k
-    sound = reached_sound (setting_of answer accepts gate) brought reached c k there.1
-
     pub stands_as : (gone : Option Cause) → l.gone ≡ gone → (told : StandingTold) → StandsBy gone c f.rest.server told → standing_seen told ≡ standing k
-    stands_as (Some cause) e told h = h ∙ sym (standing_gone m k there.2 cause e)
+    stands_as (Some cause) e told h = h ∙ sym (ap (standing_of k.state) (cause_is k.server_lost k.ended cause (sym there.2.flags.2 ∙ e)).1)
     stands_as None e told h =
-        let lives = standing_lives f.rest w f.fits c k there.1 m there.2 sound e in
-        h k.state lives.0 ∙ ap (λ o. standing_of k.state o) lives.1
+        let lives = still_there m k there.2 (reached_sound (setting_of answer accepts gate) brought reached c k there.1) e in
+        let found : find c f.rest.server.sessions ≡ Some (live_of c k) =
+        ap (λ z. find c z.sessions) f.fits.server ∙ find_at w.conns 0 c c k (omega arith) there.1 ∙ ap (λ b. if b then None else Some (live_of c k)) lives in
+        h k.state (ap (λ o. option_map (λ (y : Live). y.kept.state) o) found) ∙ ap (λ o. standing_of k.state o) (ap (λ o. option_and_then (λ (y : Live). y.kept.ended) o) found)
 
     -- those that wait follow those that were read
     pub waits_as : (count : ℕ) → length (summaries_told k) ≡ count → waits k ≡ ordinals count (waiting_at held.2.client)
@@ -72,11 +65,8 @@ module _ {E G : Type 0} (entries : E → List EntryView) (answer : Definition) (
             let y = client_rest old.out k in
             let good : Good (setting_of answer accepts gate) w c k = all_good (setting_of answer accepts gate) brought w reached c k wish there.1 p in
             let n : length (summaries_told k) ≡ (client k).count =
-            ap (λ q. length (by_peer q (read_after (client k).told []))) p ∙ ap (λ ts. length (read_after ts [])) good.told ∙ read_long (delivered_whole k) [] ∙ sym (good.count_told ∙ plus_none (answer_count (delivered_whole k))) in
-            waits_are m k there.2 wish p y old.client_is ∙ ap₂ (λ i j. ordinals i j) (sym n ∙ long) (ap waiting_at (sym old.client_is))
-          where
-            plus_none : (i : ℕ) → i ≡ i + 0
-            plus_none i = omega arith
+            ap (λ q. length (by_peer q (read_after (client k).told []))) p ∙ ap (λ ts. length (read_after ts [])) good.told ∙ read_long (delivered_whole k) [] ∙ sym (good.count_told ∙ (let same : answer_count (delivered_whole k) ≡ answer_count (delivered_whole k) + 0 = omega arith in same)) in
+            ap (λ q. by_peer q (ordinals y.knows.first (length y.knows.waiting))) p ∙ ap₂ (λ i j. ordinals i j) (sym n ∙ long) (ap waiting_at (sym old.client_is))
         go Foreign p g =
             let old : FitsClient Foreign m.client m.up k = subst (λ q. FitsClient q m.client m.up k) p g in
             ap (λ q. by_peer q (ordinals (knows_of (client k) k.sent k.client_lost).first (length (knows_of (client k) k.sent k.client_lost).waiting))) p ∙ ap (λ o. ordinals count (waiting_at o)) (sym old.0)

@@ -1,5 +1,6 @@
 -- Steps of a session, no-ops, bytes to a session, and a cut, at the link of their connection.
-use Rattle.std.proofs.Common.{◌≡◌, refl, sym, ◌∙◌, ap, ap₂, subst, ℕ, ◌-◌, Bool, true, false, not, ◌||◌, if◌then◌else◌, is_some, Some, None, Result, Ok, Err, List, ◌∷◌, ◌++◌, length, take, drop, slice_get, slice_set}
+use Rattle.std.proofs.Common.{◌≡◌, refl, sym, ◌∙◌, ap, ap₂, subst, ℕ, ◌-◌, Bool, true, false, not, ◌||◌, if◌then◌else◌, is_some, Some, None, Result, Ok, Err, List, ◌∷◌, ◌++◌, length, take, drop, slice_get, slice_set, append-nil}
+use Rattle.std.proofs.lemmas.Option.{some_pair_parts}
 use Rattle.std.proofs.lemmas.Bool.{cond-true, cond-false}
 use Rattle.wire.specs.declared.Wish.{Wish}
 use Rattle.engine.specs.Views.{EntryView}
@@ -19,14 +20,15 @@ use Rattle.world.specs.declared.link.Link.{Link as LinkHeld}
 use Rattle.world.specs.Connections.{Ours, Foreign, Connection, SaysNoop, input, kept_of}
 use Rattle.world.specs.World.{World, Effect, ToServer, Work, PutsNoop, Cut, Feeds, Refusal, quiet, at_peer, ledger, effect_of_step, work, noop, feed, SawWork, SawNoop, SawNothing, Fed}
 use Rattle.world.specs.Reports.{wrote_by}
-use Rattle.world.specs.Fits.{Link, Rest, FitsLink, Fits}
+use Rattle.world.specs.Fits.{Link, Rest, FitsLink, Fits, FitsClient}
 use Rattle.world.specs.Contract.{Answers}
 use Rattle.world.specs.Views.{FitsEnd, link_of, end_peer}
 use Rattle.world.specs.Turns.{Definition, Now, Before}
-use Rattle.world.proofs.Fitting.{work_link, noop_link, cut_link}
-use Rattle.world.proofs.Rising.{held_link, used_seen, foreign_feeds, server_link, piece_is}
+use Rattle.world.proofs.Rising.{held_link, used_seen, server_link, piece_is, feed_link}
 use Rattle.world.proofs.Served.{work_served, noop_served, feed_served}
-use Rattle.world.proofs.Turning.{found, sound, lives, given_up, relinked, may, acts, acts_unseen, rests, lacks, either, answer_is}
+use Rattle.world.proofs.Turning.{found, sound, lives, given_up, relinked, may, acts, acts_unseen, rests, lacks, either}
+use Rattle.world.proofs.Fitting.{alone_link, unseen_link}
+use Rattle.world.proofs.Doing.{work_speaks, noop_speaks}
 
 module _ {E G : Type 0} (entries : E → List EntryView) (answer : Definition) (accepts : G → List ℕ → List ℕ → Bool)
     (c : ℕ) (l : LinkHeld) (s : Server E G) (r : Rest G) (w : World) where
@@ -61,9 +63,9 @@ module _ {E G : Type 0} (entries : E → List EntryView) (answer : Definition) (
         let m = link_of l b.client in
         let so = sound entries answer accepts (Work c) l s r w b in
         let alive = lives entries answer accepts (Work c) l s r w b gone in
-        let is = answer_is worked _ a.0 _ (sym a.1 ∙ ap (serving.work_at answer accepts c) b.fits.server ∙ work_served G r.server.gate w c k at_work.1 alive so answer accepts) in
+        let is = some_pair_parts worked _ a.0 _ (sym a.1 ∙ ap (serving.work_at answer accepts c) b.fits.server ∙ work_served G r.server.gate w c k at_work.1 alive so answer accepts) in
         acts entries answer accepts (Work c) l s r w b refl (work T c (ledger w) k) works (SawWork worked) (ap SawWork (sym is.0)) l2 s2 b.client a.0 ends a.2 is.1
-        (subst (λ z. FitsLink z (work T c (ledger w) k).conn) (sym same) (subst (λ z. FitsLink (record m { wrote = m.wrote ++ wrote_by z }) (work T c (ledger w) k).conn) (sym is.0) (work_link m k at_work.2 so alive T c (ledger w)))) tt counted
+        (subst (λ z. FitsLink z (work T c (ledger w) k).conn) (sym same) (subst (λ z. FitsLink (record m { wrote = m.wrote ++ wrote_by z }) (work T c (ledger w) k).conn) (sym is.0) (alone_link m k at_work.2 so alive (work_speaks T c (ledger w) k) refl _ refl))) tt counted
 
   -- a no-op
   module _ (b : Before entries answer accepts (PutsNoop c) l s r w) where
@@ -80,9 +82,8 @@ module _ {E G : Type 0} (entries : E → List EntryView) (answer : Definition) (
         (puts ∙ ap (λ z. let x : Result Effect Refusal = Ok (quiet (record k { says = if z then SaysNoop ∷ k.says else k.says }) (SawNoop z)) in x) (over (is_some k.version) (is_some k.ended) _ (ap is_some (given_up entries answer accepts (PutsNoop c) l s r w b cause gone).1))) tt tt
       where
         over : (x y z : Bool) → y ≡ true → not (not x || y || z) ≡ false
-        over true true z e = refl
         over true false z e = cc
-        over false y z e = refl
+        over _ _ z e = refl
 
     pub noop_lacks : (s2 : Server E G) → server.Fits entries s2 r.server → Answers T w (PutsNoop c) (Err Memory) (Now_ l s2)
     noop_lacks s2 serves = lacks entries answer accepts (PutsNoop c) l s r w b (may entries answer accepts (PutsNoop c) l s r w b refl _ puts) refl l s2 refl b.ends serves
@@ -92,8 +93,8 @@ module _ {E G : Type 0} (entries : E → List EntryView) (answer : Definition) (
         let k = at_noop.0 in
         let so = sound entries answer accepts (PutsNoop c) l s r w b in
         let alive = lives entries answer accepts (PutsNoop c) l s r w b gone in
-        let is = answer_is put _ a.0 _ (sym a.1 ∙ ap (serving.noop_at c) b.fits.server ∙ noop_served G r.server.gate w c k at_noop.1 alive so) in
-        acts entries answer accepts (PutsNoop c) l s r w b refl (noop k) puts (SawNoop put) (ap SawNoop (sym is.0)) l s2 b.client a.0 b.ends a.2 is.1 (noop_link (link_of l b.client) k at_noop.2 so alive) tt tt
+        let is = some_pair_parts put _ a.0 _ (sym a.1 ∙ ap (serving.noop_at c) b.fits.server ∙ noop_served G r.server.gate w c k at_noop.1 alive so) in
+        acts entries answer accepts (PutsNoop c) l s r w b refl (noop k) puts (SawNoop put) (ap SawNoop (sym is.0)) l s2 b.client a.0 b.ends a.2 is.1 (alone_link (link_of l b.client) k at_noop.2 so alive (noop_speaks k) refl (link_of l b.client).wrote (sym (append-nil (link_of l b.client).wrote))) tt tt
 
   -- a cut
   module _ (b : Before entries answer accepts (Cut c) l s r w) where
@@ -101,9 +102,10 @@ module _ {E G : Type 0} (entries : E → List EntryView) (answer : Definition) (
     cut_done =
         let here = found entries answer accepts (Cut c) l s r w b in
         let k = here.0 in
+        let m = link_of l b.client in
         let x : Result Effect Refusal = Ok (quiet (record k { cut = true }) SawNothing) in
         acts_unseen entries answer accepts (Cut c) l s r w b refl (record k { cut = true }) SawNothing (either (λ p. at_peer T c (ledger w) (Cut c) p k) x (λ _. refl) refl k.peer) refl (λ _ j. refl)
-        (record l { is_cut = true }) b.client b.ends (cut_link (link_of l b.client) k here.2) tt tt
+        (record l { is_cut = true }) b.client b.ends (unseen_link m (record m { cut = true }) k (record k { cut = true }) here.2 here.2.down (refl, here.2.flags.1, here.2.flags.2)) tt tt
 
   -- bytes of a client of ours
   module _ (n : ℕ) (b : Before entries answer accepts (ToServer c n) l s r w) (wish : Wish) (ours : end_peer l.end ≡ Ours wish) where
@@ -162,7 +164,7 @@ module _ {E G : Type 0} (entries : E → List EntryView) (answer : Definition) (
         let alive = lives entries answer accepts (ToServer c n) l s r w b gone in
         let held = m_up.up ++ take (n - length m_up.up) y.unsent in
         let served = feed_served G r.server.gate w c k_up at_up.1 alive so (sym at_up.2.flags.0 ∙ joined) piece in
-        let one = answer_is took served.0 a.0 _ (sym a.1 ∙ ap₂ (λ (x : List ℕ) z. serving.feed_at c x z) (piece_is m_up k_up at_up.2 so alive wish peer_up n y is) b.fits.server ∙ served.1) in
+        let one = some_pair_parts took served.0 a.0 _ (sym a.1 ∙ ap₂ (λ (x : List ℕ) z. serving.feed_at c x z) (piece_is m_up k_up at_up.2 so alive wish peer_up n y is) b.fits.server ∙ served.1) in
         let seen : (feed piece k_up).seen ≡ Fed took.used took.what = served.2 ∙ ap (λ t. Fed t.used t.what) (sym one.0) in
         let y2 = Some (asking.taken_out y (n - length m_up.up)) in
         acts entries answer accepts (ToServer c n) l s r w b refl (feed piece k_up) hands (Fed took.used took.what) seen l2 s2 y2 a.0 ends a.2 one.1
@@ -199,7 +201,9 @@ module _ {E G : Type 0} (entries : E → List EntryView) (answer : Definition) (
     foreign_done s2 took gone joined a =
         let so = sound entries answer accepts (Feeds c bytes) l s r w b in
         let alive = lives entries answer accepts (Feeds c bytes) l s r w b gone in
+        let m = link_of l b.client in
         let served = feed_served G r.server.gate w c k_feed at_feed.1 alive so (sym at_feed.2.flags.0 ∙ joined) bytes in
-        let one = answer_is took served.0 a.0 _ (sym a.1 ∙ ap (serving.feed_at c bytes) b.fits.server ∙ served.1) in
+        let one = some_pair_parts took served.0 a.0 _ (sym a.1 ∙ ap (serving.feed_at c bytes) b.fits.server ∙ served.1) in
         acts entries answer accepts (Feeds c bytes) l s r w b refl (feed bytes k_feed) comes (Fed took.used took.what) (served.2 ∙ ap (λ t. Fed t.used t.what) (sym one.0)) l s2 b.client a.0 b.ends a.2 one.1
-        (foreign_feeds (link_of l b.client) k_feed bytes at_feed.2 so alive peer_feed) tt tt
+        (feed_link m k_feed at_feed.2 so alive bytes m.client m.up
+        (subst (λ p. FitsClient p m.client m.up (feed bytes k_feed).conn) (sym peer_feed) (subst (λ p. FitsClient p m.client m.up k_feed) peer_feed at_feed.2.client))) tt tt

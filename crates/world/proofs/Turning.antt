@@ -16,18 +16,17 @@ use Rattle.world.specs.declared.link.Link.{Link as LinkHeld}
 use Rattle.world.specs.Connections.{Peer, Ours, Foreign, Connection}
 use Rattle.world.specs.World.{World, Event, Effect, Seen, quiet, at_peer, with_effect, at_conn, after_effect, ledger, place, step, IsCountedIn}
 use Rattle.world.specs.Rests.{live_of, server_rest}
-use Rattle.world.specs.Fits.{Link, Rest, FitsLink, Alongside, Fits, cause_seen}
+use Rattle.world.specs.Fits.{Link, Rest, FitsLink, Alongside, Fits}
 use Rattle.world.proofs.Alongside.{along_at, along_set}
 use Rattle.world.specs.Contract.{MayLack, Leaves, Answers}
 use Rattle.world.specs.Seeing.{IsOpens, IsWrong, ComesWrong}
 use Rattle.world.specs.Views.{FitsEnd, link_of, end_peer, seen_of}
 use Rattle.world.specs.Turns.{Definition, Now, Before}
-use Rattle.world.proofs.Deeds.{some_is}
-use Rattle.world.proofs.Sound.{Sound, AllSound, reached_sound}
+use Rattle.world.proofs.Sound.{Sound, reached_sound}
 use Rattle.world.proofs.Served.{unseen}
 use Rattle.world.proofs.Written.{TellsWritten}
 use Rattle.world.proofs.Seeing.{refuses_exactly}
-use Rattle.world.proofs.Answering.{answers, still_there}
+use Rattle.world.proofs.Answering.{answers, still_there, cause_is}
 
 pub same_set : {A : Type 0} (xs : List A) (i : ℕ) (x : A) → slice_get xs i ≡ Some x → slice_set xs i x ≡ xs
 same_set [] i x h = refl
@@ -52,25 +51,18 @@ module _ {E G : Type 0} (entries : E → List EntryView) (answer : Definition) (
   pub found : (k : Connection) × (slice_get w.conns (place e) ≡ Some k) × FitsLink m k
   found = along_at FitsLink r.links w.conns (place e) m b.fits.links b.at
 
-  pub all_sound : AllSound w
-  all_sound = reached_sound S b.brought b.reached
-
   abbrev k : Connection
   k = found.0
 
   pub sound : Sound k
-  sound = all_sound (place e) k found.1
+  sound = reached_sound S b.brought b.reached (place e) k found.1
 
   -- of a session that no cause was told of, and of one that was given up, by the cause that was told then
   pub lives : l.gone ≡ None → k.server_lost ≡ false
   lives gone = still_there m k found.2 sound gone
 
   pub given_up : (cause : Cause) → l.gone ≡ Some cause → (k.server_lost ≡ true) × (k.ended ≡ Some cause)
-  given_up cause g = go k.server_lost (sym found.2.flags.2 ∙ g)
-    where
-      go : (b : Bool) → cause_seen b k.ended ≡ Some cause → (b ≡ true) × (k.ended ≡ Some cause)
-      go true h = (refl, h)
-      go false h = cc
+  given_up cause g = cause_is k.server_lost k.ended cause (sym found.2.flags.2 ∙ g)
 
   -- where nothing has changed
   pub still : (l2 : LinkHeld) (s2 : Server E G) → link_of l2 b.client ≡ m → FitsEnd l2.end b.client → server.Fits entries s2 r.server → Now entries answer accepts r (place e) l2 s2 w
@@ -92,9 +84,6 @@ module _ {E G : Type 0} (entries : E → List EntryView) (answer : Definition) (
         links = subst (λ ks. Alongside FitsLink (slice_set r.links (place e) m2) ks) (same_set w.conns (place e) found.0 found.1) (along_set FitsLink r.links w.conns (place e) m2 found.0 b.fits.links g);
       }
 
-  pub unmoved : Now entries answer accepts r (place e) l s w
-  unmoved = still l s refl b.ends b.server
-
   pub wrong : (IsOpens e → ⊥) → IsWrong e (end_peer l.end) → Answers S w e (Err WrongPeer) (Now entries answer accepts r (place e) l s)
   wrong opens h =
       let comes : ComesWrong w e = record {
@@ -103,7 +92,7 @@ module _ {E G : Type 0} (entries : E → List EntryView) (answer : Definition) (
         here = found.1;
         wrong = subst (IsWrong e) found.2.peer h;
       } in
-      ((refuses_exactly S w e).wrong_peer.1 comes, unmoved)
+      ((refuses_exactly S w e).wrong_peer.1 comes, still l s refl b.ends b.server)
 
   -- where what is seen is known by an equation
   pub seen_by : (x y : SeenTold) (l2 : LinkHeld) (s2 : Server E G) → x ≡ y → Answers S w e (Ok (seen_of y)) (Now entries answer accepts r (place e) l2 s2) → Answers S w e (Ok (seen_of x)) (Now entries answer accepts r (place e) l2 s2)
@@ -165,7 +154,3 @@ module _ {E G : Type 0} (entries : E → List EntryView) (answer : Definition) (
 pub either : {A : Type 0} (f : Peer → A) (x : A) → ((wish : Wish) → f (Ours wish) ≡ x) → f Foreign ≡ x → (p : Peer) → f p ≡ x
 either f x a d (Ours wish) = a wish
 either f x a d Foreign = d
-
--- what a call of the server answered is what the model's did
-pub answer_is : {A B : Type 0} (x x2 : A) (y y2 : B) → ◌≡◌ {A = Option (A × B)} (Some (x, y)) (Some (x2, y2)) → (x ≡ x2) × (y ≡ y2)
-answer_is {A} {B} x x2 y y2 h = let p = some_is (x, y) (x2, y2) h in (ap (λ z. z.0) p, ap (λ z. z.1) p)

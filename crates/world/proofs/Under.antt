@@ -1,8 +1,8 @@
 -- What stands under a token in a part of a ledger, and where.
-use Rattle.std.proofs.Common.{◌≡◌, ◌≤◌, sym, ◌∙◌, ap, ℕ, Some, None, List, [], ◌∷◌, ◌++◌, length, append_assoc, subst, arith}
+use Rattle.std.proofs.Common.{◌≡◌, ◌≤◌, sym, ◌∙◌, ap, ℕ, Some, None, List, [], ◌∷◌, ◌++◌, length, append_assoc, arith}
 use Rattle.std.proofs.lemmas.Option.{slice_get_within}
-use Rattle.engine.proofs.Once.{Has, found_at, once_after, under-append}
-use Rattle.engine.specs.Tokens.{Free, There, TokensOnce, added_by, found_in, under_token}
+use Rattle.engine.proofs.Once.{Has, found_at, under-append}
+use Rattle.engine.specs.Tokens.{There, found_in, under_token}
 use Rattle.engine.specs.Views.{EntryView, Token, WriteView}
 
 -- in a front or in what is behind it
@@ -18,7 +18,3 @@ has_right t xs ys w h =
 pub place_within : (token : Token) (w : List WriteView) (es : List EntryView) (n : ℕ) → found_in token w es ≡ There n → n ≤ length es
 place_within None w es n h = cc
 place_within (Some t) w es n h = let r = found_at t w es n h in let l = slice_get_within es r.0 r.1 r.3 in omega (arith, r.2, l)
-
--- what is added was free, so tokens stand once after it
-pub once_added : (es : List EntryView) (e : EntryView) → TokensOnce es → found_in e.token e.writes es ≡ Free → TokensOnce (es ++ e ∷ [])
-once_added es e once h = subst (λ f. TokensOnce (es ++ added_by e f)) h (once_after es e once)

@@ -54,15 +54,12 @@ written_by : (x : Result (List ℕ) MsgFault) → writing_fault_by x ≡ None �
 written_by (Ok b) h = (b, refl)
 written_by (Err e) h = cc
 
-accepted_text : (r : Reading) (lost : Bool) (sent : List RequestView) (q : RequestView) (v : Version) → refusal_of r lost sent q ≡ None → r.version ≡ Some v → (b : List ℕ) × (request_spelling v q ≡ Ok b)
-accepted_text r lost sent q v h e = written_by (request_spelling v q) (ap (writing_fault q) (sym e) ∙ accepted_written (knows_of r sent lost) q h)
-
 -- A request that is made of texts, numbers and cells and that the client accepts has a text that stands for it.
 made_written : (wish : Wish) (k : Connection) (q : RequestView) → ((client k).version ≡ None) ⊎ ((client k).version ≡ Some (wish_version wish)) → IsRequest (wish_version wish) q → refusal_of (client k) k.client_lost k.sent q ≡ None
     → IsWritten (wish_version wish) q
 made_written wish k q knows ready none =
     let version = ⊎_elim (λ e. absurd ((accepting (client k) k.client_lost k.sent q none).2 e)) (λ e. e) knows in
-    let text = accepted_text (client k) k.client_lost k.sent q (wish_version wish) none version in
+    let text = written_by (request_spelling (wish_version wish) q) (ap (writing_fault q) (sym version) ∙ accepted_written (knows_of (client k) k.sent k.client_lost) q none) in
     (text.0, text.1, (request_reads_back (wish_version wish) q text.0 ready text.1).0)
 
 both : (v : Version) (ms : List RequestView) (q : RequestView) → AreWritten v ms → IsWritten v q → AreWritten v (ms ++ q ∷ [])

@@ -3,13 +3,16 @@ use Rattle.std.proofs.lemmas.List.{length-map}
 use Rattle.world.specs.Reports.{ordinals}
 use Rattle.world.specs.Views.{wrote_of, read_of}
 use Rattle.world.specs.Turns.{FitsWorld}
-use Rattle.world.proofs.Told.{not_opened, held, there, stands_as, waits_as}
+use Rattle.world.proofs.Told.{held, there, stands_as, waits_as}
+use Rattle.world.proofs.Alongside.{along_none}
+use Rattle.world.proofs.Placed.{held_past}
+use Rattle.world.specs.Fits.{FitsLink}
 use Rattle.world.proofs.world.World.connection.Goals as goal
 
 pub returns-then-conn-len : goal.returns-then-conn-len
 unfolding FitsWorld
 returns-then-conn-len g c = λ gate brought w reached f.
-    not_opened g.E.Engine.entries g.E.Engine.answer g.G.Gate.accepts c.args.self.now gate w f brought reached c.args.conn (omega (arith, c.if-conn-len.true, c.len.ensures, c.args.self.now.links.ok.0))
+    along_none FitsLink f.rest.links w.conns c.args.conn f.fits.links (held_past c.args.self.now.links.items f.rest.links c.args.conn f.links (omega (arith, c.if-conn-len.true, c.len.ensures, c.args.self.now.links.ok.0)))
 
 pub returns : goal.returns
 unfolding FitsWorld

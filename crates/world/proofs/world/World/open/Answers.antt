@@ -1,13 +1,14 @@
 use Rattle.std.proofs.Common.{sym, ◌∙◌, ap, refl, ◌++◌, ◌∷◌, []}
-use Rattle.world.specs.Turns.{FitsWorld}
+use Rattle.world.specs.Turns.{FitsWorld, setting_of}
 use Rattle.world.specs.Views.{peer_of}
-use Rattle.world.proofs.Placed.{open_refused, opens_full, opens_lacks, opens_done}
+use Rattle.world.proofs.Placed.{open_refused, opens_lacks, opens_done}
+use Rattle.world.proofs.Answering.{opens_not}
 use Rattle.world.proofs.world.World.open.Goals as goal
 
 pub returns-then-is_full : goal.returns-then-is_full
 unfolding FitsWorld
 returns-then-is_full g c = λ gate brought w reached f.
-    opens_full g.E.Engine.entries g.E.Engine.answer g.G.Gate.accepts c.args.self.now gate w f brought reached (peer_of c.args.peer) (sym (c.is_full.ensures f.rest.server f.server) ∙ c.if-is_full.true)
+    (opens_not _ (setting_of g.E.Engine.answer g.G.Gate.accepts gate) f.rest w f.fits (peer_of c.args.peer) (sym (c.is_full.ensures f.rest.server f.server) ∙ c.if-is_full.true), f)
 
 pub returns-in_default : goal.returns-in_default
 unfolding FitsWorld
