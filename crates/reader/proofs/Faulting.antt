@@ -13,7 +13,7 @@ use Rattle.packstream.specs.declared.marker.Marker.TheVariants as announces
 use Rattle.packstream.specs.Markers.{marker, size_len}
 use Rattle.packstream.specs.Good.{is_among}
 use Rattle.packstream.specs.Faults.{Place, is_text, nests, needs, text_in, is_repeated, fault_of, fault_at}
-use Rattle.reader.specs.Items.{field, body, size_with, head_bytes, part_head}
+use Rattle.reader.specs.Heads.{field, body, size_with, head_bytes, part_head}
 use Rattle.reader.specs.Frames.{head_fault}
 use Rattle.reader.specs.declared.progress.Part.{Part}
 use Rattle.reader.specs.declared.progress.Part.TheVariants as part

@@ -14,7 +14,7 @@ use Rattle.packstream.specs.Spelling.{IsNumber, IsSize}
 use Rattle.packstream.specs.Faults.{needs, text_in}
 use Rattle.packstream.proofs.Shortest.{number_of}
 use Rattle.std.specs.Int.{byte_at}
-use Rattle.reader.specs.Items.{field, size_with, body, number_from}
+use Rattle.reader.specs.Heads.{field, size_with, body, number_from}
 
 -- ---- a byte more behind a number
 

@@ -8,7 +8,7 @@ use Rattle.packstream.specs.declared.fault.Reason.TheVariants as reason
 use Rattle.packstream.specs.Tree.{Tree}
 use Rattle.packstream.specs.Good.{IsGood}
 use Rattle.packstream.specs.Plain.{AreBytes}
-use Rattle.packstream.specs.Spelling.{Spells, SpellsTree}
+use Rattle.packstream.specs.Spelling.{Spells}
 use Rattle.packstream.specs.Answers.{whole_of}
 use Rattle.packstream.specs.Faults.{Bad}
 use Rattle.packstream.proofs.Bounds.{good_spelled}
@@ -21,45 +21,40 @@ use Rattle.reader.specs.declared.progress.Mark.{Mark}
 use Rattle.reader.specs.declared.progress.Standing.{Standing}
 use Rattle.reader.specs.declared.stop.Stop.TheVariants as stop
 use Rattle.reader.specs.Frames.{Frame, AreLevels}
-use Rattle.reader.specs.Items.{bytes_of_items, part_head, bodies, AreItems}
+use Rattle.reader.specs.Heads.{part_head}
 use Rattle.reader.specs.Naming.{ArePlaced}
 use Rattle.reader.specs.Piecewise.{Point, Points, IsBeginning, Takes, MayGoOn}
-use Rattle.reader.specs.Holding.{Holds, bytes_of, point, mark_of, at_mark, with_fault, points_at, IsKeptAt, Goes, IsLacking, IsDone, IsStanding, IsKeeping, HasGrown, IsKept, IsMark, HoldsOn, IsFaultOf}
+use Rattle.reader.specs.Holding.{Holds, point, mark_of, at_mark, with_fault, points_at, IsKeptAt, Goes, IsLacking, IsDone, IsStanding, IsKeeping, HasGrown, IsKept, IsMark, HoldsOn, IsFaultOf}
 use Rattle.reader.proofs.Opening.{bad_behind}
 use Rattle.reader.proofs.Faulting.{part_is_short}
-use Rattle.reader.proofs.Standing.{bytes_behind}
 
-pub cut_cut : (m k : Mark) (h : Holds) → m.items ≤ k.items → m.store ≤ k.store → m.keys ≤ k.keys → at_mark m (at_mark k h) ≡ at_mark m h
-cut_cut m k h a b c = rw (take-take m.items k.items h.items a, take-take m.store k.store h.store b, take-take m.keys k.keys h.names c) refl
+pub cut_cut : (m k : Mark) (h : Holds) → m.store ≤ k.store → m.keys ≤ k.keys → at_mark m (at_mark k h) ≡ at_mark m h
+cut_cut m k h a b = rw (take-take m.store k.store h.store a, take-take m.keys k.keys h.names b) refl
 
 -- what has grown is cut back
 pub cut_grown : (old new : Holds) → HasGrown old new → at_mark (mark_of old) new ≡ old
 cut_grown old new g =
-    let a = ap (take (length old.items)) g.items.1 ∙ take_at old.items g.items.0 (length old.items) refl in
     let b = ap (take (length old.store)) g.store.1 ∙ take_at old.store g.store.0 (length old.store) refl in
     let c = ap (take (length old.names)) g.names.1 ∙ take_at old.names g.names.0 (length old.names) refl in
-    rw (a, b, c) refl
+    rw (b, c) refl
 
 no_names_placed : ArePlaced [] 0
 no_names_placed = λ i n e. absurd cc
 
 -- where nothing was read, a value may begin
-pub keeps_start : (h : Holds) → h.items ≡ [] → h.store ≡ [] → h.names ≡ [] → h.standing.read ≡ 0 → h.standing.«open».is_whole ≡ false → h.standing.«open».depth ≡ 0 → h.standing.part ≡ part.Nothing → IsKeeping h
-keeps_start h items store names read unread depth none =
-    let bytes : bytes_of h ≡ [] = rw (none, items, store) refl in
+pub keeps_start : (h : Holds) → h.store ≡ [] → h.names ≡ [] → h.standing.read ≡ 0 → h.standing.«open».is_whole ≡ false → h.standing.«open».depth ≡ 0 → h.standing.part ≡ part.Nothing → IsKeeping h
+keeps_start h store names read unread depth none =
     record {
-      bytes = subst (λ (x : List ℕ). AreBytes x) (sym bytes) tt;
+      bytes = subst (λ (x : List ℕ). AreBytes x) (sym store) tt;
       stands = inr (
         record {
           frames = [];
           full = [];
           tail = [];
           unread = unread;
-          store = store;
-          sized = sym (ap bodies items);
-          fit = subst AreItems (sym items) tt;
-          are = rw items refl;
-          read = rw (items, read) refl;
+          store = rw (none, store) refl;
+          are = refl;
+          read = read;
           levels = depth;
           named = tt;
           placed = rw (names, store) no_names_placed;
@@ -74,38 +69,36 @@ begins_itself b = ([], sym (append-nil b))
 
 pub kept_back : (h : Holds) (m : Mark) → IsKept h m → IsKept (at_mark m h) m
 kept_back h m kept =
-    let again : at_mark m (at_mark m h) ≡ at_mark m h = cut_cut m m h (omega arith) (omega arith) (omega arith) in
+    let again : at_mark m (at_mark m h) ≡ at_mark m h = cut_cut m m h (omega arith) (omega arith) in
     record {
-      items = omega (arith, length-take-le m.items h.items kept.items);
       store = omega (arith, length-take-le m.store h.store kept.store);
       names = omega (arith, length-take-le m.keys h.names kept.names);
       here = kept.behind;
       behind = subst IsKeeping (sym again) kept.behind;
-      held = subst (λ (x : Holds). IsBeginning (bytes_of x) (bytes_of (at_mark m h))) (sym again) (begins_itself (bytes_of (at_mark m h)));
+      held = subst (λ (x : Holds). IsBeginning (x.store) ((at_mark m h).store)) (sym again) (begins_itself ((at_mark m h).store));
     }
 
 -- a cut at the held point undoes no growth since
-cut_on : (old new : Holds) (m : Mark) → HasGrown old new → m.items ≤ length old.items → m.store ≤ length old.store → m.keys ≤ length old.names → at_mark m new ≡ at_mark m old
-cut_on old new m g a b c = sym (cut_cut m (mark_of old) new a b c) ∙ ap (at_mark m) (cut_grown old new g)
+cut_on : (old new : Holds) (m : Mark) → HasGrown old new → m.store ≤ length old.store → m.keys ≤ length old.names → at_mark m new ≡ at_mark m old
+cut_on old new m g a b = sym (cut_cut m (mark_of old) new a b) ∙ ap (at_mark m) (cut_grown old new g)
 
 -- a piece that was taken leaves the held point
-pub kept_on : (old new : Holds) (m : Mark) (piece : List ℕ) → IsKept old m → HasGrown old new → IsKeeping new → bytes_of new ≡ bytes_of old ++ piece → IsKept new m
+pub kept_on : (old new : Holds) (m : Mark) (piece : List ℕ) → IsKept old m → HasGrown old new → IsKeeping new → new.store ≡ old.store ++ piece → IsKept new m
 kept_on old new m piece kept grown keeps bytes =
-    let same = cut_on old new m grown kept.items kept.store kept.names in
+    let same = cut_on old new m grown kept.store kept.names in
     record {
-      items = omega (arith, kept.items, ap length grown.items.1, length-append old.items grown.items.0);
       store = omega (arith, kept.store, ap length grown.store.1, length-append old.store grown.store.0);
       names = omega (arith, kept.names, ap length grown.names.1, length-append old.names grown.names.0);
       here = keeps;
       behind = subst IsKeeping (sym same) kept.behind;
       held = (
         kept.held.0 ++ piece,
-        bytes ∙ ap (λ (b : List ℕ). b ++ piece) kept.held.1 ∙ append_assoc (bytes_of (at_mark m old)) kept.held.0 piece ∙ ap (λ (x : Holds). bytes_of x ++ (kept.held.0 ++ piece)) (sym same),
+        bytes ∙ ap (λ (b : List ℕ). b ++ piece) kept.held.1 ∙ append_assoc (at_mark m old).store kept.held.0 piece ∙ ap (λ (x : Holds). x.store ++ (kept.held.0 ++ piece)) (sym same),
       );
     }
 
 pub held_on : (old new : Holds) (m : Mark) → IsKept old m → HasGrown old new → point (at_mark m new) ≡ point (at_mark m old)
-held_on old new m kept grown = ap point (cut_on old new m grown kept.items kept.store kept.names)
+held_on old new m kept grown = ap point (cut_on old new m grown kept.store kept.names)
 
 -- ---- a point that is held here, or at a mark
 
@@ -114,7 +107,7 @@ keeps_at true h m keeps = keeps
 keeps_at false h m kept = kept.here
 
 -- what was taken leaves it
-pub kept_within : (still : Bool) (old new : Holds) (m : Mark) (piece : List ℕ) → IsKeptAt still old m → HasGrown old new → IsKeeping new → bytes_of new ≡ bytes_of old ++ piece → IsKeptAt still new m
+pub kept_within : (still : Bool) (old new : Holds) (m : Mark) (piece : List ℕ) → IsKeptAt still old m → HasGrown old new → IsKeeping new → new.store ≡ old.store ++ piece → IsKeptAt still new m
 kept_within true old new m piece kept grown keeps bytes = keeps
 kept_within false old new m piece kept grown keeps bytes = kept_on old new m piece kept grown keeps bytes
 
@@ -123,7 +116,7 @@ here_at true h m = refl
 here_at false h m = refl
 
 pub begins_at : (still : Bool) (h : Holds) (m : Mark) → IsKeptAt still h m → IsBeginning (points_at still h m).held.bytes (points_at still h m).here.bytes
-begins_at true h m keeps = begins_itself (bytes_of h)
+begins_at true h m keeps = begins_itself h.store
 begins_at false h m kept = kept.held
 
 -- the way back to a mark
@@ -141,65 +134,38 @@ one_reason : (b : List ℕ) (r q : Reason) (o p : ℕ) → whole_of b ≡ Err (r
 one_reason b r q o p e f = (err_parts {A = Tree} r q o p (sym e ∙ f)).0
 
 -- bytes are missing behind what is open
-goes_short : (h : Holds) → (g : Goes h h.standing.part) → IsLacking h.standing.part → Bad (bytes_of h) h.standing.read reason.Short
+goes_short : (h : Holds) → (g : Goes h h.standing.part) → IsLacking h.standing.part → Bad h.store h.standing.read reason.Short
 goes_short h g lacks =
-    subst (λ (n : ℕ). Bad (bytes_of h) n reason.Short) (sym g.read)
-    (subst (λ (b : List ℕ). Bad b (length (bytes_of_items h.items [] g.full)) reason.Short) (sym (bytes_behind h h.standing.part g))
-    (bad_behind g.frames (bytes_of_items h.items [] g.full) (part_head h.standing.part ++ g.tail) reason.Short g.are (part_is_short _ h.standing.part g.tail g.isa lacks)))
+    subst (λ (n : ℕ). Bad h.store n reason.Short) (sym g.read)
+    (subst (λ (b : List ℕ). Bad b (length g.full) reason.Short) (sym g.store)
+    (bad_behind g.frames g.full (part_head h.standing.part ++ g.tail) reason.Short g.are (part_is_short _ h.standing.part g.tail g.isa lacks)))
 
-done_bytes : (h : Holds) → (d : IsDone h) → bytes_of h ≡ bytes_of_items h.items [] h.store
-done_bytes h d = ap (λ (p : Part). bytes_of_items h.items (part_head p) h.store) d.none
-
-done_tree : (h : Holds) → (d : IsDone h) → AreBytes (bytes_of h) → IsGood d.tree × Spells d.tree (bytes_of h)
-done_tree h d bytes = good_spelled d.tree (bytes_of h) bytes d.deep d.sound (subst (λ (b : List ℕ). SpellsTree d.tree b) (sym (done_bytes h d)) d.spells)
+done_tree : (h : Holds) → (d : IsDone h) → AreBytes h.store → IsGood d.tree × Spells d.tree h.store
+done_tree h d bytes = good_spelled d.tree h.store bytes d.deep d.sound d.spells
 
 -- bytes that stand so have no fault but missing bytes
-pub may_go_on : (h : Holds) → IsKeeping h → MayGoOn (bytes_of h)
+pub may_go_on : (h : Holds) → IsKeeping h → MayGoOn h.store
 may_go_on h keeps = λ r o bad.
     elim (keeps.stands) as (λ _. r ≡ reason.Short) [
-      | inl d ↦ (let t = done_tree h d keeps.bytes in absurd (whole_not_bad (bytes_of h) d.tree r o ((whole_value (bytes_of h) keeps.bytes d.tree).1 t) ((whole_fault (bytes_of h) keeps.bytes r o).1 bad)))
-      | inr u ↦ one_reason (bytes_of h) r reason.Short o h.standing.read ((whole_fault (bytes_of h) keeps.bytes r o).1 bad) ((whole_fault (bytes_of h) keeps.bytes reason.Short h.standing.read).1 (goes_short h u.0 u.1))
+      | inl d ↦ (let t = done_tree h d keeps.bytes in absurd (whole_not_bad h.store d.tree r o ((whole_value h.store keeps.bytes d.tree).1 t) ((whole_fault h.store keeps.bytes r o).1 bad)))
+      | inr u ↦ one_reason h.store r reason.Short o h.standing.read ((whole_fault h.store keeps.bytes r o).1 bad) ((whole_fault h.store keeps.bytes reason.Short h.standing.read).1 (goes_short h u.0 u.1))
     ]
-
--- where the value is whole, its items spell it
-pub done_of : (h : Holds) → IsKeeping h → h.standing.«open».is_whole ≡ true → IsDone h
-done_of h keeps ended = elim (keeps.stands) as (λ _. IsDone h) [
-  | inl d ↦ d
-  | inr u ↦ absurd (true≢false (sym ended ∙ (u.0).unread))
-]
-
-pub built_from : (h : Holds) → IsKeeping h → (d : IsDone h) → (t : Tree) × (whole_of (bytes_of_items h.items [] h.store) ≡ Ok t)
-built_from h keeps d = (d.tree, ap whole_of (sym (done_bytes h d)) ∙ (whole_value (bytes_of h) keeps.bytes d.tree).1 (done_tree h d keeps.bytes))
-
--- what the items spell is what the bytes do
-pub built_tree : (h : Holds) (t : Tree) → (d : IsDone h) → whole_of (bytes_of_items h.items [] h.store) ≡ Ok t → whole_of (bytes_of h) ≡ Ok t
-built_tree h t d e = ap whole_of (done_bytes h d) ∙ e
-
-pub good_tree : (h : Holds) (t : Tree) → IsKeeping h → whole_of (bytes_of h) ≡ Ok t → IsGood t
-good_tree h t keeps e = ((whole_value (bytes_of h) keeps.bytes t).0 e).0
-
--- where it isn't, the place is that of the part
-pub short_place : (h : Holds) → IsKeeping h → h.standing.«open».is_whole ≡ false → whole_of (bytes_of h) ≡ Err (reason.Short, h.standing.read)
-short_place h keeps unread = elim (keeps.stands) as (λ _. whole_of (bytes_of h) ≡ Err (reason.Short, h.standing.read)) [
-  | inl d ↦ absurd (true≢false (sym d.whole ∙ unread))
-  | inr u ↦ (whole_fault (bytes_of h) keeps.bytes reason.Short h.standing.read).1 (goes_short h u.0 u.1)
-]
 
 -- ---- a piece
 
-pub keeps_on : (old new : Holds) (piece : List ℕ) → IsKeeping old → AreBytes piece → IsStanding new → bytes_of new ≡ bytes_of old ++ piece → IsKeeping new
+pub keeps_on : (old new : Holds) (piece : List ℕ) → IsKeeping old → AreBytes piece → IsStanding new → new.store ≡ old.store ++ piece → IsKeeping new
 keeps_on old new piece keeps are stands bytes = record {
-  bytes = subst AreBytes (sym bytes) (both_bytes (bytes_of old) piece keeps.bytes are);
+  bytes = subst AreBytes (sym bytes) (both_bytes old.store piece keeps.bytes are);
   stands = stands;
 }
 
 -- a piece that is joined
-pub joins : (old new : Holds) (before : Point) (piece : List ℕ) → point old ≡ before → IsKeeping new → old.standing.bad ≡ None → bytes_of new ≡ bytes_of old ++ piece → new.standing.bad ≡ None → Takes before piece (point new)
+pub joins : (old new : Holds) (before : Point) (piece : List ℕ) → point old ≡ before → IsKeeping new → old.standing.bad ≡ None → new.store ≡ old.store ++ piece → new.standing.bad ≡ None → Takes before piece (point new)
 joins old new before piece is keeps good bytes still =
     subst (λ (p : Point). Takes p piece (point new)) is (rw good (inl (record { joined = bytes; good = still; goes_on = may_go_on new keeps })))
 
 -- a piece that ends in a fault is taken back, and the fault is kept
-pub turns : (old new : Holds) (before : Point) (piece : List ℕ) (r : Reason) (o : ℕ) → point old ≡ before → old.standing.bad ≡ None → new ≡ with_fault r o old → Bad (bytes_of old ++ piece) o r × (r ≡ reason.Short → ⊥) → Takes before piece (point new)
+pub turns : (old new : Holds) (before : Point) (piece : List ℕ) (r : Reason) (o : ℕ) → point old ≡ before → old.standing.bad ≡ None → new ≡ with_fault r o old → Bad (old.store ++ piece) o r × (r ≡ reason.Short → ⊥) → Takes before piece (point new)
 turns old new before piece r o is good turn bad =
     subst (λ (p : Point). Takes p piece (point new)) is
     (subst (λ (x : Holds). Takes (point old) piece (point x)) (sym turn)
@@ -207,9 +173,9 @@ turns old new before piece r o is good turn bad =
       why = r;
       place = o;
       told = refl;
-      always = stays (bytes_of old ++ piece) r o bad.0 bad.1;
+      always = stays (old.store ++ piece) r o bad.0 bad.1;
       certain = bad.1;
-      kept = begins_itself (bytes_of old);
+      kept = begins_itself old.store;
     }))))
 
 -- ---- a fault changes neither lists nor places
@@ -221,8 +187,6 @@ turned_goes h r o p g = record {
   tail = g.tail;
   unread = g.unread;
   store = g.store;
-  sized = g.sized;
-  fit = g.fit;
   are = g.are;
   read = g.read;
   levels = g.levels;
@@ -236,8 +200,6 @@ turned_done h r o d = record {
   tree = d.tree;
   whole = d.whole;
   none = d.none;
-  sized = d.sized;
-  fit = d.fit;
   spells = d.spells;
   sound = d.sound;
   deep = d.deep;
@@ -251,7 +213,6 @@ turned_stands h r o (inr u) = inr (turned_goes h r o h.standing.part u.0, u.1)
 
 pub kept_turned : (h : Holds) (m : Mark) (r : Reason) (o : ℕ) → IsKept h m → IsKept (with_fault r o h) m
 kept_turned h m r o kept = record {
-  items = kept.items;
   store = kept.store;
   names = kept.names;
   here = record { bytes = kept.here.bytes; stands = turned_stands h r o kept.here.stands };
@@ -279,8 +240,6 @@ alike_goes h s p like g = record {
   tail = g.tail;
   unread = like.is_whole ∙ g.unread;
   store = g.store;
-  sized = g.sized;
-  fit = g.fit;
   are = g.are;
   read = like.read ∙ g.read;
   levels = like.levels g.frames g.levels;
@@ -294,8 +253,6 @@ alike_done h s like d = record {
   tree = d.tree;
   whole = like.is_whole ∙ d.whole;
   none = like.part ∙ d.none;
-  sized = d.sized;
-  fit = d.fit;
   spells = d.spells;
   sound = d.sound;
   deep = d.deep;
@@ -308,11 +265,11 @@ alike_stands h s like (inl d) = inl (alike_done h s like d)
 alike_stands h s like (inr u) = inr (subst (λ (p : Part). Goes (standing_so h s) p × IsLacking p) (sym like.part) (alike_goes h s h.standing.part like u.0, u.1))
 
 alike_point : (h : Holds) (s : Standing) → IsAlike s h.standing → point (standing_so h s) ≡ point h
-alike_point h s like = rw (like.part, like.bad) refl
+alike_point h s like = rw like.bad refl
 
 alike_keeps : (h : Holds) (s : Standing) → IsAlike s h.standing → IsKeeping h → IsKeeping (standing_so h s)
 alike_keeps h s like keeps = record {
-  bytes = subst AreBytes (sym (ap (λ (p : Point). p.bytes) (alike_point h s like))) keeps.bytes;
+  bytes = keeps.bytes;
   stands = alike_stands h s like keeps.stands;
 }
 
@@ -321,10 +278,9 @@ marked h m is = record { part = is.part; read = is.read; bad = is.bad; is_whole 
 
 at_marked : (h : Holds) (m : Mark) → IsMark h m → at_mark m h ≡ standing_so h m.standing
 at_marked h m is =
-    let a = ap (λ (n : ℕ). take n h.items) is.items ∙ take-length h.items in
     let b = ap (λ (n : ℕ). take n h.store) is.store ∙ take-length h.store in
     let c = ap (λ (n : ℕ). take n h.names) is.names ∙ take-length h.names in
-    rw (a, b, c) refl
+    rw (b, c) refl
 
 marked_keeps : (h : Holds) (m : Mark) → IsMark h m → IsKeeping h → IsKeeping (at_mark m h)
 marked_keeps h m is keeps = subst IsKeeping (sym (at_marked h m is)) (alike_keeps h m.standing (marked h m is) keeps)
@@ -335,17 +291,16 @@ marked_point h m is = ap point (at_marked h m is) ∙ alike_point h m.standing (
 -- the point that is marked is held
 pub kept_marked : (h : Holds) (m : Mark) → IsMark h m → IsKeeping h → IsKept h m
 kept_marked h m is keeps = record {
-  items = omega (arith, is.items);
   store = omega (arith, is.store);
   names = omega (arith, is.names);
   here = keeps;
   behind = marked_keeps h m is keeps;
-  held = subst (λ (p : Point). IsBeginning p.bytes (bytes_of h)) (sym (marked_point h m is)) (begins_itself (bytes_of h));
+  held = subst (λ (p : Point). IsBeginning p.bytes h.store) (sym (marked_point h m is)) (begins_itself h.store);
 }
 
 -- what has grown since is cut back to the mark
 cut_marked : (old new : Holds) (b : Mark) → IsMark old b → HasGrown old new → at_mark b new ≡ at_mark b old
-cut_marked old new b is grown = cut_on old new b grown (omega (arith, is.items)) (omega (arith, is.store)) (omega (arith, is.names))
+cut_marked old new b is grown = cut_on old new b grown (omega (arith, is.store)) (omega (arith, is.names))
 
 pub keeps_cut : (old new : Holds) (b : Mark) → IsMark old b → HasGrown old new → IsKeeping old → IsKeeping (at_mark b new)
 keeps_cut old new b is grown keeps = subst IsKeeping (sym (cut_marked old new b is grown)) (marked_keeps old b is keeps)
@@ -354,22 +309,21 @@ pub point_cut : (old new : Holds) (b : Mark) → IsMark old b → HasGrown old n
 point_cut old new b is grown = ap point (cut_marked old new b is grown) ∙ marked_point old b is
 
 -- a piece that was taken leaves each held point
-pub on_taken : (old new : Holds) (piece : List ℕ) → HasGrown old new → IsKeeping new → bytes_of new ≡ bytes_of old ++ piece → HoldsOn old new
+pub on_taken : (old new : Holds) (piece : List ℕ) → HasGrown old new → IsKeeping new → new.store ≡ old.store ++ piece → HoldsOn old new
 on_taken old new piece grown now bytes = λ m kept. (kept_on old new m piece kept grown now bytes, held_on old new m kept grown)
 
 -- a way back to where it stood does so too
 on_marked : (old : Holds) (b : Mark) → IsMark old b → HoldsOn old (at_mark b old)
 on_marked old b is = λ m kept.
-    (let same : at_mark m (at_mark b old) ≡ at_mark m old = cut_cut m b old (omega (arith, kept.items, is.items)) (omega (arith, kept.store, is.store)) (omega (arith, kept.names, is.names)) in
+    (let same : at_mark m (at_mark b old) ≡ at_mark m old = cut_cut m b old (omega (arith, kept.store, is.store)) (omega (arith, kept.names, is.names)) in
     let now = at_marked old b is in (
       record {
-        items = subst (λ (x : Holds). m.items ≤ length x.items) (sym now) kept.items;
         store = subst (λ (x : Holds). m.store ≤ length x.store) (sym now) kept.store;
         names = subst (λ (x : Holds). m.keys ≤ length x.names) (sym now) kept.names;
         here = marked_keeps old b is kept.here;
         behind = subst IsKeeping (sym same) kept.behind;
-        held = subst (λ (x : Holds). IsBeginning (bytes_of x) (bytes_of (at_mark b old))) (sym same)
-            (subst (λ (p : Point). IsBeginning (bytes_of (at_mark m old)) p.bytes) (sym (marked_point old b is)) kept.held);
+        held = subst (λ (x : Holds). IsBeginning (x.store) ((at_mark b old).store)) (sym same)
+            (subst (λ (p : Point). IsBeginning ((at_mark m old).store) p.bytes) (sym (marked_point old b is)) kept.held);
       },
       ap point same,
     ))
@@ -384,7 +338,7 @@ on_bad old new bad b r o is grown e = subst (λ (x : Holds). HoldsOn old x) (sym
 
 -- a piece in which a fault is makes it bad where it stood
 pub turns_back : (old new bad : Holds) (b : Mark) (piece : List ℕ) (r : Reason) (o : ℕ) → IsMark old b → HasGrown old new → old.standing.bad ≡ None
-    → bad ≡ with_fault r o (at_mark b new) → IsFaultOf (stop.Fault r o) (bytes_of old ++ piece) → Takes (point old) piece (point bad)
+    → bad ≡ with_fault r o (at_mark b new) → IsFaultOf (stop.Fault r o) (old.store ++ piece) → Takes (point old) piece (point bad)
 turns_back old new bad b piece r o is grown good e fault =
     let same = point_cut old new b is grown in
     turns (at_mark b new) bad (point old) piece r o same (ap (λ (p : Point). p.bad) same ∙ good) e

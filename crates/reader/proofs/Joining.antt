@@ -1,6 +1,6 @@
 -- A number read byte after byte.
 use Rattle.std.proofs.Common.{◌≡◌, ◌≤◌, ◌<◌, ◌+◌, ◌*◌, ℕ, List, [], ◌∷◌, length, drop, get_or, refl, arith, add-one, drop-cons}
-use Rattle.reader.specs.Items.{number_from}
+use Rattle.reader.specs.Heads.{number_from}
 
 pub joined_least : (n : ℕ) (bs : List ℕ) → n ≤ number_from n bs
 joined_least n [] = omega arith

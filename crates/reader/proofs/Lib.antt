@@ -2,7 +2,6 @@ pub mod Joining
 pub mod Treeing
 pub mod Hanging
 pub mod Heads
-pub mod Spelled
 pub mod Opening
 pub mod Pushing
 pub mod Heading
@@ -10,9 +9,7 @@ pub mod Leveling
 pub mod Standing
 pub mod Faulting
 pub mod Values
-pub mod Built
 pub mod Taking
 pub mod Held
-pub mod Builds
 pub mod Pieces
 pub mod Alike

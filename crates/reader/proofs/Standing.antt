@@ -1,5 +1,5 @@
 -- Where an item ends, something is open behind it, or the value is whole.
-use Rattle.std.proofs.Common.{◌≡◌, ◌⊎◌, ◌≤◌, ◌<◌, ◌+◌, ◌-◌, ◌^◌, nat_lt, ℕ, suc, Bool, true, false, ◌||◌, List, [], ◌∷◌, ◌++◌, length, Option, Some, None, refl, sym, ap, subst, ◌∙◌, arith, inl, inr}
+use Rattle.std.proofs.Common.{◌≡◌, ◌⊎◌, ◌≤◌, ◌<◌, ◌-◌, nat_lt, ℕ, suc, Bool, true, false, ◌||◌, List, [], ◌∷◌, ◌++◌, length, Option, Some, None, refl, sym, ap, subst, ◌∙◌, arith, inl, inr}
 use Rattle.std.proofs.lemmas.Bool.{lt-ltb, le-ltb, cases_lt, or_left, or_right, or_cases}
 use Rattle.std.proofs.lemmas.List.{append-nil, length-append}
 use Rattle.std.proofs.lemmas.Option.{slice_get_within}
@@ -7,23 +7,17 @@ use Rattle.std.specs.Str.{bytes_eq}
 use Rattle.std.specs.List.{list_any}
 use Rattle.std.proofs.lemmas.List.Folds.{list_any-append}
 use Rattle.std.proofs.lemmas.Slice.Eq.{bytes_eq-Decides}
-use Rattle.byteorder.specs.Numbers.{length-bytes_high_first}
-use Rattle.packstream.specs.declared.marker.Marker.{Marker}
 use Rattle.packstream.specs.Tree.{Tree, Entries, no_entries, entry_then}
 use Rattle.packstream.specs.Good.{depth, IsSound, is_among}
-use Rattle.packstream.specs.Markers.{marker}
 use Rattle.packstream.specs.Spelling.{SpellsTree}
 use Rattle.packstream.specs.Faults.{Opened, in_list, in_struct, at_key, at_value, keys_of}
 use Rattle.reader.specs.declared.open.Open.{Open}
 use Rattle.reader.specs.declared.open.Level.{Level}
-use Rattle.reader.specs.declared.item.Item.{Item}
-use Rattle.reader.specs.declared.progress.Part.{Part}
 use Rattle.reader.specs.declared.progress.Part.TheVariants as part
-use Rattle.reader.specs.Items.{field, body, bodies, head_bytes, part_head, bytes_of_items, AreItems}
+use Rattle.reader.specs.Heads.{head_bytes}
 use Rattle.reader.specs.Naming.{Name, IsNamed, ArePlaced, IsRoot, text_of}
 use Rattle.reader.specs.Frames.{Frame, place, AreFrames, AreLevels, AreNames, HasNames, IsApart, BeginBefore, BeginsBefore, HaveNames, with_member, tree_so_far, push_entry, Left, whole, still, ends, Stands, IsLeft}
-use Rattle.reader.specs.Holding.{Holds, bytes_with, with_item, Goes, IsStanding, IsValue, HasTaken}
-use Rattle.reader.proofs.Spelled.{spelled_part, spelled_push}
+use Rattle.reader.specs.Holding.{Holds, with_item, Goes, IsStanding, IsValue, HasTaken}
 use Rattle.reader.proofs.Pushing.{ends_stand}
 use Rattle.reader.proofs.Treeing.{get_front, get_last, get_pushed, text_more}
 
@@ -36,17 +30,6 @@ levels_depth (f ∷ fs) n around h = h.counted ∙ ap (λ (x : ℕ). suc x) (lev
 pub few_frames : (fs : List Frame) (b : List ℕ) → AreFrames fs b → length fs ≤ 32
 few_frames [] b h = omega arith
 few_frames (f ∷ fs) b h = omega (arith, h.room)
-
-bodies_push : (is : List Item) (i : Item) → bodies (is ++ i ∷ []) ≡ bodies is + body (marker i.marker) i.number
-bodies_push [] i = omega arith
-bodies_push (j ∷ is) i = let e = bodies_push is i in omega arith
-
-fit_push : (is : List Item) (i : Item) → AreItems is → i.number < 256 ^ field (marker i.marker) → AreItems (is ++ i ∷ [])
-fit_push [] i h lt = (lt, tt)
-fit_push (j ∷ is) i h lt = (h.0, fit_push is i h.1 lt)
-
-pub bytes_behind : (h : Holds) (p : Part) → (g : Goes h p) → bytes_with h p ≡ bytes_of_items h.items [] g.full ++ (part_head p ++ g.tail)
-bytes_behind h p g = ap (λ (s : List ℕ). bytes_of_items h.items (part_head p) s) g.store ∙ spelled_part h.items (part_head p) g.full g.tail g.sized
 
 -- ---- names
 
@@ -213,109 +196,46 @@ root_of names store first (k ∷ keys) h none = let w = (h k).0 (among_head k ke
 
 -- ---- what stands behind an item
 
--- all of an item that isn't among the items yet
-pub record IsReady (h : Holds) (m number : ℕ) : Type 0 where
-  pub full : List ℕ
-  pub tail : List ℕ
-  pub store : h.store ≡ full ++ tail
-  pub sized : length full ≡ bodies h.items
-  pub fit : AreItems h.items
-  pub small : number < 256 ^ field (marker m)
-  pub long : length tail ≡ body (marker m) number
-  pub read : h.standing.read ≡ length (bytes_of_items h.items [] full)
-  pub placed : ArePlaced h.names (length h.store)
-
--- the item that is pushed
-abbrev item : ℕ → ℕ → Item
-item m number = record { marker = m; number = number }
-
 abbrev pub after : Open → Holds → Holds
 after o h = record h { standing = record h.standing { «open» = o } }
 
-abbrev pub ready : (h : Holds) (m number : ℕ) → Goes h (part.Body m number 0) → IsReady h m number
-ready h m number g = record {
-  full = g.full;
-  tail = g.tail;
-  store = g.store;
-  sized = g.sized;
-  fit = g.fit;
-  small = g.isa.small;
-  long = omega (arith, g.isa.long);
-  read = g.read;
-  placed = g.placed;
-}
-
-pushed_bytes : (h : Holds) (m number : ℕ) → (r : IsReady h m number) → bytes_of_items (h.items ++ item m number ∷ []) [] h.store ≡ bytes_of_items h.items [] r.full ++ (head_bytes m number ++ r.tail)
-pushed_bytes h m number r = ap (λ (s : List ℕ). bytes_of_items (h.items ++ item m number ∷ []) [] s) r.store ∙ spelled_push h.items (item m number) r.full r.tail r.sized r.long
-
-pushed_read : (h : Holds) (m number : ℕ) (what : Marker) → marker m ≡ Some what → (r : IsReady h m number)
-    → h.standing.read + (1 + field (Some what)) + body (Some what) number ≡ length (bytes_of_items (h.items ++ item m number ∷ []) [] h.store)
-pushed_read h m number what is r =
-    let f : field (marker m) ≡ field (Some what) = ap field is in
-    let b : body (marker m) number ≡ body (Some what) number = ap (λ (o : Option Marker). body o number) is in
-    let len = ap length (pushed_bytes h m number r) ∙ length-append (bytes_of_items h.items [] r.full) (head_bytes m number ++ r.tail) in
-    omega (arith, len, length-append (head_bytes m number) r.tail, length-bytes_high_first (field (marker m)) number, f, b, r.long, r.read)
-
-all_sized : (h : Holds) (m number : ℕ) → (r : IsReady h m number) → length h.store ≡ bodies (h.items ++ item m number ∷ [])
-all_sized h m number r = omega (arith, ap length r.store, length-append r.full r.tail, r.sized, r.long, bodies_push h.items (item m number))
-
-pub goes_on : (h : Holds) (m number : ℕ) (what : Marker) (o : Open) (gs : List Frame) → marker m ≡ Some what → (r : IsReady h m number) → o.is_whole ≡ false
-    → AreFrames gs (bytes_of_items h.items [] r.full ++ (head_bytes m number ++ r.tail)) → AreLevels gs o.depth o.around → HaveNames gs h.names h.store → IsStanding (after o (with_item what m number h))
-goes_on h m number what o gs is r unread are levels names = inr (
+-- something is open behind it
+pub goes_on : (h : Holds) (o : Open) (gs : List Frame) → o.is_whole ≡ false → AreFrames gs h.store → AreLevels gs o.depth o.around → HaveNames gs h.names h.store → ArePlaced h.names (length h.store) → IsStanding (after o (with_item h))
+goes_on h o gs unread are levels names placed = inr (
   record {
     frames = gs;
     full = h.store;
     tail = [];
     unread = unread;
     store = sym (append-nil h.store);
-    sized = all_sized h m number r;
-    fit = fit_push h.items (item m number) r.fit r.small;
-    are = subst (λ (b : List ℕ). AreFrames gs b) (sym (pushed_bytes h m number r)) are;
-    read = pushed_read h m number what is r;
+    are = are;
+    read = refl;
     levels = levels;
     named = names;
-    placed = r.placed;
+    placed = placed;
     isa = refl;
   },
   tt,
 )
 
-pub is_done : (h : Holds) (m number : ℕ) (what : Marker) (o : Open) (t : Tree) → marker m ≡ Some what → (r : IsReady h m number) → o.is_whole ≡ true
-    → SpellsTree t (bytes_of_items h.items [] r.full ++ (head_bytes m number ++ r.tail)) → IsSound t → depth t ≤ 32 → IsStanding (after o (with_item what m number h))
-is_done h m number what o t is r ended spells sound deep = inl (record {
-  tree = t;
-  whole = ended;
-  none = refl;
-  sized = all_sized h m number r;
-  fit = fit_push h.items (item m number) r.fit r.small;
-  spells = subst (λ (b : List ℕ). SpellsTree t b) (sym (pushed_bytes h m number r)) spells;
-  sound = sound;
-  deep = deep;
-  read = pushed_read h m number what is r;
-  placed = r.placed;
-})
+is_done : (h : Holds) (o : Open) (t : Tree) → o.is_whole ≡ true → SpellsTree t h.store → IsSound t → depth t ≤ 32 → ArePlaced h.names (length h.store) → IsStanding (after o (with_item h))
+is_done h o t ended spells sound deep placed = inl (record { tree = t; whole = ended; none = refl; spells = spells; sound = sound; deep = deep; read = refl; placed = placed })
 
-left_stands : (h : Holds) (m number : ℕ) (what : Marker) (o : Open) (l : Left) → marker m ≡ Some what → (r : IsReady h m number) → Stands l (bytes_of_items h.items [] r.full ++ (head_bytes m number ++ r.tail)) → IsLeft l o
-    → ((gs : List Frame) → l ≡ still gs → HaveNames gs h.names h.store) → IsStanding (after o (with_item what m number h))
-left_stands h m number what o (whole t) is r s i names = is_done h m number what o t is r i s.spells s.sound s.deep
-left_stands h m number what o (still gs) is r s i names = goes_on h m number what o gs is r i.0 s i.1 (names gs refl)
+left_stands : (h : Holds) (o : Open) (l : Left) → Stands l h.store → IsLeft l o → ((gs : List Frame) → l ≡ still gs → HaveNames gs h.names h.store) → ArePlaced h.names (length h.store) → IsStanding (after o (with_item h))
+left_stands h o (whole t) s i names placed = is_done h o t i s.spells s.sound s.deep placed
+left_stands h o (still gs) s i names placed = goes_on h o gs i.0 s i.1 (names gs refl) placed
 
 -- a value without members
-pub value_stands : (h : Holds) (m number : ℕ) (what : Marker) (o : Open) → marker m ≡ Some what → (g : Goes h (part.Body m number 0)) → IsValue h m number
-    → ((fs : List Frame) (t : Tree) → AreLevels fs h.standing.«open».depth h.standing.«open».around → h.standing.«open».is_whole ≡ false → IsLeft (ends fs t) o) → IsStanding (after o (with_item what m number h))
-value_stands h m number what o is g value left =
+pub value_stands : (h : Holds) (m number : ℕ) (o : Open) → (g : Goes h (part.Body m number 0)) → IsValue h m number
+    → ((fs : List Frame) (t : Tree) → AreLevels fs h.standing.«open».depth h.standing.«open».around → h.standing.«open».is_whole ≡ false → IsLeft (ends fs t) o) → IsStanding (after o (with_item h))
+value_stands h m number o g value left =
     let v = value g in
-    left_stands h m number what o (ends g.frames v.tree) is (ready h m number g)
-    (ends_stand g.frames (bytes_of_items h.items [] g.full) v.tree (head_bytes m number ++ g.tail) g.are v.keyless v.spells v.sound v.deep)
+    left_stands h o (ends g.frames v.tree)
+    (subst (λ (b : List ℕ). Stands (ends g.frames v.tree) b) (sym g.store) (ends_stand g.frames g.full v.tree (head_bytes m number ++ g.tail) g.are v.keyless v.spells v.sound v.deep))
     (left g.frames v.tree g.levels g.unread)
-    (λ gs e. names_end g.frames v.tree (bytes_of_items h.items [] g.full) h.names h.store gs g.are v.keyless g.named e)
+    (λ gs e. names_end g.frames v.tree g.full h.names h.store gs g.are v.keyless g.named e)
+    g.placed
 
 -- what was taken with an item that ends
-pub has_taken : (h : Holds) (m number : ℕ) (what : Marker) (o : Open) (rest : List ℕ) → (r : IsReady h m number) → h.standing.bad ≡ None → IsStanding (after o (with_item what m number h))
-    → HasTaken (bytes_with h (part.Body m number 0) ++ rest) (after o (with_item what m number h)) rest
-has_taken h m number what o rest r good stands = record {
-  stands = stands;
-  bytes = ap (λ (b : List ℕ). b ++ rest) (pushed_bytes h m number r ∙ sym (ap (λ (s : List ℕ). bytes_of_items h.items (head_bytes m number) s) r.store ∙ spelled_part h.items (head_bytes m number) r.full r.tail r.sized));
-  ends = inl refl;
-  bad = good;
-}
+pub has_taken : (h : Holds) (o : Open) (rest : List ℕ) → h.standing.bad ≡ None → IsStanding (after o (with_item h)) → HasTaken (h.store ++ rest) (after o (with_item h)) rest
+has_taken h o rest good stands = record { stands = stands; bytes = refl; ends = inl refl; bad = good }

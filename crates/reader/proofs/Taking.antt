@@ -18,17 +18,16 @@ use Rattle.packstream.proofs.Bounds.{good_spelled}
 use Rattle.packstream.proofs.Ranges.{front_bytes}
 use Rattle.reader.specs.declared.progress.Part.{Part}
 use Rattle.reader.specs.declared.progress.Part.TheVariants as part
-use Rattle.reader.specs.Items.{field, body, size_with, number_from, head_bytes, part_head, bytes_of_items}
+use Rattle.reader.specs.Heads.{field, body, size_with, number_from, head_bytes, part_head}
 use Rattle.reader.specs.declared.open.Level.{Level}
 use Rattle.reader.specs.Naming.{Name, IsNamed}
 use Rattle.reader.specs.Frames.{Frame, place, AreLevels, HaveNames, head_fault}
-use Rattle.reader.specs.Holding.{Holds, bytes_with, bytes_of, IsAdmitted, IsLacking, Goes, IsDone, IsStanding, HasTaken}
+use Rattle.reader.specs.Holding.{Holds, IsAdmitted, IsPart, IsLacking, Goes, IsDone, IsStanding, HasTaken}
 use Rattle.reader.proofs.Heads.{joined_bytes, joined_fits}
 use Rattle.reader.proofs.Opening.{bad_behind, heads_are}
 use Rattle.reader.proofs.Faulting.{not_text, twice}
 use Rattle.reader.proofs.Values.{IsKeyFrame}
-use Rattle.reader.proofs.Spelled.{spelled_part}
-use Rattle.reader.proofs.Standing.{levels_depth, bytes_behind, names_more, placed_more}
+use Rattle.reader.proofs.Standing.{levels_depth, names_more, placed_more}
 
 -- with other parts, or more bytes in the store
 abbrev pub parted : Part → Holds → Holds
@@ -37,189 +36,108 @@ parted p h = record h { standing = record h.standing { part = p } }
 abbrev pub stored : List ℕ → Holds → Holds
 stored s h = record h { store = h.store ++ s }
 
--- ---- growth
+-- ---- bytes behind a part
 
--- ---- faults
+grown_head : (b full head s : List ℕ) → b ≡ full ++ (head ++ []) → b ++ s ≡ full ++ ((head ++ s) ++ [])
+grown_head b full head s e = rw (e, append-nil head, append-nil (head ++ s)) (append_assoc full head s)
 
-pub fault_behind : (h : Holds) (p : Part) (rest : List ℕ) (r : Reason) → (g : Goes h p) → fault_at (place g.frames) ((part_head p ++ g.tail) ++ rest) ≡ Some r → (r ≡ reason.Short → ⊥) → Bad (bytes_with h p ++ rest) h.standing.read r × (r ≡ reason.Short → ⊥)
-fault_behind h p rest r g fault other =
-    let all : bytes_with h p ++ rest ≡ bytes_of_items h.items [] g.full ++ ((part_head p ++ g.tail) ++ rest) = ap (λ (b : List ℕ). b ++ rest) (bytes_behind h p g) ∙ append_assoc (bytes_of_items h.items [] g.full) (part_head p ++ g.tail) rest in (
-      subst (λ (n : ℕ). Bad (bytes_with h p ++ rest) n r) (sym g.read)
-          (subst (λ (b : List ℕ). Bad b (length (bytes_of_items h.items [] g.full)) r) (sym all) (bad_behind g.frames (bytes_of_items h.items [] g.full) ((part_head p ++ g.tail) ++ rest) r g.are fault)),
-      other,
-    )
+grown_tail : (b full head tail s : List ℕ) → b ≡ full ++ (head ++ tail) → b ++ s ≡ full ++ (head ++ (tail ++ s))
+grown_tail b full head tail s e = ap (λ (x : List ℕ). x ++ s) e ∙ append_assoc full (head ++ tail) s ∙ ap (λ (x : List ℕ). full ++ x) (append_assoc head tail s)
 
--- ---- a head
+-- what follows the front of a piece that the bytes took
+pub split_behind : (b all s rest c : List ℕ) → c ≡ b ++ s → all ≡ s ++ rest → c ++ rest ≡ b ++ all
+split_behind b all s rest c e f = rw (e, f) (append_assoc b s rest)
 
--- more bytes of the number
-pub head_longer : (h : Holds) (m number has : ℕ) (bytes : List ℕ) → AreBytes bytes → (g : Goes h (part.Head m number has)) → has + length bytes ≤ field (marker m) → Goes h (part.Head m (number_from number bytes) (has + length bytes))
-head_longer h m number has bytes are g le = record {
+-- where the part has more bytes
+behind : (h : Holds) (p q : Part) (s tail : List ℕ) → (g : Goes h p) → h.store ++ s ≡ g.full ++ (part_head q ++ tail) → IsPart (place g.frames) q tail → Goes (stored s h) q
+behind h p q s tail g store isa = record {
   frames = g.frames;
   full = g.full;
-  tail = g.tail;
+  tail = tail;
   unread = g.unread;
-  store = g.store;
-  sized = g.sized;
-  fit = g.fit;
-  are = g.are;
-  read = g.read;
-  levels = g.levels;
-  named = g.named;
-  placed = g.placed;
-  isa = record { bare = g.isa.bare; admitted = g.isa.admitted; few = le; small = joined_fits has number bytes are g.isa.small };
-}
-
-spelled_head : (h : Holds) (p : Part) (last : List ℕ) → (g : Goes h p) → g.tail ≡ [] → bytes_of_items h.items last h.store ≡ bytes_of_items h.items [] g.full ++ last
-spelled_head h p last g none =
-    ap (λ (s : List ℕ). bytes_of_items h.items last s) g.store
-    ∙ spelled_part h.items last g.full g.tail g.sized
-    ∙ ap (λ (t : List ℕ). bytes_of_items h.items [] g.full ++ (last ++ t)) none
-    ∙ ap (λ (b : List ℕ). bytes_of_items h.items [] g.full ++ b) (append-nil last)
-
-pub bytes_longer : (h : Holds) (m number has : ℕ) (bytes : List ℕ) → AreBytes bytes → (g : Goes h (part.Head m number has)) → bytes_with h (part.Head m (number_from number bytes) (has + length bytes)) ≡ bytes_with h (part.Head m number has) ++ bytes
-bytes_longer h m number has bytes are g =
-    let front : List ℕ = bytes_of_items h.items [] g.full in
-    spelled_head h (part.Head m number has) (m ∷ big_bytes (has + length bytes) (number_from number bytes)) g g.isa.bare
-    ∙ ap (λ (x : List ℕ). front ++ (m ∷ x)) (joined_bytes has number bytes are)
-    ∙ sym (append_assoc front (m ∷ big_bytes has number) bytes)
-    ∙ ap (λ (b : List ℕ). b ++ bytes) (sym (spelled_head h (part.Head m number has) (m ∷ big_bytes has number) g g.isa.bare))
-
--- all bytes of the number
-pub head_whole : (h : Holds) (m number has : ℕ) (bytes : List ℕ) → AreBytes bytes → (g : Goes h (part.Head m number has)) → has + length bytes ≡ field (marker m)
-    → Goes h (part.Body m (number_from number bytes) (body (marker m) (number_from number bytes)))
-head_whole h m number has bytes are g e = record {
-  frames = g.frames;
-  full = g.full;
-  tail = g.tail;
-  unread = g.unread;
-  store = g.store;
-  sized = g.sized;
-  fit = g.fit;
-  are = g.are;
-  read = g.read;
-  levels = g.levels;
-  named = g.named;
-  placed = g.placed;
-  isa = record { admitted = g.isa.admitted; small = subst (λ (k : ℕ). number_from number bytes < 256 ^ k) e (joined_fits has number bytes are g.isa.small); long = omega (arith, ap length g.isa.bare) };
-}
-
-pub bytes_whole : (h : Holds) (m number has lacks : ℕ) (bytes : List ℕ) → AreBytes bytes → (g : Goes h (part.Head m number has)) → has + length bytes ≡ field (marker m)
-    → bytes_with h (part.Body m (number_from number bytes) lacks) ≡ bytes_with h (part.Head m number has) ++ bytes
-bytes_whole h m number has lacks bytes are g e =
-    ap (λ (k : ℕ). bytes_of_items h.items (m ∷ big_bytes k (number_from number bytes)) h.store) (sym e) ∙ bytes_longer h m number has bytes are g
-
--- a marker that may stand there
-pub head_starts : (h : Holds) (m : ℕ) → (g : Goes h part.Nothing) → IsAdmitted (place g.frames) m → Goes h (part.Head m 0 0)
-head_starts h m g a = record {
-  frames = g.frames;
-  full = g.full;
-  tail = g.tail;
-  unread = g.unread;
-  store = g.store;
-  sized = g.sized;
-  fit = g.fit;
-  are = g.are;
-  read = g.read;
-  levels = g.levels;
-  named = g.named;
-  placed = g.placed;
-  isa = record { bare = g.isa; admitted = a; few = omega arith; small = omega arith };
-}
-
-pub bytes_start : (h : Holds) (m : ℕ) → (g : Goes h part.Nothing) → bytes_with h (part.Head m 0 0) ≡ bytes_with h part.Nothing ++ m ∷ []
-bytes_start h m g =
-    spelled_head h part.Nothing (m ∷ []) g g.isa ∙ ap (λ (b : List ℕ). b ++ m ∷ []) (sym (append-nil (bytes_of_items h.items [] g.full)) ∙ sym (spelled_head h part.Nothing [] g g.isa))
-
--- ---- a text or a byte string
-
-pub body_longer : (h : Holds) (m number lacks left : ℕ) (s : List ℕ) → (g : Goes h (part.Body m number lacks)) → left + length s ≡ lacks → Goes (stored s h) (part.Body m number left)
-body_longer h m number lacks left s g e = record {
-  frames = g.frames;
-  full = g.full;
-  tail = g.tail ++ s;
-  unread = g.unread;
-  store = ap (λ (x : List ℕ). x ++ s) g.store ∙ append_assoc g.full g.tail s;
-  sized = g.sized;
-  fit = g.fit;
+  store = store;
   are = g.are;
   read = g.read;
   levels = g.levels;
   named = names_more g.frames h.names h.store s g.placed g.named;
   placed = placed_more h.names h.store s g.placed;
-  isa = record { admitted = g.isa.admitted; small = g.isa.small; long = omega (arith, g.isa.long, length-append g.tail s) };
+  isa = isa;
 }
 
-pub bytes_stored : (h : Holds) (m number lacks left : ℕ) (s : List ℕ) → (g : Goes h (part.Body m number lacks)) → bytes_with (stored s h) (part.Body m number left) ≡ bytes_with h (part.Body m number lacks) ++ s
-bytes_stored h m number lacks left s g =
-    let front : List ℕ = bytes_of_items h.items [] g.full in
-    let head : List ℕ = head_bytes m number in
-    ap (λ (x : List ℕ). bytes_of_items h.items head (x ++ s)) g.store
-    ∙ ap (λ (x : List ℕ). bytes_of_items h.items head x) (append_assoc g.full g.tail s)
-    ∙ spelled_part h.items head g.full (g.tail ++ s) g.sized
-    ∙ ap (λ (x : List ℕ). front ++ x) (sym (append_assoc head g.tail s))
-    ∙ sym (append_assoc front (head ++ g.tail) s)
-    ∙ ap (λ (b : List ℕ). b ++ s) (sym (bytes_behind h (part.Body m number lacks) g))
+-- ---- faults
+
+pub fault_behind : (h : Holds) (p : Part) (rest : List ℕ) (r : Reason) → (g : Goes h p) → fault_at (place g.frames) ((part_head p ++ g.tail) ++ rest) ≡ Some r → (r ≡ reason.Short → ⊥) → Bad (h.store ++ rest) h.standing.read r × (r ≡ reason.Short → ⊥)
+fault_behind h p rest r g fault other =
+    let all : h.store ++ rest ≡ g.full ++ ((part_head p ++ g.tail) ++ rest) = ap (λ (b : List ℕ). b ++ rest) g.store ∙ append_assoc g.full (part_head p ++ g.tail) rest in (
+      subst (λ (n : ℕ). Bad (h.store ++ rest) n r) (sym g.read) (subst (λ (b : List ℕ). Bad b (length g.full) r) (sym all) (bad_behind g.frames g.full ((part_head p ++ g.tail) ++ rest) r g.are fault)),
+      other,
+    )
+
+-- ---- a head
+
+head_grown : (h : Holds) (m number has : ℕ) (bytes : List ℕ) → AreBytes bytes → (g : Goes h (part.Head m number has)) → h.store ++ bytes ≡ g.full ++ ((m ∷ big_bytes (has + length bytes) (number_from number bytes)) ++ [])
+head_grown h m number has bytes are g =
+    grown_head h.store g.full (m ∷ big_bytes has number) bytes (g.store ∙ ap (λ (t : List ℕ). g.full ++ ((m ∷ big_bytes has number) ++ t)) g.isa.bare)
+    ∙ ap (λ (x : List ℕ). g.full ++ ((m ∷ x) ++ [])) (sym (joined_bytes has number bytes are))
+
+-- more bytes of the number
+pub head_longer : (h : Holds) (m number has : ℕ) (bytes : List ℕ) → AreBytes bytes → (g : Goes h (part.Head m number has)) → has + length bytes ≤ field (marker m) → Goes (stored bytes h) (part.Head m (number_from number bytes) (has + length bytes))
+head_longer h m number has bytes are g le =
+    behind h (part.Head m number has) (part.Head m (number_from number bytes) (has + length bytes)) bytes [] g (head_grown h m number has bytes are g)
+    (record { bare = refl; admitted = g.isa.admitted; few = le; small = joined_fits has number bytes are g.isa.small })
+
+-- all bytes of the number
+pub head_whole : (h : Holds) (m number has : ℕ) (bytes : List ℕ) → AreBytes bytes → (g : Goes h (part.Head m number has)) → has + length bytes ≡ field (marker m)
+    → Goes (stored bytes h) (part.Body m (number_from number bytes) (body (marker m) (number_from number bytes)))
+head_whole h m number has bytes are g e =
+    behind h (part.Head m number has) (part.Body m (number_from number bytes) (body (marker m) (number_from number bytes))) bytes [] g
+    (head_grown h m number has bytes are g ∙ ap (λ (k : ℕ). g.full ++ ((m ∷ big_bytes k (number_from number bytes)) ++ [])) e)
+    (record { admitted = g.isa.admitted; small = subst (λ (k : ℕ). number_from number bytes < 256 ^ k) e (joined_fits has number bytes are g.isa.small); long = omega arith })
+
+-- a marker that may stand there
+pub head_starts : (h : Holds) (m : ℕ) → (g : Goes h part.Nothing) → IsAdmitted (place g.frames) m → Goes (stored (m ∷ []) h) (part.Head m 0 0)
+head_starts h m g a =
+    behind h part.Nothing (part.Head m 0 0) (m ∷ []) [] g
+    (grown_head h.store g.full [] (m ∷ []) (g.store ∙ ap (λ (t : List ℕ). g.full ++ ([] ++ t)) g.isa))
+    (record { bare = refl; admitted = a; few = omega arith; small = omega arith })
+
+-- ---- a text or a byte string
+
+pub body_longer : (h : Holds) (m number lacks left : ℕ) (s : List ℕ) → (g : Goes h (part.Body m number lacks)) → left + length s ≡ lacks → Goes (stored s h) (part.Body m number left)
+body_longer h m number lacks left s g e =
+    behind h (part.Body m number lacks) (part.Body m number left) s (g.tail ++ s) g (grown_tail h.store g.full (head_bytes m number) g.tail s g.store)
+    (record { admitted = g.isa.admitted; small = g.isa.small; long = omega (arith, g.isa.long, length-append g.tail s) })
 
 -- where the text begins
 pub tail_at : (h : Holds) (m number start : ℕ) (size : Size) → marker m ≡ Some (announces.Text size) → (g : Goes h (part.Body m number 0)) → start + size_with size number ≡ length h.store → drop start h.store ≡ g.tail
 tail_at h m number start size is g e =
     let n : body (marker m) number ≡ size_with size number = ap (λ (o : Option Marker). body o number) is in
-    let at : length g.full ≡ start = omega (arith, e, n, g.isa.long, ap length g.store, length-append g.full g.tail) in
-    ap (λ (s : List ℕ). drop start s) g.store ∙ drop_at g.full g.tail start at
+    let front : List ℕ = g.full ++ head_bytes m number in
+    let all : h.store ≡ front ++ g.tail = g.store ∙ sym (append_assoc g.full (head_bytes m number) g.tail) in
+    let at : length front ≡ start = omega (arith, e, n, g.isa.long, ap length all, length-append front g.tail) in
+    ap (λ (s : List ℕ). drop start s) all ∙ drop_at front g.tail start at
 
 -- ---- a piece that ends in a part
 
 goes_parted : (h : Holds) (p q : Part) → Goes h p → Goes (parted q h) p
-goes_parted h p q g = record {
-  frames = g.frames;
-  full = g.full;
-  tail = g.tail;
-  unread = g.unread;
-  store = g.store;
-  sized = g.sized;
-  fit = g.fit;
-  are = g.are;
-  read = g.read;
-  levels = g.levels;
-  named = g.named;
-  placed = g.placed;
-  isa = g.isa;
-}
+goes_parted h p q g = record { frames = g.frames; full = g.full; tail = g.tail; unread = g.unread; store = g.store; are = g.are; read = g.read; levels = g.levels; named = g.named; placed = g.placed; isa = g.isa }
 
-pub part_taken : (h : Holds) (p : Part) (b : List ℕ) → Goes h p → IsLacking p → bytes_with h p ≡ b → h.standing.bad ≡ None → HasTaken b (parted p h) []
-part_taken h p b g lacks e good = record {
-  stands = inr (goes_parted h p p g, lacks);
-  bytes = append-nil (bytes_with h p) ∙ e;
-  ends = inr refl;
-  bad = good;
-}
+pub part_taken : (h : Holds) (p : Part) → Goes h p → IsLacking p → h.standing.bad ≡ None → HasTaken h.store (parted p h) []
+part_taken h p g lacks good = record { stands = inr (goes_parted h p p g, lacks); bytes = append-nil h.store; ends = inr refl; bad = good }
 
 -- ---- what follows the value
 
-pub trails : (h : Holds) (x : ℕ) (rest : List ℕ) → (d : IsDone h) → AreBytes (bytes_of h) → Bad (bytes_of h ++ x ∷ rest) h.standing.read reason.Trailing × (reason.Trailing ≡ reason.Short → ⊥)
+pub trails : (h : Holds) (x : ℕ) (rest : List ℕ) → (d : IsDone h) → AreBytes h.store → Bad (h.store ++ x ∷ rest) h.standing.read reason.Trailing × (reason.Trailing ≡ reason.Short → ⊥)
 trails h x rest d bytes =
-    let all : bytes_of h ≡ bytes_of_items h.items [] h.store = ap (λ (p : Part). bytes_of_items h.items (part_head p) h.store) d.none in
-    let good = good_spelled d.tree (bytes_of_items h.items [] h.store) (subst AreBytes all bytes) d.deep d.sound d.spells in (
-      inr (
-        refl,
-        record {
-          tree = d.tree;
-          front = bytes_of_items h.items [] h.store;
-          more = x ∷ rest;
-          good = good.0;
-          spelled = good.1;
-          whole = ap (λ (b : List ℕ). b ++ x ∷ rest) all;
-          some = omega arith;
-          place = d.read;
-        },
-      ),
+    let good = good_spelled d.tree h.store bytes d.deep d.sound d.spells in (
+      inr (refl, record { tree = d.tree; front = h.store; more = x ∷ rest; good = good.0; spelled = good.1; whole = refl; some = omega arith; place = d.read }),
       λ (e : reason.Trailing ≡ reason.Short). cc,
     )
 
 -- ---- a text that isn't one, and a key that stands twice
 
 pub text_bad : (h : Holds) (m number : ℕ) (size : Size) (rest : List ℕ) → marker m ≡ Some (announces.Text size) → (g : Goes h (part.Body m number 0)) → is_utf8 g.tail ≡ false
-    → Bad (bytes_with h (part.Body m number 0) ++ rest) h.standing.read reason.Utf8 × (reason.Utf8 ≡ reason.Short → ⊥)
+    → Bad (h.store ++ rest) h.standing.read reason.Utf8 × (reason.Utf8 ≡ reason.Short → ⊥)
 text_bad h m number size rest is g bad =
     let n : length g.tail ≡ size_with size number = omega (arith, g.isa.long) ∙ ap (λ (o : Option Marker). body o number) is in
     let small : number < 256 ^ size_len size = subst (λ (o : Option Marker). number < 256 ^ field o) is g.isa.small in
@@ -229,7 +147,7 @@ text_bad h m number size rest is g bad =
 
 pub key_twice : (h : Holds) (m number start : ℕ) (size : Size) (rest : List ℕ) → marker m ≡ Some (announces.Text size) → (g : Goes h (part.Body m number 0)) → (k : IsKeyFrame g.frames) → drop start h.store ≡ g.tail
     → IsUtf8 g.tail → IsNamed h.names h.store k.first (drop start h.store)
-    → Bad (bytes_with h (part.Body m number 0) ++ rest) h.standing.read reason.KeyTwice × (reason.KeyTwice ≡ reason.Short → ⊥)
+    → Bad (h.store ++ rest) h.standing.read reason.KeyTwice × (reason.KeyTwice ≡ reason.Short → ⊥)
 key_twice h m number start size rest is g k there utf8 named =
     let n : length g.tail ≡ size_with size number = omega (arith, g.isa.long) ∙ ap (λ (o : Option Marker). body o number) is in
     let small : number < 256 ^ size_len size = subst (λ (o : Option Marker). number < 256 ^ field o) is g.isa.small in
@@ -284,24 +202,17 @@ pub part_of : (h : Holds) (p : Part) → IsStanding h → h.standing.part ≡ p 
 part_of h p (inl d) e other = absurd (other (sym e ∙ d.none))
 part_of h p (inr u) e other = subst (λ (q : Part). Goes h q) e u.0
 
-pub head_bad : (h : Holds) (m : ℕ) (rest : List ℕ) (r : Reason) → h.standing.part ≡ part.Nothing → (g : Goes h part.Nothing) → (fault_at (place g.frames) (m ∷ rest) ≡ Some r) × (r ≡ reason.Short → ⊥)
-    → Bad (bytes_of h ++ m ∷ rest) h.standing.read r × (r ≡ reason.Short → ⊥)
-head_bad h m rest r none g f =
-    let fault : fault_at (place g.frames) (g.tail ++ m ∷ rest) ≡ Some r = ap (λ (t : List ℕ). fault_at (place g.frames) (t ++ m ∷ rest)) g.isa ∙ f.0 in
-    subst (λ (p : Part). Bad (bytes_with h p ++ m ∷ rest) h.standing.read r × (r ≡ reason.Short → ⊥)) (sym none) (fault_behind h part.Nothing (m ∷ rest) r g fault f.1)
-
-pub bytes_begin : (h : Holds) (m : ℕ) (rest : List ℕ) → h.standing.part ≡ part.Nothing → (g : Goes h part.Nothing) → bytes_with h (part.Head m 0 0) ++ rest ≡ bytes_of h ++ m ∷ rest
-bytes_begin h m rest none g =
-    ap (λ (b : List ℕ). b ++ rest) (bytes_start h m g) ∙ append_assoc (bytes_with h part.Nothing) (m ∷ []) rest ∙ ap (λ (p : Part). bytes_with h p ++ m ∷ rest) (sym none)
+pub head_bad : (h : Holds) (m : ℕ) (rest : List ℕ) (r : Reason) → (g : Goes h part.Nothing) → (fault_at (place g.frames) (m ∷ rest) ≡ Some r) × (r ≡ reason.Short → ⊥) → Bad (h.store ++ m ∷ rest) h.standing.read r × (r ≡ reason.Short → ⊥)
+head_bad h m rest r g f = fault_behind h part.Nothing (m ∷ rest) r g (ap (λ (t : List ℕ). fault_at (place g.frames) (t ++ m ∷ rest)) g.isa ∙ f.0) f.1
 
 -- ---- a whole piece
 
-pub has_bytes : (b : List ℕ) (new : Holds) (rest : List ℕ) → HasTaken b new rest → AreBytes b → AreBytes (bytes_of new)
-has_bytes b new rest t are = front_bytes (bytes_of new) rest (subst AreBytes (sym t.bytes) are)
+pub has_bytes : (b : List ℕ) (new : Holds) (rest : List ℕ) → HasTaken b new rest → AreBytes b → AreBytes new.store
+has_bytes b new rest t are = front_bytes new.store rest (subst AreBytes (sym t.bytes) are)
 
 -- the text of an item that is all there begins so far before the end
 pub text_starts : (h : Holds) (m number start all len : ℕ) (size : Size) → marker m ≡ Some (announces.Text size) → (g : Goes h (part.Body m number 0)) → all ≡ length h.store → len ≡ size_with size number → start ≡ all - len
     → start + size_with size number ≡ length h.store
 text_starts h m number start all len size is g a l e =
     let n : body (marker m) number ≡ size_with size number = ap (λ (o : Option Marker). body o number) is in
-    omega (arith, n, g.isa.long, ap length g.store, length-append g.full g.tail)
+    omega (arith, n, g.isa.long, ap length g.store, length-append g.full (head_bytes m number ++ g.tail), length-append (head_bytes m number) g.tail)

@@ -19,7 +19,7 @@ use Rattle.packstream.proofs.Shortest.{number_of}
 use Rattle.reader.specs.declared.open.Open.{Open}
 use Rattle.reader.specs.declared.open.Inside.TheVariants as inside
 use Rattle.reader.specs.declared.progress.Part.TheVariants as part
-use Rattle.reader.specs.Items.{field, body, size_with, head_bytes, bytes_of_items}
+use Rattle.reader.specs.Heads.{field, body, size_with, head_bytes}
 use Rattle.reader.specs.Naming.{Name, IsNamed, ArePlaced, IsRoot, text_of}
 use Rattle.reader.specs.Frames.{Frame, waits, next_of, place, AreFrames, AreLevels, AreNames, HaveNames, head_fault}
 use Rattle.reader.specs.Holding.{Holds, with_item, IsAdmitted, Goes, IsStanding, IsValue, IsListOf}
@@ -27,7 +27,7 @@ use Rattle.reader.proofs.Heads.{sized_by}
 use Rattle.reader.proofs.Opening.{heads_are}
 use Rattle.reader.proofs.Heading.{list_opens, dict_opens, struct_opens, list_is_empty, dict_is_empty, struct_is_empty, key_waits}
 use Rattle.reader.proofs.Treeing.{get_pushed}
-use Rattle.reader.proofs.Standing.{levels_depth, few_frames, after, IsReady, ready, goes_on, names_push, key_named, no_names, all_before, root_of}
+use Rattle.reader.proofs.Standing.{levels_depth, few_frames, after, goes_on, names_push, key_named, no_names, all_before, root_of}
 
 -- ---- what a head may be
 
@@ -68,7 +68,7 @@ no_tail [] n e f = refl
 no_tail (x ∷ tail) n e f = absurd (omega (arith, e, f))
 
 few_around : (h : Holds) (m number : ℕ) → (g : Goes h (part.Body m number 0)) → 0 + length g.frames ≤ 32
-few_around h m number g = omega (arith, few_frames g.frames (bytes_of_items h.items [] g.full) g.are)
+few_around h m number g = omega (arith, few_frames g.frames g.full g.are)
 
 -- ---- values without members
 
@@ -194,15 +194,15 @@ dict_value h m number size is e lt =
 
 -- the frames behind a head
 opened : (h : Holds) (m number : ℕ) (what : Marker) (gs : List Frame) → marker m ≡ Some what → body (Some what) number ≡ 0 → (g : Goes h (part.Body m number 0))
-    → AreFrames gs (bytes_of_items h.items [] g.full ++ (m ∷ big_bytes (field (Some what)) number)) → AreFrames gs (bytes_of_items h.items [] g.full ++ (head_bytes m number ++ g.tail))
+    → AreFrames gs (g.full ++ (m ∷ big_bytes (field (Some what)) number)) → AreFrames gs h.store
 opened h m number what gs is none g are =
     let tail : g.tail ≡ [] = no_tail g.tail (body (marker m) number) g.isa.long (ap (λ (o : Option Marker). body o number) is ∙ none) in
     let all : m ∷ big_bytes (field (Some what)) number ≡ head_bytes m number ++ g.tail = sym (head_is m number what is) ∙ sym (append-nil (head_bytes m number)) ∙ ap (λ (x : List ℕ). head_bytes m number ++ x) (sym tail) in
-    subst (λ (b : List ℕ). AreFrames gs (bytes_of_items h.items [] g.full ++ b)) all are
+    subst (λ (b : List ℕ). AreFrames gs b) (sym g.store) (subst (λ (b : List ℕ). AreFrames gs (g.full ++ b)) all are)
 
 pub list_stands : (h : Holds) (m number count : ℕ) (what : Marker) (o : Open) → marker m ≡ Some what → IsListOf what number count → (count ≡ 0 → ⊥) → (g : Goes h (part.Body m number 0))
     → ((fs : List Frame) (f : Opened) → AreLevels fs h.standing.«open».depth h.standing.«open».around → next_of f ≡ inside.Member → AreLevels (waits f count 0 ∷ fs) o.depth o.around) → o.is_whole ≡ h.standing.«open».is_whole
-    → IsStanding (after o (with_item what m number h))
+    → IsStanding (after o (with_item h))
 list_stands h m number count announces.Null o is l some g levels whole = absurd l
 list_stands h m number count (announces.Bool b) o is l some g levels whole = absurd l
 list_stands h m number count (announces.Tiny z) o is l some g levels whole = absurd l
@@ -214,31 +214,31 @@ list_stands h m number count (announces.List size) o is l some g levels whole =
     let what : Marker = announces.List size in
     let none = no_key_at (place g.frames) what refl (head_ok (place g.frames) m what is g.isa.admitted) in
     let field_is = sized_by size number count (small_by m number what is g.isa.small) l in
-    let are = list_opens size count 0 (big_bytes (size_len size) number) g.frames (bytes_of_items h.items [] g.full) (m ∷ big_bytes (size_len size) number) g.are none (room h m number what is refl refl g) (omega arith) field_is (m, is, refl) in
-    goes_on h m number what o (waits (in_list no_trees) count 0 ∷ g.frames) is (ready h m number g) (whole ∙ g.unread)
-    (opened h m number what (waits (in_list no_trees) count 0 ∷ g.frames) is refl g are) (levels g.frames (in_list no_trees) g.levels refl) ((tt, tt), g.named)
+    let are = list_opens size count 0 (big_bytes (size_len size) number) g.frames g.full (m ∷ big_bytes (size_len size) number) g.are none (room h m number what is refl refl g) (omega arith) field_is (m, is, refl) in
+    goes_on h o (waits (in_list no_trees) count 0 ∷ g.frames) (whole ∙ g.unread)
+    (opened h m number what (waits (in_list no_trees) count 0 ∷ g.frames) is refl g are) (levels g.frames (in_list no_trees) g.levels refl) ((tt, tt), g.named) g.placed
 list_stands h m number count (announces.Dict size) o is l some g levels whole = absurd l
 list_stands h m number count (announces.Struct n) o is l some g levels whole =
     let what : Marker = announces.Struct n in
     let none = no_key_at (place g.frames) what refl (head_ok (place g.frames) m what is g.isa.admitted) in
     let counted : marker m ≡ Some (announces.Struct count) = is ∙ ap (λ (k : ℕ). Some (announces.Struct k)) l in
-    let are = struct_opens (number % 256) count 0 g.frames (bytes_of_items h.items [] g.full) (m ∷ big_bytes 1 number) g.are none (room h m number what is refl refl g) (omega arith) (m, counted, refl) in
-    goes_on h m number what o (waits (in_struct (number % 256) no_trees) count 0 ∷ g.frames) is (ready h m number g) (whole ∙ g.unread)
-    (opened h m number what (waits (in_struct (number % 256) no_trees) count 0 ∷ g.frames) is refl g are) (levels g.frames (in_struct (number % 256) no_trees) g.levels refl) ((tt, tt), g.named)
+    let are = struct_opens (number % 256) count 0 g.frames g.full (m ∷ big_bytes 1 number) g.are none (room h m number what is refl refl g) (omega arith) (m, counted, refl) in
+    goes_on h o (waits (in_struct (number % 256) no_trees) count 0 ∷ g.frames) (whole ∙ g.unread)
+    (opened h m number what (waits (in_struct (number % 256) no_trees) count 0 ∷ g.frames) is refl g are) (levels g.frames (in_struct (number % 256) no_trees) g.levels refl) ((tt, tt), g.named) g.placed
 
 pub dict_stands : (h : Holds) (m number count : ℕ) (size : Size) (o : Open) → marker m ≡ Some (announces.Dict size) → size_with size number ≡ count → (count ≡ 0 → ⊥) → (g : Goes h (part.Body m number 0))
     → ((fs : List Frame) (f : Opened) → AreLevels fs h.standing.«open».depth h.standing.«open».around → next_of f ≡ inside.Key → AreLevels (waits f count (length h.names) ∷ fs) o.depth o.around) → o.is_whole ≡ h.standing.«open».is_whole
-    → IsStanding (after o (with_item (announces.Dict size) m number h))
+    → IsStanding (after o (with_item h))
 dict_stands h m number count size o is l some g levels whole =
     let what : Marker = announces.Dict size in
     let none = no_key_at (place g.frames) what refl (head_ok (place g.frames) m what is g.isa.admitted) in
     let field_is = sized_by size number count (small_by m number what is g.isa.small) l in
     let first : ℕ = length h.names in
-    let are = dict_opens size count first (big_bytes (size_len size) number) g.frames (bytes_of_items h.items [] g.full) (m ∷ big_bytes (size_len size) number) g.are none (room h m number what is refl refl g) (omega arith) field_is (m, is, refl) in
-    let before = all_before g.frames (bytes_of_items h.items [] g.full) h.names h.store g.are none g.placed g.named in
-    goes_on h m number what o (waits (at_key no_entries) count first ∷ g.frames) is (ready h m number g) (whole ∙ g.unread)
+    let are = dict_opens size count first (big_bytes (size_len size) number) g.frames g.full (m ∷ big_bytes (size_len size) number) g.are none (room h m number what is refl refl g) (omega arith) field_is (m, is, refl) in
+    let before = all_before g.frames g.full h.names h.store g.are none g.placed g.named in
+    goes_on h o (waits (at_key no_entries) count first ∷ g.frames) (whole ∙ g.unread)
     (opened h m number what (waits (at_key no_entries) count first ∷ g.frames) is refl g are) (levels g.frames (at_key no_entries) g.levels refl)
-    (((no_names h.names h.store g.placed, λ e. refl), before), g.named)
+    (((no_names h.names h.store g.placed, λ e. refl), before), g.named) g.placed
 
 -- ---- keys
 
@@ -291,37 +291,23 @@ pub named_is : (h : Holds) (b : List ℕ) (ns : List Name) (start len first foun
     → record h { store = b; names = ns } ≡ named_with (record { start = start; len = len; first = first }) h
 named_is h b ns start len first found e f g = rw (e, f, g) refl
 
-abbrev pub key_ready : (h : Holds) (m number start : ℕ) → (g : Goes h (part.Body m number 0)) → (k : IsKeyFrame g.frames) → start ≤ length h.store → IsReady (named_with (record { start = start; len = length h.store - start; first = k.first }) h) m number
-key_ready h m number start g k le =
-    let n : Name = record { start = start; len = length h.store - start; first = k.first } in
-    let low = root_low h.names k.first (length h.store) g.placed (key_root h m number g k) in
-    let r = ready h m number g in
-    record {
-      full = r.full;
-      tail = r.tail;
-      store = r.store;
-      sized = r.sized;
-      fit = r.fit;
-      small = r.small;
-      long = r.long;
-      read = r.read;
-      placed = placed_push h.names n (length h.store) g.placed low (omega arith);
-    }
-
 pub key_stands : (h : Holds) (m number start : ℕ) (size : Size) (o : Open) → marker m ≡ Some (announces.Text size) → (g : Goes h (part.Body m number 0)) → (k : IsKeyFrame g.frames)
     → start + length g.tail ≡ length h.store → drop start h.store ≡ g.tail → IsUtf8 g.tail → (IsNamed h.names h.store k.first (drop start h.store) → ⊥)
     → ((fs : List Frame) (es : Entries) (s : List ℕ) (n first : ℕ) → AreLevels (waits (at_key es) n first ∷ fs) h.standing.«open».depth h.standing.«open».around → AreLevels (waits (at_value es s) n first ∷ fs) o.depth o.around) → o.is_whole ≡ h.standing.«open».is_whole
-    → IsStanding (after o (with_item (announces.Text size) m number (named_with (record { start = start; len = length h.store - start; first = k.first }) h)))
+    → IsStanding (after o (with_item (named_with (record { start = start; len = length h.store - start; first = k.first }) h)))
 key_stands h m number start size o is g k from there utf8 other levels same =
     let n : Name = record { start = start; len = length h.store - start; first = k.first } in
-    let here = subst (λ (fs : List Frame). AreFrames fs (bytes_of_items h.items [] g.full)) k.is g.are in
+    let here = subst (λ (fs : List Frame). AreFrames fs g.full) k.is g.are in
     let around = subst (λ (fs : List Frame). AreLevels fs h.standing.«open».depth h.standing.«open».around) k.is g.levels in
     let named = subst (λ (fs : List Frame). HaveNames fs h.names h.store) k.is g.named in
     let fresh : is_among g.tail (keys_of k.es) ≡ false = fresh_key h.names h.store k.first (keys_of k.es) g.tail named.0.0.0 (subst (λ (s : List ℕ). IsNamed h.names h.store k.first s → ⊥) there other) in
-    let are = key_waits k.es g.tail k.lacks k.first k.around (bytes_of_items h.items [] g.full) (head_bytes m number ++ g.tail) here (text_spelled m number size g.tail is g.isa.small g.isa.long utf8) fresh in
+    let are = key_waits k.es g.tail k.lacks k.first k.around g.full (head_bytes m number ++ g.tail) here (text_spelled m number size g.tail is g.isa.small g.isa.long utf8) fresh in
     let len : n.len ≡ length g.tail = omega arith in
     let has : text_of h.store n ≡ g.tail = ap (λ (x : ℕ). take x (drop start h.store)) len ∙ ap (λ (x : List ℕ). take (length g.tail) x) there ∙ take-length g.tail in
-    goes_on (named_with n h) m number (announces.Text size) o (waits (at_value k.es g.tail) k.lacks k.first ∷ k.around) is
-    (key_ready h m number start g k (omega arith))
-    (same ∙ g.unread) are (levels k.around k.es g.tail k.lacks k.first around)
+    let low = root_low h.names k.first (length h.store) g.placed (key_root h m number g k) in
+    goes_on (named_with n h) o (waits (at_value k.es g.tail) k.lacks k.first ∷ k.around)
+    (same ∙ g.unread)
+    (subst (λ (b : List ℕ). AreFrames (waits (at_value k.es g.tail) k.lacks k.first ∷ k.around) b) (sym g.store) are)
+    (levels k.around k.es g.tail k.lacks k.first around)
     ((key_named h.names n h.store (keys_of k.es) g.tail named.0.0.0 has, named.0.1), names_push k.around here.front h.names n h.store here.around here.keyless named.0.1 named.1)
+    (placed_push h.names n (length h.store) g.placed low (omega arith))

@@ -1,5 +1,5 @@
 -- What a reader holds, and what it stands for. Proofs alone need it.
-use Rattle.std.specs.Prelude.{◌≡◌, ◌⊎◌, ◌≤◌, ◌<◌, ◌+◌, ◌^◌, ℕ, List, [], ◌∷◌, ◌++◌, length, take, Some, None, Result, Ok, Err, Bool, true, false}
+use Rattle.std.specs.Prelude.{◌≡◌, ◌⊎◌, ◌≤◌, ◌<◌, ◌+◌, ◌^◌, ℕ, List, [], ◌++◌, length, take, Some, None, Result, Ok, Err, Bool, true, false}
 use Rattle.packstream.specs.declared.fault.Reason.{Reason}
 use Rattle.packstream.specs.declared.fault.Reason.TheVariants as reason
 use Rattle.packstream.specs.declared.marker.Marker.{Marker}
@@ -12,21 +12,19 @@ use Rattle.packstream.specs.Spelling.{SpellsTree}
 use Rattle.packstream.specs.Faults.{Place, Bad}
 use Rattle.reader.specs.declared.stop.Stop.{Stop}
 use Rattle.reader.specs.declared.stop.Stop.TheVariants as stop
-use Rattle.reader.specs.declared.item.Item.{Item}
 use Rattle.reader.specs.declared.progress.Part.{Part}
 use Rattle.reader.specs.declared.progress.Part.TheVariants as part
 use Rattle.reader.specs.declared.progress.Standing.{Standing}
 use Rattle.reader.specs.declared.progress.Mark.{Mark}
 use Rattle.reader.specs.declared.progress.Reading.{Reading}
-use Rattle.reader.specs.Items.{field, body, size_with, head_bytes, bytes_of_items, part_head, bodies, AreItems}
+use Rattle.reader.specs.Heads.{field, body, size_with, head_bytes, part_head}
 use Rattle.reader.specs.Naming.{Name, ArePlaced}
 use Rattle.reader.specs.Frames.{Frame, place, AreFrames, AreLevels, HaveNames, head_fault}
 use Rattle.reader.specs.Piecewise.{Point, Points, IsBeginning}
 use Rattle.packstream.specs.Limits.{max_depth}
 
--- its lists, and what stands beside them
+-- the bytes that were read, the names of keys among them, and what stands beside them
 pub record Holds : Type 0 where
-  pub items : List Item
   pub store : List ℕ
   pub names : List Name
   pub standing : Standing
@@ -34,28 +32,18 @@ pub record Holds : Type 0 where
 -- what a reading holds, as contracts see it
 abbrev pub holds : Reading → Holds
 holds r = record {
-  items = r.items.items;
   store = r.texts.bytes;
   names = r.texts.names;
   standing = r.standing;
 }
 
--- its bytes, if this were the part of an item that isn't whole
-abbrev pub bytes_with : Holds → Part → List ℕ
-bytes_with h p = bytes_of_items h.items (part_head p) h.store
-
--- its bytes
-abbrev pub bytes_of : Holds → List ℕ
-bytes_of h = bytes_with h h.standing.part
-
 -- the point where it stands
 abbrev pub point : Holds → Point
-point h = record { bytes = bytes_of h; bad = h.standing.bad }
+point h = record { bytes = h.store; bad = h.standing.bad }
 
 -- the mark of where it stands
 abbrev pub mark_of : Holds → Mark
 mark_of h = record {
-  items = length h.items;
   store = length h.store;
   keys = length h.names;
   standing = h.standing;
@@ -64,7 +52,6 @@ mark_of h = record {
 -- what it holds once it has returned to a mark
 abbrev pub at_mark : Mark → Holds → Holds
 at_mark m h = record {
-  items = take m.items h.items;
   store = take m.store h.store;
   names = take m.keys h.names;
   standing = m.standing;
@@ -74,16 +61,10 @@ at_mark m h = record {
 abbrev pub with_fault : Reason → ℕ → Holds → Holds
 with_fault r o h = record h { standing = record h.standing { bad = Some (r, o) } }
 
--- with an item more, of which the store has the text or byte string
-abbrev pub with_item : Marker → ℕ → ℕ → Holds → Holds
-with_item announced m number h = record {
-  items = h.items ++ (record { marker = m; number = number }) ∷ [];
-  store = h.store;
-  names = h.names;
-  standing = record h.standing {
-    part = part.Nothing;
-    read = h.standing.read + (1 + field (Some announced)) + body (Some announced) number;
-  };
+-- the item that was begun is whole, and ends where the bytes do
+abbrev pub with_item : Holds → Holds
+with_item h = record h {
+  standing = record h.standing { part = part.Nothing; read = length h.store };
 }
 
 -- the byte announces something that may stand there
@@ -115,17 +96,15 @@ IsLacking part.Nothing = Unit {0}
 IsLacking (part.Head m number has) = has < field (marker m)
 IsLacking (part.Body m number lacks) = 0 < lacks
 
--- Something is open, and p is the part behind it.
+-- Something is open, and p is the part behind it: the bytes are those of what is open, and of the part.
 pub record Goes (h : Holds) (p : Part) : Type 0 where
   pub frames : List Frame
   pub full : List ℕ
   pub tail : List ℕ
   pub unread : h.standing.«open».is_whole ≡ false
-  pub store : h.store ≡ full ++ tail
-  pub sized : length full ≡ bodies h.items
-  pub fit : AreItems h.items
-  pub are : AreFrames frames (bytes_of_items h.items [] full)
-  pub read : h.standing.read ≡ length (bytes_of_items h.items [] full)
+  pub store : h.store ≡ full ++ (part_head p ++ tail)
+  pub are : AreFrames frames full
+  pub read : h.standing.read ≡ length full
   pub levels : AreLevels frames h.standing.«open».depth h.standing.«open».around
   pub named : HaveNames frames h.names h.store
   pub placed : ArePlaced h.names (length h.store)
@@ -155,12 +134,10 @@ pub record IsDone (h : Holds) : Type 0 where
   pub tree : Tree
   pub whole : h.standing.«open».is_whole ≡ true
   pub none : h.standing.part ≡ part.Nothing
-  pub sized : length h.store ≡ bodies h.items
-  pub fit : AreItems h.items
-  pub spells : SpellsTree tree (bytes_of_items h.items [] h.store)
+  pub spells : SpellsTree tree h.store
   pub sound : IsSound tree
   pub deep : depth tree ≤ max_depth
-  pub read : h.standing.read ≡ length (bytes_of_items h.items [] h.store)
+  pub read : h.standing.read ≡ length h.store
   pub placed : ArePlaced h.names (length h.store)
 
 -- The value is whole; or it isn't, and a part that was begun lacks bytes.
@@ -169,19 +146,18 @@ IsStanding h = IsDone h ⊎ (Goes h h.standing.part × IsLacking h.standing.part
 
 -- what a reader keeps
 pub record IsKeeping (h : Holds) : Type 0 where
-  pub bytes : AreBytes (bytes_of h)
+  pub bytes : AreBytes h.store
   pub stands : IsStanding h
 
 -- its lists have only grown
 pub record HasGrown (old new : Holds) : Type 0 where
-  pub items : (is : List Item) × (new.items ≡ old.items ++ is)
   pub store : (s : List ℕ) × (new.store ≡ old.store ++ s)
   pub names : (ns : List Name) × (new.names ≡ old.names ++ ns)
 
 -- It took these bytes, but those that rest are for another item.
 pub record HasTaken (b : List ℕ) (new : Holds) (rest : List ℕ) : Type 0 where
   pub stands : IsStanding new
-  pub bytes : bytes_of new ++ rest ≡ b
+  pub bytes : new.store ++ rest ≡ b
   pub ends : (new.standing.part ≡ part.Nothing) ⊎ (rest ≡ [])
   pub bad : new.standing.bad ≡ None
 
@@ -201,12 +177,11 @@ points h m = record { here = point h; held = point (at_mark m h) }
 
 -- the held point is one where the reader stood
 pub record IsKept (h : Holds) (m : Mark) : Type 0 where
-  pub items : m.items ≤ length h.items
   pub store : m.store ≤ length h.store
   pub names : m.keys ≤ length h.names
   pub here : IsKeeping h
   pub behind : IsKeeping (at_mark m h)
-  pub held : IsBeginning (bytes_of (at_mark m h)) (bytes_of h)
+  pub held : IsBeginning (at_mark m h).store h.store
 
 -- where it stands, and the point that is held
 abbrev pub points_at : Bool → Holds → Mark → Points
@@ -221,7 +196,6 @@ IsKeptAt false h m = IsKept h m
 -- The mark returns there: it has the lengths of the lists, and what stands beside them; of the array
 -- it has the levels that are open.
 pub record IsMark (h : Holds) (m : Mark) : Type 0 where
-  pub items : m.items ≡ length h.items
   pub store : m.store ≡ length h.store
   pub names : m.keys ≡ length h.names
   pub part : m.standing.part ≡ h.standing.part

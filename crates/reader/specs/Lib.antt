@@ -1,6 +1,5 @@
 pub mod Piecewise
-pub mod Items
+pub mod Heads
 pub mod Naming
 pub mod Frames
 pub mod Holding
-pub mod Building

@@ -3,7 +3,7 @@
 //! What holds of all that was read stands in [`laws`]: who feeds a reader says by them of which bytes it tells.
 #![tactic(auto)]
 
-mod item;
+mod head;
 pub mod laws;
 mod open;
 mod piece;
@@ -11,7 +11,6 @@ mod progress;
 mod reader;
 mod stop;
 mod texts;
-mod value;
 
 pub use piece::read_piece;
 pub use reader::Reader;

@@ -1,24 +1,21 @@
 //! What is read of a value whose bytes come in pieces.
-ghost use Rattle.std.specs.Prelude.{◌≡◌, ◌+◌, ◌++◌, ◌∷◌, List, [], length, drop, is_some, true, false, Ok, OnOk, OnErr, IfOk, IfErr, ◌≤◌};
+ghost use Rattle.std.specs.Prelude.{◌≡◌, ◌+◌, ◌++◌, ◌∷◌, List, [], None, length, drop, is_some, true, false, Ok, OnOk, OnErr, IfOk, ◌≤◌};
 ghost use Rattle.std.specs.Str.{IsUtf8};
 ghost use Rattle.packstream.specs.Markers.{marker as marker_at};
 ghost use Rattle.packstream.specs.Plain.{AreBytes};
-ghost use Rattle.packstream.specs.Answers.{Tells, whole_of};
 ghost use Rattle.packstream.specs.declared.marker.Marker.TheVariants as announces;
-ghost use Rattle.reader.specs.declared.stop.Stop.TheVariants as stop;
 ghost use Rattle.reader.specs.declared.progress.Part.TheVariants as part;
-ghost use Rattle.reader.specs.Items.{size_with};
+ghost use Rattle.reader.specs.Heads.{size_with};
 ghost use Rattle.reader.specs.Frames.{Frame, AreLevels, place};
 ghost use Rattle.reader.specs.Piecewise.{nothing_read, Takes};
-ghost use Rattle.reader.specs.Holding.{holds, point, bytes_of, bytes_with, at_mark, mark_of, with_fault, with_item, Goes, IsStanding, IsKeeping, IsMark, HoldsOn, IsValue, IsListOf, HasGrown, HasTaken, Answers};
+ghost use Rattle.reader.specs.Holding.{holds, point, at_mark, mark_of, with_fault, with_item, Goes, IsStanding, IsKeeping, IsMark, HoldsOn, IsValue, IsListOf, HasGrown, HasTaken, Answers};
 
-use crate::item::{Item, body_len, field_len, join, size_in};
+use crate::head::{body_len, field_len, join, size_in};
 use crate::open::Open;
 use crate::stop::Stop;
 use crate::texts::Texts;
-use crate::value::build;
+use packstream::Reason;
 use packstream::marker::{Marker, Size, marker_of};
-use packstream::{PackFault, Packed, Reason};
 use simdutf8::basic::from_utf8;
 use std::alloc::{AllocError, Global};
 
@@ -29,7 +26,7 @@ pub(crate) enum Part {
     Nothing,
     /// A marker, and so many bytes of the number after it.
     Head { marker: u8, number: u64, has: usize },
-    /// A marker and its number; of the bytes that come then, so many are missing, and the others are the last of all texts.
+    /// A marker and its number; of the bytes that come then, so many are missing.
     Body { marker: u8, number: u64, lacks: u64 },
 }
 
@@ -43,20 +40,18 @@ pub(crate) struct Standing {
     pub(crate) bad: Option<(Reason, usize)>,
 }
 
-/// A point to return to: the lengths of the lists, and what stood beside them.
+/// A point to return to: how many bytes and keys there were, and what stood beside them.
 #[derive(Clone, Copy)]
 pub(crate) struct Mark {
-    pub(crate) items: usize,
     pub(crate) store: usize,
     pub(crate) keys: usize,
     pub(crate) standing: Standing,
 }
 
-/// The values and keys that were read, in the order of their bytes, and what is known beside them.
+/// The bytes that were read, which of them are keys, and what is known beside them.
 #[derive(Drop)]
 pub(crate) struct Reading {
-    alloc: Global,
-    items: Vec<Item>,
+    pub(crate) alloc: Global,
     texts: Texts,
     standing: Standing,
 }
@@ -68,7 +63,6 @@ impl Reading {
     {
         Reading {
             alloc,
-            items: Vec::new(alloc),
             texts: Texts::new(alloc),
             standing: Standing {
                 open: Open::new(),
@@ -84,7 +78,6 @@ impl Reading {
         ensures { result ≡ mark_of (holds self.now) }
     {
         Mark {
-            items: self.items.len(),
             store: self.texts.len(),
             keys: self.texts.count(),
             standing: self.standing,
@@ -96,7 +89,6 @@ impl Reading {
     pub(crate) fn mark_in(&self, mark: &mut Mark)
         ensures { IsMark (holds self.now) mark.new }
     {
-        mark.items = self.items.len();
         mark.store = self.texts.len();
         mark.keys = self.texts.count();
         mark.standing.open.copy_from(&self.standing.open);
@@ -110,7 +102,6 @@ impl Reading {
         requires { IsKeeping (at_mark mark.now (holds self.old)) }
         ensures { holds self.new ≡ at_mark mark.now (holds self.old) }
     {
-        self.items.truncate(mark.items);
         self.texts.cut(mark.store, mark.keys);
         self.standing = mark.standing;
     }
@@ -129,18 +120,11 @@ impl Reading {
         self.standing.bad = Some((reason, place));
     }
 
-    /// What `decode` tells of the bytes.
-    pub(crate) fn finish(&self) -> Result<Packed, PackFault>
-        requires { IsKeeping (holds self.now) }
-        ensures { Tells (λ t. t) result (whole_of (bytes_of (holds self.now))) }
+    /// The bytes that were read.
+    pub(crate) fn bytes(&self) -> &[u8]
+        ensures { result.now ≡ (holds self.now).store }
     {
-        if self.standing.open.is_whole() {
-            let Ok(value) = build(self.alloc, &self.items, self.texts.bytes()) else {
-                return Err(PackFault::Memory);
-            };
-            return Ok(Packed::from_good(value));
-        }
-        Err(PackFault::Refused(Reason::Short, self.standing.read))
+        self.texts.bytes()
     }
 
     /// Takes a piece of the text or the byte string that isn't whole, where bytes of it are missing behind the piece too; and
@@ -149,7 +133,7 @@ impl Reading {
         requires { IsStanding (holds self.old) }
         ensures taken { result ≡ Ok true
             → ((holds self.old).standing.bad ≡ None)
-            × HasTaken (bytes_of (holds self.old) ++ piece.now) (holds self.new) [] }
+            × HasTaken ((holds self.old).store ++ piece.now) (holds self.new) [] }
         ensures grown { HasGrown (holds self.old) (holds self.new) }
         ensures other { result ≡ Ok false → self.new ≡ self.old }
         ensures err { OnErr result (self.new ≡ self.old) }
@@ -207,7 +191,7 @@ impl Reading {
     pub(crate) fn take(&mut self, piece: &[u8]) -> Result<(), Stop>
         requires keeping { IsKeeping (holds self.old) }
         requires good { (holds self.old).standing.bad ≡ None }
-        ensures told { Answers (λ x. []) result (bytes_of (holds self.old) ++ piece.now)
+        ensures told { Answers (λ x. []) result ((holds self.old).store ++ piece.now)
             (holds self.new) }
         ensures grown { HasGrown (holds self.old) (holds self.new) }
     {
@@ -222,7 +206,7 @@ impl Reading {
     fn take_part<'a>(&mut self, piece: &'a [u8]) -> Result<&'a [u8], Stop>
         requires stands { IsStanding (holds self.old) }
         requires good { (holds self.old).standing.bad ≡ None }
-        ensures told { Answers (λ x. x.now) result (bytes_of (holds self.old) ++ piece.now)
+        ensures told { Answers (λ x. x.now) result ((holds self.old).store ++ piece.now)
             (holds self.new) }
         ensures grown { HasGrown (holds self.old) (holds self.new) }
     {
@@ -257,8 +241,8 @@ impl Reading {
         requires stands { IsStanding (holds self.old) }
         requires good { (holds self.old).standing.bad ≡ None }
         requires none { (holds self.old).standing.part ≡ part.Nothing }
-        requires bytes { AreBytes (bytes_of (holds self.old)) }
-        ensures told { Answers (λ x. x.now) result (bytes_of (holds self.old) ++ marker ∷ bytes.now)
+        requires bytes { AreBytes (holds self.old).store }
+        ensures told { Answers (λ x. x.now) result ((holds self.old).store ++ marker ∷ bytes.now)
             (holds self.new) }
         ensures shorter { IfOk result (λ x. length x.now ≤ length bytes.now) }
         ensures grown { HasGrown (holds self.old) (holds self.new) }
@@ -273,6 +257,7 @@ impl Reading {
         if let Some(reason) = self.standing.open.refuses(announced) {
             return Err(Stop::Fault(reason, place));
         }
+        self.texts.extend(&[marker])?;
         self.take_head(announced, marker, 0, 0, bytes)
     }
 
@@ -290,13 +275,14 @@ impl Reading {
         requires goes { Goes (holds self.old) (part.Head marker number has) }
         requires good { (holds self.old).standing.bad ≡ None }
         ensures told { Answers (λ x. x.now) result
-            (bytes_with (holds self.old) (part.Head marker number has) ++ bytes.now)
+            ((holds self.old).store ++ bytes.now)
             (holds self.new) }
         ensures shorter { IfOk result (λ x. length x.now ≤ length bytes.now) }
         ensures grown { HasGrown (holds self.old) (holds self.new) }
     {
         let lacks = field_len(announced) - has;
         if bytes.len() < lacks {
+            self.texts.extend(bytes)?;
             self.standing.part = Part::Head {
                 marker,
                 number: join(number, bytes),
@@ -305,6 +291,7 @@ impl Reading {
             return Ok(&[]);
         }
         let (front, rest) = bytes.split_at(lacks);
+        self.texts.extend(front)?;
         let number = join(number, front);
         self.take_body(announced, marker, number, body_len(announced, number), rest)
     }
@@ -323,7 +310,7 @@ impl Reading {
         requires goes { Goes (holds self.old) (part.Body marker number lacks) }
         requires good { (holds self.old).standing.bad ≡ None }
         ensures told { Answers (λ x. x.now) result
-            (bytes_with (holds self.old) (part.Body marker number lacks) ++ bytes.now)
+            ((holds self.old).store ++ bytes.now)
             (holds self.new) }
         ensures shorter { IfOk result (λ x. length x.now ≤ length bytes.now) }
         ensures grown { HasGrown (holds self.old) (holds self.new) }
@@ -358,7 +345,7 @@ impl Reading {
         requires goes { Goes (holds self.old) (part.Body marker number 0) }
         requires good { (holds self.old).standing.bad ≡ None }
         ensures told { Answers (λ x. x.now) result
-            (bytes_with (holds self.old) (part.Body marker number 0) ++ rest.now)
+            ((holds self.old).store ++ rest.now)
             (holds self.new) }
         ensures after { IfOk result (λ x. x.now ≡ rest.now) }
         ensures grown { HasGrown (holds self.old) (holds self.new) }
@@ -390,7 +377,7 @@ impl Reading {
         requires goes { Goes (holds self.old) (part.Body marker number 0) }
         requires good { (holds self.old).standing.bad ≡ None }
         ensures told { Answers (λ x. x.now) result
-            (bytes_with (holds self.old) (part.Body marker number 0) ++ rest.now)
+            ((holds self.old).store ++ rest.now)
             (holds self.new) }
         ensures after { IfOk result (λ x. x.now ≡ rest.now) }
         ensures grown { HasGrown (holds self.old) (holds self.new) }
@@ -424,7 +411,7 @@ impl Reading {
             (holds self.old).standing.«open».around → is_some (place fs).key ≡ true }
         requires good { (holds self.old).standing.bad ≡ None }
         ensures told { Answers (λ x. x.now) result
-            (bytes_with (holds self.old) (part.Body marker number 0) ++ rest.now)
+            ((holds self.old).store ++ rest.now)
             (holds self.new) }
         ensures after { IfOk result (λ x. x.now ≡ rest.now) }
         ensures grown { HasGrown (holds self.old) (holds self.new) }
@@ -434,7 +421,7 @@ impl Reading {
         if !is_new {
             return Err(Stop::Fault(Reason::KeyTwice, self.standing.read));
         }
-        self.push(Marker::Text(size), marker, number)?;
+        self.end_here();
         self.standing.open.key_ends();
         Ok(rest)
     }
@@ -452,12 +439,12 @@ impl Reading {
         requires value { IsValue (holds self.old) marker number }
         requires good { (holds self.old).standing.bad ≡ None }
         ensures told { Answers (λ x. x.now) result
-            (bytes_with (holds self.old) (part.Body marker number 0) ++ rest.now)
+            ((holds self.old).store ++ rest.now)
             (holds self.new) }
         ensures after { IfOk result (λ x. x.now ≡ rest.now) }
         ensures grown { HasGrown (holds self.old) (holds self.new) }
     {
-        self.push(announced, marker, number)?;
+        self.end_here();
         self.standing.open.value_ends();
         Ok(rest)
     }
@@ -476,7 +463,7 @@ impl Reading {
         requires goes { Goes (holds self.old) (part.Body marker number 0) }
         requires good { (holds self.old).standing.bad ≡ None }
         ensures told { Answers (λ x. x.now) result
-            (bytes_with (holds self.old) (part.Body marker number 0) ++ rest.now)
+            ((holds self.old).store ++ rest.now)
             (holds self.new) }
         ensures after { IfOk result (λ x. x.now ≡ rest.now) }
         ensures grown { HasGrown (holds self.old) (holds self.new) }
@@ -484,7 +471,7 @@ impl Reading {
         if count == 0 {
             return self.end_value(announced, marker, number, rest);
         }
-        self.push(announced, marker, number)?;
+        self.end_here();
         self.standing.open.open(count);
         Ok(rest)
     }
@@ -501,7 +488,7 @@ impl Reading {
         requires goes { Goes (holds self.old) (part.Body marker number 0) }
         requires good { (holds self.old).standing.bad ≡ None }
         ensures told { Answers (λ x. x.now) result
-            (bytes_with (holds self.old) (part.Body marker number 0) ++ rest.now)
+            ((holds self.old).store ++ rest.now)
             (holds self.new) }
         ensures after { IfOk result (λ x. x.now ≡ rest.now) }
         ensures grown { HasGrown (holds self.old) (holds self.new) }
@@ -510,31 +497,19 @@ impl Reading {
         if count == 0 {
             return self.end_value(Marker::Dict(size), marker, number, rest);
         }
-        self.push(Marker::Dict(size), marker, number)?;
+        self.end_here();
         let keys = self.texts.count();
         self.standing.open.open_dict(count, keys);
         Ok(rest)
     }
 
-    /// Keeps an item, and that its bytes are read.
+    /// The item that was begun is whole, and ends where the bytes do.
     #[inline]
-    fn push(&mut self, announced: Marker, marker: u8, number: u64) -> Result<(), Stop>
-        ensures ok { OnOk result
-            (holds self.new ≡ with_item announced marker number (holds self.old)) }
-        ensures fault { IfErr result (λ e. e ≡ stop.Memory) }
-        ensures grown { HasGrown (holds self.old) (holds self.new) }
+    fn end_here(&mut self)
+        ensures item { holds self.new ≡ with_item (holds self.old) }
         ensures opened { self.new.standing.«open» ≡ self.old.standing.«open» }
     {
-        let head = self.standing.read.checked_add(1 + field_len(announced));
-        let Some(head) = head else {
-            return Err(Stop::Memory);
-        };
-        let Some(read) = head.checked_add(body_len(announced, number) as usize) else {
-            return Err(Stop::Memory);
-        };
-        self.items.push(Item { marker, number })?;
         self.standing.part = Part::Nothing;
-        self.standing.read = read;
-        Ok(())
+        self.standing.read = self.texts.len();
     }
 }

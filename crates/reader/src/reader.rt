@@ -1,5 +1,5 @@
 //! Values out of bytes that come in pieces.
-ghost use Rattle.std.specs.Prelude.{◌≡◌, ◌↔◌, ℕ, None, Some, Err, Ok, OnOk, OnErr};
+ghost use Rattle.std.specs.Prelude.{◌≡◌, ◌↔◌, ℕ, None, Some, Err, Ok, OnOk, OnErr, IfOk};
 ghost use Rattle.packstream.specs.Tree.{Tree};
 ghost use Rattle.packstream.specs.Good.{IsGood};
 ghost use Rattle.packstream.specs.Spelling.{Spells};
@@ -10,7 +10,7 @@ ghost use Rattle.packstream.specs.declared.fault.PackFault.TheVariants as fault;
 ghost use Rattle.reader.specs.Piecewise.{fresh, Takes, IsBeginning, MayGoOn};
 
 use crate::progress::{Mark, Reading};
-use packstream::{PackFault, Packed};
+use packstream::{PackFault, Packed, decode};
 use std::alloc::{AllocError, Global};
 use std::marker::Model;
 
@@ -96,6 +96,20 @@ impl Reader {
         Ok(())
     }
 
+    /// The bytes that were read; or the fault that each continuation of them has. It takes no memory.
+    pub fn bytes(&self) -> Result<&[u8], PackFault>
+        ensures ok { IfOk result
+            (λ b. (self.now.here.bad ≡ None) × (b.now ≡ self.now.here.bytes)) }
+        ensures bad { (r : Reason) (o : ℕ) → self.now.here.bad ≡ Some (r, o)
+            → result ≡ Err (fault.Refused r o) }
+        ensures good { OnErr result (self.now.here.bad ≡ None → ⊥) }
+    {
+        match self.reading.bad() {
+            Some((reason, place)) => Err(PackFault::Refused(reason, place)),
+            None => Ok(self.reading.bytes()),
+        }
+    }
+
     /// What `decode` tells of the bytes; or the fault, where the reader is bad.
     pub fn finish(&self) -> Result<Packed, PackFault>
         // Apart from memory, it is the good value that the bytes spell, where they spell one ..
@@ -109,9 +123,9 @@ impl Reader {
         ensures bad { (r : Reason) (o : ℕ) → self.now.here.bad ≡ Some (r, o)
             → result ≡ Err (fault.Refused r o) }
     {
-        match self.reading.bad() {
-            Some((reason, place)) => Err(PackFault::Refused(reason, place)),
-            None => self.reading.finish(),
+        match self.bytes() {
+            Ok(bytes) => decode(self.reading.alloc, bytes),
+            Err(bad) => Err(bad),
         }
     }
 

@@ -1,10 +1,8 @@
 use Rattle.std.proofs.Common.{◌≡◌, ◌<◌, ◌++◌, ◌∷◌, ℕ, length, ap, sym, subst, ◌∙◌}
-use Rattle.packstream.specs.declared.marker.Marker.TheVariants as announces
 use Rattle.reader.specs.declared.open.Open.{Open}
-use Rattle.reader.specs.declared.progress.Part.TheVariants as part
 use Rattle.reader.specs.Frames.{AreLevels, waits}
-use Rattle.reader.specs.Holding.{Holds, holds, bytes_with, HasTaken}
-use Rattle.reader.proofs.Standing.{after, ready, has_taken}
+use Rattle.reader.specs.Holding.{Holds, holds, HasTaken}
+use Rattle.reader.proofs.Standing.{after, has_taken}
 use Rattle.reader.proofs.Values.{dict_value, dict_has_room, dict_stands}
 use Rattle.reader.proofs.progress.Reading.end_dict.Goals as goal
 
@@ -14,19 +12,17 @@ end_value-requires-clause-value c =
 
 pub open_dict-requires : goal.open_dict-requires
 open_dict-requires c =
-    subst (λ (x : Open). x.depth < 32) (sym c.push.ensures.opened)
+    subst (λ (x : Open). x.depth < 32) (sym c.end_here.ensures.opened)
     (dict_has_room (holds c.args.self.now) c.args.marker c.args.number c.args.size c.requires.announced c.requires.goes)
 
 pub returns-clause-told : goal.returns-clause-told
 returns-clause-told c =
     let h : Holds = holds c.args.self.now in
-    let m = c.args.marker in
-    let n = c.args.number in
     let o : Open = c.open_dict.new.self in
-    let same = ap (λ (x : Holds). after o x) c.in_ok-push.ensures.ok in
-    let keys : c.count-keys.result ≡ length h.names = c.count-keys.ensures ∙ ap (λ (x : Holds). length x.names) c.in_ok-push.ensures.ok in
-    subst (λ (x : Holds). HasTaken (bytes_with h (part.Body m n 0) ++ c.args.rest.now) x c.args.rest.now) (sym same)
-    (has_taken h m n (announces.Dict c.args.size) o c.args.rest.now (ready h m n c.requires.goes) c.requires.good
-    (dict_stands h m n c.size_in-count.result c.args.size o c.requires.announced (sym c.size_in-count.ensures) c.if-count-eq0.false c.requires.goes
-    (λ fs f levels e. subst (λ (k : ℕ). AreLevels (waits f c.size_in-count.result k ∷ fs) o.depth o.around) keys (c.open_dict.ensures.frames fs f (subst (λ (x : Open). AreLevels fs x.depth x.around) (sym c.push.ensures.opened) levels) e))
-    (c.open_dict.ensures.is_whole ∙ ap (λ (x : Open). x.is_whole) c.push.ensures.opened)))
+    let same = ap (λ (x : Holds). after o x) c.end_here.ensures.item in
+    let keys : c.count-keys.result ≡ length h.names = c.count-keys.ensures ∙ ap (λ (x : Holds). length x.names) c.end_here.ensures.item in
+    subst (λ (x : Holds). HasTaken (h.store ++ c.args.rest.now) x c.args.rest.now) (sym same)
+    (has_taken h o c.args.rest.now c.requires.good
+    (dict_stands h c.args.marker c.args.number c.size_in-count.result c.args.size o c.requires.announced (sym c.size_in-count.ensures) c.if-count-eq0.false c.requires.goes
+    (λ fs f levels e. subst (λ (k : ℕ). AreLevels (waits f c.size_in-count.result k ∷ fs) o.depth o.around) keys (c.open_dict.ensures.frames fs f (subst (λ (x : Open). AreLevels fs x.depth x.around) (sym c.end_here.ensures.opened) levels) e))
+    (c.open_dict.ensures.is_whole ∙ ap (λ (x : Open). x.is_whole) c.end_here.ensures.opened)))

@@ -4,7 +4,7 @@ use Rattle.packstream.proofs.Ranges.{bytes_from_each}
 use Rattle.packstream.specs.declared.fault.Reason.{Reason}
 use Rattle.reader.specs.declared.stop.Stop.{Stop}
 use Rattle.reader.specs.declared.progress.Mark.{Mark}
-use Rattle.reader.specs.Holding.{Holds, holds, bytes_of, at_mark, with_fault, HoldsOn, IsFaultOf}
+use Rattle.reader.specs.Holding.{Holds, holds, at_mark, with_fault, HoldsOn, IsFaultOf}
 use Rattle.reader.proofs.Held.{keeps_on, keeps_cut, joins, on_taken, on_cut, on_bad, turns_back}
 use Rattle.reader.proofs.progress.Reading.feed.Goals as goal
 
@@ -19,7 +19,7 @@ returns-in-Ok-clause-here c =
     let old : Holds = holds c.args.self.now in
     let new : Holds = holds c.take.new.self in
     let t = c.in-Ok.ensures.told in
-    let bytes = sym (append-nil (bytes_of new)) ∙ t.bytes in
+    let bytes = sym (append-nil new.store) ∙ t.bytes in
     joins old new _ c.args.piece.now refl (keeps_on old new c.args.piece.now c.requires.keeping (bytes_from_each c.args.piece.now c.type_inv.piece) t.stands bytes) c.requires.good bytes t.bad
 
 pub returns-in-Ok-clause-held : goal.returns-in-Ok-clause-held
@@ -27,7 +27,7 @@ returns-in-Ok-clause-held c =
     let old : Holds = holds c.args.self.now in
     let new : Holds = holds c.take.new.self in
     let t = c.in-Ok.ensures.told in
-    let bytes = sym (append-nil (bytes_of new)) ∙ t.bytes in
+    let bytes = sym (append-nil new.store) ∙ t.bytes in
     on_taken old new c.args.piece.now c.take.ensures.grown (keeps_on old new c.args.piece.now c.requires.keeping (bytes_from_each c.args.piece.now c.type_inv.piece) t.stands bytes) bytes
 
 pub returns-in-Err-Memory-clause-held : goal.returns-in-Err-Memory-clause-held
@@ -44,7 +44,7 @@ returns-in-Err-Fault-clause-here c =
     let f = c.in-Err-Fault in
     let bad = bad_at (holds c.take.new.self) (holds c.cut-in-Err-Fault.new.self) (holds c.turn_bad.new.self) c.args.before.now f.reason f.place c.cut-in-Err-Fault.ensures c.turn_bad.ensures in
     turns_back (holds c.args.self.now) (holds c.take.new.self) (holds c.turn_bad.new.self) c.args.before.now c.args.piece.now f.reason f.place c.requires.before c.take.ensures.grown c.requires.good bad
-    (subst (λ (s : Stop). IsFaultOf s (bytes_of (holds c.args.self.now) ++ c.args.piece.now)) f.field-0-is f.ensures.told)
+    (subst (λ (s : Stop). IsFaultOf s ((holds c.args.self.now).store ++ c.args.piece.now)) f.field-0-is f.ensures.told)
 
 pub returns-in-Err-Fault-clause-held : goal.returns-in-Err-Fault-clause-held
 returns-in-Err-Fault-clause-held c =

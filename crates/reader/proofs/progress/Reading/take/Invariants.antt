@@ -1,9 +1,9 @@
 use Rattle.std.proofs.Common.{◌++◌, length}
-use Rattle.reader.specs.Holding.{holds, bytes_of, HasTaken, HasGrown}
+use Rattle.reader.specs.Holding.{holds, HasTaken, HasGrown}
 use Rattle.reader.proofs.progress.Reading.take.Given as goal
 
 abbrev pub invariant-loop-first : goal.invariant-loop-first
-invariant-loop-first l = HasTaken (bytes_of (holds l.initial.self) ++ l.initial.rest) (holds l.self) l.rest × HasGrown (holds l.initial.self) (holds l.self)
+invariant-loop-first l = HasTaken ((holds l.initial.self).store ++ l.initial.rest) (holds l.self) l.rest × HasGrown (holds l.initial.self) (holds l.self)
 
 abbrev pub decreases-loop-first : goal.decreases-loop-first
 decreases-loop-first l = length l.rest

@@ -1,8 +1,8 @@
-use Rattle.std.proofs.Common.{◌-◌, ◌++◌, ℕ, List, [], length, ap, sym, subst, ◌∙◌, append_assoc, arith}
+use Rattle.std.proofs.Common.{◌-◌, ◌++◌, ℕ, List, [], length, ap, sym, subst, arith}
 use Rattle.reader.specs.declared.progress.Part.{Part}
 use Rattle.reader.specs.declared.progress.Part.TheVariants as part
-use Rattle.reader.specs.Holding.{Holds, holds, bytes_with, Goes, HasTaken, Answers}
-use Rattle.reader.proofs.Taking.{parted, stored, stored_is, body_longer, bytes_stored, part_taken}
+use Rattle.reader.specs.Holding.{Holds, holds, Goes, HasTaken, Answers}
+use Rattle.reader.proofs.Taking.{parted, stored, stored_is, split_behind, body_longer, part_taken}
 use Rattle.reader.proofs.progress.Reading.take_body.Goals as goal
 
 pub returns-then-bytes-lacks-clause-told : goal.returns-then-bytes-lacks-clause-told
@@ -12,9 +12,8 @@ returns-then-bytes-lacks-clause-told c =
     let left : ℕ = c.args.lacks - length s in
     let p : Part = part.Body c.args.marker c.args.number left in
     let same = ap (λ (x : Holds). parted p x) (stored_is h c.extend.new.self.bytes s c.extend.new.self.names c.in_ok-extend.ensures.ok c.in_ok-extend.ensures.keys) in
-    subst (λ (x : Holds). HasTaken (bytes_with h (part.Body c.args.marker c.args.number c.args.lacks) ++ s) x []) (sym same)
-    (part_taken (stored s h) p (bytes_with h (part.Body c.args.marker c.args.number c.args.lacks) ++ s) (body_longer h c.args.marker c.args.number c.args.lacks left s c.requires.goes (omega arith)) (omega arith)
-    (bytes_stored h c.args.marker c.args.number c.args.lacks left s c.requires.goes) c.requires.good)
+    subst (λ (x : Holds). HasTaken (h.store ++ s) x []) (sym same)
+    (part_taken (stored s h) p (body_longer h c.args.marker c.args.number c.args.lacks left s c.requires.goes (omega arith)) (omega arith) c.requires.good)
 
 pub end_item-requires-2-clause-goes : goal.end_item-requires-2-clause-goes
 end_item-requires-2-clause-goes c =
@@ -28,9 +27,5 @@ returns-clause-told c =
     let h : Holds = holds c.args.self.now in
     let s = c.split_at.result.0.now in
     let rest = c.split_at.result.1.now in
-    let same = stored_is h c.extend-2.new.self.bytes s c.extend-2.new.self.names c.in_ok-extend-2.ensures.ok c.in_ok-extend-2.ensures.keys in
-    let all = ap (λ (x : Holds). bytes_with x (part.Body c.args.marker c.args.number 0) ++ rest) same
-    ∙ ap (λ (b : List ℕ). b ++ rest) (bytes_stored h c.args.marker c.args.number c.args.lacks 0 s c.requires.goes)
-    ∙ append_assoc (bytes_with h (part.Body c.args.marker c.args.number c.args.lacks)) s rest
-    ∙ ap (λ (b : List ℕ). bytes_with h (part.Body c.args.marker c.args.number c.args.lacks) ++ b) (sym c.split_at.ensures.by_index.0) in
+    let all = split_behind h.store c.args.bytes.now s rest c.extend-2.new.self.bytes c.in_ok-extend-2.ensures.ok c.split_at.ensures.by_index.0 in
     subst (λ (b : List ℕ). Answers (λ x. x.now) c.end_item-2.result b (holds c.end_item-2.new.self)) all c.end_item-2.ensures.told

@@ -1,9 +1,10 @@
-use Rattle.std.proofs.Common.{◌≡◌, ℕ, List, sym, subst, ◌∙◌}
+use Rattle.std.proofs.Common.{◌≡◌, ℕ, List, [], ◌∷◌, ◌++◌, ap, sym, subst, ◌∙◌, append_assoc}
 use Rattle.packstream.specs.declared.fault.Reason.TheVariants as reason
 use Rattle.reader.specs.Frames.{place}
-use Rattle.reader.specs.Holding.{Holds, holds, Answers}
+use Rattle.reader.specs.declared.progress.Part.TheVariants as part
+use Rattle.reader.specs.Holding.{Holds, holds, Goes, Answers}
 use Rattle.reader.proofs.Faulting.{refused, no_marker}
-use Rattle.reader.proofs.Taking.{goes_of, done_of, trails, head_bad, head_starts, bytes_begin}
+use Rattle.reader.proofs.Taking.{stored_is, goes_of, done_of, trails, head_bad, head_starts}
 use Rattle.reader.proofs.progress.Reading.take_item.Goals as goal
 
 pub returns-then-is_whole-clause-told : goal.returns-then-is_whole-clause-told
@@ -15,23 +16,24 @@ pub returns-in_default-clause-told : goal.returns-in_default-clause-told
 returns-in_default-clause-told c =
     let h : Holds = holds c.args.self.now in
     let g = goes_of h c.requires.stands c.requires.none (sym c.is_whole.ensures ∙ c.if-is_whole.false) in
-    head_bad h c.args.marker c.args.bytes.now reason.Marker c.requires.none g (no_marker (place g.frames) c.args.marker c.args.bytes.now (sym c.in_default.ensures), λ (e : reason.Marker ≡ reason.Short). cc)
+    head_bad h c.args.marker c.args.bytes.now reason.Marker g (no_marker (place g.frames) c.args.marker c.args.bytes.now (sym c.in_default.ensures), λ (e : reason.Marker ≡ reason.Short). cc)
 
 pub returns-in-Some-refuses-clause-told : goal.returns-in-Some-refuses-clause-told
 returns-in-Some-refuses-clause-told c =
     let h : Holds = holds c.args.self.now in
     let g = goes_of h c.requires.stands c.requires.none (sym c.is_whole.ensures ∙ c.if-is_whole.false) in
-    head_bad h c.args.marker c.args.bytes.now c.in-Some-refuses.reason c.requires.none g
+    head_bad h c.args.marker c.args.bytes.now c.in-Some-refuses.reason g
     (refused (place g.frames) c.args.marker c.in-Some.announced c.args.bytes.now c.in-Some-refuses.reason (sym c.in-Some.ensures) (sym (c.in-Some-refuses.ensures g.frames g.levels)))
 
 pub take_head-requires-clause-goes : goal.take_head-requires-clause-goes
 take_head-requires-clause-goes c =
     let h : Holds = holds c.args.self.now in
     let g = goes_of h c.requires.stands c.requires.none (sym c.is_whole.ensures ∙ c.if-is_whole.false) in
-    head_starts h c.args.marker g (c.in-Some.announced, sym c.in-Some.ensures, sym (c.in_default-refuses.ensures g.frames g.levels))
+    subst (λ (x : Holds). Goes x (part.Head c.args.marker 0 0)) (sym (stored_is h c.extend.new.self.bytes (c.args.marker ∷ []) c.extend.new.self.names c.in_ok-extend.ensures.ok c.in_ok-extend.ensures.keys))
+    (head_starts h c.args.marker g (c.in-Some.announced, sym c.in-Some.ensures, sym (c.in_default-refuses.ensures g.frames g.levels)))
 
 pub returns-clause-told : goal.returns-clause-told
 returns-clause-told c =
     let h : Holds = holds c.args.self.now in
-    let g = goes_of h c.requires.stands c.requires.none (sym c.is_whole.ensures ∙ c.if-is_whole.false) in
-    subst (λ (b : List ℕ). Answers (λ x. x.now) c.take_head.result b (holds c.take_head.new.self)) (bytes_begin h c.args.marker c.args.bytes.now c.requires.none g) c.take_head.ensures.told
+    let all = ap (λ (b : List ℕ). b ++ c.args.bytes.now) c.in_ok-extend.ensures.ok ∙ append_assoc h.store (c.args.marker ∷ []) c.args.bytes.now in
+    subst (λ (b : List ℕ). Answers (λ x. x.now) c.take_head.result b (holds c.take_head.new.self)) all c.take_head.ensures.told

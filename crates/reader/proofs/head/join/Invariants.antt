@@ -1,6 +1,6 @@
 use Rattle.std.proofs.Common.{◌≡◌, drop}
-use Rattle.reader.specs.Items.{number_from}
-use Rattle.reader.proofs.item.join.Given as goal
+use Rattle.reader.specs.Heads.{number_from}
+use Rattle.reader.proofs.head.join.Given as goal
 
 abbrev pub invariant-loop-byte : goal.invariant-loop-byte
 invariant-loop-byte l = number_from l.all (drop l.byte-index l.bytes) ≡ number_from l.number l.bytes

@@ -1,6 +1,6 @@
 use Rattle.std.proofs.Common.{arith, ◌+◌, ◌*◌, drop, get_or}
 use Rattle.reader.proofs.Joining.{joined_least, joined_next}
-use Rattle.reader.proofs.item.join.Goals as goal
+use Rattle.reader.proofs.head.join.Goals as goal
 
 pub overflow_mul-all : goal.overflow_mul-all
 overflow_mul-all c =

@@ -1,19 +1,9 @@
-//! What is kept of a value that was read: its marker, and the number after it.
-ghost use Rattle.std.specs.Prelude.{◌≡◌, ◌≤◌, ◌<◌, ◌+◌, ◌^◌, length, Some};
+//! The head of a value or a key: its marker, and the number after it.
+ghost use Rattle.std.specs.Prelude.{◌≡◌, ◌≤◌, ◌<◌, ◌^◌, Some};
 ghost use Rattle.packstream.specs.Markers.{size_len};
-ghost use Rattle.reader.specs.Items.{field, body, size_with, number_from};
+ghost use Rattle.reader.specs.Heads.{field, body, size_with, number_from};
 
 use packstream::marker::{Marker, Size};
-
-/// A value, or a key, without its bytes and members.
-#[derive(Clone, Copy)]
-pub(crate) struct Item {
-    /// The byte that begins it.
-    pub(crate) marker: u8,
-    /// The number in the bytes after it, the highest first: an integer, a float, a length, a count or a tag. Where there
-    /// are none it is 0.
-    pub(crate) number: u64,
-}
 
 /// How many bytes the number after a marker takes.
 pub(crate) fn field_len(announced: Marker) -> usize

@@ -1,12 +1,11 @@
--- The bytes of what a reader holds.
-use Rattle.std.specs.Prelude.{ℕ, ◌+◌, ◌*◌, ◌^◌, ◌<◌, List, [], ◌∷◌, ◌++◌, take, drop, Option, Some}
+-- A head: its marker, and the number after it.
+use Rattle.std.specs.Prelude.{ℕ, ◌+◌, ◌*◌, List, [], ◌∷◌, Option, Some}
 use Rattle.byteorder.specs.Endian.{big_bytes}
 use Rattle.packstream.specs.declared.marker.Size.{Size}
 use Rattle.packstream.specs.declared.marker.Size.TheVariants.{Here, After}
 use Rattle.packstream.specs.declared.marker.Marker.{Marker}
 use Rattle.packstream.specs.declared.marker.Marker.TheVariants as announces
 use Rattle.packstream.specs.Markers.{width, marker, size_len}
-use Rattle.reader.specs.declared.item.Item.{Item}
 use Rattle.reader.specs.declared.progress.Part.{Part}
 use Rattle.reader.specs.declared.progress.Part.TheVariants as part
 
@@ -46,22 +45,3 @@ abbrev pub part_head : Part → List ℕ
 part_head part.Nothing = []
 part_head (part.Head m number has) = m ∷ big_bytes has number
 part_head (part.Body m number lacks) = head_bytes m number
-
--- how many bytes of the store items take
-abbrev pub bodies : List Item → ℕ
-bodies [] = 0
-bodies (i ∷ is) = body (marker i.marker) i.number + bodies is
-
--- each number fits the bytes after its marker
-abbrev pub AreItems : List Item → Type 0
-AreItems [] = Unit {0}
-AreItems (i ∷ is) = (i.number < 256 ^ field (marker i.marker)) × AreItems is
-
--- The bytes of items, the store having those of their texts and byte strings in turn; then those of a part, of which
--- the rest of the store has the text or byte string as far as it came.
-abbrev pub bytes_of_items : List Item → List ℕ → List ℕ → List ℕ
-bytes_of_items [] last store = last ++ store
-bytes_of_items (i ∷ is) last store =
-    head_bytes i.marker i.number
-    ++ (take (body (marker i.marker) i.number) store
-    ++ bytes_of_items is last (drop (body (marker i.marker) i.number) store))
