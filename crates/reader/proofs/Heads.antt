@@ -14,7 +14,7 @@ use Rattle.packstream.specs.Spelling.{IsNumber, IsSize}
 use Rattle.packstream.specs.Faults.{needs, text_in}
 use Rattle.packstream.proofs.Shortest.{number_of}
 use Rattle.std.specs.Int.{byte_at}
-use Rattle.reader.specs.Heads.{field, size_with, body, number_from}
+use Rattle.reader.specs.Heads.{field, size_with, body, number_from, IsTiny, AreTiny}
 
 -- ---- a byte more behind a number
 
@@ -104,3 +104,10 @@ text_there (After w) number text rest lt e =
 pub sized_by : (size : Size) (number n : ℕ) → number < 256 ^ size_len size → size_with size number ≡ n → IsSize size n (big_bytes (size_len size) number)
 sized_by (Here k) number n lt e = (sym e, refl)
 sized_by (After w) number n lt e = subst (λ (x : ℕ). IsNumber (width w) x (big_bytes (width w) number)) e (number_of (width w) number lt)
+
+-- ---- integers of one byte each
+
+-- with one more behind them
+pub tiny_more : (bs : List ℕ) (b : ℕ) → AreTiny bs → IsTiny b → AreTiny (bs ++ b ∷ [])
+tiny_more [] b t one = (one, tt)
+tiny_more (x ∷ bs) b t one = (t.0, tiny_more bs b t.1 one)

@@ -42,14 +42,30 @@ step_out d (f ∷ fs) t n xs lt h le =
     let last : nat_lt 1 f.lacks ≡ false = le-ltb _ _ (omega arith) in
     (fs, tree_so_far (with_member f.opened t), subst (λ (m : ℕ). AreLevels fs m xs) k h.others, rw last refl)
 
+-- the innermost level, and what it is once it is written
+pub last_level : (d : Level) (f : Frame) (fs : List Frame) (n : ℕ) (xs : List Level) → AreLevels (f ∷ fs) n xs → get_or xs (n - 1) d ≡ level f
+last_level d f fs n xs h =
+    let k : h.below ≡ n - 1 = omega (arith, h.counted) in
+    ap (λ (m : ℕ). get_or xs m d) (sym k) ∙ get_or_from_slice_get xs h.below (level f) d h.there
+
+last_written : (d : Level) (f g : Frame) (fs : List Frame) (n : ℕ) (xs : List Level) (new : Level) → AreLevels (f ∷ fs) n xs → new ≡ level g → AreLevels (g ∷ fs) n (slice_set xs (n - 1) new)
+last_written d f g fs n xs new h is =
+    let k : h.below ≡ n - 1 = omega (arith, h.counted) in
+    let written : slice_get (slice_set xs h.below new) h.below ≡ Some (level g) = get_set_same xs h.below new d (slice_get_within xs h.below (level f) h.there) ∙ ap (λ (l : Level). Some l) is in
+    record {
+      below = h.below;
+      counted = h.counted;
+      there = subst (λ (m : ℕ). slice_get (slice_set xs m new) h.below ≡ Some (level g)) k written;
+      others = levels_set fs h.below (n - 1) xs new d (omega arith) h.others;
+    }
+
 -- the innermost level has one member more, and lacks others
 pub stay_in : (d : Level) (fs : List Frame) (t : Tree) (n : ℕ) (xs : List Level) → 0 < n → AreLevels fs n xs → 1 < (get_or xs (n - 1) d).lacks
     → (gs : List Frame) × (ends fs t ≡ still gs)
     × AreLevels gs n (slice_set xs (n - 1) (record { next = after_value (get_or xs (n - 1) d).next; lacks = (get_or xs (n - 1) d).lacks - 1; keys = (get_or xs (n - 1) d).keys }))
 stay_in d [] t n xs lt h more = absurd (omega (arith, h))
 stay_in d (f ∷ fs) t n xs lt h more =
-    let k : h.below ≡ n - 1 = omega (arith, h.counted) in
-    let is : get_or xs (n - 1) d ≡ level f = ap (λ (m : ℕ). get_or xs m d) (sym k) ∙ get_or_from_slice_get xs h.below (level f) d h.there in
+    let is = last_level d f fs n xs h in
     let lacks : (get_or xs (n - 1) d).lacks ≡ f.lacks = ap (λ (l : Level). l.lacks) is in
     let some : nat_lt 1 f.lacks ≡ true = lt-ltb _ _ (omega arith) in
     let g : Frame = record { opened = with_member f.opened t; lacks = f.lacks - 1; first = f.first } in
@@ -57,17 +73,16 @@ stay_in d (f ∷ fs) t n xs lt h more =
     let new_is : new ≡ level g =
     ap (λ (l : Level). record { next = after_value l.next; lacks = l.lacks - 1; keys = l.keys }) is
     ∙ ap (λ (i : Inside). record { next = i; lacks = f.lacks - 1; keys = f.first }) (sym (next_put f.opened t)) in
-    let within : h.below < length xs = slice_get_within xs h.below (level f) h.there in
-    let written : slice_get (slice_set xs h.below new) h.below ≡ Some (level g) = get_set_same xs h.below new d within ∙ ap (λ (l : Level). Some l) new_is in (
-      g ∷ fs,
-      rw some refl,
-      record {
-        below = h.below;
-        counted = h.counted;
-        there = subst (λ (m : ℕ). slice_get (slice_set xs m new) h.below ≡ Some (level g)) k written;
-        others = levels_set fs h.below (n - 1) xs new d (omega arith) h.others;
-      },
-    )
+    (g ∷ fs, rw some refl, last_written d f g fs n xs new h new_is)
+
+-- it has as many more as are passed
+pub passes : (d : Level) (k n : ℕ) (xs : List Level) (f : Frame) (fs : List Frame) (g : Opened) → AreLevels (f ∷ fs) n xs → next_of g ≡ inside.Member
+    → AreLevels (waits g (f.lacks - k) f.first ∷ fs) n (slice_set xs (n - 1) (record { next = inside.Member; lacks = (get_or xs (n - 1) d).lacks - k; keys = (get_or xs (n - 1) d).keys }))
+passes d k n xs f fs g h e =
+    let new_is : record { next = inside.Member; lacks = (get_or xs (n - 1) d).lacks - k; keys = (get_or xs (n - 1) d).keys } ≡ level (waits g (f.lacks - k) f.first) =
+    ap (λ (l : Level). record { next = inside.Member; lacks = l.lacks - k; keys = l.keys }) (last_level d f fs n xs h)
+    ∙ ap (λ (i : Inside). record { next = i; lacks = f.lacks - k; keys = f.first }) (sym e) in
+    last_written d f (waits g (f.lacks - k) f.first) fs n xs _ h new_is
 
 pub all_ended : (fs : List Frame) (t : Tree) (n : ℕ) (xs : List Level) → n ≤ 0 → AreLevels fs n xs → ends fs t ≡ whole t
 all_ended [] t n xs le h = refl
@@ -77,18 +92,8 @@ all_ended (f ∷ fs) t n xs le h = absurd (omega (arith, h.counted))
 pub key_stands : (d : Level) (fs : List Frame) (es : Entries) (k : List ℕ) (n first m : ℕ) (xs : List Level) → AreLevels (waits (at_key es) n first ∷ fs) m xs
     → AreLevels (waits (at_value es k) n first ∷ fs) m (slice_set xs (m - 1) (record { next = inside.ValueOfKey; lacks = (get_or xs (m - 1) d).lacks; keys = (get_or xs (m - 1) d).keys }))
 key_stands d fs es k n first m xs h =
-    let at : h.below ≡ m - 1 = omega (arith, h.counted) in
-    let is : get_or xs (m - 1) d ≡ level (waits (at_key es) n first) = ap (λ (i : ℕ). get_or xs i d) (sym at) ∙ get_or_from_slice_get xs h.below (level (waits (at_key es) n first)) d h.there in
-    let new : Level = record { next = inside.ValueOfKey; lacks = (get_or xs (m - 1) d).lacks; keys = (get_or xs (m - 1) d).keys } in
-    let new_is : new ≡ level (waits (at_value es k) n first) = ap (λ (l : Level). record { next = inside.ValueOfKey; lacks = l.lacks; keys = l.keys }) is in
-    let within : h.below < length xs = slice_get_within xs h.below (level (waits (at_key es) n first)) h.there in
-    let written : slice_get (slice_set xs h.below new) h.below ≡ Some (level (waits (at_value es k) n first)) = get_set_same xs h.below new d within ∙ ap (λ (l : Level). Some l) new_is in
-    record {
-      below = h.below;
-      counted = h.counted;
-      there = subst (λ (i : ℕ). slice_get (slice_set xs i new) h.below ≡ Some (level (waits (at_value es k) n first))) at written;
-      others = levels_set fs h.below (m - 1) xs new d (omega arith) h.others;
-    }
+    last_written d (waits (at_key es) n first) (waits (at_value es k) n first) fs m xs _ h
+    (ap (λ (l : Level). record { next = inside.ValueOfKey; lacks = l.lacks; keys = l.keys }) (last_level d (waits (at_key es) n first) fs m xs h))
 
 pub level_opens : (d : Level) (fs : List Frame) (f : Opened) (next : Inside) (lacks keys n : ℕ) (xs : List Level) → n < length xs → AreLevels fs n xs → next_of f ≡ next
     → AreLevels (waits f lacks keys ∷ fs) (n + 1) (slice_set xs n (record { next = next; lacks = lacks; keys = keys }))

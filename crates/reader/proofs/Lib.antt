@@ -10,6 +10,7 @@ pub mod Standing
 pub mod Faulting
 pub mod Values
 pub mod Taking
+pub mod Passing
 pub mod Held
 pub mod Pieces
 pub mod Alike

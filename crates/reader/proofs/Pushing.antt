@@ -125,7 +125,7 @@ put_closes heads (in_struct tag ts) t b h = struct_closes heads tag (push_tree t
 put_closes heads (at_key es) t b h = dict_closes heads es b h
 put_closes heads (at_value es k) t b h = dict_closes heads (push_entry es k t) b h
 
-stays_open : (f : Frame) (fs : List Frame) (front : List ℕ) (t : Tree) (c : List ℕ) → AreFrames (f ∷ fs) front → (place (f ∷ fs)).key ≡ None → SpellsTree t c → IsSound t → depth t + length (f ∷ fs) ≤ 32 → 1 < f.lacks
+pub stays_open : (f : Frame) (fs : List Frame) (front : List ℕ) (t : Tree) (c : List ℕ) → AreFrames (f ∷ fs) front → (place (f ∷ fs)).key ≡ None → SpellsTree t c → IsSound t → depth t + length (f ∷ fs) ≤ 32 → 1 < f.lacks
     → AreFrames (record { opened = with_member f.opened t; lacks = f.lacks - 1; first = f.first } ∷ fs) (front ++ c)
 stays_open f fs front t c h none one sound deep lt = record {
   front = h.front;

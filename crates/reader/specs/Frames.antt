@@ -229,6 +229,13 @@ abbrev pub IsLeft : Left → Open → Type 0
 IsLeft (whole t) o = o.is_whole ≡ true
 IsLeft (still fs) o = (o.is_whole ≡ false) × AreLevels fs o.depth o.around
 
+-- So many members of the innermost are passed, and others are still lacking: f may be any list or structure that lacks these.
+pub record Passes (f : Frame) (fs : List Frame) (passed : ℕ) (o : Open) : Type 0 where
+  pub member : next_of f.opened ≡ inside.Member
+  pub fewer : passed < f.lacks
+  pub levels : (g : Opened) → next_of g ≡ inside.Member
+      → AreLevels (waits g (f.lacks - passed) f.first ∷ fs) o.depth o.around
+
 -- what a head that announces this breaks at a place
 abbrev pub head_fault : Place → Marker → Option Reason
 head_fault p m =

@@ -1,5 +1,5 @@
 -- A head: its marker, and the number after it.
-use Rattle.std.specs.Prelude.{ℕ, ◌+◌, ◌*◌, List, [], ◌∷◌, Option, Some}
+use Rattle.std.specs.Prelude.{◌≡◌, ℕ, ℤ, ◌+◌, ◌*◌, List, [], ◌∷◌, Option, Some}
 use Rattle.byteorder.specs.Endian.{big_bytes}
 use Rattle.packstream.specs.declared.marker.Size.{Size}
 use Rattle.packstream.specs.declared.marker.Size.TheVariants.{Here, After}
@@ -45,3 +45,12 @@ abbrev pub part_head : Part → List ℕ
 part_head part.Nothing = []
 part_head (part.Head m number has) = m ∷ big_bytes has number
 part_head (part.Body m number lacks) = head_bytes m number
+
+-- the byte is an integer
+abbrev pub IsTiny : ℕ → Type 0
+IsTiny b = (z : ℤ) × (marker b ≡ Some (announces.Tiny z))
+
+-- each of these bytes is one
+abbrev pub AreTiny : List ℕ → Type 0
+AreTiny [] = Unit {0}
+AreTiny (b ∷ bs) = IsTiny b × AreTiny bs

@@ -1,9 +1,9 @@
 //! The head of a value or a key: its marker, and the number after it.
-ghost use Rattle.std.specs.Prelude.{◌≡◌, ◌≤◌, ◌<◌, ◌^◌, Some};
+ghost use Rattle.std.specs.Prelude.{◌≡◌, ◌≤◌, ◌<◌, ◌^◌, length, take, Some};
 ghost use Rattle.packstream.specs.Markers.{size_len};
-ghost use Rattle.reader.specs.Heads.{field, body, size_with, number_from};
+ghost use Rattle.reader.specs.Heads.{field, body, size_with, number_from, AreTiny};
 
-use packstream::marker::{Marker, Size};
+use packstream::marker::{Marker, Size, marker_of};
 
 /// How many bytes the number after a marker takes.
 pub(crate) fn field_len(announced: Marker) -> usize
@@ -66,4 +66,21 @@ pub(crate) fn join(number: u64, bytes: &[u8]) -> u64
         all = all * 256 + u64::from(*byte);
     }
     all
+}
+
+/// How many bytes of the front are integers of one byte each, fewer than `most`.
+#[inline]
+pub(crate) fn tiny_front(bytes: &[u8], most: u64) -> usize
+    ensures within { result ≤ length bytes.now }
+    ensures fewer { 0 < result → result < most }
+    ensures tiny { AreTiny (take result bytes.now) }
+{
+    let mut count = 0;
+    while count < bytes.len() && count as u64 + 1 < most {
+        let Some(Marker::Tiny(_)) = marker_of(bytes[count]) else {
+            return count;
+        };
+        count += 1;
+    }
+    count
 }

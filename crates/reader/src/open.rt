@@ -1,8 +1,9 @@
 //! The lists, dictionaries and structures that are open around a place.
-ghost use Rattle.std.specs.Prelude.{◌≡◌, ◌≤◌, ◌<◌, ◌-◌, ℕ, List, ◌∷◌, true, false, is_some};
+ghost use Rattle.std.specs.Prelude.{◌≡◌, ◌≤◌, ◌<◌, ◌-◌, ℕ, List, ◌∷◌, length, take, true, false, is_some};
 ghost use Rattle.packstream.specs.Faults.{nests as is_nest};
 ghost use Rattle.packstream.specs.Limits.{max_depth};
 
+use crate::head::tiny_front;
 use packstream::marker::Marker;
 use packstream::{MAX_DEPTH, Reason};
 
@@ -39,7 +40,8 @@ impl Open {
     ghost use Rattle.packstream.specs.Tree.{Tree, Entries};
     ghost use Rattle.packstream.specs.Faults.{Opened, at_key, at_value};
     ghost use Rattle.reader.specs.declared.open.Inside.TheVariants as inside;
-    ghost use Rattle.reader.specs.Frames.{Frame, AreLevels, ends, IsLeft, next_of, waits, place, head_fault};
+    ghost use Rattle.reader.specs.Heads.{AreTiny};
+    ghost use Rattle.reader.specs.Frames.{Frame, AreLevels, Passes, ends, IsLeft, next_of, waits, place, head_fault};
 
     /// Nothing is open, and nothing has been read.
     pub(crate) fn new() -> Open
@@ -182,6 +184,39 @@ impl Open {
             lacks: inner.lacks,
             keys: inner.keys,
         };
+    }
+
+    /// How many members of the innermost list or structure the bytes begin with, each an integer of one byte, the last
+    /// that it waits for left out. They count as read.
+    #[inline]
+    pub(crate) fn pass_tiny(&mut self, bytes: &[u8]) -> usize
+        ensures within { result ≤ length bytes.now }
+        ensures tiny { AreTiny (take result bytes.now) }
+        ensures none { result ≡ 0 → self.new ≡ self.old }
+        ensures still { 0 < result → (self.old.is_whole ≡ false) × (0 < self.old.depth) }
+        ensures is_whole { self.new.is_whole ≡ self.old.is_whole }
+        ensures frames { (f : Frame) (fs : List Frame)
+            → AreLevels (f ∷ fs) self.old.depth self.old.around → 0 < result
+            → Passes f fs result self.new }
+    {
+        if self.is_whole || self.depth == 0 {
+            return 0;
+        }
+        let at = self.depth - 1;
+        let inner = self.around[at];
+        let Inside::Member = inner.next else {
+            return 0;
+        };
+        let count = tiny_front(bytes, inner.lacks);
+        if count == 0 {
+            return 0;
+        }
+        self.around[at] = Level {
+            next: Inside::Member,
+            lacks: inner.lacks - count as u64,
+            keys: inner.keys,
+        };
+        count
     }
 
     /// A value is whole, and with it each that was waiting for it alone.

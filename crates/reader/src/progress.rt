@@ -1,5 +1,5 @@
 //! What is read of a value whose bytes come in pieces.
-ghost use Rattle.std.specs.Prelude.{◌≡◌, ◌+◌, ◌++◌, ◌∷◌, List, [], None, length, drop, is_some, true, false, Ok, OnOk, OnErr, IfOk, ◌≤◌};
+ghost use Rattle.std.specs.Prelude.{◌≡◌, ◌⊎◌, ◌+◌, ◌++◌, ◌∷◌, List, [], None, length, drop, is_some, true, false, Ok, OnOk, OnErr, IfOk, ◌≤◌};
 ghost use Rattle.std.specs.Str.{IsUtf8};
 ghost use Rattle.packstream.specs.Markers.{marker as marker_at};
 ghost use Rattle.packstream.specs.Plain.{AreBytes};
@@ -195,9 +195,11 @@ impl Reading {
             (holds self.new) }
         ensures grown { HasGrown (holds self.old) (holds self.new) }
     {
-        let mut rest = self.take_part(piece)?;
+        let after_part = self.take_part(piece)?;
+        let mut rest = self.take_tiny(after_part)?;
         while let Some((&first, after)) = rest.split_first() {
-            rest = self.take_item(first, after)?;
+            let after_item = self.take_item(first, after)?;
+            rest = self.take_tiny(after_item)?;
         }
         Ok(())
     }
@@ -233,6 +235,28 @@ impl Reading {
                 self.take_body(announced, marker, number, lacks, piece)
             }
         }
+    }
+
+    /// Takes members of an open list or structure that are integers of one byte each, as many as stand in a row and aren't
+    /// its last, and answers what follows them.
+    #[inline]
+    fn take_tiny<'a>(&mut self, bytes: &'a [u8]) -> Result<&'a [u8], Stop>
+        requires stands { IsStanding (holds self.old) }
+        requires good { (holds self.old).standing.bad ≡ None }
+        requires ends { ((holds self.old).standing.part ≡ part.Nothing) ⊎ (bytes.now ≡ []) }
+        ensures told { Answers (λ x. x.now) result ((holds self.old).store ++ bytes.now)
+            (holds self.new) }
+        ensures shorter { IfOk result (λ x. length x.now ≤ length bytes.now) }
+        ensures grown { HasGrown (holds self.old) (holds self.new) }
+    {
+        let count = self.standing.open.pass_tiny(bytes);
+        if count == 0 {
+            return Ok(bytes);
+        }
+        let (front, rest) = bytes.split_at(count);
+        self.texts.extend(front)?;
+        self.end_here();
+        Ok(rest)
     }
 
     /// Takes an item of which this is the marker, and answers what follows it.
