@@ -229,6 +229,15 @@ abbrev pub IsLeft : Left → Open → Type 0
 IsLeft (whole t) o = o.is_whole ≡ true
 IsLeft (still fs) o = (o.is_whole ≡ false) × AreLevels fs o.depth o.around
 
+-- Something is open, the innermost is a list or a structure, and it lacks more than so many members.
+pub record HasRoom (o : Open) (members : ℕ) : Type 0 where
+  pub unread : o.is_whole ≡ false
+  pub deep : 0 < o.depth
+  pub last : Level
+  pub there : slice_get o.around (o.depth - 1) ≡ Some last
+  pub member : last.next ≡ inside.Member
+  pub fewer : members < last.lacks
+
 -- So many members of the innermost are passed, and others are still lacking: f may be any list or structure that lacks these.
 pub record Passes (f : Frame) (fs : List Frame) (passed : ℕ) (o : Open) : Type 0 where
   pub member : next_of f.opened ≡ inside.Member

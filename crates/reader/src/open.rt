@@ -41,7 +41,7 @@ impl Open {
     ghost use Rattle.packstream.specs.Faults.{Opened, at_key, at_value};
     ghost use Rattle.reader.specs.declared.open.Inside.TheVariants as inside;
     ghost use Rattle.reader.specs.Heads.{AreTiny};
-    ghost use Rattle.reader.specs.Frames.{Frame, AreLevels, Passes, ends, IsLeft, next_of, waits, place, head_fault};
+    ghost use Rattle.reader.specs.Frames.{Frame, AreLevels, HasRoom, Passes, ends, IsLeft, next_of, waits, place, head_fault};
 
     /// Nothing is open, and nothing has been read.
     pub(crate) fn new() -> Open
@@ -187,36 +187,38 @@ impl Open {
     }
 
     /// How many members of the innermost list or structure the bytes begin with, each an integer of one byte, the last
-    /// that it waits for left out. They count as read.
+    /// that it waits for left out.
     #[inline]
-    pub(crate) fn pass_tiny(&mut self, bytes: &[u8]) -> usize
+    pub(crate) fn tiny_members(&self, bytes: &[u8]) -> usize
         ensures within { result ≤ length bytes.now }
         ensures tiny { AreTiny (take result bytes.now) }
-        ensures none { result ≡ 0 → self.new ≡ self.old }
-        ensures still { 0 < result → (self.old.is_whole ≡ false) × (0 < self.old.depth) }
-        ensures is_whole { self.new.is_whole ≡ self.old.is_whole }
-        ensures frames { (f : Frame) (fs : List Frame)
-            → AreLevels (f ∷ fs) self.old.depth self.old.around → 0 < result
-            → Passes f fs result self.new }
+        ensures room { 0 < result → HasRoom self.now result }
     {
         if self.is_whole || self.depth == 0 {
             return 0;
         }
-        let at = self.depth - 1;
-        let inner = self.around[at];
+        let inner = self.around[self.depth - 1];
         let Inside::Member = inner.next else {
             return 0;
         };
-        let count = tiny_front(bytes, inner.lacks);
-        if count == 0 {
-            return 0;
-        }
+        tiny_front(bytes, inner.lacks)
+    }
+
+    /// So many members of the innermost list or structure are whole, and others are still missing.
+    #[inline]
+    pub(crate) fn pass(&mut self, members: u64)
+        requires { HasRoom self.old members }
+        ensures is_whole { self.new.is_whole ≡ self.old.is_whole }
+        ensures frames { (f : Frame) (fs : List Frame)
+            → AreLevels (f ∷ fs) self.old.depth self.old.around → Passes f fs members self.new }
+    {
+        let at = self.depth - 1;
+        let inner = self.around[at];
         self.around[at] = Level {
             next: Inside::Member,
-            lacks: inner.lacks - count as u64,
+            lacks: inner.lacks - members,
             keys: inner.keys,
         };
-        count
     }
 
     /// A value is whole, and with it each that was waiting for it alone.

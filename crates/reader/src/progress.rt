@@ -5,8 +5,8 @@ ghost use Rattle.packstream.specs.Markers.{marker as marker_at};
 ghost use Rattle.packstream.specs.Plain.{AreBytes};
 ghost use Rattle.packstream.specs.declared.marker.Marker.TheVariants as announces;
 ghost use Rattle.reader.specs.declared.progress.Part.TheVariants as part;
-ghost use Rattle.reader.specs.Heads.{size_with};
-ghost use Rattle.reader.specs.Frames.{Frame, AreLevels, place};
+ghost use Rattle.reader.specs.Heads.{size_with, AreTiny};
+ghost use Rattle.reader.specs.Frames.{Frame, AreLevels, HasRoom, place};
 ghost use Rattle.reader.specs.Piecewise.{nothing_read, Takes};
 ghost use Rattle.reader.specs.Holding.{holds, point, at_mark, mark_of, with_fault, with_item, Goes, IsStanding, IsKeeping, IsMark, HoldsOn, IsValue, IsListOf, HasGrown, HasTaken, Answers};
 
@@ -127,8 +127,10 @@ impl Reading {
         self.texts.bytes()
     }
 
-    /// Takes a piece of the text or the byte string that isn't whole, where bytes of it are missing behind the piece too; and
+    /// Takes a piece of the text or the byte string that isn't whole, where bytes of it are missing behind the piece too; or of
+    /// members of a list or a structure that are integers of one byte each, where others are missing behind them; and
     /// answers whether it did. Else nothing changes.
+    #[inline]
     pub(crate) fn take_within(&mut self, piece: &[u8]) -> Result<bool, AllocError>
         requires { IsStanding (holds self.old) }
         ensures taken { result ≡ Ok true
@@ -142,14 +144,54 @@ impl Reading {
         if self.standing.bad.is_some() {
             return Ok(false);
         }
-        let Part::Body {
-            marker,
-            number,
-            lacks,
-        } = self.standing.part
-        else {
+        match self.standing.part {
+            Part::Nothing => self.take_members(piece),
+            Part::Head { .. } => Ok(false),
+            Part::Body {
+                marker,
+                number,
+                lacks,
+            } => self.take_data(marker, number, lacks, piece),
+        }
+    }
+
+    /// Takes a piece of integers of one byte each, where they are members of which others are missing behind them.
+    #[inline]
+    fn take_members(&mut self, piece: &[u8]) -> Result<bool, AllocError>
+        requires stands { IsStanding (holds self.old) }
+        requires none { (holds self.old).standing.part ≡ part.Nothing }
+        requires good { (holds self.old).standing.bad ≡ None }
+        ensures taken { result ≡ Ok true
+            → HasTaken ((holds self.old).store ++ piece.now) (holds self.new) [] }
+        ensures grown { HasGrown (holds self.old) (holds self.new) }
+        ensures other { result ≡ Ok false → self.new ≡ self.old }
+        ensures err { OnErr result (self.new ≡ self.old) }
+    {
+        let count = self.standing.open.tiny_members(piece);
+        if count == 0 || count < piece.len() {
             return Ok(false);
-        };
+        }
+        self.take_run(piece)?;
+        Ok(true)
+    }
+
+    /// Takes a piece of the text or the byte string of this part, where bytes of it are missing behind the piece too.
+    #[inline]
+    fn take_data(
+        &mut self,
+        marker: u8,
+        number: u64,
+        lacks: u64,
+        piece: &[u8],
+    ) -> Result<bool, AllocError>
+        requires goes { Goes (holds self.old) (part.Body marker number lacks) }
+        requires good { (holds self.old).standing.bad ≡ None }
+        ensures taken { result ≡ Ok true
+            → HasTaken ((holds self.old).store ++ piece.now) (holds self.new) [] }
+        ensures grown { HasGrown (holds self.old) (holds self.new) }
+        ensures other { result ≡ Ok false → self.new ≡ self.old }
+        ensures err { OnErr result (self.new ≡ self.old) }
+    {
         if piece.len() as u64 >= lacks {
             return Ok(false);
         }
@@ -160,6 +202,25 @@ impl Reading {
             lacks: lacks - piece.len() as u64,
         };
         Ok(true)
+    }
+
+    /// Takes members that are integers of one byte each, of which others are missing behind them.
+    #[inline]
+    fn take_run(&mut self, run: &[u8]) -> Result<(), AllocError>
+        requires goes { Goes (holds self.old) part.Nothing }
+        requires good { (holds self.old).standing.bad ≡ None }
+        requires tiny { AreTiny run.now }
+        requires room { HasRoom self.old.standing.«open» (length run.now) }
+        ensures taken { OnOk result
+            (HasTaken ((holds self.old).store ++ run.now) (holds self.new) []) }
+        ensures none { OnOk result ((holds self.new).standing.part ≡ part.Nothing) }
+        ensures grown { HasGrown (holds self.old) (holds self.new) }
+        ensures err { OnErr result (self.new ≡ self.old) }
+    {
+        self.texts.extend(run)?;
+        self.standing.open.pass(run.len() as u64);
+        self.end_here();
+        Ok(())
     }
 
     /// Takes the piece; or, where a fault is in it, turns bad where the mark is. For want of memory it goes back there.
@@ -249,13 +310,12 @@ impl Reading {
         ensures shorter { IfOk result (λ x. length x.now ≤ length bytes.now) }
         ensures grown { HasGrown (holds self.old) (holds self.new) }
     {
-        let count = self.standing.open.pass_tiny(bytes);
+        let count = self.standing.open.tiny_members(bytes);
         if count == 0 {
             return Ok(bytes);
         }
         let (front, rest) = bytes.split_at(count);
-        self.texts.extend(front)?;
-        self.end_here();
+        self.take_run(front)?;
         Ok(rest)
     }
 
