@@ -4,6 +4,7 @@
 #![tactic(auto)]
 
 mod head;
+mod items;
 pub mod laws;
 mod open;
 mod piece;
