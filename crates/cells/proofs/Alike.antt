@@ -1,7 +1,8 @@
 -- The tests of a cell's parts, as those of its tree.
-use Rattle.std.proofs.Common.{◌≡◌, ◌<◌, arith, rules, refl, sym, ap, ap₂, ◌∙◌, ℕ, ℤ, Bool, true, false, ◌&&◌, List, [], ◌∷◌, map, String, Global, Option, Some, None, string_eq, int_eq}
+use Rattle.std.proofs.Common.{◌≡◌, ◌<◌, arith, rules, refl, sym, ap, ap₂, ◌∙◌, ℕ, ℤ, Bool, true, false, ◌&&◌, List, [], ◌∷◌, String, Global, Option, Some, None, string_eq, int_eq}
 use Rattle.std.specs.Cmp.Lexicographic.{pointwise}
 use Rattle.std.specs.Option.{option_eq}
+use Rattle.std.proofs.Math.Bool.{and-true}
 use Rattle.std.proofs.lemmas.Bool.{and_left, and_right}
 use Rattle.std.proofs.lemmas.Bool.Decides.{Decides-int_eq}
 use Rattle.packstream.specs.Tree.{Tree, int, structure, Trees}
@@ -19,37 +20,29 @@ use Rattle.cells.specs.declared.cell.UnboundRelationship.{UnboundRelationship}
 use Rattle.cells.proofs.Views.{node-out, unbound-out, relationship-out, path-out}
 use Rattle.cells.proofs.Walking.{SameMembers, SamePairs}
 
-and_true : (b : Bool) → (b && true) ≡ b
-and_true true = refl
-and_true false = refl
-
 pub texts_same : (xs ys : List (String Global)) → SameMembers text_of xs ys ≡ pointwise string_eq xs ys
-texts_same [] [] = refl
-texts_same [] (y ∷ ys) = refl
-texts_same (x ∷ xs) [] = refl
 texts_same (x ∷ xs) (y ∷ ys) = ap (λ b. string_eq x y && b) (texts_same xs ys)
+texts_same [] [] = refl
+texts_same xs ys = refl
 
 pub numbers_same : (xs ys : List ℤ) → SameMembers int xs ys ≡ pointwise int_eq xs ys
-numbers_same [] [] = refl
-numbers_same [] (y ∷ ys) = refl
-numbers_same (x ∷ xs) [] = refl
 numbers_same (x ∷ xs) (y ∷ ys) = ap (λ b. int_eq x y && b) (numbers_same xs ys)
+numbers_same [] [] = refl
+numbers_same xs ys = refl
 
 element_same : (a b : Option (String Global)) → same_trees (element_of a) (element_of b) ≡ option_eq string_eq a b
+element_same (Some x) (Some y) = and-true (string_eq x y)
 element_same None None = refl
-element_same None (Some y) = refl
-element_same (Some x) None = refl
-element_same (Some x) (Some y) = and_true (string_eq x y)
+element_same a b = refl
 
 -- the three ids of a relationship
 abbrev pub same_ids : ElementIds → ElementIds → Bool
 same_ids x y = string_eq x.own y.own && (string_eq x.start y.start && string_eq x.end y.end)
 
 elements_same : (a b : Option ElementIds) → same_trees (elements_of a) (elements_of b) ≡ option_eq same_ids a b
+elements_same (Some x) (Some y) = ap (λ b. string_eq x.own y.own && (string_eq x.start y.start && b)) (and-true (string_eq x.end y.end))
 elements_same None None = refl
-elements_same None (Some y) = refl
-elements_same (Some x) None = refl
-elements_same (Some x) (Some y) = ap (λ b. string_eq x.own y.own && (string_eq x.start y.start && b)) (and_true (string_eq x.end y.end))
+elements_same a b = refl
 
 pub node_alike : (a b : Node) → same_tree (node_shape a) (node_shape b)
     ≡ (int_eq a.id b.id && (pointwise string_eq a.labels.items b.labels.items && (SamePairs entry a.properties.items b.properties.items && option_eq string_eq a.element_id b.element_id)))
@@ -64,10 +57,7 @@ unbound_alike a b =
     ∙ ap (λ e. int_eq a.id b.id && (string_eq a.kind b.kind && (SamePairs entry a.properties.items b.properties.items && e))) (element_same a.element_id b.element_id)
 
 first_three : (i s e r : Bool) → (i && (s && (e && r))) ≡ ((i && (s && (e && true))) && r)
-first_three true true true r = refl
-first_three true true false r = refl
-first_three true false e r = refl
-first_three false s e r = refl
+first_three i s e r = grind arith
 
 pub relationship_alike : (a b : Relationship) → same_tree (relationship_shape a) (relationship_shape b)
     ≡ (pointwise int_eq (a.id ∷ a.start ∷ a.end ∷ []) (b.id ∷ b.start ∷ b.end ∷ []) && (string_eq a.kind b.kind && (SamePairs entry a.properties.items b.properties.items && option_eq same_ids a.element_ids b.element_ids)))
@@ -93,7 +83,7 @@ pub path_alike : (a b : Path) → same_tree (path_shape a) (path_shape b)
     ≡ (SameMembers node_shape (out-Path a).nodes.items (out-Path b).nodes.items && (SameMembers unbound_shape (out-Path a).relationships.items (out-Path b).relationships.items && pointwise int_eq (out-Path a).indices.items (out-Path b).indices.items))
 path_alike a b =
     ap₂ same_tree (path-out a) (path-out b)
-    ∙ ap (λ e. SameMembers node_shape (out-Path a).nodes.items (out-Path b).nodes.items && (SameMembers unbound_shape (out-Path a).relationships.items (out-Path b).relationships.items && e)) (and_true (SameMembers int (out-Path a).indices.items (out-Path b).indices.items) ∙ numbers_same (out-Path a).indices.items (out-Path b).indices.items)
+    ∙ ap (λ e. SameMembers node_shape (out-Path a).nodes.items (out-Path b).nodes.items && (SameMembers unbound_shape (out-Path a).relationships.items (out-Path b).relationships.items && e)) (and-true (SameMembers int (out-Path a).indices.items (out-Path b).indices.items) ∙ numbers_same (out-Path a).indices.items (out-Path b).indices.items)
 
 pub third_left : (n u r : Bool) → n ≡ true → u ≡ true → (n && (u && r)) ≡ r
 third_left n u r x y = ap (λ b. b && (u && r)) x ∙ ap (λ b. b && r) y

@@ -10,8 +10,7 @@ use Rattle.cells.specs.Same.{same_bool, same_tree, same_trees, same_entries}
 bools_are : (a b : Bool) → same_bool a b ≡ true → a ≡ b
 bools_are true true h = refl
 bools_are false false h = refl
-bools_are true false h = cc
-bools_are false true h = cc
+bools_are a b h = cc
 
 bool_is : (a : Bool) → same_bool a a ≡ true
 bool_is true = refl

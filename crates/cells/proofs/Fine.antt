@@ -1,5 +1,6 @@
 -- Structures without a fault, piece by piece.
-use Rattle.std.proofs.Common.{◌≡◌, ℕ, zero, suc, ◌<◌, List, [], ◌∷◌, ◌++◌, map, length, get_or, Bool, true, false, ◌&&◌, Option, Some, None, is_none, Ok, refl, sym, ap, ◌∙◌, rules, arith, Vec, Global}
+use Rattle.std.proofs.Common.{◌≡◌, ℕ, zero, suc, ◌<◌, List, [], ◌∷◌, ◌++◌, map, length, get_or, true, ◌&&◌, Option, Some, None, is_none, Ok, refl, sym, ap, ◌∙◌, rules, arith, Vec, Global}
+use Rattle.std.proofs.Math.Bool.{and_assoc}
 use Rattle.packstream.specs.Tree.{Tree, structure, Trees}
 use Rattle.packstream.specs.View.{tree, trees, trees_of, entries_of}
 use Rattle.packstream.specs.declared.value.Value.{Value, Struct as StructCase, the_lemmas}
@@ -12,13 +13,9 @@ use Rattle.cells.proofs.Scanning.{Found}
 pub tree-Struct : (tag : ℕ) (v : Vec Value Global) → tree (StructCase tag v) ≡ structure tag (trees_of (trees v.items))
 tree-Struct tag v = search (rules, the_lemmas)
 
-and_assoc : (a b d : Bool) → (a && (b && d)) ≡ ((a && b) && d)
-and_assoc true b d = refl
-and_assoc false b d = refl
-
 pub fine_append : (j : FaultOf) (xs ys : List (ℕ × Trees)) → all_fine j (xs ++ ys) ≡ (all_fine j xs && all_fine j ys)
 fine_append j [] ys = refl
-fine_append j (x ∷ xs) ys = ap (λ b. is_none (j x.0 x.1) && b) (fine_append j xs ys) ∙ and_assoc (is_none (j x.0 x.1)) (all_fine j xs) (all_fine j ys)
+fine_append j (x ∷ xs) ys = ap (λ b. is_none (j x.0 x.1) && b) (fine_append j xs ys) ∙ sym (and_assoc (is_none (j x.0 x.1)) (all_fine j xs) (all_fine j ys))
 
 none_of : (o : Option Reason) → is_none o ≡ true → o ≡ None
 none_of None h = refl

@@ -1,11 +1,12 @@
 -- The fault of a typed cell by the numbers that its fields begin with, and the structures inside it.
-use Rattle.std.proofs.Common.{◌≡◌, ℕ, suc, ◌+◌, ℤ, pos, neg_ℤ, List, [], ◌∷◌, ◌++◌, map, length, Bool, true, false, not, ◌&&◌, ◌==◌, Option, Some, None, Result, Ok, Err, refl, sym, ap, ◌∙◌, String, Global}
+use Rattle.std.proofs.Common.{◌≡◌, ℕ, ◌+◌, ℤ, pos, neg_ℤ, List, [], ◌∷◌, ◌++◌, map, length, Bool, true, false, not, ◌&&◌, ◌==◌, Option, Some, None, Result, Ok, Err, refl, sym, ap, ◌∙◌, String, Global}
+use Rattle.std.proofs.lemmas.List.{append-nil, length-map}
 use Rattle.packstream.specs.Tree.{Tree, int, list, dict, structure, Trees, no_trees, tree_then}
 use Rattle.packstream.specs.Good.{count}
 use Rattle.packstream.specs.View.{trees_of, entries_of}
 use Rattle.packstream.proofs.Sound.{count-trees_of}
 use Rattle.wire.specs.declared.Version.{Version}
-use Rattle.wire.specs.declared.Version.TheVariants.{V44, V50, V51}
+use Rattle.wire.specs.declared.Version.TheVariants.{V44}
 use Rattle.cells.specs.declared.cell.ElementIds.{ElementIds}
 use Rattle.cells.specs.declared.table.Field.{Field}
 use Rattle.cells.specs.declared.table.Field.TheVariants.{Nanosecond, DayNanosecond, Offset, UtcSecond}
@@ -74,22 +75,18 @@ numbers_plain : (zs : List ℤ) → structures_in (trees_of (map int zs)) ≡ []
 numbers_plain [] = refl
 numbers_plain (z ∷ zs) = numbers_plain zs
 
-no_more : {A : Type 0} (xs : List A) → xs ++ [] ≡ xs
-no_more [] = refl
-no_more (x ∷ xs) = ap (λ r. x ∷ r) (no_more xs)
-
 node_inner : (id : ℤ) (labels : List (String Global)) (ps : List Pair) (e : Option (String Global)) → structures_in (tree_then (int id) (tree_then (texts_of labels) (tree_then (dict (entries_of (entries ps))) (element_of e)))) ≡ structures_under (entries_of (entries ps))
-node_inner id labels ps None = rw (texts_plain labels) (no_more _)
-node_inner id labels ps (Some s) = rw (texts_plain labels) (no_more _)
+node_inner id labels ps None = rw (texts_plain labels) (append-nil _)
+node_inner id labels ps (Some s) = rw (texts_plain labels) (append-nil _)
 
 unbound_inner : (id : ℤ) (kind : String Global) (ps : List Pair) (e : Option (String Global)) → structures_in (tree_then (int id) (tree_then (text_of kind) (tree_then (dict (entries_of (entries ps))) (element_of e)))) ≡ structures_under (entries_of (entries ps))
-unbound_inner id kind ps None = no_more _
-unbound_inner id kind ps (Some s) = no_more _
+unbound_inner id kind ps None = append-nil _
+unbound_inner id kind ps (Some s) = append-nil _
 
 relationship_inner : (id s d : ℤ) (kind : String Global) (ps : List Pair) (e : Option ElementIds)
     → structures_in (tree_then (int id) (tree_then (int s) (tree_then (int d) (tree_then (text_of kind) (tree_then (dict (entries_of (entries ps))) (elements_of e)))))) ≡ structures_under (entries_of (entries ps))
-relationship_inner id s d kind ps None = no_more _
-relationship_inner id s d kind ps (Some x) = no_more _
+relationship_inner id s d kind ps None = append-nil _
+relationship_inner id s d kind ps (Some x) = append-nil _
 
 node_judged : (v : Version) (n : ℕ) (id : ℤ) (labels : List (String Global)) (ps : List Pair) (e : Option (String Global)) → n ≡ 3 + count (element_of e)
     → range_fault v 0x4E n (id ∷ []) ≡ fault_of_structure v 0x4E (tree_then (int id) (tree_then (texts_of labels) (tree_then (dict (entries_of (entries ps))) (element_of e))))
@@ -119,16 +116,14 @@ pub relationship_ok : (v : Version) (k m n : ℕ) (id s d : ℤ) (kind : String 
 relationship_ok v k m n id s d kind ps e h o = typed_ok (fault_of_structure v) k m _ 0x52 (tree_then (int id) (tree_then (int s) (tree_then (int d) (tree_then (text_of kind) (tree_then (dict (entries_of (entries ps))) (elements_of e)))))) _ o (relationship_judged v n id s d kind ps e h) (relationship_inner id s d kind ps e)
 
 path_inner : (ns rs : List Tree) (is : List ℤ) → structures_in (tree_then (list (trees_of ns)) (tree_then (list (trees_of rs)) (tree_then (numbers_of is) no_trees))) ≡ structures_in (trees_of ns) ++ structures_in (trees_of rs)
-path_inner ns rs is = ap (λ (x : List (ℕ × Trees)). structures_in (trees_of ns) ++ (structures_in (trees_of rs) ++ (x ++ []))) (numbers_plain is) ∙ ap (λ (x : List (ℕ × Trees)). structures_in (trees_of ns) ++ x) (no_more (structures_in (trees_of rs)))
+path_inner ns rs is = ap (λ (x : List (ℕ × Trees)). structures_in (trees_of ns) ++ (structures_in (trees_of rs) ++ (x ++ []))) (numbers_plain is) ∙ ap (λ (x : List (ℕ × Trees)). structures_in (trees_of ns) ++ x) (append-nil (structures_in (trees_of rs)))
 
 pub mapped : {A B : Type 0} (f : A → B) (n : ℕ) (xs : List A) → n ≡ length xs → n ≡ length (map f xs)
-mapped f n [] h = h
-mapped f n (x ∷ xs) h = h ∙ ap suc (mapped f (length xs) xs refl)
+mapped f n xs h = h ∙ sym (length-map xs f)
 
 path_judged : (v : Version) (ns rs : List Tree) (is : List ℤ) → walk_fault (length ns) (length rs) is ≡ fault_of_structure v 0x50 (tree_then (list (trees_of ns)) (tree_then (list (trees_of rs)) (tree_then (numbers_of is) no_trees)))
 path_judged V44 ns rs is = rw (count-trees_of ns, count-trees_of rs) refl
-path_judged V50 ns rs is = rw (count-trees_of ns, count-trees_of rs) refl
-path_judged V51 ns rs is = rw (count-trees_of ns, count-trees_of rs) refl
+path_judged v ns rs is = rw (count-trees_of ns, count-trees_of rs) refl
 
 pub path_ok : (v : Version) (k m n l : ℕ) (ns rs : List Tree) (is : List ℤ) → n ≡ length ns → l ≡ length rs → Ok m ≡ fault_or_rest (walk_fault n l is) k (Ok (next k))
     → scan (fault_of_structure v) m (structures_in (trees_of ns) ++ structures_in (trees_of rs)) ≡ scan (fault_of_structure v) k (structures (path_of ns rs is))

@@ -1,26 +1,10 @@
 -- Scanning structures piece by piece.
-use Rattle.std.proofs.Common.{◌≡◌, ℕ, suc, ◌+◌, ◌<◌, List, [], ◌∷◌, ◌++◌, map, length, drop, get_or, Option, Some, None, Result, Ok, Err, refl, sym, ap, ◌∙◌, rules, add-one, drop-cons, String, Vec, Global, string_bytes}
-use Rattle.packstream.specs.Tree.{Tree, dict, Trees}
-use Rattle.packstream.specs.View.{tree, trees_of, entry, entries, entries_of}
-use Rattle.packstream.specs.declared.value.Value.{Value, Dict as DictCase, the_lemmas}
+use Rattle.std.proofs.Common.{◌≡◌, ℕ, suc, ◌+◌, ◌<◌, List, [], ◌∷◌, ◌++◌, map, length, drop, get_or, Option, Some, None, Result, Ok, Err, refl, sym, ap, ◌∙◌, add-one, drop-cons}
+use Rattle.packstream.specs.Tree.{Tree, Trees}
+use Rattle.packstream.specs.View.{trees_of, entries_of}
+pub use Rattle.packstream.proofs.Views.{tree-Dict}
 use Rattle.cells.specs.declared.fault.Reason.{Reason}
 use Rattle.cells.specs.Faults.{FaultOf, scan, fault_or_rest, next, structures, structures_in, structures_under}
-
-abbrev pub Pair : Type 0
-Pair = String Global × Value
-
-abbrev pub named : String Global × Tree → List ℕ × Tree
-named e = (string_bytes e.0, e.1)
-
-abbrev pub seen : Pair → String Global × Tree
-seen e = (e.0, tree e.1)
-
-pub entries_in_two : (es : List Pair) → map named (map seen es) ≡ entries es
-entries_in_two [] = refl
-entries_in_two (e ∷ es) = ap (λ r. entry e ∷ r) (entries_in_two es)
-
-pub tree-Dict : (v : Vec Pair Global) → tree (DictCase v) ≡ dict (entries_of (entries v.items))
-tree-Dict v = let one : tree (DictCase v) ≡ dict (entries_of (map named (map seen v.items))) = search (rules, the_lemmas) in one ∙ ap (λ es. dict (entries_of es)) (entries_in_two v.items)
 
 abbrev pub Found : Type 0
 Found = Result ℕ (Reason × ℕ)
@@ -37,26 +21,14 @@ pub scan_append : (j : FaultOf) (k : ℕ) (xs ys : List (ℕ × Trees)) → scan
 scan_append j k [] ys = refl
 scan_append j k (x ∷ xs) ys = scanned_onward j (j x.0 x.1) k ys _ _ (scan_append j (next k) xs ys)
 
-pub members_step : {A : Type 0} (f : A → Tree) (j : FaultOf) (k n : ℕ) (xs : List A) (i : ℕ) (d : A) → i < length xs → d ≡ get_or xs i d → Ok n ≡ scan j k (structures (f d))
-    → scan j n (structures_in (trees_of (map f (drop (i + 1) xs)))) ≡ scan j k (structures_in (trees_of (map f (drop i xs))))
-members_step f j k n xs i d h is s =
+pub members_step : {A : Type 0} (f : A → Tree) (j : FaultOf) (k : ℕ) (r : Found) (xs : List A) (i : ℕ) (d : A) → i < length xs → d ≡ get_or xs i d → r ≡ scan j k (structures (f d))
+    → onward j r (structures_in (trees_of (map f (drop (i + 1) xs)))) ≡ scan j k (structures_in (trees_of (map f (drop i xs))))
+members_step f j k r xs i d h is s =
     let e : drop i xs ≡ d ∷ drop (suc i) xs = drop-cons xs i d h ∙ ap (λ x. x ∷ drop (suc i) xs) (sym is) in
     rw (add-one, e) (sym (scan_append j k (structures (f d)) (structures_in (trees_of (map f (drop (suc i) xs)))) ∙ ap (λ (r : Found). onward j r (structures_in (trees_of (map f (drop (suc i) xs))))) (sym s)))
 
-pub members_end : {A : Type 0} (f : A → Tree) (j : FaultOf) (k : ℕ) (b : Reason × ℕ) (xs : List A) (i : ℕ) (d : A) → i < length xs → d ≡ get_or xs i d → Err b ≡ scan j k (structures (f d))
-    → Err b ≡ scan j k (structures_in (trees_of (map f (drop i xs))))
-members_end f j k b xs i d h is s =
-    let e : drop i xs ≡ d ∷ drop (suc i) xs = drop-cons xs i d h ∙ ap (λ x. x ∷ drop (suc i) xs) (sym is) in
-    rw e (sym (scan_append j k (structures (f d)) (structures_in (trees_of (map f (drop (suc i) xs)))) ∙ ap (λ (r : Found). onward j r (structures_in (trees_of (map f (drop (suc i) xs))))) (sym s)))
-
-pub pairs_step : {A : Type 0} (g : A → List ℕ × Tree) (j : FaultOf) (k n : ℕ) (xs : List A) (i : ℕ) (d : A) → i < length xs → d ≡ get_or xs i d → Ok n ≡ scan j k (structures (g d).1)
-    → scan j n (structures_under (entries_of (map g (drop (i + 1) xs)))) ≡ scan j k (structures_under (entries_of (map g (drop i xs))))
-pairs_step g j k n xs i d h is s =
+pub pairs_step : {A : Type 0} (g : A → List ℕ × Tree) (j : FaultOf) (k : ℕ) (r : Found) (xs : List A) (i : ℕ) (d : A) → i < length xs → d ≡ get_or xs i d → r ≡ scan j k (structures (g d).1)
+    → onward j r (structures_under (entries_of (map g (drop (i + 1) xs)))) ≡ scan j k (structures_under (entries_of (map g (drop i xs))))
+pairs_step g j k r xs i d h is s =
     let e : drop i xs ≡ d ∷ drop (suc i) xs = drop-cons xs i d h ∙ ap (λ x. x ∷ drop (suc i) xs) (sym is) in
     rw (add-one, e) (sym (scan_append j k (structures (g d).1) (structures_under (entries_of (map g (drop (suc i) xs)))) ∙ ap (λ (r : Found). onward j r (structures_under (entries_of (map g (drop (suc i) xs))))) (sym s)))
-
-pub pairs_end : {A : Type 0} (g : A → List ℕ × Tree) (j : FaultOf) (k : ℕ) (b : Reason × ℕ) (xs : List A) (i : ℕ) (d : A) → i < length xs → d ≡ get_or xs i d → Err b ≡ scan j k (structures (g d).1)
-    → Err b ≡ scan j k (structures_under (entries_of (map g (drop i xs))))
-pairs_end g j k b xs i d h is s =
-    let e : drop i xs ≡ d ∷ drop (suc i) xs = drop-cons xs i d h ∙ ap (λ x. x ∷ drop (suc i) xs) (sym is) in
-    rw e (sym (scan_append j k (structures (g d).1) (structures_under (entries_of (map g (drop (suc i) xs)))) ∙ ap (λ (r : Found). onward j r (structures_under (entries_of (map g (drop (suc i) xs))))) (sym s)))

@@ -117,28 +117,13 @@ abbrev seen : Cell-F Cell Node Path Relationship UnboundRelationship → Tree
 seen x = cell_step (map-Cell Cell Node Path Relationship UnboundRelationship Tree Tree Tree Tree Tree shape node_shape path_shape relationship_shape unbound_shape x)
 
 cell_typed : (y : Cell-F TypedCell TypedNode TypedPath TypedRelationship TypedUnbound) → is_typed (seen (cell_of y)) ≡ true
-cell_typed Cell-F.Null = refl
-cell_typed (Cell-F.Bool b) = refl
-cell_typed (Cell-F.Int z) = refl
-cell_typed (Cell-F.Float n) = refl
-cell_typed (Cell-F.Bytes v) = refl
-cell_typed (Cell-F.Text s) = refl
 cell_typed (Cell-F.List v) = cells_typed v.items
 cell_typed (Cell-F.Dict v) = entries_typed v.items
 cell_typed (Cell-F.Node n) = n.value.1
 cell_typed (Cell-F.Relationship r) = r.value.1
 cell_typed (Cell-F.UnboundRelationship r) = r.value.1
 cell_typed (Cell-F.Path p) = p.value.1
-cell_typed (Cell-F.Date d) = refl
-cell_typed (Cell-F.Time n o) = refl
-cell_typed (Cell-F.LocalTime n) = refl
-cell_typed (Cell-F.LocalDateTime s n) = refl
-cell_typed (Cell-F.DateTime s n o) = refl
-cell_typed (Cell-F.ZonedLocal s n z) = refl
-cell_typed (Cell-F.ZonedUtc s n z) = refl
-cell_typed (Cell-F.Duration m d s n) = refl
-cell_typed (Cell-F.Point2D i x y) = refl
-cell_typed (Cell-F.Point3D i x y z) = refl
+cell_typed y = refl
 
 node_typed : (y : Node-F TypedCell TypedNode TypedPath TypedRelationship TypedUnbound)
     → is_typed (node_step (map-Node Cell Node Path Relationship UnboundRelationship Tree Tree Tree Tree Tree shape node_shape path_shape relationship_shape unbound_shape (map-Node TypedCell TypedNode TypedPath TypedRelationship TypedUnbound Cell Node Path Relationship UnboundRelationship (λ x. x.0) (λ x. x.0) (λ x. x.0) (λ x. x.0) (λ x. x.0) y))) ≡ true

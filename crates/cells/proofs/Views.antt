@@ -1,8 +1,9 @@
 -- The tree of a cell, one level at a time.
-use Rattle.std.proofs.Common.{◌≡◌, ℕ, ℤ, List, [], ◌∷◌, map, String, Vec, Global, string_bytes, refl, sym, ap, ◌∙◌, rules, Option}
+use Rattle.std.proofs.Common.{◌≡◌, ℕ, ℤ, List, map, String, Vec, Global, string_bytes, sym, ap, ◌∙◌, rules, Option}
+use Rattle.std.proofs.lemmas.Simd.{map-map}
 use Rattle.packstream.specs.Tree.{Tree, int, float, list, dict, structure, no_trees, tree_then}
 use Rattle.packstream.specs.View.{trees_of, entries_of}
-use Rattle.cells.specs.Shape.{shape, node_shape, unbound_shape, relationship_shape, path_shape, shapes, entry, entries, text_of, texts_of, element_of, elements_of, path_of}
+use Rattle.cells.specs.Shape.{shape, node_shape, unbound_shape, relationship_shape, path_shape, shapes, entries, text_of, texts_of, element_of, elements_of, path_of}
 use Rattle.cells.specs.declared.cell.ElementIds.{ElementIds}
 use Rattle.cells.specs.declared.cell.Cell.{Cell, List as ListCase, Dict as DictCase, Date, Time, LocalTime, LocalDateTime, DateTime, ZonedLocal, ZonedUtc, Duration, Point2D, Point3D, the_lemmas}
 use Rattle.cells.specs.declared.cell.Cell.TheViews.{roll-Node, roll-UnboundRelationship, roll-Relationship, roll-Path, roll-out-Path}
@@ -15,57 +16,35 @@ use Rattle.cells.specs.declared.cell.Node.{Node}
 abbrev pub Pair : Type 0
 Pair = String Global × Cell
 
-abbrev pub named : String Global × Tree → List ℕ × Tree
-named e = (string_bytes e.0, e.1)
-
-abbrev pub seen : Pair → String Global × Tree
-seen e = (e.0, shape e.1)
-
-pub entries_in_two : (es : List Pair) → map named (map seen es) ≡ entries es
-entries_in_two [] = refl
-entries_in_two (e ∷ es) = ap (λ r. entry e ∷ r) (entries_in_two es)
-
 pub shape-Dict : (v : Vec Pair Global) → shape (DictCase v) ≡ dict (entries_of (entries v.items))
-shape-Dict v = let one : shape (DictCase v) ≡ dict (entries_of (map named (map seen v.items))) = search (rules, the_lemmas) in one ∙ ap (λ es. dict (entries_of es)) (entries_in_two v.items)
+shape-Dict v = search (rules, the_lemmas, map-map)
 
 abbrev pub node_parts : ℤ → List (String Global) → List Pair → Option (String Global) → Tree
 node_parts id labels ps e = structure 0x4E (tree_then (int id) (tree_then (texts_of labels) (tree_then (dict (entries_of (entries ps))) (element_of e))))
 
 pub node-out : (n : Node) → node_shape n ≡ node_parts n.id n.labels.items n.properties.items n.element_id
-node-out n =
-    let one : node_shape n ≡ structure 0x4E (tree_then (int n.id) (tree_then (texts_of n.labels.items) (tree_then (dict (entries_of (map named (map seen n.properties.items)))) (element_of n.element_id)))) = search (rules, the_lemmas) in
-    one ∙ ap (λ es. structure 0x4E (tree_then (int n.id) (tree_then (texts_of n.labels.items) (tree_then (dict (entries_of (es))) (element_of n.element_id))))) (entries_in_two n.properties.items)
+node-out n = search (rules, the_lemmas, map-map)
 
 pub node-roll : (n : Node-F Cell Node Path Relationship UnboundRelationship) → node_shape (roll-Node n) ≡ node_parts n.id n.labels.items n.properties.items n.element_id
-node-roll n =
-    let one : node_shape (roll-Node n) ≡ structure 0x4E (tree_then (int n.id) (tree_then (texts_of n.labels.items) (tree_then (dict (entries_of (map named (map seen n.properties.items)))) (element_of n.element_id)))) = search (rules, the_lemmas) in
-    one ∙ ap (λ es. structure 0x4E (tree_then (int n.id) (tree_then (texts_of n.labels.items) (tree_then (dict (entries_of (es))) (element_of n.element_id))))) (entries_in_two n.properties.items)
+node-roll n = search (rules, the_lemmas, map-map)
 
 abbrev pub unbound_parts : ℤ → String Global → List Pair → Option (String Global) → Tree
 unbound_parts id kind ps e = structure 0x72 (tree_then (int id) (tree_then (text_of kind) (tree_then (dict (entries_of (entries ps))) (element_of e))))
 
 pub unbound-out : (n : UnboundRelationship) → unbound_shape n ≡ unbound_parts n.id n.kind n.properties.items n.element_id
-unbound-out n =
-    let one : unbound_shape n ≡ structure 0x72 (tree_then (int n.id) (tree_then (text_of n.kind) (tree_then (dict (entries_of (map named (map seen n.properties.items)))) (element_of n.element_id)))) = search (rules, the_lemmas) in
-    one ∙ ap (λ es. structure 0x72 (tree_then (int n.id) (tree_then (text_of n.kind) (tree_then (dict (entries_of (es))) (element_of n.element_id))))) (entries_in_two n.properties.items)
+unbound-out n = search (rules, the_lemmas, map-map)
 
 pub unbound-roll : (n : UnboundRelationship-F Cell Node Path Relationship UnboundRelationship) → unbound_shape (roll-UnboundRelationship n) ≡ unbound_parts n.id n.kind n.properties.items n.element_id
-unbound-roll n =
-    let one : unbound_shape (roll-UnboundRelationship n) ≡ structure 0x72 (tree_then (int n.id) (tree_then (text_of n.kind) (tree_then (dict (entries_of (map named (map seen n.properties.items)))) (element_of n.element_id)))) = search (rules, the_lemmas) in
-    one ∙ ap (λ es. structure 0x72 (tree_then (int n.id) (tree_then (text_of n.kind) (tree_then (dict (entries_of (es))) (element_of n.element_id))))) (entries_in_two n.properties.items)
+unbound-roll n = search (rules, the_lemmas, map-map)
 
 abbrev pub relationship_parts : ℤ → ℤ → ℤ → String Global → List Pair → Option ElementIds → Tree
 relationship_parts id start end kind ps e = structure 0x52 (tree_then (int id) (tree_then (int start) (tree_then (int end) (tree_then (text_of kind) (tree_then (dict (entries_of (entries ps))) (elements_of e))))))
 
 pub relationship-out : (n : Relationship) → relationship_shape n ≡ relationship_parts n.id n.start n.end n.kind n.properties.items n.element_ids
-relationship-out n =
-    let one : relationship_shape n ≡ structure 0x52 (tree_then (int n.id) (tree_then (int n.start) (tree_then (int n.end) (tree_then (text_of n.kind) (tree_then (dict (entries_of (map named (map seen n.properties.items)))) (elements_of n.element_ids)))))) = search (rules, the_lemmas) in
-    one ∙ ap (λ es. structure 0x52 (tree_then (int n.id) (tree_then (int n.start) (tree_then (int n.end) (tree_then (text_of n.kind) (tree_then (dict (entries_of (es))) (elements_of n.element_ids))))))) (entries_in_two n.properties.items)
+relationship-out n = search (rules, the_lemmas, map-map)
 
 pub relationship-roll : (n : Relationship-F Cell Node Path Relationship UnboundRelationship) → relationship_shape (roll-Relationship n) ≡ relationship_parts n.id n.start n.end n.kind n.properties.items n.element_ids
-relationship-roll n =
-    let one : relationship_shape (roll-Relationship n) ≡ structure 0x52 (tree_then (int n.id) (tree_then (int n.start) (tree_then (int n.end) (tree_then (text_of n.kind) (tree_then (dict (entries_of (map named (map seen n.properties.items)))) (elements_of n.element_ids)))))) = search (rules, the_lemmas) in
-    one ∙ ap (λ es. structure 0x52 (tree_then (int n.id) (tree_then (int n.start) (tree_then (int n.end) (tree_then (text_of n.kind) (tree_then (dict (entries_of (es))) (elements_of n.element_ids))))))) (entries_in_two n.properties.items)
+relationship-roll n = search (rules, the_lemmas, map-map)
 
 pub path-roll : (p : Path-F Cell Node Path Relationship UnboundRelationship) → path_shape (roll-Path p) ≡ path_of (map node_shape p.nodes.items) (map unbound_shape p.relationships.items) p.indices.items
 path-roll p = search (rules, the_lemmas)

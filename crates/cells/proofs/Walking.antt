@@ -13,9 +13,8 @@ module _ {A : Type 0} (f : A → Tree) where
 
   pub members_apart : (xs ys : List A) → (length xs ≡ length ys → ⊥) → SameMembers xs ys ≡ false
   members_apart [] [] h = absurd (h refl)
-  members_apart [] (y ∷ ys) h = refl
-  members_apart (x ∷ xs) [] h = refl
   members_apart (x ∷ xs) (y ∷ ys) h = and_right (same_tree (f x) (f y)) (SameMembers xs ys) (members_apart xs ys (λ e. h (ap suc e)))
+  members_apart xs ys h = refl
 
 -- Entries, of which each is seen as a key's bytes and a tree.
 module _ {A : Type 0} (g : A → List ℕ × Tree) where
@@ -24,8 +23,7 @@ module _ {A : Type 0} (g : A → List ℕ × Tree) where
 
   pub pairs_apart : (xs ys : List A) → (length xs ≡ length ys → ⊥) → SamePairs xs ys ≡ false
   pairs_apart [] [] h = absurd (h refl)
-  pairs_apart [] (y ∷ ys) h = refl
-  pairs_apart (x ∷ xs) [] h = refl
   pairs_apart (x ∷ xs) (y ∷ ys) h =
       and_right (bytes_eq (g x).0 (g y).0) (same_tree (g x).1 (g y).1 && SamePairs xs ys)
       (and_right (same_tree (g x).1 (g y).1) (SamePairs xs ys) (pairs_apart xs ys (λ e. h (ap suc e))))
+  pairs_apart xs ys h = refl

@@ -1,6 +1,7 @@
 -- The first key that stands before it too.
 use Rattle.std.proofs.Common.{◌≡◌, ◌<◌, ◌≤◌, ◌+◌, ℕ, zero, suc, List, [], ◌∷◌, ◌++◌, length, take, get_or, string_bytes, Bool, true, false, ◌==◌, Result, Ok, Err, refl, sym, ap, subst, ◌∙◌, arith, below_more, eqb-true}
 use Rattle.std.proofs.lemmas.Bool.{eqb-false}
+use Rattle.std.proofs.lemmas.List.{map_more}
 use Rattle.packstream.specs.declared.fault.Reason.{Reason}
 use Rattle.packstream.specs.declared.fault.Reason.TheVariants as reason
 use Rattle.packstream.specs.Tree.{Tree}
@@ -13,7 +14,7 @@ use Rattle.std.specs.BTreeSet.{BTreeSet, UpdatesBy}
 use Rattle.std.specs.Borrow.{Bor}
 use Rattle.packstream.specs.Reading.{Knows}
 use Rattle.packstream.proofs.Checking.{fault_again}
-use Rattle.packstream.proofs.Keys.{knows_more, names_take}
+use Rattle.packstream.proofs.Keys.{knows_more}
 
 abbrev pub AllNew : List Pair → ℕ → Type 0
 AllNew es i = (k : ℕ) → k < i → stands_before es k ≡ false
@@ -47,5 +48,5 @@ still_before n i h at next t false e le f = let off : i ≡ n → ⊥ = eqb-fals
 pub knows_one_more : (old new : BTreeSet (Bor (List ℕ))) (es : List Pair) (i : ℕ) (e : Pair) (k : List ℕ) → i < length es → e ≡ get_or es i e → k ≡ string_bytes e.0 → Knows old (names (take i es))
     → UpdatesBy (λ x y. slice_cmp nat_cmp x.now y.now) (λ y. slice_cmp nat_cmp k y.now) old new true → Knows new (names (take (i + 1) es))
 knows_one_more old new es i e k h is key knows up =
-    let more : names (take (i + 1) es) ≡ names (take i es) ++ k ∷ [] = names_take es i e h ∙ ap (λ (y : Pair). names (take i es) ++ string_bytes y.0 ∷ []) (sym is) ∙ ap (λ (s : List ℕ). names (take i es) ++ s ∷ []) (sym key) in
+    let more : names (take (i + 1) es) ≡ names (take i es) ++ k ∷ [] = map_more (λ (x : Pair). string_bytes x.0) es i e h ∙ ap (λ (y : Pair). names (take i es) ++ string_bytes y.0 ∷ []) (sym is) ∙ ap (λ (s : List ℕ). names (take i es) ++ s ∷ []) (sym key) in
     subst (λ (ns : List (List ℕ)). Knows new ns) (sym more) (knows_more old new (names (take i es)) k knows up)

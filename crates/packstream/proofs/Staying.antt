@@ -1,5 +1,5 @@
 -- A fault for another reason than missing bytes stays, whatever bytes follow.
-use Rattle.std.proofs.Common.{◌≡◌, ℕ, ◌+◌, ◌≤◌, ◌&&◌, ◌⊎◌, Bool, true, false, not, cond, nat_lt, nat_le, List, [], ◌∷◌, ◌++◌, length, drop, Option, Some, None, is_some, refl, sym, ap, ◌∙◌, append_assoc, arith, inl, inr}
+use Rattle.std.proofs.Common.{◌≡◌, ℕ, ◌+◌, ◌≤◌, ◌&&◌, Bool, true, false, not, cond, nat_lt, nat_le, List, [], ◌∷◌, ◌++◌, length, drop, Option, Some, None, is_some, refl, sym, ap, ◌∙◌, append_assoc, arith, inl, inr}
 use Rattle.std.proofs.lemmas.Bool.{le-ltb, lt-ltb, cases_lt}
 use Rattle.std.proofs.lemmas.List.{length-append, take-append-le, drop-append-le, length-drop}
 use Rattle.byteorder.specs.Numbers.{big_from-append}
@@ -18,61 +18,42 @@ size_in_more (After w) rest more le = big_from-append (width w) rest more le
 
 -- what the head and the body need is known once they are whole
 pub needs_more : (m : Marker) (rest more : List ℕ) → needs m rest ≤ length rest → needs m (rest ++ more) ≡ needs m rest
-needs_more announces.Null rest more le = refl
-needs_more (announces.Bool b) rest more le = refl
-needs_more (announces.Tiny z) rest more le = refl
-needs_more (announces.Int w) rest more le = refl
-needs_more announces.Float rest more le = refl
 needs_more (announces.Bytes size) rest more le = ap (λ (n : ℕ). size_len size + n) (size_in_more size rest more (omega arith))
 needs_more (announces.Text size) rest more le = ap (λ (n : ℕ). size_len size + n) (size_in_more size rest more (omega arith))
-needs_more (announces.List size) rest more le = refl
-needs_more (announces.Dict size) rest more le = refl
-needs_more (announces.Struct n) rest more le = refl
+needs_more m rest more le = refl
 
 pub text_in_more : (m : Marker) (rest more : List ℕ) → needs m rest ≤ length rest → text_in m (rest ++ more) ≡ text_in m rest
-text_in_more announces.Null rest more le = refl
-text_in_more (announces.Bool b) rest more le = refl
-text_in_more (announces.Tiny z) rest more le = refl
-text_in_more (announces.Int w) rest more le = refl
-text_in_more announces.Float rest more le = refl
-text_in_more (announces.Bytes size) rest more le = refl
 text_in_more (announces.Text size) rest more le =
     let n = size_in_more size rest more (omega arith) in
     let d = drop-append-le (size_len size) rest more (omega arith) in
     rw (n, d) (take-append-le (size_in size rest) (drop (size_len size) rest) more (omega (arith, length-drop (size_len size) rest)))
-text_in_more (announces.List size) rest more le = refl
-text_in_more (announces.Dict size) rest more le = refl
-text_in_more (announces.Struct n) rest more le = refl
+text_in_more m rest more le = refl
 
 some_short : (r : Reason) → ◌≡◌ {A = Option Reason} (Some reason.Short) (Some r) → r ≡ reason.Short
 some_short r e = sym (cc)
 
--- a fault that isn't for missing bytes comes before that test or after it
-late_more : (a b : Bool) (have wants have2 : ℕ) (r x y : Reason) (z : Option Reason) → cond a (Some x) (cond b (Some y) (cond (nat_lt have wants) (Some reason.Short) z)) ≡ Some r → (r ≡ reason.Short → ⊥) → have ≤ have2
-    → cond a (Some x) (cond b (Some y) (cond (nat_lt have2 wants) (Some reason.Short) z)) ≡ Some r
-late_more true b have wants have2 r x y z e other le = e
-late_more false true have wants have2 r x y z e other le = e
-late_more false false have wants have2 r x y z e other le =
-    let enough : wants ≤ have = elim (cases_lt have wants) as (λ _. wants ≤ have) [ inl lt ↦ absurd (other (some_short r (sym (rw (lt-ltb _ _ lt) refl) ∙ e))) | inr ge ↦ ge ] in
-    let one : nat_lt have wants ≡ false = le-ltb _ _ enough in
-    let two : nat_lt have2 wants ≡ false = le-ltb _ _ (omega arith) in
-    rw two (rw one at e)
-
--- whether all stands there
-enough_or_early : (a b : Bool) (have wants : ℕ) (r x y : Reason) (z : Option Reason) → cond a (Some x) (cond b (Some y) (cond (nat_lt have wants) (Some reason.Short) z)) ≡ Some r → (r ≡ reason.Short → ⊥)
-    → ((w : Option Reason) (n m : ℕ) → cond a (Some x) (cond b (Some y) (cond (nat_lt n m) (Some reason.Short) w)) ≡ Some r) ⊎ (wants ≤ have)
-enough_or_early true b have wants r x y z e other = inl (λ w n m. e)
-enough_or_early false true have wants r x y z e other = inl (λ w n m. e)
-enough_or_early false false have wants r x y z e other = inr (elim (cases_lt have wants) as (λ _. wants ≤ have) [ inl lt ↦ absurd (other (some_short r (sym (rw (lt-ltb _ _ lt) refl) ∙ e))) | inr ge ↦ ge ])
+-- a fault that isn't for missing bytes comes before that test, or after it where all stands there
+late_more : (a b : Bool) (have wants : ℕ) (r x y : Reason) (z : Option Reason) → cond a (Some x) (cond b (Some y) (cond (nat_lt have wants) (Some reason.Short) z)) ≡ Some r → (r ≡ reason.Short → ⊥)
+    → (have2 wants2 : ℕ) (z2 : Option Reason) → (wants ≤ have → (wants2 ≤ have2) × (z2 ≡ z)) → cond a (Some x) (cond b (Some y) (cond (nat_lt have2 wants2) (Some reason.Short) z2)) ≡ Some r
+late_more true b have wants r x y z e other have2 wants2 z2 more = e
+late_more false true have wants r x y z e other have2 wants2 z2 more = e
+late_more false false have wants r x y z e other have2 wants2 z2 more =
+    elim (cases_lt have wants) [
+      | inl lt ↦
+          let short : nat_lt have wants ≡ true = lt-ltb _ _ lt in
+          absurd (other (some_short r (rw short at e)))
+      | inr le ↦
+          let one : nat_lt have wants ≡ false = le-ltb _ _ le in
+          let two : nat_lt have2 wants2 ≡ false = le-ltb _ _ (more le).0 in
+          rw (two, (more le).1) (rw one at e)
+    ]
 
 fault_of_more : (p : Place) (m : Option Marker) (rest more : List ℕ) (r : Reason) → fault_of p m rest ≡ Some r → (r ≡ reason.Short → ⊥) → fault_of p m (rest ++ more) ≡ Some r
 unfolding fault_of
 fault_of_more p None rest more r e other = e
 fault_of_more p (Some m) rest more r e other =
-    elim (enough_or_early (is_some p.key && not (is_text m)) (nests m && nat_le 32 p.heads) (length rest) (needs m rest) r reason.KeyKind reason.Depth _ e other) as (λ _. fault_of p (Some m) (rest ++ more) ≡ Some r) [
-      | inl early ↦ early _ (length (rest ++ more)) (needs m (rest ++ more))
-      | inr le ↦ rw (needs_more m rest more le, text_in_more m rest more le) (late_more (is_some p.key && not (is_text m)) (nests m && nat_le 32 p.heads) (length rest) (needs m rest) (length (rest ++ more)) r reason.KeyKind reason.Depth _ e other (omega (arith, length-append rest more)))
-    ]
+    late_more (is_some p.key && not (is_text m)) (nests m && nat_le 32 p.heads) (length rest) (needs m rest) r reason.KeyKind reason.Depth _ e other (length (rest ++ more)) (needs m (rest ++ more)) _
+    (λ le. (omega (arith, needs_more m rest more le, length-append rest more), rw (text_in_more m rest more le) refl))
 
 fault_at_more : (p : Place) (rest more : List ℕ) (r : Reason) → fault_at p rest ≡ Some r → (r ≡ reason.Short → ⊥) → fault_at p (rest ++ more) ≡ Some r
 unfolding fault_at

@@ -93,7 +93,7 @@ fn put_float(out: &mut Adding, bits: u64) -> Result<(), AllocError>
 }
 
 /// A text, in place: the loop over a dictionary's pairs has no call for a key.
-#[tactic(auto, using(crate::proofs::Putting::length_appended, crate::proofs::Putting::three_parts))]
+#[tactic(auto, using(crate::proofs::Putting::parts))]
 #[inline]
 fn put_key(out: &mut Adding, key: &str) -> Result<(), Unwritten>
     ensures before { out.new.before ≡ out.old.before }
@@ -116,7 +116,7 @@ fn put_text(out: &mut Adding, text: &str) -> Result<(), Unwritten>
     put_key(out, text)
 }
 
-#[tactic(auto, using(crate::proofs::Putting::length_appended, crate::proofs::Putting::three_parts))]
+#[tactic(auto, using(crate::proofs::Putting::parts))]
 #[inline(never)]
 fn put_bytes(out: &mut Adding, bytes: &[u8]) -> Result<(), Unwritten>
     ensures before { out.new.before ≡ out.old.before }
@@ -132,7 +132,7 @@ fn put_bytes(out: &mut Adding, bytes: &[u8]) -> Result<(), Unwritten>
 }
 
 #[cycle(encoder)]
-#[tactic(auto, using(crate::proofs::Putting::tree_of_dict))]
+#[tactic(auto, using(crate::proofs::Views::dicts))]
 fn put_value(out: &mut Adding, value: &Value) -> Result<(), Unwritten>
     requires { IsSound (tree value.now) }
     ensures before { out.new.before ≡ out.old.before }
@@ -153,7 +153,7 @@ fn put_value(out: &mut Adding, value: &Value) -> Result<(), Unwritten>
 }
 
 #[cycle(encoder)]
-#[tactic(auto, using(crate::proofs::Putting::len_trees, crate::proofs::Putting::len_le_flat, crate::proofs::Putting::length_appended, crate::proofs::Putting::three_parts))]
+#[tactic(auto, using(crate::proofs::Putting::len_trees, crate::proofs::Putting::count_le, crate::proofs::Putting::parts))]
 #[inline(never)]
 fn put_list(out: &mut Adding, members: &[Value]) -> Result<(), Unwritten>
     requires { AreSound (trees_of (trees members.now)) }
@@ -169,7 +169,7 @@ fn put_list(out: &mut Adding, members: &[Value]) -> Result<(), Unwritten>
 }
 
 #[cycle(encoder)]
-#[tactic(auto, using(crate::proofs::Putting::len_entries, crate::proofs::Putting::len_le_flats, crate::proofs::Putting::length_appended, crate::proofs::Putting::three_parts))]
+#[tactic(auto, using(crate::proofs::Putting::len_entries, crate::proofs::Putting::entry_count_le, crate::proofs::Putting::parts))]
 #[inline(never)]
 fn put_dict(out: &mut Adding, pairs: &[(String, Value)]) -> Result<(), Unwritten>
     requires { HaveSoundValues (entries_of (entries pairs.now)) }
@@ -185,7 +185,7 @@ fn put_dict(out: &mut Adding, pairs: &[(String, Value)]) -> Result<(), Unwritten
 }
 
 #[cycle(encoder)]
-#[tactic(auto, using(crate::proofs::Putting::len_trees, crate::proofs::Putting::length_appended, crate::proofs::Putting::three_parts))]
+#[tactic(auto, using(crate::proofs::Putting::len_trees, crate::proofs::Putting::parts))]
 #[inline(never)]
 fn put_struct(out: &mut Adding, tag: u8, fields: &[Value]) -> Result<(), Unwritten>
     requires { IsSound (structure tag (trees_of (trees fields.now))) }
@@ -231,7 +231,7 @@ fn put_pairs(out: &mut Adding, pairs: &[(String, Value)]) -> Result<(), Unwritte
 }
 
 #[cycle(encoder)]
-#[tactic(auto, using(crate::proofs::Putting::length_appended, crate::proofs::Putting::three_parts))]
+#[tactic(auto, using(crate::proofs::Putting::parts))]
 fn put_pair(out: &mut Adding, pair: &(String, Value)) -> Result<(), Unwritten>
     requires { IsSound (tree pair.now.1) }
     ensures before { out.new.before ≡ out.old.before }

@@ -1,5 +1,5 @@
 -- Which rule a head breaks, and which the bytes after it.
-use Rattle.std.proofs.Common.{◌≡◌, ◌<◌, ◌+◌, ◌^◌, ◌&&◌, ℕ, Bool, true, false, not, cond, nat_lt, nat_le, List, [], ◌∷◌, ◌++◌, length, Option, Some, None, is_some, refl, ap, subst, ◌∙◌, arith}
+use Rattle.std.proofs.Common.{◌≡◌, ◌<◌, ◌+◌, ◌^◌, ◌&&◌, ℕ, Bool, true, false, not, cond, nat_lt, nat_le, List, ◌∷◌, ◌++◌, length, Option, Some, None, is_some, refl, ap, subst, ◌∙◌, arith}
 use Rattle.std.proofs.lemmas.Bool.{lt-ltb, le-ltb}
 use Rattle.std.proofs.lemmas.List.{length-append}
 use Rattle.std.specs.Str.{is_utf8}
@@ -24,30 +24,21 @@ use Rattle.reader.proofs.Heads.{needs_are, needs_more, text_there}
 
 passes : (text key full : Bool) (z : Option Reason) → (text ≡ true → full ≡ false) → cond text None (cond key (Some reason.KeyKind) (cond full (Some reason.Depth) None)) ≡ None
     → cond (key && not text) (Some reason.KeyKind) (cond full (Some reason.Depth) z) ≡ z
-passes true true full z f e = let off = f refl in rw off refl
-passes true false full z f e = let off = f refl in rw off refl
-passes false true full z f e = absurd cc
-passes false false true z f e = absurd cc
+passes true true full z f e = rw (f refl) refl
+passes true false full z f e = rw (f refl) refl
 passes false false false z f e = refl
+passes false key full z f e = absurd cc
 
 breaks : (text key full : Bool) (z : Option Reason) (r : Reason) → cond text None (cond key (Some reason.KeyKind) (cond full (Some reason.Depth) None)) ≡ Some r
     → (cond (key && not text) (Some reason.KeyKind) (cond full (Some reason.Depth) z) ≡ Some r) × (r ≡ reason.Short → ⊥)
 breaks true key full z r e = absurd cc
-breaks false true full z r e = (e, λ (s : r ≡ reason.Short). let k : ◌≡◌ {A = Option Reason} (Some reason.KeyKind) (Some reason.Short) = e ∙ ap (λ (x : Reason). Some x) s in cc)
-breaks false false true z r e = (e, λ (s : r ≡ reason.Short). let k : ◌≡◌ {A = Option Reason} (Some reason.Depth) (Some reason.Short) = e ∙ ap (λ (x : Reason). Some x) s in cc)
+breaks false true full z r e = (e, λ (s : r ≡ reason.Short). cc)
+breaks false false true z r e = (e, λ (s : r ≡ reason.Short). cc)
 breaks false false false z r e = absurd cc
 
 text_nests : (m : Marker) (full : Bool) → is_text m ≡ true → (nests m && full) ≡ false
-text_nests announces.Null full e = absurd cc
-text_nests (announces.Bool b) full e = absurd cc
-text_nests (announces.Tiny z) full e = absurd cc
-text_nests (announces.Int w) full e = absurd cc
-text_nests announces.Float full e = absurd cc
-text_nests (announces.Bytes size) full e = absurd cc
 text_nests (announces.Text size) full e = refl
-text_nests (announces.List size) full e = absurd cc
-text_nests (announces.Dict size) full e = absurd cc
-text_nests (announces.Struct n) full e = absurd cc
+text_nests m full e = absurd cc
 
 -- the rules after the head's
 abbrev pub body_fault : Place → Marker → List ℕ → Option Reason
@@ -79,12 +70,9 @@ at_body p b m rest is e = ap (λ (o : Option Marker). fault_of p o rest) is ∙ 
 missing : (p : Place) (b : ℕ) (m : Marker) (rest : List ℕ) → marker b ≡ Some m → head_fault p m ≡ None → length rest < needs m rest → fault_at p (b ∷ rest) ≡ Some reason.Short
 missing p b m rest is e lt = let short : nat_lt (length rest) (needs m rest) ≡ true = lt-ltb _ _ lt in at_body p b m rest is e ∙ rw short refl
 
-nothing_there : (p : Place) → fault_at p [] ≡ Some reason.Short
-unfolding fault_at
-nothing_there p = refl
-
 pub part_is_short : (p : Place) (q : Part) (tail : List ℕ) → IsPart p q tail → IsLacking q → fault_at p (part_head q ++ tail) ≡ Some reason.Short
-part_is_short p part.Nothing tail is lacks = ap (fault_at p) is ∙ nothing_there p
+unfolding fault_at
+part_is_short p part.Nothing tail is lacks = ap (fault_at p) is
 part_is_short p (part.Head b number has) tail is lacks =
     let a = is.admitted in
     let few : field (marker b) ≡ field (Some a.0) = ap field a.1 in

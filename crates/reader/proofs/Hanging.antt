@@ -2,7 +2,8 @@
 use Rattle.std.proofs.Common.{◌≡◌, ◌≤◌, ◌<◌, ◌+◌, ◌-◌, ℕ, zero, suc, Bool, true, false, cond, List, [], ◌∷◌, ◌++◌, length, take, drop, get_or, Option, Some, None, refl, sym, ap, subst, ◌∙◌, arith, inl, inr}
 use Rattle.std.specs.Prelude.{slice_get, slice_set, ◌⊎◌}
 use Rattle.std.proofs.lemmas.Option.{slice_get_within}
-use Rattle.std.proofs.lemmas.List.{length-drop}
+use Rattle.std.proofs.lemmas.Bool.{cases_eq}
+use Rattle.std.proofs.lemmas.List.{length-drop, map_push}
 use Rattle.std.proofs.Math.Seq.{take-length}
 use Rattle.reader.specs.declared.texts.Key.{Key}
 use Rattle.reader.specs.declared.texts.Link.{Link}
@@ -36,12 +37,8 @@ names_hung : (link : Option Link) (n : ℕ) (keys : List Key) → names_of (hung
 names_hung None n keys = refl
 names_hung (Some link) n keys = names_hung_at link.key link.is_right n keys
 
-names_push : (keys : List Key) (k : Key) → names_of (keys ++ k ∷ []) ≡ names_of keys ++ name k ∷ []
-names_push [] k = refl
-names_push (x ∷ keys) k = ap (λ (ns : List Name). name x ∷ ns) (names_push keys k)
-
 pub names_after : (link : Option Link) (n : ℕ) (keys : List Key) (k : Key) → names_of (hung link n keys ++ k ∷ []) ≡ names_of keys ++ name k ∷ []
-names_after link n keys k = names_push (hung link n keys) k ∙ ap (λ (ns : List Name). ns ++ name k ∷ []) (names_hung link n keys)
+names_after link n keys k = map_push name (hung link n keys) k ∙ ap (λ (ns : List Name). ns ++ name k ∷ []) (names_hung link n keys)
 
 -- what was at a place
 hung_from : (at : ℕ) (side : Bool) (n : ℕ) (keys : List Key) (i : ℕ) (j : Key) → slice_get (hung_at at side n keys) i ≡ Some j → (k : Key) × (slice_get keys i ≡ Some k) × IsSameKey k j
@@ -88,20 +85,11 @@ same_or_not true false = inr (λ (e : true ≡ false). cc)
 same_or_not false true = inr (λ (e : false ≡ true). cc)
 same_or_not false false = inl refl
 
-at_or_not : (i j : ℕ) → (i ≡ j) ⊎ (i ≡ j → ⊥)
-at_or_not zero zero = inl refl
-at_or_not zero (suc j) = inr (λ (e : zero ≡ suc j). omega arith)
-at_or_not (suc i) zero = inr (λ (e : suc i ≡ zero). omega arith)
-at_or_not (suc i) (suc j) = elim (at_or_not i j) as (λ _. (suc i ≡ suc j) ⊎ (suc i ≡ suc j → ⊥)) [
-  | inl e ↦ inl (ap (λ (n : ℕ). suc n) e)
-  | inr h ↦ inr (λ (e : suc i ≡ suc j). h (omega arith))
-]
-
 -- the key at which another was hung still has those that it had
 upper_after : (keys : List Key) (first at : ℕ) (side : Bool) (n f a : ℕ) (s : Bool) (next : ℕ) → HangsNone keys first at side → (u : Key) → slice_get keys at ≡ Some u → u.first ≡ first
     → (h : HangsOn keys f a s next) → (j : Key) × (slice_get (hung_at at side n keys) a ≡ Some j) × (j.first ≡ f) × (cond s j.right j.left ≡ next)
 upper_after keys first at side n f a s next none u is of_first h =
-    elim (at_or_not a at) as (λ _. (j : Key) × (slice_get (hung_at at side n keys) a ≡ Some j) × (j.first ≡ f) × (cond s j.right j.left ≡ next)) [
+    elim (cases_eq a at) as (λ _. (j : Key) × (slice_get (hung_at at side n keys) a ≡ Some j) × (j.first ≡ f) × (cond s j.right j.left ≡ next)) [
       | inr off ↦ (h.upper, hung_other at side n keys a h.upper h.upper_is off, h.upper_first, h.linked)
       | inl on ↦
           let same : h.upper ≡ u = one_element keys at h.upper u (subst (λ (x : ℕ). slice_get keys x ≡ Some h.upper) on h.upper_is) is in

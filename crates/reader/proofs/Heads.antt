@@ -18,21 +18,15 @@ use Rattle.reader.specs.Heads.{field, size_with, body, number_from, IsTiny, AreT
 
 -- ---- a byte more behind a number
 
-next_low : (n b : ℕ) → b < 256 → (n * 256 + b) % 256 ≡ b
-next_low n b lt = omega arith
-
-next_high : (n b : ℕ) → b < 256 → (n * 256 + b) / 256 ≡ n
-next_high n b lt = omega arith
-
 next_place : (j n b : ℕ) → b < 256 → byte_at (suc j) (n * 256 + b) ≡ byte_at j n
-next_place zero n b lt = ap (λ (x : ℕ). x % 256) (next_high n b lt)
+next_place zero n b lt = ap (λ (x : ℕ). x % 256) (omega arith)
 next_place (suc j) n b lt =
     let power : 256 ^ suc (suc j) ≡ 256 * 256 ^ suc j = pow-succ' 256 (suc j) in
     let split : (n * 256 + b) / (256 * 256 ^ suc j) ≡ (n * 256 + b) / 256 / 256 ^ suc j = sym (div-div-eq-div-mul (n * 256 + b) 256 (256 ^ suc j)) in
-    ap (λ (x : ℕ). (n * 256 + b) / x % 256) power ∙ ap (λ (x : ℕ). x % 256) split ∙ ap (λ (x : ℕ). x / 256 ^ suc j % 256) (next_high n b lt)
+    ap (λ (x : ℕ). (n * 256 + b) / x % 256) power ∙ ap (λ (x : ℕ). x % 256) split ∙ ap (λ (x : ℕ). x / 256 ^ suc j % 256) (omega arith)
 
 bytes_next : (k n b : ℕ) → b < 256 → big_bytes (suc k) (n * 256 + b) ≡ big_bytes k n ++ b ∷ []
-bytes_next zero n b lt = ap (λ (x : ℕ). x ∷ []) (next_low n b lt)
+bytes_next zero n b lt = ap (λ (x : ℕ). x ∷ []) (omega arith)
 bytes_next (suc j) n b lt =
     ap (λ (x : ℕ). x ∷ big_bytes (suc j) (n * 256 + b)) (next_place j n b lt) ∙ ap (λ (x : List ℕ). byte_at j n ∷ x) (bytes_next j n b lt)
 
@@ -60,44 +54,22 @@ fits_word k n le lt = let most : 256 ^ k ≤ 256 ^ 8 = pow-le-pow_right (omega a
 
 -- ---- what a head needs
 
-read_back : (k n : ℕ) (rest : List ℕ) → n < 256 ^ k → big_number k (big_bytes k n ++ rest) ≡ n
-read_back k n rest lt = big_number-reads_back k n rest lt
-
 pub needs_are : (m : Marker) (number : ℕ) (rest : List ℕ) → number < 256 ^ field (Some m) → needs m (big_bytes (field (Some m)) number ++ rest) ≡ field (Some m) + body (Some m) number
-needs_are announces.Null number rest lt = refl
-needs_are (announces.Bool b) number rest lt = refl
-needs_are (announces.Tiny z) number rest lt = refl
-needs_are (announces.Int w) number rest lt = omega arith
-needs_are announces.Float number rest lt = refl
-needs_are (announces.Bytes (Here n)) number rest lt = refl
-needs_are (announces.Bytes (After w)) number rest lt = ap (λ (x : ℕ). width w + x) (read_back (width w) number rest lt)
-needs_are (announces.Text (Here n)) number rest lt = refl
-needs_are (announces.Text (After w)) number rest lt = ap (λ (x : ℕ). width w + x) (read_back (width w) number rest lt)
-needs_are (announces.List (Here n)) number rest lt = refl
-needs_are (announces.List (After w)) number rest lt = omega arith
-needs_are (announces.Dict (Here n)) number rest lt = refl
-needs_are (announces.Dict (After w)) number rest lt = omega arith
-needs_are (announces.Struct n) number rest lt = refl
+needs_are (announces.Bytes (After w)) number rest lt = ap (λ (x : ℕ). width w + x) (big_number-reads_back (width w) number rest lt)
+needs_are (announces.Text (After w)) number rest lt = ap (λ (x : ℕ). width w + x) (big_number-reads_back (width w) number rest lt)
+needs_are m number rest lt = omega arith
 
 -- of a head that isn't whole the bytes of the number are missing
 pub needs_more : (m : Marker) (rest : List ℕ) → field (Some m) ≤ needs m rest
 needs_more announces.Null rest = omega arith
-needs_more (announces.Bool b) rest = omega arith
-needs_more (announces.Tiny z) rest = omega arith
-needs_more (announces.Int w) rest = omega arith
-needs_more announces.Float rest = omega arith
-needs_more (announces.Bytes size) rest = omega arith
-needs_more (announces.Text size) rest = omega arith
-needs_more (announces.List size) rest = omega arith
-needs_more (announces.Dict size) rest = omega arith
-needs_more (announces.Struct n) rest = omega arith
+needs_more m rest = omega arith
 
 pub text_there : (size : Size) (number : ℕ) (text rest : List ℕ) → number < 256 ^ size_len size → length text ≡ size_with size number
     → text_in (announces.Text size) (big_bytes (size_len size) number ++ (text ++ rest)) ≡ text
 text_there (Here n) number text rest lt e = take_at text rest n e
 text_there (After w) number text rest lt e =
     let d : drop (width w) (big_bytes (width w) number ++ (text ++ rest)) ≡ text ++ rest = drop_at (big_bytes (width w) number) (text ++ rest) (width w) (length-bytes_high_first (width w) number) in
-    let n : big_number (width w) (big_bytes (width w) number ++ (text ++ rest)) ≡ number = read_back (width w) number (text ++ rest) lt in
+    let n : big_number (width w) (big_bytes (width w) number ++ (text ++ rest)) ≡ number = big_number-reads_back (width w) number (text ++ rest) lt in
     rw (n, d) (take_at text rest number e)
 
 -- the length or count as a head has it

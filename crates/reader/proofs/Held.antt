@@ -2,14 +2,13 @@
 use Rattle.std.proofs.Common.{◌≡◌, ◌≤◌, Bool, ℕ, List, [], ◌++◌, length, take, None, refl, sym, ap, subst, ◌∙◌, append_assoc, arith, inl, inr, true≢false}
 use Rattle.std.proofs.lemmas.List.{take-take, take_at, length-take-le, append-nil, length-append}
 use Rattle.std.proofs.Math.Seq.{take-length}
-use Rattle.std.specs.Prelude.{true, false, Result, Ok, Err}
+use Rattle.std.specs.Prelude.{true, false}
 use Rattle.packstream.specs.declared.fault.Reason.{Reason}
 use Rattle.packstream.specs.declared.fault.Reason.TheVariants as reason
 use Rattle.packstream.specs.Tree.{Tree}
 use Rattle.packstream.specs.Good.{IsGood}
 use Rattle.packstream.specs.Plain.{AreBytes}
 use Rattle.packstream.specs.Spelling.{Spells}
-use Rattle.packstream.specs.Answers.{whole_of}
 use Rattle.packstream.specs.Faults.{Bad}
 use Rattle.packstream.proofs.Bounds.{good_spelled}
 use Rattle.packstream.proofs.Ranges.{both_bytes}
@@ -127,12 +126,6 @@ back_at false h back m e b kept = subst (λ (x : Holds). IsKept x m) (sym b) (ke
 
 -- ---- what the bytes have
 
-whole_not_bad : (b : List ℕ) (t : Tree) (r : Reason) (o : ℕ) → whole_of b ≡ Ok t → whole_of b ≡ Err (r, o) → ⊥
-whole_not_bad b t r o e f = let k : ◌≡◌ {A = Result Tree (Reason × ℕ)} (Ok t) (Err (r, o)) = sym e ∙ f in cc
-
-one_reason : (b : List ℕ) (r q : Reason) (o p : ℕ) → whole_of b ≡ Err (r, o) → whole_of b ≡ Err (q, p) → r ≡ q
-one_reason b r q o p e f = (err_parts {A = Tree} r q o p (sym e ∙ f)).0
-
 -- bytes are missing behind what is open
 goes_short : (h : Holds) → (g : Goes h h.standing.part) → IsLacking h.standing.part → Bad h.store h.standing.read reason.Short
 goes_short h g lacks =
@@ -147,8 +140,8 @@ done_tree h d bytes = good_spelled d.tree h.store bytes d.deep d.sound d.spells
 pub may_go_on : (h : Holds) → IsKeeping h → MayGoOn h.store
 may_go_on h keeps = λ r o bad.
     elim (keeps.stands) as (λ _. r ≡ reason.Short) [
-      | inl d ↦ (let t = done_tree h d keeps.bytes in absurd (whole_not_bad h.store d.tree r o ((whole_value h.store keeps.bytes d.tree).1 t) ((whole_fault h.store keeps.bytes r o).1 bad)))
-      | inr u ↦ one_reason h.store r reason.Short o h.standing.read ((whole_fault h.store keeps.bytes r o).1 bad) ((whole_fault h.store keeps.bytes reason.Short h.standing.read).1 (goes_short h u.0 u.1))
+      | inl d ↦ absurd (let k = sym ((whole_value h.store keeps.bytes d.tree).1 (done_tree h d keeps.bytes)) ∙ (whole_fault h.store keeps.bytes r o).1 bad in cc)
+      | inr u ↦ (err_parts {A = Tree} r reason.Short o h.standing.read (sym ((whole_fault h.store keeps.bytes r o).1 bad) ∙ (whole_fault h.store keeps.bytes reason.Short h.standing.read).1 (goes_short h u.0 u.1))).0
     ]
 
 -- ---- a piece
@@ -178,55 +171,12 @@ turns old new before piece r o is good turn bad =
       kept = begins_itself old.store;
     }))))
 
--- ---- a fault changes neither lists nor places
-
-turned_goes : (h : Holds) (r : Reason) (o : ℕ) (p : Part) → Goes h p → Goes (with_fault r o h) p
-turned_goes h r o p g = record {
-  frames = g.frames;
-  full = g.full;
-  tail = g.tail;
-  unread = g.unread;
-  store = g.store;
-  are = g.are;
-  read = g.read;
-  levels = g.levels;
-  named = g.named;
-  placed = g.placed;
-  isa = g.isa;
-}
-
-turned_done : (h : Holds) (r : Reason) (o : ℕ) → IsDone h → IsDone (with_fault r o h)
-turned_done h r o d = record {
-  tree = d.tree;
-  whole = d.whole;
-  none = d.none;
-  spells = d.spells;
-  sound = d.sound;
-  deep = d.deep;
-  read = d.read;
-  placed = d.placed;
-}
-
-turned_stands : (h : Holds) (r : Reason) (o : ℕ) → IsStanding h → IsStanding (with_fault r o h)
-turned_stands h r o (inl d) = inl (turned_done h r o d)
-turned_stands h r o (inr u) = inr (turned_goes h r o h.standing.part u.0, u.1)
-
-pub kept_turned : (h : Holds) (m : Mark) (r : Reason) (o : ℕ) → IsKept h m → IsKept (with_fault r o h) m
-kept_turned h m r o kept = record {
-  store = kept.store;
-  names = kept.names;
-  here = record { bytes = kept.here.bytes; stands = turned_stands h r o kept.here.stands };
-  behind = kept.behind;
-  held = kept.held;
-}
-
 -- ---- a mark that has the open levels alone
 
 -- what a standing has beside the levels that aren't open
 record IsAlike (s o : Standing) : Type 0 where
   part : s.part ≡ o.part
   read : s.read ≡ o.read
-  bad : s.bad ≡ o.bad
   is_whole : s.«open».is_whole ≡ o.«open».is_whole
   levels : (fs : List Frame) → AreLevels fs o.«open».depth o.«open».around → AreLevels fs s.«open».depth s.«open».around
 
@@ -264,17 +214,24 @@ alike_stands : (h : Holds) (s : Standing) → IsAlike s h.standing → IsStandin
 alike_stands h s like (inl d) = inl (alike_done h s like d)
 alike_stands h s like (inr u) = inr (subst (λ (p : Part). Goes (standing_so h s) p × IsLacking p) (sym like.part) (alike_goes h s h.standing.part like u.0, u.1))
 
-alike_point : (h : Holds) (s : Standing) → IsAlike s h.standing → point (standing_so h s) ≡ point h
-alike_point h s like = rw like.bad refl
+alike_point : (h : Holds) (s : Standing) → s.bad ≡ h.standing.bad → point (standing_so h s) ≡ point h
+alike_point h s same = rw same refl
 
 alike_keeps : (h : Holds) (s : Standing) → IsAlike s h.standing → IsKeeping h → IsKeeping (standing_so h s)
-alike_keeps h s like keeps = record {
-  bytes = keeps.bytes;
-  stands = alike_stands h s like keeps.stands;
+alike_keeps h s like keeps = record { bytes = keeps.bytes; stands = alike_stands h s like keeps.stands }
+
+-- a fault changes neither lists nor places
+pub kept_turned : (h : Holds) (m : Mark) (r : Reason) (o : ℕ) → IsKept h m → IsKept (with_fault r o h) m
+kept_turned h m r o kept = record {
+  store = kept.store;
+  names = kept.names;
+  here = alike_keeps h (with_fault r o h).standing (record { part = refl; read = refl; is_whole = refl; levels = λ fs l. l }) kept.here;
+  behind = kept.behind;
+  held = kept.held;
 }
 
 marked : (h : Holds) (m : Mark) → IsMark h m → IsAlike m.standing h.standing
-marked h m is = record { part = is.part; read = is.read; bad = is.bad; is_whole = is.is_whole; levels = is.levels }
+marked h m is = record { part = is.part; read = is.read; is_whole = is.is_whole; levels = is.levels }
 
 at_marked : (h : Holds) (m : Mark) → IsMark h m → at_mark m h ≡ standing_so h m.standing
 at_marked h m is =
@@ -286,7 +243,7 @@ marked_keeps : (h : Holds) (m : Mark) → IsMark h m → IsKeeping h → IsKeepi
 marked_keeps h m is keeps = subst IsKeeping (sym (at_marked h m is)) (alike_keeps h m.standing (marked h m is) keeps)
 
 pub marked_point : (h : Holds) (m : Mark) → IsMark h m → point (at_mark m h) ≡ point h
-marked_point h m is = ap point (at_marked h m is) ∙ alike_point h m.standing (marked h m is)
+marked_point h m is = ap point (at_marked h m is) ∙ alike_point h m.standing is.bad
 
 -- the point that is marked is held
 pub kept_marked : (h : Holds) (m : Mark) → IsMark h m → IsKeeping h → IsKept h m

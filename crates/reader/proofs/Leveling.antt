@@ -8,14 +8,12 @@ use Rattle.packstream.specs.Tree.{Tree, Entries}
 use Rattle.reader.specs.declared.open.Inside.{Inside}
 use Rattle.reader.specs.declared.open.Inside.TheVariants as inside
 use Rattle.reader.specs.declared.open.Level.{Level}
-use Rattle.packstream.specs.Faults.{Opened, in_list, in_struct, at_key, at_value}
+use Rattle.packstream.specs.Faults.{Opened, in_list, at_key, at_value}
 use Rattle.reader.specs.Frames.{Frame, level, next_of, after_value, AreLevels, waits, with_member, tree_so_far, whole, still, ends}
 
 next_put : (f : Opened) (t : Tree) → next_of (with_member f t) ≡ after_value (next_of f)
 next_put (in_list ts) t = refl
-next_put (in_struct tag ts) t = refl
-next_put (at_key es) t = refl
-next_put (at_value es k) t = refl
+next_put f t = refl
 
 get_set_other : (xs : List Level) (i j : ℕ) (a x d : Level) → j < i → slice_get xs j ≡ Some x → slice_get (slice_set xs i a) j ≡ Some x
 get_set_other xs i j a x d lt e =
@@ -31,23 +29,23 @@ levels_set : (fs : List Frame) (n i : ℕ) (xs : List Level) (a d : Level) → n
 levels_set [] n i xs a d le h = h
 levels_set (f ∷ fs) n i xs a d le h = record { below = h.below; counted = h.counted; there = get_set_other xs i h.below a (level f) d (omega (arith, h.counted)) h.there; others = levels_set fs h.below i xs a d (omega (arith, h.counted)) h.others }
 
+-- the innermost level
+pub last_level : (d : Level) (f : Frame) (fs : List Frame) (n : ℕ) (xs : List Level) → AreLevels (f ∷ fs) n xs → get_or xs (n - 1) d ≡ level f
+last_level d f fs n xs h =
+    let k : h.below ≡ n - 1 = omega (arith, h.counted) in
+    ap (λ (m : ℕ). get_or xs m d) (sym k) ∙ get_or_from_slice_get xs h.below (level f) d h.there
+
 -- the innermost level lacks no more: it is a member of what is around it
 pub step_out : (d : Level) (fs : List Frame) (t : Tree) (n : ℕ) (xs : List Level) → 0 < n → AreLevels fs n xs → (get_or xs (n - 1) d).lacks ≤ 1
     → (gs : List Frame) × (u : Tree) × AreLevels gs (n - 1) xs × (ends gs u ≡ ends fs t)
 step_out d [] t n xs lt h le = absurd (omega (arith, h))
 step_out d (f ∷ fs) t n xs lt h le =
     let k : h.below ≡ n - 1 = omega (arith, h.counted) in
-    let is : get_or xs (n - 1) d ≡ level f = ap (λ (m : ℕ). get_or xs m d) (sym k) ∙ get_or_from_slice_get xs h.below (level f) d h.there in
-    let lacks : (get_or xs (n - 1) d).lacks ≡ f.lacks = ap (λ (l : Level). l.lacks) is in
+    let lacks = ap (λ (l : Level). l.lacks) (last_level d f fs n xs h) in
     let last : nat_lt 1 f.lacks ≡ false = le-ltb _ _ (omega arith) in
     (fs, tree_so_far (with_member f.opened t), subst (λ (m : ℕ). AreLevels fs m xs) k h.others, rw last refl)
 
--- the innermost level, and what it is once it is written
-pub last_level : (d : Level) (f : Frame) (fs : List Frame) (n : ℕ) (xs : List Level) → AreLevels (f ∷ fs) n xs → get_or xs (n - 1) d ≡ level f
-last_level d f fs n xs h =
-    let k : h.below ≡ n - 1 = omega (arith, h.counted) in
-    ap (λ (m : ℕ). get_or xs m d) (sym k) ∙ get_or_from_slice_get xs h.below (level f) d h.there
-
+-- once it is written
 last_written : (d : Level) (f g : Frame) (fs : List Frame) (n : ℕ) (xs : List Level) (new : Level) → AreLevels (f ∷ fs) n xs → new ≡ level g → AreLevels (g ∷ fs) n (slice_set xs (n - 1) new)
 last_written d f g fs n xs new h is =
     let k : h.below ≡ n - 1 = omega (arith, h.counted) in
@@ -109,9 +107,6 @@ level_opens d fs f next lacks keys n xs lt h e =
 
 -- ---- levels that are copied
 
-below_other : (i n : ℕ) → i < n + 1 → (i ≡ n → ⊥) → i < n
-below_other i n lt e = omega (arith, e)
-
 -- the level that is copied is alike, and those before it stay so
 pub copied_on : (d : Level) (n : ℕ) (xs ys : List Level) → n < length xs → n < length ys
     → ((i : ℕ) → i < n → slice_get xs i ≡ slice_get ys i) → (i : ℕ) → i < n + 1 → slice_get (slice_set xs n (get_or ys n d)) i ≡ slice_get ys i
@@ -124,7 +119,7 @@ copied_on d n xs ys lx ly alike i lt =
     slice_get-get_or (slice_set xs n v) i d (omega (arith, len))
     ∙ ap (λ (l : Level). Some l) (get_or-set_other xs n i v d e)
     ∙ sym (slice_get-get_or xs i d (omega arith))
-    ∙ alike i (below_other i n lt e))
+    ∙ alike i (omega (arith, e)))
     (cases_eq i n)
 
 -- what is open is so in an array that is alike

@@ -2,7 +2,7 @@
 use Rattle.std.proofs.Common.{◌≡◌, ◌<◌, ◌-◌, ℕ, false, List, [], ◌∷◌, ◌++◌, length, None, refl, sym, ap, subst, ◌∙◌, append_assoc, arith, inl}
 use Rattle.std.proofs.lemmas.List.{append-nil}
 use Rattle.packstream.specs.Tree.{int}
-use Rattle.packstream.specs.Faults.{Opened, in_list, in_struct, at_key, at_value, key_there}
+use Rattle.packstream.specs.Faults.{Opened, in_list, in_struct, key_there}
 use Rattle.reader.specs.declared.open.Open.{Open}
 use Rattle.reader.specs.declared.open.Inside.TheVariants as inside
 use Rattle.reader.specs.declared.progress.Part.TheVariants as part
@@ -17,20 +17,17 @@ use Rattle.reader.proofs.Taking.{stored}
 member_next : (f : Opened) (b : ℕ) → (t : IsTiny b) → next_of f ≡ inside.Member → next_of (with_member f (int t.0)) ≡ inside.Member
 member_next (in_list ts) b t e = refl
 member_next (in_struct tag ts) b t e = refl
-member_next (at_key es) b t e = absurd cc
-member_next (at_value es k) b t e = absurd cc
+member_next f b t e = absurd cc
 
 no_key : (f : Opened) → next_of f ≡ inside.Member → key_there f ≡ None
 no_key (in_list ts) e = refl
 no_key (in_struct tag ts) e = refl
-no_key (at_key es) e = absurd cc
-no_key (at_value es k) e = absurd cc
+no_key f e = absurd cc
 
 no_names : (f : Opened) (n first : ℕ) (fs : List Frame) (names : List Name) (store : List ℕ) → next_of f ≡ inside.Member → HasOwnNames (waits f n first) fs names store
 no_names (in_list ts) n first fs names store e = (tt, tt)
 no_names (in_struct tag ts) n first fs names store e = (tt, tt)
-no_names (at_key es) n first fs names store e = absurd cc
-no_names (at_value es k) n first fs names store e = absurd cc
+no_names f n first fs names store e = absurd cc
 
 -- with these members more
 abbrev with_tiny : Opened → (bs : List ℕ) → AreTiny bs → Opened

@@ -68,21 +68,17 @@ bad_value b r o t bytes bad = (
   (λ (h : IsGood t × Spells t b). absurd (not_both b t r o bytes bad h)),
 )
 
-same_fault : (r q : Reason) (o p : ℕ)
-    → ◌≡◌ {A = Told} (Err (fault.Refused r o)) (Err (fault.Refused q p)) → (r ≡ q) × (o ≡ p)
-same_fault r q o p e = (cc, cc)
-
 pub bad_fault : (b : List ℕ) (r q : Reason) (o p : ℕ) → AreBytes b → Bad b o r
     → ◌≡◌ {A = Told} (Err (fault.Refused r o)) (Err (fault.Refused q p)) ↔ Bad b p q
 bad_fault b r q o p bytes bad = (
   (λ (e : ◌≡◌ {A = Told} (Err (fault.Refused r o)) (Err (fault.Refused q p))).
-      let s = same_fault r q o p e in
-      subst (λ (x : Reason). Bad b p x) s.0 (subst (λ (x : ℕ). Bad b x r) s.1 bad)),
+      let same : r ≡ q = cc in
+      let at : o ≡ p = cc in
+      rw (← same, ← at) bad),
   (λ (h : Bad b p q).
       let s = err_parts {A = Tree} r q o p
       (sym ((whole_fault b bytes r o).1 bad) ∙ (whole_fault b bytes q p).1 h) in
-      ap (λ (x : Reason). Err (fault.Refused x o)) s.0
-      ∙ ap (λ (x : ℕ). Err (fault.Refused q x)) s.1),
+      rw (s.0, s.1) refl),
 )
 
 bad_now : (b : List ℕ) (r : Reason) (o : ℕ) → IsBadAlways b r o → Bad b o r

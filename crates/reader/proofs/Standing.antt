@@ -10,7 +10,7 @@ use Rattle.std.proofs.lemmas.Slice.Eq.{bytes_eq-Decides}
 use Rattle.packstream.specs.Tree.{Tree, Entries, no_entries, entry_then}
 use Rattle.packstream.specs.Good.{depth, IsSound, is_among}
 use Rattle.packstream.specs.Spelling.{SpellsTree}
-use Rattle.packstream.specs.Faults.{Opened, in_list, in_struct, at_key, at_value, keys_of}
+use Rattle.packstream.specs.Faults.{Opened, at_key, at_value, keys_of}
 use Rattle.reader.specs.declared.open.Open.{Open}
 use Rattle.reader.specs.declared.open.Level.{Level}
 use Rattle.reader.specs.declared.progress.Part.TheVariants as part
@@ -42,19 +42,17 @@ some_key [] k e = cc
 some_key (j ∷ ks) k e = cc
 
 names_put : (f : Opened) (t : Tree) (first : ℕ) (names : List Name) (store : List ℕ) → HasNames f first names store → ((es : Entries) → f ≡ at_key es → ⊥) → HasNames (with_member f t) first names store
-names_put (in_list ts) t first names store h other = tt
-names_put (in_struct tag ts) t first names store h other = tt
 names_put (at_key es) t first names store h other = absurd (other es refl)
 names_put (at_value es k) t first names store h other = (
   subst (λ (ks : List (List ℕ)). AreNames names store first ks) (sym (keys_push es k t)) h,
   λ (e : keys_of (push_entry es k t) ≡ []). absurd (some_key (keys_of es) k (sym (keys_push es k t) ∙ e)),
 )
+names_put f t first names store h other = tt
 
 apart_put : (f : Opened) (t : Tree) (first : ℕ) (fs : List Frame) → IsApart f first fs → IsApart (with_member f t) first fs
-apart_put (in_list ts) t first fs h = tt
-apart_put (in_struct tag ts) t first fs h = tt
 apart_put (at_key es) t first fs h = h
 apart_put (at_value es k) t first fs h = h
+apart_put f t first fs h = tt
 
 no_key : (f : Frame) (fs : List Frame) → (place (f ∷ fs)).key ≡ None → (es : Entries) → f.opened ≡ at_key es → ⊥
 no_key f fs none es e = let k : ◌≡◌ {A = Option (List (List ℕ))} (Some (keys_of es)) None = sym (ap (λ (o : Opened). (place (record { opened = o; lacks = f.lacks; first = f.first } ∷ fs)).key) e) ∙ none in cc
@@ -87,10 +85,9 @@ are_more names store s first keys placed h = λ x. (let m = named_more names sto
 ))
 
 has_more : (f : Opened) (names : List Name) (store s : List ℕ) (first : ℕ) → ArePlaced names (length store) → HasNames f first names store → HasNames f first names (store ++ s)
-has_more (in_list ts) names store s first placed h = tt
-has_more (in_struct tag ts) names store s first placed h = tt
 has_more (at_key es) names store s first placed h = (are_more names store s first (keys_of es) placed h.0, h.1)
 has_more (at_value es k) names store s first placed h = are_more names store s first (keys_of es ++ k ∷ []) placed h
+has_more f names store s first placed h = tt
 
 pub names_more : (fs : List Frame) (names : List Name) (store s : List ℕ) → ArePlaced names (length store) → HaveNames fs names store → HaveNames fs names (store ++ s)
 names_more [] names store s placed h = tt
@@ -117,10 +114,9 @@ are_push names n store first keys lt h = λ x. (let m = named_push names n store
 ))
 
 has_push : (f : Opened) (names : List Name) (n : Name) (store : List ℕ) (first : ℕ) → ((es : Entries) → f ≡ at_key es → ⊥) → BeginsBefore f first n.first → HasNames f first names store → HasNames f first (names ++ n ∷ []) store
-has_push (in_list ts) names n store first other lt h = tt
-has_push (in_struct tag ts) names n store first other lt h = tt
 has_push (at_key es) names n store first other lt h = absurd (other es refl)
 has_push (at_value es k) names n store first other lt h = are_push names n store first (keys_of es ++ k ∷ []) lt h
+has_push f names n store first other lt h = tt
 
 -- those around keep theirs where an inner dictionary has one more
 pub names_push : (fs : List Frame) (b : List ℕ) (names : List Name) (n : Name) (store : List ℕ) → AreFrames fs b → (place fs).key ≡ None → BeginBefore fs n.first → HaveNames fs names store → HaveNames fs (names ++ n ∷ []) store
@@ -134,9 +130,6 @@ or_false : (a : Bool) → (a || false) ≡ true → a ≡ true
 or_false true e = refl
 or_false false e = e
 
-same_text : (k : List ℕ) → bytes_eq k k ≡ true
-same_text k = (bytes_eq-Decides k k).1 refl
-
 among_push : (x : List ℕ) (keys : List (List ℕ)) (k : List ℕ) → is_among x (keys ++ k ∷ []) ≡ true → (is_among x keys ≡ true) ⊎ (x ≡ k)
 among_push x keys k e =
     elim (or_cases (list_any (bytes_eq x) keys) (list_any (bytes_eq x) (k ∷ [])) (sym (list_any-append (bytes_eq x) keys (k ∷ [])) ∙ e)) as (λ _. (is_among x keys ≡ true) ⊎ (x ≡ k)) [
@@ -148,7 +141,7 @@ among_front : (x : List ℕ) (keys : List (List ℕ)) (k : List ℕ) → is_amon
 among_front x keys k e = list_any-append (bytes_eq x) keys (k ∷ []) ∙ or_left (list_any (bytes_eq x) keys) (list_any (bytes_eq x) (k ∷ [])) e
 
 among_head : (k : List ℕ) (keys : List (List ℕ)) → is_among k (k ∷ keys) ≡ true
-among_head k keys = or_left (bytes_eq k k) (list_any (bytes_eq k) keys) (same_text k)
+among_head k keys = or_left (bytes_eq k k) (list_any (bytes_eq k) keys) ((bytes_eq-Decides k k).1 refl)
 
 among_itself : (keys : List (List ℕ)) (k : List ℕ) → is_among k (keys ++ k ∷ []) ≡ true
 among_itself keys k = list_any-append (bytes_eq k) keys (k ∷ []) ∙ or_right (list_any (bytes_eq k) keys) (list_any (bytes_eq k) (k ∷ [])) (among_head k [])
@@ -179,10 +172,9 @@ named_before : (names : List Name) (store : List ℕ) (first : ℕ) (x : List �
 named_before names store first x placed w = omega (arith, (placed w.index w.found w.there).0, slice_get_within names w.index w.found w.there, w.begins)
 
 opened_before : (f : Opened) (names : List Name) (store : List ℕ) (first : ℕ) → ArePlaced names (length store) → ((es : Entries) → f ≡ at_key es → ⊥) → HasNames f first names store → BeginsBefore f first (length names)
-opened_before (in_list ts) names store first placed other h = tt
-opened_before (in_struct tag ts) names store first placed other h = tt
 opened_before (at_key es) names store first placed other h = absurd (other es refl)
 opened_before (at_value es k) names store first placed other h = named_before names store first k placed ((h k).0 (among_itself (keys_of es) k))
+opened_before f names store first placed other h = tt
 
 pub all_before : (fs : List Frame) (b : List ℕ) (names : List Name) (store : List ℕ) → AreFrames fs b → (place fs).key ≡ None → ArePlaced names (length store) → HaveNames fs names store → BeginBefore fs (length names)
 all_before [] b names store are none placed h = tt
@@ -237,5 +229,5 @@ value_stands h m number o g value left =
     g.placed
 
 -- what was taken with an item that ends
-pub has_taken : (h : Holds) (o : Open) (rest : List ℕ) → h.standing.bad ≡ None → IsStanding (after o (with_item h)) → HasTaken (h.store ++ rest) (after o (with_item h)) rest
-has_taken h o rest good stands = record { stands = stands; bytes = refl; ends = inl refl; bad = good }
+pub has_taken : (h now : Holds) (o : Open) (rest : List ℕ) → now ≡ after o (with_item h) → h.standing.bad ≡ None → IsStanding (after o (with_item h)) → HasTaken (h.store ++ rest) now rest
+has_taken h now o rest is good stands = rw is (record { stands = stands; bytes = refl; ends = inl refl; bad = good })

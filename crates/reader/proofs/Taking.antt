@@ -177,16 +177,8 @@ refuses_none fs m n around levels t k e le d =
     rw (t, k, e, heads) refl
 
 pub no_text : (m : Marker) → ((size : Size) → m ≡ announces.Text size → ⊥) → is_text m ≡ false
-no_text announces.Null h = refl
-no_text (announces.Bool b) h = refl
-no_text (announces.Tiny z) h = refl
-no_text (announces.Int w) h = refl
-no_text announces.Float h = refl
-no_text (announces.Bytes size) h = refl
 no_text (announces.Text size) h = absurd (h size refl)
-no_text (announces.List size) h = refl
-no_text (announces.Dict size) h = refl
-no_text (announces.Struct n) h = refl
+no_text m h = refl
 
 -- ---- where it stands
 

@@ -3,7 +3,7 @@ use Rattle.std.proofs.Common.{◌≡◌, ◌≤◌, ◌<◌, ◌+◌, ◌-◌, �
 use Rattle.std.specs.Prelude.{slice_get, ◌⊎◌, ◌↔◌, IsTrue, ◌==◌, ◌/◌, ◌%◌, ◌^◌, nat_lt, bit_and}
 use Rattle.std.proofs.lemmas.Bool.{le-ltb}
 use Rattle.std.proofs.lemmas.Nat.Bits.{shr_and_one}
-use Rattle.std.proofs.lemmas.List.{take-append-le, drop-append-le, length-drop, length-append, take-append-drop}
+use Rattle.std.proofs.lemmas.List.{length-map, take-append-le, drop-append-le, length-drop, length-append, take-append-drop}
 use Rattle.std.proofs.lemmas.Option.{slice_get_within}
 use Rattle.reader.specs.declared.texts.Key.{Key}
 use Rattle.reader.specs.Naming.{Name, name, names_of, text_of, IsNamed, ArePlaced, IsRoot, digest_of, side_of, HangsOn, Leads, IsTree, HangsNone, IsFree}
@@ -57,8 +57,7 @@ name_at (x ∷ keys) zero k e = let same : x ≡ k = cc in ap (λ (y : Key). Som
 name_at (x ∷ keys) (suc i) k e = name_at keys i k e
 
 pub count_names : (keys : List Key) → length (names_of keys) ≡ length keys
-count_names [] = refl
-count_names (k ∷ keys) = ap (λ (n : ℕ). suc n) (count_names keys)
+count_names keys = length-map keys name
 
 pub text_more : (a b : List ℕ) (start len : ℕ) → start + len ≤ length a → take len (drop start (a ++ b)) ≡ take len (drop start a)
 text_more a b start len le =
@@ -229,23 +228,20 @@ search_ends keys bytes first s above at side h other is none = (
   },
 )
 
+none_behind : (keys : List Key) (bytes : List ℕ) (first i : ℕ) (n : Name) → IsTree keys bytes → slice_get (names_of keys) i ≡ Some n → n.first ≡ first → length keys ≤ first → ⊥
+none_behind keys bytes first i n tree there begins le =
+    let k = named_key keys i n there in
+    omega (arith, (tree i k.0 k.1).behind, ap (λ (x : Name). x.first) k.2 ∙ begins, slice_get_within keys i k.0 k.1)
+
 is_first : (keys : List Key) (bytes : List ℕ) (first : ℕ) → IsTree keys bytes → IsRoot (names_of keys) first → length keys ≤ first → first ≡ length keys
 is_first keys bytes first tree (inl e) le = e ∙ count_names keys
-is_first keys bytes first tree (inr h) le =
-    let k = named_key keys h.index h.found h.there in
-    let of_first : (k.0).first ≡ first = ap (λ (x : Name). x.first) k.2 ∙ h.begins in
-    let within : h.index < length keys = slice_get_within keys h.index k.0 k.1 in
-    absurd (omega (arith, (tree h.index k.0 k.1).behind, of_first, within))
+is_first keys bytes first tree (inr h) le = absurd (none_behind keys bytes first h.index h.found tree h.there h.begins le)
 
 -- the dictionary has no key
 pub search_is_over : (keys : List Key) (bytes : List ℕ) (first : ℕ) (s : List ℕ) → IsTree keys bytes → IsRoot (names_of keys) first → length keys ≤ first
     → (IsNamed (names_of keys) bytes first s → ⊥) × IsFree keys first s None
 search_is_over keys bytes first s tree root le = (
-  (λ (n : IsNamed (names_of keys) bytes first s).
-      let k = named_key keys n.index n.found n.there in
-      let of_first : (k.0).first ≡ first = ap (λ (x : Name). x.first) k.2 ∙ n.begins in
-      let within : n.index < length keys = slice_get_within keys n.index k.0 k.1 in
-      absurd (omega (arith, (tree n.index k.0 k.1).behind, of_first, within))),
+  (λ (n : IsNamed (names_of keys) bytes first s). none_behind keys bytes first n.index n.found tree n.there n.begins le),
   is_first keys bytes first tree root le,
 )
 

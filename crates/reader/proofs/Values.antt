@@ -73,15 +73,15 @@ few_around h m number g = omega (arith, few_frames g.frames g.full g.are)
 -- ---- values without members
 
 -- the head is all of it
-headed : (h : Holds) (m number : ℕ) (what : Marker) (t : Tree) → marker m ≡ Some what → is_text what ≡ false → IsSound t → depth t ≡ 0 → body (Some what) number ≡ 0
+headed : (h : Holds) (m number : ℕ) (what : Marker) (t : Tree) → marker m ≡ Some what → is_text what ≡ false → IsSound t → ((g : Goes h (part.Body m number 0)) → depth t + length g.frames ≤ 32) → body (Some what) number ≡ 0
     → SpellsTree t (m ∷ big_bytes (field (Some what)) number) → IsValue h m number
-headed h m number what t is not sound flat none spells = λ g.
+headed h m number what t is not sound deep none spells = λ g.
     (let tail : g.tail ≡ [] = no_tail g.tail (body (marker m) number) g.isa.long (ap (λ (o : Option Marker). body o number) is ∙ none) in
     let all : m ∷ big_bytes (field (Some what)) number ≡ head_bytes m number ++ g.tail = sym (head_is m number what is) ∙ sym (append-nil (head_bytes m number)) ∙ ap (λ (x : List ℕ). head_bytes m number ++ x) (sym tail) in
     record {
       tree = t;
       sound = sound;
-      deep = omega (arith, flat, few_around h m number g);
+      deep = deep g;
       spells = subst (λ (b : List ℕ). SpellsTree t b) all spells;
       keyless = no_key_at (place g.frames) what not (head_ok (place g.frames) m what is g.isa.admitted);
     })
@@ -124,14 +124,14 @@ text_value h m number size is utf8 free = λ g.
 
 pub plain_value : (h : Holds) (m number : ℕ) (what : Marker) → marker m ≡ Some what → ((size : Size) → what ≡ announces.Text size → ⊥) → ((size : Size) → what ≡ announces.List size → ⊥)
     → ((size : Size) → what ≡ announces.Dict size → ⊥) → ((n : ℕ) → what ≡ announces.Struct n → ⊥) → number < 256 ^ field (marker m) → IsValue h m number
-plain_value h m number announces.Null is nt nl nd ns lt = headed h m number announces.Null null is refl tt refl refl (m, is, refl)
-plain_value h m number (announces.Bool b) is nt nl nd ns lt = headed h m number (announces.Bool b) (boolean b) is refl tt refl refl (m, is, refl)
-plain_value h m number (announces.Tiny z) is nt nl nd ns lt = headed h m number (announces.Tiny z) (int z) is refl tt refl refl (inl (m, is, refl))
+plain_value h m number announces.Null is nt nl nd ns lt = headed h m number announces.Null null is refl tt (few_around h m number) refl (m, is, refl)
+plain_value h m number (announces.Bool b) is nt nl nd ns lt = headed h m number (announces.Bool b) (boolean b) is refl tt (few_around h m number) refl (m, is, refl)
+plain_value h m number (announces.Tiny z) is nt nl nd ns lt = headed h m number (announces.Tiny z) (int z) is refl tt (few_around h m number) refl (inl (m, is, refl))
 plain_value h m number (announces.Int w) is nt nl nd ns lt =
-    headed h m number (announces.Int w) (int (twos_complement (width w) number)) is refl tt refl refl
+    headed h m number (announces.Int w) (int (twos_complement (width w) number)) is refl tt (few_around h m number) refl
     (inr (record { wide = w; number = number; field = big_bytes (width w) number; stands = number_of (width w) number (small_by m number (announces.Int w) is lt); value = refl; begins = (m, is, refl) }))
 plain_value h m number announces.Float is nt nl nd ns lt =
-    headed h m number announces.Float (float number) is refl tt refl refl (big_bytes 8 number, number_of 8 number (small_by m number announces.Float is lt), (m, is, refl))
+    headed h m number announces.Float (float number) is refl tt (few_around h m number) refl (big_bytes 8 number, number_of 8 number (small_by m number announces.Float is lt), (m, is, refl))
 plain_value h m number (announces.Bytes size) is nt nl nd ns lt = byte_value h m number size is
 plain_value h m number (announces.Text size) is nt nl nd ns lt = absurd (nt size refl)
 plain_value h m number (announces.List size) is nt nl nd ns lt = absurd (nl size refl)
@@ -144,48 +144,25 @@ room : (h : Holds) (m number : ℕ) (what : Marker) → marker m ≡ Some what �
 room h m number what is not nest g = omega (arith, not_deep (place g.frames) what not nest (head_ok (place g.frames) m what is g.isa.admitted), heads_are g.frames)
 
 pub list_has_room : (h : Holds) (m number count : ℕ) (what : Marker) → marker m ≡ Some what → IsListOf what number count → (g : Goes h (part.Body m number 0)) → h.standing.«open».depth < 32
-list_has_room h m number count announces.Null is l g = absurd l
-list_has_room h m number count (announces.Bool b) is l g = absurd l
-list_has_room h m number count (announces.Tiny z) is l g = absurd l
-list_has_room h m number count (announces.Int w) is l g = absurd l
-list_has_room h m number count announces.Float is l g = absurd l
-list_has_room h m number count (announces.Bytes size) is l g = absurd l
-list_has_room h m number count (announces.Text size) is l g = absurd l
 list_has_room h m number count (announces.List size) is l g = omega (arith, room h m number (announces.List size) is refl refl g, levels_depth g.frames h.standing.«open».depth h.standing.«open».around g.levels)
-list_has_room h m number count (announces.Dict size) is l g = absurd l
 list_has_room h m number count (announces.Struct n) is l g = omega (arith, room h m number (announces.Struct n) is refl refl g, levels_depth g.frames h.standing.«open».depth h.standing.«open».around g.levels)
+list_has_room h m number count what is l g = absurd l
 
 pub dict_has_room : (h : Holds) (m number : ℕ) (size : Size) → marker m ≡ Some (announces.Dict size) → (g : Goes h (part.Body m number 0)) → h.standing.«open».depth < 32
 dict_has_room h m number size is g = omega (arith, room h m number (announces.Dict size) is refl refl g, levels_depth g.frames h.standing.«open».depth h.standing.«open».around g.levels)
 
 nested : (h : Holds) (m number : ℕ) (what : Marker) (t : Tree) → marker m ≡ Some what → is_text what ≡ false → nests what ≡ true → IsSound t → depth t ≡ 1 → body (Some what) number ≡ 0
     → SpellsTree t (m ∷ big_bytes (field (Some what)) number) → IsValue h m number
-nested h m number what t is not nest sound flat none spells = λ g.
-    (let tail : g.tail ≡ [] = no_tail g.tail (body (marker m) number) g.isa.long (ap (λ (o : Option Marker). body o number) is ∙ none) in
-    let all : m ∷ big_bytes (field (Some what)) number ≡ head_bytes m number ++ g.tail = sym (head_is m number what is) ∙ sym (append-nil (head_bytes m number)) ∙ ap (λ (x : List ℕ). head_bytes m number ++ x) (sym tail) in
-    record {
-      tree = t;
-      sound = sound;
-      deep = omega (arith, flat, room h m number what is not nest g);
-      spells = subst (λ (b : List ℕ). SpellsTree t b) all spells;
-      keyless = no_key_at (place g.frames) what not (head_ok (place g.frames) m what is g.isa.admitted);
-    })
+nested h m number what t is not nest sound flat none spells = headed h m number what t is not sound (λ g. omega (arith, flat, room h m number what is not nest g)) none spells
 
 pub list_value : (h : Holds) (m number count : ℕ) (what : Marker) → marker m ≡ Some what → IsListOf what number count → count ≡ 0 → number < 256 ^ field (marker m) → IsValue h m number
-list_value h m number count announces.Null is l e lt = absurd l
-list_value h m number count (announces.Bool b) is l e lt = absurd l
-list_value h m number count (announces.Tiny z) is l e lt = absurd l
-list_value h m number count (announces.Int w) is l e lt = absurd l
-list_value h m number count announces.Float is l e lt = absurd l
-list_value h m number count (announces.Bytes size) is l e lt = absurd l
-list_value h m number count (announces.Text size) is l e lt = absurd l
 list_value h m number count (announces.List size) is l e lt =
     let field_is = sized_by size number 0 (small_by m number (announces.List size) is lt) (l ∙ e) in
     nested h m number (announces.List size) (list no_trees) is refl refl tt refl refl (list_is_empty size (big_bytes (size_len size) number) (m ∷ big_bytes (size_len size) number) field_is (m, is, refl))
-list_value h m number count (announces.Dict size) is l e lt = absurd l
 list_value h m number count (announces.Struct n) is l e lt =
     let none : marker m ≡ Some (announces.Struct 0) = is ∙ ap (λ (k : ℕ). Some (announces.Struct k)) (l ∙ e) in
     nested h m number (announces.Struct 0) (structure (number % 256) no_trees) none refl refl (omega arith, tt) refl refl (struct_is_empty (number % 256) (m ∷ big_bytes 1 number) (m, none, refl))
+list_value h m number count what is l e lt = absurd l
 
 pub dict_value : (h : Holds) (m number : ℕ) (size : Size) → marker m ≡ Some (announces.Dict size) → size_with size number ≡ 0 → number < 256 ^ field (marker m) → IsValue h m number
 dict_value h m number size is e lt =
@@ -203,13 +180,6 @@ opened h m number what gs is none g are =
 pub list_stands : (h : Holds) (m number count : ℕ) (what : Marker) (o : Open) → marker m ≡ Some what → IsListOf what number count → (count ≡ 0 → ⊥) → (g : Goes h (part.Body m number 0))
     → ((fs : List Frame) (f : Opened) → AreLevels fs h.standing.«open».depth h.standing.«open».around → next_of f ≡ inside.Member → AreLevels (waits f count 0 ∷ fs) o.depth o.around) → o.is_whole ≡ h.standing.«open».is_whole
     → IsStanding (after o (with_item h))
-list_stands h m number count announces.Null o is l some g levels whole = absurd l
-list_stands h m number count (announces.Bool b) o is l some g levels whole = absurd l
-list_stands h m number count (announces.Tiny z) o is l some g levels whole = absurd l
-list_stands h m number count (announces.Int w) o is l some g levels whole = absurd l
-list_stands h m number count announces.Float o is l some g levels whole = absurd l
-list_stands h m number count (announces.Bytes size) o is l some g levels whole = absurd l
-list_stands h m number count (announces.Text size) o is l some g levels whole = absurd l
 list_stands h m number count (announces.List size) o is l some g levels whole =
     let what : Marker = announces.List size in
     let none = no_key_at (place g.frames) what refl (head_ok (place g.frames) m what is g.isa.admitted) in
@@ -217,7 +187,6 @@ list_stands h m number count (announces.List size) o is l some g levels whole =
     let are = list_opens size count 0 (big_bytes (size_len size) number) g.frames g.full (m ∷ big_bytes (size_len size) number) g.are none (room h m number what is refl refl g) (omega arith) field_is (m, is, refl) in
     goes_on h o (waits (in_list no_trees) count 0 ∷ g.frames) (whole ∙ g.unread)
     (opened h m number what (waits (in_list no_trees) count 0 ∷ g.frames) is refl g are) (levels g.frames (in_list no_trees) g.levels refl) ((tt, tt), g.named) g.placed
-list_stands h m number count (announces.Dict size) o is l some g levels whole = absurd l
 list_stands h m number count (announces.Struct n) o is l some g levels whole =
     let what : Marker = announces.Struct n in
     let none = no_key_at (place g.frames) what refl (head_ok (place g.frames) m what is g.isa.admitted) in
@@ -225,6 +194,7 @@ list_stands h m number count (announces.Struct n) o is l some g levels whole =
     let are = struct_opens (number % 256) count 0 g.frames g.full (m ∷ big_bytes 1 number) g.are none (room h m number what is refl refl g) (omega arith) (m, counted, refl) in
     goes_on h o (waits (in_struct (number % 256) no_trees) count 0 ∷ g.frames) (whole ∙ g.unread)
     (opened h m number what (waits (in_struct (number % 256) no_trees) count 0 ∷ g.frames) is refl g are) (levels g.frames (in_struct (number % 256) no_trees) g.levels refl) ((tt, tt), g.named) g.placed
+list_stands h m number count what o is l some g levels whole = absurd l
 
 pub dict_stands : (h : Holds) (m number count : ℕ) (size : Size) (o : Open) → marker m ≡ Some (announces.Dict size) → size_with size number ≡ count → (count ≡ 0 → ⊥) → (g : Goes h (part.Body m number 0))
     → ((fs : List Frame) (f : Opened) → AreLevels fs h.standing.«open».depth h.standing.«open».around → next_of f ≡ inside.Key → AreLevels (waits f count (length h.names) ∷ fs) o.depth o.around) → o.is_whole ≡ h.standing.«open».is_whole
@@ -250,11 +220,9 @@ pub record IsKeyFrame (fs : List Frame) : Type 0 where
   pub around : List Frame
   pub is : fs ≡ waits (at_key es) lacks first ∷ around
 
-frame_by : (f : Frame) (fs : List Frame) (o : Opened) → f.opened ≡ o → is_some (key_there f.opened) ≡ true → IsKeyFrame (f ∷ fs)
-frame_by f fs (in_list ts) is e = absurd (let k : false ≡ true = sym (ap (λ (x : Opened). is_some (key_there x)) is) ∙ e in cc)
-frame_by f fs (in_struct tag ts) is e = absurd (let k : false ≡ true = sym (ap (λ (x : Opened). is_some (key_there x)) is) ∙ e in cc)
+frame_by : (f : Frame) (fs : List Frame) (o : Opened) → f.opened ≡ o → is_some (key_there o) ≡ true → IsKeyFrame (f ∷ fs)
 frame_by f fs (at_key es) is e = record { es = es; lacks = f.lacks; first = f.first; around = fs; is = ap (λ (o : Opened). record { opened = o; lacks = f.lacks; first = f.first } ∷ fs) is }
-frame_by f fs (at_value es k) is e = absurd (let j : false ≡ true = sym (ap (λ (x : Opened). is_some (key_there x)) is) ∙ e in cc)
+frame_by f fs o is e = absurd cc
 
 pub key_frame : (fs : List Frame) → is_some (place fs).key ≡ true → IsKeyFrame fs
 key_frame [] e = absurd cc

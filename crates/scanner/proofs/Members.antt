@@ -1,27 +1,26 @@
 -- Cells and entries, and one more behind them.
-use Rattle.std.proofs.Common.{◌≡◌, ℕ, suc, ℤ, Ok, rules, List, [], ◌∷◌, ◌++◌, map, Vec, Global, string_bytes, refl, sym, ap, ◌∙◌, append_assoc}
+use Rattle.std.proofs.Common.{◌≡◌, ℕ, suc, ℤ, Ok, rules, List, [], ◌∷◌, ◌++◌, map, string_bytes, refl, sym, ap, ◌∙◌, append_assoc}
 use Rattle.std.proofs.lemmas.List.{append-nil}
-use Rattle.packstream.specs.Tree.{Tree, Trees, int, dict}
+use Rattle.std.proofs.lemmas.Simd.{map-map}
+use Rattle.packstream.specs.Tree.{Tree, Trees, int}
 use Rattle.packstream.specs.View.{trees_of, entries_of}
 use Rattle.packstream.specs.Reading.{Read, keys, key_at, items_at, entries_at}
 use Rattle.packstream.proofs.Complete.{Pairs}
-use Rattle.cells.specs.declared.cell.Cell.{Int as IntCase, Dict as DictCase, the_lemmas}
+use Rattle.cells.specs.declared.cell.Cell.{Int as IntCase, the_lemmas}
 use Rattle.cells.specs.Faults.{structures, structures_in, structures_under}
-use Rattle.cells.specs.Shape.{shape, entries}
+use Rattle.cells.specs.Shape.{shape, entry, entries}
 use Rattle.cells.proofs.Views.{Pair, shape-Dict}
 
 abbrev pub names : List Pair → List (List ℕ)
 names es = map (λ e. string_bytes e.0) es
 
-pub shape_of_dict : (v : Vec Pair Global) → shape (DictCase v) ≡ dict (entries_of (entries v.items))
-shape_of_dict v = shape-Dict v
+pub ruleset dicts = (shape-Dict)
 
 pub shape_of_int : (z : ℤ) → shape (IntCase z) ≡ int z
 shape_of_int z = search (rules, the_lemmas)
 
 pub keys_are : (es : List Pair) → keys (entries es) ≡ names es
-keys_are [] = refl
-keys_are (e ∷ es) = ap (λ r. string_bytes e.0 ∷ r) (keys_are es)
+keys_are es = map-map (λ e. e.0) entry es
 
 -- a member that is read joins those before it
 pub member_on : (read : List ℕ → Read Tree) (n : ℕ) (done : List Tree) (bs after : List ℕ) (t : Tree) → read bs ≡ Ok (t, after) → items_at read n (done ++ t ∷ []) after ≡ items_at read (suc n) done bs

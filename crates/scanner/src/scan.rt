@@ -96,7 +96,7 @@ fn key_in<'a>(pairs: &[(String, Cell)], bytes: &'a [u8]) -> Result<(&'a str, &'a
 
 /// A cell that has no structure and nests within the room.
 #[cycle(scanner)]
-#[tactic(auto, using(crate::proofs::Members::shape_of_dict), unfolding(packstream::specs::Reading::layer, packstream::specs::Reading::form_at))]
+#[tactic(auto, using(crate::proofs::Members::dicts), unfolding(packstream::specs::Reading::layer, packstream::specs::Reading::form_at))]
 pub(crate) fn cell_in(alloc: Global, room: u8, bytes: &[u8]) -> Result<(Cell, &[u8]), Unscanned>
     ensures read { IfOk result (λ x. layer (inner room) bytes.now ≡ Ok (shape x.0, x.1.now)) }
     ensures plain { IfOk result (λ x. structures (shape x.0) ≡ []) }

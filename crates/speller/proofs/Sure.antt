@@ -8,15 +8,10 @@ use Rattle.speller.specs.Ready.{IsReady, AreReady, HaveReady}
 
 mutual
   pub deep_by : (t : Tree) (r : ℕ) → IsReady r t → depth t ≤ r
-  deep_by null r h = omega arith
-  deep_by (boolean b) r h = omega arith
-  deep_by (int z) r h = omega arith
-  deep_by (float n) r h = omega arith
-  deep_by (byte_string s) r h = omega arith
-  deep_by (text s) r h = omega arith
   deep_by (list ts) r h = let some = h.0 in let inside = all_deep ts (r - 1) h.1 in omega (arith, some, inside)
   deep_by (dict es) r h = let some = h.0 in let inside = under_deep es (r - 1) h.2 in omega (arith, some, inside)
   deep_by (structure tag ts) r h = absurd h
+  deep_by t r h = omega arith
 
   pub all_deep : (ts : Trees) (r : ℕ) → AreReady r ts → trees_depth ts ≤ r
   all_deep no_trees r h = omega arith
@@ -28,15 +23,10 @@ mutual
 
 mutual
   pub sound_by : (t : Tree) (r : ℕ) → IsReady r t → IsSound t
-  sound_by null r h = tt
-  sound_by (boolean b) r h = tt
-  sound_by (int z) r h = tt
-  sound_by (float n) r h = tt
-  sound_by (byte_string s) r h = tt
-  sound_by (text s) r h = tt
   sound_by (list ts) r h = all_sound ts (r - 1) h.1
   sound_by (dict es) r h = (h.1, under_sound es (r - 1) h.2)
   sound_by (structure tag ts) r h = absurd h
+  sound_by t r h = tt
 
   pub all_sound : (ts : Trees) (r : ℕ) → AreReady r ts → AreSound ts
   all_sound no_trees r h = tt
@@ -50,13 +40,10 @@ mutual
   pub plain_by : (t : Tree) (r : ℕ) → IsReady r t → IsPlain t
   plain_by null r h = tt
   plain_by (boolean b) r h = tt
-  plain_by (int z) r h = h
-  plain_by (float n) r h = h
-  plain_by (byte_string s) r h = h
-  plain_by (text s) r h = h
   plain_by (list ts) r h = all_plain ts (r - 1) h.1
   plain_by (dict es) r h = under_plain es (r - 1) h.2
   plain_by (structure tag ts) r h = absurd h
+  plain_by t r h = h
 
   pub all_plain : (ts : Trees) (r : ℕ) → AreReady r ts → ArePlain ts
   all_plain no_trees r h = tt
@@ -71,15 +58,10 @@ good_by t r le h = let d = deep_by t r h in record { deep = omega (arith, d, le)
 
 mutual
   pub none_by : (t : Tree) (r : ℕ) → IsReady r t → structures t ≡ []
-  none_by null r h = refl
-  none_by (boolean b) r h = refl
-  none_by (int z) r h = refl
-  none_by (float n) r h = refl
-  none_by (byte_string s) r h = refl
-  none_by (text s) r h = refl
   none_by (list ts) r h = all_none ts (r - 1) h.1
   none_by (dict es) r h = under_none es (r - 1) h.2
   none_by (structure tag ts) r h = absurd h
+  none_by t r h = refl
 
   pub all_none : (ts : Trees) (r : ℕ) → AreReady r ts → structures_in ts ≡ []
   all_none no_trees r h = refl

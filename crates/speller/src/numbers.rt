@@ -77,7 +77,7 @@ pub(crate) fn put_float(out: &mut Adding, bits: u64) -> Result<(), AllocError>
 }
 
 /// Adds the shortest spelling of a text that is not too long.
-#[tactic(auto, using(packstream::proofs::Putting::three_parts))]
+#[tactic(auto, using(packstream::proofs::Putting::parts))]
 #[inline]
 pub fn put_short_text(out: &mut Adding, text: &str) -> Result<(), AllocError>
     requires { length text.now ≤ max_size }
@@ -101,7 +101,7 @@ pub fn put_text(out: &mut Adding, text: &str) -> Result<(), Unspelled>
     Ok(())
 }
 
-#[tactic(auto, using(packstream::proofs::Putting::three_parts))]
+#[tactic(auto, using(packstream::proofs::Putting::parts))]
 pub(crate) fn put_bytes(out: &mut Adding, bytes: &[u8]) -> Result<(), Unspelled>
     ensures before { out.new.before ≡ out.old.before }
     ensures ok { OnOk result (out.new.more ≡ out.old.more

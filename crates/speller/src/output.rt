@@ -31,7 +31,7 @@ impl Model for Adding {
 
 impl Adding {
     /// Takes over what an output holds, with room for a small value where it has none. Nothing is added.
-    #[tactic(auto, using(packstream::proofs::Growing::all_before, packstream::proofs::Growing::none_more))]
+    #[tactic(auto, using(packstream::proofs::Growing::growing))]
     pub fn to(out: &mut BytesMut) -> Adding
         ensures before { result.before ≡ out.old.items }
         ensures more { result.more ≡ [] }
@@ -43,7 +43,7 @@ impl Adding {
     }
 
     /// How many bytes are added.
-    #[tactic(auto, using(packstream::proofs::Growing::length_more))]
+    #[tactic(auto, using(packstream::proofs::Growing::growing))]
     pub fn len(&self) -> usize
         ensures { result ≡ length self.now.more }
     {
@@ -51,7 +51,7 @@ impl Adding {
     }
 
     /// Adds a byte, or nothing for want of memory.
-    #[tactic(auto, using(packstream::proofs::Growing::keeps_before, packstream::proofs::Growing::adds_more, packstream::proofs::Growing::stays_within))]
+    #[tactic(auto, using(packstream::proofs::Growing::growing))]
     #[inline]
     pub fn push(&mut self, byte: u8) -> Result<(), AllocError>
         ensures before { self.new.before ≡ self.old.before }
@@ -61,7 +61,7 @@ impl Adding {
     }
 
     /// Adds bytes, or none for want of memory.
-    #[tactic(auto, using(packstream::proofs::Growing::keeps_before, packstream::proofs::Growing::adds_more, packstream::proofs::Growing::stays_within))]
+    #[tactic(auto, using(packstream::proofs::Growing::growing))]
     #[inline]
     pub fn extend_from_slice(&mut self, bytes: &[u8]) -> Result<(), AllocError>
         ensures before { self.new.before ≡ self.old.before }
@@ -71,7 +71,7 @@ impl Adding {
     }
 
     /// The output with what was added.
-    #[tactic(auto, using(packstream::proofs::Growing::whole))]
+    #[tactic(auto, using(packstream::proofs::Growing::growing))]
     pub fn keep(self) -> BytesMut
         ensures { result.items ≡ self.before ++ self.more }
     {

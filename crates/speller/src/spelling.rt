@@ -19,7 +19,7 @@ const FEW: usize = 16;
 
 /// Spells a cell that has no structure and nests within the room.
 #[cycle(speller)]
-#[tactic(auto, using(crate::proofs::Flat::text_is, crate::proofs::Flat::shape_of_dict))]
+#[tactic(auto, using(crate::proofs::Flat::facts))]
 fn put_cell(out: &mut Adding, cell: &Cell, room: u8) -> Result<(), Unspelled>
     ensures before { out.new.before ≡ out.old.before }
     ensures spelled { OnOk result (out.new.more ≡ out.old.more ++ canon (shape cell.now)) }
@@ -40,7 +40,7 @@ fn put_cell(out: &mut Adding, cell: &Cell, room: u8) -> Result<(), Unspelled>
 
 /// Spells a list.
 #[cycle(speller)]
-#[tactic(auto, using(packstream::proofs::Putting::three_parts, crate::proofs::Flat::len_cells))]
+#[tactic(auto, using(packstream::proofs::Putting::parts, crate::proofs::Flat::len_cells))]
 pub(crate) fn put_cells(out: &mut Adding, members: &[Cell], room: u8) -> Result<(), Unspelled>
     ensures before { out.new.before ≡ out.old.before }
     ensures spelled { OnOk result (out.new.more
@@ -69,7 +69,7 @@ fn put_members(out: &mut Adding, members: &[Cell], room: u8) -> Result<(), Unspe
 
 /// Spells a dictionary.
 #[cycle(speller)]
-#[tactic(auto, using(packstream::proofs::Putting::three_parts, crate::proofs::Flat::len_pairs))]
+#[tactic(auto, using(packstream::proofs::Putting::parts, crate::proofs::Flat::len_pairs))]
 pub(crate) fn put_entries(
     out: &mut Adding,
     pairs: &[(String, Cell)],
@@ -101,7 +101,7 @@ fn put_pairs(out: &mut Adding, pairs: &[(String, Cell)], room: u8) -> Result<(),
 }
 
 #[cycle(speller)]
-#[tactic(auto, using(packstream::proofs::Putting::three_parts, crate::proofs::Flat::text_is))]
+#[tactic(auto, using(packstream::proofs::Putting::parts, crate::proofs::Flat::facts))]
 fn put_pair(out: &mut Adding, pair: &(String, Cell), room: u8) -> Result<(), Unspelled>
     ensures before { out.new.before ≡ out.old.before }
     ensures spelled { OnOk result (out.new.more

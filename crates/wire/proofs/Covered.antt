@@ -1,18 +1,11 @@
 -- The version that is chosen, by the rule of the handshake.
-use Rattle.std.proofs.Common.{◌≡◌, ◌≤◌, ◌-◌, ◌↔◌, ◌==◌, ℕ, List, [], ◌∷◌, Bool, true, false, if◌then◌else◌, ◌&&◌, nat_le, Option, Some, None, inl, inr, refl, sym, ap, ◌∙◌, arith, ◌+◌, ◌<◌, length, get_or, drop, drop-cons, add-one, eqb-true, eq-eqb, leb-true}
+use Rattle.std.proofs.Common.{◌≡◌, ◌-◌, ◌↔◌, ◌==◌, ℕ, List, [], ◌∷◌, Bool, true, false, if◌then◌else◌, ◌&&◌, nat_le, Option, Some, None, inl, inr, refl, sym, ap, ◌∙◌, ◌+◌, ◌<◌, length, get_or, drop, drop-cons, add-one, eqb-true, eq-eqb, leb-true}
 use Rattle.std.specs.Prelude.{find}
 use Rattle.std.specs.Option.{option_or}
-use Rattle.std.proofs.lemmas.Bool.Decides.{nat_tests}
-use Rattle.std.proofs.lemmas.Bool.{and_from, and_parts}
+use Rattle.std.proofs.lemmas.Bool.{and_from, and_parts, le-leb}
 use Rattle.wire.specs.declared.versions.Version.{Version}
 use Rattle.wire.specs.Versions.{versions, major_of, minor_of}
 use Rattle.wire.specs.Offers.{is_covered, covered_by, choice_of, Covers, IsFirstCovered, CoversNone, Chooses, ProposalsChoose}
-
-some_same : (u v : Version) → ◌≡◌ {A = Option Version} (Some u) (Some v) → u ≡ v
-some_same u v e = cc
-
-is_le : (m n : ℕ) → m ≤ n → nat_le m n ≡ true
-is_le m n h = grind (arith, nat_tests)
 
 -- the test is the rule
 covers_is : (a b c d : ℕ) (v : Version) → is_covered a b c d v ≡ true → Covers a b c d v
@@ -25,8 +18,8 @@ covers_is a b c d v e =
 is_covers : (a b c d : ℕ) (v : Version) → Covers a b c d v → is_covered a b c d v ≡ true
 is_covers a b c d v h =
     and_from ((a == 0) && (d == major_of v) && nat_le (c - b) (minor_of v)) (nat_le (minor_of v) c)
-    (and_from ((a == 0) && (d == major_of v)) (nat_le (c - b) (minor_of v)) (and_from (a == 0) (d == major_of v) (eq-eqb _ _ h.zero_first) (eq-eqb _ _ h.same_major)) (is_le _ _ h.from_least))
-    (is_le _ _ h.to_most)
+    (and_from ((a == 0) && (d == major_of v)) (nat_le (c - b) (minor_of v)) (and_from (a == 0) (d == major_of v) (eq-eqb _ _ h.zero_first) (eq-eqb _ _ h.same_major)) (le-leb _ _ h.from_least))
+    (le-leb _ _ h.to_most)
 
 not_covers : (a b c d : ℕ) (v : Version) → is_covered a b c d v ≡ false → Covers a b c d v → ⊥
 not_covers a b c d v e h = let k : true ≡ false = sym (is_covers a b c d v h) ∙ e in cc
@@ -49,7 +42,7 @@ covered_by_test : (a b c d : ℕ) (u : Version) (us : List Version) (o : Option 
 covered_by_test a b c d u us o true e k =
     let is = covers_is a b c d u e in
     record {
-      one = λ v h. inl (is, some_same u v h);
+      one = λ v h. inl (is, cc);
       only = λ v h. first_only a b c d u us v is h;
       none = λ h. absurd cc;
       some = λ h. absurd (h.0 is);
@@ -79,18 +72,9 @@ first_by a b c d more v (Some u) k rest = (
 )
 
 pub proposals_choose : ProposalsChoose
-proposals_choose [] v = ((λ h. absurd cc), (λ h. absurd h))
-proposals_choose (a ∷ []) v = ((λ h. absurd cc), (λ h. absurd h))
-proposals_choose (a ∷ b ∷ []) v = ((λ h. absurd cc), (λ h. absurd h))
-proposals_choose (a ∷ b ∷ c ∷ []) v = ((λ h. absurd cc), (λ h. absurd h))
 proposals_choose (a ∷ b ∷ c ∷ d ∷ more) v = first_by a b c d more v (covered_by a b c d) (covered a b c d versions) (proposals_choose more v)
+proposals_choose xs v = ((λ h. absurd cc), (λ h. absurd h))
 
--- ---- a search place by place
-
--- it ends at the first place where the test holds
-pub found-here : (test : Version → Bool) (vs : List Version) (i : ℕ) (d : Version) → i < length vs → test (get_or vs i d) ≡ true → find test (drop i vs) ≡ Some (get_or vs i d)
-found-here test vs i d h e = rw (drop-cons vs i d h, e) refl
-
--- and goes on where it does not
+-- a search goes on where the test doesn't hold
 pub found-later : (test : Version → Bool) (vs : List Version) (i : ℕ) (d : Version) → i < length vs → test (get_or vs i d) ≡ false → find test (drop i vs) ≡ find test (drop (i + 1) vs)
 found-later test vs i d h e = rw (drop-cons vs i d h, e, add-one) refl

@@ -34,10 +34,6 @@ chunk_from c body more some fits all =
     ∙ further-further 2 (length c) _
     ∙ ap (λ k. further k (answer_from (open_at (body ++ c) None 0) more)) two)
 
--- a message ends at a chunk of no bytes
-ended : (m more : List ℕ) → answer_from (open_at m None 0) (0 ∷ 0 ∷ more) ≡ record { answer = Ok (record { used = 2; what = item_of m }); rest = fresh }
-ended m more = refl
-
 front : (m more : List ℕ) → run_of (m ∷ []) ++ more ≡ chunk_of m ++ (0 ∷ 0 ∷ more)
 front m more = ap (λ xs. (xs ++ 0 ∷ 0 ∷ []) ++ more) (append-nil (chunk_of m)) ∙ append_assoc (chunk_of m) (0 ∷ 0 ∷ []) more
 
@@ -48,13 +44,9 @@ pub takes_first : TakesFirst
 takes_first m piece h =
     ap (answer_from fresh) (h.whole ∙ front m h.more)
     ∙ chunk_from m [] (0 ∷ 0 ∷ h.more) h.some h.fits (omega (arith, h.fits))
-    ∙ ap (further (length m + 2)) (ended m h.more)
     ∙ as_message ((length m + 2) + 2) (length m + 4) m (omega arith) (item_of-some m h.some)
 
 -- ---- what the first bytes tell
-
-two_bytes : (m more : List ℕ) → run_of (m ∷ []) ++ more ≡ ((length m / 256) % 256) ∷ (length m % 256) ∷ (m ++ 0 ∷ 0 ∷ more)
-two_bytes m more = front m more
 
 -- a header, so many bytes, and a chunk of no bytes
 pub found : (high low : ℕ) (m more : List ℕ) → high < 256 → low < 256 → high * 256 + low ≡ length m → 0 < length m → BeginsWith m (high ∷ low ∷ (m ++ 0 ∷ 0 ∷ more))
@@ -67,7 +59,7 @@ found high low m more h l e some =
       some = some;
       fits = fits;
       more = more;
-      whole = ap (λ x. x ∷ low ∷ rest) first ∙ ap (λ x. ((length m / 256) % 256) ∷ x ∷ rest) second ∙ sym (two_bytes m more);
+      whole = ap (λ x. x ∷ low ∷ rest) first ∙ ap (λ x. ((length m / 256) % 256) ∷ x ∷ rest) second ∙ sym (front m more);
     }
 
 -- and only so
@@ -76,14 +68,12 @@ pub record Found (high low : ℕ) (rest m : List ℕ) : Type 0 where
   pub more : List ℕ
   pub rest_is : rest ≡ m ++ 0 ∷ 0 ∷ more
 
-head_is : (a b : ℕ) (xs ys : List ℕ) → a ∷ xs ≡ b ∷ ys → (a ≡ b) × (xs ≡ ys)
-head_is a b xs ys e = (cc, cc)
-
 pub found_only : (high low : ℕ) (rest m : List ℕ) → BeginsWith m (high ∷ low ∷ rest) → Found high low rest m
 found_only high low rest m h =
-    let all = head_is _ _ _ _ (h.whole ∙ two_bytes m h.more) in
-    let behind = head_is _ _ _ _ all.1 in
-    record { len = ap (λ x. x * 256 + low) all.0 ∙ ap (λ x. ((length m / 256) % 256) * 256 + x) behind.0 ∙ header-number (length m) h.fits; more = h.more; rest_is = behind.1 }
+    let all = h.whole ∙ front m h.more in
+    let first : high ≡ (length m / 256) % 256 = cc in
+    let second : low ≡ length m % 256 = cc in
+    record { len = omega (arith, first, second, header-number (length m) h.fits); more = h.more; rest_is = cc }
 
 -- ---- for the answers
 
@@ -97,9 +87,6 @@ one_found p piece m n at begins only = (
 same_front : (a b c d : List ℕ) → length a ≡ length b → a ++ c ≡ b ++ d → a ≡ b
 same_front a b c d len e = sym (take_at a c (length b) len) ∙ ap (take (length b)) e ∙ take_at b d (length b) refl
 
-byte_fits : (n : ℕ) → Fits w8 n → n < 256
-byte_fits n h = omega (arith, h)
-
 two_zeros : (back : List ℕ) → 2 ≤ length back → slice_index_or back 0 0 ≡ 0 → slice_index_or back 1 0 ≡ 0 → (more : List ℕ) × (back ≡ 0 ∷ 0 ∷ more)
 two_zeros [] long a b = absurd (omega arith)
 two_zeros (x ∷ []) long a b = absurd (omega arith)
@@ -112,8 +99,8 @@ pub whole_found : (p : Place) (piece front back : List ℕ) → p ≡ start → 
 whole_found p [] front back at long bytes parts len some two a b m = absurd (omega arith)
 whole_found p (high ∷ []) front back at long bytes parts len some two a b m = absurd (omega arith)
 whole_found p (high ∷ low ∷ tail) front back at long bytes parts len some two a b m =
-    let h : high < 256 = byte_fits high (bytes 0) in
-    let l : low < 256 = byte_fits low (bytes 1) in
+    let h : high < 256 = omega (arith, bytes 0) in
+    let l : low < 256 = omega (arith, bytes 1) in
     let zeros = two_zeros back two a b in
     let rest : tail ≡ front ++ 0 ∷ 0 ∷ zeros.0 = sym (take_all (length (high ∷ low ∷ tail) - 2) tail (omega arith)) ∙ parts ∙ ap (λ z. front ++ z) zeros.1 in
     let begins : BeginsWith front (high ∷ low ∷ tail) = subst (λ z. BeginsWith front (high ∷ low ∷ z)) (sym rest) (found high low front zeros.0 h l (sym len) (omega (arith, len, some))) in

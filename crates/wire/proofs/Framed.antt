@@ -13,10 +13,10 @@ use Rattle.wire.specs.Stream.{Seen, on_next, items_of, IsTold}
 use Rattle.wire.specs.Texts.{written_run}
 use Rattle.wire.specs.Reader.{Took, state, outputs, one_more, ends_at, takes}
 use Rattle.wire.specs.Framing.{Item, Opening, Noop, Message, TooBig, item_at_end, after_step, item_at, chunks, item_bytes, bytes_in_order, within, CanCome, AllCome, item_in, took_by, arrivals, refusal, AnswersTake, ReadsItems}
-use Rattle.wire.proofs.Limits.{IsOpen, next-open, open-goes}
+use Rattle.wire.proofs.Limits.{IsOpen, next-open}
 use Rattle.wire.proofs.Streams.{answer_from-facts}
 use Rattle.wire.proofs.Grammar.{reads_back}
-use Rattle.wire.proofs.Fronts.{weight, weight-gone, weight-fresh, IsHeavy, next-heavy, weight-goes}
+use Rattle.wire.proofs.Fronts.{weight, IsHeavy, next-heavy}
 use Rattle.wire.proofs.Readers.{outputs-append, state-append}
 
 -- nothing is read of a message that was refused
@@ -52,7 +52,7 @@ outputs-items s (b ∷ bytes) e = ap (λ o. option_to_list o ++ outputs chunks (
   where
     go : (n : Step) → IsOpen n → ((t : Unfinished) → t.too_big ≡ false → outputs chunks t bytes ≡ arrivals (items_of t bytes).items ++ refusal (items_of t bytes).rest)
         → option_to_list (item_at n) ++ outputs chunks (after_step n) bytes ≡ arrivals (on_next n (λ t. items_of t bytes)).items ++ refusal (on_next n (λ t. items_of t bytes)).rest
-    go (goes t) o h = h t (open-goes t o)
+    go (goes t) o h = h t o
     go (ends body) o h = ap (λ l. item_at_end body ∷ l) (h fresh refl) ∙ ap (λ i. option_to_list i ++ (arrivals (items_of fresh bytes).items ++ refusal (items_of fresh bytes).rest)) (sym (in-item_of body))
         ∙ sym (append_assoc (option_to_list (item_in (item_of body))) (arrivals (items_of fresh bytes).items) (refusal (items_of fresh bytes).rest))
     go (refused body) o h = ap (λ l. TooBig ∷ l) (outputs-gone body bytes)
@@ -72,7 +72,7 @@ takes-from s (b ∷ bytes) e = ap (λ o. ends_at (after_step (next s b)) o (take
   where
     go : (n : Step) → IsOpen n → ((t : Unfinished) → t.too_big ≡ false → takes chunks t bytes ≡ took_by (answer_from t bytes).answer (answer_from t bytes).rest)
         → ends_at (after_step n) (item_at n) (takes chunks (after_step n) bytes) ≡ took_by (items.after_step n (λ t. answer_from t bytes)).answer (items.after_step n (λ t. answer_from t bytes)).rest
-    go (goes t) o h = ap one_more (h t (open-goes t o)) ∙ took-goes (answer_from t bytes).answer (answer_from t bytes).rest (answer_from-facts t bytes).told
+    go (goes t) o h = ap one_more (h t o) ∙ took-goes (answer_from t bytes).answer (answer_from t bytes).rest (answer_from-facts t bytes).told
     go (ends body) o h = ap (λ i. let t : Took Unfinished Item = record { used = 1; item = i; rest = fresh } in t) (sym (in-item_of body))
     go (refused body) o h = refl
 
@@ -82,8 +82,8 @@ answers_take s bytes e =
 
 -- bytes that complete nothing leave something unfinished
 quiet_step : (n : Step) → IsHeavy n → (z : Bool) → (z ≡ true → (body : List ℕ) × (n ≡ refused body)) → cond z None (item_at n) ≡ None → 0 < weight (after_step n)
-quiet_step (goes t) h z f e = weight-goes t h
-quiet_step (refused body) h z f e = weight-gone body
+quiet_step (goes t) h z f e = h
+quiet_step (refused body) h z f e = omega arith
 quiet_step (ends body) h true f e = let p = f refl in cc (p.1)
 quiet_step (ends body) h false f e = cc
 
@@ -104,7 +104,7 @@ only_last : (s : Unfinished) (bytes : List ℕ) → outputs chunks s bytes ≡ [
 only_last s [] e f = refl
 only_last s (b ∷ bs) e f =
     let heavy : 0 < weight (state chunks s (b ∷ bs)) = quiet_heavy s b bs e in
-    let light : weight (state chunks s (b ∷ bs)) ≡ 0 = ap weight f ∙ weight-fresh in
+    let light : weight (state chunks s (b ∷ bs)) ≡ 0 = ap weight f in
     absurd (omega arith)
 
 -- an item comes with the last of its bytes

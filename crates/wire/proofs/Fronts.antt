@@ -1,70 +1,37 @@
 -- The whole messages of bytes are those of the longest front that no-ops and runs cover.
-use Rattle.std.proofs.Common.{◌≡◌, ℕ, ◌+◌, ◌-◌, ◌*◌, ◌<◌, ◌≤◌, List, [], ◌∷◌, ◌++◌, length, take, drop, min, cond, true, false, eqb, ltb, leb, Option, Some, None, refl, sym, ap, subst, ◌∙◌, append_assoc, append-nil, length-append, length-take, arith}
+use Rattle.std.proofs.Common.{◌≡◌, ℕ, ◌+◌, ◌-◌, ◌*◌, ◌<◌, ◌≤◌, List, [], ◌∷◌, ◌++◌, length, take, drop, true, false, eqb, ltb, None, inl, inr, refl, sym, ap, subst, ◌∙◌, append_assoc, append-nil, length-append, length-take, arith}
 use Rattle.std.proofs.lemmas.List.{take-append-drop, append_cancel_left}
 use Rattle.std.proofs.Math.Seq.{take-append_seam, take-append-add}
 use Rattle.std.specs.Prelude.{map, if◌then◌else◌}
 use Rattle.std.specs.List.{flat_map}
+use Rattle.std.proofs.lemmas.Bool.{cases_lt}
 use Rattle.std.proofs.lemmas.Bool.Decides.{nat_tests}
 use Rattle.wire.specs.declared.items.Piece.{Piece}
 use Rattle.wire.specs.declared.items.Piece.TheVariants.{Message}
 use Rattle.wire.specs.Unfinished.{Unfinished, fresh}
-use Rattle.wire.specs.Items.{Step, goes, ends, refused, after_limit, open_at, on_length, on_header, next, item_of}
+use Rattle.wire.specs.Items.{Step, goes, ends, refused, open_at, next, item_of}
 use Rattle.wire.specs.Texts.{chunk_of, run_of, written_run}
 use Rattle.wire.specs.Runs.{AreChunks, body_of, AreRuns, messages_of, Texts, IsWhole}
 use Rattle.wire.specs.Stream.{Seen, before, on_next, items_of, Splits}
 use Rattle.wire.specs.Whole.{messages, whole, header_bytes, ReadsMessages, ReadsWhole, OneWhole, RefusesPast, BeginsNone}
-use Rattle.wire.proofs.Streams.{items_of-append}
+use Rattle.wire.proofs.Limits.{next_case}
+use Rattle.wire.proofs.Streams.{items_of_append}
 use Rattle.wire.proofs.Grammar.{reads_texts, reads_back, items_of-chunk}
 use Rattle.wire.proofs.Whole.{splits_into_runs, past_where}
 
 -- how much an unfinished item holds: nothing only before its first byte
-pub weight : Unfinished → ℕ
+abbrev pub weight : Unfinished → ℕ
 weight s = length s.body + s.lacks + header_bytes s.header + (if s.too_big then 1 else 0)
 
-pub IsHeavy : Step → Type 0
+abbrev pub IsHeavy : Step → Type 0
 IsHeavy (goes t) = 0 < weight t
-IsHeavy (ends body) = Unit {0}
-IsHeavy (refused body) = Unit {0}
-
-on_length-heavy : (body : List ℕ) (n : ℕ) → IsHeavy (on_length body n)
-unfolding IsHeavy weight
-on_length-heavy body n = elim (eqb n 0) as (λ b. eqb n 0 ≡ b → IsHeavy (cond b (ends body) (cond (ltb 65536 (length body + n)) (refused body) (goes (open_at body None n))))) [
-  | true ↦ λ e. tt
-  | false ↦ λ e.
-      let some : 0 < n = grind (arith, nat_tests, e) in
-      elim (ltb 65536 (length body + n)) as (λ b. IsHeavy (cond b (refused body) (goes (open_at body None n)))) [ true ↦ tt | false ↦ omega arith ]
-] refl
-
-on_header-heavy : (body : List ℕ) (header : Option ℕ) (byte : ℕ) → IsHeavy (on_header body header byte)
-unfolding IsHeavy weight
-on_header-heavy body None byte = omega arith
-on_header-heavy body (Some high) byte = on_length-heavy body (high * 256 + byte)
+IsHeavy n = Unit {0}
 
 pub next-heavy : (s : Unfinished) (byte : ℕ) → IsHeavy (next s byte)
-unfolding IsHeavy weight
-next-heavy s byte = elim s.too_big as (λ b. IsHeavy (cond b (refused s.body) (cond (eqb s.lacks 0) (on_header s.body s.header byte) (goes (open_at (s.body ++ byte ∷ []) s.header (s.lacks - 1)))))) [
-  | true ↦ tt
-  | false ↦ elim (eqb s.lacks 0) as (λ b. IsHeavy (cond b (on_header s.body s.header byte) (goes (open_at (s.body ++ byte ∷ []) s.header (s.lacks - 1))))) [
-    | true ↦ on_header-heavy s.body s.header byte
-    | false ↦ omega (arith, length-append s.body (byte ∷ []))
-  ]
-]
-
-pub weight-goes : (t : Unfinished) → IsHeavy (goes t) → 0 < weight t
-unfolding IsHeavy
-weight-goes t h = h
-
-pub weight-gone : (body : List ℕ) → 0 < weight (after_limit body)
-unfolding weight
-weight-gone body = omega arith
-
-pub weight-fresh : weight fresh ≡ 0
-unfolding weight
-weight-fresh = refl
+next-heavy s byte = next_case IsHeavy s byte tt tt (omega arith) (λ some. omega (arith, length-append s.body (byte ∷ []))) (λ n some fits. omega arith)
 
 -- bytes that end nothing leave something unfinished
 on_next-heavy : (n : Step) (bytes : List ℕ) → IsHeavy n → ((t : Unfinished) → 0 < weight t → (items_of t bytes).items ≡ [] → 0 < weight (items_of t bytes).rest) → (on_next n (λ t. items_of t bytes)).items ≡ [] → 0 < weight (on_next n (λ t. items_of t bytes)).rest
-unfolding IsHeavy weight
 on_next-heavy (goes t) bytes h more none = more t h none
 on_next-heavy (ends body) bytes h more none = cc
 on_next-heavy (refused body) bytes h more none = omega arith
@@ -74,7 +41,6 @@ stays_heavy s [] h none = h
 stays_heavy s (b ∷ bytes) h none = on_next-heavy (next s b) bytes (next-heavy s b) (λ t. stays_heavy t bytes) none
 
 only_nothing : (bytes : List ℕ) → (items_of fresh bytes).items ≡ [] → (items_of fresh bytes).rest ≡ fresh → bytes ≡ []
-unfolding weight
 only_nothing [] none rest = refl
 only_nothing (b ∷ bytes) none rest =
     let heavy : 0 < weight (items_of fresh (b ∷ bytes)).rest = on_next-heavy (next fresh b) bytes (next-heavy fresh b) (λ t. stays_heavy t bytes) none in
@@ -106,14 +72,14 @@ module _ (bytes : List ℕ) (runs : List (List (List ℕ))) (tail : List ℕ) (s
   F = flat_map run_of runs
 
   read_front : (t : List ℕ) → items_of fresh (F ++ t) ≡ before (map (λ run. item_of (body_of run)) runs) (items_of fresh t)
-  read_front t = items_of-append fresh F t ∙ ap (λ (x : Seen). before x.items (items_of x.rest t)) (reads_texts runs sound)
+  read_front t = items_of_append fresh F t ∙ ap (λ (x : Seen). before x.items (items_of x.rest t)) (reads_texts runs sound)
 
   none_left : (items_of fresh tail).items ≡ []
   none_left = nil_right (map (λ run. item_of (body_of run)) runs) (items_of fresh tail).items (sym (ap (λ b. (items_of fresh b).items) split ∙ ap (λ (x : Seen). x.items) (read_front tail)) ∙ items)
 
   none_in : (k : ℕ) → (items_of fresh (take k tail)).items ≡ []
   none_in k = nil_left (items_of fresh (take k tail)).items (items_of (items_of fresh (take k tail)).rest (drop k tail)).items
-      (ap (λ (x : Seen). x.items) (sym (items_of-append fresh (take k tail) (drop k tail))) ∙ ap (λ b. (items_of fresh b).items) (take-append-drop k tail) ∙ none_left)
+      (ap (λ (x : Seen). x.items) (sym (items_of_append fresh (take k tail) (drop k tail))) ∙ ap (λ b. (items_of fresh b).items) (take-append-drop k tail) ∙ none_left)
 
   no_longer : (k : ℕ) (others : List (List ℕ)) → Texts others (take (length F + k) bytes) → take k tail ≡ []
   no_longer k others t =
@@ -122,17 +88,14 @@ module _ (bytes : List ℕ) (runs : List (List (List ℕ))) (tail : List ℕ) (s
       only_nothing (take k tail) (none_in k) (sym (ap (λ (x : Seen). x.rest) (read_front (take k tail))) ∙ end)
 
   longest : (n : ℕ) (others : List (List ℕ)) → n ≤ length bytes → Texts others (take n bytes) → n ≤ length F
-  longest n others h t = elim (leb n (length F)) as (λ b. leb n (length F) ≡ b → n ≤ length F) [
-    | true ↦ λ e. grind (arith, nat_tests, e)
-    | false ↦ λ e.
-        let over : length F < n = grind (arith, nat_tests, e) in
-        let k : ℕ = n - length F in
-        let is : n ≡ length F + (n - length F) = omega arith in
-        let len : length bytes ≡ length F + length tail = ap length split ∙ length-append F tail in
-        let none : length (take (n - length F) tail) ≡ 0 = ap length (no_longer (n - length F) others (subst (λ m. Texts others (take m bytes)) is t)) in
-        let taken : length (take (n - length F) tail) ≡ min (n - length F) (length tail) = length-take (n - length F) tail in
-        omega arith
-  ] refl
+  longest n others h t =
+      elim (cases_lt (length F) n) [
+        | inl over ↦
+            let is : n ≡ length F + (n - length F) = omega arith in
+            let none = ap length (no_longer (n - length F) others (subst (λ m. Texts others (take m bytes)) is t)) in
+            omega (arith, ap length split, length-append F tail, none, length-take (n - length F) tail)
+        | inr le ↦ le
+      ]
 
   front_whole : IsWhole (whole bytes) bytes
   front_whole = record {
@@ -184,7 +147,7 @@ refuses_past bytes h = (
   past_where bytes h,
   λ p.
       ap (λ b. (items_of fresh b).rest.too_big) p.whole
-      ∙ ap (λ (x : Seen). x.rest.too_big) (items_of-append fresh (flat_map run_of p.runs) (flat_map chunk_of p.chunks ++ p.high ∷ p.low ∷ p.more))
+      ∙ ap (λ (x : Seen). x.rest.too_big) (items_of_append fresh (flat_map run_of p.runs) (flat_map chunk_of p.chunks ++ p.high ∷ p.low ∷ p.more))
       ∙ ap (λ (x : Seen). (items_of x.rest (flat_map chunk_of p.chunks ++ p.high ∷ p.low ∷ p.more)).rest.too_big) (reads_texts p.runs p.sound)
       ∙ past_chunks p.chunks [] p.high p.low p.more p.good p.held p.past,
 )
@@ -196,7 +159,7 @@ same_message m other items e = (cc, cc)
 pub begins_none : BeginsNone
 begins_none m other more some fits some_other fits_other e =
     let one : items_of fresh (written_run m ++ more) ≡ before (Message m ∷ []) (items_of fresh more) =
-    items_of-append fresh (written_run m) more ∙ ap (λ (x : Seen). before x.items (items_of x.rest more)) (reads_back m some fits) in
+    items_of_append fresh (written_run m) more ∙ ap (λ (x : Seen). before x.items (items_of x.rest more)) (reads_back m some fits) in
     let both = sym (reads_back other some_other fits_other) ∙ ap (items_of fresh) e ∙ one in
     let same = same_message m other (items_of fresh more).items (ap (λ (x : Seen). x.items) both) in
     (same.0, only_nothing more same.1 (sym (ap (λ (x : Seen). x.rest) both)))

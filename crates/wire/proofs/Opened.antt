@@ -1,8 +1,9 @@
 -- Streams that begin with a fixed number of bytes, and the items of their fronts.
-use Rattle.std.proofs.Common.{◌≡◌, refl, sym, ◌∙◌, ap, subst, ℕ, ◌+◌, ◌-◌, ◌<◌, ◌≤◌, Bool, cond, true, false, eqb, leb, option_to_list, List, [], ◌∷◌, ◌++◌, length, take, arith, append_assoc, append-nil, length-append, length-take}
+use Rattle.std.proofs.Common.{◌≡◌, refl, sym, ◌∙◌, ap, subst, ℕ, ◌+◌, ◌-◌, ◌<◌, ◌≤◌, cond, true, false, eqb, leb, option_to_list, List, [], ◌∷◌, ◌++◌, length, take, arith, append_assoc, append-nil, length-append, length-take}
 use Rattle.std.specs.Prelude.{if◌then◌else◌, map, reverse, nat_le}
 use Rattle.std.proofs.lemmas.List.{take-append-le, take_all, reverse-append, reverse-reverse}
 use Rattle.std.proofs.Math.Seq.{take-append-add}
+use Rattle.std.proofs.lemmas.Bool.{cond_both}
 use Rattle.std.proofs.lemmas.Bool.Decides.{nat_tests}
 use Rattle.wire.specs.declared.offers.Wish.{Wish}
 use Rattle.wire.specs.declared.offers.Wish.TheVariants.{Newest, Only}
@@ -25,12 +26,7 @@ module _ (X : Type 0) (text : X → List ℕ) (item : X → Item) (same : (x : X
 
   pub within-map : (n : ℕ) (xs : List X) → within item_bytes n (map item xs) ≡ map item (within text n xs)
   within-map n [] = refl
-  within-map n (x ∷ xs) =
-      ap (λ t. if nat_le (length t) n then item x ∷ within item_bytes (n - length t) (map item xs) else []) (same x) ∙ go (leb (length (text x)) n) (within-map (n - length (text x)) xs)
-    where
-      go : (b : Bool) → within item_bytes (n - length (text x)) (map item xs) ≡ map item (within text (n - length (text x)) xs) → cond b (item x ∷ within item_bytes (n - length (text x)) (map item xs)) [] ≡ map item (cond b (x ∷ within text (n - length (text x)) xs) [])
-      go true h = ap (λ l. item x ∷ l) h
-      go false h = refl
+  within-map n (x ∷ xs) = rw (same x) (let ih = within-map (n - length (text x)) xs in grind arith)
 
   pub said_text-map : (xs : List X) → bytes_newest_first item_bytes (map item xs) ≡ bytes_newest_first text xs
   said_text-map [] = refl
@@ -38,12 +34,7 @@ module _ (X : Type 0) (text : X → List ℕ) (item : X → Item) (same : (x : X
 
   pub said_within-map : (n : ℕ) (xs : List X) → within_newest_first item_bytes n (map item xs) ≡ map item (within_newest_first text n xs)
   said_within-map n [] = refl
-  said_within-map n (x ∷ xs) =
-      ap (λ t. if nat_le (length t) n then item x ∷ map item xs else within_newest_first item_bytes n (map item xs)) (said_text-map (x ∷ xs)) ∙ go (leb (length (bytes_newest_first text (x ∷ xs))) n) (said_within-map n xs)
-    where
-      go : (b : Bool) → within_newest_first item_bytes n (map item xs) ≡ map item (within_newest_first text n xs) → cond b (item x ∷ map item xs) (within_newest_first item_bytes n (map item xs)) ≡ map item (cond b (x ∷ xs) (within_newest_first text n xs))
-      go true h = refl
-      go false h = h
+  said_within-map n (x ∷ xs) = rw (said_text-map (x ∷ xs)) (let ih = said_within-map n xs in grind arith)
 
 -- too few bytes to open the stream
 before_quiet : (k : ℕ) (bs xs : List ℕ) → length bs + length xs < k → outputs (opening_reader k) (opening bs) xs ≡ []
@@ -82,35 +73,31 @@ past_opening k start more some len =
     ∙ ap (λ l. Opening start ∷ l) (reading_outputs k fresh more)
 
 pub frames_fronts : FramesFronts
-frames_fronts k start xs n some len come = elim (leb k n) as (λ b. leb k n ≡ b → outputs (opening_reader k) (opening []) (take n (start ++ bytes_in_order item_bytes xs)) ≡ cond b (Opening start ∷ within item_bytes (n - k) xs) []) [
-  | true ↦ λ e.
-      let fits : k ≤ n = grind (arith, nat_tests, e) in
-      let is : n ≡ length start + (n - k) = omega arith in
-      ap (λ m. outputs (opening_reader k) (opening []) (take m (start ++ bytes_in_order item_bytes xs))) is
-      ∙ ap (outputs (opening_reader k) (opening [])) (take-append-add start (bytes_in_order item_bytes xs) (n - k))
-      ∙ past_opening k start (take (n - k) (bytes_in_order item_bytes xs)) some len
-      ∙ ap (λ l. Opening start ∷ l) (fronts_within xs (n - k) come)
-  | false ↦ λ e.
-      let short : n < k = grind (arith, nat_tests, e) in
-      ap (outputs (opening_reader k) (opening [])) (take-append-le n start (bytes_in_order item_bytes xs) (omega arith))
-      ∙ before_quiet k [] (take n start) (omega (arith, length-take n start))
-] refl
+frames_fronts k start xs n some len come = cond_both (leb k n) _ _ (λ l. outputs (opening_reader k) (opening []) (take n (start ++ bytes_in_order item_bytes xs)) ≡ l)
+    (λ e.
+    let fits : k ≤ n = grind (arith, nat_tests, e) in
+    let is : n ≡ length start + (n - k) = omega arith in
+    ap (λ m. outputs (opening_reader k) (opening []) (take m (start ++ bytes_in_order item_bytes xs))) is
+    ∙ ap (outputs (opening_reader k) (opening [])) (take-append-add start (bytes_in_order item_bytes xs) (n - k))
+    ∙ past_opening k start (take (n - k) (bytes_in_order item_bytes xs)) some len
+    ∙ ap (λ l. Opening start ∷ l) (fronts_within xs (n - k) come))
+    (λ e.
+    let short : n < k = grind (arith, nat_tests, e) in
+    ap (outputs (opening_reader k) (opening [])) (take-append-le n start (bytes_in_order item_bytes xs) (omega arith))
+    ∙ before_quiet k [] (take n start) (omega (arith, length-take n start)))
 
 -- what a client sends
 all_come : (ms : List (List ℕ)) → AreMessages ms → AllCome (map Message ms)
 all_come [] h = tt
 all_come (m ∷ ms) h = (h.0, all_come ms h.1)
 
-message_text : (m : List ℕ) → item_bytes (Message m) ≡ written_run m
-message_text m = refl
-
 ours_after : (start : List ℕ) (ms : List (List ℕ)) (n : ℕ) → length start ≡ 20 → AreMessages ms
     → items_received (take n (start ++ bytes_in_order written_run ms)) ≡ (if nat_le (length start) n then Opening start ∷ map Message (within written_run (n - length start) ms) else [])
 ours_after start ms n len h =
-    ap (λ t. items_received (take n (start ++ t))) (sym (texts-map (List ℕ) written_run Message message_text ms))
+    ap (λ t. items_received (take n (start ++ t))) (sym (texts-map (List ℕ) written_run Message (λ m. refl) ms))
     ∙ frames_fronts 20 start (map Message ms) n (omega arith) len (all_come ms h)
     ∙ ap (λ k. if nat_le k n then Opening start ∷ within item_bytes (n - k) (map Message ms) else []) (sym len)
-    ∙ ap (λ l. if nat_le (length start) n then Opening start ∷ l else []) (within-map (List ℕ) written_run Message message_text (n - length start) ms)
+    ∙ ap (λ l. if nat_le (length start) n then Opening start ∷ l else []) (within-map (List ℕ) written_run Message (λ m. refl) (n - length start) ms)
 
 pub offered_length : (wish : Wish) → length (offer_of wish) ≡ 20
 offered_length Newest = refl
@@ -120,14 +107,10 @@ pub ours_arrives : OursArrives
 ours_arrives wish ms n h = ours_after (offer_of wish) ms n (offered_length wish) h
 
 -- what a server says, the newest first
-reverse-snoc : (x : Item) (xs : List Item) → reverse xs ++ x ∷ [] ≡ reverse (x ∷ xs)
-reverse-snoc x xs = sym (reverse-append (x ∷ []) xs)
-
-Read : ℕ → List Item → Type 0
+abbrev Read : ℕ → List Item → Type 0
 Read k xs = (outputs (opening_reader k) (opening []) (bytes_newest_first item_bytes xs) ≡ reverse xs) × (state (opening_reader k) (opening []) (bytes_newest_first item_bytes xs) ≡ reading fresh)
 
 read_more : (k : ℕ) (x : Item) (xs : List Item) → CanCome x → Read k xs → Read k (x ∷ xs)
-unfolding Read
 read_more k x xs come h =
     let T : List ℕ = bytes_newest_first item_bytes xs in
     let read = text_read x come in (
@@ -135,14 +118,13 @@ read_more k x xs come h =
           ∙ ap (λ l. l ++ outputs (opening_reader k) (state (opening_reader k) (opening []) (bytes_newest_first item_bytes xs)) (item_bytes x)) h.0
           ∙ ap (λ s. reverse xs ++ outputs (opening_reader k) s (item_bytes x)) h.1
           ∙ ap (λ l. reverse xs ++ l) (reading_outputs k fresh (item_bytes x) ∙ read.0)
-          ∙ reverse-snoc x xs,
+          ∙ sym (reverse-append (x ∷ []) xs),
       state-append Opened Item (opening_reader k) (opening []) (bytes_newest_first item_bytes xs) (item_bytes x)
           ∙ ap (λ s. state (opening_reader k) s (item_bytes x)) h.1
           ∙ reading_state k fresh (item_bytes x) ∙ ap reading read.1,
     )
 
 read_all : (k : ℕ) (xs : List Item) → 0 < k → Spoken k xs → Read k xs
-unfolding Read
 read_all k [] some h = absurd h
 read_all k (Opening o ∷ xs) some h =
     let read = opening_read k [] o (omega (arith, h.0)) (omega (arith, h.0)) in
@@ -156,13 +138,8 @@ said_whole : (k n : ℕ) (xs : List Item) → Spoken k xs → length (bytes_newe
 said_whole k n [] h l = refl
 said_whole k n (x ∷ xs) h l = let e : leb (length (bytes_newest_first item_bytes (x ∷ xs))) n ≡ true = grind (arith, nat_tests) in rw e refl
 
-outputs_all : (k : ℕ) (xs : List Item) → Read k xs → outputs (opening_reader k) (opening []) (bytes_newest_first item_bytes xs) ≡ reverse xs
-unfolding Read
-outputs_all k xs h = h.0
-
 -- a part of a run adds nothing
 part_quiet : (k : ℕ) (x : Item) (xs : List Item) (j : ℕ) → Read k xs → outputs chunks fresh (take j (item_bytes x)) ≡ [] → outputs (opening_reader k) (opening []) (bytes_newest_first item_bytes xs ++ take j (item_bytes x)) ≡ reverse xs
-unfolding Read
 part_quiet k x xs j h none =
     outputs-append Opened Item (opening_reader k) (opening []) (bytes_newest_first item_bytes xs) (take j (item_bytes x))
     ∙ ap (λ l. l ++ outputs (opening_reader k) (state (opening_reader k) (opening []) (bytes_newest_first item_bytes xs)) (take j (item_bytes x))) h.0
@@ -192,7 +169,7 @@ module _ (k : ℕ) (some : 0 < k) where
             elim (leb (length (bytes_newest_first item_bytes xs ++ item_bytes x)) n) as (λ b. leb (length (bytes_newest_first item_bytes xs ++ item_bytes x)) n ≡ b → hears (take n (bytes_newest_first item_bytes xs ++ item_bytes x)) ≡ cond b (x ∷ xs) (within_newest_first item_bytes n xs)) [
               | true ↦ λ f.
                   let fits : length (bytes_newest_first item_bytes xs ++ item_bytes x) ≤ n = grind (arith, nat_tests, f) in
-                  ap hears (take_all n (bytes_newest_first item_bytes xs ++ item_bytes x) fits) ∙ ap reverse (outputs_all k (x ∷ xs) (read_more k x xs come all)) ∙ reverse-reverse (x ∷ xs)
+                  ap hears (take_all n (bytes_newest_first item_bytes xs ++ item_bytes x) fits) ∙ ap reverse (read_more k x xs come all).0 ∙ reverse-reverse (x ∷ xs)
               | false ↦ λ f.
                   let cut : n < length (bytes_newest_first item_bytes xs ++ item_bytes x) = grind (arith, nat_tests, f) in
                   let j : ℕ = n - length (bytes_newest_first item_bytes xs) in
@@ -207,11 +184,7 @@ module _ (k : ℕ) (some : 0 < k) where
   hears_opening : (o : List ℕ) (n : ℕ) → length o ≡ k → hears (take n o) ≡ (if nat_le (length o) n then Opening o ∷ [] else [])
   hears_opening o n len =
       ap (λ t. hears (take n t)) (sym (append-nil o)) ∙ ap reverse (frames_fronts k o [] n some len tt)
-      ∙ ap (λ m. reverse (if nat_le m n then Opening o ∷ [] else [])) (sym len) ∙ go (leb (length o) n)
-    where
-      go : (b : Bool) → reverse (cond b (Opening o ∷ []) []) ≡ cond b (Opening o ∷ []) []
-      go true = refl
-      go false = refl
+      ∙ ap (λ m. reverse (if nat_le m n then Opening o ∷ [] else [])) (sym len) ∙ cond_both (leb (length o) n) _ _ (λ l. reverse l ≡ l) (λ b. refl) (λ b. refl)
 
   hears_front : (xs : List Item) (n : ℕ) → Spoken k xs → hears (take n (bytes_newest_first item_bytes xs)) ≡ within_newest_first item_bytes n xs
   hears_front [] n h = absurd h

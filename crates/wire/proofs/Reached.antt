@@ -1,6 +1,6 @@
 -- The bytes that are taken of a piece, told by the items of the bytes so far.
-use Rattle.std.proofs.Common.{◌≡◌, refl, ◌∙◌, ap, ℕ, suc, ◌+◌, Bool, true, false, if◌then◌else◌, nat_lt, Option, Some, None, option_to_list, List, [], ◌∷◌, ◌++◌, length, take, slice_get, arith, append-nil, length-append}
-use Rattle.std.proofs.lemmas.Bool.{lt-ltb, le-ltb}
+use Rattle.std.proofs.Common.{◌≡◌, refl, ◌∙◌, ap, ℕ, suc, ◌+◌, if◌then◌else◌, nat_lt, Option, Some, None, option_to_list, List, [], ◌∷◌, ◌++◌, length, take, slice_get, arith, append-nil, length-append}
+use Rattle.std.proofs.lemmas.Bool.{lt-ltb, le-ltb, cond-true, cond-false}
 use Rattle.wire.specs.Reader.{Reader, state, outputs, ends_at, takes, items_so_far, reach, ReachesItems}
 use Rattle.wire.proofs.Readers.{outputs-append, state-append, takes_outputs}
 
@@ -18,22 +18,14 @@ module _ (R X : Type 0) (p : Reader R X) where
       len : length (items_so_far p (up ++ b ∷ [])) ≡ length (items_so_far p up) + length (option_to_list (p.item r b))
       len = ap length (outputs-append R X p p.start up (b ∷ [])) ∙ length-append (items_so_far p up) (option_to_list (p.item r b) ++ []) ∙ ap (λ z. length (items_so_far p up) + length z) (append-nil (option_to_list (p.item r b)))
 
-      pick : (x : Bool) (m n : ℕ) → x ≡ true → (if x then m else n) ≡ m
-      pick true m n h = refl
-      pick false m n h = cc
-
-      skip : (x : Bool) (m n : ℕ) → x ≡ false → (if x then m else n) ≡ n
-      skip false m n h = refl
-      skip true m n h = cc
-
       go : (o : Option X) → p.item r b ≡ o → reach (items_so_far p) (up ++ b ∷ []) bs ≡ (takes p (state p p.start (up ++ b ∷ [])) bs).used
           → (if nat_lt (length (items_so_far p up)) (length (items_so_far p (up ++ b ∷ []))) then 1 else suc (reach (items_so_far p) (up ++ b ∷ []) bs)) ≡ (ends_at (p.byte r b) o (takes p (p.byte r b) bs)).used
       go None e h =
           let l : length (items_so_far p (up ++ b ∷ [])) ≡ length (items_so_far p up) + 0 = len ∙ ap (λ o. length (items_so_far p up) + length (option_to_list o)) e in
-          skip _ _ _ (le-ltb (length (items_so_far p up)) (length (items_so_far p (up ++ b ∷ []))) (omega arith)) ∙ ap suc (h ∙ ap (λ z. (takes p z bs).used) next)
+          cond-false _ _ _ (le-ltb (length (items_so_far p up)) (length (items_so_far p (up ++ b ∷ []))) (omega arith)) ∙ ap suc (h ∙ ap (λ z. (takes p z bs).used) next)
       go (Some x) e h =
           let l : length (items_so_far p (up ++ b ∷ [])) ≡ length (items_so_far p up) + 1 = len ∙ ap (λ o. length (items_so_far p up) + length (option_to_list o)) e in
-          pick _ _ _ (lt-ltb (length (items_so_far p up)) (length (items_so_far p (up ++ b ∷ []))) (omega arith))
+          cond-true _ _ _ (lt-ltb (length (items_so_far p up)) (length (items_so_far p (up ++ b ∷ []))) (omega arith))
 
   -- the item that they complete, at most one
   pub items_taken : (up piece : List ℕ) → items_so_far p (up ++ take (reach (items_so_far p) up piece) piece) ≡ items_so_far p up ++ option_to_list (takes p (state p p.start up) piece).item

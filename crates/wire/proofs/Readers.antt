@@ -1,7 +1,6 @@
 -- What every reader does with pieces depends on what it keeps alone.
 use Rattle.std.proofs.Common.{◌≡◌, refl, sym, ◌∙◌, ap, ℕ, zero, suc, ◌+◌, ◌<◌, ◌≤◌, Option, Some, None, option_to_list, List, [], ◌∷◌, ◌++◌, length, take, zero-add, arith, append_assoc}
 use Rattle.std.specs.Prelude.{map}
-use Rattle.std.specs.Option.{option_map}
 use Rattle.wire.specs.Reader.{Reader, Took, state, outputs, one_more, ends_at, takes, or_more, then_takes, ReadsPieces, meaning_reader}
 
 module _ (R X : Type 0) (p : Reader R X) where
@@ -28,28 +27,16 @@ module _ (R X : Type 0) (p : Reader R X) where
 
   used_within : (r : R) (piece : List ℕ) → (takes p r piece).used ≤ length piece
   used_within r [] = omega arith
-  used_within r (b ∷ bs) = go (p.item r b) (takes p (p.byte r b) bs) (used_within (p.byte r b) bs)
-    where
-      go : (o : Option X) (t : Took R X) → t.used ≤ length bs → (ends_at (p.byte r b) o t).used ≤ length (b ∷ bs)
-      go None t h = omega arith
-      go (Some x) t h = omega arith
+  used_within r (b ∷ bs) = let ih = used_within (p.byte r b) bs in grind arith
 
   none_early : (r : R) (piece : List ℕ) (k : ℕ) → k < (takes p r piece).used → outputs p r (take k piece) ≡ []
   none_early r [] k h = absurd (omega arith)
   none_early r (b ∷ bs) zero h = refl
-  none_early r (b ∷ bs) (suc k) h = go (p.item r b) refl (takes p (p.byte r b) bs) h (λ l. none_early (p.byte r b) bs k l)
-    where
-      go : (o : Option X) → p.item r b ≡ o → (t : Took R X) → suc k < (ends_at (p.byte r b) o t).used → (k < t.used → outputs p (p.byte r b) (take k bs) ≡ []) → outputs p r (take (suc k) (b ∷ bs)) ≡ []
-      go None e t l f = ap (λ o. option_to_list o ++ outputs p (p.byte r b) (take k bs)) e ∙ f (omega arith)
-      go (Some x) e t l f = absurd (omega arith)
+  none_early r (b ∷ bs) (suc k) h = let ih = none_early (p.byte r b) bs k in grind arith
 
   used_all : (r : R) (piece : List ℕ) → (takes p r piece).item ≡ None → (takes p r piece).used ≡ length piece
   used_all r [] e = refl
-  used_all r (b ∷ bs) e = go (p.item r b) (takes p (p.byte r b) bs) (used_all (p.byte r b) bs) e
-    where
-      go : (o : Option X) (t : Took R X) → (t.item ≡ None → t.used ≡ length bs) → (ends_at (p.byte r b) o t).item ≡ None → (ends_at (p.byte r b) o t).used ≡ length (b ∷ bs)
-      go None t h e = ap suc (h e)
-      go (Some x) t h e = cc
+  used_all r (b ∷ bs) e = let ih = used_all (p.byte r b) bs in grind arith
 
   used_is : (t : Took R X) (n : ℕ) → t.used ≡ n → t ≡ record t { used = n }
   used_is t n e = ap (λ (k : ℕ). let u : Took R X = record { used = k; item = t.item; rest = t.rest } in u) e
@@ -86,11 +73,7 @@ module _ (R X : Type 0) (p : Reader R X) where
 module _ (R X Y : Type 0) (f : X → Y) (p : Reader R X) where
   outputs-mapped : (r : R) (bytes : List ℕ) → outputs (meaning_reader f p) r bytes ≡ map f (outputs p r bytes)
   outputs-mapped r [] = refl
-  outputs-mapped r (b ∷ bs) = go (p.item r b) (outputs-mapped (p.byte r b) bs)
-    where
-      go : (o : Option X) → outputs (meaning_reader f p) (p.byte r b) bs ≡ map f (outputs p (p.byte r b) bs) → option_to_list (option_map f o) ++ outputs (meaning_reader f p) (p.byte r b) bs ≡ map f (option_to_list o ++ outputs p (p.byte r b) bs)
-      go None h = h
-      go (Some x) h = ap (λ l. f x ∷ l) h
+  outputs-mapped r (b ∷ bs) = let ih = outputs-mapped (p.byte r b) bs in grind arith
 
   state-mapped : (r : R) (bytes : List ℕ) → state (meaning_reader f p) r bytes ≡ state p r bytes
   state-mapped r [] = refl

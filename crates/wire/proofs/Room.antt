@@ -1,20 +1,18 @@
 -- Where room is wanted: where data of a piece comes, and where a message ends.
-use Rattle.std.proofs.Common.{◌≡◌, ◌<◌, ◌≤◌, ◌+◌, ◌-◌, ◌*◌, ◌==◌, ℕ, List, [], ◌∷◌, ◌++◌, length, Bool, true, false, cond, nat_lt, ◌||◌, Option, Some, None, Result, Ok, Err, refl, sym, ap, ◌∙◌, arith, eqb-true, length-append}
-use Rattle.std.proofs.lemmas.Bool.{or_left, or_right, eqb-false}
+use Rattle.std.proofs.Common.{◌≡◌, ◌<◌, ◌+◌, ◌-◌, ◌*◌, ◌==◌, ℕ, List, [], ◌∷◌, ◌++◌, length, Bool, true, false, cond, eqb, nat_lt, ◌||◌, Option, Some, None, Result, Ok, Err, refl, sym, ap, ◌∙◌, arith, length-append}
+use Rattle.std.proofs.lemmas.Bool.{or_left, or_right, eqb-false, lt-ltb}
 use Rattle.std.proofs.lemmas.Bool.Decides.{nat_tests}
 use Rattle.wire.specs.declared.items.Fed.{Fed}
 use Rattle.wire.specs.declared.faults.WireFault.{WireFault}
 use Rattle.wire.specs.declared.faults.WireFault.TheVariants.{TooBig, Memory}
 use Rattle.wire.specs.declared.parts.Part.TheVariants as part
 use Rattle.wire.specs.declared.parts.Cut.{Cut}
-use Rattle.wire.specs.Place.{Place, start}
+use Rattle.wire.specs.Place.{Place}
 use Rattle.wire.specs.Parts.{cut_at}
 use Rattle.wire.specs.Parts as parts
 use Rattle.wire.specs.Unfinished.{Unfinished, fresh, unfinished_at}
-use Rattle.wire.specs.Items.{Step, goes, ends, refused, open_at, on_header, next, item_of, later, Answered, further, after_step, answer_from, hands_out, wants_room}
-
-is_lt : (m n : ℕ) → m < n → nat_lt m n ≡ true
-is_lt m n h = grind (arith, nat_tests)
+use Rattle.wire.proofs.Limits.{next_case}
+use Rattle.wire.specs.Items.{Step, goes, ends, refused, open_at, next, item_of, later, Answered, further, after_step, answer_from, hands_out, wants_room}
 
 pub later_hands : (n : ℕ) (r : Result Fed WireFault) → hands_out (later n r) ≡ hands_out r
 later_hands n (Ok fed) = refl
@@ -35,52 +33,26 @@ HasMore n (goes t) = (t.too_big ≡ false) × (n < length t.body)
 HasMore n (ends body) = n < length body
 HasMore n (refused body) = n < length body
 
-length_more : (n m : ℕ) (body : List ℕ) (a b : Bool) → n < length body → HasMore n (cond a (ends body) (cond b (refused body) (goes (open_at body None m))))
-length_more n m body true b h = h
-length_more n m body false true h = h
-length_more n m body false false h = (refl, h)
-
-header_more : (n : ℕ) (body : List ℕ) (header : Option ℕ) (byte : ℕ) → n < length body → HasMore n (on_header body header byte)
-header_more n body None byte h = (refl, h)
-header_more n body (Some high) byte h = length_more n (high * 256 + byte) body ((high * 256 + byte) == 0) (nat_lt 65536 (length body + (high * 256 + byte))) h
-
-next_more : (n : ℕ) (t : Unfinished) (byte : ℕ) (a b : Bool) → a ≡ false → n < length t.body
-    → HasMore n (cond a (refused t.body) (cond b (on_header t.body t.header byte) (goes (open_at (t.body ++ byte ∷ []) t.header (t.lacks - 1)))))
-next_more n t byte true b e h = absurd cc
-next_more n t byte false true e h = header_more n t.body t.header byte h
-next_more n t byte false false e h = (refl, omega (arith, length-append t.body (byte ∷ [])))
-
-data_more : (n : ℕ) (t : Unfinished) (byte : ℕ) (a b : Bool) → a ≡ false → (t.lacks == 0) ≡ b → 0 < t.lacks → n ≤ length t.body
-    → HasMore n (cond a (refused t.body) (cond b (on_header t.body t.header byte) (goes (open_at (t.body ++ byte ∷ []) t.header (t.lacks - 1)))))
-data_more n t byte true b e f l h = absurd cc
-data_more n t byte false true e f l h = absurd (omega (arith, eqb-true _ _ f))
-data_more n t byte false false e f l h = (refl, omega (arith, length-append t.body (byte ∷ [])))
-
 step_wants : (n : ℕ) (s : Step) (bytes : List ℕ) → HasMore n s → ((t : Unfinished) → t.too_big ≡ false → n < length t.body → wants_room n (answer_from t bytes) ≡ true)
     → wants_room n (after_step s (λ t. answer_from t bytes)) ≡ true
 step_wants n (goes t) bytes h more = further_wants 1 n (answer_from t bytes) ∙ more t h.0 h.1
 step_wants n (ends body) bytes h more = ends_wants n 1 body (omega arith)
-step_wants n (refused body) bytes h more = or_left (nat_lt n (length body)) false (is_lt n (length body) h)
+step_wants n (refused body) bytes h more = or_left (nat_lt n (length body)) false (lt-ltb n (length body) h)
 
 held_wants : (n : ℕ) (t : Unfinished) (bytes : List ℕ) → t.too_big ≡ false → n < length t.body → wants_room n (answer_from t bytes) ≡ true
-held_wants n t [] e h = or_left (nat_lt n (length t.body)) false (is_lt n (length t.body) h)
-held_wants n t (byte ∷ bytes) e h = step_wants n (next t byte) bytes (next_more n t byte t.too_big (t.lacks == 0) e h) (λ u f k. held_wants n u bytes f k)
+held_wants n t [] e h = or_left (nat_lt n (length t.body)) false (lt-ltb n (length t.body) h)
+held_wants n t (byte ∷ bytes) e h = step_wants n (next t byte) bytes (next_case (HasMore n) t byte h h (refl, h) (λ some. (refl, omega (arith, length-append t.body (byte ∷ [])))) (λ m some fits. (refl, h))) (λ u f k. held_wants n u bytes f k)
 
 -- data that comes is kept, or ends with its message
 pub data_wants : (t : Unfinished) (piece : List ℕ) → t.too_big ≡ false → 0 < t.lacks → 0 < length piece → wants_room (length t.body) (answer_from t piece) ≡ true
 data_wants t [] e l h = absurd (omega arith)
 data_wants t (byte ∷ bytes) e l h =
-    step_wants (length t.body) (next t byte) bytes (data_more (length t.body) t byte t.too_big (t.lacks == 0) e refl l (omega arith)) (λ u f k. held_wants (length t.body) u bytes f k)
+    let some : eqb t.lacks 0 ≡ false = grind (arith, nat_tests) in
+    rw (e, some) (step_wants (length t.body) (goes (open_at (t.body ++ byte ∷ []) t.header (t.lacks - 1))) bytes (refl, omega (arith, length-append t.body (byte ∷ []))) (λ u f k. held_wants (length t.body) u bytes f k))
 
 -- a part is data only where the chunk lacks some
-length_cut : (used sum m : ℕ) (a b d : Bool) → (cond a (parts.bite used (cond d part.Noop part.End) start) (cond b (parts.bite used part.TooBig (parts.past sum)) (parts.bite used part.Head (parts.inside (sum + m) m)))).cut.what ≡ part.Data → ⊥
-length_cut used sum m true b true h = cc
-length_cut used sum m true b false h = cc
-length_cut used sum m false true d h = cc
-length_cut used sum m false false d h = cc
-
 whole_cut : (used sum m : ℕ) → (parts.on_length used sum m).cut.what ≡ part.Data → ⊥
-whole_cut used sum m h = length_cut used sum m (m == 0) (nat_lt 65536 (sum + m)) (sum == 0) h
+whole_cut used sum m h = grind arith
 
 header_cut : (p : Place) (header : Option ℕ) (piece : List ℕ) → (parts.on_header p header piece).cut.what ≡ part.Data → ⊥
 header_cut p None [] h = cc

@@ -23,6 +23,7 @@ pub fn reads_texts()
 {}
 
 /// Of each piece, what is handed out is an item of the bytes used, and no fewer bytes have one.
+#[tactic(auto, using(crate::proofs::Streams::answer_to_facts))]
 pub fn answers_items()
     ensures { (s : Unfinished) (bytes : List ℕ) → AnswerFacts s bytes (answer_to s bytes) }
 {}
@@ -46,6 +47,7 @@ pub fn keeps_within()
 {}
 
 /// The items of a stream are those of its parts.
+#[tactic(auto, using(crate::proofs::Streams::items_of_append))]
 pub fn items_of_parts()
     ensures { ItemsOfParts }
 {}

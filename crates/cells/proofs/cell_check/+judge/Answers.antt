@@ -1,4 +1,4 @@
-use Rattle.std.proofs.Common.{◌≡◌, ℤ, ◌+◌, refl, ap, sym, ◌∙◌, rules, map, Err, to_z, of_z, w64}
+use Rattle.std.proofs.Common.{◌≡◌, ℤ, ◌+◌, refl, ap, sym, ◌∙◌, rules, map, Ok, Err, to_z, of_z, w64}
 use Rattle.std.proofs.lemmas.Result.{err_from_is_err_and}
 use Rattle.packstream.specs.Tree.{Tree, int, structure, no_trees, tree_then}
 use Rattle.packstream.specs.View.{trees_of}
@@ -7,7 +7,7 @@ use Rattle.cells.specs.declared.cell.Path.{out-Path}
 use Rattle.cells.specs.Shape.{shape, entry, node_shape, unbound_shape}
 use Rattle.cells.specs.Writing.{fault_of_structure}
 use Rattle.cells.proofs.Views.{node_parts, unbound_parts, relationship_parts, shape-Dict, shape-Duration, node-out, unbound-out, relationship-out, path-out}
-use Rattle.cells.proofs.Scanning.{members_step, members_end, pairs_step, pairs_end, scan_append, onward, Found}
+use Rattle.cells.proofs.Scanning.{members_step, pairs_step, scan_append, onward, Found}
 use Rattle.cells.proofs.Judged.{duration_judged, node_ok, unbound_ok, relationship_ok, path_ok, path_err, mapped}
 use Rattle.cells.proofs.cell_check.+judge.Goals as goal
 
@@ -30,42 +30,38 @@ check_cell-returns-in-Duration t c =
 pub check_cells-returns-in_err-number : goal.check_cells-returns-in_err-number
 check_cells-returns-in_err-number t c =
     let p = err_from_is_err_and c.from_residual.result c.from_residual.ensures.1 in
-    let e : c.from_residual.result ≡ Err c.in_err-number.field-0.0 = search (rules, p.1, p.2) in
-    e ∙ members_end shape (fault_of_structure c.args.version) c.loop-member.number c.in_err-number.field-0.0 c.args.members.now.items c.loop-member.member-index c.member-item.result (search rules) (search rules) c.in_err-number.ensures ∙ rw c.deref-member-items.ensures.value at c.loop-member.invariant
+    rw (p.1, p.2) (members_step shape (fault_of_structure c.args.version) c.loop-member.number (Err c.in_err-number.field-0.0) c.args.members.now.items c.loop-member.member-index c.member-item.result (search rules) (search rules) c.in_err-number.ensures ∙ rw c.deref-member-items.ensures.value at c.loop-member.invariant)
 
 pub check_cells-loop-member-preserved : goal.check_cells-loop-member-preserved
 check_cells-loop-member-preserved t c =
-    members_step shape (fault_of_structure c.args.version) c.loop-member.number c.in_ok-number.number _ c.loop-member.member-index c.member-item.result c.loop-member-test.true c.member-item.is c.in_ok-number.ensures ∙ c.loop-member.invariant
+    members_step shape (fault_of_structure c.args.version) c.loop-member.number (Ok c.in_ok-number.number) _ c.loop-member.member-index c.member-item.result c.loop-member-test.true c.member-item.is c.in_ok-number.ensures ∙ c.loop-member.invariant
 
 pub check_entries-returns-in_err-number : goal.check_entries-returns-in_err-number
 check_entries-returns-in_err-number t c =
     let p = err_from_is_err_and c.from_residual.result c.from_residual.ensures.1 in
-    let e : c.from_residual.result ≡ Err c.in_err-number.field-0.0 = search (rules, p.1, p.2) in
-    e ∙ pairs_end entry (fault_of_structure c.args.version) c.loop-pair.number c.in_err-number.field-0.0 c.args.pairs.now.items c.loop-pair.pair-index c.pair-item.result (search rules) (search rules) c.in_err-number.ensures ∙ rw c.deref-pair-items.ensures.value at c.loop-pair.invariant
+    rw (p.1, p.2) (pairs_step entry (fault_of_structure c.args.version) c.loop-pair.number (Err c.in_err-number.field-0.0) c.args.pairs.now.items c.loop-pair.pair-index c.pair-item.result (search rules) (search rules) c.in_err-number.ensures ∙ rw c.deref-pair-items.ensures.value at c.loop-pair.invariant)
 
 pub check_entries-loop-pair-preserved : goal.check_entries-loop-pair-preserved
 check_entries-loop-pair-preserved t c =
-    pairs_step entry (fault_of_structure c.args.version) c.loop-pair.number c.in_ok-number.number _ c.loop-pair.pair-index c.pair-item.result c.loop-pair-test.true c.pair-item.is c.in_ok-number.ensures ∙ c.loop-pair.invariant
+    pairs_step entry (fault_of_structure c.args.version) c.loop-pair.number (Ok c.in_ok-number.number) _ c.loop-pair.pair-index c.pair-item.result c.loop-pair-test.true c.pair-item.is c.in_ok-number.ensures ∙ c.loop-pair.invariant
 
 pub check_nodes-returns-in_err-number : goal.check_nodes-returns-in_err-number
 check_nodes-returns-in_err-number t c =
     let p = err_from_is_err_and c.from_residual.result c.from_residual.ensures.1 in
-    let e : c.from_residual.result ≡ Err c.in_err-number.field-0.0 = search (rules, p.1, p.2) in
-    e ∙ members_end node_shape (fault_of_structure c.args.version) c.loop-node.number c.in_err-number.field-0.0 c.args.nodes.now.items c.loop-node.node-index c.node-item.result (search rules) (search rules) c.in_err-number.ensures ∙ rw c.deref-node-items.ensures.value at c.loop-node.invariant
+    rw (p.1, p.2) (members_step node_shape (fault_of_structure c.args.version) c.loop-node.number (Err c.in_err-number.field-0.0) c.args.nodes.now.items c.loop-node.node-index c.node-item.result (search rules) (search rules) c.in_err-number.ensures ∙ rw c.deref-node-items.ensures.value at c.loop-node.invariant)
 
 pub check_nodes-loop-node-preserved : goal.check_nodes-loop-node-preserved
 check_nodes-loop-node-preserved t c =
-    members_step node_shape (fault_of_structure c.args.version) c.loop-node.number c.in_ok-number.number _ c.loop-node.node-index c.node-item.result c.loop-node-test.true c.node-item.is c.in_ok-number.ensures ∙ c.loop-node.invariant
+    members_step node_shape (fault_of_structure c.args.version) c.loop-node.number (Ok c.in_ok-number.number) _ c.loop-node.node-index c.node-item.result c.loop-node-test.true c.node-item.is c.in_ok-number.ensures ∙ c.loop-node.invariant
 
 pub check_unbounds-returns-in_err-number : goal.check_unbounds-returns-in_err-number
 check_unbounds-returns-in_err-number t c =
     let p = err_from_is_err_and c.from_residual.result c.from_residual.ensures.1 in
-    let e : c.from_residual.result ≡ Err c.in_err-number.field-0.0 = search (rules, p.1, p.2) in
-    e ∙ members_end unbound_shape (fault_of_structure c.args.version) c.loop-unbound.number c.in_err-number.field-0.0 c.args.unbounds.now.items c.loop-unbound.unbound-index c.unbound-item.result (search rules) (search rules) c.in_err-number.ensures ∙ rw c.deref-unbound-items.ensures.value at c.loop-unbound.invariant
+    rw (p.1, p.2) (members_step unbound_shape (fault_of_structure c.args.version) c.loop-unbound.number (Err c.in_err-number.field-0.0) c.args.unbounds.now.items c.loop-unbound.unbound-index c.unbound-item.result (search rules) (search rules) c.in_err-number.ensures ∙ rw c.deref-unbound-items.ensures.value at c.loop-unbound.invariant)
 
 pub check_unbounds-loop-unbound-preserved : goal.check_unbounds-loop-unbound-preserved
 check_unbounds-loop-unbound-preserved t c =
-    members_step unbound_shape (fault_of_structure c.args.version) c.loop-unbound.number c.in_ok-number.number _ c.loop-unbound.unbound-index c.unbound-item.result c.loop-unbound-test.true c.unbound-item.is c.in_ok-number.ensures ∙ c.loop-unbound.invariant
+    members_step unbound_shape (fault_of_structure c.args.version) c.loop-unbound.number (Ok c.in_ok-number.number) _ c.loop-unbound.unbound-index c.unbound-item.result c.loop-unbound-test.true c.unbound-item.is c.in_ok-number.ensures ∙ c.loop-unbound.invariant
 
 pub check_node-returns : goal.check_node-returns
 check_node-returns t c =

@@ -1,12 +1,12 @@
-use Rattle.std.proofs.Common.{◌≡◌, true, not, [], ◌∷◌, int_eq, refl, sym, ap, ap₂, ◌∙◌, to_z, of_z, w64, arith, rules}
+use Rattle.std.proofs.Common.{◌≡◌, not, [], ◌∷◌, int_eq, refl, sym, ap, ap₂, ◌∙◌, to_z, of_z, w64, arith, rules}
 use Rattle.std.specs.Cmp.Lexicographic.{pointwise}
-use Rattle.std.proofs.lemmas.Bool.{true≢false, not-true, not-false, and_left}
+use Rattle.std.proofs.lemmas.Bool.{not-true, not-false, and_left}
 use Rattle.cells.specs.Same.{same_tree}
 use Rattle.cells.specs.Shape.{shape, entry, node_shape, unbound_shape}
 use Rattle.cells.specs.declared.cell.Cell.{the_lemmas}
 use Rattle.cells.proofs.Alike.{node_alike, unbound_alike, relationship_alike, path_alike, third_left, second_differs, third_differs, last_left, ints_same, relationship_is_alone}
 use Rattle.cells.proofs.Views.{shape-Dict}
-use Rattle.cells.proofs.Walking.{SameMembers, members_apart, pairs_apart}
+use Rattle.cells.proofs.Walking.{members_apart, pairs_apart}
 use Rattle.cells.proofs.comparison.+same_cell.Goals as goal
 
 pub same_cell-returns-in-Dict-Dict : goal.same_cell-returns-in-Dict-Dict
@@ -73,12 +73,6 @@ same_relationship-returns t c =
     let z5 : to_z w64 (of_z w64 b.end) ≡ b.end = search rules in
     let ids : c.ne.result ≡ not (pointwise int_eq (a.id ∷ a.start ∷ a.end ∷ []) (b.id ∷ b.start ∷ b.end ∷ [])) = c.ne.ensures ∙ rw (z0, z1, z2, z3, z4, z5) refl in
     c.eq.ensures ∙ sym (relationship_alike a b ∙ last_left _ _ _ _ (not-false _ (sym ids ∙ c.if-ne.false)) (not-false _ (sym c.ne-2.ensures ∙ c.if-ne-2.false)) (sym c.same_pairs.ensures ∙ c.if-not-same_pairs.false))
-
-pub same_path-returns-then-not-same_nodes : goal.same_path-returns-then-not-same_nodes
-same_path-returns-then-not-same_nodes t c = sym (path_alike c.args.one.now c.args.other.now ∙ and_left _ _ (sym c.same_nodes.ensures ∙ c.if-not-same_nodes.true))
-
-pub same_path-returns-then-not-same_unbounds : goal.same_path-returns-then-not-same_unbounds
-same_path-returns-then-not-same_unbounds t c = sym (path_alike c.args.one.now c.args.other.now ∙ second_differs _ _ _ (sym c.same_unbounds.ensures ∙ c.if-not-same_unbounds.true))
 
 pub same_path-returns : goal.same_path-returns
 same_path-returns t c = c.eq.ensures ∙ sym (path_alike c.args.one.now c.args.other.now ∙ third_left _ _ _ (sym c.same_nodes.ensures ∙ c.if-not-same_nodes.false) (sym c.same_unbounds.ensures ∙ c.if-not-same_unbounds.false))

@@ -11,8 +11,5 @@ returns-then-not-all_hold c = sym (fault_is c.args.version c.args.tag _ c.in-Ok.
 pub returns-then-not-in_ranges : goal.returns-then-not-in_ranges
 returns-then-not-in_ranges c = sym (fault_is c.args.version c.args.tag _ c.in-Ok.kinds.now c.in-Ok.ensures ∙ wrong_is c.in-Ok.kinds.now c.args.tag _ true true false _ (counts_agree c.args.fields.now c.in-Ok.kinds.now c.if-fields-kinds.false) (sym c.if-not-all_hold.ensures) (sym c.if-not-in_ranges.ensures) refl)
 
-pub returns-then-not-is_shaped_at : goal.returns-then-not-is_shaped_at
-returns-then-not-is_shaped_at c = sym (fault_is c.args.version c.args.tag _ c.in-Ok.kinds.now c.in-Ok.ensures ∙ wrong_is c.in-Ok.kinds.now c.args.tag _ true true true false (counts_agree c.args.fields.now c.in-Ok.kinds.now c.if-fields-kinds.false) (sym c.if-not-all_hold.ensures) (sym c.if-not-in_ranges.ensures) (sym c.if-not-is_shaped_at.ensures))
-
 pub returns-else-not-is_shaped_at : goal.returns-else-not-is_shaped_at
 returns-else-not-is_shaped_at c = sym (fault_is c.args.version c.args.tag _ c.in-Ok.kinds.now c.in-Ok.ensures ∙ wrong_is c.in-Ok.kinds.now c.args.tag _ true true true true (counts_agree c.args.fields.now c.in-Ok.kinds.now c.if-fields-kinds.false) (sym c.if-not-all_hold.ensures) (sym c.if-not-in_ranges.ensures) (sym c.if-not-is_shaped_at.ensures))

@@ -1,9 +1,9 @@
 use Rattle.packstream.proofs.Ranges.{bytes_from_each}
-use Rattle.packstream.proofs.Deciding.{front_tells_value, front_tells_fault}
+use Rattle.packstream.proofs.Deciding.{tells_value, tells_fault, front_value, front_fault}
 use Rattle.packstream.proofs.decoder.decode_front.Goals as goal
 
 pub returns-clause-value : goal.returns-clause-value
-returns-clause-value c = λ t n. front_tells_value c.args.bytes.now (bytes_from_each c.args.bytes.now c.type_inv.bytes) c.read_front.result t n c.read_front.ensures
+returns-clause-value c = λ t n. tells_value c.read_front.result _ (t, n) _ c.read_front.ensures (front_value _ (bytes_from_each c.args.bytes.now c.type_inv.bytes) t n)
 
 pub returns-clause-fault : goal.returns-clause-fault
-returns-clause-fault c = λ r o. front_tells_fault c.args.bytes.now c.read_front.result r o c.read_front.ensures
+returns-clause-fault c = λ r o. tells_fault c.read_front.result _ r o _ c.read_front.ensures (front_fault _ r o)

@@ -3,23 +3,22 @@ use Rattle.std.proofs.lemmas.List.{length-append}
 use Rattle.std.proofs.lemmas.Result.{err_from_is_err_and}
 use Rattle.packstream.specs.Good.{IsSound, count, entry_count}
 use Rattle.packstream.specs.Canon.{head, canon}
-use Rattle.packstream.specs.View.{tree, trees, trees_of, entries, entries_of}
-use Rattle.packstream.specs.Tree.{Tree, dict}
+use Rattle.packstream.specs.View.{tree, trees, trees_of, entries, entries_of, entry}
 use Rattle.packstream.specs.declared.value.Value.{Value}
 use Rattle.packstream.proofs.Views.{Pair}
-use Rattle.packstream.proofs.Putting.{flat, flats, pair_bytes, flat_take, flat_room, sound_at, flats_take, flats_room, values_sound_at, part_fails, part_long, tree_of_dict, len_trees, len_entries, head_some}
+use Rattle.packstream.proofs.Putting.{flat, flats, pair_bytes, flat_take, flat_room, sound_at, flats_take, flats_room, values_sound_at, part_fails, part_long, len_trees, len_entries, head_some}
 use Rattle.packstream.proofs.encoder.+encoder.Goals as goal
 
 pub put_members-loop-member-preserved : goal.put_members-loop-member-preserved
 put_members-loop-member-preserved t c =
-    let next = flat_take c.args.members.now c.loop-member.member-index c.member-item.result c.loop-member-test.true in
+    let next = flat_take tree c.args.members.now c.loop-member.member-index c.member-item.result c.loop-member-test.true in
     let whole : flat (take (c.loop-member.member-index + 1) c.args.members.now) ≡ flat (take c.loop-member.member-index c.args.members.now) ++ canon (tree c.member-item.result) =
     next ∙ ap (λ (v : Value). flat (take c.loop-member.member-index c.args.members.now) ++ canon (tree v)) (sym c.member-item.is) in
     (c.put_value.ensures.before ∙ c.loop-member.invariant.0, c.in_ok-put_value.ensures.writes ∙ ap (λ (x : List ℕ). x ++ canon (tree c.member-item.result)) c.loop-member.invariant.1 ∙ append_assoc c.args.out.now.more (flat (take c.loop-member.member-index c.args.members.now)) (canon (tree c.member-item.result)) ∙ ap (λ (x : List ℕ). c.args.out.now.more ++ x) (sym whole))
 
 pub put_pairs-loop-pair-preserved : goal.put_pairs-loop-pair-preserved
 put_pairs-loop-pair-preserved t c =
-    let next = flats_take c.args.pairs.now c.loop-pair.pair-index c.pair-item.result c.loop-pair-test.true in
+    let next = flats_take entry c.args.pairs.now c.loop-pair.pair-index c.pair-item.result c.loop-pair-test.true in
     let whole : flats (take (c.loop-pair.pair-index + 1) c.args.pairs.now) ≡ flats (take c.loop-pair.pair-index c.args.pairs.now) ++ pair_bytes c.pair-item.result =
     next ∙ ap (λ (v : Pair). flats (take c.loop-pair.pair-index c.args.pairs.now) ++ pair_bytes v) (sym c.pair-item.is) in
     (c.put_pair.ensures.before ∙ c.loop-pair.invariant.0, c.in_ok-put_pair.ensures.writes ∙ ap (λ (x : List ℕ). x ++ pair_bytes c.pair-item.result) c.loop-pair.invariant.1 ∙ append_assoc c.args.out.now.more (flats (take c.loop-pair.pair-index c.args.pairs.now)) (pair_bytes c.pair-item.result) ∙ ap (λ (x : List ℕ). c.args.out.now.more ++ x) (sym whole))
@@ -37,13 +36,6 @@ put_pairs-put_pair-requires t c =
     let r = flats_room c.args.pairs.now c.loop-pair.pair-index c.pair-item.result c.loop-pair-test.true in
     let s = subst (λ (p : Pair). IsSound (tree p.1)) (sym c.pair-item.is) (values_sound_at c.args.pairs.now c.loop-pair.pair-index c.pair-item.result c.loop-pair-test.true c.requires) in
     (omega (arith, c.decreases, e, r), s)
-
-pub put_value-put_dict-requires : goal.put_value-put_dict-requires
-put_value-put_dict-requires t c =
-    let at : tree c.args.value.now ≡ dict (entries_of (entries c.deref-in-Dict.result.now)) = ap tree c.in-Dict.is ∙ tree_of_dict c.in-Dict.pairs ∙ ap (λ (es : List Pair). dict (entries_of (entries es))) (sym c.deref-in-Dict.ensures.value) in
-    let s = subst (λ (u : Tree). IsSound u) at c.requires in
-    let e = ap (λ (u : Tree). length (canon u)) at in
-    (omega (arith, c.decreases, e), s.1)
 
 pub put_list-put_members-requires : goal.put_list-put_members-requires
 put_list-put_members-requires t c =

@@ -3,7 +3,7 @@ use Rattle.std.proofs.lemmas.List.{length-append}
 use Rattle.packstream.specs.Good.{count}
 use Rattle.packstream.specs.Canon.{head, canon, text_bytes}
 use Rattle.packstream.specs.Tree.{Tree, list}
-use Rattle.packstream.specs.View.{tree, trees, trees_of}
+use Rattle.packstream.specs.View.{tree, trees, trees_of, entry}
 use Rattle.packstream.specs.declared.value.Value.{Value}
 use Rattle.packstream.proofs.Views.{Pair, tree-List}
 use Rattle.packstream.proofs.Putting.{flat, flats, pair_bytes, flat_take, flats_take, len_trees}
@@ -11,14 +11,14 @@ use Rattle.packstream.proofs.sizes.+sizer.Goals as goal
 
 pub members_size-loop-member-preserved : goal.members_size-loop-member-preserved
 members_size-loop-member-preserved t c =
-    let next = ap length (flat_take c.args.members.now c.loop-member.member-index c.member-item.result c.loop-member-test.true) in
+    let next = ap length (flat_take tree c.args.members.now c.loop-member.member-index c.member-item.result c.loop-member-test.true) in
     let parts = length-append (flat (take c.loop-member.member-index c.args.members.now)) (canon (tree (get_or c.args.members.now c.loop-member.member-index c.member-item.result))) in
     let e = ap (λ (v : Value). length (canon (tree v))) c.member-item.is in
     omega (arith, next, parts, e, c.sum-total.ensures, c.value_size.ensures, c.loop-member.invariant)
 
 pub pairs_size-loop-pair-preserved : goal.pairs_size-loop-pair-preserved
 pairs_size-loop-pair-preserved t c =
-    let next = ap length (flats_take c.args.pairs.now c.loop-pair.pair-index c.pair-item.result c.loop-pair-test.true) in
+    let next = ap length (flats_take entry c.args.pairs.now c.loop-pair.pair-index c.pair-item.result c.loop-pair-test.true) in
     let parts = length-append (flats (take c.loop-pair.pair-index c.args.pairs.now)) (pair_bytes (get_or c.args.pairs.now c.loop-pair.pair-index c.pair-item.result)) in
     let e = ap (λ (p : Pair). length (pair_bytes p)) c.pair-item.is in
     let two = length-append (text_bytes (string_bytes c.pair-item.result.0)) (canon (tree c.pair-item.result.1)) in

@@ -1,19 +1,11 @@
-use Rattle.std.proofs.Common.{◌≡◌, ◌++◌, ◌∷◌, [], ◌+◌, ◌-◌, suc, Ok, sym, ap, ◌∙◌, List, ℕ, ℤ, refl, arith, rules, string_bytes, to_z, of_z, w64}
+use Rattle.std.proofs.Common.{◌≡◌, ◌++◌, ◌∷◌, [], Ok, sym, ap, ◌∙◌, List, ℕ, ℤ, refl, rules, string_bytes, to_z, of_z, w64}
 use Rattle.std.proofs.lemmas.List.{map_push}
 use Rattle.packstream.specs.Tree.{Tree, int, text}
-use Rattle.packstream.specs.Reading.{list_at, dict_at, layer, inner, items_at, entries_at}
+use Rattle.packstream.specs.Reading.{dict_at, layer, inner, items_at, entries_at}
 use Rattle.packstream.proofs.Steps.{inner_more, items_done, entries_done}
 use Rattle.cells.specs.Shape.{shape, shapes, entry, entries}
 use Rattle.scanner.proofs.Members.{shape_of_int, keys_are, member_on, entry_on, plain_member, plain_entry}
 use Rattle.scanner.proofs.scan.+scanner.Goals as goal
-
-pub list_of-returns-clause-read : goal.list_of-returns-clause-read
-unfolding list_at
-list_of-returns-clause-read t c = rw (inner_more c.args.room c.if-room-eq0.false, c.in_ok-count.ensures, c.in_ok-members.ensures.read) refl
-
-pub dict_of-returns-clause-read : goal.dict_of-returns-clause-read
-unfolding dict_at
-dict_of-returns-clause-read t c = rw (inner_more c.args.room c.if-room-eq0.false, c.in_ok-count.ensures, c.in_ok-pairs.ensures.read) refl
 
 pub dict_of-returns-then-count-eq0-clause-read : goal.dict_of-returns-then-count-eq0-clause-read
 unfolding dict_at entries_at
@@ -46,15 +38,6 @@ push_other-returns-clause-plain t c =
     let m = c.in_ok-member.member in
     let e : shapes c.push.new.self.items ≡ shapes c.args.members.now.items ++ shape m ∷ [] = rw c.in_ok-push.ensures.items (map_push shape c.args.members.now.items m) in
     λ h. rw e (plain_member (shapes c.args.members.now.items) (shape m) h c.in_ok-member.ensures.plain)
-
-pub members_of-loop-preserved : goal.members_of-loop-preserved
-members_of-loop-preserved t c =
-    let read = layer (inner c.args.room) in
-    let left = c.args.count - (c.loop.counter + 1) in
-    let one : suc left ≡ c.args.count - c.loop.counter = omega (arith, c.loop-test.true) in (
-      c.in_ok-after.ensures.read left ∙ ap (λ (n : ℕ). items_at read n (shapes c.loop.members.items) c.loop.rest.now) one ∙ c.loop.invariant.0,
-      c.in_ok-after.ensures.plain c.loop.invariant.1,
-    )
 
 pub members_of-returns-clause-read : goal.members_of-returns-clause-read
 members_of-returns-clause-read t c = items_done (layer (inner c.args.room)) c.args.count c.loop.counter (shapes c.loop.members.items) c.loop.rest.now (items_at (layer (inner c.args.room)) c.args.count [] c.args.bytes.now) c.loop-test.false c.loop.invariant.0
@@ -107,15 +90,6 @@ push_entry-returns-clause-read t c =
     let es = c.args.pairs.now.items in
     let h = rw (c.deref.ensures.value, ← keys_are es) at c.in_ok-key.ensures in
     λ n. c.push_named.ensures.read n c.args.bytes.now (h ∙ ap (λ (b : List ℕ). Ok (b, c.in_ok-key.value.now)) (sym c.in_ok-name.ensures.ok))
-
-pub pairs_of-loop-preserved : goal.pairs_of-loop-preserved
-pairs_of-loop-preserved t c =
-    let read = layer (inner c.args.room) in
-    let left = c.args.count - (c.loop.counter + 1) in
-    let one : suc left ≡ c.args.count - c.loop.counter = omega (arith, c.loop-test.true) in (
-      c.in_ok-after.ensures.read left ∙ ap (λ (n : ℕ). entries_at read n (entries c.loop.pairs.items) c.loop.rest.now) one ∙ c.loop.invariant.0,
-      c.in_ok-after.ensures.plain c.loop.invariant.1,
-    )
 
 pub pairs_of-returns-clause-read : goal.pairs_of-returns-clause-read
 pairs_of-returns-clause-read t c = entries_done (layer (inner c.args.room)) c.args.count c.loop.counter (entries c.loop.pairs.items) c.loop.rest.now (entries_at (layer (inner c.args.room)) c.args.count [] c.args.bytes.now) c.loop-test.false c.loop.invariant.0

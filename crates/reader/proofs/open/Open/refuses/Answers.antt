@@ -1,10 +1,6 @@
 use Rattle.std.proofs.Common.{sym, ◌∙◌, arith}
-use Rattle.reader.proofs.Taking.{refuses_deep, refuses_flat, refuses_none, no_text}
+use Rattle.reader.proofs.Taking.{refuses_deep, refuses_none, no_text}
 use Rattle.reader.proofs.open.Open.refuses.Goals as goal
-
-pub returns-then-not-nests : goal.returns-then-not-nests
-returns-then-not-nests c = λ fs levels.
-    sym (refuses_flat fs c.args.announced (no_text c.args.announced c.in_default.not-Text) (sym (c.waits_for_key.ensures fs levels) ∙ c.if-waits_for_key.false) (sym c.nests.ensures ∙ c.if-not-nests.true))
 
 pub returns-then-self-eq-MOST : goal.returns-then-self-eq-MOST
 returns-then-self-eq-MOST c = λ fs levels.

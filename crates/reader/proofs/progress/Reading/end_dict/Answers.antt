@@ -1,7 +1,7 @@
-use Rattle.std.proofs.Common.{◌≡◌, ◌<◌, ◌++◌, ◌∷◌, ℕ, length, ap, sym, subst, ◌∙◌}
+use Rattle.std.proofs.Common.{◌≡◌, ◌<◌, ◌∷◌, ℕ, length, ap, sym, subst, ◌∙◌}
 use Rattle.reader.specs.declared.open.Open.{Open}
 use Rattle.reader.specs.Frames.{AreLevels, waits}
-use Rattle.reader.specs.Holding.{Holds, holds, HasTaken}
+use Rattle.reader.specs.Holding.{Holds, holds}
 use Rattle.reader.proofs.Standing.{after, has_taken}
 use Rattle.reader.proofs.Values.{dict_value, dict_has_room, dict_stands}
 use Rattle.reader.proofs.progress.Reading.end_dict.Goals as goal
@@ -19,10 +19,8 @@ pub returns-clause-told : goal.returns-clause-told
 returns-clause-told c =
     let h : Holds = holds c.args.self.now in
     let o : Open = c.open_dict.new.self in
-    let same = ap (λ (x : Holds). after o x) c.end_here.ensures.item in
     let keys : c.count-keys.result ≡ length h.names = c.count-keys.ensures ∙ ap (λ (x : Holds). length x.names) c.end_here.ensures.item in
-    subst (λ (x : Holds). HasTaken (h.store ++ c.args.rest.now) x c.args.rest.now) (sym same)
-    (has_taken h o c.args.rest.now c.requires.good
+    has_taken h _ o c.args.rest.now (ap (λ (x : Holds). after o x) c.end_here.ensures.item) c.requires.good
     (dict_stands h c.args.marker c.args.number c.size_in-count.result c.args.size o c.requires.announced (sym c.size_in-count.ensures) c.if-count-eq0.false c.requires.goes
     (λ fs f levels e. subst (λ (k : ℕ). AreLevels (waits f c.size_in-count.result k ∷ fs) o.depth o.around) keys (c.open_dict.ensures.frames fs f (subst (λ (x : Open). AreLevels fs x.depth x.around) (sym c.end_here.ensures.opened) levels) e))
-    (c.open_dict.ensures.is_whole ∙ ap (λ (x : Open). x.is_whole) c.end_here.ensures.opened)))
+    (c.open_dict.ensures.is_whole ∙ ap (λ (x : Open). x.is_whole) c.end_here.ensures.opened))

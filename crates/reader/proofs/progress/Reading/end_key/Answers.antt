@@ -1,10 +1,10 @@
-use Rattle.std.proofs.Common.{◌≡◌, ◌-◌, ◌++◌, ◌∷◌, ℕ, List, Bool, Option, Ok, drop, length, ap, sym, subst, ◌∙◌, arith}
+use Rattle.std.proofs.Common.{◌≡◌, ◌-◌, ◌∷◌, ℕ, List, Bool, Option, Ok, drop, length, ap, sym, subst, ◌∙◌, arith}
 use Rattle.std.specs.Str.{IsUtf8}
 use Rattle.reader.specs.declared.open.Open.{Open}
 use Rattle.reader.specs.Naming.{Name, IsRoot, IsNamed}
 use Rattle.packstream.specs.Faults.{at_key}
 use Rattle.reader.specs.Frames.{Frame, waits, AreLevels}
-use Rattle.reader.specs.Holding.{Holds, holds, with_item, HasTaken}
+use Rattle.reader.specs.Holding.{Holds, holds, with_item}
 use Rattle.packstream.specs.declared.marker.Marker.{Marker}
 use Rattle.reader.specs.Heads.{body, size_with}
 use Rattle.reader.proofs.Standing.{after, has_taken}
@@ -46,9 +46,8 @@ returns-clause-told c =
     let read = named_is h c.join.new.self.bytes c.join.new.self.names c.args.start (length h.store - c.args.start) k.first c.keys-first.result c.join.ensures.bytes fresh.1 first in
     let same = ap (λ (x : Holds). after o x) (c.end_here.ensures.item ∙ ap with_item read) in
     let len : length g.tail ≡ size_with c.args.size n = omega (arith, g.isa.long) ∙ ap (λ (x : Option Marker). body x n) c.requires.announced in
-    subst (λ (x : Holds). HasTaken (h.store ++ c.args.rest.now) x c.args.rest.now) (sym same)
-    (has_taken (named_with name h) o c.args.rest.now c.requires.good
+    has_taken (named_with name h) _ o c.args.rest.now same c.requires.good
     (key_stands h m n c.args.start c.args.size o c.requires.announced g k (omega (arith, c.requires.start, len)) there (subst (λ (s : List ℕ). IsUtf8 s) there c.requires.text)
     (subst (λ (x : ℕ). IsNamed h.names h.store x (drop c.args.start h.store) → ⊥) first fresh.0)
     (λ fs es s lacks at levels. c.key_ends.ensures.frames fs es s lacks at (subst (λ (x : Open). AreLevels (waits (at_key es) lacks at ∷ fs) x.depth x.around) (sym c.end_here.ensures.opened) levels))
-    (c.key_ends.ensures.is_whole ∙ ap (λ (x : Open). x.is_whole) c.end_here.ensures.opened)))
+    (c.key_ends.ensures.is_whole ∙ ap (λ (x : Open). x.is_whole) c.end_here.ensures.opened))

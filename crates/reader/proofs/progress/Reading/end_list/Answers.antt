@@ -1,7 +1,7 @@
-use Rattle.std.proofs.Common.{◌<◌, ◌++◌, ap, sym, subst, ◌∙◌}
+use Rattle.std.proofs.Common.{◌<◌, ap, sym, subst, ◌∙◌}
 use Rattle.reader.specs.declared.open.Open.{Open}
 use Rattle.reader.specs.Frames.{AreLevels}
-use Rattle.reader.specs.Holding.{Holds, holds, HasTaken}
+use Rattle.reader.specs.Holding.{Holds, holds}
 use Rattle.reader.proofs.Standing.{after, has_taken}
 use Rattle.reader.proofs.Values.{list_value, list_has_room, list_stands}
 use Rattle.reader.proofs.progress.Reading.end_list.Goals as goal
@@ -19,9 +19,7 @@ pub returns-clause-told : goal.returns-clause-told
 returns-clause-told c =
     let h : Holds = holds c.args.self.now in
     let o : Open = c.open.new.self in
-    let same = ap (λ (x : Holds). after o x) c.end_here.ensures.item in
-    subst (λ (x : Holds). HasTaken (h.store ++ c.args.rest.now) x c.args.rest.now) (sym same)
-    (has_taken h o c.args.rest.now c.requires.good
+    has_taken h _ o c.args.rest.now (ap (λ (x : Holds). after o x) c.end_here.ensures.item) c.requires.good
     (list_stands h c.args.marker c.args.number c.args.count c.args.announced o c.requires.announced c.requires.list c.if-count-eq0.false c.requires.goes
     (λ fs f levels e. c.open.ensures.frames fs f (subst (λ (x : Open). AreLevels fs x.depth x.around) (sym c.end_here.ensures.opened) levels) e)
-    (c.open.ensures.is_whole ∙ ap (λ (x : Open). x.is_whole) c.end_here.ensures.opened)))
+    (c.open.ensures.is_whole ∙ ap (λ (x : Open). x.is_whole) c.end_here.ensures.opened))

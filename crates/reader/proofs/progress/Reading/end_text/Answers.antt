@@ -16,9 +16,6 @@ returns-in_default-clause-told c =
     let there = text_from _ _ start c.bytes.ensures ∙ tail_at h c.args.marker c.args.number start c.args.size c.requires.announced g e in
     text_bad h c.args.marker c.args.number c.args.size c.args.rest.now c.requires.announced g (subst (λ (s : List ℕ). is_utf8 s ≡ false) there (not_utf8 _ c.in_default.ensures))
 
-pub end_key-requires-clause-text : goal.end_key-requires-clause-text
-end_key-requires-clause-text c = subst (λ (s : List ℕ). IsUtf8 s) (text_from _ _ (c.len.result - c.size_in.result) c.bytes.ensures) c.in-Ok.ensures.1
-
 pub end_value-requires-clause-value : goal.end_value-requires-clause-value
 end_value-requires-clause-value c =
     let h : Holds = holds c.args.self.now in

@@ -1,7 +1,7 @@
-use Rattle.std.proofs.Common.{◌++◌, ap, sym, subst, ◌∙◌}
+use Rattle.std.proofs.Common.{ap, sym, subst, ◌∙◌}
 use Rattle.reader.specs.declared.open.Open.{Open}
 use Rattle.reader.specs.Frames.{AreLevels}
-use Rattle.reader.specs.Holding.{Holds, holds, HasTaken}
+use Rattle.reader.specs.Holding.{Holds, holds}
 use Rattle.reader.proofs.Standing.{after, value_stands, has_taken}
 use Rattle.reader.proofs.progress.Reading.end_value.Goals as goal
 
@@ -9,8 +9,6 @@ pub returns-clause-told : goal.returns-clause-told
 returns-clause-told c =
     let h : Holds = holds c.args.self.now in
     let o : Open = c.value_ends.new.self in
-    let same = ap (λ (x : Holds). after o x) c.end_here.ensures.item in
-    subst (λ (x : Holds). HasTaken (h.store ++ c.args.rest.now) x c.args.rest.now) (sym same)
-    (has_taken h o c.args.rest.now c.requires.good
+    has_taken h _ o c.args.rest.now (ap (λ (x : Holds). after o x) c.end_here.ensures.item) c.requires.good
     (value_stands h c.args.marker c.args.number o c.requires.goes c.requires.value
-    (λ fs t levels unread. c.value_ends.ensures fs t (subst (λ (x : Open). AreLevels fs x.depth x.around) (sym c.end_here.ensures.opened) levels) (ap (λ (x : Open). x.is_whole) c.end_here.ensures.opened ∙ unread))))
+    (λ fs t levels unread. c.value_ends.ensures fs t (subst (λ (x : Open). AreLevels fs x.depth x.around) (sym c.end_here.ensures.opened) levels) (ap (λ (x : Open). x.is_whole) c.end_here.ensures.opened ∙ unread)))

@@ -1,8 +1,8 @@
-use Rattle.std.proofs.Common.{◌-◌, ◌++◌, ℕ, List, [], length, ap, sym, subst, arith}
+use Rattle.std.proofs.Common.{◌-◌, ◌++◌, ℕ, [], length, ap, sym, subst, arith}
 use Rattle.reader.specs.declared.progress.Part.{Part}
 use Rattle.reader.specs.declared.progress.Part.TheVariants as part
-use Rattle.reader.specs.Holding.{Holds, holds, Goes, HasTaken, Answers}
-use Rattle.reader.proofs.Taking.{parted, stored, stored_is, split_behind, body_longer, part_taken}
+use Rattle.reader.specs.Holding.{Holds, holds, Goes, HasTaken}
+use Rattle.reader.proofs.Taking.{parted, stored, stored_is, body_longer, part_taken}
 use Rattle.reader.proofs.progress.Reading.take_body.Goals as goal
 
 pub returns-then-bytes-lacks-clause-told : goal.returns-then-bytes-lacks-clause-told
@@ -21,11 +21,3 @@ end_item-requires-2-clause-goes c =
     let s = c.split_at.result.0.now in
     subst (λ (x : Holds). Goes x (part.Body c.args.marker c.args.number 0)) (sym (stored_is h c.extend-2.new.self.bytes s c.extend-2.new.self.names c.in_ok-extend-2.ensures.ok c.in_ok-extend-2.ensures.keys))
     (body_longer h c.args.marker c.args.number c.args.lacks 0 s c.requires.goes (omega (arith, c.split_at.ensures.front_len)))
-
-pub returns-clause-told : goal.returns-clause-told
-returns-clause-told c =
-    let h : Holds = holds c.args.self.now in
-    let s = c.split_at.result.0.now in
-    let rest = c.split_at.result.1.now in
-    let all = split_behind h.store c.args.bytes.now s rest c.extend-2.new.self.bytes c.in_ok-extend-2.ensures.ok c.split_at.ensures.by_index.0 in
-    subst (λ (b : List ℕ). Answers (λ x. x.now) c.end_item-2.result b (holds c.end_item-2.new.self)) all c.end_item-2.ensures.told

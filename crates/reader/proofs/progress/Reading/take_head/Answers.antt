@@ -6,9 +6,9 @@ use Rattle.packstream.specs.Markers.{marker}
 use Rattle.reader.specs.Heads.{field, body, number_from}
 use Rattle.reader.specs.declared.progress.Part.{Part}
 use Rattle.reader.specs.declared.progress.Part.TheVariants as part
-use Rattle.reader.specs.Holding.{Holds, holds, Goes, HasTaken, Answers}
+use Rattle.reader.specs.Holding.{Holds, holds, Goes, HasTaken}
 use Rattle.reader.proofs.Heads.{joined_fits, fits_word}
-use Rattle.reader.proofs.Taking.{parted, stored, stored_is, split_behind, head_longer, head_whole, part_taken}
+use Rattle.reader.proofs.Taking.{parted, stored, stored_is, head_longer, head_whole, part_taken}
 use Rattle.reader.proofs.progress.Reading.take_head.Goals as goal
 
 pub join-requires : goal.join-requires
@@ -57,9 +57,3 @@ take_body-requires-clause-goes c =
     subst (λ (x : Holds). Goes x (part.Body m c.join-number.result c.body_len.result)) (sym same)
     (subst (λ (n : ℕ). Goes (stored front h) (part.Body m c.join-number.result n)) (sym body_is)
     (subst (λ (n : ℕ). Goes (stored front h) (part.Body m n (body (marker m) (number_from c.args.number front)))) (sym c.join-number.ensures) (head_whole h m c.args.number c.args.has front are g len)))
-
-pub returns-clause-told : goal.returns-clause-told
-returns-clause-told c =
-    let h : Holds = holds c.args.self.now in
-    let all = split_behind h.store c.args.bytes.now c.split_at.result.0.now c.split_at.result.1.now c.extend-2.new.self.bytes c.in_ok-extend-2.ensures.ok c.split_at.ensures.by_index.0 in
-    subst (λ (b : List ℕ). Answers (λ x. x.now) c.take_body.result b (holds c.take_body.new.self)) all c.take_body.ensures.told

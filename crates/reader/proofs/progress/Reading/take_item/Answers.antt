@@ -1,8 +1,8 @@
-use Rattle.std.proofs.Common.{◌≡◌, ℕ, List, [], ◌∷◌, ◌++◌, ap, sym, subst, ◌∙◌, append_assoc}
+use Rattle.std.proofs.Common.{◌≡◌, [], ◌∷◌, sym, subst, ◌∙◌}
 use Rattle.packstream.specs.declared.fault.Reason.TheVariants as reason
 use Rattle.reader.specs.Frames.{place}
 use Rattle.reader.specs.declared.progress.Part.TheVariants as part
-use Rattle.reader.specs.Holding.{Holds, holds, Goes, Answers}
+use Rattle.reader.specs.Holding.{Holds, holds, Goes}
 use Rattle.reader.proofs.Faulting.{refused, no_marker}
 use Rattle.reader.proofs.Taking.{stored_is, goes_of, done_of, trails, head_bad, head_starts}
 use Rattle.reader.proofs.progress.Reading.take_item.Goals as goal
@@ -31,9 +31,3 @@ take_head-requires-clause-goes c =
     let g = goes_of h c.requires.stands c.requires.none (sym c.is_whole.ensures ∙ c.if-is_whole.false) in
     subst (λ (x : Holds). Goes x (part.Head c.args.marker 0 0)) (sym (stored_is h c.extend.new.self.bytes (c.args.marker ∷ []) c.extend.new.self.names c.in_ok-extend.ensures.ok c.in_ok-extend.ensures.keys))
     (head_starts h c.args.marker g (c.in-Some.announced, sym c.in-Some.ensures, sym (c.in_default-refuses.ensures g.frames g.levels)))
-
-pub returns-clause-told : goal.returns-clause-told
-returns-clause-told c =
-    let h : Holds = holds c.args.self.now in
-    let all = ap (λ (b : List ℕ). b ++ c.args.bytes.now) c.in_ok-extend.ensures.ok ∙ append_assoc h.store (c.args.marker ∷ []) c.args.bytes.now in
-    subst (λ (b : List ℕ). Answers (λ x. x.now) c.take_head.result b (holds c.take_head.new.self)) all c.take_head.ensures.told

@@ -1,4 +1,4 @@
-use Rattle.std.proofs.Common.{◌++◌, ℕ, List, [], ap, sym, subst, ◌∙◌}
+use Rattle.std.proofs.Common.{◌++◌, ℕ, List, [], ap, subst, ◌∙◌}
 use Rattle.std.proofs.lemmas.List.{append-nil}
 use Rattle.reader.specs.declared.open.Open.{Open}
 use Rattle.reader.specs.Holding.{Holds, holds, with_item, HasTaken}
@@ -14,6 +14,4 @@ returns-clause-taken c =
     let run = c.args.run.now in
     let stands = tiny_stands h o run c.requires.goes c.requires.tiny c.requires.room.deep (c.pass.ensures.is_whole ∙ c.requires.room.unread) c.pass.ensures.frames in
     let same = c.end_here.ensures.item ∙ ap with_item (stored_is (after o h) c.extend.new.self.bytes run c.extend.new.self.names c.in_ok-extend.ensures.ok c.in_ok-extend.ensures.keys) in
-    subst (λ (x : Holds). HasTaken (h.store ++ run) x []) (sym same)
-    (subst (λ (b : List ℕ). HasTaken b (after o (with_item (stored run h))) []) (append-nil (h.store ++ run))
-    (has_taken (stored run h) o [] c.requires.good stands))
+    subst (λ (b : List ℕ). HasTaken b (holds c.end_here.new.self) []) (append-nil (h.store ++ run)) (has_taken (stored run h) _ o [] same c.requires.good stands)

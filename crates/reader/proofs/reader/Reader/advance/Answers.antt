@@ -2,8 +2,7 @@ use Rattle.std.proofs.Common.{Ok, ap, sym, subst, ◌∙◌}
 use Rattle.std.proofs.lemmas.List.{append-nil}
 use Rattle.packstream.proofs.Ranges.{bytes_from_each}
 use Rattle.reader.specs.Piecewise.{Point, Points, Takes}
-use Rattle.reader.specs.declared.progress.Reading.{Reading}
-use Rattle.reader.specs.Holding.{Holds, holds, points_at}
+use Rattle.reader.specs.Holding.{Holds, holds}
 use Rattle.reader.proofs.Held.{keeps_on, keeps_at, here_at, kept_within, joins}
 use Rattle.reader.proofs.reader.Reader.advance.Goals as goal
 
@@ -29,11 +28,3 @@ returns-then-branch-clause-here c =
     let before = sym (here_at i.is_still old i.held) ∙ ap (λ (p : Points). p.here) c.self.view_is in
     subst (λ (p : Point). Takes c.args.self.now.here c.args.piece.now p) (sym (c.hold.ensures.here ∙ here_at i.is_still new i.held))
     (joins old new c.args.self.now.here c.args.piece.now before keeps taken.0 bytes t.bad)
-
-pub returns-clause-here : goal.returns-clause-here
-returns-clause-here c =
-    let i = c.self.inside in
-    let same = c.in_ok-take_within.ensures.other (ap Ok c.if-branch.false) in
-    let before = ap (λ (r : Reading). (points_at i.is_still (holds r) i.held).here) same ∙ ap (λ (p : Points). p.here) c.self.view_is in
-    subst (λ (p : Point). Takes p c.args.piece.now c.hold-2.new.self.here) before
-    (subst (λ (p : Point). Takes (points_at i.is_still (holds c.take_within.new.self) i.held).here c.args.piece.now p) (sym c.hold-2.ensures.here) c.in_ok-feed.ensures.here)

@@ -1,13 +1,8 @@
 use Rattle.std.proofs.Common.{ap, sym, subst, ◌∙◌}
-use Rattle.reader.specs.Piecewise.{Point, Points, IsBeginning, MayGoOn}
+use Rattle.reader.specs.Piecewise.{Point, Points, MayGoOn}
 use Rattle.reader.specs.Holding.{Holds, holds}
-use Rattle.reader.proofs.Held.{keeps_at, here_at, begins_at, may_go_on}
+use Rattle.reader.proofs.Held.{keeps_at, here_at, may_go_on}
 use Rattle.reader.proofs.reader.Reader.stands.Goals as goal
-
-pub returns-clause-held : goal.returns-clause-held
-returns-clause-held c =
-    let i = c.self.inside in
-    subst (λ (p : Points). IsBeginning p.held.bytes p.here.bytes) c.self.view_is (begins_at i.is_still (holds i.reading) i.held c.self.invariant)
 
 pub returns-clause-good : goal.returns-clause-good
 returns-clause-good c = λ good.

@@ -26,14 +26,6 @@ invariant_of-self-in-Free c =
     let new = new_key keys bytes c.args.first c.args.start _ c.digest-digest.result c.in-Free.above start text c.digest-digest.ensures h.1 in
     rw c.in_ok-hang-in-Free.ensures.ok (tree_hangs_at keys bytes c.args.first (drop c.args.start bytes) _ c.in-Free.above c.self.invariant new refl)
 
-pub returns-in-Again-clause-again : goal.returns-in-Again-clause-again
-returns-in-Again-clause-again c = λ e.
-    (let keys = c.self.inside.keys.items in
-    let bytes = c.self.inside.bytes.items in
-    let text = text_from _ _ c.args.start c.deref.ensures.value in
-    let h = moved (λ (k : List Key) (b s : List ℕ). IsNamed (names_of k) b c.args.first s) _ keys _ bytes _ (drop c.args.start bytes) c.deref-2.ensures.value c.deref-3.ensures.value text (c.in-Again.ensures.again refl) in
-    (subst (λ (v : Kept). IsNamed v.names v.bytes c.args.first (drop c.args.start v.bytes)) c.self.view_is h, refl))
-
 pub returns-in_ok-hang-in-Free-clause-fresh : goal.returns-in_ok-hang-in-Free-clause-fresh
 returns-in_ok-hang-in-Free-clause-fresh c = λ e.
     (let keys = c.self.inside.keys.items in
