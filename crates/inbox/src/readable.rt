@@ -2,14 +2,12 @@
 ghost use Rattle.std.specs.Prelude.{ℕ, List, Result, Err};
 ghost use Rattle.packstream.specs.declared.fault.PackFault.{PackFault};
 ghost use Rattle.packstream.specs.Tree.{Tree};
-ghost use Rattle.packstream.specs.Spelling.{Spells};
 ghost use Rattle.packstream.specs.Answers.{Tells, whole_of};
 ghost use Rattle.wire.specs.declared.Version.{Version};
 ghost use Rattle.messages.specs.declared.fault.MsgFault.{MsgFault};
 ghost use Rattle.messages.specs.Faults.{of_pack};
 
-use messages::{MsgFault, Request, Response, read_request, read_response, request_of, response_of};
-use packstream::Packed;
+use messages::{MsgFault, Request, Response, read_request, read_response};
 use std::alloc::Global;
 use wire::Version;
 
@@ -22,10 +20,6 @@ pub trait Readable {
     fn of_bytes(alloc: Global, version: Version, bytes: &[u8]) -> Result<Self, MsgFault>
         ensures { reads version bytes.now result };
 
-    /// The message of a value, whatever bytes it was read from.
-    fn of_value(alloc: Global, version: Version, packed: &Packed) -> Result<Self, MsgFault>
-        ensures { (b : List ℕ) → Spells packed.now b → reads version b result };
-
     /// Of bytes that spell no value their fault is told.
     ghost bad: { (v : Version) (b : List ℕ) (p : PackFault) → Tells (λ (t : Tree). t) (Err p) (whole_of b) → reads v b (Err (of_pack p)) };
 }
@@ -33,37 +27,29 @@ pub trait Readable {
 impl Readable for Request {
     ghost use Rattle.messages.specs.View.{request_view};
     ghost use Rattle.messages.specs.Reading.{Answers};
-    ghost use Rattle.messages.specs.Messages.{request_of as request_by};
+    ghost use Rattle.messages.specs.Messages.{request_of};
     ghost use Rattle.inbox.specs.NoValue.{no_request};
 
-    ghost reads = { λ v b told. Answers request_view told (request_by v b) };
+    ghost reads = { λ v b told. Answers request_view told (request_of v b) };
 
     ghost bad = { λ v b p told. no_request v b p told };
 
     fn of_bytes(alloc: Global, version: Version, bytes: &[u8]) -> Result<Request, MsgFault> {
         read_request(alloc, version, bytes)
     }
-
-    fn of_value(alloc: Global, version: Version, packed: &Packed) -> Result<Request, MsgFault> {
-        request_of(alloc, version, packed)
-    }
 }
 
 impl Readable for Response {
     ghost use Rattle.messages.specs.View.{response_view};
     ghost use Rattle.messages.specs.Reading.{Answers};
-    ghost use Rattle.messages.specs.Messages.{response_of as response_by};
+    ghost use Rattle.messages.specs.Messages.{response_of};
     ghost use Rattle.inbox.specs.NoValue.{no_response};
 
-    ghost reads = { λ v b told. Answers response_view told (response_by v b) };
+    ghost reads = { λ v b told. Answers response_view told (response_of v b) };
 
     ghost bad = { λ v b p told. no_response v b p told };
 
     fn of_bytes(alloc: Global, version: Version, bytes: &[u8]) -> Result<Response, MsgFault> {
         read_response(alloc, version, bytes)
-    }
-
-    fn of_value(alloc: Global, version: Version, packed: &Packed) -> Result<Response, MsgFault> {
-        response_of(alloc, version, packed)
     }
 }

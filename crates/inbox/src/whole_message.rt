@@ -1,5 +1,5 @@
-//! A message that is whole, by its bytes or by what a reader has read of them.
-ghost use Rattle.std.specs.Prelude.{◌≡◌, ℕ, List, None, Some, Err, IfOk, OnErr};
+//! A message that is whole, by its bytes or by the reader that has read them.
+ghost use Rattle.std.specs.Prelude.{◌≡◌, ℕ, List, None, Some, IfOk, OnErr};
 ghost use Rattle.wire.specs.Framing.{Message};
 ghost use Rattle.reader.specs.Piecewise.{Reads};
 ghost use Rattle.inbox.specs.Taking.{Brings};
@@ -27,7 +27,7 @@ pub(crate) fn read_bytes<M: Readable>(
     }
 }
 
-/// The message of which all data was read. One that is bad takes no memory.
+/// The message of which all data was read: of its bytes, or of its fault where the reader is bad. That takes no memory.
 pub(crate) fn read_data<M: Readable>(
     alloc: Global,
     version: Version,
@@ -37,19 +37,9 @@ pub(crate) fn read_data<M: Readable>(
         → IfOk result (λ x. Brings (M.reads version) (Some (Message b)) x) }
     ensures memory { OnErr result (reader.now.here.bad ≡ None) }
 {
-    match told_of::<M>(alloc, version, reader) {
-        Ok(told) => Ok(Brought::Message(told)),
-        Err(MsgFault::Memory) => Err(AllocError),
-        Err(fault) => Ok(Brought::Bad(fault)),
-    }
-}
-
-/// What is told of a message of which all data was read.
-fn told_of<M: Readable>(alloc: Global, version: Version, reader: &Reader) -> Result<M, MsgFault>
-    ensures told { (b : List ℕ) → Reads reader.now.here b → M.reads version b result }
-    ensures memory { result ≡ Err MsgFault.Memory → reader.now.here.bad ≡ None }
-{
     finish_reads();
-    let packed = reader.finish()?;
-    M::of_value(alloc, version, &packed)
+    match reader.bytes() {
+        Ok(bytes) => read_bytes(alloc, version, bytes),
+        Err(fault) => Ok(Brought::Bad(MsgFault::from(fault))),
+    }
 }

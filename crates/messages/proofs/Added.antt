@@ -5,14 +5,14 @@ use Rattle.std.specs.Prelude.{FitsSigned}
 use Rattle.std.specs.Int.{w64}
 use Rattle.std.specs.Str.{IsUtf8}
 use Rattle.packstream.specs.declared.fault.Reason.{Reason as PackReason}
-use Rattle.packstream.specs.Tree.{Tree, null, boolean, int, float, byte_string, text, list, dict, structure, Trees, no_trees, tree_then, Entries, no_entries, entry_then}
+use Rattle.packstream.specs.Tree.{Tree, int, text, list, dict, structure, Trees, no_trees, tree_then, Entries, no_entries, entry_then}
 use Rattle.packstream.specs.Canon.{head, text_bytes, canon}
 use Rattle.packstream.specs.Good.{IsGood, depth}
 use Rattle.packstream.specs.Making.{first_fault, faults_in}
-use Rattle.packstream.specs.View.{entries_of, trees_of}
+use Rattle.packstream.specs.View.{entries_of}
 use Rattle.packstream.proofs.Checking.{bad_when}
-use Rattle.packstream.proofs.Only.{canon_spells}
 use Rattle.wire.specs.declared.Version.{Version}
+use Rattle.wire.proofs.Fronts.{nil_left}
 use Rattle.cells.specs.Faults.{scan, fault as structure_fault, structures, structures_in, structures_under}
 use Rattle.cells.specs.Writing.{fault_of_structure}
 use Rattle.structures.specs.Answers.{HasGoodForm}
@@ -22,22 +22,17 @@ use Rattle.messages.specs.declared.request.Mode.TheVariants.{Read, Write}
 use Rattle.messages.specs.declared.request.Count.{Count}
 use Rattle.messages.specs.declared.request.Count.TheVariants.{All, Of}
 use Rattle.messages.specs.declared.fault.MsgFault.{MsgFault}
-use Rattle.messages.specs.Table.{Row, how_many}
-use Rattle.messages.specs.View.{Run, Success, Record}
-use Rattle.messages.specs.Reading.{◌>>=◌, request_contents, response_contents, count_tree, contents_of_message, Contents}
+use Rattle.messages.specs.Table.{Row}
+use Rattle.messages.specs.View.{Run}
+use Rattle.messages.specs.Reading.{◌>>=◌, request_contents, count_tree, contents_of_message, Contents}
 use Rattle.messages.specs.Cells.{cell_put}
 use Rattle.messages.specs.Messages.{Means}
-use Rattle.messages.specs.Parts.{with_dict, mode_pairs, count_number}
-use Rattle.messages.specs.Writing.{packed_by, spelling_within, spelling_of_tree, named_put, form_put}
+use Rattle.messages.specs.Parts.{with_dict, transaction_put, rows_put, mode_pairs, count_number}
+use Rattle.messages.specs.Writing.{packed_by, spelling_within, spelling_of_tree, form_put}
 use Rattle.messages.specs.Added.{Adds, AddsEntries}
 use Rattle.messages.proofs.Forms.{put_value}
-use Rattle.messages.proofs.Rounds.{transaction_put, put_alone}
-use Rattle.messages.proofs.Texts.{sized_fits, canon_is}
-
--- Without structures a cell is its own form.
-left_none : {A : Type 0} (xs ys : List A) → xs ++ ys ≡ [] → xs ≡ []
-left_none [] ys h = refl
-left_none (x ∷ xs) ys h = absurd cc
+use Rattle.messages.proofs.Rounds.{put_alone}
+use Rattle.messages.proofs.Texts.{sized_fits, means_of}
 
 right_none : {A : Type 0} (xs ys : List A) → xs ++ ys ≡ [] → ys ≡ []
 right_none [] ys h = h
@@ -45,25 +40,20 @@ right_none (x ∷ xs) ys h = absurd cc
 
 mutual
   itself : (t : Tree) → structures t ≡ [] → typed t ≡ t
-  itself null h = refl
-  itself (boolean b) h = refl
-  itself (int z) h = refl
-  itself (float n) h = refl
-  itself (byte_string s) h = refl
-  itself (text s) h = refl
   itself (list ts) h = ap list (all_themselves ts h)
   itself (dict es) h = ap dict (under_themselves es h)
   itself (structure tag ts) h = absurd cc
+  itself t h = refl
 
   all_themselves : (ts : Trees) → structures_in ts ≡ [] → typed_all ts ≡ ts
   all_themselves no_trees h = refl
   all_themselves (tree_then t ts) h =
-      rw (itself t (left_none (structures t) (structures_in ts) h), all_themselves ts (right_none (structures t) (structures_in ts) h)) refl
+      rw (itself t (nil_left (structures t) (structures_in ts) h), all_themselves ts (right_none (structures t) (structures_in ts) h)) refl
 
   under_themselves : (es : Entries) → structures_under es ≡ [] → typed_under es ≡ es
   under_themselves no_entries h = refl
   under_themselves (entry_then k t es) h =
-      rw (itself t (left_none (structures t) (structures_under es) h), under_themselves es (right_none (structures t) (structures_under es) h)) refl
+      rw (itself t (nil_left (structures t) (structures_under es) h), under_themselves es (right_none (structures t) (structures_under es) h)) refl
 
 good_form : (v : Version) (t : Tree) → IsGood t → structures t ≡ [] → HasGoodForm v t t
 good_form v t g h = record {
@@ -79,12 +69,6 @@ put_itself v t g h = put_value v t t (good_form v t g h)
 -- Pieces.
 three : (old h x y : List ℕ) → old ++ h ++ x ++ y ≡ old ++ (h ++ (x ++ y))
 three old h x y = append_assoc (old ++ h) x y ∙ append_assoc old h (x ++ y)
-
--- the head of a structure, then its only field
-pub one_field : (tag : ℕ) (t : Tree) (old mid new : List ℕ) → mid ≡ old ++ 0xB1 ∷ tag ∷ [] → new ≡ mid ++ canon t → new ≡ old ++ canon (structure tag (tree_then t no_trees))
-one_field tag t old mid new a b =
-    b ∙ ap (λ x. x ++ canon t) a ∙ append_assoc old (0xB1 ∷ tag ∷ []) (canon t)
-    ∙ ap (λ x. old ++ (0xB1 ∷ tag ∷ x)) (sym (append-nil (canon t)))
 
 -- the head of a structure, then its three fields
 pub three_fields : (tag : ℕ) (t u w : Tree) (old a b c new : List ℕ) → a ≡ old ++ 0xB3 ∷ tag ∷ [] → b ≡ a ++ canon t → c ≡ b ++ canon u → new ≡ c ++ canon w
@@ -121,38 +105,30 @@ run_good s t u h g d k e = record {
   plain = (omega arith, (h, (g.plain, (k.plain, tt))));
 }
 
--- A structure of one dictionary with these entries.
-pub in_dict : (tag : ℕ) (r : Result Entries MsgFault) (old mid new : List ℕ) → tag < 256 → mid ≡ old ++ 0xB1 ∷ tag ∷ [] → AddsEntries r mid new → Adds (with_dict tag r) old new
-in_dict tag r old mid new h e a = record {
-  value = structure tag (tree_then (dict a.entries) no_trees);
-  is = ap (λ x. with_dict tag x) a.is;
-  good = field_good tag (dict a.entries) h a.good a.deep;
-  added = one_field tag (dict a.entries) old mid new e a.added;
+-- A structure of one field: its head was added, and then the field.
+field_added : (f : Result Tree MsgFault) (tag : ℕ) (t : Tree) (old mid new : List ℕ) → tag < 256 → f ≡ Ok (structure tag (tree_then t no_trees)) → mid ≡ old ++ 0xB1 ∷ tag ∷ [] → new ≡ mid ++ canon t → IsGood t → depth t ≤ 31 → Adds f old new
+field_added f tag t old mid new h is a b g d = record {
+  value = structure tag (tree_then t no_trees);
+  is = is;
+  good = field_good tag t h g d;
+  added =
+      b ∙ ap (λ x. x ++ canon t) a ∙ append_assoc old (0xB1 ∷ tag ∷ []) (canon t)
+      ∙ ap (λ x. old ++ (0xB1 ∷ tag ∷ x)) (sym (append-nil (canon t)));
 }
 
--- A message of one field of cells.
-pub success_added : (v : Version) (ms ns : List (List ℕ × Tree)) (old mid new : List ℕ) → ms ≡ ns → mid ≡ old ++ 0xB1 ∷ 0x70 ∷ [] → new ≡ mid ++ canon (dict (entries_of ms)) → IsGood (dict (entries_of ms)) → depth (dict (entries_of ms)) ≤ 31 → structures (dict (entries_of ms)) ≡ []
-    → Adds (form_put v (response_contents (Success ns))) old new
-success_added v ms ns old mid new e a b g d n = subst (λ xs. Adds (form_put v (response_contents (Success xs))) old new) e (record {
-  value = structure 0x70 (tree_then (dict (entries_of ms)) no_trees);
-  is = rw (put_itself v (dict (entries_of ms)) g n) refl;
-  good = field_good 0x70 (dict (entries_of ms)) (omega arith) g d;
-  added = one_field 0x70 (dict (entries_of ms)) old mid new a b;
-})
+-- of one dictionary with these entries
+pub in_dict : (tag : ℕ) (r : Result Entries MsgFault) (old mid new : List ℕ) → tag < 256 → mid ≡ old ++ 0xB1 ∷ tag ∷ [] → AddsEntries r mid new → Adds (with_dict tag r) old new
+in_dict tag r old mid new h e a = field_added (with_dict tag r) tag (dict a.entries) old mid new h (ap (λ x. with_dict tag x) a.is) e a.added a.good a.deep
 
-pub record_added : (v : Version) (cs ds : List Tree) (old mid new : List ℕ) → cs ≡ ds → mid ≡ old ++ 0xB1 ∷ 0x71 ∷ [] → new ≡ mid ++ canon (list (trees_of cs)) → IsGood (list (trees_of cs)) → depth (list (trees_of cs)) ≤ 31 → structures (list (trees_of cs)) ≡ []
-    → Adds (form_put v (response_contents (Record ds))) old new
-record_added v cs ds old mid new e a b g d n = subst (λ xs. Adds (form_put v (response_contents (Record xs))) old new) e (record {
-  value = structure 0x71 (tree_then (list (trees_of cs)) no_trees);
-  is = rw (put_itself v (list (trees_of cs)) g n) refl;
-  good = field_good 0x71 (list (trees_of cs)) (omega arith) g d;
-  added = one_field 0x71 (list (trees_of cs)) old mid new a b;
-})
+-- and of one field of cells
+pub cells_added : (v : Version) (s : Tree → Contents) (tag : ℕ) (t u : Tree) (old mid new : List ℕ) → tag < 256 → ((x : Tree) → cell_put v x ≡ Ok x → form_put v (s x) ≡ Ok (structure tag (tree_then x no_trees))) → t ≡ u
+    → mid ≡ old ++ 0xB1 ∷ tag ∷ [] → new ≡ mid ++ canon t → IsGood t → depth t ≤ 31 → structures t ≡ [] → Adds (form_put v (s u)) old new
+cells_added v s tag t u old mid new h is e a b g d n = subst (λ x. Adds (form_put v (s x)) old new) e (field_added (form_put v (s t)) tag t old mid new h (is t (put_itself v t g n)) a b g d)
 
 -- A RUN.
 pub run_added : (v : Version) (s : List ℕ) (ps qs : List (List ℕ × Tree)) (m : Mode) (token : Option (List ℕ)) (old a b c new : List ℕ) → ps ≡ qs → a ≡ old ++ 0xB3 ∷ 0x10 ∷ [] → b ≡ a ++ text_bytes s → IsUtf8 s
     → c ≡ b ++ canon (dict (entries_of ps)) → IsGood (dict (entries_of ps)) → depth (dict (entries_of ps)) ≤ 31 → structures (dict (entries_of ps)) ≡ []
-    → AddsEntries (transaction_put v m token) c new → Adds (form_put v (request_contents (Run s qs m token))) old new
+    → AddsEntries (transaction_put m token) c new → Adds (form_put v (request_contents (Run s qs m token))) old new
 run_added v s ps qs m token old a b c new e p q u r g d n t = subst (λ xs. Adds (form_put v (request_contents (Run s xs m token))) old new) e (record {
   value = structure 0x10 (tree_then (text s) (tree_then (dict (entries_of ps)) (tree_then (dict t.entries) no_trees)));
   is = rw (t.is, put_itself v (dict (entries_of ps)) g n) refl;
@@ -161,13 +137,13 @@ run_added v s ps qs m token old a b c new e p q u r g d n t = subst (λ xs. Adds
 })
 
 -- Entries.
-by_test : (v : Version) (z : ℤ) (b : Bool) → int_le (pos 1) z ≡ b → named_put v how_many (int z ∷ []) ≡ (count_number (int z) >>= λ t. Ok (entry_then (codes "n") t no_entries))
-by_test v z true e = rw e refl
-by_test v z false e = rw e refl
+by_test : (z : ℤ) (b : Bool) → int_le (pos 1) z ≡ b → rows_put (Of z) ≡ (count_number (int z) >>= λ t. Ok (entry_then (codes "n") t no_entries))
+by_test z true e = rw e refl
+by_test z false e = rw e refl
 
-pub count_named : (v : Version) (c : Count) → named_put v how_many (count_tree c ∷ []) ≡ (count_number (count_tree c) >>= λ t. Ok (entry_then (codes "n") t no_entries))
-count_named v All = refl
-count_named v (Of z) = by_test v z (int_le (pos 1) z) refl
+pub count_named : (c : Count) → rows_put c ≡ (count_number (count_tree c) >>= λ t. Ok (entry_then (codes "n") t no_entries))
+count_named All = refl
+count_named (Of z) = by_test z (int_le (pos 1) z) refl
 
 pub rows_good : (z : ℤ) → FitsSigned w64 z → IsGood (dict (entry_then (codes "n") (int z) no_entries))
 unfolding lib.Utf8.encode
@@ -177,18 +153,15 @@ rows_good z f = record {
   plain = ((codes "n", (refl, refl)), f, tt);
 }
 
-pub number_added : (v : Version) (c : Count) (z : ℤ) (old new : List ℕ) → count_number (count_tree c) ≡ Ok (int z) → IsGood (dict (entry_then (codes "n") (int z) no_entries)) → new ≡ old ++ canon (dict (entry_then (codes "n") (int z) no_entries))
-    → AddsEntries (named_put v how_many (count_tree c ∷ [])) old new
-number_added v c z old new e g a = record {
+pub number_added : (c : Count) (z : ℤ) (old new : List ℕ) → count_number (count_tree c) ≡ Ok (int z) → IsGood (dict (entry_then (codes "n") (int z) no_entries)) → new ≡ old ++ canon (dict (entry_then (codes "n") (int z) no_entries))
+    → AddsEntries (rows_put c) old new
+number_added c z old new e g a = record {
   entries = entry_then (codes "n") (int z) no_entries;
-  is = count_named v c ∙ ap (λ x. x >>= λ t. Ok (entry_then (codes "n") t no_entries)) e;
+  is = count_named c ∙ ap (λ x. x >>= λ t. Ok (entry_then (codes "n") t no_entries)) e;
   good = g;
   deep = omega arith;
   added = a;
 }
-
-pub mode_added : (old a b new : List ℕ) → a ≡ old ++ 0xA1 ∷ [] → b ≡ a ++ text_bytes (codes "mode") → new ≡ b ++ text_bytes (codes "r") → new ≡ old ++ canon (dict (entries_of (mode_pairs Read)))
-mode_added old a b new p q r = one_entry (codes "mode") (text (codes "r")) old a b new p q r
 
 pub mode_good : (m : Mode) → IsGood (dict (entries_of (mode_pairs m)))
 unfolding lib.Utf8.encode
@@ -203,10 +176,10 @@ pub mode_deep : (m : Mode) → depth (dict (entries_of (mode_pairs m))) ≤ 31
 mode_deep Read = omega arith
 mode_deep Write = omega arith
 
-pub alone_added : (v : Version) (m : Mode) (token : Option (List ℕ)) (old new : List ℕ) → token ≡ None → new ≡ old ++ canon (dict (entries_of (mode_pairs m))) → AddsEntries (transaction_put v m token) old new
-alone_added v m token old new n e = record {
+pub alone_added : (m : Mode) (token : Option (List ℕ)) (old new : List ℕ) → token ≡ None → new ≡ old ++ canon (dict (entries_of (mode_pairs m))) → AddsEntries (transaction_put m token) old new
+alone_added m token old new n e = record {
   entries = entries_of (mode_pairs m);
-  is = ap (transaction_put v m) n ∙ put_alone v m;
+  is = ap (transaction_put m) n ∙ put_alone m;
   good = mode_good m;
   deep = mode_deep m;
   added = e;
@@ -253,11 +226,4 @@ module _ (f : Result Tree MsgFault) (old new : List ℕ) (a : Adds f old new) (s
 
   -- what says the form again stands for the message
   pub means : (v : Version) (table : List Row) (s : Contents) (b : List ℕ) → ((t : Tree) → f ≡ Ok t → contents_of_message v table t ≡ Ok s) → (f >>= spelling_of_tree) ≡ Ok b → Means v table s b
-  means v table s b back e =
-      let same : b ≡ canon a.value = canon_is a.value b (sym (ap (λ r. r >>= spelling_of_tree) a.is) ∙ e) in
-      rw same (record {
-        value = a.value;
-        good = a.good;
-        spelled = canon_spells a.value a.good fits;
-        says = back a.value a.is;
-      })
+  means v table s b back e = means_of f a.value v table s b a.is a.good (back a.value a.is) e

@@ -1,49 +1,21 @@
--- No bytes stand for a request and a response: no tag is of both.
-use Rattle.std.proofs.Common.{◌≡◌, ◌==◌, ◌⊎◌, ℕ, List, ◌++◌, Bool, true, false, cond, Option, None, Some, Ok, inl, inr, refl, sym, ap, subst, ◌∙◌, eqb-true}
+-- No value is a request and a response: no tag is of both.
+use Rattle.std.proofs.Common.{◌≡◌, Some, Ok, refl, sym, ap, ◌∙◌}
 use Rattle.packstream.specs.Tree.{Tree, structure, Trees}
-use Rattle.packstream.proofs.Deciding.{no_proper_beginning_is}
 use Rattle.wire.specs.declared.Version.{Version}
-use Rattle.messages.specs.Table.{Row, requests, responses, layout, SUCCESS, RECORD, IGNORED, FAILURE, row_in}
-use Rattle.messages.specs.Reading.{Contents, contents_of_message, contents_by_row, row_at}
-use Rattle.messages.specs.Messages.{Means}
+use Rattle.messages.specs.Table.{Name, HELLO, Row, requests, responses, layout, row_in}
+use Rattle.messages.specs.Reading.{Contents, contents_of_message}
+use Rattle.messages.specs.Saying.{SaysRow, of_row}
+use Rattle.messages.proofs.Layouts.{message_says, is_laid, responses_laid}
 
-abbrev IsOfResponse : ℕ → Type 0
-IsOfResponse tag = (tag ≡ 0x70) ⊎ ((tag ≡ 0x71) ⊎ ((tag ≡ 0x7E) ⊎ (tag ≡ 0x7F)))
+row_tagged : (v : Version) (r : Row) (t : Tree) (s : Contents) → SaysRow v r t s → (ts : Trees) × (t ≡ structure r.tag ts)
+row_tagged v r _ _ (of_row ts fs xs on f) = (ts, refl)
 
-tag_by : (tag : ℕ) (r : Row) (a b c d : Bool) → (tag == 0x70) ≡ a → (tag == 0x71) ≡ b → (tag == 0x7E) ≡ c → (tag == 0x7F) ≡ d
-    → cond {A = Option Row} a (Some (layout SUCCESS)) (cond b (Some (layout RECORD)) (cond c (Some (layout IGNORED)) (cond d (Some (layout FAILURE)) None))) ≡ Some r → IsOfResponse tag
-tag_by tag r true b c d ea eb ec ed h = inl (eqb-true _ _ ea)
-tag_by tag r false true c d ea eb ec ed h = inr (inl (eqb-true _ _ eb))
-tag_by tag r false false true d ea eb ec ed h = inr (inr (inl (eqb-true _ _ ec)))
-tag_by tag r false false false true ea eb ec ed h = inr (inr (inr (eqb-true _ _ ed)))
-tag_by tag r false false false false ea eb ec ed h = absurd cc
+unasked : (v : Version) (n : Name) (ts : Trees) (s : Contents) → row_in (layout n).tag responses ≡ Some (layout n) → contents_of_message v requests (structure (layout n).tag ts) ≡ Ok s → ⊥
+unasked v HELLO ts s e h = cc
+unasked v n ts s e h = cc
 
-tag_in : (v : Version) (tag : ℕ) (ts : Trees) (s : Contents) (o : Option Row) → row_in tag responses ≡ o → contents_by_row v (row_at v o) ts ≡ Ok s → IsOfResponse tag
-tag_in v tag ts s None e h = absurd cc
-tag_in v tag ts s (Some r) e h = tag_by tag r (tag == 0x70) (tag == 0x71) (tag == 0x7E) (tag == 0x7F) refl refl refl refl e
-
-abbrev IsUnasked : Version → Trees → ℕ → Type 0
-IsUnasked v ts tag = (s : Contents) → contents_of_message v requests (structure tag ts) ≡ Ok s → ⊥
-
-unasked : (v : Version) (tag : ℕ) (ts : Trees) → IsOfResponse tag → IsUnasked v ts tag
-unasked v tag ts (inl e) = subst (IsUnasked v ts) (sym e) (λ s h. cc)
-unasked v tag ts (inr (inl e)) = subst (IsUnasked v ts) (sym e) (λ s h. cc)
-unasked v tag ts (inr (inr (inl e))) = subst (IsUnasked v ts) (sym e) (λ s h. cc)
-unasked v tag ts (inr (inr (inr e))) = subst (IsUnasked v ts) (sym e) (λ s h. cc)
-
--- one value is no request and response
-not_both : (v w : Version) (t : Tree) (s u : Contents) → contents_of_message v requests t ≡ Ok s → contents_of_message w responses t ≡ Ok u → ⊥
-not_both v w (structure tag ts) s u h k = unasked v tag ts (tag_in w tag ts u (row_in tag responses) refl k) s h
-not_both v w t s u h k = cc
-
-pub request_apart : (v w : Version) (s u : Contents) (b more : List ℕ) → Means v requests s b → Means w responses u (b ++ more) → ⊥
-request_apart v w s u b more p q =
-    let same : p.value ≡ q.value =
-    (no_proper_beginning_is p.value q.value b more p.good q.good p.spelled q.spelled).1 in
-    not_both v w q.value s u (ap (contents_of_message v requests) (sym same) ∙ p.says) q.says
-
-pub response_apart : (v w : Version) (s u : Contents) (b more : List ℕ) → Means v responses s b → Means w requests u (b ++ more) → ⊥
-response_apart v w s u b more p q =
-    let same : p.value ≡ q.value =
-    (no_proper_beginning_is p.value q.value b more p.good q.good p.spelled q.spelled).1 in
-    not_both w v q.value u s q.says (ap (contents_of_message v responses) (sym same) ∙ p.says)
+pub not_both : (v w : Version) (t : Tree) (s u : Contents) → contents_of_message v requests t ≡ Ok s → contents_of_message w responses t ≡ Ok u → ⊥
+not_both v w t s u h k =
+    let m = message_says w responses t u responses_laid k in
+    let r = row_tagged w (layout m.0) t u m.2 in
+    unasked v m.0 r.0 s (is_laid responses responses (layout m.0) responses_laid m.1).2 (ap (contents_of_message v requests) (sym r.1) ∙ h)

@@ -2,12 +2,12 @@
 use Rattle.std.proofs.Common.{◌≡◌, ℕ, ◌-◌, Bool, true, false, cond, Some, List, [], ◌∷◌, ◌++◌, length, take, refl, sym, ap, subst, ◌∙◌, arith}
 use Rattle.std.specs.Prelude.{if◌then◌else◌, nat_le, map}
 use Rattle.wire.specs.declared.Version.{Version}
-use Rattle.wire.specs.declared.Version.TheVariants.{V44, V50, V51}
+use Rattle.wire.specs.declared.Version.TheVariants.{V44}
 use Rattle.wire.specs.declared.Wish.{Wish}
-use Rattle.wire.specs.declared.Wish.TheVariants.{Newest, Only}
+use Rattle.wire.specs.declared.Wish.TheVariants.{Only}
 use Rattle.wire.specs.Offers.{offer_of, wish_version}
 use Rattle.wire.specs.Framing.{Item, Opening, item_bytes, bytes_in_order, within, CanCome, AllCome}
-use Rattle.wire.proofs.Opened.{texts-map, within-map, frames_fronts}
+use Rattle.wire.proofs.Opened.{texts-map, within-map, frames_fronts, offered_length}
 use Rattle.messages.specs.View.{RequestView}
 use Rattle.messages.specs.Writing.{request_spelling}
 use Rattle.messages.specs.Arrivals.{Shook, Asked, arrival_of_offer, then_request, requests_in, after_shake, arrivals_of, arrivals, request_bytes, AreWritten, RequestsArrive}
@@ -40,14 +40,8 @@ written_within v n (m ∷ ms) h = go (nat_le (length (request_bytes v m)) n) (wr
 
 -- an offer of a client of this product
 offer_shakes : (wish : Wish) → arrival_of_offer (offer_of wish) ≡ Shook (Some (wish_version wish))
-offer_shakes Newest = refl
 offer_shakes (Only V44) = refl
-offer_shakes (Only V50) = refl
-offer_shakes (Only V51) = refl
-
-offer_length : (wish : Wish) → length (offer_of wish) ≡ 20
-offer_length Newest = refl
-offer_length (Only v) = refl
+offer_shakes wish = refl
 
 -- an offer of which this version is taken, then requests
 module _ (start : List ℕ) (v : Version) (long : length start ≡ 20) (shakes : arrival_of_offer start ≡ Shook (Some v)) where
@@ -65,4 +59,4 @@ module _ (start : List ℕ) (v : Version) (long : length start ≡ 20) (shakes :
       ∙ front_arrives (within (request_bytes v) (n - length start) ms) (nat_le (length start) n) (written_within v (n - length start) ms h)
 
 pub requests_arrive : RequestsArrive
-requests_arrive wish ms n h = offer_then (offer_of wish) (wish_version wish) (offer_length wish) (offer_shakes wish) ms n h
+requests_arrive wish ms n h = offer_then (offer_of wish) (wish_version wish) (offered_length wish) (offer_shakes wish) ms n h

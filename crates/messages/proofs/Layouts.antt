@@ -6,7 +6,7 @@ use Rattle.std.specs.Str.{bytes_eq}
 use Rattle.std.proofs.lemmas.Slice.Eq.{bytes_eq-Decides}
 use Rattle.std.proofs.lemmas.List.Folds.{Any-from_list_any, list_any-from_Any}
 use Rattle.std.specs.Ordering.{int_eq}
-use Rattle.std.proofs.lemmas.Bool.{le-leb, leb-true}
+use Rattle.std.proofs.lemmas.Bool.{le-leb, leb-true, and_parts, false_from_ne_true}
 use Rattle.std.proofs.lemmas.Bool.Decides.{Decides-eqb, Decides-int_eq}
 use Rattle.packstream.specs.Tree.{Tree, null, int, text, list, dict, structure, Trees, no_trees, tree_then, Entries, no_entries, entry_then}
 use Rattle.packstream.specs.Faults.{keys_of}
@@ -19,7 +19,7 @@ use Rattle.messages.specs.declared.fault.MsgFault.TheVariants as fault
 use Rattle.messages.specs.Table.{Holds, a_text, a_mode, a_count, last_query, a_token, Named, Others, ignored, refused, Field, text_field, cells, cell_list, extra, Row, requests, responses, layout, row_in}
 use Rattle.messages.specs.Reading.{◌>>=◌, Contents, contents, are_kinds, lookup, is_token, contents_of_token, contents_of_entry, contents_of_named, is_named, all_named, contents_of_extra, contents_of_entries, cell_by, cell_of_field, contents_of_fields, contents_of_row, row_at, contents_by_row, contents_of_message}
 use Rattle.messages.specs.Saying.{IsEntry, absent, here, further, SaysEntry, the_text, reads, writes, writes_unsaid, all_rows, some_rows, of_last, of_last_unsaid, the_token, token_unsaid, metadata_unsaid, SaysNamed, no_more, passed_over, then_named, HasOnly, SaysField, of_text, of_cells, of_list, of_extra, SaysFields, no_fields, then_field, SaysRow, of_row, SaysMessage, IsSpelled}
-use Rattle.messages.specs.Messages.{Means}
+use Rattle.messages.specs.Messages.{SpellsWhere, Means}
 
 bind_ok : {A B : Type 0} (r : Result A MsgFault) (f : A → Result B MsgFault) (y : B) → (r >>= f) ≡ Ok y → (x : A) × (r ≡ Ok x) × (f x ≡ Ok y)
 bind_ok (Ok x) f y h = (x, refl, h)
@@ -31,14 +31,6 @@ cond_ok false r e y h = absurd cc
 
 ok_is : {A : Type 0} (x y : A) → ◌≡◌ {A = Result A MsgFault} (Ok x) (Ok y) → x ≡ y
 ok_is x y h = cc
-
-both_true : (a b : Bool) → (a && b) ≡ true → (a ≡ true) × (b ≡ true)
-both_true true b h = (refl, h)
-both_true false b h = absurd cc
-
-not_true : (b : Bool) → (b ≡ true → ⊥) → b ≡ false
-not_true true h = absurd (h refl)
-not_true false h = refl
 
 same_text : (s : List ℕ) → bytes_eq s s ≡ true
 same_text s = (bytes_eq-Decides s s).1 refl
@@ -55,7 +47,7 @@ looked_up name (entry_then k t es) = entry_at name k t es (lookup name es) (byte
 entry_is : (name : List ℕ) (es : Entries) (o : Option Tree) → IsEntry name es o → lookup name es ≡ o
 entry_is name _ _ absent = refl
 entry_is name _ _ (here t es) = ap (λ b. cond b (Some t) (lookup name es)) (same_text name)
-entry_is name _ _ (further k t es o other h) = ap (λ b. cond b (Some t) (lookup name es)) (not_true (bytes_eq name k) (λ e. other ((bytes_eq-Decides name k).0 e))) ∙ entry_is name es o h
+entry_is name _ _ (further k t es o other h) = ap (λ b. cond b (Some t) (lookup name es)) (false_from_ne_true (bytes_eq name k) (λ e. other ((bytes_eq-Decides name k).0 e))) ∙ entry_is name es o h
 
 -- What an entry says.
 says_too : (h : Holds) (o : Option Tree) (xs ys : List Tree) → SaysEntry h o xs → ◌≡◌ {A = Result (List Tree) MsgFault} (Ok xs) (Ok ys) → SaysEntry h o ys
@@ -86,7 +78,7 @@ query_says z xs false e h = absurd cc
 -- a text of 1 to 64 bytes is a token
 token_bounds : (s : List ℕ) → is_token s ≡ true → (1 ≤ length s) × (length s ≤ 64)
 token_bounds s e =
-    let p = both_true (nat_le 1 (length s)) (nat_le (length s) 64) e in
+    let p = and_parts (nat_le 1 (length s)) (nat_le (length s) 64) e in
     (leb-true 1 (length s) p.0, leb-true (length s) 64 p.1)
 
 is_token_by : (s : List ℕ) → 1 ≤ length s → length s ≤ 64 → is_token s ≡ true
@@ -103,33 +95,22 @@ token_says es o xs at h = absurd cc
 
 entry_says : (h : Holds) (o : Option Tree) (xs : List Tree) → contents_of_entry h o ≡ Ok xs → SaysEntry h o xs
 entry_says a_text (Some (text s)) xs e = says_too a_text (Some (text s)) (text s ∷ []) xs (the_text s) e
-entry_says a_text o xs e = absurd cc
 entry_says a_mode None xs e = says_too a_mode None (text (codes "w") ∷ []) xs writes_unsaid e
 entry_says a_mode (Some (text s)) xs e = mode_says s xs (bytes_eq s (codes "r")) (bytes_eq s (codes "w")) refl refl e
-entry_says a_mode o xs e = absurd cc
 entry_says a_count (Some (int z)) xs e = number_says z xs (int_eq z (negsuc 0)) (int_le (pos 1) z) refl refl e
-entry_says a_count o xs e = absurd cc
 entry_says last_query None xs e = says_too last_query None [] xs of_last_unsaid e
 entry_says last_query (Some (int z)) xs e = query_says z xs (int_eq z (negsuc 0)) refl e
-entry_says last_query o xs e = absurd cc
 entry_says a_token None xs e = says_too a_token None (null ∷ []) xs metadata_unsaid e
 entry_says a_token (Some (dict es)) xs e = token_says es (lookup (codes "token") es) xs (looked_up (codes "token") es) e
-entry_says a_token o xs e = absurd cc
+entry_says h o xs e = absurd cc
 
 entry_told : (h : Holds) (o : Option Tree) (xs : List Tree) → SaysEntry h o xs → contents_of_entry h o ≡ Ok xs
-entry_told _ _ _ (the_text s) = refl
-entry_told _ _ _ reads = refl
-entry_told _ _ _ writes = refl
-entry_told _ _ _ writes_unsaid = refl
-entry_told _ _ _ all_rows = refl
 entry_told _ _ _ (some_rows n h) = ap (λ b. cond {A = Result (List Tree) MsgFault} b (Ok (int (pos n) ∷ [])) (Err fault.Extra)) (le-leb 1 n h)
-entry_told _ _ _ of_last = refl
-entry_told _ _ _ of_last_unsaid = refl
 entry_told _ _ _ (the_token es s at low high) =
     ap contents_of_token (entry_is (codes "token") es (Some (text s)) at)
     ∙ ap (λ b. cond {A = Result (List Tree) MsgFault} b (Ok (text s ∷ [])) (Err fault.Extra)) (is_token_by s low high)
 entry_told _ _ _ (token_unsaid es at) = ap contents_of_token (entry_is (codes "token") es None at)
-entry_told _ _ _ metadata_unsaid = refl
+entry_told h o xs s = refl
 
 -- What the named entries say.
 one_says : (v : Version) (es : Entries) (n : Named) (ns : List Named) (x xs : List Tree) (b : Bool) → n.stands v ≡ b → cond b (contents_of_entry n.holds (lookup n.name es)) (Ok []) ≡ Ok x → SaysNamed v es ns xs → SaysNamed v es (n ∷ ns) (x ++ xs)
@@ -163,8 +144,8 @@ name_any k ns a = is_name k ns ∙ list_any-from_Any (λ (n : Named). bytes_eq k
 
 only_names : (ns : List Named) (es : Entries) → all_named ns es ≡ true → All (λ k. Any (λ n. k ≡ n.name) ns) (keys_of es)
 only_names ns no_entries e i d lt = absurd (omega (arith, lt))
-only_names ns (entry_then k t es) e zero d lt = any_name k ns (both_true (is_named k ns) (all_named ns es) e).0
-only_names ns (entry_then k t es) e (suc i) d lt = only_names ns es (both_true (is_named k ns) (all_named ns es) e).1 i d (omega (arith, lt))
+only_names ns (entry_then k t es) e zero d lt = any_name k ns (and_parts (is_named k ns) (all_named ns es) e).0
+only_names ns (entry_then k t es) e (suc i) d lt = only_names ns es (and_parts (is_named k ns) (all_named ns es) e).1 i d (omega (arith, lt))
 
 names_only : (ns : List Named) (es : Entries) → All (λ k. Any (λ n. k ≡ n.name) ns) (keys_of es) → all_named ns es ≡ true
 names_only ns no_entries h = refl
@@ -205,27 +186,21 @@ moved v ks ts fs gs xs ys s e f = subst (λ (zs : List Tree). SaysFields v ks ts
 
 fields_say : (v : Version) (ks : List Field) (ts : Trees) (fs xs : List Tree) → IsExtraLast ks → are_kinds ks ts ≡ true → contents_of_entries v ks ts ≡ Ok xs → contents_of_fields v ks ts ≡ Ok fs → SaysFields v ks ts fs xs
 fields_say v [] no_trees fs xs l k e f = moved v [] no_trees [] fs [] xs no_fields (ok_is [] fs f) (ok_is [] xs e)
-fields_say v [] (tree_then t ts) fs xs l k e f = absurd cc
-fields_say v (k' ∷ ks) no_trees fs xs l k e f = absurd cc
 fields_say v (text_field ∷ ks) (tree_then (text s) ts) fs xs l k e f =
     let p = bind_ok (contents_of_fields v ks ts) (λ gs. Ok (text s ∷ gs)) fs f in
     moved v (text_field ∷ ks) (tree_then (text s) ts) (text s ∷ p.0) fs xs xs (then_field text_field ks (text s) ts (text s ∷ []) p.0 [] xs (of_text s) (fields_say v ks ts p.0 xs l k e p.1)) (ok_is (text s ∷ p.0) fs p.2) refl
-fields_say v (text_field ∷ ks) (tree_then t ts) fs xs l k e f = absurd cc
 fields_say v (cells ∷ ks) (tree_then (dict es) ts) fs xs l k e f =
     let p = bind_ok (cell_of_field v (dict es)) (λ c. contents_of_fields v ks ts >>= λ gs. Ok (c ∷ gs)) fs f in
     let q = bind_ok (contents_of_fields v ks ts) (λ gs. Ok (p.0 ∷ gs)) fs p.2 in
     moved v (cells ∷ ks) (tree_then (dict es) ts) (p.0 ∷ q.0) fs xs xs (then_field cells ks (dict es) ts (p.0 ∷ []) q.0 [] xs (of_cells p.0 es (cell_says v (dict es) p.0 p.1)) (fields_say v ks ts q.0 xs l k e q.1)) (ok_is (p.0 ∷ q.0) fs q.2) refl
-fields_say v (cells ∷ ks) (tree_then t ts) fs xs l k e f = absurd cc
 fields_say v (cell_list ∷ ks) (tree_then (list us) ts) fs xs l k e f =
     let p = bind_ok (cell_of_field v (list us)) (λ c. contents_of_fields v ks ts >>= λ gs. Ok (c ∷ gs)) fs f in
     let q = bind_ok (contents_of_fields v ks ts) (λ gs. Ok (p.0 ∷ gs)) fs p.2 in
     moved v (cell_list ∷ ks) (tree_then (list us) ts) (p.0 ∷ q.0) fs xs xs (then_field cell_list ks (list us) ts (p.0 ∷ []) q.0 [] xs (of_list p.0 us (cell_says v (list us) p.0 p.1)) (fields_say v ks ts q.0 xs l k e q.1)) (ok_is (p.0 ∷ q.0) fs q.2) refl
-fields_say v (cell_list ∷ ks) (tree_then t ts) fs xs l k e f = absurd cc
 fields_say v (extra o ns ∷ []) (tree_then (dict es) no_trees) fs xs l k e f =
     moved v (extra o ns ∷ []) (tree_then (dict es) no_trees) [] fs (xs ++ []) xs (then_field (extra o ns) [] (dict es) no_trees [] [] xs [] (extra_says v o ns es xs e) no_fields) (ok_is [] fs f) (append-nil xs)
-fields_say v (extra o ns ∷ []) (tree_then (dict es) (tree_then t ts)) fs xs l k e f = absurd cc
-fields_say v (extra o ns ∷ []) (tree_then t ts) fs xs l k e f = absurd cc
 fields_say v (extra o ns ∷ (k' ∷ ks)) (tree_then t ts) fs xs l k e f = absurd l
+fields_say v ks ts fs xs l k e f = absurd cc
 
 -- what is told of the fields, all at once
 abbrev AreTold : Version → List Field → Trees → List Tree → List Tree → Type 0
@@ -279,7 +254,7 @@ requests_laid = (refl, tt, refl, (refl, tt, refl, (refl, tt, refl, (refl, tt, re
 pub responses_laid : AreLaid responses responses
 responses_laid = (refl, tt, refl, (refl, tt, refl, (refl, tt, refl, (refl, tt, refl, tt))))
 
-is_laid : (table rs : List Row) (r : Row) → AreLaid table rs → Contains rs r → IsLaid table r
+pub is_laid : (table rs : List Row) (r : Row) → AreLaid table rs → Contains rs r → IsLaid table r
 is_laid table [] r l (k, lt, is) = absurd (omega (arith, lt))
 is_laid table (q ∷ rs) r l (zero, lt, is) = subst (λ (x : Row). IsLaid table x) is (l.0, l.1, l.2)
 is_laid table (q ∷ rs) r l (suc k, lt, is) = is_laid table rs r l.3 (k, omega (arith, lt), is)
@@ -306,7 +281,7 @@ tag_says v table tag ts s (Some r) l w e =
     let says : SaysRow v r (structure tag ts) s = subst (λ (n : ℕ). SaysRow v r (structure n ts) s) there.1 (standing v r ts s (r.stands v) refl laid.1 e) in
     (r.name, subst (λ (x : Row). Contains table x) (sym laid.0) there.0, subst (λ (x : Row). SaysRow v x (structure tag ts) s) (sym laid.0) says)
 
-message_says : (v : Version) (table : List Row) (t : Tree) (s : Contents) → AreLaid table table → contents_of_message v table t ≡ Ok s → SaysMessage v table t s
+pub message_says : (v : Version) (table : List Row) (t : Tree) (s : Contents) → AreLaid table table → contents_of_message v table t ≡ Ok s → SaysMessage v table t s
 message_says v table (structure tag ts) s l e = tag_says v table tag ts s (row_in tag table) l refl e
 message_says v table t s l e = absurd cc
 
@@ -322,20 +297,11 @@ told_by_rows v table t s l = (
 )
 
 -- so the bytes stand for what a row says of the value that they spell
+spells_too : (b : List ℕ) (P Q : Tree → Type 0) → ((t : Tree) → P t → Q t) → SpellsWhere b P → SpellsWhere b Q
+spells_too b P Q k m = record { value = m.value; good = m.good; spelled = m.spelled; says = k m.value m.says }
+
 pub spelled_by_rows : (v : Version) (table : List Row) (s : Contents) (b : List ℕ) → AreLaid table table → Means v table s b ↔ IsSpelled v table s b
 spelled_by_rows v table s b l = (
-  (λ (m : Means v table s b).
-      record {
-        value = m.value;
-        good = m.good;
-        spelled = m.spelled;
-        says = (told_by_rows v table m.value s l).0 m.says;
-      }),
-  (λ (m : IsSpelled v table s b).
-      record {
-        value = m.value;
-        good = m.good;
-        spelled = m.spelled;
-        says = (told_by_rows v table m.value s l).1 m.says;
-      }),
+  spells_too b _ _ (λ t. (told_by_rows v table t s l).0),
+  spells_too b _ _ (λ t. (told_by_rows v table t s l).1),
 )

@@ -4,7 +4,6 @@ pub mod Meanings
 pub mod Texts
 pub mod Forms
 pub mod Rounds
-pub mod Telling
 pub mod Sayings
 pub mod Sent
 pub mod Taken
@@ -19,6 +18,5 @@ pub mod HeardOn
 pub mod Again
 pub mod Apart
 pub mod Made
-pub mod Valued
 pub mod Added
 pub mod Scanned

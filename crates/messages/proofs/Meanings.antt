@@ -1,5 +1,5 @@
 -- What is read of bytes, by the relations and by the functions.
-use Rattle.std.proofs.Common.{◌++◌, append-nil, ◌≡◌, ◌↔◌, ℕ, List, [], ◌∷◌, None, Some, Result, Ok, Err, IsErrAnd, inl, inr, sym, ap, ◌∙◌, refl}
+use Rattle.std.proofs.Common.{◌++◌, append-nil, ◌≡◌, ◌↔◌, ℕ, List, [], ◌∷◌, Option, None, Some, Result, Ok, Err, IsErrAnd, inl, inr, sym, ap, ◌∙◌, refl}
 use Rattle.packstream.specs.declared.fault.Reason.{Reason}
 use Rattle.packstream.specs.declared.fault.PackFault.{PackFault}
 use Rattle.packstream.specs.declared.fault.PackFault.TheVariants as pack
@@ -12,15 +12,17 @@ use Rattle.packstream.specs.View.{entries_of, trees_of}
 use Rattle.packstream.specs.Answers.{whole_of, UnlessMemory as PackUnless}
 use Rattle.packstream.proofs.Deciding.{whole_value, whole_fault, no_proper_beginning_is}
 use Rattle.wire.specs.declared.Version.{Version}
+use Rattle.messages.specs.declared.request.Mode.{Mode}
 use Rattle.messages.specs.declared.request.Mode.TheVariants.{Read, Write}
+use Rattle.messages.specs.declared.request.Count.{Count}
 use Rattle.messages.specs.declared.request.Count.TheVariants.{All, Of}
 use Rattle.messages.specs.declared.fault.MsgFault.{MsgFault}
 use Rattle.messages.specs.declared.fault.MsgFault.TheVariants as fault
 use Rattle.messages.specs.Table.{Row}
-use Rattle.messages.specs.View.{RequestView, Hello, Logon, Logoff, Goodbye, Reset, Run, Begin, Commit, Rollback, Discard, Pull, ResponseView, Success, Record, Ignored, Failure}
+use Rattle.messages.specs.View.{RequestView, Hello, Run, Begin, Discard, Pull, ResponseView, Success, Record, Ignored, Failure}
 use Rattle.messages.specs.Faults.{of_pack}
-use Rattle.messages.specs.Reading.{◌>>=◌, Contents, contents_of_message, Answers, request_contents, response_contents}
-use Rattle.messages.specs.Messages.{Means, IsNone, Gave, UnlessMemory, contents_by, contents_in, request_held, response_held, pairs_of, list_of}
+use Rattle.messages.specs.Reading.{◌>>=◌, Contents, contents_of_message, Answers, mode_tree, token_tree, count_tree, request_contents, response_contents}
+use Rattle.messages.specs.Messages.{Means, IsNone, Gave, UnlessMemory, contents_by, contents_in, request_held, response_held, pairs_of, list_of, mode_in, token_in, count_in}
 
 pub means_said : (v : Version) (table : List Row) (s : Contents) (b : List ℕ) (bytes : AreBytes b) → Means v table s b → contents_in v table b ≡ Ok s
 means_said v table s b bytes h =
@@ -70,27 +72,25 @@ list_back : (ts : List Tree) → list_of (trees_of ts) ≡ ts
 list_back [] = refl
 list_back (t ∷ ts) = ap (λ r. t ∷ r) (list_back ts)
 
+pub mode_back : (m : Mode) → mode_in (mode_tree m) ≡ m
+mode_back Read = refl
+mode_back Write = refl
+
+pub token_back : (token : Option (List ℕ)) → token_in (token_tree token) ≡ token
+token_back None = refl
+token_back (Some s) = refl
+
+pub count_back : (c : Count) → count_in (count_tree c) ≡ c
+count_back All = refl
+count_back (Of n) = refl
+
 pub asked_back : (m : RequestView) → request_held (request_contents m) ≡ m
 asked_back (Hello a None) = refl
-asked_back (Hello a (Some l)) = refl
-asked_back (Logon l) = refl
-asked_back Logoff = refl
-asked_back Goodbye = refl
-asked_back Reset = refl
-asked_back (Run s ps Read None) = ap (λ es. Run s es Read None) (pairs_back ps)
-asked_back (Run s ps Read (Some token)) = ap (λ es. Run s es Read (Some token)) (pairs_back ps)
-asked_back (Run s ps Write None) = ap (λ es. Run s es Write None) (pairs_back ps)
-asked_back (Run s ps Write (Some token)) = ap (λ es. Run s es Write (Some token)) (pairs_back ps)
-asked_back (Begin Read None) = refl
-asked_back (Begin Read (Some token)) = refl
-asked_back (Begin Write None) = refl
-asked_back (Begin Write (Some token)) = refl
-asked_back Commit = refl
-asked_back Rollback = refl
-asked_back (Discard All) = refl
-asked_back (Discard (Of n)) = refl
-asked_back (Pull All) = refl
-asked_back (Pull (Of n)) = refl
+asked_back (Run s ps m token) = rw (mode_back m, token_back token, pairs_back ps) refl
+asked_back (Begin m token) = rw (mode_back m, token_back token) refl
+asked_back (Discard c) = ap Discard (count_back c)
+asked_back (Pull c) = ap Pull (count_back c)
+asked_back m = refl
 
 pub answered_back : (m : ResponseView) → response_held (response_contents m) ≡ m
 answered_back (Success es) = ap Success (pairs_back es)
@@ -130,12 +130,18 @@ pub gives_same : {X Y : Type 0} (see : X → Y) (holds : Y → Contents) (back :
 gives_same see holds back tells (Ok x) s h = ap (λ r. r >>= λ y. Ok (back y)) h ∙ ap Ok (tells (see x))
 gives_same see holds back tells (Err e) s h = λ n. ap (λ r. r >>= λ y. Ok (back y)) (h n)
 
+-- bytes and more that say something spell one value
+pub one_value : (v w : Version) (table other : List Row) (s u : Contents) (b more : List ℕ) → Means v table s b → Means w other u (b ++ more) → (t : Tree) × (contents_of_message v table t ≡ Ok s) × (contents_of_message w other t ≡ Ok u)
+one_value v w table other s u b more p q =
+    let same : p.value ≡ q.value =
+    (no_proper_beginning_is p.value q.value b more p.good q.good p.spelled q.spelled).1 in
+    (q.value, ap (contents_of_message v table) (sym same) ∙ p.says, q.says)
+
 -- bytes say one thing at most
 pub means_one : (v : Version) (table : List Row) (s u : Contents) (b : List ℕ) → Means v table s b → Means v table u b → s ≡ u
 means_one v table s u b p q =
-    let again : Spells q.value (b ++ []) = rw append-nil q.spelled in
-    let k : p.value ≡ q.value =
-    (no_proper_beginning_is p.value q.value b [] p.good q.good p.spelled again).1 in
-    let told : contents_of_message v table q.value ≡ Ok s = rw k at p.says in
-    let other : contents_of_message v table q.value ≡ Ok u = q.says in
+    let again : Means v table u (b ++ []) = rw append-nil q in
+    let t = one_value v v table table s u b [] p again in
+    let told : contents_of_message v table t.0 ≡ Ok s = t.1 in
+    let other : contents_of_message v table t.0 ≡ Ok u = t.2 in
     cc

@@ -1,9 +1,12 @@
--- What is written is told again.
-use Rattle.std.proofs.Common.{◌≡◌, ℕ, ℤ, pos, negsuc, int_le, ◌++◌, Bool, true, false, cond, List, [], ◌∷◌, Option, None, Some, Result, Ok, Err, codes, refl, ap, sym, subst, ◌∙◌}
+-- What is written is told again, and is plain where the message is made of texts, of numbers in their ranges and of cells.
+use Rattle.std.proofs.Common.{◌≡◌, ℕ, ℤ, pos, negsuc, int_le, ◌++◌, Bool, true, false, cond, List, [], ◌∷◌, Option, None, Some, IfSome, Result, Ok, Err, codes, refl, ap, sym, subst, ◌∙◌, arith}
+use Rattle.std.specs.Str.{IsUtf8}
 use Rattle.packstream.specs.declared.fault.Reason.{Reason as PackReason}
 use Rattle.packstream.specs.Tree.{Tree, text, dict, list, structure, no_trees, tree_then, Entries, entry_then, no_entries}
 use Rattle.packstream.specs.View.{entries_of, trees_of}
+use Rattle.packstream.specs.Plain.{IsPlain, HavePlain}
 use Rattle.packstream.specs.Making.{first_fault, faults_in}
+use Rattle.packstream.proofs.Ranges.{fits_neg}
 use Rattle.wire.specs.declared.Version.{Version}
 use Rattle.wire.specs.declared.Version.TheVariants.{V44, V50, V51}
 use Rattle.cells.specs.declared.fault.Reason.{Reason as CellReason}
@@ -25,12 +28,14 @@ use Rattle.messages.specs.declared.request.Mode.TheVariants.{Read, Write}
 use Rattle.messages.specs.declared.request.Count.TheVariants.{All, Of}
 use Rattle.messages.specs.declared.fault.MsgFault.{MsgFault}
 use Rattle.messages.specs.declared.fault.MsgFault.TheVariants as fault
-use Rattle.messages.specs.Table.{Row, requests, responses, RUN, of_transaction}
-use Rattle.messages.specs.View.{request_view, response_view, RequestView, Hello, Logon, Logoff, Goodbye, Reset, Run, Begin, Commit, Rollback, Discard, Pull, ResponseView, Success, Record, Ignored, Failure}
+use Rattle.messages.specs.Table.{Row, requests, responses, RUN}
+use Rattle.messages.specs.View.{request_view, response_view, AuthView, RequestView, Hello, Logon, Logoff, Goodbye, Reset, Run, Begin, Commit, Rollback, Discard, Pull, ResponseView, Success, Record, Ignored, Failure}
 use Rattle.messages.specs.Reading.{◌>>=◌, Answers, Contents, contents, contents_of_message, contents_of_mode, is_token, contents_of_metadata, lookup, mode_tree, token_tree, cell_of_field, cell_by, request_contents, response_contents}
 use Rattle.messages.specs.Cells.{value_by, form_by, cell_put}
-use Rattle.messages.specs.Writing.{named_put, form_put}
-use Rattle.messages.specs.Parts.{mode_pairs, token_dict, token_pairs}
+use Rattle.messages.specs.Sound.{IsCell, HasTexts, IsRequest, IsResponse}
+use Rattle.messages.specs.Writing.{form_put}
+use Rattle.messages.specs.Parts.{transaction_put, mode_pairs, token_dict, token_pairs}
+use Rattle.messages.proofs.Forms.{form_again}
 
 -- a field of cells that is written is told as these cells again
 abbrev pub IsBack : Version → Tree → Type 0
@@ -45,8 +50,19 @@ AreAnsweredBack v (Success ms) = IsBack v (dict (entries_of ms))
 AreAnsweredBack v (Record cs) = IsBack v (list (trees_of cs))
 AreAnsweredBack v m = Unit {0}
 
-told_from : (v : Version) (table : List Row) (s : Contents) (x t : Tree) → ◌≡◌ {A = Result Tree MsgFault} (Ok x) (Ok t) → contents_of_message v table x ≡ Ok s → contents_of_message v table t ≡ Ok s
-told_from v table s x t e k = let same : x ≡ t = cc in rw (sym same) k
+-- What is written of a message says it again, and is plain where the message is made of what it may be.
+pub record SaysBack (v : Version) (table : List Row) (s : Contents) (Made : Type 0) (t : Tree) : Type 0 where
+  pub told : contents_of_message v table t ≡ Ok s
+  pub plain : Made → IsPlain t
+
+back_from : (v : Version) (table : List Row) (s : Contents) (Made : Type 0) (x t : Tree) → ◌≡◌ {A = Result Tree MsgFault} (Ok x) (Ok t) → contents_of_message v table x ≡ Ok s → (Made → IsPlain x) → SaysBack v table s Made t
+back_from v table s Made x t e k p = let same : x ≡ t = cc in subst (SaysBack v table s Made) same (record { told = k; plain = p })
+
+abbrev pub Asks : Version → RequestView → Tree → Type 0
+Asks v m t = SaysBack v requests (request_contents m) (IsRequest v m) t
+
+abbrev pub Tells : Version → ResponseView → Tree → Type 0
+Tells v m t = SaysBack v responses (response_contents m) (IsResponse v m) t
 
 value_is : (r : Result ℕ (PackReason × ℕ)) (t u : Tree) → value_by r t ≡ Ok u → u ≡ t
 value_is (Ok n) t u h = cc
@@ -57,52 +73,47 @@ form_is (Ok n) t u h = value_is (first_fault (faults_in 0 false t) 0) t u h
 form_is (Err e) t u h = absurd cc
 
 -- what is written of a field of cells is its form
-pub put_is : (v : Version) (s u : Tree) → cell_put v s ≡ Ok u → u ≡ form v s
+put_is : (v : Version) (s u : Tree) → cell_put v s ≡ Ok u → u ≡ form v s
 put_is v s u h = form_is (scan (fault_of_structure v) 0 (structures s)) (form v s) u h
 
 not_minus : (z : ℤ) → int_le (pos 1) z ≡ true → int_eq z (negsuc 0) ≡ false
 not_minus (pos n) h = refl
 not_minus (negsuc n) h = absurd cc
 
-pull_back : (v : Version) (z : ℤ) (b : Bool) (t : Tree) → int_le (pos 1) z ≡ b → form_put v (request_contents (Pull (Of z))) ≡ Ok t → contents_of_message v requests t ≡ Ok (request_contents (Pull (Of z)))
-pull_back v z true t e h = told_from v requests _ _ t (rw e at h) (rw (not_minus z e, e) refl)
+pull_back : (v : Version) (z : ℤ) (b : Bool) (t : Tree) → int_le (pos 1) z ≡ b → form_put v (request_contents (Pull (Of z))) ≡ Ok t → Asks v (Pull (Of z)) t
+unfolding lib.Utf8.encode
+pull_back v z true t e h = back_from v requests _ _ _ t (rw e at h) (rw (not_minus z e, e) refl) (λ i. (omega arith, (((codes "n", (refl, refl)), i, tt), tt)))
 pull_back v z false t e h = let k = rw e at h in absurd cc
 
-discard_back : (v : Version) (z : ℤ) (b : Bool) (t : Tree) → int_le (pos 1) z ≡ b → form_put v (request_contents (Discard (Of z))) ≡ Ok t → contents_of_message v requests t ≡ Ok (request_contents (Discard (Of z)))
-discard_back v z true t e h = told_from v requests _ _ t (rw e at h) (rw (not_minus z e, e) refl)
+discard_back : (v : Version) (z : ℤ) (b : Bool) (t : Tree) → int_le (pos 1) z ≡ b → form_put v (request_contents (Discard (Of z))) ≡ Ok t → Asks v (Discard (Of z)) t
+unfolding lib.Utf8.encode
+discard_back v z true t e h = back_from v requests _ _ _ t (rw e at h) (rw (not_minus z e, e) refl) (λ i. (omega arith, (((codes "n", (refl, refl)), i, tt), tt)))
 discard_back v z false t e h = let k = rw e at h in absurd cc
 
--- the entries that are written of a mode and a token
-abbrev pub transaction_put : Version → Mode → Option (List ℕ) → Result Entries MsgFault
-transaction_put v m token = named_put v of_transaction (mode_tree m ∷ token_tree token ∷ [])
-
--- entries that say this mode and this token
+-- entries that say this mode and this token, and are plain where the token is UTF-8
 abbrev TellTransaction : Entries → Mode → Option (List ℕ) → Type 0
 TellTransaction es m token =
     (contents_of_mode (lookup (codes "mode") es) ≡ Ok (mode_tree m ∷ []))
     × (contents_of_metadata (lookup (codes "tx_metadata") es) ≡ Ok (token_tree token ∷ []))
+    × (IfSome token IsUtf8 → HavePlain es)
 
 -- the entry of a token
-abbrev pub token_entry : List ℕ → Entries
+abbrev token_entry : List ℕ → Entries
 token_entry s = entry_then (codes "tx_metadata") (dict (entry_then (codes "token") (text s) no_entries)) no_entries
 
 -- a mode is written alone, and with a token before it
-pub put_alone : (v : Version) (m : Mode) → transaction_put v m None ≡ Ok (entries_of (mode_pairs m))
-put_alone v Read = refl
-put_alone v Write = refl
+pub put_alone : (m : Mode) → transaction_put m None ≡ Ok (entries_of (mode_pairs m))
+put_alone Read = refl
+put_alone Write = refl
 
-put_by : (v : Version) (m : Mode) (s : List ℕ) (b : Bool) → is_token s ≡ b → transaction_put v m (Some s) ≡ cond b (Ok (entries_of (mode_pairs m ++ (codes "tx_metadata", token_dict s) ∷ []))) (Err fault.Extra)
-put_by v Read s true e = rw e refl
-put_by v Write s true e = rw e refl
-put_by v Read s false e = rw e refl
-put_by v Write s false e = rw e refl
+put_by : (m : Mode) (s : List ℕ) (b : Bool) → is_token s ≡ b → transaction_put m (Some s) ≡ (cond b (Ok (mode_pairs m ++ (codes "tx_metadata", token_dict s) ∷ [])) (Err fault.Extra) >>= λ ps. Ok (entries_of ps))
+put_by Read s true e = rw e refl
+put_by Write s true e = rw e refl
+put_by Read s false e = rw e refl
+put_by Write s false e = rw e refl
 
-pub put_with : (v : Version) (m : Mode) (s : List ℕ) → transaction_put v m (Some s) ≡ (token_pairs m s >>= λ ps. Ok (entries_of ps))
-put_with v m s = go (is_token s) refl
-  where
-    go : (b : Bool) → is_token s ≡ b → transaction_put v m (Some s) ≡ (cond b (Ok (mode_pairs m ++ (codes "tx_metadata", token_dict s) ∷ [])) (Err fault.Extra) >>= λ ps. Ok (entries_of ps))
-    go true e = put_by v m s true e
-    go false e = put_by v m s false e
+pub put_with : (m : Mode) (s : List ℕ) → transaction_put m (Some s) ≡ (token_pairs m s >>= λ ps. Ok (entries_of ps))
+put_with m s = put_by m s (is_token s) refl
 
 -- what was answered by a list of entries is answered by the entries
 pub answered_entries : {X : Type 0} (view : X → List (List ℕ × Tree)) (r : Result X MsgFault) (s : Result (List (List ℕ × Tree)) MsgFault) (w : Result Entries MsgFault)
@@ -113,22 +124,39 @@ answered_entries view (Err x) s w e h = λ n. e ∙ ap (λ r. r >>= λ ps. Ok (e
 same_entries : (m : Mode) (token : Option (List ℕ)) (x es : Entries) → ◌≡◌ {A = Result Entries MsgFault} (Ok x) (Ok es) → TellTransaction x m token → TellTransaction es m token
 same_entries m token x es e t = let same : x ≡ es = cc in subst (λ (y : Entries). TellTransaction y m token) same t
 
-token_told : (v : Version) (m : Mode) (s : List ℕ) (b : Bool) (es : Entries) → is_token s ≡ b → transaction_put v m (Some s) ≡ Ok es → TellTransaction es m (Some s)
-token_told v Read s true es w h = same_entries Read (Some s) (entry_then (codes "mode") (text (codes "r")) (token_entry s)) es (rw w at h) (refl, rw w refl)
-token_told v Write s true es w h = same_entries Write (Some s) (token_entry s) es (rw w at h) (refl, rw w refl)
-token_told v Read s false es w h = let k = rw w at h in absurd cc
-token_told v Write s false es w h = let k = rw w at h in absurd cc
+entry_plain : (s : List ℕ) → IsUtf8 s → HavePlain (token_entry s)
+unfolding lib.Utf8.encode
+entry_plain s u = ((codes "tx_metadata", (refl, refl)), ((codes "token", (refl, refl)), u, tt), tt)
 
-transaction_told : (v : Version) (m : Mode) (token : Option (List ℕ)) (es : Entries) → transaction_put v m token ≡ Ok es → TellTransaction es m token
-transaction_told v Read None es h = same_entries Read None (entry_then (codes "mode") (text (codes "r")) no_entries) es h (refl, refl)
-transaction_told v Write None es h = same_entries Write None no_entries es h (refl, refl)
-transaction_told v m (Some s) es h = token_told v m s (is_token s) es refl h
+token_told : (m : Mode) (s : List ℕ) (b : Bool) (es : Entries) → is_token s ≡ b → transaction_put m (Some s) ≡ Ok es → TellTransaction es m (Some s)
+unfolding lib.Utf8.encode
+token_told Read s true es w h = same_entries Read (Some s) (entry_then (codes "mode") (text (codes "r")) (token_entry s)) es (rw w at h) (refl, rw w refl, (λ u. ((codes "mode", (refl, refl)), (codes "r", (refl, refl)), entry_plain s u)))
+token_told Write s true es w h = same_entries Write (Some s) (token_entry s) es (rw w at h) (refl, rw w refl, entry_plain s)
+token_told Read s false es w h = let k = rw w at h in absurd cc
+token_told Write s false es w h = let k = rw w at h in absurd cc
 
-begin_back : (v : Version) (m : Mode) (token : Option (List ℕ)) (q : Result Entries MsgFault) (t : Tree) → transaction_put v m token ≡ q → form_put v (request_contents (Begin m token)) ≡ Ok t → contents_of_message v requests t ≡ Ok (request_contents (Begin m token))
+transaction_told : (m : Mode) (token : Option (List ℕ)) (es : Entries) → transaction_put m token ≡ Ok es → TellTransaction es m token
+unfolding lib.Utf8.encode
+transaction_told Read None es h = same_entries Read None (entry_then (codes "mode") (text (codes "r")) no_entries) es h (refl, refl, (λ u. ((codes "mode", (refl, refl)), (codes "r", (refl, refl)), tt)))
+transaction_told Write None es h = same_entries Write None no_entries es h (refl, refl, (λ u. tt))
+transaction_told m (Some s) es h = token_told m s (is_token s) es refl h
+
+begin_back : (v : Version) (m : Mode) (token : Option (List ℕ)) (q : Result Entries MsgFault) (t : Tree) → transaction_put m token ≡ q → form_put v (request_contents (Begin m token)) ≡ Ok t → Asks v (Begin m token) t
 begin_back v m token (Ok es) t w h =
-    let k = transaction_told v m token es w in
-    told_from v requests _ _ t (rw w at h) (rw (k.0, k.1) refl)
+    let k = transaction_told m token es w in
+    back_from v requests _ _ _ t (rw w at h) (rw (k.0, k.1) refl) (λ i. (omega arith, (k.2 i, tt)))
 begin_back v m token (Err x) t w h = let k = rw w at h in absurd cc
+
+-- A cell of the version is written as a plain value.
+written_form : (v : Version) (s u : Tree) (c : IsCell v s) → cell_put v s ≡ Ok u → u ≡ c.0
+written_form v s u c h = put_is v s u h ∙ form_again v s c.0 c.2
+
+pub cell_again : (v : Version) (s : Tree) → IsCell v s → IsBack v s
+cell_again v s c u h =
+    ap (cell_of_field v) (written_form v s u c h) ∙ ap (λ r. cell_by r c.0) c.2.0.1 ∙ ap Ok (sym c.2.1)
+
+cell_plain : (v : Version) (s u : Tree) → IsCell v s → cell_put v s ≡ Ok u → IsPlain u
+cell_plain v s u c h = subst IsPlain (sym (written_form v s u c h)) c.1
 
 -- a RUN whose entries are these, and one whose parameters are told
 run_told_as : (v : Version) (s : List ℕ) (es : Entries) (m : Mode) (token : Option (List ℕ)) (u c : Tree) (f : Entries) → u ≡ dict f → cell_of_field v u ≡ Ok c → TellTransaction es m token
@@ -137,63 +165,76 @@ run_told_as v s es m token u c f is k t =
     let k' : cell_of_field v (dict f) ≡ Ok c = ap (cell_of_field v) (sym is) ∙ k in
     rw is (rw (t.0, t.1, k') refl)
 
-run_back : (v : Version) (s : List ℕ) (ps : List (List ℕ × Tree)) (m : Mode) (token : Option (List ℕ)) (q : Result Entries MsgFault) (r : Result Tree MsgFault) (t : Tree) → transaction_put v m token ≡ q → cell_put v (dict (entries_of ps)) ≡ r → IsBack v (dict (entries_of ps))
-    → form_put v (request_contents (Run s ps m token)) ≡ Ok t → contents_of_message v requests t ≡ Ok (request_contents (Run s ps m token))
+run_back : (v : Version) (s : List ℕ) (ps : List (List ℕ × Tree)) (m : Mode) (token : Option (List ℕ)) (q : Result Entries MsgFault) (r : Result Tree MsgFault) (t : Tree) → transaction_put m token ≡ q → cell_put v (dict (entries_of ps)) ≡ r → IsBack v (dict (entries_of ps))
+    → form_put v (request_contents (Run s ps m token)) ≡ Ok t → Asks v (Run s ps m token) t
 run_back v s ps m token (Ok es) (Ok u) t w e p h =
-    told_from v requests _ _ t (rw (w, e) at h) (run_told_as v s es m token u (dict (entries_of ps)) (form_under v (entries_of ps)) (put_is v (dict (entries_of ps)) u e) (p u e) (transaction_told v m token es w))
+    let k = transaction_told m token es w in
+    back_from v requests _ _ _ t (rw (w, e) at h) (run_told_as v s es m token u (dict (entries_of ps)) (form_under v (entries_of ps)) (put_is v (dict (entries_of ps)) u e) (p u e) k)
+    (λ i. (omega arith, (i.0, (cell_plain v _ u i.1 e, (k.2 i.2, tt)))))
 run_back v s ps m token (Ok es) (Err x) t w e p h = let k = rw (w, e) at h in absurd cc
 run_back v s ps m token (Err x) r t w e p h = let k = rw w at h in absurd cc
 
-pub told_back : (v : Version) (m : RequestView) (t : Tree) → AreBack v m → form_put v (request_contents m) ≡ Ok t → contents_of_message v requests t ≡ Ok (request_contents m)
-told_back V44 (Hello a None) t p h = absurd cc
-told_back V50 (Hello a None) t p h = absurd cc
-told_back V51 (Hello a None) t p h = told_from V51 requests _ _ t h refl
-told_back V44 (Hello a (Some l)) t p h = told_from V44 requests _ _ t h refl
-told_back V50 (Hello a (Some l)) t p h = told_from V50 requests _ _ t h refl
-told_back V51 (Hello a (Some l)) t p h = absurd cc
-told_back V44 (Logon l) t p h = absurd cc
-told_back V50 (Logon l) t p h = absurd cc
-told_back V51 (Logon l) t p h = told_from V51 requests _ _ t h refl
-told_back V44 Logoff t p h = absurd cc
-told_back V50 Logoff t p h = absurd cc
-told_back V51 Logoff t p h = told_from V51 requests _ _ t h refl
-told_back v Goodbye t p h = told_from v requests _ _ t h refl
-told_back v Reset t p h = told_from v requests _ _ t h refl
-told_back v (Run s ps m token) t p h = run_back v s ps m token (transaction_put v m token) (cell_put v (dict (entries_of ps))) t refl refl p h
-told_back v (Begin m token) t p h = begin_back v m token (transaction_put v m token) t refl h
-told_back v Commit t p h = told_from v requests _ _ t h refl
-told_back v Rollback t p h = told_from v requests _ _ t h refl
-told_back v (Discard All) t p h = told_from v requests _ _ t h refl
-told_back v (Discard (Of z)) t p h = discard_back v z (int_le (pos 1) z) t refl h
-told_back v (Pull All) t p h = told_from v requests _ _ t h refl
-told_back v (Pull (Of z)) t p h = pull_back v z (int_le (pos 1) z) t refl h
+-- the entries of a login
+abbrev login_entries : AuthView → Entries
+login_entries l =
+    entry_then (codes "scheme") (text l.scheme)
+    (entry_then (codes "principal") (text l.principal)
+    (entry_then (codes "credentials") (text l.credentials) no_entries))
 
-success_back : (v : Version) (ms : List (List ℕ × Tree)) (r : Result Tree MsgFault) (t : Tree) → cell_put v (dict (entries_of ms)) ≡ r → IsBack v (dict (entries_of ms)) → form_put v (response_contents (Success ms)) ≡ Ok t → contents_of_message v responses t ≡ Ok (response_contents (Success ms))
+texts_plain : (l : AuthView) → HasTexts l → HavePlain (login_entries l)
+unfolding lib.Utf8.encode
+texts_plain l i = (
+  (codes "scheme", (refl, refl)),
+  i.scheme,
+  ((codes "principal", (refl, refl)), i.principal, ((codes "credentials", (refl, refl)), i.credentials, tt)),
+)
+
+pub asks_back : (v : Version) (m : RequestView) (t : Tree) → AreBack v m → form_put v (request_contents m) ≡ Ok t → Asks v m t
+unfolding lib.Utf8.encode
+asks_back V51 (Hello a None) t p h = back_from V51 requests _ _ _ t h refl (λ i. (omega arith, (((codes "user_agent", (refl, refl)), i.0, tt), tt)))
+asks_back V44 (Hello a (Some l)) t p h = back_from V44 requests _ _ _ t h refl (λ i. (omega arith, (((codes "user_agent", (refl, refl)), i.0, texts_plain l i.1), tt)))
+asks_back V50 (Hello a (Some l)) t p h = back_from V50 requests _ _ _ t h refl (λ i. (omega arith, (((codes "user_agent", (refl, refl)), i.0, texts_plain l i.1), tt)))
+asks_back V51 (Logon l) t p h = back_from V51 requests _ _ _ t h refl (λ i. (omega arith, (texts_plain l i, tt)))
+asks_back V51 Logoff t p h = back_from V51 requests _ _ _ t h refl (λ i. (omega arith, tt))
+asks_back v Goodbye t p h = back_from v requests _ _ _ t h refl (λ i. (omega arith, tt))
+asks_back v Reset t p h = back_from v requests _ _ _ t h refl (λ i. (omega arith, tt))
+asks_back v (Run s ps m token) t p h = run_back v s ps m token (transaction_put m token) (cell_put v (dict (entries_of ps))) t refl refl p h
+asks_back v (Begin m token) t p h = begin_back v m token (transaction_put m token) t refl h
+asks_back v Commit t p h = back_from v requests _ _ _ t h refl (λ i. (omega arith, tt))
+asks_back v Rollback t p h = back_from v requests _ _ _ t h refl (λ i. (omega arith, tt))
+asks_back v (Discard All) t p h = back_from v requests _ _ _ t h refl (λ i. (omega arith, (((codes "n", (refl, refl)), fits_neg 0 (omega arith), tt), tt)))
+asks_back v (Discard (Of z)) t p h = discard_back v z (int_le (pos 1) z) t refl h
+asks_back v (Pull All) t p h = back_from v requests _ _ _ t h refl (λ i. (omega arith, (((codes "n", (refl, refl)), fits_neg 0 (omega arith), tt), tt)))
+asks_back v (Pull (Of z)) t p h = pull_back v z (int_le (pos 1) z) t refl h
+asks_back v m t p h = absurd cc
+
+success_back : (v : Version) (ms : List (List ℕ × Tree)) (r : Result Tree MsgFault) (t : Tree) → cell_put v (dict (entries_of ms)) ≡ r → IsBack v (dict (entries_of ms)) → form_put v (response_contents (Success ms)) ≡ Ok t → Tells v (Success ms) t
 success_back v ms (Ok u) t e p h =
     let is = put_is v (dict (entries_of ms)) u e in
     let k : cell_of_field v (dict (form_under v (entries_of ms))) ≡ Ok (dict (entries_of ms)) = ap (cell_of_field v) (sym is) ∙ p u e in
-    told_from v responses _ _ t (rw e at h) (rw is (rw k refl))
+    back_from v responses _ _ _ t (rw e at h) (rw is (rw k refl)) (λ i. (omega arith, (cell_plain v _ u i e, tt)))
 success_back v ms (Err x) t e p h = let k = rw e at h in absurd cc
 
-record_back : (v : Version) (cs : List Tree) (r : Result Tree MsgFault) (t : Tree) → cell_put v (list (trees_of cs)) ≡ r → IsBack v (list (trees_of cs)) → form_put v (response_contents (Record cs)) ≡ Ok t → contents_of_message v responses t ≡ Ok (response_contents (Record cs))
+record_back : (v : Version) (cs : List Tree) (r : Result Tree MsgFault) (t : Tree) → cell_put v (list (trees_of cs)) ≡ r → IsBack v (list (trees_of cs)) → form_put v (response_contents (Record cs)) ≡ Ok t → Tells v (Record cs) t
 record_back v cs (Ok u) t e p h =
     let is = put_is v (list (trees_of cs)) u e in
     let k : cell_of_field v (list (form_all v (trees_of cs))) ≡ Ok (list (trees_of cs)) = ap (cell_of_field v) (sym is) ∙ p u e in
-    told_from v responses _ _ t (rw e at h) (rw is (rw k refl))
+    back_from v responses _ _ _ t (rw e at h) (rw is (rw k refl)) (λ i. (omega arith, (cell_plain v _ u i e, tt)))
 record_back v cs (Err x) t e p h = let k = rw e at h in absurd cc
 
-pub answered_back_told : (v : Version) (m : ResponseView) (t : Tree) → AreAnsweredBack v m → form_put v (response_contents m) ≡ Ok t → contents_of_message v responses t ≡ Ok (response_contents m)
-answered_back_told v (Success ms) t p h = success_back v ms (cell_put v (dict (entries_of ms))) t refl p h
-answered_back_told v (Record cs) t p h = record_back v cs (cell_put v (list (trees_of cs))) t refl p h
-answered_back_told v Ignored t p h = told_from v responses _ _ t h refl
-answered_back_told v (Failure c m) t p h = told_from v responses _ _ t h refl
+pub tells_back : (v : Version) (m : ResponseView) (t : Tree) → AreAnsweredBack v m → form_put v (response_contents m) ≡ Ok t → Tells v m t
+unfolding lib.Utf8.encode
+tells_back v (Success ms) t p h = success_back v ms (cell_put v (dict (entries_of ms))) t refl p h
+tells_back v (Record cs) t p h = record_back v cs (cell_put v (list (trees_of cs))) t refl p h
+tells_back v Ignored t p h = back_from v responses _ _ _ t h refl (λ i. (omega arith, tt))
+tells_back v (Failure c m) t p h = back_from v responses _ _ _ t h refl (λ i. (omega arith, (((codes "code", (refl, refl)), i.0, ((codes "message", (refl, refl)), i.1, tt)), tt)))
 
 writable_in : (r : Result ℕ (CellReason × ℕ)) (t u : Tree) → form_by r t ≡ Ok u → (n : ℕ) × (r ≡ Ok n)
 writable_in (Ok n) t u h = (n, refl)
 writable_in (Err e) t u h = absurd cc
 
 -- what is written of a cell is told as that cell
-pub cell_back : (v : Version) (c : Cell) → IsBack v (shape c)
+cell_back : (v : Version) (c : Cell) → IsBack v (shape c)
 cell_back v c u h =
     let w = writable_in (scan (fault_of_structure v) 0 (structures (shape c))) (form v (shape c)) u h in
     let f = formed_is v c (fine_scan (fault_of_structure v) 0 w.0 (structures (shape c)) w.1) in
@@ -201,19 +242,9 @@ cell_back v c u h =
 
 pub request_back : (v : Version) (r : Request) → AreBack v (request_view r)
 request_back v (request.Run s ps m token) = subst (IsBack v) (shape-Dict ps) (cell_back v (DictCell ps))
-request_back v (request.Hello a o) = tt
-request_back v (request.Logon l) = tt
-request_back v request.Logoff = tt
-request_back v request.Goodbye = tt
-request_back v request.Reset = tt
-request_back v (request.Begin m token) = tt
-request_back v request.Commit = tt
-request_back v request.Rollback = tt
-request_back v (request.Discard c) = tt
-request_back v (request.Pull c) = tt
+request_back v r = tt
 
 pub response_back : (v : Version) (r : Response) → AreAnsweredBack v (response_view r)
 response_back v (response.Success ms) = subst (IsBack v) (shape-Dict ms) (cell_back v (DictCell ms))
 response_back v (response.Record cs) = subst (IsBack v) (shape-List cs) (cell_back v (ListCell cs))
-response_back v response.Ignored = tt
-response_back v (response.Failure c m) = tt
+response_back v r = tt

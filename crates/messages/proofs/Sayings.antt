@@ -1,191 +1,150 @@
--- What the table tells of a value is what some message holds.
-use Rattle.std.proofs.Common.{◌≡◌, ℕ, List, [], ◌∷◌, ◌++◌, Option, None, Some, Result, Ok, Err, IfOk, codes, refl, ap, sym, subst, ◌∙◌}
+-- What a row of the table says of a plain value is what some message holds, and that is made of texts, of numbers in their ranges and
+-- of cells.
+use Rattle.std.proofs.Common.{◌≡◌, ℕ, pos, List, [], ◌∷◌, ◌++◌, Bool, true, false, Option, None, Some, IfSome, Result, Ok, Err, codes, refl, ap, sym, subst, ◌∙◌}
+use Rattle.std.specs.Str.{IsUtf8}
 use Rattle.packstream.specs.Tree.{Tree, text, list, dict, Trees, no_trees, tree_then, Entries, no_entries, entry_then}
 use Rattle.packstream.specs.View.{entries_of, trees_of}
+use Rattle.packstream.specs.Plain.{AreBytes, IsPlain, ArePlain, HavePlain}
 use Rattle.wire.specs.declared.Version.{Version}
-use Rattle.wire.specs.declared.Version.TheVariants.{V44, V50, V51}
+use Rattle.wire.specs.declared.Version.TheVariants.{V51}
+use Rattle.structures.specs.Form.{typed_all, typed_under}
 use Rattle.messages.specs.declared.request.Mode.{Mode}
 use Rattle.messages.specs.declared.request.Mode.TheVariants.{Read, Write}
 use Rattle.messages.specs.declared.request.Count.{Count}
 use Rattle.messages.specs.declared.request.Count.TheVariants.{All, Of}
 use Rattle.messages.specs.declared.fault.MsgFault.{MsgFault}
-use Rattle.wire.specs.Versions.{every_version, hello_has_login}
-use Rattle.messages.specs.Table.{ignored, refused, credentials, of_transaction, how_many, of_error, hello, Row, requests, responses, HELLO, LOGON, LOGOFF, GOODBYE, RESET, RUN, BEGIN, COMMIT, ROLLBACK, DISCARD, PULL, SUCCESS, RECORD, IGNORED, FAILURE, layout}
-use Rattle.messages.specs.Reading.{◌>>=◌, Contents, contents, lookup, contents_of_mode, contents_of_metadata, contents_of_named, cell_of_field, contents_of_message, mode_tree, token_tree, count_tree, request_contents, response_contents}
-use Rattle.messages.specs.Parts.{one_field, entries_of_dict, members_of_list, RunParts, run_parts, contents_of_run, as_dict, as_list, dict_of_cells}
-use Rattle.packstream.specs.Plain.{AreBytes}
+use Rattle.messages.specs.Table.{Holds, a_text, a_mode, a_count, last_query, a_token, Named, Field, text_field, cells, cell_list, extra, Name, HELLO, LOGON, LOGOFF, GOODBYE, RESET, RUN, BEGIN, COMMIT, ROLLBACK, DISCARD, PULL, SUCCESS, RECORD, IGNORED, FAILURE, Row, layout, requests, responses, row_in}
+use Rattle.messages.specs.Reading.{◌>>=◌, Contents, contents, contents_of_message, mode_tree, token_tree, count_tree, request_contents, response_contents}
 use Rattle.messages.specs.Messages.{Means, contents_in, request_held, response_held, pairs_of, list_of}
-use Rattle.messages.proofs.Meanings.{said_means}
-use Rattle.messages.proofs.Rows.{cells_row, list_row, run_row}
-use Rattle.messages.proofs.Telling.{if_bind, if_any, IsMode, IsToken, IsTransaction, IsCount, IsNothing, IsTwo, IsLogin, each_text, two_said, login_said, both_said, transaction_said, how_many_said, IsDict, IsList, dict_said, list_said, Tells, none_tells, extra_tells, AllTell, message_tells, mode_said, metadata_said}
+use Rattle.messages.specs.Saying.{IsEntry, absent, here, further, SaysEntry, the_text, reads, writes, writes_unsaid, all_rows, some_rows, of_last, of_last_unsaid, the_token, token_unsaid, metadata_unsaid, SaysNamed, no_more, passed_over, then_named, of_text, of_cells, of_list, of_extra, SaysFields, no_fields, then_field, SaysRow, of_row}
+use Rattle.messages.specs.Sound.{IsCell, IsCount, IsRequest, IsResponse}
+use Rattle.messages.proofs.Meanings.{said_means, mode_back, token_back, count_back}
+use Rattle.messages.proofs.Layouts.{message_says, is_laid, requests_laid, responses_laid}
 
--- Requests.
-abbrev IsAsk : Contents → Type 0
-IsAsk s = request_contents (request_held s) ≡ s
+-- What holds of everything that an entry may say holds of what it says.
+abbrev Each : Holds → (List Tree → Type 0) → Type 0
+Each a_text P = (s : List ℕ) → IsUtf8 s → P (text s ∷ [])
+Each a_mode P = (m : Mode) → P (mode_tree m ∷ [])
+Each a_count P = (c : Count) → IsCount c → P (count_tree c ∷ [])
+Each last_query P = P []
+Each a_token P = (token : Option (List ℕ)) → IfSome token IsUtf8 → P (token_tree token ∷ [])
+
+found_plain : (name : List ℕ) (es : Entries) (o : Option Tree) → IsEntry name es o → HavePlain es → IfSome o IsPlain
+found_plain name _ _ absent h = tt
+found_plain name _ _ (here t es) h = h.1
+found_plain name _ _ (further k t es o other e) h = found_plain name es o e h.2
+
+entry_each : (k : Holds) (o : Option Tree) (xs : List Tree) → SaysEntry k o xs → IfSome o IsPlain → (P : List Tree → Type 0) → Each k P → P xs
+entry_each _ _ _ (the_text s) h P all = all s h
+entry_each _ _ _ reads h P all = all Read
+entry_each _ _ _ writes h P all = all Write
+entry_each _ _ _ writes_unsaid h P all = all Write
+entry_each _ _ _ all_rows h P all = all All tt
+entry_each _ _ _ (some_rows n one) h P all = all (Of (pos n)) h
+entry_each _ _ _ of_last h P all = all
+entry_each _ _ _ of_last_unsaid h P all = all
+entry_each _ _ _ (the_token es s there low high) h P all = all (Some s) (found_plain (codes "token") es (Some (text s)) there h)
+entry_each _ _ _ (token_unsaid es there) h P all = all None tt
+entry_each _ _ _ metadata_unsaid h P all = all None tt
+
+-- the same of named entries
+abbrev Standing : Bool → Holds → (List Tree → Type 0) → Type 0
+Standing true k P = Each k P
+Standing false k P = P []
+
+abbrev EachNamed : Version → List Named → (List Tree → Type 0) → Type 0
+EachNamed v [] P = P []
+EachNamed v (n ∷ ns) P = Standing (n.stands v) n.holds (λ x. EachNamed v ns (λ xs. P (x ++ xs)))
+
+named_each : (v : Version) (es : Entries) (ns : List Named) (xs : List Tree) → SaysNamed v es ns xs → HavePlain es → (P : List Tree → Type 0) → EachNamed v ns P → P xs
+named_each v es _ _ no_more h P all = all
+named_each v es _ _ (passed_over n ns xs off s) h P all =
+    named_each v es ns xs s h P (subst (λ (b : Bool). Standing b n.holds (λ x. EachNamed v ns (λ ys. P (x ++ ys)))) off all)
+named_each v es _ _ (then_named n ns o x xs on there y s) h P all =
+    named_each v es ns xs s h (λ ys. P (x ++ ys)) (entry_each n.holds o x y (found_plain n.name es o there h) (λ z. EachNamed v ns (λ ys. P (z ++ ys))) (subst (λ (b : Bool). Standing b n.holds (λ z. EachNamed v ns (λ ys. P (z ++ ys)))) on all))
+
+-- and of fields
+abbrev EachFields : Version → List Field → (List Tree → List Tree → Type 0) → Type 0
+EachFields v [] P = P [] []
+EachFields v (text_field ∷ ks) P = (s : List ℕ) → IsUtf8 s → EachFields v ks (λ fs xs. P (text s ∷ fs) xs)
+EachFields v (cells ∷ ks) P = (es : Entries) → IsCell v (dict es) → EachFields v ks (λ fs xs. P (dict es ∷ fs) xs)
+EachFields v (cell_list ∷ ks) P = (ts : Trees) → IsCell v (list ts) → EachFields v ks (λ fs xs. P (list ts ∷ fs) xs)
+EachFields v (extra o ns ∷ ks) P = EachNamed v ns (λ x. EachFields v ks (λ fs xs. P fs (x ++ xs)))
+
+fields_each : (v : Version) (ks : List Field) (ts : Trees) (fs xs : List Tree) → SaysFields v ks ts fs xs → ArePlain ts → (P : List Tree → List Tree → Type 0) → EachFields v ks P → P fs xs
+fields_each v _ _ _ _ no_fields h P all = all
+fields_each v _ _ _ _ (then_field _ ks _ ts _ fs _ xs (of_text s) r) h P all = fields_each v ks ts fs xs r h.1 (λ gs ys. P (text s ∷ gs) ys) (all s h.0)
+fields_each v _ _ _ _ (then_field _ ks _ ts _ fs _ xs (of_cells c es f) r) h P all =
+    fields_each v ks ts fs xs r h.1 (λ gs ys. P (c ∷ gs) ys)
+    (subst (λ (d : Tree). EachFields v ks (λ gs ys. P (d ∷ gs) ys)) (sym f.1) (all (typed_under es) (subst (IsCell v) f.1 (dict es, h.0, f))))
+fields_each v _ _ _ _ (then_field _ ks _ ts _ fs _ xs (of_list c us f) r) h P all =
+    fields_each v ks ts fs xs r h.1 (λ gs ys. P (c ∷ gs) ys)
+    (subst (λ (d : Tree). EachFields v ks (λ gs ys. P (d ∷ gs) ys)) (sym f.1) (all (typed_all us) (subst (IsCell v) f.1 (list us, h.0, f))))
+fields_each v _ _ _ _ (then_field _ ks _ ts _ fs _ xs (of_extra o ns es ys only s) r) h P all =
+    fields_each v ks ts fs xs r h.1 (λ gs zs. P gs (ys ++ zs)) (named_each v es ns ys s h.0 (λ y. EachFields v ks (λ gs zs. P gs (y ++ zs))) all)
+
+row_each : (v : Version) (r : Row) (t : Tree) (s : Contents) → SaysRow v r t s → IsPlain t → (P : Contents → Type 0) → EachFields v r.fields (λ fs xs. P (contents r.name fs xs)) → P s
+row_each v r _ _ (of_row ts fs xs on f) h P all = fields_each v r.fields ts fs xs f h.1 (λ gs ys. P (contents r.name gs ys)) all
 
 entries_again : (es : Entries) → entries_of (pairs_of es) ≡ es
 entries_again no_entries = refl
 entries_again (entry_then k t es) = ap (λ l. entry_then k t l) (entries_again es)
 
-hello_tells : (v : Version) (es : Entries) → IfOk (contents_of_named v hello es) (λ xs. IsAsk (contents HELLO [] xs))
-hello_tells V44 es = each_text V44 (codes "user_agent") every_version (credentials hello_has_login) es IsLogin (λ xs. IsAsk (contents HELLO [] xs)) refl (login_said V44 hello_has_login es refl) (λ s xs q. rw q.1 refl)
-hello_tells V50 es = each_text V50 (codes "user_agent") every_version (credentials hello_has_login) es IsLogin (λ xs. IsAsk (contents HELLO [] xs)) refl (login_said V50 hello_has_login es refl) (λ s xs q. rw q.1 refl)
-hello_tells V51 es = each_text V51 (codes "user_agent") every_version (credentials hello_has_login) es IsNothing (λ xs. IsAsk (contents HELLO [] xs)) refl refl (λ s xs q. rw q refl)
-
-begin_asks : (xs : List Tree) → IsTransaction xs → IsAsk (contents BEGIN [] xs)
-begin_asks xs p = rw p.2 (go p.0 p.1)
-  where
-    go : (m : Mode) (token : Option (List ℕ)) → IsAsk (contents BEGIN [] (mode_tree m ∷ token_tree token ∷ []))
-    go Read None = refl
-    go Read (Some s) = refl
-    go Write None = refl
-    go Write (Some s) = refl
-
-discard_asks : (xs : List Tree) → IsCount xs → IsAsk (contents DISCARD [] xs)
-discard_asks xs p = rw p.1 (go p.0)
-  where
-    go : (c : Count) → IsAsk (contents DISCARD [] (count_tree c ∷ []))
-    go All = refl
-    go (Of z) = refl
-
-pull_asks : (xs : List Tree) → IsCount xs → IsAsk (contents PULL [] xs)
-pull_asks xs p = rw p.1 (go p.0)
-  where
-    go : (c : Count) → IsAsk (contents PULL [] (count_tree c ∷ []))
-    go All = refl
-    go (Of z) = refl
-
-run_asks : (s : List ℕ) (c : Tree) (xs : List Tree) → IsDict c → IsTransaction xs → IsAsk (contents RUN (text s ∷ c ∷ []) xs)
-run_asks s c xs d p = rw (d.1, p.2) (go p.0 p.1)
-  where
-    seen : (m : Mode) (token : Option (List ℕ)) → contents RUN (text s ∷ dict (entries_of (pairs_of d.0)) ∷ []) (mode_tree m ∷ token_tree token ∷ []) ≡ contents RUN (text s ∷ dict d.0 ∷ []) (mode_tree m ∷ token_tree token ∷ [])
-    seen m token = ap (λ es. contents RUN (text s ∷ dict es ∷ []) (mode_tree m ∷ token_tree token ∷ [])) (entries_again d.0)
-
-    go : (m : Mode) (token : Option (List ℕ)) → IsAsk (contents RUN (text s ∷ dict d.0 ∷ []) (mode_tree m ∷ token_tree token ∷ []))
-    go Read None = seen Read None
-    go Read (Some s) = seen Read (Some s)
-    go Write None = seen Write None
-    go Write (Some s) = seen Write (Some s)
-
-run_tells : (v : Version) → Tells IsAsk v (layout RUN)
-run_tells v ts =
-    subst (λ r. IfOk r IsAsk) (sym (run_row v ts))
-    (if_bind (run_parts ts) (λ p. contents_of_run v p.text p.parameters p.entries) (λ x. Unit {0})
-    IsAsk (if_any (run_parts ts)) (λ p u. asks p))
-  where
-    asks : (p : RunParts) → IfOk (contents_of_run v p.text p.parameters p.entries) IsAsk
-    asks p =
-        let mode = lookup (codes "mode") p.entries in
-        let metadata = lookup (codes "tx_metadata") p.entries in
-        let cell = cell_of_field v p.parameters in
-        if_bind (contents_of_mode mode)
-        (λ m. contents_of_metadata metadata >>= λ k. dict_of_cells v p.parameters >>= λ c. Ok (contents RUN (text p.text ∷ c ∷ []) (m ++ k)))
-        IsMode IsAsk (mode_said mode) (λ m q.
-        if_bind (contents_of_metadata metadata)
-        (λ k. dict_of_cells v p.parameters >>= λ c. Ok (contents RUN (text p.text ∷ c ∷ []) (m ++ k)))
-        IsToken IsAsk (metadata_said metadata) (λ k w.
-        if_bind (dict_of_cells v p.parameters) (λ c. Ok (contents RUN (text p.text ∷ c ∷ []) (m ++ k)))
-        IsDict IsAsk
-        (if_bind cell as_dict (λ x. Unit {0}) IsDict (if_any cell) (λ c u. dict_said c))
-        (λ c d. run_asks p.text c (m ++ k) d (both_said m k q w))))
-
-requests_tell : (v : Version) → AllTell IsAsk v requests
-requests_tell v = (
-  λ ts. extra_tells IsAsk v HELLO ignored hello ts (λ xs. IsAsk (contents HELLO [] xs)) (hello_tells v) (λ xs p. p),
-  (
-    λ ts. extra_tells IsAsk v LOGON ignored (credentials every_version) ts IsLogin (λ es. login_said v every_version es refl) (λ xs p. rw p.1 refl),
-    (
-      λ ts. none_tells IsAsk v LOGOFF ts refl,
-      (
-        λ ts. none_tells IsAsk v GOODBYE ts refl,
-        (
-          λ ts. none_tells IsAsk v RESET ts refl,
-          (
-            run_tells v,
-            (
-              λ ts. extra_tells IsAsk v BEGIN ignored of_transaction ts IsTransaction (transaction_said v) begin_asks,
-              (
-                λ ts. none_tells IsAsk v COMMIT ts refl,
-                (
-                  λ ts. none_tells IsAsk v ROLLBACK ts refl,
-                  (
-                    λ ts. extra_tells IsAsk v DISCARD refused how_many ts IsCount (how_many_said v) discard_asks,
-                    (
-                      λ ts. extra_tells IsAsk v PULL refused how_many ts IsCount (how_many_said v) pull_asks,
-                      tt,
-                    ),
-                  ),
-                ),
-              ),
-            ),
-          ),
-        ),
-      ),
-    ),
-  ),
-)
-
--- Responses.
-abbrev IsSay : Contents → Type 0
-IsSay s = response_contents (response_held s) ≡ s
-
 trees_again : (ts : Trees) → trees_of (list_of ts) ≡ ts
 trees_again no_trees = refl
 trees_again (tree_then t ts) = ap (λ l. tree_then t l) (trees_again ts)
 
-success_tells : (v : Version) → Tells IsSay v (layout SUCCESS)
-success_tells v ts =
-    subst (λ r. IfOk r IsSay) (sym (cells_row v SUCCESS ts))
-    (if_bind (one_field ts) (λ t. entries_of_dict t >>= λ es. (cell_of_field v t >>= as_dict) >>= λ c. Ok (contents SUCCESS (c ∷ []) [])) (λ x. Unit {0}) IsSay (if_any (one_field ts)) (λ t u.
-    if_bind (entries_of_dict t) (λ es. (cell_of_field v t >>= as_dict) >>= λ c. Ok (contents SUCCESS (c ∷ []) [])) (λ x. Unit {0}) IsSay (if_any (entries_of_dict t)) (λ es w.
-    if_bind (cell_of_field v t >>= as_dict) (λ c. Ok (contents SUCCESS (c ∷ []) [])) IsDict IsSay
-    (if_bind (cell_of_field v t) as_dict (λ x. Unit {0}) IsDict (if_any (cell_of_field v t)) (λ c x. dict_said c))
-    (λ c d. rw d.1 (ap (λ l. contents SUCCESS (dict l ∷ []) []) (entries_again d.0))))))
+-- A request holds it, and is so made.
+abbrev pub IsAsked : Version → Contents → Type 0
+IsAsked v s = (request_contents (request_held s) ≡ s) × IsRequest v (request_held s)
 
-record_tells : (v : Version) → Tells IsSay v (layout RECORD)
-record_tells v ts =
-    subst (λ r. IfOk r IsSay) (sym (list_row v RECORD ts))
-    (if_bind (one_field ts) (λ t. members_of_list t >>= λ us. (cell_of_field v t >>= as_list) >>= λ c. Ok (contents RECORD (c ∷ []) [])) (λ x. Unit {0}) IsSay (if_any (one_field ts)) (λ t u.
-    if_bind (members_of_list t) (λ us. (cell_of_field v t >>= as_list) >>= λ c. Ok (contents RECORD (c ∷ []) [])) (λ x. Unit {0}) IsSay (if_any (members_of_list t)) (λ us w.
-    if_bind (cell_of_field v t >>= as_list) (λ c. Ok (contents RECORD (c ∷ []) [])) IsList IsSay
-    (if_bind (cell_of_field v t) as_list (λ x. Unit {0}) IsList (if_any (cell_of_field v t)) (λ c x. list_said c))
-    (λ c d. rw d.1 (ap (λ l. contents RECORD (list l ∷ []) []) (trees_again d.0))))))
+asks : (v : Version) (n : Name) → row_in (layout n).tag requests ≡ Some (layout n) → EachFields v (layout n).fields (λ fs xs. IsAsked v (contents (layout n).name fs xs))
+asks V51 HELLO e = λ a u. (refl, (u, tt))
+asks v HELLO e = λ a u s p q r c w. (refl, (u, record { scheme = p; principal = r; credentials = w }))
+asks v LOGON e = λ s p q r c w. (refl, record { scheme = p; principal = r; credentials = w })
+asks v LOGOFF e = (refl, tt)
+asks v GOODBYE e = (refl, tt)
+asks v RESET e = (refl, tt)
+asks v RUN e = λ s u es c m token w. rw (mode_back m, token_back token, entries_again es) (refl, (u, c, w))
+asks v BEGIN e = λ m token w. rw (mode_back m, token_back token) (refl, w)
+asks v COMMIT e = (refl, tt)
+asks v ROLLBACK e = (refl, tt)
+asks v DISCARD e = λ c w. rw (count_back c) (refl, w)
+asks v PULL e = λ c w. rw (count_back c) (refl, w)
+asks v n e = absurd cc
 
-responses_tell : (v : Version) → AllTell IsSay v responses
-responses_tell v = (
-  success_tells v,
-  (
-    record_tells v,
-    (
-      λ ts. none_tells IsSay v IGNORED ts refl,
-      (
-        λ ts. extra_tells IsSay v FAILURE ignored of_error ts IsTwo (λ es. two_said v (codes "code") (codes "message") every_version es refl) (λ xs p. rw p.2 refl),
-        tt,
-      ),
-    ),
-  ),
-)
+pub asked : (v : Version) (t : Tree) (s : Contents) → IsPlain t → contents_of_message v requests t ≡ Ok s → IsAsked v s
+asked v t s h e =
+    let m = message_says v requests t s requests_laid e in
+    row_each v (layout m.0) t s m.2 h (IsAsked v) (asks v m.0 (is_laid requests requests (layout m.0) requests_laid m.1).2)
 
--- What is told of a value is what its message holds.
-held : (B : Contents → Type 0) (r : Result Contents MsgFault) (s : Contents) → IfOk r B → r ≡ Ok s → B s
-held B r s h e = subst (λ (x : Result Contents MsgFault). IfOk x B) e h
+pub told_asks : (v : Version) (t : Tree) (s : Contents) → IsPlain t → contents_of_message v requests t ≡ Ok s → request_contents (request_held s) ≡ s
+told_asks v t s h e = (asked v t s h e).0
 
-pub told_asks : (v : Version) (t : Tree) (s : Contents) → contents_of_message v requests t ≡ Ok s → request_contents (request_held s) ≡ s
-told_asks v t s e = held IsAsk (contents_of_message v requests t) s (message_tells IsAsk v requests (requests_tell v) t) e
+-- The same of responses.
+abbrev pub IsAnswered : Version → Contents → Type 0
+IsAnswered v s = (response_contents (response_held s) ≡ s) × IsResponse v (response_held s)
 
-pub told_says : (v : Version) (t : Tree) (s : Contents) → contents_of_message v responses t ≡ Ok s → response_contents (response_held s) ≡ s
-told_says v t s e = held IsSay (contents_of_message v responses t) s (message_tells IsSay v responses (responses_tell v) t) e
+answers : (v : Version) (n : Name) → row_in (layout n).tag responses ≡ Some (layout n) → EachFields v (layout n).fields (λ fs xs. IsAnswered v (contents (layout n).name fs xs))
+answers v SUCCESS e = λ es c. rw (entries_again es) (refl, c)
+answers v RECORD e = λ ts c. rw (trees_again ts) (refl, c)
+answers v IGNORED e = (refl, tt)
+answers v FAILURE e = λ c u m w. (refl, (u, w))
+answers v n e = absurd cc
+
+pub answered : (v : Version) (t : Tree) (s : Contents) → IsPlain t → contents_of_message v responses t ≡ Ok s → IsAnswered v s
+answered v t s h e =
+    let m = message_says v responses t s responses_laid e in
+    row_each v (layout m.0) t s m.2 h (IsAnswered v) (answers v m.0 (is_laid responses responses (layout m.0) responses_laid m.1).2)
+
+pub told_says : (v : Version) (t : Tree) (s : Contents) → IsPlain t → contents_of_message v responses t ≡ Ok s → response_contents (response_held s) ≡ s
+told_says v t s h e = (answered v t s h e).0
 
 -- bytes mean the message that is told of them
-pub means_told : {Y : Type 0} (holds : Y → Contents) (back : Contents → Y) (v : Version) (table : List Row) → ((t : Tree) (s : Contents) → contents_of_message v table t ≡ Ok s → holds (back s) ≡ s)
+pub means_told : {Y : Type 0} (holds : Y → Contents) (back : Contents → Y) (v : Version) (table : List Row) → ((t : Tree) (s : Contents) → IsPlain t → contents_of_message v table t ≡ Ok s → holds (back s) ≡ s)
     → (b : List ℕ) (bytes : AreBytes b) (m : Y) (r : Result Contents MsgFault) → contents_in v table b ≡ r → (r >>= λ s. Ok (back s)) ≡ Ok m → Means v table (holds m) b
 means_told holds back v table again b bytes m (Ok s) e h =
     let same : back s ≡ m = cc in
     let w = said_means v table s b bytes e in
-    record {
-      value = w.value;
-      good = w.good;
-      spelled = w.spelled;
-      says = w.says ∙ ap Ok (sym (again w.value s w.says) ∙ ap holds same);
-    }
+    subst (λ (x : Contents). Means v table x b) (sym (again w.value s w.good.plain w.says) ∙ ap holds same) w
 means_told holds back v table again b bytes m (Err x) e h = absurd cc

@@ -1,14 +1,14 @@
 -- What was read of a message's parts, one after the other, is read of the message.
-use Rattle.std.proofs.Common.{◌≡◌, ◌≤◌, ◌<◌, ℕ, ℤ, List, [], ◌∷◌, None, Result, Ok, Err, IfOk, codes, refl, ap, sym, subst, arith}
+use Rattle.std.proofs.Common.{◌≡◌, ◌≤◌, ◌<◌, ◌∙◌, ℕ, ℤ, List, [], ◌∷◌, ◌++◌, None, Result, Ok, Err, IfOk, codes, refl, ap, sym, subst, arith}
 use Rattle.std.proofs.lemmas.List.{append-nil}
 use Rattle.packstream.specs.declared.marker.Size.TheVariants.{Here}
 use Rattle.packstream.specs.Markers.{marker}
-use Rattle.packstream.specs.Tree.{Tree, int, text, list, dict, structure, no_trees, tree_then, no_entries, entry_then}
+use Rattle.packstream.specs.Tree.{Tree, int, text, dict, structure, no_trees, tree_then, no_entries, entry_then}
 use Rattle.packstream.specs.Canon.{head, canon}
 use Rattle.packstream.specs.Good.{IsGood, depth}
 use Rattle.packstream.specs.Plain.{AreBytes}
 use Rattle.packstream.specs.Spelling.{Spells}
-use Rattle.packstream.specs.View.{entries_of, trees_of}
+use Rattle.packstream.specs.View.{entries_of}
 use Rattle.packstream.proofs.Only.{canon_spells}
 use Rattle.wire.specs.declared.Version.{Version}
 use Rattle.cells.specs.Faults.{structures}
@@ -19,14 +19,15 @@ use Rattle.messages.specs.declared.request.Mode.{Mode}
 use Rattle.messages.specs.declared.request.Mode.TheVariants.{Read, Write}
 use Rattle.messages.specs.declared.request.Count.{Count}
 use Rattle.messages.specs.declared.fault.MsgFault.{MsgFault}
-use Rattle.messages.specs.View.{request_view, response_view, Run, Begin, Discard, Pull, Success, Record}
+use Rattle.messages.specs.View.{request_view, response_view, Run, Begin}
 use Rattle.messages.specs.Reading.{request_contents, response_contents, count_tree}
 use Rattle.messages.specs.Messages.{Req, Resp}
-use Rattle.messages.specs.Parts.{count_number, mode_pairs}
+use Rattle.messages.specs.Cells.{cell_put}
+use Rattle.messages.specs.Parts.{with_dict, rows_put, count_number, mode_pairs}
 use Rattle.messages.specs.Scanned.{SpellsForm}
 use Rattle.messages.specs.Writing.{form_put}
 use Rattle.messages.proofs.Added.{put_itself, field_good, plain_good, run_good, count_named, mode_good, mode_deep}
-use Rattle.messages.proofs.Rounds.{told_back, answered_back_told, request_back, response_back, put_alone}
+use Rattle.messages.proofs.Rounds.{asks_back, tells_back, request_back, response_back, put_alone}
 
 -- ---- spellings
 
@@ -34,13 +35,6 @@ use Rattle.messages.proofs.Rounds.{told_back, answered_back_told, request_back, 
 plain_spelled : (tag : ℕ) → tag < 256 → Spells (structure tag no_trees) (0xB0 ∷ tag ∷ [])
 unfolding marker
 plain_spelled tag small = ((omega arith, (small, tt)), ([], refl, (0xB0, refl, refl)))
-
-field_spelled : (tag : ℕ) (t : Tree) (b rest : List ℕ) → tag < 256 → AreBytes b → rest ≡ [] → SpellsFront t rest b → Spells (structure tag (tree_then t no_trees)) (0xB1 ∷ tag ∷ b)
-unfolding marker
-field_spelled tag t b rest small bytes none s = ((omega arith, (small, bytes)), (b, (s.0, rest, s.1.1, none, s.2), (0xB1, refl, refl)))
-
-whole_field : (tag : ℕ) (t : Tree) (b : List ℕ) → tag < 256 → Spells t b → Spells (structure tag (tree_then t no_trees)) (0xB1 ∷ tag ∷ b)
-whole_field tag t b small s = field_spelled tag t b [] small s.0 refl (b, s, sym (append-nil b))
 
 three_spelled : (tag : ℕ) (t u w : Tree) (b c d : List ℕ) → tag < 256 → AreBytes b → SpellsFront t c b → SpellsFront u d c → Spells w d → Spells (structure tag (tree_then t (tree_then u (tree_then w no_trees)))) (0xB3 ∷ tag ∷ b)
 unfolding marker
@@ -86,31 +80,29 @@ plain_scanned form tag small is = record {
   spelled = plain_spelled tag small;
 }
 
-pub pull_scanned : (v : Version) (c : Count) (z : ℤ) (b : List ℕ) → count_number (count_tree c) ≡ Ok (int z) → IsGood (dict (entry_then (codes "n") (int z) no_entries)) → Spells (dict (entry_then (codes "n") (int z) no_entries)) b
-    → SpellsForm (form_put v (request_contents (Pull c))) (0xB1 ∷ 0x3F ∷ b)
-pull_scanned v c z b e g s = record {
-  value = structure 0x3F (tree_then (dict (entry_then (codes "n") (int z) no_entries)) no_trees);
-  is = rw (count_named v c, e) refl;
-  good = field_good 0x3F (dict (entry_then (codes "n") (int z) no_entries)) (omega arith) g (omega arith);
-  spelled = whole_field 0x3F (dict (entry_then (codes "n") (int z) no_entries)) b (omega arith) s;
+-- a structure of one field
+pub field_scanned : (f : Result Tree MsgFault) (tag : ℕ) (t : Tree) (b : List ℕ) → tag < 256 → f ≡ Ok (structure tag (tree_then t no_trees)) → IsGood t → depth t ≤ 31 → Spells t b → SpellsForm f (0xB1 ∷ tag ∷ b)
+unfolding marker
+field_scanned f tag t b small is g deep s = record {
+  value = structure tag (tree_then t no_trees);
+  is = is;
+  good = field_good tag t small g deep;
+  spelled = ((omega arith, (small, s.0)), (b, (b, [], s.1, refl, sym (append-nil b)), (0xB1, refl, refl)));
 }
 
-pub discard_scanned : (v : Version) (c : Count) (z : ℤ) (b : List ℕ) → count_number (count_tree c) ≡ Ok (int z) → IsGood (dict (entry_then (codes "n") (int z) no_entries)) → Spells (dict (entry_then (codes "n") (int z) no_entries)) b
-    → SpellsForm (form_put v (request_contents (Discard c))) (0xB1 ∷ 0x2F ∷ b)
-discard_scanned v c z b e g s = record {
-  value = structure 0x2F (tree_then (dict (entry_then (codes "n") (int z) no_entries)) no_trees);
-  is = rw (count_named v c, e) refl;
-  good = field_good 0x2F (dict (entry_then (codes "n") (int z) no_entries)) (omega arith) g (omega arith);
-  spelled = whole_field 0x2F (dict (entry_then (codes "n") (int z) no_entries)) b (omega arith) s;
-}
+-- of a number of rows
+pub rows_scanned : (tag : ℕ) (c : Count) (z : ℤ) (b : List ℕ) → tag < 256 → count_number (count_tree c) ≡ Ok (int z) → IsGood (dict (entry_then (codes "n") (int z) no_entries)) → Spells (dict (entry_then (codes "n") (int z) no_entries)) b
+    → SpellsForm (with_dict tag (rows_put c)) (0xB1 ∷ tag ∷ b)
+rows_scanned tag c z b small e g s = field_scanned _ tag (dict (entry_then (codes "n") (int z) no_entries)) b small (rw (count_named c, e) refl) g (omega arith) s
 
 pub begin_scanned : (v : Version) (m : Mode) (b : List ℕ) → b ≡ canon (dict (entries_of (mode_pairs m))) → SpellsForm (form_put v (request_contents (Begin m None))) (0xB1 ∷ 0x11 ∷ b)
-begin_scanned v m b e = record {
-  value = structure 0x11 (tree_then (dict (entries_of (mode_pairs m))) no_trees);
-  is = rw (put_alone v m) refl;
-  good = field_good 0x11 (dict (entries_of (mode_pairs m))) (omega arith) (mode_good m) (mode_deep m);
-  spelled = whole_field 0x11 (dict (entries_of (mode_pairs m))) b (omega arith) (mode_spelled m b e);
-}
+begin_scanned v m b e = field_scanned _ 0x11 (dict (entries_of (mode_pairs m))) b (omega arith) (rw (put_alone m) refl) (mode_good m) (mode_deep m) (mode_spelled m b e)
+
+-- and of cells that come last
+pub cells_scanned : (v : Version) (f : Result Tree MsgFault) (tag : ℕ) (t : Tree) (b rest : List ℕ) → tag < 256 → (cell_put v t ≡ Ok t → f ≡ Ok (structure tag (tree_then t no_trees))) → rest ≡ [] → SpellsFront t rest b → IsGood t → depth t ≤ 31 → structures t ≡ []
+    → SpellsForm f (0xB1 ∷ tag ∷ b)
+cells_scanned v f tag t b rest small is none s g deep n =
+    field_scanned f tag t b small (is (put_itself v t g n)) g deep (subst (Spells t) (sym (s.2 ∙ ap (λ r. s.0 ++ r) none ∙ append-nil s.0)) s.1)
 
 -- a RUN, whose text is in UTF-8
 pub run_scanned : (v : Version) (s u : List ℕ) (ps : List (List ℕ × Tree)) (m : Mode) (b c d : List ℕ) → AreBytes b → u ≡ s → SpellsFront (text u) c b → IsGood (text u)
@@ -118,34 +110,16 @@ pub run_scanned : (v : Version) (s u : List ℕ) (ps : List (List ℕ × Tree)) 
     → d ≡ canon (dict (entries_of (mode_pairs m))) → SpellsForm (form_put v (request_contents (Run s ps m None))) (0xB3 ∷ 0x10 ∷ b)
 run_scanned v s u ps m b c d bytes same t tg p g deep n e = subst (λ x. SpellsForm (form_put v (request_contents (Run x ps m None))) (0xB3 ∷ 0x10 ∷ b)) same (record {
   value = structure 0x10 (tree_then (text u) (tree_then (dict (entries_of ps)) (tree_then (dict (entries_of (mode_pairs m))) no_trees)));
-  is = rw (put_alone v m, put_itself v (dict (entries_of ps)) g n) refl;
+  is = rw (put_alone m, put_itself v (dict (entries_of ps)) g n) refl;
   good = run_good u (dict (entries_of ps)) (dict (entries_of (mode_pairs m))) tg.plain g deep (mode_good m) (mode_deep m);
   spelled = three_spelled 0x10 (text u) (dict (entries_of ps)) (dict (entries_of (mode_pairs m))) b c d (omega arith) bytes t p (mode_spelled m d e);
 })
 
-pub success_scanned : (v : Version) (ms : List (List ℕ × Tree)) (b rest : List ℕ) → AreBytes b → rest ≡ [] → SpellsFront (dict (entries_of ms)) rest b → IsGood (dict (entries_of ms)) → depth (dict (entries_of ms)) ≤ 31 → structures (dict (entries_of ms)) ≡ []
-    → SpellsForm (form_put v (response_contents (Success ms))) (0xB1 ∷ 0x70 ∷ b)
-success_scanned v ms b rest bytes none s g deep n = record {
-  value = structure 0x70 (tree_then (dict (entries_of ms)) no_trees);
-  is = rw (put_itself v (dict (entries_of ms)) g n) refl;
-  good = field_good 0x70 (dict (entries_of ms)) (omega arith) g deep;
-  spelled = field_spelled 0x70 (dict (entries_of ms)) b rest (omega arith) bytes none s;
-}
-
-pub record_scanned : (v : Version) (cs : List Tree) (b rest : List ℕ) → AreBytes b → rest ≡ [] → SpellsFront (list (trees_of cs)) rest b → IsGood (list (trees_of cs)) → depth (list (trees_of cs)) ≤ 31 → structures (list (trees_of cs)) ≡ []
-    → SpellsForm (form_put v (response_contents (Record cs))) (0xB1 ∷ 0x71 ∷ b)
-record_scanned v cs b rest bytes none s g deep n = record {
-  value = structure 0x71 (tree_then (list (trees_of cs)) no_trees);
-  is = rw (put_itself v (list (trees_of cs)) g n) refl;
-  good = field_good 0x71 (list (trees_of cs)) (omega arith) g deep;
-  spelled = field_spelled 0x71 (list (trees_of cs)) b rest (omega arith) bytes none s;
-}
-
 -- what spells the form of a message stands for the message
 pub request_scanned : {E : Type 0} (v : Version) (b : List ℕ) (r : Result Request E) → IfOk r (λ x. SpellsForm (form_put v (request_contents (request_view x))) b) → IfOk r (λ x. Req v (request_view x) b)
-request_scanned v b (Ok x) h = record { value = h.value; good = h.good; spelled = h.spelled; says = told_back v (request_view x) h.value (request_back v x) h.is }
+request_scanned v b (Ok x) h = record { value = h.value; good = h.good; spelled = h.spelled; says = (asks_back v (request_view x) h.value (request_back v x) h.is).told }
 request_scanned v b (Err e) h = tt
 
 pub response_scanned : {E : Type 0} (v : Version) (b : List ℕ) (r : Result Response E) → IfOk r (λ x. SpellsForm (form_put v (response_contents (response_view x))) b) → IfOk r (λ x. Resp v (response_view x) b)
-response_scanned v b (Ok x) h = record { value = h.value; good = h.good; spelled = h.spelled; says = answered_back_told v (response_view x) h.value (response_back v x) h.is }
+response_scanned v b (Ok x) h = record { value = h.value; good = h.good; spelled = h.spelled; says = (tells_back v (response_view x) h.value (response_back v x) h.is).told }
 response_scanned v b (Err e) h = tt

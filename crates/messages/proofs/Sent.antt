@@ -1,34 +1,22 @@
 -- What is written of a message is a message of the wire, and is read as that message.
-use Rattle.std.proofs.Common.{◌≡◌, ◌<◌, ◌≤◌, ℕ, List, [], ◌∷◌, length, Bool, true, false, cond, nat_lt, Result, Ok, Err, refl, ap, subst, ◌∙◌, arith}
-use borrow.Author.Tests.{ltb-false}
-use Rattle.packstream.specs.declared.fault.Reason.{Reason}
+use Rattle.std.proofs.Common.{◌≡◌, ◌<◌, ◌≤◌, ℕ, List, [], ◌∷◌, length, Result, Ok, Err, refl, sym, ap, subst, ◌∙◌, arith}
 use Rattle.packstream.specs.Tree.{Tree, structure}
-use Rattle.packstream.specs.Canon.{canon}
-use Rattle.packstream.specs.Making.{first_fault, faults_in}
 use Rattle.packstream.specs.Spelling.{SpellsTree}
 use Rattle.wire.specs.declared.Version.{Version}
 use Rattle.wire.specs.Framing.{Item, Opening, Message, item_bytes}
 use Rattle.messages.specs.declared.fault.MsgFault.{MsgFault}
-use Rattle.messages.specs.declared.fault.MsgFault.TheVariants as fault
 use Rattle.messages.specs.Table.{Row, requests, responses}
 use Rattle.messages.specs.View.{RequestView, ResponseView}
 use Rattle.messages.specs.Reading.{◌>>=◌, Contents, contents_of_message, request_contents, response_contents}
 use Rattle.messages.specs.Messages.{Means, Req, Resp, request_held, response_held, request_of, response_of}
-use Rattle.messages.specs.Writing.{packed_by, spelling_within, spelling_of_tree, form_put, request_spelling, response_spelling}
+use Rattle.messages.specs.Writing.{spelling_of_tree, form_put, request_spelling, response_spelling}
 use Rattle.messages.specs.Arrivals.{run_of_result}
 use Rattle.messages.proofs.Meanings.{means_said, asked_back, answered_back}
+use Rattle.messages.proofs.Texts.{canon_is}
 
 -- A spelling is no longer than a message may be.
-short_by : (c : Bool) (s b : List ℕ) → nat_lt 65536 (length s) ≡ c → cond {A = Result (List ℕ) MsgFault} c (Err fault.Size) (Ok s) ≡ Ok b → length b ≤ 65536
-short_by true s b e h = absurd cc
-short_by false s b e h = let same : s ≡ b = cc in subst (λ (x : List ℕ). length x ≤ 65536) same (omega (arith, ltb-false _ _ e))
-
-pub short_packed : (t : Tree) (r : Result ℕ (Reason × ℕ)) (b : List ℕ) → (packed_by r t >>= spelling_within) ≡ Ok b → length b ≤ 65536
-short_packed t (Ok n) b h = short_by (nat_lt 65536 (length (canon t))) (canon t) b refl h
-short_packed t (Err e) b h = absurd cc
-
-short_put : (r : Result Tree MsgFault) (b : List ℕ) → (r >>= spelling_of_tree) ≡ Ok b → length b ≤ 65536
-short_put (Ok t) b h = short_packed t (first_fault (faults_in 0 false t) 0) b h
+pub short_put : (r : Result Tree MsgFault) (b : List ℕ) → (r >>= spelling_of_tree) ≡ Ok b → length b ≤ 65536
+short_put (Ok t) b h = let p = canon_is t b h in subst (λ (x : List ℕ). length x ≤ 65536) (sym p.0) p.1
 short_put (Err e) b h = absurd cc
 
 -- What stands for a message has bytes.

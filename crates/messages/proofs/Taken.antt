@@ -52,8 +52,6 @@ module _ (M A : Type 0) (e : End M A) (IsLast : A → Type 0) (idle : IsLast e.i
   goes_on a xs ys n h (inr x) = ap (λ l. a ∷ l) (h x)
 
   in_ended : (v : Version) (xs ys : List Item) → Ended IsLast (taken_in e v xs) → taken_in e v (xs ++ ys) ≡ taken_in e v xs
-  in_ended v [] ys h = absurd h
-  in_ended v (Opening bytes ∷ xs) ys h = absurd h
   in_ended v (Noop ∷ xs) ys h = goes_on e.idle (taken_in e v xs) (taken_in e v (xs ++ ys)) idle (in_ended v xs ys) h
   in_ended v (Message b ∷ xs) ys h = go (e.read v b) (in_ended v xs ys) h
     where
@@ -61,6 +59,7 @@ module _ (M A : Type 0) (e : End M A) (IsLast : A → Type 0) (idle : IsLast e.i
       go (Ok m) k x = goes_on (e.message m) (taken_in e v xs) (taken_in e v (xs ++ ys)) (message m) k x
       go (Err f) k x = refl
   in_ended v (TooBig ∷ xs) ys h = refl
+  in_ended v xs ys h = absurd h
 
   by_ended : (a : A) (o : Option Version) → e.version a ≡ o → (xs ys : List Item) → Ended IsLast (a ∷ taken_by e o xs) → a ∷ taken_by e o (xs ++ ys) ≡ a ∷ taken_by e o xs
   by_ended a (Some v) s xs ys h = goes_on a (taken_in e v xs) (taken_in e v (xs ++ ys)) (opened a v s) (in_ended v xs ys) h
@@ -68,8 +67,5 @@ module _ (M A : Type 0) (e : End M A) (IsLast : A → Type 0) (idle : IsLast e.i
 
   -- nothing more is taken
   pub items_ended : (xs ys : List Item) → Ended IsLast (taken e xs) → taken e (xs ++ ys) ≡ taken e xs
-  items_ended [] ys h = absurd h
   items_ended (Opening bytes ∷ xs) ys h = by_ended (e.opening bytes) (e.version (e.opening bytes)) refl xs ys h
-  items_ended (Noop ∷ xs) ys h = absurd h
-  items_ended (Message b ∷ xs) ys h = absurd h
-  items_ended (TooBig ∷ xs) ys h = absurd h
+  items_ended xs ys h = absurd h

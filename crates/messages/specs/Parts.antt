@@ -5,13 +5,16 @@ use Rattle.packstream.specs.declared.value.Value.{Value}
 use Rattle.packstream.specs.Tree.{Tree, null, int, text, list, dict, structure, Trees, no_trees, tree_then, Entries}
 use Rattle.packstream.specs.View.{tree, entries_of}
 use Rattle.wire.specs.declared.Version.{Version}
+use Rattle.wire.specs.declared.Version.TheVariants.{V51}
 use Rattle.messages.specs.declared.fault.MsgFault.{MsgFault}
 use Rattle.messages.specs.declared.fault.MsgFault.TheVariants as fault
 use Rattle.messages.specs.declared.request.Mode.{Mode}
 use Rattle.messages.specs.declared.request.Mode.TheVariants.{Read, Write}
+use Rattle.messages.specs.declared.request.Count.{Count}
 use Rattle.wire.specs.Versions.{every_version}
-use Rattle.messages.specs.Table.{credentials, RUN}
-use Rattle.messages.specs.Reading.{◌>>=◌, Contents, contents, is_token, lookup, contents_of_mode, contents_of_metadata, contents_of_named, cell_of_field}
+use Rattle.messages.specs.Table.{credentials, of_transaction, how_many, RUN}
+use Rattle.messages.specs.Reading.{◌>>=◌, Contents, contents, is_token, lookup, contents_of_mode, contents_of_metadata, contents_of_named, cell_of_field, mode_tree, token_tree, count_tree}
+use Rattle.messages.specs.Writing.{named_put}
 
 -- a value that may be there, seen as its tree
 abbrev pub Seen : Option (Bor Value) → Option Tree → Type 0
@@ -60,9 +63,9 @@ run_parts (tree_then (text s) (tree_then (dict ps) (tree_then (dict es) no_trees
     Ok (parts s (dict ps) es)
 run_parts ts = Err fault.Fields
 
--- who a client is
-abbrev pub contents_of_login : Version → Entries → Result (List Tree) MsgFault
-contents_of_login v es = contents_of_named v (credentials every_version) es
+-- who a client is, the same at each version
+abbrev pub contents_of_login : Entries → Result (List Tree) MsgFault
+contents_of_login es = contents_of_named V51 (credentials every_version) es
 
 -- the bytes of a field that is a text; another kind is a fault
 abbrev pub field_text : Tree → Result (List ℕ) MsgFault
@@ -100,6 +103,14 @@ contents_of_run v s t es =
 -- a structure of one dictionary with these entries
 abbrev pub with_dict : ℕ → Result Entries MsgFault → Result Tree MsgFault
 with_dict tag r = r >>= λ es. Ok (structure tag (tree_then (dict es) no_trees))
+
+-- the entries that each version writes of a mode and a token
+abbrev pub transaction_put : Mode → Option (List ℕ) → Result Entries MsgFault
+transaction_put m token = named_put V51 of_transaction (mode_tree m ∷ token_tree token ∷ [])
+
+-- the entries that each version writes of a count of rows
+abbrev pub rows_put : Count → Result Entries MsgFault
+rows_put c = named_put V51 how_many (count_tree c ∷ [])
 
 -- the entry of a mode, where it is written
 abbrev pub mode_pairs : Mode → List (List ℕ × Tree)

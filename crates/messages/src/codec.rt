@@ -12,7 +12,7 @@ ghost use Rattle.messages.specs.Messages.{Req, Resp, NoRequest, NoResponse, Gave
 ghost use Rattle.messages.specs.Writing.{Appends, spelling_within, spelling_of_tree, request_spelling, response_spelling};
 
 use crate::fault::MsgFault;
-use crate::of_packed;
+use crate::reader::{request_of_value, response_of_value};
 use crate::request::Request;
 use crate::response::Response;
 use crate::scan::{scan_request, scan_response};
@@ -31,7 +31,7 @@ fn request_in(alloc: Global, version: Version, bytes: &[u8]) -> Result<Request, 
         return Ok(request);
     }
     let packed = decode(alloc, bytes)?;
-    of_packed::request_of(alloc, version, &packed)
+    request_of_value(alloc, version, packed.value())
 }
 
 fn response_in(alloc: Global, version: Version, bytes: &[u8]) -> Result<Response, MsgFault>
@@ -42,7 +42,7 @@ fn response_in(alloc: Global, version: Version, bytes: &[u8]) -> Result<Response
         return Ok(response);
     }
     let packed = decode(alloc, bytes)?;
-    of_packed::response_of(alloc, version, &packed)
+    response_of_value(alloc, version, packed.value())
 }
 
 /// The request of the bytes of one message, without chunks (Bolt message specification).

@@ -37,21 +37,6 @@ pub(crate) fn text_in(pairs: &[(String, Value)], name: &str) -> Result<String, M
     }
 }
 
-fn mode_of(value: &Value) -> Result<Mode, MsgFault>
-    ensures { Answers (λ m. mode_tree m ∷ []) result (contents_of_mode (Some (tree value.now))) }
-{
-    let Value::Text(text) = value else {
-        return Err(MsgFault::Extra);
-    };
-    if text.as_str() == "r" {
-        return Ok(Mode::Read);
-    }
-    if text.as_str() == "w" {
-        return Ok(Mode::Write);
-    }
-    Err(MsgFault::Extra)
-}
-
 /// The mode, to write where it is absent.
 pub(crate) fn mode_in(pairs: &[(String, Value)]) -> Result<Mode, MsgFault>
     ensures { Answers (λ m. mode_tree m ∷ []) result
@@ -59,7 +44,16 @@ pub(crate) fn mode_in(pairs: &[(String, Value)]) -> Result<Mode, MsgFault>
 {
     match entry(pairs, "mode") {
         None => Ok(Mode::Write),
-        Some(value) => mode_of(value),
+        Some(Value::Text(text)) => {
+            if text.as_str() == "r" {
+                return Ok(Mode::Read);
+            }
+            if text.as_str() == "w" {
+                return Ok(Mode::Write);
+            }
+            Err(MsgFault::Extra)
+        }
+        Some(_) => Err(MsgFault::Extra),
     }
 }
 
@@ -94,6 +88,7 @@ fn token_among(words: &[(String, Value)]) -> Result<Option<String>, MsgFault>
     }
 }
 
+#[tactic(auto, using(packstream::proofs::Putting::tree_of_dict))]
 fn token_within(value: &Value) -> Result<Option<String>, MsgFault>
     ensures { Answers (λ t. token_tree (token_view t) ∷ []) result
         (contents_of_metadata (Some (tree value.now))) }
@@ -115,33 +110,6 @@ pub(crate) fn token_in(pairs: &[(String, Value)]) -> Result<Option<String>, MsgF
     }
 }
 
-fn count_of(value: &Value) -> Result<Count, MsgFault>
-    ensures { Answers (λ c. count_tree c ∷ []) result (contents_of_count (Some (tree value.now))) }
-{
-    let Value::Int(n) = value else {
-        return Err(MsgFault::Extra);
-    };
-    if *n == -1 {
-        return Ok(Count::All);
-    }
-    if *n >= 1 {
-        return Ok(Count::Of(*n));
-    }
-    Err(MsgFault::Extra)
-}
-
-fn query_of(value: &Value) -> Result<(), MsgFault>
-    ensures { Answers (λ _. []) result (contents_of_query (Some (tree value.now))) }
-{
-    let Value::Int(n) = value else {
-        return Err(MsgFault::Extra);
-    };
-    if *n != -1 {
-        return Err(MsgFault::Extra);
-    }
-    Ok(())
-}
-
 /// That the last query is meant, if one is named.
 fn query_in(pairs: &[(String, Value)]) -> Result<(), MsgFault>
     ensures { Answers (λ _. []) result
@@ -149,7 +117,8 @@ fn query_in(pairs: &[(String, Value)]) -> Result<(), MsgFault>
 {
     match entry(pairs, "qid") {
         None => Ok(()),
-        Some(value) => query_of(value),
+        Some(Value::Int(n)) if *n == -1 => Ok(()),
+        Some(_) => Err(MsgFault::Extra),
     }
 }
 
@@ -158,8 +127,16 @@ fn number_in(pairs: &[(String, Value)]) -> Result<Count, MsgFault>
         (contents_of_count (lookup (codes "n") (entries_of (entries pairs.now)))) }
 {
     match entry(pairs, "n") {
-        None => Err(MsgFault::Extra),
-        Some(value) => count_of(value),
+        Some(Value::Int(n)) => {
+            if *n == -1 {
+                return Ok(Count::All);
+            }
+            if *n >= 1 {
+                return Ok(Count::Of(*n));
+            }
+            Err(MsgFault::Extra)
+        }
+        _ => Err(MsgFault::Extra),
     }
 }
 
@@ -191,9 +168,8 @@ pub(crate) fn count_in(pairs: &[(String, Value)]) -> Result<Count, MsgFault>
 
 /// Who a client is.
 pub(crate) fn auth_of(pairs: &[(String, Value)]) -> Result<Auth, MsgFault>
-    ensures { (v : AnyVersion)
-        → Answers (λ a. login_trees (login a)) result
-        (contents_of_login v (entries_of (entries pairs.now))) }
+    ensures { Answers (λ a. login_trees (login a)) result
+        (contents_of_login (entries_of (entries pairs.now))) }
 {
     let scheme = text_in(pairs, "scheme")?;
     let principal = text_in(pairs, "principal")?;

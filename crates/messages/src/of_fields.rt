@@ -19,6 +19,7 @@ fn cell_in(alloc: Global, version: Version, field: &Value) -> Result<Cell, MsgFa
 }
 
 /// The entries of a cell that is a dictionary.
+#[tactic(auto, using(speller::proofs::Flat::shape_of_dict))]
 fn entries_of_cell(cell: Cell) -> Result<Vec<(String, Cell)>, MsgFault>
     ensures { Answers (λ v. dict (entries_of (entries v.items))) result (as_dict (shape cell)) }
 {

@@ -7,7 +7,7 @@ ghost use Rattle.wire.specs.declared.Version.{Version as AnyVersion};
 ghost use Rattle.wire.specs.Versions.{every_version};
 ghost use Rattle.messages.specs.Table.{ignored, refused, extra, text_field, cells, cell_list, hello, credentials, of_transaction, how_many, of_error, HELLO, LOGON, LOGOFF, GOODBYE, RESET, RUN, BEGIN, COMMIT, ROLLBACK, DISCARD, PULL, SUCCESS, RECORD, IGNORED, FAILURE, requests, responses};
 ghost use Rattle.messages.specs.View.{request_view, response_view};
-ghost use Rattle.messages.specs.Reading.{contents, Answers, contents_of_row, contents_at_tag, request_contents, response_contents};
+ghost use Rattle.messages.specs.Reading.{contents, Answers, contents_of_row, contents_at_tag, contents_of_message, request_contents, response_contents};
 ghost use Rattle.messages.specs.Parts.{contents_of_plain, contents_of_run, entries_of_dict, members_of_list, only_dict, parts, run_parts, field_text, no_field, one_field};
 
 use crate::entries::{auth_of, count_in, mode_in, text_in, token_in};
@@ -21,6 +21,7 @@ use std::alloc::Global;
 use wire::Version;
 
 /// No field.
+#[tactic(auto, using(crate::proofs::Fields::some_field))]
 fn none(fields: &[Value]) -> Result<(), MsgFault>
     ensures { Answers (λ _. tt) result (no_field (trees_of (trees fields.now))) }
 {
@@ -32,6 +33,7 @@ fn none(fields: &[Value]) -> Result<(), MsgFault>
 }
 
 /// One field.
+#[tactic(auto, using(crate::proofs::Fields::not_one))]
 fn one(fields: &[Value]) -> Result<&Value, MsgFault>
     ensures { Answers (λ x. tree x.now) result (one_field (trees_of (trees fields.now))) }
 {
@@ -42,6 +44,7 @@ fn one(fields: &[Value]) -> Result<&Value, MsgFault>
 }
 
 /// A dictionary.
+#[tactic(auto, using(packstream::proofs::Putting::tree_of_dict))]
 fn entries_in(field: &Value) -> Result<&[(String, Value)], MsgFault>
     ensures { Answers (λ x. entries_of (value_entries x.now)) result
         (entries_of_dict (tree field.now)) }
@@ -81,7 +84,7 @@ fn plain(request: Request, fields: &[Value]) -> Result<Request, MsgFault>
 }
 
 /// HELLO: the client's name, and who it is where the version tells that with it.
-#[tactic(auto, using(crate::proofs::Rows::extra_row))]
+#[tactic(auto, using(crate::proofs::Rows::extra_row, crate::proofs::Rows::login_here))]
 fn hello_of(version: Version, fields: &[Value]) -> Result<Request, MsgFault>
     ensures { Answers (λ r. request_contents (request_view r)) result
         (contents_of_row version HELLO (extra ignored hello ∷ [])
@@ -196,6 +199,7 @@ fn text_in_field(field: &Value) -> Result<&str, MsgFault>
 }
 
 /// The text, the parameters and the other entries of a RUN.
+#[tactic(auto, using(crate::proofs::Fields::not_three))]
 fn run_fields(fields: &[Value]) -> Result<(&str, &Value, &[(String, Value)]), MsgFault>
     ensures { Answers
         (λ x. parts x.0.now (tree x.1.now) (entries_of (value_entries x.2.now)))
@@ -245,7 +249,7 @@ fn run_of(alloc: Global, version: Version, fields: &[Value]) -> Result<Request, 
 
 /// The request of a structure with this tag and these fields.
 #[tactic(auto, using(crate::proofs::Rows::none_row))]
-pub(crate) fn request_tagged(
+fn request_tagged(
     alloc: Global,
     version: Version,
     tag: u8,
@@ -270,18 +274,35 @@ pub(crate) fn request_tagged(
     }
 }
 
-/// The response of a structure with this tag and these fields.
-#[tactic(auto, using(crate::proofs::Rows::none_row))]
-pub(crate) fn response_tagged(
+/// The request of a value, by the table of requests.
+pub(crate) fn request_of_value(
     alloc: Global,
     version: Version,
-    tag: u8,
-    fields: &[Value],
+    value: &Value,
+) -> Result<Request, MsgFault>
+    ensures { Answers (λ r. request_contents (request_view r)) result
+        (contents_of_message version requests (tree value.now)) }
+{
+    match value {
+        Value::Struct(tag, fields) => request_tagged(alloc, version, *tag, fields),
+        _ => Err(MsgFault::NotAMessage),
+    }
+}
+
+/// The response of a value, by the table of responses.
+#[tactic(auto, using(crate::proofs::Rows::none_row))]
+pub(crate) fn response_of_value(
+    alloc: Global,
+    version: Version,
+    value: &Value,
 ) -> Result<Response, MsgFault>
     ensures { Answers (λ r. response_contents (response_view r)) result
-        (contents_at_tag version responses tag (trees_of (trees fields.now))) }
+        (contents_of_message version responses (tree value.now)) }
 {
-    match tag {
+    let Value::Struct(tag, fields) = value else {
+        return Err(MsgFault::NotAMessage);
+    };
+    match *tag {
         tags::SUCCESS => success_of(alloc, version, fields),
         tags::RECORD => record_of(alloc, version, fields),
         tags::IGNORED => ignored_of(fields),

@@ -104,6 +104,7 @@ fn discard_of(bytes: &[u8]) -> Result<Request, Unscanned>
 }
 
 /// A BEGIN behind its head.
+#[tactic(auto, using(crate::proofs::Scanned::begin_scanned))]
 fn begin_of(bytes: &[u8]) -> Result<Request, Unscanned>
     ensures { (v : AnyVersion)
         → IfOk result (λ r. SpellsForm (form_put v (request_contents (request_view r)))

@@ -8,11 +8,11 @@ ghost use Rattle.packstream.specs.Limits.{max_size};
 ghost use Rattle.packstream.specs.View.{entries_of};
 ghost use Rattle.cells.specs.Shape.{entries, shapes};
 ghost use Rattle.messages.specs.Added.{Adds, AddsEntries};
-ghost use Rattle.messages.specs.Parts.{with_dict, mode_pairs};
-ghost use Rattle.messages.specs.Reading.{request_contents, response_contents, mode_tree, token_tree, count_tree};
-ghost use Rattle.messages.specs.Table.{begin_tag, how_many, of_transaction};
+ghost use Rattle.messages.specs.Parts.{with_dict, transaction_put, rows_put, mode_pairs};
+ghost use Rattle.messages.specs.Reading.{request_contents, response_contents};
+ghost use Rattle.messages.specs.Table.{begin_tag};
 ghost use Rattle.messages.specs.View.{request_view, response_view, token_view, Run, Success, Record};
-ghost use Rattle.messages.specs.Writing.{form_put, named_put};
+ghost use Rattle.messages.specs.Writing.{form_put};
 ghost use Rattle.wire.specs.declared.Version.{Version as AnyVersion};
 
 use crate::request::{Count, Mode, Request};
@@ -38,6 +38,7 @@ fn put_structure(out: &mut Adding, count: u8, tag: u8) -> Result<(), Unspelled>
 }
 
 /// A structure without fields.
+#[tactic(auto, using(crate::proofs::Added::plain_added))]
 fn put_plain(out: &mut Adding, tag: u8) -> Result<(), Unspelled>
     ensures before { out.new.before ≡ out.old.before }
     ensures adds { OnOk result (Adds (Ok (structure tag no_trees)) out.old.more out.new.more) }
@@ -63,9 +64,7 @@ fn put_rows(out: &mut Adding, number: i64) -> Result<(), Unspelled>
 /// The entry of a count.
 fn put_number(out: &mut Adding, count: Count) -> Result<(), Unspelled>
     ensures before { out.new.before ≡ out.old.before }
-    ensures adds { (v : AnyVersion)
-        → OnOk result (AddsEntries (named_put v how_many (count_tree count ∷ []))
-        out.old.more out.new.more) }
+    ensures adds { OnOk result (AddsEntries (rows_put count) out.old.more out.new.more) }
 {
     let Ok(number) = number_of(count) else {
         return Err(Unspelled);
@@ -75,11 +74,11 @@ fn put_number(out: &mut Adding, count: Count) -> Result<(), Unspelled>
 }
 
 /// A structure of a count.
+#[tactic(auto, using(crate::proofs::Added::in_dict))]
 fn put_count(out: &mut Adding, tag: u8, count: Count) -> Result<(), Unspelled>
     ensures before { out.new.before ≡ out.old.before }
-    ensures adds { (v : AnyVersion)
-        → OnOk result (Adds (with_dict tag (named_put v how_many (count_tree count ∷ [])))
-        out.old.more out.new.more) }
+    ensures adds { OnOk result
+        (Adds (with_dict tag (rows_put count)) out.old.more out.new.more) }
 {
     put_structure(out, 1, tag)?;
     put_number(out, count)?;
@@ -107,10 +106,8 @@ fn put_mode(out: &mut Adding, mode: Mode) -> Result<(), Unspelled>
 /// The entries of a transaction without a token.
 fn put_transaction(out: &mut Adding, mode: Mode, token: &Option<String>) -> Result<(), Unspelled>
     ensures before { out.new.before ≡ out.old.before }
-    ensures adds { (v : AnyVersion)
-        → OnOk result (AddsEntries
-        (named_put v of_transaction (mode_tree mode ∷ token_tree (token_view token.now) ∷ []))
-        out.old.more out.new.more) }
+    ensures adds { OnOk result
+        (AddsEntries (transaction_put mode (token_view token.now)) out.old.more out.new.more) }
 {
     match token {
         None => {
@@ -121,11 +118,11 @@ fn put_transaction(out: &mut Adding, mode: Mode, token: &Option<String>) -> Resu
     }
 }
 
+#[tactic(auto, using(crate::proofs::Added::in_dict))]
 fn put_begin(out: &mut Adding, mode: Mode, token: &Option<String>) -> Result<(), Unspelled>
     ensures before { out.new.before ≡ out.old.before }
-    ensures adds { (v : AnyVersion)
-        → OnOk result (Adds (with_dict begin_tag
-        (named_put v of_transaction (mode_tree mode ∷ token_tree (token_view token.now) ∷ [])))
+    ensures adds { OnOk result
+        (Adds (with_dict begin_tag (transaction_put mode (token_view token.now)))
         out.old.more out.new.more) }
 {
     put_structure(out, 1, tags::BEGIN)?;

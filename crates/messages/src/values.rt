@@ -4,10 +4,10 @@ ghost use Rattle.packstream.specs.Tree.{int, text, dict, list, structure, no_tre
 ghost use Rattle.packstream.specs.View.{tree, trees_of, entries as value_entries, entries_of};
 ghost use Rattle.cells.specs.Shape.{entries, shapes, text_of};
 ghost use Rattle.messages.specs.View.{request_view, response_view, auth_in, auth_view, token_view, Hello, Logon, Logoff, Run, Success, Record, Failure};
-ghost use Rattle.messages.specs.Table.{how_many, of_transaction, run_tag, begin_tag};
-ghost use Rattle.messages.specs.Reading.{Answers, request_contents, response_contents, mode_tree, token_tree, count_tree};
-ghost use Rattle.messages.specs.Writing.{form_put, named_put};
-ghost use Rattle.messages.specs.Parts.{with_dict, mode_pairs, token_dict, token_pairs, count_number};
+ghost use Rattle.messages.specs.Table.{run_tag, begin_tag};
+ghost use Rattle.messages.specs.Reading.{Answers, request_contents, response_contents, count_tree};
+ghost use Rattle.messages.specs.Writing.{form_put};
+ghost use Rattle.messages.specs.Parts.{with_dict, transaction_put, rows_put, mode_pairs, token_dict, token_pairs, count_number};
 ghost use Rattle.messages.specs.Cells.{cell_put};
 ghost use Rattle.wire.specs.declared.Version.{Version as AnyVersion};
 ghost use Rattle.wire.specs.Versions.{hello_has_login};
@@ -61,7 +61,7 @@ fn of_one(alloc: Global, tag: u8, field: Value) -> Result<Value, AllocError>
 }
 
 /// A structure of one dictionary.
-#[tactic(auto, using(crate::proofs::Fields::tree_of_dict))]
+#[tactic(auto, using(packstream::proofs::Putting::tree_of_dict))]
 fn of_dict(alloc: Global, tag: u8, pairs: Vec<(String, Value)>) -> Result<Value, AllocError>
     ensures { IfOk result (λ w. tree w
         ≡ structure tag (tree_then (dict (entries_of (value_entries pairs.items))) no_trees)) }
@@ -144,7 +144,7 @@ fn mode_entries(alloc: Global, mode: Mode) -> Result<Vec<(String, Value)>, Alloc
 }
 
 /// A dictionary of a token alone.
-#[tactic(auto, using(crate::proofs::Fields::tree_of_dict))]
+#[tactic(auto, using(packstream::proofs::Putting::tree_of_dict))]
 fn token_value(alloc: Global, token: &String) -> Result<Value, AllocError>
     ensures { IfOk result (λ w. tree w ≡ token_dict (string_bytes token.now)) }
 {
@@ -173,9 +173,8 @@ fn transaction_entries(
     mode: Mode,
     token: &Option<String>,
 ) -> Result<Vec<(String, Value)>, MsgFault>
-    ensures { (v : AnyVersion)
-        → Answers (λ pairs. entries_of (value_entries pairs.items)) result
-        (named_put v of_transaction (mode_tree mode ∷ token_tree (token_view token.now) ∷ [])) }
+    ensures { Answers (λ pairs. entries_of (value_entries pairs.items)) result
+        (transaction_put mode (token_view token.now)) }
 {
     match token {
         None => Ok(mode_entries(alloc, mode)?),
@@ -184,9 +183,8 @@ fn transaction_entries(
 }
 
 fn begin_value(alloc: Global, mode: Mode, token: &Option<String>) -> Result<Value, MsgFault>
-    ensures { (v : AnyVersion)
-        → Answers tree result (with_dict begin_tag
-        (named_put v of_transaction (mode_tree mode ∷ token_tree (token_view token.now) ∷ []))) }
+    ensures { Answers tree result
+        (with_dict begin_tag (transaction_put mode (token_view token.now))) }
 {
     let pairs = transaction_entries(alloc, mode, token)?;
     Ok(of_dict(alloc, tags::BEGIN, pairs)?)
@@ -204,8 +202,7 @@ pub(crate) fn number_of(count: Count) -> Result<i64, MsgFault>
 
 /// A structure of a count.
 fn count_value(alloc: Global, tag: u8, count: Count) -> Result<Value, MsgFault>
-    ensures { (v : AnyVersion)
-        → Answers tree result (with_dict tag (named_put v how_many (count_tree count ∷ []))) }
+    ensures { Answers tree result (with_dict tag (rows_put count)) }
 {
     let number = number_of(count)?;
     let mut pairs = Vec::new(alloc);

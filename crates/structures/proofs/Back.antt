@@ -1,10 +1,10 @@
 -- What is written is read back, and what is read is written back.
 use Rattle.std.proofs.Common.{◌≡◌, ℕ, ℤ, ◌+ℤ◌, ◌-ℤ◌, Bool, true, false, not, cond, ◌==◌, None, refl, sym, ap, ◌∙◌, arith, eqb-true, subst}
 use Rattle.std.proofs.lemmas.Int.{ints}
-use Rattle.packstream.specs.Tree.{Tree, null, boolean, int, float, byte_string, text, list, dict, structure, Trees, no_trees, tree_then, Entries, no_entries, entry_then}
+use Rattle.packstream.specs.Tree.{Tree, int, list, dict, structure, Trees, no_trees, tree_then, Entries, no_entries, entry_then}
 use Rattle.packstream.specs.Good.{count}
 use Rattle.wire.specs.declared.Version.{Version}
-use Rattle.wire.specs.declared.Version.TheVariants.{V44, V50, V51}
+use Rattle.wire.specs.declared.Version.TheVariants.{V44}
 use Rattle.cells.specs.Table.{row_in, table}
 use Rattle.cells.specs.Faults.{moment_fields, is_int, are_kinds, to_utc, fault, structures, structures_in, structures_under}
 use Rattle.cells.specs.Steps.{all_fine}
@@ -27,8 +27,7 @@ local_back us = refl
 
 moment_back : (v : Version) (us : Trees) → typed (moment v us) ≡ structure 0x49 (typed_all us)
 moment_back V44 us = ap (λ ts. structure 0x49 ts) (local_back us)
-moment_back V50 us = refl
-moment_back V51 us = refl
+moment_back v us = refl
 
 plain_back : (tag : ℕ) (us : Trees) (b : Bool) → (tag == 0x46) ≡ b → not b ≡ true → typed (structure tag us) ≡ structure tag (typed_all us)
 plain_back tag us true e h = absurd cc
@@ -40,15 +39,10 @@ written_back v tag us false e h = plain_back tag us (tag == 0x46) refl h
 
 mutual
   pub back : (v : Version) (t : Tree) → is_typed t ≡ true → typed (form v t) ≡ t
-  back v null h = refl
-  back v (boolean b) h = refl
-  back v (int z) h = refl
-  back v (float n) h = refl
-  back v (byte_string s) h = refl
-  back v (text s) h = refl
   back v (list ts) h = ap list (back_all v ts h)
   back v (dict es) h = ap dict (back_under v es h)
   back v (structure tag ts) h = written_back v tag (form_all v ts) (tag == 0x49) refl (and_left (not (tag == 0x46)) _ h) ∙ ap (λ us. structure tag us) (back_all v ts (and_right (is_row (row_in tag table) ts) _ (and_right (not (tag == 0x46)) _ h)))
+  back v t h = refl
 
   pub back_all : (v : Version) (ts : Trees) → are_typed ts ≡ true → typed_all (form_all v ts) ≡ ts
   back_all v no_trees h = refl
@@ -60,14 +54,7 @@ mutual
 
 pub an_int : (t : Tree) → is_int t ≡ true → (z : ℤ) × (t ≡ int z)
 an_int (int z) h = (z, refl)
-an_int null h = absurd cc
-an_int (boolean b) h = absurd cc
-an_int (float n) h = absurd cc
-an_int (byte_string s) h = absurd cc
-an_int (text s) h = absurd cc
-an_int (list ts) h = absurd cc
-an_int (dict es) h = absurd cc
-an_int (structure tag ts) h = absurd cc
+an_int t h = absurd cc
 
 -- the three numbers of a DateTime
 pub record Three (ts : Trees) : Type 0 where
@@ -80,12 +67,10 @@ from_ints : (t u w : Tree) (x : (z : ℤ) × (t ≡ int z)) (y : (z : ℤ) × (u
 from_ints t u w x y z = record { first = x.0; second = y.0; third = z.0; are = rw (x.1, y.1, z.1) refl }
 
 pub three_ints : (ts : Trees) → count ts ≡ 3 → are_kinds moment_fields ts ≡ true → Three ts
-three_ints no_trees n h = absurd cc
-three_ints (tree_then t no_trees) n h = absurd cc
-three_ints (tree_then t (tree_then u no_trees)) n h = absurd cc
 three_ints (tree_then t (tree_then u (tree_then w no_trees))) n h =
     from_ints t u w (an_int t (and_left (is_int t) _ h)) (an_int u (and_left (is_int u) _ (and_right (is_int t) _ h))) (an_int w (and_left (is_int w) _ (and_right (is_int u) _ (and_right (is_int t) _ h))))
 three_ints (tree_then t (tree_then u (tree_then w (tree_then x ts)))) n h = absurd (omega (arith, n))
+three_ints ts n h = absurd cc
 
 utc_there : (ts : Trees) → count ts ≡ 3 → are_kinds moment_fields ts ≡ true → to_local (form_all V44 (to_utc (typed_all ts))) ≡ ts
 utc_there ts n h =
@@ -94,13 +79,11 @@ utc_there ts n h =
 
 local_again : (v : Version) (ts : Trees) → fault v 0x46 ts ≡ None → form v (typed (structure 0x46 ts)) ≡ structure 0x46 ts
 local_again V44 ts h = let p = passed V44 0x46 ts moment_fields refl h in ap (λ us. structure 0x46 us) (utc_there ts p.counted p.kinded)
-local_again V50 ts h = absurd cc
-local_again V51 ts h = absurd cc
+local_again v ts h = absurd cc
 
 utc_again : (v : Version) (ts us : Trees) → fault v 0x49 ts ≡ None → us ≡ ts → moment v us ≡ structure 0x49 ts
 utc_again V44 ts us h e = absurd cc
-utc_again V50 ts us h e = ap (λ x. structure 0x49 x) e
-utc_again V51 ts us h e = ap (λ x. structure 0x49 x) e
+utc_again v ts us h e = ap (λ x. structure 0x49 x) e
 
 plain_again : (v : Version) (tag : ℕ) (ts us : Trees) (b : Bool) → (tag == 0x49) ≡ b → fault v tag ts ≡ None → us ≡ ts → cond b (moment v us) (structure tag us) ≡ structure tag ts
 plain_again v tag ts us true e h i = subst (λ n. fault v n ts ≡ None → moment v us ≡ structure n ts) (sym (eqb-true _ _ e)) (λ g. utc_again v ts us g i) h
@@ -112,15 +95,10 @@ structure_again v tag ts false e h i = plain_again v tag ts (form_all v (typed_a
 
 mutual
   pub again : (v : Version) (t : Tree) → all_fine (fault v) (structures t) ≡ true → form v (typed t) ≡ t
-  again v null h = refl
-  again v (boolean b) h = refl
-  again v (int z) h = refl
-  again v (float n) h = refl
-  again v (byte_string s) h = refl
-  again v (text s) h = refl
   again v (list ts) h = ap list (again_all v ts h)
   again v (dict es) h = ap dict (again_under v es h)
   again v (structure tag ts) h = structure_again v tag ts (tag == 0x46) refl (fine_itself (fault v) tag ts h) (again_all v ts (fine_within (fault v) tag ts h))
+  again v t h = refl
 
   pub again_all : (v : Version) (ts : Trees) → all_fine (fault v) (structures_in ts) ≡ true → form_all v (typed_all ts) ≡ ts
   again_all v no_trees h = refl

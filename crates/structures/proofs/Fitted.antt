@@ -1,9 +1,9 @@
 -- Cells in the form of a version, one level at a time.
-use Rattle.std.proofs.Common.{◌≡◌, ℕ, ℤ, List, [], ◌∷◌, map, Option, Some, None, String, Vec, Box, Global, string_bytes, refl, sym, ap, ◌∙◌, rules}
+use Rattle.std.proofs.Common.{◌≡◌, ℕ, ℤ, List, [], ◌∷◌, map, Option, None, String, Vec, Box, Global, string_bytes, refl, sym, ap, ◌∙◌, rules}
 use Rattle.packstream.specs.Tree.{Tree, int, list, dict, structure, tree_then, entry_then}
 use Rattle.packstream.specs.View.{trees_of, entries_of}
 use Rattle.wire.specs.declared.Version.{Version}
-use Rattle.wire.specs.declared.Version.TheVariants.{V44, V50, V51}
+use Rattle.wire.specs.declared.Version.TheVariants.{V50, V51}
 use Rattle.cells.specs.declared.cell.Cell.{Cell, List as ListCase, Dict as DictCase, Node as NodeCase, Relationship as RelationshipCase, UnboundRelationship as UnboundCase, Path as PathCase, the_lemmas}
 use Rattle.cells.specs.declared.cell.Cell.TheViews.{out-roll-Path}
 use Rattle.cells.specs.declared.cell.Cell.TheOpen.{Node-F, UnboundRelationship-F, Relationship-F, Path-F}
@@ -34,30 +34,21 @@ fitted_numbers v (z ∷ zs) = ap (λ x. tree_then (int z) x) (fitted_numbers v z
 
 node_fitted : (v : Version) (id : ℤ) (labels : List (String Global)) (ps : List Pair) (e : Option (String Global))
     → structure 0x4E (tree_then (int id) (tree_then (texts_of labels) (tree_then (dict (entries_of (map (fitted_entry v) (entries ps)))) (element_at v id (element_of e))))) ≡ fitted v (node_parts id labels ps e)
-node_fitted V44 id labels ps None = rw (fitted_texts V44 labels, fitted_pairs V44 (entries ps)) refl
-node_fitted V44 id labels ps (Some s) = rw (fitted_texts V44 labels, fitted_pairs V44 (entries ps)) refl
 node_fitted V50 id labels ps None = rw (fitted_texts V50 labels, fitted_pairs V50 (entries ps)) refl
 node_fitted V51 id labels ps None = rw (fitted_texts V51 labels, fitted_pairs V51 (entries ps)) refl
-node_fitted V50 id labels ps (Some s) = rw (fitted_texts V50 labels, fitted_pairs V50 (entries ps)) refl
-node_fitted V51 id labels ps (Some s) = rw (fitted_texts V51 labels, fitted_pairs V51 (entries ps)) refl
+node_fitted v id labels ps e = rw (fitted_texts v labels, fitted_pairs v (entries ps)) refl
 
 unbound_fitted : (v : Version) (id : ℤ) (kind : String Global) (ps : List Pair) (e : Option (String Global))
     → structure 0x72 (tree_then (int id) (tree_then (text_of kind) (tree_then (dict (entries_of (map (fitted_entry v) (entries ps)))) (element_at v id (element_of e))))) ≡ fitted v (unbound_parts id kind ps e)
-unbound_fitted V44 id kind ps None = rw (fitted_pairs V44 (entries ps)) refl
-unbound_fitted V44 id kind ps (Some s) = rw (fitted_pairs V44 (entries ps)) refl
 unbound_fitted V50 id kind ps None = rw (fitted_pairs V50 (entries ps)) refl
 unbound_fitted V51 id kind ps None = rw (fitted_pairs V51 (entries ps)) refl
-unbound_fitted V50 id kind ps (Some s) = rw (fitted_pairs V50 (entries ps)) refl
-unbound_fitted V51 id kind ps (Some s) = rw (fitted_pairs V51 (entries ps)) refl
+unbound_fitted v id kind ps e = rw (fitted_pairs v (entries ps)) refl
 
 relationship_fitted : (v : Version) (id s d : ℤ) (kind : String Global) (ps : List Pair) (e : Option ElementIds)
     → structure 0x52 (tree_then (int id) (tree_then (int s) (tree_then (int d) (tree_then (text_of kind) (tree_then (dict (entries_of (map (fitted_entry v) (entries ps)))) (elements_at v id s d (elements_of e))))))) ≡ fitted v (relationship_parts id s d kind ps e)
-relationship_fitted V44 id s d kind ps None = rw (fitted_pairs V44 (entries ps)) refl
-relationship_fitted V44 id s d kind ps (Some x) = rw (fitted_pairs V44 (entries ps)) refl
 relationship_fitted V50 id s d kind ps None = rw (fitted_pairs V50 (entries ps)) refl
 relationship_fitted V51 id s d kind ps None = rw (fitted_pairs V51 (entries ps)) refl
-relationship_fitted V50 id s d kind ps (Some x) = rw (fitted_pairs V50 (entries ps)) refl
-relationship_fitted V51 id s d kind ps (Some x) = rw (fitted_pairs V51 (entries ps)) refl
+relationship_fitted v id s d kind ps e = rw (fitted_pairs v (entries ps)) refl
 
 pub fit_node_is : (v : Version) (x : Node-F Cell Node Path Relationship UnboundRelationship) (n : Node) → x.id ≡ n.id → map text_of x.labels.items ≡ map text_of n.labels.items → entries x.properties.items ≡ map (fitted_entry v) (entries n.properties.items) → element_of x.element_id ≡ element_at v n.id (element_of n.element_id)
     → node_shape (roll-Node x) ≡ fitted v (node_shape n)

@@ -42,14 +42,11 @@ got_tail i (k ∷ ks) (tree_then u us) t ts h = (h.0, got_tail (suc i) ks us t t
 -- fields read by a list of kinds are the structure's fields
 pub fields_are : (ks : List Field) (us ts : Trees) → count ts ≡ length ks → count us ≡ length ks → are_kinds ks ts ≡ true → Got 0 ks us ts → us ≡ typed_all ts
 fields_are [] no_trees no_trees n m h g = refl
-fields_are [] (tree_then u us) ts n m h g = absurd cc
-fields_are [] no_trees (tree_then t ts) n m h g = absurd cc
-fields_are (k ∷ ks) no_trees ts n m h g = absurd cc
-fields_are (k ∷ ks) (tree_then u us) no_trees n m h g = absurd cc
 fields_are (k ∷ ks) (tree_then u us) (tree_then t ts) n m h g =
     let e : u ≡ typed t = g.0 (and_left _ _ h) in
     let r = fields_are ks us ts (omega arith) (omega arith) (and_right _ _ h) (got_tail 0 ks us t ts g.1) in
     ap (λ x. tree_then x us) e ∙ ap (λ x. tree_then (typed t) x) r
+fields_are ks us ts n m h g = absurd cc
 
 pub first_none : (p : Bool) (r : Reason) (rest : Option Reason) → cond p rest (Some r) ≡ None → (p ≡ true) × (rest ≡ None)
 first_none true r rest h = (refl, h)
@@ -181,10 +178,9 @@ field_at zero (k ∷ ks) = Some k
 field_at (suc i) (k ∷ ks) = field_at i ks
 
 pub kind_at : (i : ℕ) (k : Field) (ks : List Field) (ts : Trees) → count ts ≡ length ks → are_kinds ks ts ≡ true → field_at i ks ≡ Some k → is_kind k (tree_at i ts) ≡ true
-kind_at i k [] ts n h e = absurd cc
-kind_at i k (x ∷ ks) no_trees n h e = absurd cc
 kind_at zero k (x ∷ ks) (tree_then t ts) n h e = let same : x ≡ k = cc in ap (λ y. is_kind y t) (sym same) ∙ and_left _ _ h
 kind_at (suc i) k (x ∷ ks) (tree_then t ts) n h e = kind_at i k ks ts (omega arith) (and_right _ _ h) e
+kind_at i k ks ts n h e = absurd cc
 
 -- three fields, and an element id where the version adds one
 pub named_by : (v : Version) (tag : ℕ) (ts : Trees) (k0 k1 k2 : Field) (u0 u1 u2 : Tree) (element : Trees) → row_in tag table ≡ Some (row tag every_version (k0 ∷ k1 ∷ k2 ∷ []) (Text ∷ [])) → fault v tag ts ≡ None

@@ -1,5 +1,5 @@
 -- What a value is read as is what the rows of the table lay out.
-use Rattle.std.proofs.Common.{◌≡◌, ℕ, zero, suc, ◌<◌, ℤ, pos, negsuc, neg_ℤ, nat_abs, ◌≤ℤ◌, int_le, nat_lt, nat_le, List, [], ◌∷◌, ◌++◌, length, Bool, true, false, cond, ◌&&◌, ◌==◌, Option, None, Some, Result, Ok, refl, ap, sym, subst, ◌∙◌, arith, eqb-true, ne_eqb}
+use Rattle.std.proofs.Common.{◌≡◌, ℕ, zero, suc, ◌<◌, ℤ, pos, neg_ℤ, nat_abs, ◌≤ℤ◌, int_le, nat_lt, nat_le, List, [], ◌∷◌, ◌++◌, length, Bool, true, false, cond, ◌&&◌, ◌==◌, Option, None, Some, Result, Ok, refl, ap, sym, subst, ◌∙◌, arith, eqb-true, ne_eqb}
 use Rattle.std.specs.Prelude.{Contains}
 use Rattle.std.proofs.lemmas.Int.{ints}
 use Rattle.std.proofs.lemmas.Bool.{leb-true, le-leb, ltb-true, lt-ltb}
@@ -53,40 +53,30 @@ kind_laid DayNanosecond t h r = from_int DayNanosecond t h r (λ z b. within_day
 kind_laid Offset t h r = from_int Offset t h r (λ z b. within_offset z (le_true _ _ (and_left (int_le (neg_ℤ (pos 64800)) z) _ b)) (le_true _ _ (and_right (int_le (neg_ℤ (pos 64800)) z) _ b)))
 kind_laid UtcSecond t h r = from_int UtcSecond t h r (λ z b. within_utc z (le_true _ _ (and_left (int_le (neg_ℤ (pos 100000000000000000)) z) _ b)) (le_true _ _ (and_right (int_le (neg_ℤ (pos 100000000000000000)) z) _ b)))
 kind_laid Float (float n) h r = any_number n
-kind_laid Float t h r = absurd cc
 kind_laid Text (text s) h r = any_text s
-kind_laid Text t h r = absurd cc
 kind_laid Labels (list ts) h r = any_labels ts (made text is_text a_text_is ts h)
-kind_laid Labels t h r = absurd cc
 kind_laid Properties (dict es) h r = any_properties es
-kind_laid Properties t h r = absurd cc
 kind_laid Nodes (list ts) h r = any_nodes ts (made (structure 0x4E) (has_tag 0x4E) (a_structure 0x4E) ts h)
-kind_laid Nodes t h r = absurd cc
 kind_laid Relationships (list ts) h r = any_relationships ts (made (structure 0x72) (has_tag 0x72) (a_structure 0x72) ts h)
-kind_laid Relationships t h r = absurd cc
 kind_laid Indices (list ts) h r = any_indices ts (made int is_int an_int ts h)
-kind_laid Indices t h r = absurd cc
+kind_laid k t h r = absurd cc
 
 kind_is : (k : Field) (t : Tree) → OfKind k t → (is_kind k t ≡ true) × (in_range k t ≡ true)
-kind_is _ _ (any_whole z) = (refl, refl)
 kind_is _ _ (within_second z l h) = (refl, both_true _ _ (true_le _ _ l) (true_le _ _ h))
 kind_is _ _ (within_day z l h) = (refl, both_true _ _ (true_le _ _ l) (true_le _ _ h))
 kind_is _ _ (within_offset z l h) = (refl, both_true _ _ (true_le _ _ l) (true_le _ _ h))
 kind_is _ _ (within_utc z l h) = (refl, both_true _ _ (true_le _ _ l) (true_le _ _ h))
-kind_is _ _ (any_number n) = (refl, refl)
-kind_is _ _ (any_text s) = (refl, refl)
 kind_is _ _ (any_labels ts m) = (made_pass text is_text (λ s. refl) ts m, refl)
-kind_is _ _ (any_properties es) = (refl, refl)
 kind_is _ _ (any_nodes ts m) = (made_pass (structure 0x4E) (has_tag 0x4E) (λ us. refl) ts m, refl)
 kind_is _ _ (any_relationships ts m) = (made_pass (structure 0x72) (has_tag 0x72) (λ us. refl) ts m, refl)
 kind_is _ _ (any_indices ts m) = (made_pass int is_int (λ z. refl) ts m, refl)
+kind_is k t h = (refl, refl)
 
 pub kinds_laid : (ks : List Field) (ts : Trees) → count ts ≡ length ks → are_kinds ks ts ≡ true → are_in_range ks ts ≡ true → OfKinds ks ts
 kinds_laid [] no_trees n h r = no_kinds
-kinds_laid [] (tree_then t ts) n h r = absurd cc
-kinds_laid (k ∷ ks) no_trees n h r = absurd cc
 kinds_laid (k ∷ ks) (tree_then t ts) n h r =
     then_kind k ks t ts (kind_laid k t (and_left (is_kind k t) _ h) (and_left (in_range k t) _ r)) (kinds_laid ks ts (omega (arith, n)) (and_right (is_kind k t) _ h) (and_right (in_range k t) _ r))
+kinds_laid ks ts n h r = absurd cc
 
 -- fields of these kinds in number, kind and range
 pub record AreOf (ks : List Field) (ts : Trees) : Type 0 where
@@ -104,7 +94,6 @@ kinds_are _ _ (then_kind k ks t ts h r) =
 -- The steps of a path.
 a_place : (n : ℕ) (t : Tree) → is_place n t ≡ true → (i : ℕ) × (t ≡ int (pos i)) × (i < n)
 a_place n (int (pos i)) h = (i, refl, ltb-true i n h)
-a_place n (int (negsuc i)) h = absurd cc
 a_place n t h = absurd cc
 
 step_laid : (n m : ℕ) (t u : Tree) (ts : Trees) (x : (z : ℤ) × (t ≡ int z)) (y : (i : ℕ) × (u ≡ int (pos i)) × (i < n)) → is_relationship m t ≡ true → Walks n m ts → Walks n m (tree_then t (tree_then u ts))
@@ -130,14 +119,12 @@ path_from t u w x y z i h =
     subst (IsShaped 0x50) whole (a_path x.0 y.0 z.0 (ltb-true 0 (count x.0) (and_left (nat_lt 0 (count x.0)) _ p)) (walk_laid (count x.0) (count y.0) z.0 (ap (is_list_of is_int) (sym z.1) ∙ i) (and_right (nat_lt 0 (count x.0)) _ p)))
 
 pub path_laid : (ts : Trees) → count ts ≡ 3 → are_kinds (Nodes ∷ Relationships ∷ Indices ∷ []) ts ≡ true → is_path ts ≡ true → IsShaped 0x50 ts
-path_laid no_trees n h p = absurd cc
-path_laid (tree_then t no_trees) n h p = absurd cc
-path_laid (tree_then t (tree_then u no_trees)) n h p = absurd cc
 path_laid (tree_then t (tree_then u (tree_then w no_trees))) n h p =
     let r = and_right (is_kind Nodes t) _ h in
     let i = and_left (is_kind Indices w) _ (and_right (is_kind Relationships u) _ r) in
     path_from t u w (a_list (has_tag 0x4E) t (and_left (is_kind Nodes t) _ h)) (a_list (has_tag 0x72) u (and_left (is_kind Relationships u) _ r)) (a_list is_int w i) i p
 path_laid (tree_then t (tree_then u (tree_then w (tree_then x ts)))) n h p = absurd (omega (arith, n))
+path_laid ts n h p = absurd cc
 
 pub shaped_is : (tag : ℕ) (ts : Trees) → IsShaped tag ts → cond (tag == 0x50) (is_path ts) true ≡ true
 shaped_is _ _ (no_path tag ts n) = ap (λ b. cond b (is_path ts) true) (ne_eqb tag 0x50 n)

@@ -4,7 +4,7 @@ use borrow.Author.Tests.{ltb-true}
 use Rattle.std.proofs.lemmas.List.{length-append}
 use Rattle.packstream.specs.declared.fault.Reason.{Reason as PackReason}
 use Rattle.packstream.specs.declared.fault.Reason.TheVariants as pack
-use Rattle.packstream.specs.Tree.{Tree, null, boolean, int, float, byte_string, text, list, dict, structure, Trees, no_trees, tree_then, Entries, no_entries, entry_then}
+use Rattle.packstream.specs.Tree.{Tree, list, dict, structure, Trees, no_trees, tree_then, Entries, no_entries, entry_then}
 use Rattle.packstream.specs.Good.{count, is_among}
 use Rattle.packstream.specs.Making.{own_fault, faults_in, faults_in_all, faults_in_entries, first_fault}
 use Rattle.wire.specs.declared.Version.{Version}
@@ -85,15 +85,10 @@ own_narrow heads again nests n h = own_by again (nests && nat_le 32 heads) (nat_
 
 mutual
   narrow : (v : Version) (h : ℕ) (a : Bool) (t : Tree) → all_fine (fault v) (structures t) ≡ true → AreNarrow (faults_in h a t)
-  narrow v h a null f = (own_narrow h a false 0 (omega arith), tt)
-  narrow v h a (boolean b) f = (own_narrow h a false 0 (omega arith), tt)
-  narrow v h a (int z) f = (own_narrow h a false 0 (omega arith), tt)
-  narrow v h a (float n) f = (own_narrow h a false 0 (omega arith), tt)
-  narrow v h a (byte_string s) f = (own_narrow h a false 0 (omega arith), tt)
-  narrow v h a (text s) f = (own_narrow h a false 0 (omega arith), tt)
   narrow v h a (list ts) f = (own_narrow h a true 0 (omega arith), narrow_all v (h + 1) ts f)
   narrow v h a (dict es) f = (own_narrow h a true 0 (omega arith), narrow_under v (h + 1) [] es f)
   narrow v h a (structure tag ts) f = (own_narrow h a true (count ts) (few_fields v tag ts (fine_itself (fault v) tag ts f)), narrow_all v (h + 1) ts (fine_within (fault v) tag ts f))
+  narrow v h a t f = (own_narrow h a false 0 (omega arith), tt)
 
   narrow_all : (v : Version) (h : ℕ) (ts : Trees) → all_fine (fault v) (structures_in ts) ≡ true → AreNarrow (faults_in_all h ts)
   narrow_all v h no_trees f = tt

@@ -2,7 +2,7 @@
 use Rattle.std.proofs.Common.{◌≡◌, ◌≢◌, ◌↔◌, ℕ, ℤ, ◌+ℤ◌, ◌-ℤ◌, List, [], ◌∷◌, Bool, true, false, cond, ◌==◌, None, is_none, Result, Ok, Err, refl, ap, sym, subst, ◌∙◌, eqb-true, eq-eqb, ne_eqb}
 use Rattle.packstream.specs.Tree.{Tree, null, boolean, int, float, byte_string, text, list, dict, structure, Trees, no_trees, tree_then, Entries, no_entries, entry_then}
 use Rattle.wire.specs.declared.Version.{Version}
-use Rattle.wire.specs.declared.Version.TheVariants.{V44, V50, V51}
+use Rattle.wire.specs.declared.Version.TheVariants.{V44}
 use Rattle.cells.specs.declared.table.Field.{Field}
 use Rattle.cells.specs.declared.table.Field.TheVariants.{Nodes, Relationships, Indices}
 use Rattle.cells.specs.declared.fault.Reason.{Reason}
@@ -28,21 +28,19 @@ local_from ts x h = subst (λ us. IsForm V44 (structure 0x49 (to_utc (typed_all 
 
 moment_laid : (v : Version) (ts : Trees) → fault v 0x46 ts ≡ None → IsForm v (structure 0x49 (to_utc (typed_all ts))) (structure 0x46 ts)
 moment_laid V44 ts h = let p = passed V44 0x46 ts moment_fields refl h in local_from ts (three_ints ts p.counted p.kinded) p.ranged
-moment_laid V50 ts h = absurd cc
-moment_laid V51 ts h = absurd cc
+moment_laid v ts h = absurd cc
 
 -- what a value is read as, and that no structure of the value has a fault
 abbrev IsRead : Version → Tree → Tree → Type 0
 IsRead v s t = (all_fine (fault v) (structures t) ≡ true) × (s ≡ typed t)
 
 moment_is : (v : Version) (ks : List Field) (u n o : ℤ) → kinds v 0x46 ≡ Ok ks → AreOf ks (three u n o) → IsRead v (structure 0x49 (three u n o)) (structure 0x46 (three (u +ℤ o) n o))
-moment_is V50 ks u n o k h = absurd cc
-moment_is V51 ks u n o k h = absurd cc
 moment_is V44 ks u n o k h =
     let same : ks ≡ moment_fields = cc in
     let ranged = ap (λ z. are_in_range moment_fields (three z n o)) (there_and_back u o) ∙ ap (λ js. are_in_range js (three u n o)) (sym same) ∙ h.ranged in
     let fine : fault V44 0x46 (three (u +ℤ o) n o) ≡ None = wrong_is moment_fields 0x46 (three (u +ℤ o) n o) true true true true refl refl ranged refl in
     (both_true _ _ (ap is_none fine) refl, ap (λ z. structure 0x49 (three z n o)) (sym (there_and_back u o)))
+moment_is v ks u n o k h = absurd cc
 
 -- Other structures.
 shape_laid : (v : Version) (tag : ℕ) (ts : Trees) (b : Bool) → (tag == 0x50) ≡ b → fault v tag ts ≡ None → IsShaped tag ts
@@ -94,16 +92,11 @@ mutual
 
 mutual
   read_back : (v : Version) (s t : Tree) → IsForm v s t → IsRead v s t
-  read_back v _ _ of_null = (refl, refl)
-  read_back v _ _ (of_boolean b) = (refl, refl)
-  read_back v _ _ (of_int z) = (refl, refl)
-  read_back v _ _ (of_float n) = (refl, refl)
-  read_back v _ _ (of_bytes s) = (refl, refl)
-  read_back v _ _ (of_text s) = (refl, refl)
   read_back v _ _ (of_list cs ts f) = let p = read_back_all v cs ts f in (p.0, ap list p.1)
   read_back v _ _ (of_dict ds es f) = let p = read_back_under v ds es f in (p.0, ap dict p.1)
   read_back v _ _ (of_structure tag ks cs ts other row h s f) = structure_is v tag ks cs ts other (row_is v tag ks row) (kinds_are ks ts h) s (read_back_all v cs ts f)
   read_back v _ _ (of_local_seconds ks u n o row h) = moment_is v ks u n o (row_is v 0x46 ks row) (kinds_are ks (three u n o) h)
+  read_back v s t f = (refl, refl)
 
   read_back_all : (v : Version) (cs ts : Trees) → AreForms v cs ts → (all_fine (fault v) (structures_in ts) ≡ true) × (cs ≡ typed_all ts)
   read_back_all v _ _ no_forms = (refl, refl)

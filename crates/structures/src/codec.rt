@@ -93,6 +93,7 @@ fn write_cell(alloc: Global, version: Version, cell: &Cell) -> Result<Packed, Ce
 /// Refuses the first typed cell in preorder with a fault, by its number from 0 and its first fault in this order: cell
 /// or element ids of the other version (S6), number out of its range (S4), path that doesn't walk (S5). Where there is
 /// none, refuses a value that is too deep or has a key twice (S8), and for want of memory (S7).
+#[tactic(auto, using(crate::proofs::Clauses::writes_value, crate::proofs::Clauses::writes_pack))]
 pub fn write(alloc: Global, version: Version, cell: &Cell) -> Result<Packed, CellFault>
     // Apart from memory, it is the cell's form, where the cell has one and that is good ..
     ensures value { (t : Tree)
@@ -127,6 +128,7 @@ fn write_list(alloc: Global, version: Version, members: &Vec<Cell>) -> Result<Pa
 }
 
 /// The value of a list of these cells, as `write` writes it.
+#[tactic(auto, using(crate::proofs::Clauses::writes_value, crate::proofs::Clauses::writes_pack))]
 pub fn write_members(
     alloc: Global,
     version: Version,
@@ -174,6 +176,7 @@ fn write_dict(
 }
 
 /// The value of a dictionary of these entries, as `write` writes it.
+#[tactic(auto, using(crate::proofs::Clauses::writes_value, crate::proofs::Clauses::writes_pack))]
 pub fn write_entries(
     alloc: Global,
     version: Version,

@@ -63,6 +63,7 @@ fn fit_elements(
 }
 
 #[cycle(fitting)]
+#[tactic(auto, using(crate::proofs::Fitted::fit_list_is, crate::proofs::Fitted::fit_dict_is, crate::proofs::Fitted::fit_node_case, crate::proofs::Fitted::fit_relationship_case, crate::proofs::Fitted::fit_unbound_case, crate::proofs::Fitted::fit_path_case))]
 fn fit_cell(alloc: Global, version: Version, cell: &mut Cell) -> Result<(), AllocError>
     ensures { IfOk result (λ _. shape cell.new ≡ fitted version (shape cell.old)) }
 {

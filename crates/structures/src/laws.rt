@@ -20,6 +20,7 @@ pub fn one_reading()
 
 /// What a cell is seen as is typed: each of its structures is one of the table, with its fields, of their kinds, and no local
 /// seconds.
+#[tactic(auto, using(cells::proofs::Typed::typed_shape))]
 pub fn cells_are_typed()
     ensures { (c : AnyCell) → IsTrue (is_typed (shape c)) }
 {}

@@ -5,7 +5,7 @@ ghost use Rattle.packstream.specs.View.{tree, trees, trees_of, entries_of, entri
 ghost use Rattle.cells.specs.Faults.{structures, structures_in, structures_under};
 ghost use Rattle.cells.specs.Steps.{all_fine};
 ghost use Rattle.cells.specs.Writing.{fault_of_structure};
-ghost use Rattle.cells.specs.Shape.{shape, shapes, entries, node_shape, unbound_shape, relationship_shape, path_shape, text_of, texts_of, numbers_of, element_of, elements_of};
+ghost use Rattle.cells.specs.Shape.{shape, shapes, entries, node_shape, unbound_shape, relationship_shape, path_shape, text_of, texts_of, element_of, elements_of};
 ghost use Rattle.cells.specs.Table.{relationship_tag, path_tag, date_time_tag};
 ghost use Rattle.structures.specs.Form.{form};
 ghost use Rattle.structures.specs.Steps.{form_entry};
@@ -15,26 +15,22 @@ use packstream::Value;
 use std::alloc::{AllocError, Global};
 use wire::Version;
 
+/// Numbers as values.
+fn int_values(alloc: Global, ints: &[i64]) -> Result<Vec<Value>, AllocError>
+    ensures { IfOk result (λ v. trees v.items ≡ map int ints.now) }
+{
+    let mut values = Vec::with_capacity(alloc, ints.len())?;
+    for n in ints {
+        values.push(Value::Int(*n))?;
+    }
+    Ok(values)
+}
+
 /// A structure of numbers.
 fn of_ints(alloc: Global, tag: u8, ints: &[i64]) -> Result<Value, AllocError>
     ensures { IfOk result (λ w. tree w ≡ structure tag (trees_of (map int ints.now))) }
 {
-    let mut fields = Vec::with_capacity(alloc, ints.len())?;
-    for n in ints {
-        fields.push(Value::Int(*n))?;
-    }
-    Ok(Value::Struct(tag, fields))
-}
-
-/// A list of numbers.
-fn list_of_ints(alloc: Global, ints: &[i64]) -> Result<Value, AllocError>
-    ensures { IfOk result (λ w. tree w ≡ numbers_of ints.now) }
-{
-    let mut members = Vec::with_capacity(alloc, ints.len())?;
-    for n in ints {
-        members.push(Value::Int(*n))?;
-    }
-    Ok(Value::List(members))
+    Ok(Value::Struct(tag, int_values(alloc, ints)?))
 }
 
 /// A list of texts.
@@ -348,7 +344,7 @@ fn path_value(alloc: Global, version: Version, path: &Path) -> Result<Value, All
 {
     let places = Value::List(node_values(alloc, version, &path.nodes)?);
     let ways = Value::List(unbound_values(alloc, version, &path.relationships)?);
-    let steps = list_of_ints(alloc, &path.indices)?;
+    let steps = Value::List(int_values(alloc, &path.indices)?);
     Ok(of_path(alloc, places, ways, steps)?)
 }
 

@@ -3,6 +3,7 @@ ghost use Rattle.messages.specs.Summaries.{Summary, IsShort, HasTexts, FitsRoom,
 ghost use Rattle.wire.specs.declared.Version.{Version as AnyVersion};
 
 /// Each fits a message, in the room that `room` tells; and what is written stands for it.
+#[tactic(auto, using(crate::proofs::Fitting::fits_room, crate::proofs::Fitting::reads_back))]
 pub fn short_fits()
     ensures fits { (v : AnyVersion) (s : Summary) → IsShort s → FitsRoom v s }
     ensures back { (v : AnyVersion) (s : Summary) → IsShort s → HasTexts s → ReadsBack v s }

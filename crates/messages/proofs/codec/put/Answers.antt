@@ -1,7 +1,8 @@
 use Rattle.std.proofs.Common.{sym, refl}
+use Rattle.std.proofs.lemmas.Result.{on_ok_weaker}
 use Rattle.packstream.specs.View.{tree}
 use Rattle.messages.proofs.Meanings.{err_is}
-use Rattle.messages.proofs.Texts.{good_text, bad_text, nothing_appended, on_ok}
+use Rattle.messages.proofs.Texts.{good_text, bad_text, nothing_appended}
 use Rattle.messages.proofs.codec.put.Goals as goal
 
 pub returns-in_err-packed-clause-text : goal.returns-in_err-packed-clause-text
@@ -11,4 +12,4 @@ pub returns-clause-text : goal.returns-clause-text
 returns-clause-text c = rw (good_text (tree c.args.value) c.in_ok-packed.packed c.in_ok-packed.ensures.fault, sym c.in_ok-packed.ensures.value) c.put_packed.ensures.text
 
 pub returns-clause-spells : goal.returns-clause-spells
-returns-clause-spells c = on_ok c.put_packed.result _ _ (λ s. (c.in_ok-packed.ensures.good.0 refl, rw c.in_ok-packed.ensures.value at s)) c.put_packed.ensures.spells
+returns-clause-spells c = on_ok_weaker c.put_packed.result (λ s. (c.in_ok-packed.ensures.good.0 refl, rw c.in_ok-packed.ensures.value at s)) c.put_packed.ensures.spells

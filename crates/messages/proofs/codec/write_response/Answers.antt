@@ -1,13 +1,12 @@
-use Rattle.std.proofs.Common.{◌≡◌, ap, sym, ◌∙◌}
+use Rattle.std.proofs.lemmas.Result.{on_ok_weaker}
 use Rattle.packstream.specs.View.{tree}
-use Rattle.packstream.specs.Canon.{canon}
 use Rattle.messages.specs.View.{response_view}
 use Rattle.messages.specs.Table.{responses}
-use Rattle.messages.specs.Reading.{◌>>=◌, response_contents}
-use Rattle.messages.specs.Writing.{response_spelling, spelling_of_tree, form_put}
+use Rattle.messages.specs.Reading.{response_contents}
+use Rattle.messages.specs.Writing.{response_spelling, form_put}
 use Rattle.messages.proofs.Added.{appended, means}
-use Rattle.messages.proofs.Texts.{on_ok, canon_is}
-use Rattle.messages.proofs.Rounds.{answered_back_told, response_back}
+use Rattle.messages.proofs.Texts.{means_of}
+use Rattle.messages.proofs.Rounds.{tells_back, response_back}
 use Rattle.messages.proofs.codec.write_response.Goals as goal
 
 pub returns-clause-read_back : goal.returns-clause-read_back
@@ -16,15 +15,7 @@ returns-clause-read_back c =
     let v = c.args.version in
     let m = response_view c.args.response.now in
     let t = tree c.in_ok-value.value in
-    on_ok c.put.result _ _ (λ g b e.
-    let same : b ≡ canon t = canon_is t b (sym (ap (λ r. r >>= spelling_of_tree) c.in_ok-value.ensures) ∙ e) in
-    rw same (record {
-      value = t;
-      good = g.0;
-      spelled = g.1;
-      says = answered_back_told v m t (response_back v c.args.response.now) c.in_ok-value.ensures;
-    }))
-    c.put.ensures.spells
+    on_ok_weaker c.put.result (λ g b e. means_of (form_put v (response_contents m)) t v responses (response_contents m) b c.in_ok-value.ensures g.0 (tells_back v m t (response_back v c.args.response.now) c.in_ok-value.ensures).told e) c.put.ensures.spells
 
 pub returns-then-spell_response-clause-text : goal.returns-then-spell_response-clause-text
 unfolding response_spelling
@@ -40,4 +31,4 @@ returns-then-spell_response-clause-read_back c =
     let m = response_view c.args.response.now in
     let s = c.spell_response.ensures in
     let t = c.if-spell_response.true in
-    λ b e. means (form_put v (response_contents m)) _ _ (s.adds t v) (s.short t) v responses (response_contents m) b (λ u h. answered_back_told v m u (response_back v c.args.response.now) h) e
+    λ b e. means (form_put v (response_contents m)) _ _ (s.adds t v) (s.short t) v responses (response_contents m) b (λ u h. (tells_back v m u (response_back v c.args.response.now) h).told) e

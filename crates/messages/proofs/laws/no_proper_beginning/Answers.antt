@@ -1,6 +1,8 @@
 use Rattle.packstream.proofs.Deciding.{no_proper_beginning_is}
+use Rattle.messages.specs.Table.{requests, responses}
 use Rattle.messages.specs.Reading.{request_contents, response_contents}
-use Rattle.messages.proofs.Apart.{request_apart, response_apart}
+use Rattle.messages.proofs.Meanings.{one_value}
+use Rattle.messages.proofs.Apart.{not_both}
 use Rattle.messages.proofs.laws.no_proper_beginning.Goals as goal
 
 pub returns-clause-requests : goal.returns-clause-requests
@@ -12,7 +14,11 @@ returns-clause-responses c = λ v w m n b more p q.
     (no_proper_beginning_is p.value q.value b more p.good q.good p.spelled q.spelled).0
 
 pub returns-clause-request_first : goal.returns-clause-request_first
-returns-clause-request_first c = λ v w m n b more p q. request_apart v w (request_contents m) (response_contents n) b more p q
+returns-clause-request_first c = λ v w m n b more p q.
+    let t = one_value v w requests responses (request_contents m) (response_contents n) b more p q in
+    not_both v w t.0 (request_contents m) (response_contents n) t.1 t.2
 
 pub returns-clause-response_first : goal.returns-clause-response_first
-returns-clause-response_first c = λ v w m n b more p q. response_apart v w (response_contents m) (request_contents n) b more p q
+returns-clause-response_first c = λ v w m n b more p q.
+    let t = one_value v w responses requests (response_contents m) (request_contents n) b more p q in
+    not_both w v t.0 (request_contents n) (response_contents m) t.2 t.1

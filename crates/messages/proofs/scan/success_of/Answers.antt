@@ -1,9 +1,11 @@
-use Rattle.packstream.proofs.Ranges.{bytes_from_each}
+use Rattle.std.proofs.Common.{arith, refl}
+use Rattle.packstream.specs.Tree.{dict}
+use Rattle.packstream.specs.View.{entries_of}
 use Rattle.cells.specs.Shape.{entries}
-use Rattle.messages.proofs.Scanned.{success_scanned}
+use Rattle.messages.proofs.Scanned.{cells_scanned}
 use Rattle.messages.proofs.scan.success_of.Goals as goal
 
 pub returns : goal.returns
 returns c =
     let p = c.in_ok-metadata.ensures in
-    λ v. success_scanned v (entries c.in_ok-metadata.metadata.items) c.args.bytes.now c.in_ok-metadata.rest.now (bytes_from_each c.args.bytes.now c.type_inv.bytes) c.in_ok-end.ensures p.spelled p.good p.deep p.plain
+    λ v. cells_scanned v _ 0x70 (dict (entries_of (entries c.in_ok-metadata.metadata.items))) c.args.bytes.now c.in_ok-metadata.rest.now (omega arith) (λ e. rw e refl) c.in_ok-end.ensures p.spelled p.good p.deep p.plain

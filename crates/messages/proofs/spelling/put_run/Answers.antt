@@ -9,4 +9,4 @@ pub returns-clause-adds : goal.returns-clause-adds
 returns-clause-adds c =
     let s = string_bytes c.args.text.now in
     let p = c.in_ok-put_dict.ensures in
-    λ v. run_added v s _ _ c.args.mode (token_view c.args.token.now) _ _ _ _ _ (ap entries c.as_slice.ensures.value) c.in_ok-put_structure.ensures.ok (rw c.as_str.ensures.value at c.in_ok-put_text.ensures.ok) (IsUtf8-string_bytes c.args.text.now) p.spelled p.good p.deep p.plain (c.in_ok-put_transaction.ensures.adds v)
+    λ v. run_added v s _ _ c.args.mode (token_view c.args.token.now) _ _ _ _ _ (ap entries c.as_slice.ensures.value) c.in_ok-put_structure.ensures.ok (rw c.as_str.ensures.value at c.in_ok-put_text.ensures.ok) (IsUtf8-string_bytes c.args.text.now) p.spelled p.good p.deep p.plain c.in_ok-put_transaction.ensures.adds

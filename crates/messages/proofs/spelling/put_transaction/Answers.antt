@@ -4,4 +4,4 @@ use Rattle.messages.proofs.Added.{alone_added}
 use Rattle.messages.proofs.spelling.put_transaction.Goals as goal
 
 pub returns-in_ok-put_mode-in-None-clause-adds : goal.returns-in_ok-put_mode-in-None-clause-adds
-returns-in_ok-put_mode-in-None-clause-adds c = λ v. alone_added v c.args.mode _ _ _ (ap token_view c.in-None.is) c.in_ok-put_mode-in-None.ensures.added
+returns-in_ok-put_mode-in-None-clause-adds c = alone_added c.args.mode _ _ _ (ap token_view c.in-None.is) c.in_ok-put_mode-in-None.ensures.added

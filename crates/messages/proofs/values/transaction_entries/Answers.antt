@@ -1,10 +1,10 @@
 use Rattle.std.proofs.Common.{Some, string_bytes}
 use Rattle.packstream.specs.View.{entries}
-use Rattle.messages.specs.Parts.{token_pairs}
-use Rattle.messages.proofs.Rounds.{transaction_put, put_with, answered_entries}
+use Rattle.messages.specs.Parts.{transaction_put, token_pairs}
+use Rattle.messages.proofs.Rounds.{put_with, answered_entries}
 use Rattle.messages.proofs.values.transaction_entries.Goals as goal
 
 pub returns-in-Some : goal.returns-in-Some
 returns-in-Some c =
     let s = string_bytes c.in-Some.token in
-    λ v. rw c.in-Some.is (answered_entries (λ pairs. entries pairs.items) c.with_token.result (token_pairs c.args.mode s) (transaction_put v c.args.mode (Some s)) (put_with v c.args.mode s) c.with_token.ensures)
+    rw c.in-Some.is (answered_entries (λ pairs. entries pairs.items) c.with_token.result (token_pairs c.args.mode s) (transaction_put c.args.mode (Some s)) (put_with c.args.mode s) c.with_token.ensures)

@@ -4,7 +4,7 @@ use Rattle.packstream.specs.View.{entries_of}
 use Rattle.cells.specs.Faults.{structures}
 use Rattle.cells.specs.Shape.{entries}
 use Rattle.cells.specs.Writing.{fault_of_structure}
-use Rattle.cells.proofs.Scanning.{tree-Dict}
+use Rattle.packstream.proofs.Views.{tree-Dict}
 use Rattle.cells.proofs.Fine.{fine_scan}
 use Rattle.cells.proofs.Typed.{pairs_typed}
 use Rattle.structures.proofs.Packing.{packed_is}

@@ -1,37 +1,7 @@
 use Rattle.std.proofs.Common.{◌≡◌, to_z, of_z, w64, rules, refl}
 use Rattle.std.proofs.lemmas.Result.{IfOk-weaker}
-use Rattle.structures.proofs.Fitted.{fit_node_is, fit_unbound_is, fit_relationship_is, fit_list_is, fit_dict_is, fit_path_in_turn, fit_node_case, fit_relationship_case, fit_unbound_case, fit_path_case}
+use Rattle.structures.proofs.Fitted.{fit_node_is, fit_unbound_is, fit_relationship_is, fit_path_in_turn}
 use Rattle.structures.proofs.form.+fitting.Goals as goal
-
-pub fit_cell-returns-in_ok-fit_members-in-List : goal.fit_cell-returns-in_ok-fit_members-in-List
-fit_cell-returns-in_ok-fit_members-in-List t c =
-    let e = fit_list_is c.args.version c.fit_members.new.members c.in-List.members (rw c.in-List.members-is at c.in_ok-fit_members-in-List.ensures) in
-    search (rules, e)
-
-pub fit_cell-returns-in_ok-fit_pairs-in-Dict : goal.fit_cell-returns-in_ok-fit_pairs-in-Dict
-fit_cell-returns-in_ok-fit_pairs-in-Dict t c =
-    let e = fit_dict_is c.args.version c.fit_pairs.new.pairs c.in-Dict.pairs (rw c.in-Dict.pairs-is at c.in_ok-fit_pairs-in-Dict.ensures) in
-    search (rules, e)
-
-pub fit_cell-returns-in_ok-fit_boxed_node-in-Node : goal.fit_cell-returns-in_ok-fit_boxed_node-in-Node
-fit_cell-returns-in_ok-fit_boxed_node-in-Node t c =
-    let e = fit_node_case c.args.version c.fit_boxed_node.new.node c.in-Node.node (rw c.in-Node.node-is at c.in_ok-fit_boxed_node-in-Node.ensures) in
-    search (rules, e)
-
-pub fit_cell-returns-in_ok-fit_boxed_relationship-in-Relationship : goal.fit_cell-returns-in_ok-fit_boxed_relationship-in-Relationship
-fit_cell-returns-in_ok-fit_boxed_relationship-in-Relationship t c =
-    let e = fit_relationship_case c.args.version c.fit_boxed_relationship.new.relationship c.in-Relationship.relationship (rw c.in-Relationship.relationship-is at c.in_ok-fit_boxed_relationship-in-Relationship.ensures) in
-    search (rules, e)
-
-pub fit_cell-returns-in_ok-fit_boxed_unbound-in-UnboundRelationship : goal.fit_cell-returns-in_ok-fit_boxed_unbound-in-UnboundRelationship
-fit_cell-returns-in_ok-fit_boxed_unbound-in-UnboundRelationship t c =
-    let e = fit_unbound_case c.args.version c.fit_boxed_unbound.new.unbound c.in-UnboundRelationship.unbound (rw c.in-UnboundRelationship.unbound-is at c.in_ok-fit_boxed_unbound-in-UnboundRelationship.ensures) in
-    search (rules, e)
-
-pub fit_cell-returns-in_ok-fit_boxed_path-in-Path : goal.fit_cell-returns-in_ok-fit_boxed_path-in-Path
-fit_cell-returns-in_ok-fit_boxed_path-in-Path t c =
-    let e = fit_path_case c.args.version c.fit_boxed_path.new.path c.in-Path.path (rw c.in-Path.path-is at c.in_ok-fit_boxed_path-in-Path.ensures) in
-    search (rules, e)
 
 pub fit_path-returns : goal.fit_path-returns
 fit_path-returns t c =

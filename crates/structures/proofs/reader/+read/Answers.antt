@@ -5,13 +5,12 @@ use Rattle.packstream.specs.Tree.{Tree, Trees, int, list, dict, structure, no_tr
 use Rattle.packstream.specs.View.{tree, entry, trees, trees_of, entries_of, entries as seen_entries}
 use Rattle.packstream.specs.declared.value.Value.{the_lemmas as value_lemmas}
 use Rattle.packstream.proofs.Putting.{len_trees}
-use Rattle.packstream.proofs.Views.{tree-List}
+use Rattle.packstream.proofs.Views.{tree-List, tree-Dict}
 use Rattle.cells.specs.declared.table.Field.TheVariants.{Integer, Text, Labels, Properties, Nodes, Relationships, Indices}
 use Rattle.cells.specs.Faults.{structures, fault, is_list_of, has_tag}
 use Rattle.cells.specs.Steps.{all_fine}
 use Rattle.cells.specs.Shape.{entries, text_of, texts_of, numbers_of, element_of, elements_of, node_shape, unbound_shape}
 use Rattle.cells.specs.declared.cell.Cell.{the_lemmas}
-use Rattle.cells.proofs.Scanning.{tree-Dict}
 use Rattle.cells.proofs.Views.{shape-List, shape-Dict, path-roll, node-roll, unbound-roll, relationship-roll, relationship_parts}
 use Rattle.cells.proofs.Fine.{tree-Struct, fine_itself, fine_within, fine_member, fine_pair}
 use Rattle.structures.specs.Form.{typed}

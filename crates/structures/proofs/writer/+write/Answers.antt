@@ -1,9 +1,9 @@
-use Rattle.std.proofs.Common.{◌≡◌, List, map, ap, sym, ◌∙◌, rules, to_z, of_z, w64}
+use Rattle.std.proofs.Common.{◌≡◌, ℤ, List, map, ap, sym, ◌∙◌, rules, to_z, of_z, w64}
 use Rattle.std.proofs.lemmas.List.Elements.{same_from_all_zip}
 use Rattle.packstream.specs.Tree.{Tree, int, list, dict}
-use Rattle.packstream.specs.View.{tree, trees_of, entries_of}
+use Rattle.packstream.specs.View.{trees_of, entries_of}
 use Rattle.packstream.specs.declared.value.Value.{the_lemmas as value_lemmas}
-use Rattle.packstream.proofs.Views.{tree-List}
+use Rattle.packstream.proofs.Views.{tree-List, tree-Dict}
 use Rattle.cells.specs.Faults.{structures}
 use Rattle.cells.specs.Steps.{all_fine}
 use Rattle.cells.specs.Writing.{fault_of_structure}
@@ -12,7 +12,6 @@ use Rattle.cells.proofs.Judged.{node_fine, unbound_fine, relationship_fine, path
 use Rattle.cells.specs.Shape.{shape, shapes, entry, entries, node_shape, unbound_shape}
 use Rattle.cells.specs.declared.cell.Cell.{the_lemmas}
 use Rattle.cells.specs.declared.cell.Path.{out-Path}
-use Rattle.cells.proofs.Scanning.{tree-Dict}
 use Rattle.cells.proofs.Views.{shape-List, shape-Dict, node-out, unbound-out, relationship-out, path-out}
 use Rattle.structures.specs.Form.{form}
 use Rattle.structures.proofs.Written.{tree-Int, form_list, form_pairs, node_written, unbound_written, relationship_written, path_written}
@@ -52,7 +51,7 @@ relationship_value-returns t c =
 pub path_value-returns : goal.path_value-returns
 path_value-returns t c =
     let w = out-Path c.args.path.now in
-    c.in_ok-of_path.ensures ∙ path_written c.args.version (map node_shape w.nodes.items) (map unbound_shape w.relationships.items) w.indices.items _ _ (tree c.in_ok-steps.steps) (tree-List _ ∙ ap (λ (ts : List Tree). list (trees_of ts)) c.in_ok-node_values.ensures) (tree-List _ ∙ ap (λ (ts : List Tree). list (trees_of ts)) c.in_ok-unbound_values.ensures) (search rules) ∙ ap (form c.args.version) (sym (path-out c.args.path.now))
+    c.in_ok-of_path.ensures ∙ path_written c.args.version (map node_shape w.nodes.items) (map unbound_shape w.relationships.items) w.indices.items _ _ _ (tree-List _ ∙ ap (λ (ts : List Tree). list (trees_of ts)) c.in_ok-node_values.ensures) (tree-List _ ∙ ap (λ (ts : List Tree). list (trees_of ts)) c.in_ok-unbound_values.ensures) (tree-List _ ∙ ap (λ (ts : List Tree). list (trees_of ts)) c.in_ok-int_values.ensures ∙ ap (λ (zs : List ℤ). list (trees_of (map int zs))) c.deref.ensures.value) ∙ ap (form c.args.version) (sym (path-out c.args.path.now))
 
 pub value_of-pair_values-requires : goal.value_of-pair_values-requires
 value_of-pair_values-requires t c = (search (rules, the_lemmas), sym (ap (λ (u : Tree). all_fine (fault_of_structure c.args.version) (structures u)) (ap shape c.in-Dict.is ∙ shape-Dict c.in-Dict.pairs)) ∙ c.requires)

@@ -1,7 +1,7 @@
 use Rattle.std.proofs.Common.{◌≡◌, take, map}
 use Rattle.packstream.specs.Tree.{int}
 use Rattle.packstream.specs.View.{trees}
-use Rattle.structures.proofs.writer.of_ints.Given as goal
+use Rattle.structures.proofs.writer.int_values.Given as goal
 
 abbrev pub invariant-loop-n : goal.invariant-loop-n
-invariant-loop-n l = trees l.fields.items ≡ map int (take l.n-index l.ints)
+invariant-loop-n l = trees l.values.items ≡ map int (take l.n-index l.ints)
