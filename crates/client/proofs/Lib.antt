@@ -1,5 +1,4 @@
 pub mod Makes
-pub mod Judging
 pub mod Waiting
 pub mod Versions
 pub mod Pieces

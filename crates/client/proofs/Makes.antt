@@ -1,5 +1,5 @@
 -- What a client makes of an item: a bad answer, or that no version is taken, or one; nothing, a row, or a summary.
-use Rattle.std.proofs.Common.{◌≡◌, refl, ◌∙◌, ap, Bool, true, false, if◌then◌else◌, Option, Some, None, List, [], ◌∷◌}
+use Rattle.std.proofs.Common.{◌≡◌, refl, ◌∙◌, ap, Bool, true, false, if◌then◌else◌, Option, Some, None, List, ◌∷◌}
 use Rattle.std.specs.Prelude.{option_map}
 use Rattle.packstream.specs.Tree.{Tree}
 use Rattle.wire.specs.declared.Version.{Version}
@@ -52,13 +52,10 @@ module _ (wish : Wish) (k : Knows) where
   by_version o (Some w) e = spoils (Heard.Chosen o)
 
   by_row : (cells : List Tree) (ws : List RequestView) → k.waiting ≡ ws → Makes wish k (Heard.Told (ResponseView.Record cells)) (hears_row k cells ws)
-  by_row cells [] e = spoils (Heard.Told (ResponseView.Record cells))
   by_row cells (RequestView.Pull n ∷ later) e = tells_row cells n later e
-  by_row cells (q ∷ later) e = spoils (Heard.Told (ResponseView.Record cells))
+  by_row cells ws e = spoils (Heard.Told (ResponseView.Record cells))
 
   by_summary : (a : ResponseView) (o : Option Version) (ws : List RequestView) → k.version ≡ o → k.waiting ≡ ws → Makes wish k (Heard.Told a) (hears_judged k a (judgement_of k a o ws))
-  by_summary a None ws e f = spoils (Heard.Told a)
-  by_summary a (Some v) [] e f = spoils (Heard.Told a)
   by_summary a (Some v) (q ∷ later) e f = by_verdict (verdict_of (in_part q) a) refl
     where
       by_phase : (d : Verdict) → verdict_of (in_part q) a ≡ Some d → (o : Option Phase) → phase_accepted v k.phase (kind_of q) (resets later) d ≡ o
@@ -69,45 +66,33 @@ module _ (wish : Wish) (k : Knows) where
       by_verdict : (o : Option Verdict) → verdict_of (in_part q) a ≡ o → Makes wish k (Heard.Told a) (hears_judged k a (judgement_by v k.phase (kind_of q) (resets later) o))
       by_verdict None t = spoils (Heard.Told a)
       by_verdict (Some d) t = by_phase d t (phase_accepted v k.phase (kind_of q) (resets later) d) refl
+  by_summary a o ws e f = spoils (Heard.Told a)
 
   by_response : (a : ResponseView) → Makes wish k (Heard.Told a) (hears_response k a)
   by_response (ResponseView.Record cells) = by_row cells k.waiting refl
-  by_response (ResponseView.Success metadata) = by_summary (ResponseView.Success metadata) k.version k.waiting refl refl
-  by_response ResponseView.Ignored = by_summary ResponseView.Ignored k.version k.waiting refl refl
-  by_response (ResponseView.Failure code message) = by_summary (ResponseView.Failure code message) k.version k.waiting refl refl
+  by_response a = by_summary a k.version k.waiting refl refl
 
   pub makes : (x : Heard) → Makes wish k x (hears_item wish k x)
   makes (Heard.Chosen o) = by_version o k.version refl
-  makes Heard.Strange = spoils Heard.Strange
   makes Heard.Quiet = tells_none
   makes (Heard.Told a) = by_response a
-  makes (Heard.Unheard e) = spoils (Heard.Unheard e)
-  makes Heard.Over = spoils Heard.Over
+  makes x = spoils x
 
   -- a bad answer ends it
   pub spoiled_over : (x : Heard) (h : Hearing) → Makes wish k x h → h.bad ≡ true → h.knows.over ≡ true
   spoiled_over x h (spoils y) e = refl
   spoiled_over x h (turns_away n) e = refl
-  spoiled_over x h (takes_version v n w) e = cc
-  spoiled_over x h tells_none e = cc
-  spoiled_over x h (tells_row cells n later w) e = cc
-  spoiled_over x h (tells_summary a s) e = cc
+  spoiled_over x h _ e = cc
 
   -- a version that is known stays
   pub version_stays : (v : Version) → k.version ≡ Some v → (x : Heard) (h : Hearing) → Makes wish k x h → h.knows.version ≡ Some v
-  version_stays v e x h (spoils y) = e
-  version_stays v e x h (turns_away n) = e
   version_stays v e x h (takes_version w n i) = cc
-  version_stays v e x h tells_none = e
-  version_stays v e x h (tells_row cells n later w) = e
-  version_stays v e x h (tells_summary a s) = e
+  version_stays v e x h _ = e
 
 -- what tells a verdict is no row
 hears_told : (k : Knows) (part : Bool) (a : ResponseView) (d : Verdict) → verdict_of part a ≡ Some d → hears_response k a ≡ hears_summary k a
-hears_told k part (ResponseView.Success metadata) d h = refl
 hears_told k part (ResponseView.Record cells) d h = cc
-hears_told k part ResponseView.Ignored d h = refl
-hears_told k part (ResponseView.Failure code message) d h = refl
+hears_told k part _ d h = refl
 
 -- and a summary that is accepted is made this of
 pub settles_is : (k : Knows) (a : ResponseView) (s : Settles k a) → hears_response k a ≡ hears_judged k a (Some (s.next, outcome_of k.phase (kind_of s.first) s.verdict))

@@ -17,11 +17,7 @@ use Rattle.client.specs.Hearings.{plain, came_in, Hears, Feeds}
 -- bytes that stand for nothing are all heard alike
 same_plain : (r : Rest) (used : ℕ) (x : AnyHeard) → fed_heard r used x (hears_item r.wish r.knows x) ≡ fed_heard r used (plain x) (hears_item r.wish r.knows (plain x))
 same_plain r used (AnyHeard.Chosen o) = refl
-same_plain r used AnyHeard.Strange = refl
-same_plain r used AnyHeard.Quiet = refl
-same_plain r used (AnyHeard.Told a) = refl
-same_plain r used (AnyHeard.Unheard e) = refl
-same_plain r used AnyHeard.Over = refl
+same_plain r used _ = refl
 
 fed_came : (r : Rest) (used : ℕ) (o : Option Item) → fed_item r used o ≡ fed_heard r used (came_in r.knows.version o) (hears_item r.wish r.knows (came_in r.knows.version o))
 fed_came r used None = refl
@@ -83,13 +79,9 @@ pub feeds_rests : (r : Rest) (piece : List ℕ) (result : Result (ℕ × Heard) 
 feeds_rests r piece result Now o h = subst (λ (f : Fed). UnlessMemory result ((note_result result ≡ f.answer) × Now f.rest)) (sym (same_open r piece o)) (go result h)
   where
     go : (x : Result (ℕ × Heard) ClientFault) → Feeds Now r (fed_open r (takes at_client r.item piece)) x → UnlessMemory x ((note_result x ≡ (fed_open r (takes at_client r.item piece)).answer) × Now (fed_open r (takes at_client r.item piece)).rest)
-    go (Ok used) k = k
-    go (Err client_fault.Closed) k = k
-    go (Err client_fault.BadPeer) k = k
     go (Err client_fault.Memory) k = tt
+    go _ k = k
 
 pub keeps_rests : (r : Rest) (f : Fed) (result : Result (ℕ × Heard) ClientFault) (Now : Rest → Type 0) → Feeds Now r f result → IsErrOf result client_fault.Memory → Now r
-keeps_rests r f (Ok used) Now h m = absurd cc
-keeps_rests r f (Err client_fault.Closed) Now h m = absurd cc
-keeps_rests r f (Err client_fault.BadPeer) Now h m = absurd cc
 keeps_rests r f (Err client_fault.Memory) Now h m = h
+keeps_rests r f _ Now h m = absurd cc

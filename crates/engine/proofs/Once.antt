@@ -1,5 +1,5 @@
 -- No two entries have one token, and what was answered Added or Repeat is in the ledger.
-use Rattle.std.proofs.Common.{◌≡◌, ◌≤◌, refl, sym, ◌∙◌, ap, subst, ℕ, suc, ◌+◌, Bool, true, false, ◌&&◌, if◌then◌else◌, Some, None, List, [], ◌∷◌, ◌++◌, length, length-append, append-nil, slice_get, bytes_eq, arith}
+use Rattle.std.proofs.Common.{◌≡◌, ◌≤◌, refl, sym, ◌∙◌, ap, subst, ℕ, suc, ◌+◌, Bool, true, false, ◌&&◌, if◌then◌else◌, Some, None, List, [], ◌∷◌, ◌++◌, length, length-append, append-nil, slice_get, bytes_eq, arith, true≢false}
 use Rattle.std.proofs.lemmas.Bool.{and_parts, and_from}
 use Rattle.std.proofs.lemmas.Slice.Eq.{bytes_eq-Decides}
 use Rattle.cells.specs.Same.{same_tree}
@@ -8,9 +8,6 @@ use Rattle.engine.specs.Commits.{after_commit, answer_to, after_commits, is_in, 
 use Rattle.engine.specs.Tokens.{is_token, same_writes, under_token, TokensOnce, Found, Free, There, Other, found_from, found_in, commit_by, added_by}
 use Rattle.engine.specs.Views.{WriteView, Token, EntryView}
 use Rattle.engine.specs.declared.ledger.Commit.TheVariants.{Repeat, Clash}
-
-true_false : true ≡ false → ⊥
-true_false e = cc
 
 -- writes are the same exactly where they are equal
 pub writes_are : (xs ys : List WriteView) → same_writes xs ys ≡ true → xs ≡ ys
@@ -22,8 +19,7 @@ writes_are (x ∷ xs) (y ∷ ys) h =
     let v : x.1 ≡ y.1 = trees_are x.1 y.1 p.0 in
     let w : xs ≡ ys = writes_are xs ys p.1 in
     λ i. (k i, v i) ∷ w i
-writes_are [] (y ∷ ys) h = cc
-writes_are (x ∷ xs) [] h = cc
+writes_are _ _ h = cc
 
 pub writes_is : (xs : List WriteView) → same_writes xs xs ≡ true
 writes_is [] = refl
@@ -107,7 +103,7 @@ other_under t w (e ∷ es) n h = go (is_token t e.token) (same_writes e.writes w
     go : (a b : Bool) → same_writes e.writes w ≡ b → (if a then (if b then There (suc n) else Other) else found_from t w es (suc n)) ≡ Other → (found_from t w es (suc n) ≡ Other → (x : List WriteView) × Has (under_token t es) x × ((x ≡ w) → ⊥))
         → (x : List WriteView) × Has (if a then e.writes ∷ under_token t es else under_token t es) x × ((x ≡ w) → ⊥)
     go true true s h f = absurd cc
-    go true false s h f = (e.writes, ([], under_token t es, refl), (λ z. true_false (sym (same_is e.writes w z) ∙ s)))
+    go true false s h f = (e.writes, ([], under_token t es, refl), (λ z. true≢false (sym (same_is e.writes w z) ∙ s)))
     go false b s h f = f h
 
 -- what a ledger has of this commit, by its token
@@ -135,8 +131,7 @@ once_after es c once = go (found_in c.token c.writes es) refl
 
     go : (f : Found) → found_in c.token c.writes es ≡ f → TokensOnce (es ++ added_by c f)
     go Free h t = added t (is_token t c.token) refl h
-    go (There n) h t = subst TokensOnce (sym (append-nil es)) once t
-    go Other h t = subst TokensOnce (sym (append-nil es)) once t
+    go f h t = subst TokensOnce (sym (append-nil es)) once t
 
 -- what stands under a token stays
 pub stays : (es : List EntryView) (c : EntryView) (t : List ℕ) (w : List WriteView) → TokensOnce es → under_token t es ≡ w ∷ [] → under_token t (after_commit es c) ≡ w ∷ []
@@ -177,18 +172,16 @@ answers_by_token es c t once e =
     }
   where
     repeats : (f : Found) → found_in c.token c.writes es ≡ f → (n : ℕ) → commit_by (length es) f ≡ Repeat n → (under_token t es ≡ c.writes ∷ []) × (es ++ added_by c f ≡ es) × At es t c.writes n
-    repeats Free h n a = absurd cc
     repeats (There m) h n a =
         let found = by_token es c t (There m) e h in
         let r = found_at t c.writes es m found in
         let z : m ≡ n = cc in
         (only (under_token t es) c.writes (found_has t c.writes es 0 m found) (once t), append-nil es, (r.0, r.1, sym z ∙ r.2, r.3, r.4, r.5))
-    repeats Other h n a = absurd cc
+    repeats _ h n a = absurd cc
 
     clashes : (f : Found) → found_in c.token c.writes es ≡ f → commit_by (length es) f ≡ Clash → (es ++ added_by c f ≡ es) × ((w : List WriteView) × (under_token t es ≡ w ∷ []) × ((w ≡ c.writes) → ⊥))
-    clashes Free h a = absurd cc
-    clashes (There m) h a = absurd cc
     clashes Other h a = let r = other_under t c.writes es 0 (by_token es c t Other e h) in (append-nil es, (r.0, only (under_token t es) r.0 r.1 (once t), r.2))
+    clashes _ h a = absurd cc
 
 pub commits_once : CommitsOnce
 commits_once brought once before c later t e =

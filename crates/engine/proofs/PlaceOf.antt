@@ -1,25 +1,26 @@
 -- The place of a token tells what a ledger has of it.
-use Rattle.std.proofs.Common.{◌≡◌, ◌≤◌, ◌<◌, refl, sym, ◌∙◌, ap, subst, ℕ, zero, suc, ◌+◌, Bool, true, false, if◌then◌else◌, Option, Some, None, option_map, List, [], ◌∷◌, ◌++◌, length, get_or, arith}
+use Rattle.std.proofs.Common.{◌≡◌, ◌≤◌, ◌<◌, refl, sym, ◌∙◌, ap, subst, ℕ, suc, ◌+◌, Bool, true, false, if◌then◌else◌, Option, Some, None, option_map, List, [], ◌∷◌, ◌++◌, length, get_or, arith}
 use Rattle.std.specs.Option.{option_or}
-use Rattle.std.proofs.lemmas.Slice.Eq.{bytes_eq-Decides}
 use Rattle.engine.specs.Tokens.{known_by, same_writes, is_token, under_token, TokensOnce, Found, Free, There, Other, found_from, found_in}
 use Rattle.engine.specs.Places.{place_of, kept_at}
 use Rattle.engine.specs.Views.{WriteView, Token, EntryView, writes_view, entry_view, entries_view}
 use Rattle.engine.specs.declared.ledger.Entry.{Entry}
 use Rattle.engine.specs.declared.ledger.Commit.TheVariants.{Repeat, Clash}
+use Rattle.engine.proofs.LastValues.{or_none}
+use Rattle.engine.proofs.Once.{is_the_token}
+
+next_none : (o : Option ℕ) → option_map suc o ≡ None → o ≡ None
+next_none None h = refl
+next_none (Some x) h = absurd cc
 
 -- nothing, where no entry has the token
 pub none_found : (t : List ℕ) (w : List WriteView) (es : List EntryView) (n : ℕ) → place_of t es ≡ None → found_from t w es n ≡ Free
 none_found t w [] n h = refl
 none_found t w (e ∷ es) n h = go (is_token t e.token) h (none_found t w es (suc n))
   where
-    none : (o : Option ℕ) → option_map suc o ≡ None → o ≡ None
-    none None h = refl
-    none (Some x) h = absurd cc
-
     go : (b : Bool) → (if b then Some 0 else option_map suc (place_of t es)) ≡ None → (place_of t es ≡ None → found_from t w es (suc n) ≡ Free) → (if b then (if same_writes e.writes w then There (suc n) else Other) else found_from t w es (suc n)) ≡ Free
     go true h f = absurd cc
-    go false h f = f (none (place_of t es) h)
+    go false h f = f (next_none (place_of t es) h)
 
 abbrev At : List ℕ → List WriteView → List EntryView → ℕ → ℕ → Type 0
 At t w es n i = (i < length es) × ((d : EntryView) → found_from t w es n ≡ (if same_writes (get_or es i d).writes w then There (suc (n + i)) else Other))
@@ -42,19 +43,14 @@ place_found t w (e ∷ es) n i h = go (is_token t e.token) h (place_of t es) ref
 
 -- one entry more
 pub place_push : (t : List ℕ) (es : List EntryView) (e : EntryView) → place_of t (es ++ e ∷ []) ≡ option_or (place_of t es) (if is_token t e.token then Some (length es) else None)
-place_push t [] e = go (is_token t e.token)
-  where
-    go : (b : Bool) → (if b then Some 0 else option_map suc None) ≡ (if b then Some 0 else None)
-    go true = refl
-    go false = refl
+place_push t [] e = refl
 place_push t (x ∷ es) e = go (is_token t x.token) (place_of t es) (is_token t e.token) (place_push t es e)
   where
     go : (b : Bool) (o : Option ℕ) (l : Bool) → place_of t (es ++ e ∷ []) ≡ option_or o (if l then Some (length es) else None)
         → (if b then Some 0 else option_map suc (place_of t (es ++ e ∷ []))) ≡ option_or (if b then Some 0 else option_map suc o) (if l then Some (suc (length es)) else None)
     go true o l h = refl
     go false None true h = ap (option_map suc) h
-    go false None false h = ap (option_map suc) h
-    go false (Some x) l h = ap (option_map suc) h
+    go _ _ _ h = ap (option_map suc) h
 
 under_push : (t : List ℕ) (es : List EntryView) (e : EntryView) → length (under_token t (es ++ e ∷ [])) ≡ length (under_token t es) + (if is_token t e.token then 1 else 0)
 under_push t [] e = go (is_token t e.token)
@@ -73,13 +69,9 @@ none_under : (t : List ℕ) (es : List EntryView) → place_of t es ≡ None →
 none_under t [] h = refl
 none_under t (x ∷ es) h = go (is_token t x.token) h (none_under t es)
   where
-    none : (o : Option ℕ) → option_map suc o ≡ None → o ≡ None
-    none None h = refl
-    none (Some x) h = absurd cc
-
     go : (b : Bool) → (if b then Some 0 else option_map suc (place_of t es)) ≡ None → (place_of t es ≡ None → under_token t es ≡ []) → (if b then x.writes ∷ under_token t es else under_token t es) ≡ []
     go true h f = absurd cc
-    go false h f = f (none (place_of t es) h)
+    go false h f = f (next_none (place_of t es) h)
 
 -- what a ledger has nothing of has no place
 pub free_none : (t : List ℕ) (w : List WriteView) (es : List EntryView) → found_from t w es 0 ≡ Free → place_of t es ≡ None
@@ -96,10 +88,6 @@ free_none t w es h = go (place_of t es) refl
         let r = place_found t w es 0 i e in
         absurd (other (same_writes (get_or es i d).writes w) (suc (0 + i)) (sym (r.1 d) ∙ h))
 
-the_token : (t : List ℕ) (o : Token) → is_token t o ≡ true → o ≡ Some t
-the_token t None h = absurd cc
-the_token t (Some s) h = ap Some ((bytes_eq-Decides s t).0 h)
-
 -- An entry whose token was free, and its place.
 pub kept_on : (es : List EntryView) (e : EntryView) (places new : List ℕ → Option ℕ) → found_in e.token e.writes es ≡ Free → ((t : List ℕ) → places t ≡ place_of t es) → TokensOnce es
     → ((t : List ℕ) → new t ≡ kept_at e.token (length es) t (places t))
@@ -107,35 +95,19 @@ pub kept_on : (es : List EntryView) (e : EntryView) (places new : List ℕ → O
 kept_on es e places new free each once n = ((λ t. n t ∙ place t e.token refl ∙ sym (place_push t es e)), (λ t. one t (is_token t e.token) refl))
   where
     absent : (t : List ℕ) → is_token t e.token ≡ true → place_of t es ≡ None
-    absent t h = free_none t e.writes es (ap (λ o. found_in o e.writes es) (sym (the_token t e.token h)) ∙ free)
+    absent t h = free_none t e.writes es (ap (λ o. found_in o e.writes es) (sym (is_the_token t e.token h)) ∙ free)
 
     by : (t : List ℕ) (b : Bool) → is_token t e.token ≡ b → (if b then Some (length es) else places t) ≡ option_or (place_of t es) (if b then Some (length es) else None)
     by t true h = ap (λ o. option_or o (Some (length es))) (sym (absent t h))
-    by t false h = each t ∙ whole (place_of t es)
-      where
-        whole : (o : Option ℕ) → o ≡ option_or o None
-        whole None = refl
-        whole (Some x) = refl
+    by t false h = each t ∙ or_none (place_of t es)
 
     place : (t : List ℕ) (o : Token) → e.token ≡ o → kept_at e.token (length es) t (places t) ≡ option_or (place_of t es) (if is_token t e.token then Some (length es) else None)
-    place t None p = rw p (each t ∙ none (place_of t es))
-      where
-        none : (o : Option ℕ) → o ≡ option_or o None
-        none None = refl
-        none (Some x) = refl
+    place t None p = rw p (each t ∙ or_none (place_of t es))
     place t (Some s) p = ap (λ o. kept_at o (length es) t (places t)) p ∙ ap (λ b. if b then Some (length es) else places t) (ap (is_token t) (sym p)) ∙ by t (is_token t e.token) refl
 
     one : (t : List ℕ) (b : Bool) → is_token t e.token ≡ b → length (under_token t (es ++ e ∷ [])) ≤ 1
     one t true h = let z = ap length (none_under t es (absent t h)) in let l = under_push t es e ∙ ap (λ b. length (under_token t es) + (if b then 1 else 0)) h in omega (arith, z, l)
     one t false h = let l = under_push t es e ∙ ap (λ b. length (under_token t es) + (if b then 1 else 0)) h in omega (arith, l, once t)
-
-pub entries_length : (es : List Entry) → length (entries_view es) ≡ length es
-entries_length [] = refl
-entries_length (e ∷ es) = ap suc (entries_length es)
-
-pub entries_push : (es : List Entry) (e : Entry) → entries_view (es ++ e ∷ []) ≡ entries_view es ++ entry_view e ∷ []
-entries_push [] e = refl
-entries_push (x ∷ es) e = ap (λ l. entry_view x ∷ l) (entries_push es e)
 
 -- what a place tells of writes
 pub known_none : (t : List ℕ) (w : List WriteView) (es : List EntryView) → place_of t es ≡ None → known_by (found_in (Some t) w es) ≡ None
@@ -149,14 +121,12 @@ known_at t w es i d b h e = ap known_by ((place_found t w es 0 i h).1 d ∙ ap (
     go false = refl
 
 pub view_at : (es : List Entry) (i : ℕ) (d : Entry) → (get_or (entries_view es) i (entry_view d)).writes ≡ writes_view (get_or es i d).writes.items
-view_at [] i d = refl
-view_at (x ∷ es) zero d = refl
 view_at (x ∷ es) (suc i) d = view_at es i d
+view_at _ _ d = refl
 
 pub known_free : (f : Found) → known_by f ≡ None → f ≡ Free
 known_free Free h = refl
-known_free (There n) h = absurd cc
-known_free Other h = absurd cc
+known_free _ h = absurd cc
 
 -- a token of which nothing is known has no place
 pub unplaced : (o : Token) (w : List WriteView) (es : List EntryView) (t : List ℕ) → known_by (found_in o w es) ≡ None → o ≡ Some t → place_of t es ≡ None

@@ -12,9 +12,8 @@ use Rattle.engine.specs.declared.places.Places.{Places}
 -- one entry more, without the token
 push_other : (t : List ℕ) (es : List EntryView) (e : EntryView) (p : ℕ) → is_token t e.token ≡ false → has_token_at (es ++ e ∷ []) p t ≡ has_token_at es p t
 push_other t [] e zero h = h
-push_other t [] e (suc p) h = refl
-push_other t (x ∷ es) e zero h = refl
 push_other t (x ∷ es) e (suc p) h = push_other t es e p h
+push_other t _ e _ h = refl
 
 push_last : (t : List ℕ) (es : List EntryView) (e : EntryView) → has_token_at (es ++ e ∷ []) (length es) t ≡ is_token t e.token
 push_last t [] e = refl
@@ -47,8 +46,6 @@ told_with q es e None own other true true i a o b f = ap (λ c. if c then Some (
 told_with q es e None own other true false i a o b f = absurd (let z : false ≡ true = a refl in cc)
 told_with q es e None own other false true i a o b f =
     ap (λ c. if c then Some (length es) else other) (push_last q es e ∙ i) ∙ b (o refl) ∙ ap (λ x. told_by es q x other) (sym (o refl))
-told_with q es e None own other false false i a o b f = told_other q es e own other i
-told_with q es e (Some p) own other false alike i a o b f = told_other q es e own other i
 told_with q es e (Some p) own other true alike i a o b f = ap (λ x. told_by (es ++ e ∷ []) q x (Some (length es))) is ∙ last (has_token_at (es ++ e ∷ []) p q) refl
   where
     is : own ≡ Some p
@@ -57,6 +54,7 @@ told_with q es e (Some p) own other true alike i a o b f = ap (λ x. told_by (es
     last : (c : Bool) → has_token_at (es ++ e ∷ []) p q ≡ c → (if c then Some p else Some (length es)) ≡ Some (length es)
     last true h = ap Some (push_at q es e p (told_free q es p other (ap (λ x. told_by es q x other) (sym is) ∙ f refl)) h)
     last false h = refl
+told_with q es e _ own other _ _ i a o b f = told_other q es e own other i
 
 -- An entry whose token was free, with its place.
 pub told_on : (old new : Places) (es : List EntryView) (e : EntryView) → IsWith old new e.token (length es) → AreBehindFirsts old → ((t : List ℕ) → e.token ≡ Some t → place_in old es t ≡ None)
@@ -87,9 +85,8 @@ told_on old new es e with behind free q = go e.token refl with free
 behind_step : (first own other : Option ℕ) (place : ℕ) (same alike : Bool) → (same ≡ true → alike ≡ true) → (alike ≡ true → own ≡ first) → (own ≡ None → other ≡ None)
     → where_none first (if alike then Some place else own) own ≡ None → where_none first other (if same then Some place else other) ≡ None
 behind_step None own other place same true a o b h = absurd cc
-behind_step None own other place same false a o b h = b h
 behind_step (Some p) own other place true alike a o b h = absurd (let z : Some p ≡ None = sym (o (a refl)) ∙ h in cc)
-behind_step (Some p) own other place false alike a o b h = b h
+behind_step _ own other place _ _ a o b h = b h
 
 -- with the place of a token more, what is kept by its text still stands behind a first
 pub behind_on : (old new : Places) (token : Token) (place : ℕ) → IsWith old new token place → AreBehindFirsts old → AreBehindFirsts new

@@ -98,6 +98,7 @@ impl Places {
 
 /// The same of a token whose fingerprint another has. A place by its text wants a copy of it, so it is looked for first: where it is there, no memory is taken. Its
 /// place is given up again where the next entry finds none.
+#[tactic(auto, using(std::proofs::lemmas::Map::Text::text_keys))]
 fn find_or_keep_other(
     others: &mut BTreeMap<String, usize>,
     alloc: Global,
@@ -145,6 +146,7 @@ fn has_token_at(ledger: &[Entry], place: usize, token: &str) -> bool
 }
 
 /// A number by which a token is looked up. Unequal tokens can have one.
+#[tactic(auto, unfolding(crate::specs::Places::fingerprint))]
 fn fingerprint(token: &str) -> u64
     ensures { result ≡ fingerprint token.now }
 {

@@ -1,10 +1,9 @@
 -- What is gathered phase by phase is what a set gives as a whole.
-use Rattle.std.proofs.Common.{◌≡◌, refl, sym, ap, subst, ◌∙◌, ℕ, zero, suc, ◌+◌, ◌<◌, add-one, length, take, get_or, Bool, true, false, not, ◌||◌, ◌&&◌, true≢false, List, [], ◌∷◌, ◌++◌, ◌⊎◌, inl, inr, ⊎_elim}
+use Rattle.std.proofs.Common.{◌≡◌, refl, sym, ap, subst, ◌∙◌, ℕ, zero, suc, ◌+◌, ◌<◌, take, get_or, Bool, true, false, not, ◌||◌, ◌&&◌, true≢false, List, [], ◌∷◌, ◌⊎◌, inl, inr, ⊎_elim}
 use Rattle.std.specs.List.{list_any, list_all}
-use Rattle.std.proofs.lemmas.Bool.{and_parts, or_cases, or_left, or_right}
-use Rattle.std.proofs.lemmas.List.Folds.{list_any-append}
+use Rattle.std.proofs.lemmas.Bool.{and_parts, or_cases, or_left, or_right, and_from}
+use Rattle.std.proofs.lemmas.List.Folds.{list_all_more, list_any_more}
 use Rattle.std.proofs.Math.Bool.{and-true, and-false, or-false}
-use Rattle.std.proofs.Math.Seq.{take-suc}
 use Rattle.wire.specs.declared.Version.{Version}
 use Rattle.machine.specs.declared.states.Phase.{Phase}
 use Rattle.machine.specs.declared.kinds.Kind.{Kind}
@@ -38,34 +37,17 @@ all_has t (q ∷ ps) p h e =
     let r = and_parts (t q) (list_all t ps) h in
     ⊎_elim (λ s. subst (λ x. t x ≡ true) (sym (same_phase-true p q s)) r.0) (λ s. all_has t ps p r.1 s) (or_cases (same_phase p q) (has p ps) e)
 
-pub both_true : (a b : Bool) → a ≡ true → b ≡ true → (a && b) ≡ true
-both_true a b h k = rw (h, k) refl
-
 pub has_all : (t : Phase → Bool) (ps : List Phase) → ((p : Phase) → has p ps ≡ true → t p ≡ true) → list_all t ps ≡ true
 has_all t [] h = refl
 has_all t (p ∷ ps) h =
-    both_true (t p) (list_all t ps) (h p (or_left (same_phase p p) _ (same_phase-refl p))) (has_all t ps (λ q e. h q (or_right (same_phase q p) _ e)))
+    and_from (t p) (list_all t ps) (h p (or_left (same_phase p p) _ (same_phase-refl p))) (has_all t ps (λ q e. h q (or_right (same_phase q p) _ e)))
 
 -- a member of a set that passes, as one of all phases
 pub any-members : (t : Phase → Bool) (ps : List Phase) → list_any (λ p. has p ps && t p) every_phase ≡ list_any t ps
 any-members t ps =
     same_truth _ _
     (λ h. let r = any_has (λ p. has p ps && t p) every_phase h in let b = and_parts (has r.0 ps) (t r.0) r.2 in has_any t ps r.0 b.0 b.1)
-    (λ h. let r = any_has t ps h in has_any (λ p. has p ps && t p) every_phase r.0 (at_phase (λ p. has p every_phase) refl r.0) (both_true (has r.0 ps) (t r.0) r.1 r.2))
-
-pub any-take : (t : Phase → Bool) (xs : List Phase) (i : ℕ) (d : Phase) → i < length xs → list_any t (take (i + 1) xs) ≡ (list_any t (take i xs) || t (get_or xs i d))
-any-take t xs i d h = rw (add-one, take-suc xs i d h) (list_any-append t (take i xs) (get_or xs i d ∷ []) ∙ ap (λ b. list_any t (take i xs) || b) (or-false (t (get_or xs i d))))
-
-list_all-append : (t : Phase → Bool) (xs ys : List Phase) → list_all t (xs ++ ys) ≡ (list_all t xs && list_all t ys)
-list_all-append t [] ys = refl
-list_all-append t (x ∷ xs) ys = rw (list_all-append t xs ys) (go (t x) (list_all t xs) (list_all t ys))
-  where
-    go : (a b c : Bool) → (a && (b && c)) ≡ ((a && b) && c)
-    go true b c = refl
-    go false b c = refl
-
-pub all-take : (t : Phase → Bool) (xs : List Phase) (i : ℕ) (d : Phase) → i < length xs → list_all t (take (i + 1) xs) ≡ (list_all t (take i xs) && t (get_or xs i d))
-all-take t xs i d h = rw (add-one, take-suc xs i d h) (list_all-append t (take i xs) (get_or xs i d ∷ []) ∙ ap (λ b. list_all t (take i xs) && b) (and-true (t (get_or xs i d))))
+    (λ h. let r = any_has t ps h in has_any (λ p. has p ps && t p) every_phase r.0 (at_phase (λ p. has p every_phase) refl r.0) (and_from (has r.0 ps) (t r.0) r.1 r.2))
 
 -- what the first of all phases give, where they are in the set
 abbrev pub gathered : (Phase → List Phase) → List Phase → ℕ → List Phase
@@ -86,7 +68,7 @@ gathered-some f ps r s t i d p h e m e1 e2 e3 =
     ap (λ u. u || has x (as_set (f p))) (has-set_of (λ y. list_any (λ q. has q ps && has y (f q)) (take i every_phase)) x)
     ∙ ap (λ u. list_any (λ q. has q ps && has x (f q)) (take i every_phase) || u) (has-set_of (λ y. has y (f p)) x ∙ ap (λ b. b && has x (f p)) (sym m))
     ∙ ap (λ q. list_any (λ q. has q ps && has x (f q)) (take i every_phase) || (has q ps && has x (f q))) e
-    ∙ sym (any-take (λ q. has q ps && has x (f q)) every_phase i d h))
+    ∙ sym (list_any_more (λ q. has q ps && has x (f q)) every_phase i d h))
 
 pub gathered-none : (f : Phase → List Phase) (ps r s : List Phase) (i : ℕ) (d p : Phase) → i < 8 → p ≡ get_or every_phase i d → has p ps ≡ false
     → r ≡ s → s ≡ gathered f ps i → r ≡ gathered f ps (i + 1)
@@ -98,7 +80,7 @@ gathered-none f ps r s i d p h e m e1 e2 =
     sym (or-false (list_any (λ q. has q ps && has x (f q)) (take i every_phase)))
     ∙ ap (λ b. list_any (λ q. has q ps && has x (f q)) (take i every_phase) || (b && has x (f p))) (sym m)
     ∙ ap (λ q. list_any (λ q. has q ps && has x (f q)) (take i every_phase) || (has q ps && has x (f q))) e
-    ∙ sym (any-take (λ q. has q ps && has x (f q)) every_phase i d h))
+    ∙ sym (list_any_more (λ q. has q ps && has x (f q)) every_phase i d h))
 
 pub gathered-all : (f : Phase → List Phase) (ps : List Phase) → gathered f ps 8 ≡ given f ps
 gathered-all f ps = set_of-agree (λ x. list_any (λ p. has p ps && has x (f p)) every_phase) (λ x. list_any (λ p. has x (f p)) ps) (λ x. any-members (λ p. has x (f p)) ps)
@@ -121,10 +103,10 @@ pub checked-some : (v : Version) (ps : List Phase) (k : Kind) (some : Bool) (i :
     → Checked v ps k some i → Checked v ps k true (i + 1)
 checked-some v ps k some i d h m a c =
     record {
-      any = sym (any-take (λ p. has p ps) live i d h ∙ or_right (list_any (λ p. has p ps) (take i live)) _ m);
+      any = sym (list_any_more (λ p. has p ps) live i d h ∙ or_right (list_any (λ p. has p ps) (take i live)) _ m);
       all =
-          all-take (λ p. not (has p ps) || allows v p k) live i d h
-          ∙ both_true _ _ c.all (or_right (not (has (get_or live i d) ps)) _ a);
+          list_all_more (λ p. not (has p ps) || allows v p k) live i d h
+          ∙ and_from _ _ c.all (or_right (not (has (get_or live i d) ps)) _ a);
     }
 
 pub checked-none : (v : Version) (ps : List Phase) (k : Kind) (some : Bool) (i : ℕ) (d : Phase) → i < 7 → has (get_or live i d) ps ≡ false
@@ -135,21 +117,15 @@ checked-none v ps k some i d h m c =
           c.any
           ∙ sym (or-false (list_any (λ p. has p ps) (take i live)))
           ∙ ap (λ b. list_any (λ p. has p ps) (take i live) || b) (sym m)
-          ∙ sym (any-take (λ p. has p ps) live i d h);
+          ∙ sym (list_any_more (λ p. has p ps) live i d h);
       all =
-          all-take (λ p. not (has p ps) || allows v p k) live i d h
-          ∙ both_true _ _ c.all (or_left (not (has (get_or live i d) ps)) _ (ap (λ b. not b) m));
+          list_all_more (λ p. not (has p ps) || allows v p k) live i d h
+          ∙ and_from _ _ c.all (or_left (not (has (get_or live i d) ps)) _ (ap (λ b. not b) m));
     }
 
 live_or_over : (p : Phase) → (is_defunct p ≡ true) ⊎ (has p live ≡ true)
-live_or_over Phase.Fresh = inr refl
-live_or_over Phase.Unauth = inr refl
-live_or_over Phase.Ready = inr refl
-live_or_over Phase.Streaming = inr refl
-live_or_over Phase.TxReady = inr refl
-live_or_over Phase.TxStreaming = inr refl
-live_or_over Phase.Halted = inr refl
 live_or_over Phase.Defunct = inl refl
+live_or_over _ = inr refl
 
 live-lives : (p : Phase) → implies (has p live) (not (is_defunct p)) ≡ true
 live-lives p = at_phase (λ p. implies (has p live) (not (is_defunct p))) refl p

@@ -19,8 +19,8 @@ given-within f ps qs w x h =
     let r = any_has (λ p. has x (f p)) ps (sym (has-set_of (λ y. list_any (λ p. has y (f p)) ps) x) ∙ h) in
     has-set_of (λ y. list_any (λ p. has y (f p)) qs) x ∙ has_any (λ p. has x (f p)) qs r.0 (w r.0 r.1) r.2
 
-pub after-within : (v : Version) (ps qs : List Phase) (a : RequestView) → IsWithin ps qs → IsWithin (set_after v ps a) (set_after v qs a)
-after-within v ps qs a w = given-within (λ p. table v p (kind_of a) (in_part a)) ps qs w
+pub after_within : (v : Version) (ps qs : List Phase) (a : RequestView) → IsWithin ps qs → IsWithin (set_after v ps a) (set_after v qs a)
+after_within v ps qs a w = given-within (λ p. table v p (kind_of a) (in_part a)) ps qs w
 
 pub follow-within : (v : Version) (ps qs : List Phase) (a : RequestView) → IsWithin ps qs → IsWithin (follow v ps a) (follow v qs a)
 follow-within v ps qs a w = given-within (λ p. next v p (kind_of a) (in_part a)) ps qs w
@@ -42,5 +42,5 @@ pub possible-append : (v : Version) (ps : List Phase) (first second : List Reque
 possible-append v ps [] second = refl
 possible-append v ps (a ∷ rest) second = possible-append v (follow v ps a) rest second
 
-pub commits-marked : (v : Version) (s : State) (k : Kind) → commits (phase_of s) k ≡ marked_in v s k
-commits-marked v s k = same_bool-true _ _ (at_rows (λ v s k. same_bool (commits (phase_of s) k) (marked_in v s k)) refl v s k)
+pub commits_marked : (v : Version) (s : State) (k : Kind) → commits (phase_of s) k ≡ marked_in v s k
+commits_marked v s k = same_bool-true _ _ (at_rows (λ v s k. same_bool (commits (phase_of s) k) (marked_in v s k)) refl v s k)

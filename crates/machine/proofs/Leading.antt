@@ -31,11 +31,10 @@ same_state-true _ _ h = cc
 
 same_states-true : (ss ts : List State) → same_states ss ts ≡ true → ss ≡ ts
 same_states-true [] [] h = refl
-same_states-true [] (t ∷ ts) h = cc
-same_states-true (s ∷ ss) [] h = cc
 same_states-true (s ∷ ss) (t ∷ ts) h =
     let r = and_parts (same_state s t) (same_states ss ts) h in
     ap (λ x. x ∷ ss) (same_state-true s t r.0) ∙ ap (λ xs. t ∷ xs) (same_states-true ss ts r.1)
+same_states-true _ _ h = cc
 
 -- at most one place of the tables is for a request at a verdict
 pub one_next : (v : Version) (s : State) (k : Kind) (d : Verdict) → nexts_of v s k d ≡ option_to_list (row_of v s k d)
@@ -57,12 +56,8 @@ is_more Verdict.More = true
 is_more _ = false
 
 not_more : (d : Verdict) (part : Bool) → (d ≡ Verdict.More → part ≡ true) → not (is_more d) || part ≡ true
-not_more Verdict.Success part h = refl
 not_more Verdict.More part h = h refl
-not_more Verdict.Failure part h = refl
-not_more Verdict.Ignored part h = refl
-not_more Verdict.Invalid part h = refl
-not_more Verdict.Gone part h = refl
+not_more _ part h = refl
 
 at_answers : (t : Version → State → Kind → Verdict → Bool → Bool)
     → list_all (λ v. list_all (λ s. list_all (λ k. list_all (λ d. list_all (λ b. t v s k d b) every_bool) every_verdict) every_kind) every_state) versions ≡ true

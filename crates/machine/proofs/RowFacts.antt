@@ -29,7 +29,7 @@ pub table_is_next : (v : Version) (p : Phase) (k : Kind) (part : Bool) (x : Phas
 table_is_next v p k part x = same_bool-true _ _ (at_places (λ v p k b x. same_bool (has x (next v p k b)) (has x (table v p k b))) refl v p k part x)
 
 -- so what the table says of a set is what the rows say
-pub joined-follow : (v : Version) (ps : List Phase) (a : RequestView) → set_after v ps a ≡ follow v ps a
-joined-follow v ps a =
+pub joined_follow : (v : Version) (ps : List Phase) (a : RequestView) → set_after v ps a ≡ follow v ps a
+joined_follow v ps a =
     set_of-agree (λ x. list_any (λ p. has x (table v p (kind_of a) (in_part a))) ps) (λ x. list_any (λ p. has x (next v p (kind_of a) (in_part a))) ps)
     (λ x. list_any-agree (λ p. has x (table v p (kind_of a) (in_part a))) (λ p. has x (next v p (kind_of a) (in_part a))) (λ p. sym (table_is_next v p (kind_of a) (in_part a) x)) ps)

@@ -29,13 +29,7 @@ either a b =
 
 holds-either : (a b : Inside) (p : Phase) → holds (either a b) p ≡ (holds a p || holds b p)
 holds-either a b Phase.Fresh = refl
-holds-either a b Phase.Unauth = refl
-holds-either a b Phase.Ready = refl
-holds-either a b Phase.Streaming = refl
-holds-either a b Phase.TxReady = refl
-holds-either a b Phase.TxStreaming = refl
-holds-either a b Phase.Halted = refl
-holds-either a b Phase.Defunct = refl
+holds-either a b _ = refl
 
 has-members : (a : Inside) (ps : List Phase) → members a ≡ ps → (p : Phase) → holds a p ≡ has p ps
 has-members a ps e p = sym (has-set_of (holds a) p) ∙ ap (λ l. has p l) e

@@ -10,6 +10,7 @@ use Rattle.machine.specs.declared.kinds.Kind.{Kind}
 use Rattle.machine.specs.declared.rows.Verdict.{Verdict}
 use Rattle.machine.specs.States.{same_phase}
 use Rattle.machine.specs.Following.{every_phase, every_state}
+pub use Rattle.machine.specs.Members.{same_phase-true}
 
 pub list_at : {X : Type 0} (t : X → Bool) (xs : List X) (i : ℕ) (x : X) → list_all t xs ≡ true → slice_get xs i ≡ Some x → t x ≡ true
 list_at t [] i x h e = cc
@@ -110,17 +111,6 @@ pub same_bool-true : (a b : Bool) → same_bool a b ≡ true → a ≡ b
 same_bool-true true b h = sym h
 same_bool-true false true h = cc
 same_bool-true false false h = refl
-
-pub same_phase-true : (p q : Phase) → same_phase p q ≡ true → p ≡ q
-same_phase-true Phase.Fresh Phase.Fresh h = refl
-same_phase-true Phase.Unauth Phase.Unauth h = refl
-same_phase-true Phase.Ready Phase.Ready h = refl
-same_phase-true Phase.Streaming Phase.Streaming h = refl
-same_phase-true Phase.TxReady Phase.TxReady h = refl
-same_phase-true Phase.TxStreaming Phase.TxStreaming h = refl
-same_phase-true Phase.Halted Phase.Halted h = refl
-same_phase-true Phase.Defunct Phase.Defunct h = refl
-same_phase-true _ _ h = cc
 
 pub same_phase-refl : (p : Phase) → same_phase p p ≡ true
 same_phase-refl p = at_phase (λ p. same_phase p p) refl p

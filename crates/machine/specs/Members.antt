@@ -37,7 +37,7 @@ fields ps =
       defunct = has Phase.Defunct ps;
     }
 
-same_phase-true : (p q : Phase) → same_phase p q ≡ true → p ≡ q
+pub same_phase-true : (p q : Phase) → same_phase p q ≡ true → p ≡ q
 same_phase-true Phase.Fresh Phase.Fresh h = refl
 same_phase-true Phase.Unauth Phase.Unauth h = refl
 same_phase-true Phase.Ready Phase.Ready h = refl

@@ -3,17 +3,20 @@
 ghost use Rattle.machine.specs.Laws.{AfterGrows, AllowedIsValid, CommitsAreMarked, CouldGrows, JoinedIsFollow, OneNext, OneWay, PossibleGrows, PossibleInTurn, RowsFollow, InterruptedRowsFollow, TableIsRows};
 
 /// A request has at most one next state at a verdict: no two places of the tables are for it.
+#[tactic(auto, using(crate::proofs::Leading::one_next))]
 pub fn one_next()
     ensures { OneNext }
 {}
 
 /// Each kind of the version is met in exactly one way in each state that isn't over: worked, passed over, refused, or not
 /// answered at all; in a state that is over in none, nor is a kind of the other version alone.
+#[tactic(auto, using(crate::proofs::Ways::one_way))]
 pub fn one_way()
     ensures { OneWay }
 {}
 
 /// What is allowed in a set is refused as invalid in no state of the set.
+#[tactic(auto, using(crate::proofs::Ways::allowed_is_valid))]
 pub fn allowed_is_valid()
     ensures { AllowedIsValid }
 {}
@@ -29,16 +32,19 @@ pub fn interrupted_rows_follow()
 {}
 
 /// The table of what may follow one request says what the rows say over every verdict.
+#[tactic(auto, using(crate::proofs::RowFacts::table_is_next))]
 pub fn table_is_rows()
     ensures { TableIsRows }
 {}
 
 /// So it does of sets.
+#[tactic(auto, using(crate::proofs::RowFacts::joined_follow))]
 pub fn sets_are_rows()
     ensures { JoinedIsFollow }
 {}
 
 /// More may follow more phases.
+#[tactic(auto, using(crate::proofs::Growing::after_within))]
 pub fn after_grows()
     ensures { AfterGrows }
 {}
@@ -59,6 +65,7 @@ pub fn possible_in_turn()
 {}
 
 /// The rows that commit are those marked in the table.
+#[tactic(auto, using(crate::proofs::Growing::commits_marked))]
 pub fn commits_are_marked()
     ensures { CommitsAreMarked }
 {}

@@ -17,10 +17,6 @@ use Rattle.session.specs.Rest.{Kept, Receives, what_of, after_item}
 use Rattle.server.specs.Feeding.{arrival}
 use Rattle.server.specs.Incoming.{IsReceived}
 
-pub on_err : {X E : Type 0} (r : Result X E) (P Q : Type 0) → (P → Q) → OnErr r P → OnErr r Q
-on_err (Ok x) P Q f p = tt
-on_err (Err e) P Q f p = f p
-
 -- this arrival was received, and the item is it
 pub received_as : (r : Result What AllocError) (old new : Kept) (item : Option Item) (x : Arrival) → arrival old item ≡ Some x → IfOk r (λ what. Receives what old new x) → OnErr r ⊥ → IsReceived r old new (arrival old item)
 received_as (Ok what) old new item x e took never = subst (λ (y : Option Arrival). (what ≡ what_of y) × (new ≡ after_item old y)) (sym e) took

@@ -3,11 +3,11 @@ use Rattle.std.proofs.Common.{◌≡◌, refl, sym, ◌∙◌, ap, subst, ℕ, B
 use Rattle.std.specs.Prelude.{option_map, option_to_list, if◌then◌else◌}
 use Rattle.wire.specs.declared.Version.{Version}
 use Rattle.wire.specs.Reader.{Took, state, takes}
-use Rattle.wire.specs.Framing.{Item, Opening, Noop, Message, TooBig, Opened, at_server, items_received}
+use Rattle.wire.specs.Framing.{Item, Opening, Message, Opened, at_server, items_received}
 use Rattle.messages.specs.declared.fault.MsgFault.{MsgFault}
 use Rattle.messages.specs.View.{RequestView}
 use Rattle.messages.specs.Messages.{request_of}
-use Rattle.messages.specs.Arrivals.{Arrival, Shook, NoMagic, Idle, Asked, Unread, TooLong, version_shaken, server_end, arrival_of_offer, then_request, requests_in, after_shake, arrivals_of, arrivals}
+use Rattle.messages.specs.Arrivals.{Arrival, Shook, NoMagic, Asked, Unread, TooLong, version_shaken, server_end, arrival_of_offer, then_request, requests_in, after_shake, arrivals_of, arrivals}
 use Rattle.server.specs.Feeding.{arrives}
 use Rattle.session.specs.Rest.{arrival_by, unread_among}
 use Rattle.server.specs.Past.{places_of}
@@ -17,32 +17,26 @@ use Rattle.inbox.proofs.Arriving.{Next, opens, follows, items_then, next_item, i
 -- what stands for no request takes a slot
 pub unread_placed : (xs : List Arrival) → unread_among (places_of xs) ≡ unread_among xs
 unread_placed [] = refl
-unread_placed (Asked q ∷ xs) = unread_placed xs
 unread_placed (Unread e ∷ xs) = refl
 unread_placed (TooLong ∷ xs) = refl
-unread_placed (Shook o ∷ xs) = unread_placed xs
-unread_placed (NoMagic ∷ xs) = unread_placed xs
-unread_placed (Idle ∷ xs) = unread_placed xs
+unread_placed (x ∷ xs) = unread_placed xs
 
 pub placed-append : (xs ys : List Arrival) → places_of (xs ++ ys) ≡ places_of xs ++ places_of ys
 placed-append [] ys = refl
 placed-append (Asked q ∷ xs) ys = ap (λ z. Asked q ∷ z) (placed-append xs ys)
 placed-append (Unread e ∷ xs) ys = ap (λ z. Unread e ∷ z) (placed-append xs ys)
 placed-append (TooLong ∷ xs) ys = ap (λ z. TooLong ∷ z) (placed-append xs ys)
-placed-append (Shook o ∷ xs) ys = placed-append xs ys
-placed-append (NoMagic ∷ xs) ys = placed-append xs ys
-placed-append (Idle ∷ xs) ys = placed-append xs ys
+placed-append (x ∷ xs) ys = placed-append xs ys
 
 -- a chunk alone is what arrives of it
 chunk_is : (v : Version) (x : Item) → IsChunk x → requests_in v (x ∷ []) ≡ arrives v x ∷ []
 chunk_is v (Opening b) i = absurd i
-chunk_is v Noop i = refl
 chunk_is v (Message b) i = go (request_of v b)
   where
     go : (r : Result RequestView MsgFault) → then_request r [] ≡ arrival_by r ∷ []
     go (Ok q) = refl
     go (Err e) = refl
-chunk_is v TooBig i = refl
+chunk_is v _ i = refl
 
 abbrev head_or : Arrival → List Arrival → Arrival
 head_or a [] = a
@@ -56,13 +50,12 @@ is_shake _ = false
 
 no_shake : (v : Version) (y : Item) → IsChunk y → is_shake (arrives v y) ≡ false
 no_shake v (Opening b) i = absurd i
-no_shake v Noop i = refl
 no_shake v (Message b) i = go (request_of v b)
   where
     go : (r : Result RequestView MsgFault) → is_shake (arrival_by r) ≡ false
     go (Ok q) = refl
     go (Err x) = refl
-no_shake v TooBig i = refl
+no_shake v _ i = refl
 
 -- what a shaking is
 shaken_is : (bytes : List ℕ) → is_shake (arrival_of_offer bytes) ≡ true

@@ -1,11 +1,12 @@
 -- What a session has placed follows its bytes: each call on it keeps that.
 use Rattle.std.proofs.Common.{◌≡◌, ◌≢◌, refl, sym, ◌∙◌, ap, subst, ℕ, ◌+◌, Bool, true, false, cond, leb, ◌⊎◌, inl, inr, Option, Some, None, List, [], ◌∷◌, ◌++◌, length, take, arith, append-nil, append_assoc, length-append}
 use Rattle.std.specs.Prelude.{option_map, option_to_list, map, is_some, unwrap_or, ◌||◌, ◌&&◌}
+use Rattle.std.proofs.lemmas.List.{map-append}
 use Rattle.wire.specs.declared.Version.TheVariants.{V51}
 use Rattle.wire.specs.Reader.{Took as TookOf, state, takes}
 use Rattle.wire.specs.Framing.{Item, Opened, at_server}
 use Rattle.messages.specs.View.{RequestView}
-use Rattle.messages.specs.Arrivals.{Arrival, Shook, NoMagic, Idle, Asked, Unread, TooLong, Quiet, arrivals}
+use Rattle.messages.specs.Arrivals.{Arrival, Shook, NoMagic, Asked, Unread, TooLong, Quiet, arrivals}
 use Rattle.machine.specs.declared.states.State.{State}
 use Rattle.machine.specs.declared.rows.Verdict.{Verdict}
 use Rattle.machine.specs.Asks.{kind_of, is_reset}
@@ -22,10 +23,6 @@ use Rattle.server.specs.Serving.{Live, after_feeding, fresh, fed_live, with_kept
 use Rattle.server.specs.Past.{Agrees, Follows, IsLater, answers_by, places_of}
 use Rattle.server.proofs.Arriving.{is_shake, IsNext, unread_placed, more_arrives, next_arrival, placed-append}
 
-pub map-append : (xs ys : List RequestView) → map Asked (xs ++ ys) ≡ map Asked xs ++ map Asked ys
-map-append [] ys = refl
-map-append (x ∷ xs) ys = ap (λ z. Asked x ∷ z) (map-append xs ys)
-
 unread_after : (answered : List RequestView) (xs : List Arrival) → unread_among (map Asked answered ++ xs) ≡ unread_among xs
 unread_after [] xs = refl
 unread_after (q ∷ answered) xs = unread_after answered xs
@@ -36,10 +33,7 @@ agrees_kept [] k t v e h = (v ∙ h.0, e ∙ h.1)
 agrees_kept (Shook (Some w) ∷ xs) k t v e h = (v ∙ h.0, subst IsLater (sym e) h.1)
 agrees_kept (Shook None ∷ xs) k t v e h = (v ∙ h.0, e ∙ h.1)
 agrees_kept (NoMagic ∷ xs) k t v e h = (v ∙ h.0, e ∙ h.1)
-agrees_kept (Idle ∷ xs) k t v e h = h
-agrees_kept (Asked q ∷ xs) k t v e h = h
-agrees_kept (Unread f ∷ xs) k t v e h = h
-agrees_kept (TooLong ∷ xs) k t v e h = h
+agrees_kept _ k t v e h = h
 
 -- where it hasn't ended, nothing has arrived, or an offer of which its version was taken
 stage_of : (xs : List Arrival) (k : Kept) → Agrees xs k → k.ended ≡ None → (xs ≡ []) ⊎ ((rest : List Arrival) × (xs ≡ Shook (Some (version_of k)) ∷ rest))
@@ -47,79 +41,46 @@ stage_of [] k h e = inl refl
 stage_of (Shook (Some w) ∷ xs) k h e = inr (xs, ap (λ o. Shook (Some (unwrap_or o V51)) ∷ xs) (sym h.0))
 stage_of (Shook None ∷ xs) k h e = let bad : None ≡ Some Cause.NoVersion = sym e ∙ h.1 in absurd (cc)
 stage_of (NoMagic ∷ xs) k h e = let bad : None ≡ Some Cause.BadMagic = sym e ∙ h.1 in absurd (cc)
-stage_of (Idle ∷ xs) k h e = absurd h
-stage_of (Asked q ∷ xs) k h e = absurd h
-stage_of (Unread f ∷ xs) k h e = absurd h
-stage_of (TooLong ∷ xs) k h e = absurd h
+stage_of _ k h e = absurd h
+
+-- what a RESET that interrupts leaves
+pub interrupted : {A : Type 0} (f : Kept → A) → ((k : Kept) → f (after_interrupt k) ≡ f k) → (b : Bool) (k : Kept) → f (cond b (after_interrupt k) k) ≡ f k
+interrupted f same true k = same k
+interrupted f same false k = refl
 
 -- What an arrival does.
-interrupted_waiting : (b : Bool) (k : Kept) → (cond b (after_interrupt k) k).waiting ≡ k.waiting
-interrupted_waiting true k = refl
-interrupted_waiting false k = refl
-
-interrupted_first : (b : Bool) (k : Kept) → (cond b (after_interrupt k) k).first ≡ k.first
-interrupted_first true k = refl
-interrupted_first false k = refl
-
-interrupted_version : (b : Bool) (k : Kept) → (cond b (after_interrupt k) k).version ≡ k.version
-interrupted_version true k = refl
-interrupted_version false k = refl
-
-interrupted_ended : (b : Bool) (k : Kept) → (cond b (after_interrupt k) k).ended ≡ k.ended
-interrupted_ended true k = refl
-interrupted_ended false k = refl
-
 fed_waiting : (k : Kept) (a : Option Arrival) → (after_item k a).waiting ≡ k.waiting ++ places_of (option_to_list a)
-fed_waiting k None = sym (append-nil k.waiting)
-fed_waiting k (Some (Shook (Some v))) = sym (append-nil k.waiting)
-fed_waiting k (Some (Shook None)) = sym (append-nil k.waiting)
-fed_waiting k (Some NoMagic) = sym (append-nil k.waiting)
-fed_waiting k (Some Idle) = sym (append-nil k.waiting)
-fed_waiting k (Some (Asked q)) = interrupted_waiting (is_reset (kind_of q) && interruptible k.state) (record k { waiting = k.waiting ++ Asked q ∷ [] })
+fed_waiting k (Some (Asked q)) = interrupted (λ (t : Kept). t.waiting) (λ t. refl) (is_reset (kind_of q) && interruptible k.state) (record k { waiting = k.waiting ++ Asked q ∷ [] })
 fed_waiting k (Some (Unread e)) = refl
 fed_waiting k (Some TooLong) = refl
+fed_waiting k (Some (Shook (Some v))) = sym (append-nil k.waiting)
+fed_waiting k _ = sym (append-nil k.waiting)
 
 fed_first : (k : Kept) (a : Option Arrival) → (after_item k a).first ≡ k.first
-fed_first k None = refl
 fed_first k (Some (Shook (Some v))) = refl
-fed_first k (Some (Shook None)) = refl
-fed_first k (Some NoMagic) = refl
-fed_first k (Some Idle) = refl
-fed_first k (Some (Asked q)) = interrupted_first (is_reset (kind_of q) && interruptible k.state) (record k { waiting = k.waiting ++ Asked q ∷ [] })
-fed_first k (Some (Unread e)) = refl
-fed_first k (Some TooLong) = refl
+fed_first k (Some (Asked q)) = interrupted (λ (t : Kept). t.first) (λ t. refl) (is_reset (kind_of q) && interruptible k.state) (record k { waiting = k.waiting ++ Asked q ∷ [] })
+fed_first k _ = refl
 
 -- what isn't a handshake leaves version and end
 fed_agrees : (k : Kept) (a : Option Arrival) → option_map is_shake a ≢ Some true → ((after_item k a).version ≡ k.version) × ((after_item k a).ended ≡ k.ended)
-fed_agrees k None h = (refl, refl)
 fed_agrees k (Some (Shook o)) h = absurd (h refl)
 fed_agrees k (Some NoMagic) h = absurd (h refl)
-fed_agrees k (Some Idle) h = (refl, refl)
 fed_agrees k (Some (Asked q)) h =
     let b = is_reset (kind_of q) && interruptible k.state in
     let t : Kept = record k { waiting = k.waiting ++ Asked q ∷ [] } in
-    (interrupted_version b t, interrupted_ended b t)
-fed_agrees k (Some (Unread e)) h = (refl, refl)
-fed_agrees k (Some TooLong) h = (refl, refl)
+    (interrupted (λ (k : Kept). k.version) (λ k. refl) b t, interrupted (λ (k : Kept). k.ended) (λ k. refl) b t)
+fed_agrees k _ h = (refl, refl)
 
 agrees_more : (x : Arrival) (xs ys : List Arrival) (k : Kept) → Agrees (x ∷ xs) k → Agrees (x ∷ (xs ++ ys)) k
 agrees_more (Shook (Some v)) xs ys k h = h
-agrees_more (Shook None) xs ys k h = h
-agrees_more NoMagic xs ys k h = h
-agrees_more Idle xs ys k h = h
-agrees_more (Asked q) xs ys k h = h
-agrees_more (Unread e) xs ys k h = h
-agrees_more TooLong xs ys k h = h
+agrees_more _ xs ys k h = h
 
 first_agrees : (k : Kept) (a : Option Arrival) → IsNext [] a → Agrees [] k → Agrees (option_to_list a) (after_item k a)
 first_agrees k None n h = h
 first_agrees k (Some (Shook (Some v))) n h = (refl, subst IsLater (sym h.1) tt)
 first_agrees k (Some (Shook None)) n h = (h.0, refl)
 first_agrees k (Some NoMagic) n h = (h.0, refl)
-first_agrees k (Some Idle) n h = cc
-first_agrees k (Some (Asked q)) n h = cc
-first_agrees k (Some (Unread e)) n h = cc
-first_agrees k (Some TooLong) n h = cc
+first_agrees k _ n h = cc
 
 no_shake : (x : Arrival) (xs : List Arrival) (a : Option Arrival) → IsNext (x ∷ xs) a → option_map is_shake a ≢ Some true
 no_shake x xs None n = λ e. cc
@@ -244,16 +205,13 @@ interrupted_stepped true k d h = record { waiting = h.waiting; first = h.first; 
 interrupted_stepped false k d h = h
 
 turns_stepped : (S : Setting) (c : ℕ) (ledger : List EntryView) (k : Kept) (xs : List Arrival) → k.waiting ≡ xs → k.ended ≡ None → Stepped k (turns S c ledger k xs)
-turns_stepped S c ledger k [] w e = idles k (turns S c ledger k []) refl refl
 turns_stepped S c ledger k (Asked q ∷ later) w e =
     let b : Bool = reset_among (Asked q ∷ later) && interruptible k.state in
     let t : Kept = cond b (after_interrupt k) k in
-    interrupted_stepped b k (turns S c ledger k (Asked q ∷ later)) (replies_stepped ledger t q later _ (interrupted_waiting b k ∙ w) (interrupted_ended b k ∙ e))
+    interrupted_stepped b k (turns S c ledger k (Asked q ∷ later)) (replies_stepped ledger t q later _ (interrupted (λ (t : Kept). t.waiting) (λ t. refl) b k ∙ w) (interrupted (λ (t : Kept). t.ended) (λ t. refl) b k ∙ e))
 turns_stepped S c ledger k (Unread f ∷ later) w e = closes k Cause.Malformed (Unread f) later w e tt
 turns_stepped S c ledger k (TooLong ∷ later) w e = closes k Cause.TooBig TooLong later w e tt
-turns_stepped S c ledger k (Shook v ∷ later) w e = idles k (turns S c ledger k (Shook v ∷ later)) refl refl
-turns_stepped S c ledger k (NoMagic ∷ later) w e = idles k (turns S c ledger k (NoMagic ∷ later)) refl refl
-turns_stepped S c ledger k (Idle ∷ later) w e = idles k (turns S c ledger k (Idle ∷ later)) refl refl
+turns_stepped S c ledger k xs w e = idles k (turns S c ledger k xs) refl refl
 
 work_stepped : (S : Setting) (c : ℕ) (ledger : List EntryView) (k : Kept) (ended : Option Cause) → k.ended ≡ ended → Stepped k (work_kept S c ledger k ended)
 work_stepped S c ledger k (Some cause) e = idles k (work_kept S c ledger k (Some cause)) refl refl
@@ -273,10 +231,7 @@ waits_agrees [] answered k t p v e h = let bad : map Asked answered ++ e.first �
 waits_agrees (Shook (Some w) ∷ xs) answered k t p v e h = (v ∙ h.0, e.cause)
 waits_agrees (Shook None ∷ xs) answered k t p v e h = let bad : None ≡ Some Cause.NoVersion = sym e.before ∙ h.1 in absurd (cc)
 waits_agrees (NoMagic ∷ xs) answered k t p v e h = let bad : None ≡ Some Cause.BadMagic = sym e.before ∙ h.1 in absurd (cc)
-waits_agrees (Idle ∷ xs) answered k t p v e h = h
-waits_agrees (Asked q ∷ xs) answered k t p v e h = h
-waits_agrees (Unread f ∷ xs) answered k t p v e h = h
-waits_agrees (TooLong ∷ xs) answered k t p v e h = h
+waits_agrees _ answered k t p v e h = h
 
 -- A step.
 pub follows_work : (S : Setting) (ledger : List EntryView) (bytes : List ℕ) (answered : List RequestView) (s : Live) → Follows bytes answered s
@@ -286,7 +241,7 @@ follows_work S ledger bytes answered s h = stepped (work_kept S s.conn ledger s.
     stepped : (d : Step) → Stepped s.kept d → Follows bytes (answered ++ answers_by d.answer) (with_kept s d.kept)
     stepped d w = record {
       places =
-          ap (λ z. z ++ d.kept.waiting) (map-append answered (answers_by d.answer))
+          ap (λ z. z ++ d.kept.waiting) (map-append Asked answered (answers_by d.answer))
           ∙ append_assoc (map Asked answered) (map Asked (answers_by d.answer)) d.kept.waiting
           ∙ ap (λ z. map Asked answered ++ z) w.waiting ∙ h.places;
       first = w.first ∙ ap (λ n. n + length (answers_by d.answer)) h.first ∙ sym (length-append answered (answers_by d.answer));

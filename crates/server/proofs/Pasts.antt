@@ -1,6 +1,7 @@
 -- What came of the bytes of each session, over every list of calls.
 use Rattle.std.proofs.Common.{◌≡◌, ◌≢◌, refl, sym, ◌∙◌, ap, subst, ℕ, ◌≤◌, Bool, true, false, cond, eqb, ◌⊎◌, inl, inr, Option, Some, None, Result, Ok, Err, List, [], ◌∷◌, ◌++◌, take, arith, append-nil, append_assoc}
-use Rattle.std.specs.Prelude.{option_map}
+use Rattle.std.specs.Prelude.{IsSome, option_map}
+use Rattle.std.proofs.lemmas.Bool.{cond-true, cond-false}
 use Rattle.std.proofs.lemmas.Bool.Decides.{nat_tests}
 use Rattle.wire.specs.declared.Version.{Version}
 use Rattle.wire.specs.Unfinished.{fresh as unread}
@@ -9,7 +10,7 @@ use Rattle.wire.specs.Whole.{whole}
 use Rattle.messages.specs.View.{RequestView}
 use Rattle.messages.specs.Messages.{request_of}
 use Rattle.messages.specs.declared.fault.MsgFault.{MsgFault}
-use Rattle.messages.specs.Arrivals.{Arrival, Shook, NoMagic, Idle, Asked, Unread, TooLong, arrivals, requests_of, then_request, without_idle}
+use Rattle.messages.specs.Arrivals.{Arrival, Asked, Unread, TooLong, arrivals, requests_of, then_request, without_idle}
 use Rattle.messages.proofs.Wholes.{arrives_whole}
 use Rattle.engine.specs.declared.answer.Mode.{Mode as QueryMode}
 use Rattle.engine.specs.Views.{WriteView, ParameterView, EntryView, AnswerView, QueryFault}
@@ -19,15 +20,9 @@ use Rattle.server.specs.Running.{AreBelow, Event, opens, feeds, works, takes, no
 use Rattle.server.specs.Past.{Asks, Follows, answers_by, bytes_taken, call_answered, places_of, requests_answered, step_answered, took_by, used_of}
 use Rattle.server.proofs.Bounds.{FewRows}
 use Rattle.server.proofs.Following.{follows_begun, follows_feed, follows_noop, follows_same, follows_unsent, follows_work}
-use Rattle.server.proofs.Runs.{Held, find-conn, find_other-replace, held_empty, held_event}
+use Rattle.server.proofs.Runs.{Held, find-conn, find_other-replace, find_replaced, held_empty, held_event}
 
 -- Who is found after a call.
-find_replaced : (conn : ℕ) (s t : Live) (ss : List Live) → find conn ss ≡ Some s → t.conn ≡ conn → find conn (replace conn t ss) ≡ Some t
-find_replaced conn s t [] f e = cc
-find_replaced conn s t (r ∷ ss) f e = elim (eqb r.conn conn) as (λ c. eqb r.conn conn ≡ c → cond c (Some r) (find conn ss) ≡ Some s → find conn (cond c (t ∷ ss) (r ∷ replace conn t ss)) ≡ Some t) [
-  | true ↦ λ h g. let same : eqb t.conn conn ≡ true = grind (arith, nat_tests) in rw same refl
-  | false ↦ λ h g. rw h (find_replaced conn s t ss g e)
-] refl f
 
 find_below : (n conn : ℕ) (ss : List Live) → AreBelow n ss → n ≤ conn → find conn ss ≡ None
 find_below n conn [] h l = refl
@@ -75,7 +70,7 @@ whose : (c conn : ℕ) (before t s : Live) (ss : List Live) → find c ss ≡ So
 whose c conn before t s ss f e g = elim (eqb c conn) as (λ b. eqb c conn ≡ b → Its c conn s t ⊎ Others c conn s ss) [
   | true ↦ λ h.
       let same : conn ≡ c = grind (arith, nat_tests, h) in
-      let there : find c (replace c t ss) ≡ Some t = find_replaced c before t ss f e in
+      let there : find c (replace c t ss) ≡ Some t = find_replaced c t ss (subst IsSome (sym f) refl) e in
       let here : find c (replace c t ss) ≡ Some s = ap (λ n. find n (replace c t ss)) (sym same) ∙ ap (λ n. find conn (replace n t ss)) (sym e) ∙ g in
       let is : Some s ≡ Some t = sym here ∙ there in
       inl (record { test = h; same = same; is = cc })
@@ -105,14 +100,6 @@ module _ {G : Type 0} (answer : List EntryView → List WriteView → List ℕ �
     if_none true = refl
     if_none false = refl
 
-    if_other : {A : Type 0} (b : Bool) (xs : List A) → b ≡ false → cond b xs [] ≡ []
-    if_other true xs e = cc
-    if_other false xs e = refl
-
-    if_its : {A : Type 0} (b : Bool) (xs : List A) → b ≡ true → cond b xs [] ≡ xs
-    if_its true xs e = refl
-    if_its false xs e = cc
-
     -- a call on one session
     called : (c conn : ℕ) (before t s : Live) (b : List ℕ) (a : List RequestView) → find c r.sessions ≡ Some before → t.conn ≡ c → (Follows (taken c) (answered c) before → Follows (taken c ++ b) (answered c ++ a) t)
         → find conn (replace t.conn t r.sessions) ≡ Some s → Follows (taken conn ++ cond (eqb c conn) b []) (answered conn ++ cond (eqb c conn) a []) s
@@ -120,10 +107,10 @@ module _ {G : Type 0} (answer : List EntryView → List WriteView → List ℕ �
       where
         go : Its c conn s t ⊎ Others c conn s r.sessions → Follows (taken conn ++ cond (eqb c conn) b []) (answered conn ++ cond (eqb c conn) a []) s
         go (inl i) = follows_same (taken c ++ b) _ (answered c ++ a) _ s
-            (ap (λ z. taken conn ++ z) (if_its (eqb c conn) b i.test) ∙ ap (λ n. taken n ++ b) i.same)
-            (ap (λ z. answered conn ++ z) (if_its (eqb c conn) a i.test) ∙ ap (λ n. answered n ++ a) i.same)
+            (ap (λ z. taken conn ++ z) (cond-true (eqb c conn) b [] i.test) ∙ ap (λ n. taken n ++ b) i.same)
+            (ap (λ z. answered conn ++ z) (cond-true (eqb c conn) a [] i.test) ∙ ap (λ n. answered n ++ a) i.same)
             (subst (λ x. Follows (taken c ++ b) (answered c ++ a) x) (sym i.is) (keeps (h.live c before f)))
-        go (inr o) = still conn s _ _ (if_other (eqb c conn) b o.test) (if_other (eqb c conn) a o.test) o.found
+        go (inr o) = still conn s _ _ (cond-false (eqb c conn) b [] o.test) (cond-false (eqb c conn) a [] o.test) o.found
 
     pushed : (conn : ℕ) (s : Live) (b : Bool) → find conn (cond b r (opened r)).sessions ≡ Some s → Follows (taken conn ++ []) (answered conn ++ []) s
     pushed conn s true f = still conn s [] [] refl refl f
@@ -195,12 +182,9 @@ module _ {G : Type 0} (answer : List EntryView → List WriteView → List ℕ �
     ] refl
 
     nothing : (e : Event) (conn : ℕ) → find conn r.sessions ≡ None → (took_by conn e r ≡ []) × (call_answered answer accepts conn e r ≡ [])
-    nothing opens conn f = (refl, refl)
     nothing (feeds c piece) conn f = (if_found c conn (λ o. used_of piece (option_map (λ t. ((fed_live t piece).0, with_session (fed_live t piece).1 r)) o)) refl f, refl)
     nothing (works c) conn f = (refl, if_found c conn (λ o. step_answered answer accepts o r) refl f)
-    nothing (takes c max) conn f = (refl, refl)
-    nothing (noops c) conn f = (refl, refl)
-    nothing (loses c) conn f = (refl, refl)
+    nothing _ conn f = (refl, refl)
 
     traced_event : (e : Event) → Traced (after_event answer accepts e r) (λ n. taken n ++ took_by n e r) (λ n. answered n ++ call_answered answer accepts n e r)
     traced_event e = record {
@@ -232,12 +216,10 @@ module _ {G : Type 0} (answer : List EntryView → List WriteView → List ℕ �
 -- What arrives after an offer takes its places by the grammar of chunks.
 placed_quiet : (xs : List Arrival) → places_of (without_idle xs) ≡ places_of xs
 placed_quiet [] = refl
-placed_quiet (Shook o ∷ xs) = placed_quiet xs
-placed_quiet (NoMagic ∷ xs) = placed_quiet xs
-placed_quiet (Idle ∷ xs) = placed_quiet xs
 placed_quiet (Asked q ∷ xs) = ap (λ z. Asked q ∷ z) (placed_quiet xs)
 placed_quiet (Unread e ∷ xs) = ap (λ z. Unread e ∷ z) (placed_quiet xs)
 placed_quiet (TooLong ∷ xs) = ap (λ z. TooLong ∷ z) (placed_quiet xs)
+placed_quiet (x ∷ xs) = placed_quiet xs
 
 placed_all : (v : Version) (ms : List (List ℕ)) (past : Bool) → places_of (requests_of v ms past) ≡ requests_of v ms past
 placed_all v [] true = refl

@@ -1,6 +1,7 @@
 -- What is kept over every list of calls.
 use Rattle.std.proofs.Common.{◌≡◌, ◌≢◌, ℕ, suc, ◌+◌, ◌^◌, ◌<◌, ◌≤◌, List, [], ◌∷◌, ◌++◌, length, Bool, cond, true, false, eqb, leb, Option, Some, None, Result, refl, sym, ap, subst, ◌∙◌, length-append, lit≤, arith}
-use Rattle.std.specs.Prelude.{option_map, ◌||◌}
+use Rattle.std.specs.Prelude.{IsSome, option_map}
+use Rattle.std.proofs.lemmas.Bool.{or_parts, leb-false}
 use Rattle.std.proofs.lemmas.Bool.Decides.{nat_tests}
 use Rattle.engine.specs.declared.answer.Mode.{Mode as QueryMode}
 use Rattle.engine.specs.Views.{WriteView, ParameterView, EntryView, AnswerView, QueryFault}
@@ -15,6 +16,14 @@ find-conn conn (r ∷ ss) s e = elim (eqb r.conn conn) as (λ c. eqb r.conn conn
   | true ↦ λ t f. let same : r ≡ s = cc in let here : r.conn ≡ conn = grind (arith, nat_tests, t) in ap (λ (q : Live). q.conn) (sym same) ∙ here
   | false ↦ λ t f. find-conn conn ss s f
 ] refl e
+
+-- what was put in a session's place is found there
+pub find_replaced : (conn : ℕ) (t : Live) (ss : List Live) → IsSome (find conn ss) → t.conn ≡ conn → find conn (replace conn t ss) ≡ Some t
+find_replaced conn t [] f e = cc
+find_replaced conn t (r ∷ ss) f e = elim (eqb r.conn conn) as (λ c. eqb r.conn conn ≡ c → IsSome (cond c (Some r) (find conn ss)) → find conn (cond c (t ∷ ss) (r ∷ replace conn t ss)) ≡ Some t) [
+  | true ↦ λ h g. let same : eqb t.conn conn ≡ true = grind (arith, nat_tests) in rw same refl
+  | false ↦ λ h g. rw h (find_replaced conn t ss g e)
+] refl f
 
 -- another number finds what it found
 pub find_other-replace : (other conn : ℕ) (t : Live) (ss : List Live) → conn ≢ other → t.conn ≡ conn → find other (replace conn t ss) ≡ find other ss
@@ -141,13 +150,6 @@ push-below n (s ∷ ss) h =
     let differ : n ≢ s.conn = omega (arith, h.0.below) in
     (record { below = omega (arith, h.0.below); once = find_other-push s.conn n ss differ ∙ h.0.once }, push-below n ss h.1)
 
-or-left : (a b : Bool) → (a || b) ≡ false → a ≡ false
-or-left true b e = e
-or-left false b e = refl
-
-few_if : (ss : List Live) (n : ℕ) → (leb 16 (length ss) || leb (2 ^ 63) n) ≡ false → length ss < 16
-few_if ss n e = let few : leb 16 (length ss) ≡ false = or-left _ _ e in grind (arith, nat_tests, few)
-
 none_fine : AllFine []
 unfolding AllFine
 none_fine = tt
@@ -183,7 +185,7 @@ module _ {G : Type 0} where
   held_open r true e h = h
   held_open r false e h = record {
     fine = push-fine r.sessions (fresh r.next) h.fine begun_fine;
-    live = let few : length r.sessions < 16 = few_if r.sessions r.next e in omega (arith, length-append r.sessions (fresh r.next ∷ []));
+    live = let few : length r.sessions < 16 = leb-false 16 (length r.sessions) (or_parts (leb 16 (length r.sessions)) (leb (2 ^ 63) r.next) e).0 in omega (arith, length-append r.sessions (fresh r.next ∷ []));
     numbers = push-below r.next r.sessions h.numbers;
   }
 

@@ -9,6 +9,7 @@ ghost use Rattle.server.specs.Running.{Event, IsKept, conn_of, after_event, afte
 use engine::{Engine, Gate};
 
 /// A call on one session leaves every other as it was.
+#[tactic(auto, using(crate::proofs::Runs::leaves_others))]
 pub fn leaves_others<E: Engine, G: Gate>()
     ensures { (event : Event) (r : Rest G) (other : ℕ) → conn_of event r ≢ other
         → find other (after_event E.answer G.accepts event r).sessions ≡ find other r.sessions }

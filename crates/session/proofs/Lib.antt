@@ -5,6 +5,7 @@ pub mod Replies
 pub mod Turns
 pub mod Fitting
 pub mod Commits
+pub mod Served
 pub mod Free
 pub mod Summed
 pub mod Listed

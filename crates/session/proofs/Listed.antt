@@ -1,5 +1,5 @@
 -- A row that was fitted as a list of cells.
-use Rattle.std.proofs.Common.{◌≡◌, List, [], ◌∷◌, map, IfOk, Result, Ok, Err, Vec, Global, refl, ap, ◌∙◌}
+use Rattle.std.proofs.Common.{◌≡◌, List, [], ◌∷◌, map, Vec, Global, refl, ap, ◌∙◌}
 use Rattle.packstream.specs.Tree.{Tree, list}
 use Rattle.packstream.specs.View.{trees_of}
 use Rattle.wire.specs.declared.Version.{Version}
@@ -11,19 +11,14 @@ use Rattle.structures.proofs.Fitted.{fitted_list}
 
 same_trees : (xs ys : List Tree) → trees_of xs ≡ trees_of ys → xs ≡ ys
 same_trees [] [] h = refl
-same_trees [] (y ∷ ys) h = absurd cc
-same_trees (x ∷ xs) [] h = absurd cc
 same_trees (x ∷ xs) (y ∷ ys) h =
     let a : x ≡ y = cc in
     let b : trees_of xs ≡ trees_of ys = cc in
     rw (a, same_trees xs ys b) refl
+same_trees _ _ h = absurd cc
 
 list_same : (xs ys : List Tree) → list (trees_of xs) ≡ list (trees_of ys) → xs ≡ ys
 list_same xs ys h = let e : trees_of xs ≡ trees_of ys = cc in same_trees xs ys e
 
 pub row_is : (v : Version) (cells : Vec Cell Global) (r : List Tree) → list (trees_of r) ≡ fitted v (shape (ListCell cells)) → r ≡ map (fitted v) (shapes cells.items)
 row_is v cells r h = list_same r (map (fitted v) (shapes cells.items)) (h ∙ ap (fitted v) (shape-List cells) ∙ ap list (fitted_list v (shapes cells.items)))
-
-pub if_ok : {A E : Type 0} (P Q : A → Type 0) (r : Result A E) → ((x : A) → P x → Q x) → IfOk r P → IfOk r Q
-if_ok P Q (Ok x) f h = f x h
-if_ok P Q (Err e) f h = tt

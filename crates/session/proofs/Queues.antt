@@ -11,19 +11,14 @@ use Rattle.session.specs.Views.{waiting_in, is_unread, is_reset_in, first_of}
 use Rattle.session.specs.Acts.{turn_in, turn_by}
 
 pub any_unread : (ws : List Waiting) → list_any is_unread ws ≡ unread_among (waiting_in ws)
-any_unread [] = refl
 any_unread (waiting.Asked q ∷ ws) = any_unread ws
-any_unread (waiting.Unread e ∷ ws) = refl
-any_unread (waiting.TooLong ∷ ws) = refl
+any_unread _ = refl
 
 pub any_reset : (ws : List Waiting) → list_any is_reset_in ws ≡ reset_among (waiting_in ws)
 any_reset [] = refl
 any_reset (waiting.Asked q ∷ ws) = ap (λ b. is_reset (kind_of (request_view q)) || b) (any_reset ws)
-any_reset (waiting.Unread e ∷ ws) = any_reset ws
-any_reset (waiting.TooLong ∷ ws) = any_reset ws
+any_reset (w ∷ ws) = any_reset ws
 
 pub first_turn : (ws : List Waiting) → turn_by (first_of ws) ≡ turn_in (waiting_in ws)
-first_turn [] = refl
 first_turn (waiting.Asked q ∷ ws) = refl
-first_turn (waiting.Unread e ∷ ws) = refl
-first_turn (waiting.TooLong ∷ ws) = refl
+first_turn _ = refl

@@ -2,6 +2,7 @@
 use Rattle.std.proofs.Common.{◌≡◌, ◌∙◌, ap, subst, refl, ℕ, ◌<◌, ◌≤◌, true, List, [], ◌∷◌, length, drop, None, Result, Ok, Err, arith, length-drop}
 use Rattle.std.specs.Prelude.{IfOk}
 use Rattle.std.specs.declared.alloc.AllocError.{AllocError}
+use Rattle.std.proofs.lemmas.List.{drop_all}
 use Rattle.packstream.specs.Tree.{Tree}
 use Rattle.wire.specs.declared.Version.{Version}
 use Rattle.messages.specs.declared.request.Count.{Count}
@@ -40,12 +41,8 @@ pub pull_used : (v : Version) (s : State) (ledger : List EntryView) (count : Cou
 pull_used v s ledger count [] left tx h u = absurd (omega arith)
 pull_used v s ledger count (r ∷ rs) left tx h u = rw u refl
 
-drop-all : (rows : List (List Tree)) → drop (length rows) rows ≡ []
-drop-all [] = refl
-drop-all (r ∷ rs) = drop-all rs
-
 left_is : (count : Count) (rows : List (List Tree)) (n : ℕ) → n ≡ count_at count (length rows) → drop n rows ≡ left_after count rows
-left_is counts.All rows n e = ap (λ k. drop k rows) e ∙ drop-all rows
+left_is counts.All rows n e = ap (λ k. drop k rows) e ∙ drop_all (length rows) rows (omega arith)
 left_is (counts.Of z) rows n e = ap (λ k. drop k rows) e
 
 -- a DISCARD that leaves rows, and one that leaves none
@@ -59,15 +56,8 @@ discard_last s ledger n count rows left tx e h =
 
 -- the last summary of a result that commits nothing
 pub close_inside : (s : State) (ledger : List EntryView) (left : Open) (tx : Tx) → (s ≡ states.Streaming → ⊥) → Summary Verdict.Success (response_of_summary (Closing None left.mode)) no_result tx None ≡ close_last s ledger left tx
-close_inside states.Fresh ledger left tx other = refl
-close_inside states.Unauth ledger left tx other = refl
-close_inside states.Ready ledger left tx other = refl
 close_inside states.Streaming ledger left tx other = absurd (other refl)
-close_inside states.TxReady ledger left tx other = refl
-close_inside states.TxStreaming ledger left tx other = refl
-close_inside states.Failed ledger left tx other = refl
-close_inside states.Interrupted ledger left tx other = refl
-close_inside states.Defunct ledger left tx other = refl
+close_inside _ ledger left tx other = refl
 
 -- what acts as a reply can be written
 pub acts_writable : (v : Version) (left : Open) (tx : Tx) (b : List ℕ) (a : Act) (reply : Reply) → ActsAs v left tx b a reply → IsWritable left.rows b a

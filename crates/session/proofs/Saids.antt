@@ -1,7 +1,8 @@
 -- What is written of a response can be written.
-use Rattle.std.proofs.Common.{◌≡◌, refl, sym, ◌∙◌, ap, subst, ℕ, Bool, true, false, List, [], ◌∷◌, ◌++◌, Ok, Err, arith}
+use Rattle.std.proofs.Common.{◌≡◌, refl, sym, ◌∙◌, ap, subst, ℕ, true, List, [], ◌∷◌, ◌++◌, Ok, Err, arith}
 use Rattle.std.specs.Prelude.{◌&&◌, nat_lt}
 use Rattle.std.specs.Str.{bytes_eq}
+use Rattle.std.proofs.lemmas.Bool.{and_from}
 use Rattle.std.proofs.lemmas.Bool.Decides.{nat_tests}
 use Rattle.packstream.specs.Tree.{Tree}
 use Rattle.cells.specs.Same.{same_tree}
@@ -22,34 +23,30 @@ use Rattle.session.specs.Faults.{of_writer}
 use Rattle.session.specs.Session.{unwritable}
 use Rattle.session.specs.Acts.{IsBody, Refuses, unwritten_of}
 
-both_true : (a b : Bool) → a ≡ true → b ≡ true → (a && b) ≡ true
-both_true true b p q = q
-both_true false b p q = p
-
 -- Each is the same as itself.
 same_cells-refl : (ts : List Tree) → same_cells ts ts ≡ true
 same_cells-refl [] = refl
-same_cells-refl (t ∷ ts) = both_true (same_tree t t) (same_cells ts ts) (tree_is t) (same_cells-refl ts)
+same_cells-refl (t ∷ ts) = and_from (same_tree t t) (same_cells ts ts) (tree_is t) (same_cells-refl ts)
 
 same_metadata-refl : (es : List (List ℕ × Tree)) → same_metadata es es ≡ true
 same_metadata-refl [] = refl
-same_metadata-refl (e ∷ es) = both_true (bytes_eq e.0 e.0) (same_tree e.1 e.1 && same_metadata es es) (bytes_is e.0) (both_true (same_tree e.1 e.1) (same_metadata es es) (tree_is e.1) (same_metadata-refl es))
+same_metadata-refl (e ∷ es) = and_from (bytes_eq e.0 e.0) (same_tree e.1 e.1 && same_metadata es es) (bytes_is e.0) (and_from (same_tree e.1 e.1) (same_metadata es es) (tree_is e.1) (same_metadata-refl es))
 
 same_say-refl : (m : ResponseView) → same_say m m ≡ true
 same_say-refl (Success es) = same_metadata-refl es
 same_say-refl (Record ts) = same_cells-refl ts
 same_say-refl Ignored = refl
-same_say-refl (Failure c m) = both_true (bytes_eq c c) (bytes_eq m m) (bytes_is c) (bytes_is m)
+same_say-refl (Failure c m) = and_from (bytes_eq c c) (bytes_eq m m) (bytes_is c) (bytes_is m)
 
 bytes_if : (b : List ℕ) → AreBytes b → are_bytes b ≡ true
 bytes_if [] h = refl
-bytes_if (x ∷ b) h = both_true (nat_lt x 256) (are_bytes b) (grind (arith, nat_tests, h.0)) (bytes_if b h.1)
+bytes_if (x ∷ b) h = and_from (nat_lt x 256) (are_bytes b) (grind (arith, nat_tests, h.0)) (bytes_if b h.1)
 
 pub said_fits : (v : Version) (m : ResponseView) (b : List ℕ) → response_spelling v m ≡ Ok b → Resp v m b → fits v m ≡ true
 unfolding fits
 said_fits v m b e h =
     ap (is_text v m) e
-    ∙ both_true (are_bytes b) (is_reading (response_of v b) m) (bytes_if b h.spelled.0)
+    ∙ and_from (are_bytes b) (is_reading (response_of v b) m) (bytes_if b h.spelled.0)
     (ap (λ r. is_reading r m) (response_is v m b h) ∙ same_say-refl m)
 
 said_body : (v : Version) (m : ResponseView) (b : List ℕ) → response_spelling v m ≡ Ok b → Resp v m b → IsBody v m b
@@ -65,14 +62,7 @@ written v m old new none t back =
 -- a writer's fault but want of memory
 because : (e : MsgFault) (f : Fault) → unwritten_of e ≡ unwritten.Because f → (e ≡ writer.Memory → ⊥) × (of_writer e ≡ f)
 because writer.Memory f h = cc
-because writer.Size f h = (λ e. cc, cc)
-because writer.NotAMessage f h = (λ e. cc, cc)
-because writer.UnknownTag f h = (λ e. cc, cc)
-because writer.Fields f h = (λ e. cc, cc)
-because writer.Extra f h = (λ e. cc, cc)
-because (writer.Pack r o) f h = (λ e. cc, cc)
-because (writer.Cell r k) f h = (λ e. cc, cc)
-because (writer.CellPack r o) f h = (λ e. cc, cc)
+because _ f h = (λ e. cc, cc)
 
 refused_by : (v : Version) (m : ResponseView) (e : MsgFault) (u : Unwritten) → unwritten_of e ≡ u → ((e ≡ writer.Memory → ⊥) → response_spelling v m ≡ Err e) → Refuses v m u
 unfolding fits

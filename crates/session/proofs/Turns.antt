@@ -1,11 +1,12 @@
 -- What a step does, as the model's step.
-use Rattle.std.proofs.Common.{◌≡◌, ◌∙◌, sym, ap, subst, refl, ℕ, Bool, true, false, cond, List, [], ◌∷◌, length, None, Result, Ok}
+use Rattle.std.proofs.Common.{◌≡◌, ◌∙◌, sym, ap, subst, refl, ℕ, true, false, cond, List, ◌∷◌, length, None, Result, Ok}
 use Rattle.std.specs.Prelude.{IfOk, if◌then◌else◌, ◌&&◌, is_some, nat_le}
 use Rattle.std.specs.declared.alloc.AllocError.{AllocError}
+use Rattle.std.proofs.lemmas.Bool.{cond-true, cond-false}
 use Rattle.wire.specs.declared.Version.{Version}
 use Rattle.messages.specs.View.{RequestView}
 use Rattle.messages.specs.Summaries.{response_of_summary, Passed}
-use Rattle.messages.specs.Arrivals.{Arrival, Shook, NoMagic, Idle, Asked, Unread, TooLong}
+use Rattle.messages.specs.Arrivals.{Arrival, Asked}
 use Rattle.machine.specs.declared.kinds.Kind.{Kind}
 use Rattle.machine.specs.declared.states.State.{State}
 use Rattle.machine.specs.declared.rows.Verdict.{Verdict}
@@ -28,13 +29,8 @@ asked_head a b xs ys e = cc
 
 -- a request waits
 pub serves_is : (xs : List Arrival) → turn_in xs ≡ turn.Serves → (q : RequestView) × (later : List Arrival) × (xs ≡ Asked q ∷ later)
-serves_is [] e = cc
 serves_is (Asked q ∷ later) e = (q, later, refl)
-serves_is (Unread f ∷ later) e = cc
-serves_is (TooLong ∷ later) e = cc
-serves_is (Shook v ∷ later) e = cc
-serves_is (NoMagic ∷ later) e = cc
-serves_is (Idle ∷ later) e = cc
+serves_is _ e = cc
 
 -- neither a GOODBYE nor a RESET
 pub interrupted_passed : (k : Kind) → is_goodbye k ≡ false → is_reset k ≡ false → Summary Verdict.Ignored (response_of_summary Passed) no_result no_tx None ≡ served_interrupted k
@@ -46,35 +42,19 @@ pub turns_interrupted : (S : Setting) (c : ℕ) (ledger : List EntryView) (k : K
 turns_interrupted S c ledger k xs q later e h =
     let interrupts_so : (reset_among (Asked q ∷ later) && interruptible k.state) ≡ true = ap (λ ys. reset_among ys && interruptible k.state) (sym e) ∙ h in
     let at : Kept → Step = λ s. replies ledger s q later (serve S (version_of s) c ledger s.state s.result s.tx q) in
-    ap at (sym (chosen_true (reset_among (Asked q ∷ later) && interruptible k.state) (after_interrupt k) k interrupts_so)) ∙ ap (turns S c ledger k) (sym e)
-  where
-    chosen_true : (b : Bool) (s t : Kept) → b ≡ true → cond b s t ≡ s
-    chosen_true true s t p = refl
-    chosen_true false s t p = cc
+    ap at (sym (cond-true (reset_among (Asked q ∷ later) && interruptible k.state) (after_interrupt k) k interrupts_so)) ∙ ap (turns S c ledger k) (sym e)
 
 pub turns_served : (S : Setting) (c : ℕ) (ledger : List EntryView) (k : Kept) (xs : List Arrival) (q : RequestView) (later : List Arrival) → xs ≡ Asked q ∷ later → (reset_among xs && interruptible k.state) ≡ false
     → replies ledger k q later (serve S (version_of k) c ledger k.state k.result k.tx q) ≡ turns S c ledger k xs
 turns_served S c ledger k xs q later e h =
     let none : (reset_among (Asked q ∷ later) && interruptible k.state) ≡ false = ap (λ ys. reset_among ys && interruptible k.state) (sym e) ∙ h in
     let at : Kept → Step = λ s. replies ledger s q later (serve S (version_of s) c ledger s.state s.result s.tx q) in
-    ap at (sym (chosen_false (reset_among (Asked q ∷ later) && interruptible k.state) (after_interrupt k) k none)) ∙ ap (turns S c ledger k) (sym e)
-  where
-    chosen_false : (b : Bool) (s t : Kept) → b ≡ false → cond b s t ≡ t
-    chosen_false true s t p = cc
-    chosen_false false s t p = refl
+    ap at (sym (cond-false (reset_among (Asked q ∷ later) && interruptible k.state) (after_interrupt k) k none)) ∙ ap (turns S c ledger k) (sym e)
 
 -- of a step that has another name
 pub steps_at : (d e : Step) (conn first : ℕ) (r : Result Worked AllocError) (new : Kept) (before after : List EntryView) → d ≡ e
     → IfOk r (λ w. Steps d conn first w new before after) → IfOk r (λ w. Steps e conn first w new before after)
 steps_at d e conn first r new before after same h = subst (λ (x : Step). IfOk r (λ w. Steps x conn first w new before after)) same h
-
-cond_true : (b : Bool) (x y : Reply) → b ≡ true → cond b x y ≡ x
-cond_true true x y e = refl
-cond_true false x y e = cc
-
-cond_false : (b : Bool) (x y : Reply) → b ≡ false → cond b x y ≡ y
-cond_false true x y e = cc
-cond_false false x y e = refl
 
 -- what an answer opens, where its fields can be said
 pub opens_as : (v : Version) (s : State) (left : Open) (tx : Tx) (token : Token) (a : AnswerView) (l : Leaves) → (in_transaction s && (is_some a.write && nat_le 1024 (length tx.writes))) ≡ false → fits v (fields_said a.fields) ≡ true
@@ -84,8 +64,8 @@ opens_as v s left tx token a l few fit o t e =
     let m = fields_said a.fields in
     let after : Tx = if in_transaction s then with_write tx a.write else no_tx in
     let done : Reply = Summary Verdict.Success m (result_of_answer v s token a) after None in
-    cond_false (in_transaction s && (is_some a.write && nat_le 1024 (length tx.writes))) (fails fault.TooManyWrites) (cond (fits v m) done (fails (unwritable (response_spelling v m)))) few
-    ∙ cond_true (fits v m) done (fails (unwritable (response_spelling v m))) fit
+    cond-false (in_transaction s && (is_some a.write && nat_le 1024 (length tx.writes))) (fails fault.TooManyWrites) (cond (fits v m) done (fails (unwritable (response_spelling v m)))) few
+    ∙ cond-true (fits v m) done (fails (unwritable (response_spelling v m))) fit
     ∙ sym (ap (λ x. Summary Verdict.Success m x (left_tx l tx) (left_entry l left tx)) o ∙ ap (λ x. Summary Verdict.Success m (result_of_answer v s token a) x (left_entry l left tx)) t ∙ ap (λ x. Summary Verdict.Success m (result_of_answer v s token a) after x) e)
 
 -- what an answer is refused for, where its fields can't be said
@@ -96,5 +76,5 @@ refused_as v s tx token a f few misfit why =
     let after : Tx = if in_transaction s then with_write tx a.write else no_tx in
     let done : Reply = Summary Verdict.Success m (result_of_answer v s token a) after None in
     let else_fails : Reply = fails (unwritable (response_spelling v m)) in
-    sym (cond_false (in_transaction s && (is_some a.write && nat_le 1024 (length tx.writes))) (fails fault.TooManyWrites) (cond (fits v m) done else_fails) few
-    ∙ cond_false (fits v m) done else_fails misfit ∙ ap fails why)
+    sym (cond-false (in_transaction s && (is_some a.write && nat_le 1024 (length tx.writes))) (fails fault.TooManyWrites) (cond (fits v m) done else_fails) few
+    ∙ cond-false (fits v m) done else_fails misfit ∙ ap fails why)

@@ -7,19 +7,14 @@ use Rattle.session.specs.Views.{first_of}
 
 -- a list of one write, or of none
 pub one_write : (ws : List Write) → length ws ≤ 1 → option_to_list (first_of (writes_view ws)) ≡ writes_view ws
-one_write [] h = refl
-one_write (w ∷ []) h = refl
 one_write (w ∷ x ∷ ws) h = absurd (omega arith)
+one_write _ h = refl
 
 pub length_view : (ws : List Write) → length (writes_view ws) ≡ length ws
 length_view [] = refl
 length_view (w ∷ ws) = ap suc (length_view ws)
 
--- what is taken out of a list of one write, or of none
-pub none_popped : (ws : List Write) → length ws ≡ 0 → ws ≡ []
-none_popped [] e = refl
-none_popped (w ∷ ws) e = cc
-
+-- what is taken out of a list of one write
 pub one_popped : (ws left : List Write) (w : Write) → ws ≡ left ++ (w ∷ []) → length ws ≤ 1 → (first_of (writes_view ws) ≡ Some (write_view w)) × (left ≡ [])
 one_popped ws [] w e h = (ap (λ l. first_of (writes_view l)) e, refl)
 one_popped ws (x ∷ left) w e h = absurd (omega (arith, ap length e, length-append left (w ∷ [])))

@@ -85,7 +85,7 @@ pub(crate) fn leave<E: Engine>(
 }
 
 /// The transaction takes over the write of a result, where it has one.
-#[tactic(auto, using(crate::proofs::Writes::none_popped, crate::proofs::Writes::one_popped))]
+#[tactic(auto, using(std::proofs::lemmas::List::nil_from_length, crate::proofs::Writes::one_popped))]
 fn join_write(writes: &mut Vec<Write>, joined: &mut Vec<Write>) -> Result<(), AllocError>
     requires { length joined.old.items ≤ 1 }
     ensures ok { OnOk result

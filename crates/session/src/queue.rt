@@ -14,6 +14,7 @@ use messages::Request;
 use std::collections::VecDeque;
 
 /// Whether something stands for no request.
+#[tactic(auto, using(crate::proofs::Queues::any_unread))]
 pub(crate) fn has_unread(queue: &VecDeque<Waiting>) -> bool
     ensures { result ≡ unread_among (waiting_in queue.now.items) }
 {
@@ -27,6 +28,7 @@ fn any_unread(queue: &VecDeque<Waiting>) -> bool
 }
 
 /// Whether a RESET waits.
+#[tactic(auto, using(crate::proofs::Queues::any_reset))]
 pub(crate) fn has_reset(queue: &VecDeque<Waiting>) -> bool
     ensures { result ≡ reset_among (waiting_in queue.now.items) }
 {
@@ -40,6 +42,7 @@ fn any_reset(queue: &VecDeque<Waiting>) -> bool
 }
 
 /// What the first that waits is for a step.
+#[tactic(auto, using(crate::proofs::Queues::first_turn))]
 pub(crate) fn turn_of(queue: &VecDeque<Waiting>) -> Turn
     ensures { result ≡ turn_in (waiting_in queue.now.items) }
 {

@@ -1,10 +1,11 @@
 use Rattle.std.proofs.Common.{◌≡◌, ◌+◌, None, Some, [], length, get_or, if◌then◌else◌, string_bytes, sym, ap, ◌∙◌, arith, rules}
+use Rattle.std.proofs.lemmas.List.{length-map}
 use Rattle.engine.specs.Places.{place_in}
 use Rattle.engine.specs.Tokens.{Free, same_writes, known_by, found_in}
 use Rattle.engine.specs.Views.{entry_view, entries_view, token_view, writes_view}
 use Rattle.engine.specs.declared.ledger.Entry.{Entry}
 use Rattle.engine.specs.declared.ledger.Commit.TheVariants.{Repeat, Clash}
-use Rattle.engine.proofs.PlaceOf.{none_found, place_found, known_none, known_at, view_at, entries_length}
+use Rattle.engine.proofs.PlaceOf.{none_found, place_found, known_none, known_at, view_at}
 use Rattle.engine.proofs.fixed_table.known_or_kept.Goals as goal
 
 pub returns-in_err-find_or_keep-clause-wanted : goal.returns-in_err-find_or_keep-clause-wanted
@@ -22,7 +23,7 @@ index-requires c =
     let es = entries_view c.args.ledger.now.items in
     let got : place_in c.args.places.now es t ≡ Some c.in-Some-2.place = search rules in
     let at = place_found t [] es 0 c.in-Some-2.place (sym (c.requires t) ∙ got) in
-    omega (arith, at.0, entries_length c.args.ledger.now.items, ap length c.find_or_keep.ensures.entries, c.find_or_keep.new.ledger.ok.0)
+    omega (arith, at.0, length-map c.args.ledger.now.items entry_view, ap length c.find_or_keep.ensures.entries, c.find_or_keep.new.ledger.ok.0)
 
 pub known_at-requires : goal.known_at-requires
 known_at-requires c =
@@ -31,7 +32,7 @@ known_at-requires c =
     let got : place_in c.args.places.now es t ≡ Some c.in-Some-2.place = search rules in
     let at = place_found t [] es 0 c.in-Some-2.place (sym (c.requires t) ∙ got) in
     let new = c.find_or_keep.new.ledger in
-    omega (arith, at.0, entries_length c.args.ledger.now.items, ap length c.find_or_keep.ensures.entries, new.ok.0, new.ok.1, new.small)
+    omega (arith, at.0, length-map c.args.ledger.now.items entry_view, ap length c.find_or_keep.ensures.entries, new.ok.0, new.ok.1, new.small)
 
 pub returns-in-None-clause-known : goal.returns-in-None-clause-known
 returns-in-None-clause-known c =

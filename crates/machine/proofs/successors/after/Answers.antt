@@ -4,7 +4,7 @@ use Rattle.machine.specs.declared.states.Phase.{Phase}
 use Rattle.machine.specs.Asks.{kind_of, in_part}
 use Rattle.machine.specs.Following.{table, every_phase}
 use Rattle.machine.proofs.Gathered.{gathered, gathered-some, gathered-none, gathered-all}
-use Rattle.machine.proofs.RowFacts.{joined-follow}
+use Rattle.machine.proofs.RowFacts.{joined_follow}
 use Rattle.machine.proofs.successors.after.Goals as goal
 use Rattle.machine.proofs.successors.after.Goals.{then-has, else-has}
 
@@ -28,4 +28,4 @@ returns-clause-table c =
     c.loop-phase.invariant ∙ ap (λ i. gathered f c.args.set i) over ∙ gathered-all f c.args.set
 
 pub returns-clause-rows : goal.returns-clause-rows
-returns-clause-rows c = returns-clause-table c ∙ joined-follow c.args.version c.args.set (request_view c.args.request.now)
+returns-clause-rows c = returns-clause-table c ∙ joined_follow c.args.version c.args.set (request_view c.args.request.now)

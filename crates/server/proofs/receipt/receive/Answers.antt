@@ -1,4 +1,5 @@
 use Rattle.std.proofs.Common.{◌≡◌, ◌∙◌, refl, sym, ap, subst, Option, Some, None, Ok}
+use Rattle.std.proofs.lemmas.Result.{on_err_weaker}
 use Rattle.wire.specs.Framing.{Item, Noop, TooBig}
 use Rattle.messages.specs.declared.request.Request.{Request}
 use Rattle.messages.specs.View.{request_view}
@@ -9,7 +10,7 @@ use Rattle.session.specs.Rest.{arrival_by, version_of}
 use Rattle.session.specs.Views.{kept_of}
 use Rattle.server.specs.Feeding.{arrival}
 use Rattle.server.specs.Incoming.{IsReceived}
-use Rattle.server.proofs.Arrived.{BringsAt, on_err, received_as}
+use Rattle.server.proofs.Arrived.{BringsAt, received_as}
 use Rattle.server.proofs.receipt.receive.Goals as goal
 
 pub returns-in-Nothing : goal.returns-in-Nothing
@@ -29,7 +30,7 @@ returns-in-Message c = λ item is.
     let k = kept_of c.args.session.now in
     let h = subst (λ (x : Brought Request). BringsAt item x (version_of k)) c.in-Message.is is in
     received_as c.receive.result k (kept_of c.receive.new.self) item (Asked (request_view c.in-Message.request)) (ap (arrival k) h.1 ∙ ap (λ y. Some (arrival_by y)) h.2)
-    c.receive.ensures.taken (on_err c.receive.result _ _ (λ e. absurd cc) c.receive.ensures.memory)
+    c.receive.ensures.taken (on_err_weaker c.receive.result (λ e. absurd cc) c.receive.ensures.memory)
 
 pub returns-in-Bad : goal.returns-in-Bad
 returns-in-Bad c = λ item is.
@@ -37,7 +38,7 @@ returns-in-Bad c = λ item is.
     let h = subst (λ (x : Brought Request). BringsAt item x (version_of k)) c.in-Bad.is is in
     let r = c.receive-in-Bad in
     received_as r.result k (kept_of r.new.self) item (Unread c.in-Bad.fault) (ap (arrival k) h.1 ∙ ap (λ y. Some (arrival_by y)) (h.2 h.3))
-    r.ensures.taken (on_err r.result _ _ (λ e. h.3 cc) r.ensures.memory)
+    r.ensures.taken (on_err_weaker r.result (λ e. h.3 cc) r.ensures.memory)
 
 pub returns-in-TooBig : goal.returns-in-TooBig
 returns-in-TooBig c = λ item is.

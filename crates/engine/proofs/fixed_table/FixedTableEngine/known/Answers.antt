@@ -1,10 +1,11 @@
 use Rattle.std.proofs.Common.{◌≡◌, ◌+◌, None, Some, [], get_or, if◌then◌else◌, sym, ap, ◌∙◌, arith, rules}
+use Rattle.std.proofs.lemmas.List.{length-map}
 use Rattle.engine.specs.Places.{place_in}
 use Rattle.engine.specs.Tokens.{same_writes, known_by, found_in}
 use Rattle.engine.specs.Views.{entry_view, entries_view, writes_view}
 use Rattle.engine.specs.declared.ledger.Entry.{Entry}
 use Rattle.engine.specs.declared.ledger.Commit.TheVariants.{Repeat, Clash}
-use Rattle.engine.proofs.PlaceOf.{place_found, known_none, known_at, view_at, entries_length}
+use Rattle.engine.proofs.PlaceOf.{place_found, known_none, known_at, view_at}
 use Rattle.engine.proofs.fixed_table.FixedTableEngine.known.Goals as goal
 
 pub returns-in_default : goal.returns-in_default
@@ -21,7 +22,7 @@ index-requires c =
     let es = entries_view c.self.inside.ledger.items in
     let got : place_in c.self.inside.places es t ≡ Some c.in-Some.place = search rules in
     let at = place_found t [] es 0 c.in-Some.place (sym (c.self.invariant.places_are t) ∙ got) in
-    omega (arith, at.0, entries_length c.self.inside.ledger.items, c.self.inside.ledger.ok.0)
+    omega (arith, at.0, length-map c.self.inside.ledger.items entry_view, c.self.inside.ledger.ok.0)
 
 pub known_at-requires : goal.known_at-requires
 known_at-requires c =
@@ -29,7 +30,7 @@ known_at-requires c =
     let es = entries_view c.self.inside.ledger.items in
     let got : place_in c.self.inside.places es t ≡ Some c.in-Some.place = search rules in
     let at = place_found t [] es 0 c.in-Some.place (sym (c.self.invariant.places_are t) ∙ got) in
-    omega (arith, at.0, entries_length c.self.inside.ledger.items, c.self.inside.ledger.ok.0, c.self.inside.ledger.ok.1, c.self.inside.ledger.small)
+    omega (arith, at.0, length-map c.self.inside.ledger.items entry_view, c.self.inside.ledger.ok.0, c.self.inside.ledger.ok.1, c.self.inside.ledger.small)
 
 pub returns : goal.returns
 returns c =
