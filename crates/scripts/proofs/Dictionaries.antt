@@ -7,7 +7,7 @@ use Rattle.packstream.specs.Answers.{whole_of}
 use Rattle.packstream.specs.Good.{IsGood}
 use Rattle.packstream.specs.Plain.{AreBytes}
 use Rattle.packstream.specs.Spelling.{Spells}
-use Rattle.packstream.specs.Tree.{Tree, null, boolean, int, float, byte_string, text, list, dict, structure, Entries, no_entries, entry_then}
+use Rattle.packstream.specs.Tree.{Tree, dict, Entries, no_entries, entry_then}
 use Rattle.packstream.specs.View.{entries_of}
 use Rattle.packstream.specs.declared.fault.Reason.{Reason as PackReason}
 use Rattle.cells.specs.Faults.{fault, scan, structures}
@@ -33,14 +33,7 @@ same_some x y e = cc
 
 dictionary : (s : Tree) (ps : Params) → entries_in s ≡ Some ps → dict (entries_of ps) ≡ s
 dictionary (dict es) ps e = ap (λ x. dict (entries_of x)) (sym (same_some (pairs_of es) ps e)) ∙ ap dict (entries_again es)
-dictionary null ps e = absurd cc
-dictionary (boolean x) ps e = absurd cc
-dictionary (int x) ps e = absurd cc
-dictionary (float x) ps e = absurd cc
-dictionary (byte_string x) ps e = absurd cc
-dictionary (text x) ps e = absurd cc
-dictionary (list x) ps e = absurd cc
-dictionary (structure x y) ps e = absurd cc
+dictionary _ ps e = absurd cc
 
 abbrev Judged : Type 0
 Judged = Result ℕ (Reason × ℕ)

@@ -1,5 +1,5 @@
 -- The lines of a script, one after the other.
-use Rattle.std.proofs.Common.{◌≡◌, ℕ, ◌+◌, ◌<◌, ◌==◌, length, drop, map, get_or, Bor, true, false, List, [], ◌∷◌, ◌++◌, append_assoc, append-nil, Option, Some, None, refl, sym, ap, ◌∙◌, arith}
+use Rattle.std.proofs.Common.{◌≡◌, ℕ, ◌+◌, ◌<◌, ◌==◌, length, drop, map, get_or, Bor, true, false, List, [], ◌∷◌, ◌++◌, append_assoc, Option, Some, None, refl, sym, ap, ◌∙◌, arith}
 use Rattle.std.specs.Option.{option_map}
 use Rattle.std.proofs.lemmas.List.{drop-map, drop_more, map-append}
 use Rattle.scripts.specs.declared.fault.LineFault.{LineFault}
@@ -8,52 +8,31 @@ use Rattle.scripts.specs.declared.fault.ScriptFault.{ScriptFault}
 use Rattle.scripts.specs.Answers.{Refused}
 use Rattle.scripts.specs.Views.{Text}
 use Rattle.scripts.specs.Words.{is_empty}
-use Rattle.scripts.specs.Script.{lines, filled_from, filled_lines, lines_read, unreadable, fault_at, IsRefused}
+use Rattle.scripts.specs.Script.{filled_from, filled_lines, lines_read, unreadable, fault_at, IsRefused}
 
 -- what the lines of bytes say is this, and then what these lines say, of which the first has number n; none before them can't be read
 pub record HasRead {V : Type 0} (read : Text → Option V) (b : List ℕ) (out : List (ℕ × V)) (n : ℕ) (ls : List Text) : Type 0 where
   pub told : lines_read read (filled_lines b) ≡ out ++ lines_read read (filled_from n ls)
   pub left : unreadable read (filled_lines b) ≡ unreadable read (filled_from n ls)
 
-pub begins : {V : Type 0} (read : Text → Option V) (b : List ℕ) → HasRead read b [] 1 (lines b)
-begins read b = record { told = refl; left = refl }
-
 -- an empty line is passed over, another stands first
-passed : (n : ℕ) (l : Text) (ls : List Text) → is_empty l ≡ true → filled_from n (l ∷ ls) ≡ filled_from (n + 1) ls
-passed n l ls e = rw e refl
-
-stands : (n : ℕ) (l : Text) (ls : List Text) → is_empty l ≡ false → filled_from n (l ∷ ls) ≡ (n, l) ∷ filled_from (n + 1) ls
-stands n l ls e = rw e refl
-
 pub skips : {V : Type 0} (read : Text → Option V) (b : List ℕ) (out : List (ℕ × V)) (n : ℕ) (l : Text) (ls : List Text)
     → HasRead read b out n (l ∷ ls) → is_empty l ≡ true → HasRead read b out (n + 1) ls
 skips read b out n l ls h e = record {
-  told = h.told ∙ ap (λ fs. out ++ lines_read read fs) (passed n l ls e);
-  left = h.left ∙ ap (unreadable read) (passed n l ls e);
+  told = rw e at h.told;
+  left = rw e at h.left;
 }
-
-said_first : {V : Type 0} (read : Text → Option V) (n : ℕ) (l : Text) (v : V) (fs : List (ℕ × Text)) → read l ≡ Some v → lines_read read ((n, l) ∷ fs) ≡ (n, v) ∷ lines_read read fs
-said_first read n l v fs e = rw e refl
-
-readable_first : {V : Type 0} (read : Text → Option V) (n : ℕ) (l : Text) (v : V) (fs : List (ℕ × Text)) → read l ≡ Some v → unreadable read ((n, l) ∷ fs) ≡ unreadable read fs
-readable_first read n l v fs e = rw e refl
-
-unreadable_first : {V : Type 0} (read : Text → Option V) (n : ℕ) (l : Text) (fs : List (ℕ × Text)) → read l ≡ None → unreadable read ((n, l) ∷ fs) ≡ Some (n, l)
-unreadable_first read n l fs e = rw e refl
 
 pub reads : {V : Type 0} (read : Text → Option V) (b : List ℕ) (out : List (ℕ × V)) (n : ℕ) (l : Text) (ls : List Text) (v : V)
     → HasRead read b out n (l ∷ ls) → is_empty l ≡ false → read l ≡ Some v → HasRead read b (out ++ (n, v) ∷ []) (n + 1) ls
 reads read b out n l ls v h e k = record {
-  told = h.told ∙ ap (λ fs. out ++ lines_read read fs) (stands n l ls e) ∙ ap (λ ss. out ++ ss) (said_first read n l v (filled_from (n + 1) ls) k) ∙ sym (append_assoc out ((n, v) ∷ []) (lines_read read (filled_from (n + 1) ls)));
-  left = h.left ∙ ap (unreadable read) (stands n l ls e) ∙ readable_first read n l v (filled_from (n + 1) ls) k;
+  told = (rw (e, k) at h.told) ∙ sym (append_assoc out ((n, v) ∷ []) (lines_read read (filled_from (n + 1) ls)));
+  left = rw (e, k) at h.left;
 }
 
 pub stops : {V : Type 0} (read : Text → Option V) (b : List ℕ) (out : List (ℕ × V)) (n : ℕ) (l : Text) (ls : List Text)
     → HasRead read b out n (l ∷ ls) → is_empty l ≡ false → read l ≡ None → option_map (λ x. x.0) (unreadable read (filled_lines b)) ≡ Some n
-stops read b out n l ls h e k = ap (option_map (λ x. x.0)) (h.left ∙ ap (unreadable read) (stands n l ls e) ∙ unreadable_first read n l (filled_from (n + 1) ls) k)
-
-pub ends : {V : Type 0} (read : Text → Option V) (b : List ℕ) (out : List (ℕ × V)) (n : ℕ) → HasRead read b out n [] → (unreadable read (filled_lines b) ≡ None) × (out ≡ lines_read read (filled_lines b))
-ends read b out n h = (h.left, sym (h.told ∙ append-nil out))
+stops read b out n l ls h e k = ap (option_map (λ x. x.0)) (rw (e, k) at h.left)
 
 -- The same of lines that are lent.
 abbrev pub texts : List (Bor (List ℕ)) → List Text

@@ -1,5 +1,5 @@
 -- Numbers that the standard library parses, by the definitions of words.
-use Rattle.std.proofs.Common.{◌≡◌, ℕ, ◌<◌, ◌≤◌, ◌&&◌, nat_lt, Bool, true, false, cond, List, [], ◌∷◌, length, get_or, drop, Option, Some, None, Result, Ok, Err, refl, sym, ap, ◌∙◌, arith}
+use Rattle.std.proofs.Common.{◌≡◌, ℕ, ◌<◌, ◌≤◌, ◌&&◌, nat_lt, Bool, true, false, cond, List, [], ◌∷◌, length, get_or, drop, Some, None, Result, Ok, Err, refl, sym, ap, ◌∙◌, arith}
 use Rattle.std.specs.Int.{w64}
 use Rattle.std.specs.Option.{option_map}
 use Rattle.std.specs.Prelude.{ℤ, pos, neg_ℤ}
@@ -8,6 +8,7 @@ use Rattle.std.specs.Str.{all_ascii_digits}
 use Rattle.std.specs.Str.Parse.{ParsesUnsigned, ParsesSigned, digits_value, starts_with_minus}
 use Rattle.std.proofs.lemmas.Bool.{lt-ltb, le-ltb, eqb-true}
 use Rattle.std.proofs.lemmas.Str.Parse.{IsNumeralModel, numerals_by_value, tells_all_ascii_digits, parse_digits, parse_signed_digits, parse_signed_minus}
+use Rattle.std.proofs.lemmas.Iterator.Adapters.{option_map_id}
 use Rattle.scripts.specs.Words.{is_decimal, number_below, number_of, without_minus, whole_of}
 
 own : IsNumeralModel (λ ds. all_ascii_digits ds ≡ true) (digits_value 10)
@@ -34,18 +35,10 @@ parsed f (Err y) P d v limit e to from h =
     let beyond : limit ≤ v = omega (arith, m) in
     sym (ap (option_map f) (past d v limit e beyond))
 
-same_option : {X : Type 0} (o : Option X) → option_map (λ x. x) o ≡ o
-same_option None = refl
-same_option (Some x) = refl
-
--- a word that isn't all digits is no number
-pub no_number : (limit : ℕ) (word : List ℕ) → is_decimal word ≡ false → number_below limit word ≡ None
-no_number limit word e = rw e refl
-
 pub parsed_number : {E : Type 0} (word : List ℕ) (r : Result ℕ E) → ParsesUnsigned 64 10 word r → is_decimal word ≡ true → result_ok r ≡ number_of word
 parsed_number word r h e =
     let digits = decimal_digits word e in
-    parsed (λ n. n) r _ (is_decimal word) (digits_value 10 word) 18446744073709551616 e (λ p. p.1) (λ l. (digits.1, l)) (parse_digits own 64 word r h digits.0) ∙ same_option _
+    parsed (λ n. n) r _ (is_decimal word) (digits_value 10 word) 18446744073709551616 e (λ p. p.1) (λ l. (digits.1, l)) (parse_digits own 64 word r h digits.0) ∙ option_map_id _
 
 -- with a minus, and without one
 signed_number : {E : Type 0} (word : List ℕ) (r : Result ℤ E) (minus : Bool) → starts_with_minus word ≡ minus → ParsesSigned w64 10 word r → is_decimal (cond minus (drop 1 word) word) ≡ true
@@ -59,11 +52,3 @@ signed_number word r false m h e =
 
 pub parsed_whole : {E : Type 0} (word : List ℕ) (r : Result ℤ E) → ParsesSigned w64 10 word r → is_decimal (without_minus word) ≡ true → result_ok r ≡ whole_of word
 parsed_whole word r h e = signed_number word r (starts_with_minus word) refl h e
-
-no_signed : (word : List ℕ) (minus : Bool) → is_decimal (cond minus (drop 1 word) word) ≡ false
-    → cond minus (option_map (λ n. neg_ℤ (pos n)) (number_below 9223372036854775809 (drop 1 word))) (option_map (λ n. pos n) (number_below 9223372036854775808 word)) ≡ None
-no_signed word true e = ap (option_map (λ n. neg_ℤ (pos n))) (no_number 9223372036854775809 (drop 1 word) e)
-no_signed word false e = ap (option_map (λ n. pos n)) (no_number 9223372036854775808 word e)
-
-pub no_whole : (word : List ℕ) → is_decimal (without_minus word) ≡ false → whole_of word ≡ None
-no_whole word e = no_signed word (starts_with_minus word) e

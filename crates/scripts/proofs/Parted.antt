@@ -1,9 +1,10 @@
 -- The words of a line, joined.
-use Rattle.std.proofs.Common.{◌≡◌, ◌↔◌, ℕ, ◌<◌, ◌==◌, ◌&&◌, ◌||◌, not, Bool, true, false, cond, List, [], ◌∷◌, ◌++◌, length, Some, None, refl, sym, ap, ◌∙◌, subst, arith}
+use Rattle.std.proofs.Common.{◌≡◌, ◌↔◌, ℕ, ◌<◌, ◌==◌, ◌&&◌, not, Bool, true, false, cond, List, [], ◌∷◌, ◌++◌, length, Some, None, refl, sym, ap, ◌∙◌, subst, arith}
 use Rattle.std.specs.List.{list_any, list_all, join_with_byte, onto_first}
 use Rattle.std.specs.Str.{is_utf8}
 use Rattle.std.proofs.lemmas.List.Splits.{length-slice_split, join_with_byte-slice_split}
 use Rattle.std.proofs.lemmas.Str.{IsUtf8-from_is_utf8}
+use Rattle.std.proofs.lemmas.Bool.{and_parts, not-true, or_parts}
 use Rattle.scripts.specs.Views.{Text}
 use Rattle.scripts.specs.Words.{is_empty, parts_of, words_of}
 use Rattle.scripts.specs.Laws.{is_word, AreWords}
@@ -15,41 +16,29 @@ is_blank b = b == 32
 abbrev has_blank : Text → Bool
 has_blank w = list_any is_blank w
 
-or_none : (a b : Bool) → (a || b) ≡ false → (a ≡ false) × (b ≡ false)
-or_none true b h = absurd cc
-or_none false b h = (refl, h)
-
-and_both : (a b : Bool) → (a && b) ≡ true → (a ≡ true) × (b ≡ true)
-and_both true b h = (refl, h)
-and_both false b h = absurd cc
-
-not_is : (a : Bool) → not a ≡ true → a ≡ false
-not_is true h = absurd cc
-not_is false h = refl
-
 -- a word without a blank is the one part, or the first
 alone : (w : Text) → has_blank w ≡ false → parts_of w ≡ w ∷ []
 alone [] h = refl
-alone (x ∷ w) h = let p = or_none (is_blank x) (has_blank w) h in rw (p.0, alone w p.1) refl
+alone (x ∷ w) h = let p = or_parts (is_blank x) (has_blank w) h in rw (p.0, alone w p.1) refl
 
 first : (w rest : Text) → has_blank w ≡ false → parts_of (w ++ (32 ∷ rest)) ≡ w ∷ parts_of rest
 first [] rest h = refl
-first (x ∷ w) rest h = let p = or_none (is_blank x) (has_blank w) h in rw (p.0, first w rest p.1) refl
+first (x ∷ w) rest h = let p = or_parts (is_blank x) (has_blank w) h in rw (p.0, first w rest p.1) refl
 
 word_parts : (w : Text) → is_word w ≡ true → (is_empty w ≡ false) × (has_blank w ≡ false)
-word_parts w h = let p = and_both (not (is_empty w)) (not (has_blank w)) h in (not_is (is_empty w) p.0, not_is (has_blank w) p.1)
+word_parts w h = let p = and_parts (not (is_empty w)) (not (has_blank w)) h in (not-true (is_empty w) p.0, not-true (has_blank w) p.1)
 
 -- words that are joined are parted again
 again : (ws : List Text) → 0 < length ws → list_all is_word ws ≡ true → parts_of (join_with_byte 32 ws) ≡ ws
 again [] some h = absurd (omega arith)
-again (w ∷ []) some h = alone w (word_parts w (and_both (is_word w) true h).0).1
+again (w ∷ []) some h = alone w (word_parts w (and_parts (is_word w) true h).0).1
 again (w ∷ v ∷ ws) some h =
-    let p = and_both (is_word w) (list_all is_word (v ∷ ws)) h in
+    let p = and_parts (is_word w) (list_all is_word (v ∷ ws)) h in
     first w (join_with_byte 32 (v ∷ ws)) (word_parts w p.0).1 ∙ ap (λ rest. w ∷ rest) (again (v ∷ ws) (omega arith) p.1)
 
 none_empty : (ws : List Text) → list_all is_word ws ≡ true → list_any is_empty ws ≡ false
 none_empty [] h = refl
-none_empty (w ∷ ws) h = let p = and_both (is_word w) (list_all is_word ws) h in rw ((word_parts w p.0).0, none_empty ws p.1) refl
+none_empty (w ∷ ws) h = let p = and_parts (is_word w) (list_all is_word ws) h in rw ((word_parts w p.0).0, none_empty ws p.1) refl
 
 -- the parts have no blank
 abbrev has_none : Text → Bool
@@ -70,8 +59,8 @@ unblanked (x ∷ line) = parts_by x (parts_of line) (is_blank x) refl (unblanked
 words_all : (ws : List Text) → list_any is_empty ws ≡ false → list_all has_none ws ≡ true → list_all is_word ws ≡ true
 words_all [] e h = refl
 words_all (w ∷ ws) e h =
-    let p = or_none (is_empty w) (list_any is_empty ws) e in
-    let q = and_both (has_none w) (list_all has_none ws) h in
+    let p = or_parts (is_empty w) (list_any is_empty ws) e in
+    let q = and_parts (has_none w) (list_all has_none ws) h in
     rw (p.0, q.0, words_all ws p.1 q.1) refl
 
 some_words : (line : Text) → 0 < length (parts_of line)
@@ -87,8 +76,7 @@ words_by line ws true false u e h =
       words = words_all (parts_of line) e (unblanked line);
       joined = join_with_byte-slice_split 32 line;
     })
-words_by line ws true true u e h = absurd cc
-words_by line ws false e u f h = absurd cc
+words_by line ws _ _ u e h = absurd cc
 
 pub are_words : (line : Text) (ws : List Text) → (words_of line ≡ Some ws) ↔ AreWords line ws
 are_words line ws = (

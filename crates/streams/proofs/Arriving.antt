@@ -25,15 +25,11 @@ use Rattle.streams.proofs.Telling.{settled_rests, fed_placed, item_talk_over}
 use Rattle.wire.proofs.Opening.{AreChunks, Came, part, whole, came}
 
 -- what stands for no request ends the session
-unread_over : (S : Setting) (c : ℕ) (ledger : List EntryView) (k : Kept) (e : MsgFault) → k.ended ≡ None → k.waiting ≡ [] → IsSome (talk_of_due S c ledger (after_item k (Some (Unread e)))).kept.ended
-unread_over S c ledger k e o w =
-    subst (λ (x : Option Cause). IsSome (talk_of_due S c ledger (record k { ended = x; waiting = k.waiting ++ Unread e ∷ [] })).kept.ended) (sym o)
-    (subst (λ (ws : List Arrival). IsSome (talk_of_due S c ledger (record k { ended = None; waiting = ws ++ Unread e ∷ [] })).kept.ended) (sym w) refl)
-
-long_over : (S : Setting) (c : ℕ) (ledger : List EntryView) (k : Kept) → k.ended ≡ None → k.waiting ≡ [] → IsSome (talk_of_due S c ledger (after_item k (Some TooLong))).kept.ended
-long_over S c ledger k o w =
-    subst (λ (x : Option Cause). IsSome (talk_of_due S c ledger (record k { ended = x; waiting = k.waiting ++ TooLong ∷ [] })).kept.ended) (sym o)
-    (subst (λ (ws : List Arrival). IsSome (talk_of_due S c ledger (record k { ended = None; waiting = ws ++ TooLong ∷ [] })).kept.ended) (sym w) refl)
+ends_over : (S : Setting) (c : ℕ) (ledger : List EntryView) (k : Kept) (x : Arrival) → k.ended ≡ None → k.waiting ≡ [] → IsSome (talk_of_due S c ledger (record k { ended = None; waiting = x ∷ [] })).kept.ended
+    → IsSome (talk_of_due S c ledger (record k { waiting = k.waiting ++ x ∷ [] })).kept.ended
+ends_over S c ledger k x o w i =
+    subst (λ (e : Option Cause). IsSome (talk_of_due S c ledger (record k { ended = e; waiting = k.waiting ++ x ∷ [] })).kept.ended) (sym o)
+    (subst (λ (ws : List Arrival). IsSome (talk_of_due S c ledger (record k { ended = None; waiting = ws ++ x ∷ [] })).kept.ended) (sym w) i)
 
 interrupts_version : (b : Bool) (k : Kept) → (if b then after_interrupt k else k).version ≡ k.version
 interrupts_version true k = refl
@@ -74,30 +70,27 @@ module _ (S : Setting) (c : ℕ) (v : Version) where
   same_asked [] a ledger k h e = refl
   same_asked (Opening b ∷ ys) a ledger k h e = absurd a.0
   same_asked (Noop ∷ ys) a ledger k h e = one_more arrival.Idle (requests_in v ys) Noop ys ledger k refl e (goes_on arrival.Idle ys ledger k h e refl (same_asked ys a.1))
-  same_asked (TooBig ∷ ys) a ledger k h e = one_more TooLong [] TooBig ys ledger k refl e (λ o. stops TooLong ys ledger k (long_over S c ledger k o (h.done o)))
+  same_asked (TooBig ∷ ys) a ledger k h e = one_more TooLong [] TooBig ys ledger k refl e (λ o. stops TooLong ys ledger k (ends_over S c ledger k TooLong o (h.done o) refl))
   same_asked (Message b ∷ ys) a ledger k h e = go (request_of v b) refl (same_asked ys a.1)
     where
       go : (q : Result RequestView MsgFault) → request_of v b ≡ q → Same ys → talk_of_arrivals S c (then_request q (requests_in v ys)) ledger k ≡ item_talk S c (Message b ∷ ys) ledger k
       go (Ok q) f more = one_more (Asked q) (requests_in v ys) (Message b) ys ledger k (ap arrival_by f) e (goes_on (Asked q) ys ledger k h e (interrupts_version (is_reset (kind_of q) && interruptible k.state) (record k { waiting = k.waiting ++ Asked q ∷ [] })) more)
-      go (Err x) f more = one_more (Unread x) [] (Message b) ys ledger k (ap arrival_by f) e (λ o. stops (Unread x) ys ledger k (unread_over S c ledger k x o (h.done o)))
+      go (Err x) f more = one_more (Unread x) [] (Message b) ys ledger k (ap arrival_by f) e (λ o. stops (Unread x) ys ledger k (ends_over S c ledger k (Unread x) o (h.done o) refl))
 
 -- The offer, and what follows it.
 module _ (S : Setting) (c : ℕ) (ledger : List EntryView) where
-  after_none : (ys : List Item) → talk_of_arrivals S c (Shook None ∷ []) ledger begun ≡ talk_then (talk_of_due S c ledger (after_item begun (Some (Shook None)))) (item_talk S c ys)
-  after_none ys = ap (after_bytes (talk_of_due S c ledger (after_item begun (Some (Shook None)))).out) (sym (item_talk_over S c ys ledger (talk_of_due S c ledger (after_item begun (Some (Shook None)))).kept refl))
-
-  after_magic : (ys : List Item) → talk_of_arrivals S c (NoMagic ∷ []) ledger begun ≡ talk_then (talk_of_due S c ledger (after_item begun (Some NoMagic))) (item_talk S c ys)
-  after_magic ys = ap (after_bytes (talk_of_due S c ledger (after_item begun (Some NoMagic))).out) (sym (item_talk_over S c ys ledger (talk_of_due S c ledger (after_item begun (Some NoMagic))).kept refl))
+  after_over : (x : Arrival) (ys : List Item) → IsSome (talk_of_due S c ledger (after_item begun (Some x))).kept.ended → talk_of_arrivals S c (x ∷ []) ledger begun ≡ talk_then (talk_of_due S c ledger (after_item begun (Some x))) (item_talk S c ys)
+  after_over x ys e = let t = talk_of_due S c ledger (after_item begun (Some x)) in ap (after_bytes t.out) (sym (item_talk_over S c ys t.ledger t.kept e))
 
   after_offer : (o : Option Version) (ys : List Item) → AreChunks ys → talk_of_arrivals S c (Shook o ∷ after_shake (Shook o) ys) ledger begun ≡ talk_then (talk_of_due S c ledger (after_item begun (Some (Shook o)))) (item_talk S c ys)
-  after_offer None ys a = after_none ys
+  after_offer None ys a = after_over (Shook None) ys refl
   after_offer (Some v) ys a =
       let t = talk_of_due S c ledger (after_item begun (Some (Shook (Some v)))) in
       ap (after_bytes t.out) (same_asked S c v ys a t.ledger t.kept (record { sent = refl; done = λ e. refl }) refl)
 
   after_opening : (b : Bool) (o : Option Version) (ys : List Item) → AreChunks ys → (let x = if b then Shook o else NoMagic in talk_of_arrivals S c (x ∷ after_shake x ys) ledger begun ≡ talk_then (talk_of_due S c ledger (after_item begun (Some x))) (item_talk S c ys))
   after_opening true o ys a = after_offer o ys a
-  after_opening false o ys a = after_magic ys
+  after_opening false o ys a = after_over NoMagic ys refl
 
   by_came : (xs : List Item) (u : Opened) → Came 20 xs u → talk_of_arrivals S c (arrivals_of xs) ledger begun ≡ item_talk S c xs ledger begun
   by_came xs u (part bytes e s) = subst (λ (zs : List Item). talk_of_arrivals S c (arrivals_of zs) ledger begun ≡ item_talk S c zs ledger begun) (sym e) refl

@@ -2,9 +2,10 @@
 use Rattle.std.proofs.Common.{◌≡◌, refl, sym, ◌∙◌, ap, subst, ℕ, ◌<◌, ◌≤◌, Bool, true, false, Option, Some, None, Result, Ok, Err, List, [], ◌++◌, length, take, drop, append_assoc, append-nil, true≢false, ◌⊎◌, inl, inr, ⊎_elim, arith}
 use Rattle.std.specs.Prelude.{not, ◌&&◌, ◌==◌, is_err, OnErr, IfErr}
 use Rattle.std.specs.Result.{result_err}
-use Rattle.std.specs.Io.KnownBytes.{Appends, Consumes, IsAtEnd, Keeps}
-use Rattle.std.proofs.KnownBytes.{Consumes-trans}
+use Rattle.std.specs.Io.KnownBytes.{Appends, Consumes, IsAtEnd}
+use Rattle.std.proofs.KnownBytes.{Consumes-kept, Consumes-nil, Consumes-trans}
 use Rattle.std.proofs.lemmas.Bool.Decides.{nat_tests}
+use Rattle.std.proofs.Math.Bool.{and-false}
 use Rattle.client.specs.declared.Outcome.{Outcome}
 use Rattle.client.specs.Rest.{Knows, Note, Rest, losses, after_drop, taken_out, awaits}
 use Rattle.streams.specs.declared.fault.StreamFault.{StreamFault}
@@ -19,44 +20,32 @@ use Rattle.streams.proofs.Tales.{hears_all-append, after_all-append}
 pub all_taken : (n : ℕ) (xs bytes : List ℕ) → bytes ≡ take n xs → length bytes < n → (bytes ≡ xs) × (drop n xs ≡ [])
 all_taken n xs bytes e l = let t = take_short n xs (subst (λ (z : List ℕ). length z < n) e l) in (e ∙ t.0, t.1)
 
--- the client is lost
-and_false : (b : Bool) → (b && false) ≡ false
-and_false true = refl
-and_false false = refl
-
 pub unanswered_awaits : (k : Knows) → awaits k ≡ true → all_answered k ≡ false
 unanswered_awaits k e = rw e refl
 
 pub unanswered_waits : (k : Knows) → 0 < length k.waiting → all_answered k ≡ false
 unanswered_waits k l =
     let some : (length k.waiting == 0) ≡ false = grind (arith, nat_tests) in
-    ap (λ b. not (awaits k) && b) some ∙ and_false (not (awaits k))
+    ap (λ b. not (awaits k) && b) some ∙ and-false (not (awaits k))
 
 pub loses : (r : Rest) (Now : Rest → Type 0) (lost : List (ℕ × Outcome)) → all_answered r.knows ≡ false → (lost ≡ losses r.knows) × Now (after_drop r) → GivesUp Now lost r
 loses r Now lost e h = rw e (h.1, h.0)
 
--- what is kept is consumed by no byte
-keeps_consumes : (a b : Option (List ℕ)) → Keeps a b → Consumes a b []
-keeps_consumes None b h = tt
-keeps_consumes (Some zs) None h = absurd h
-keeps_consumes (Some zs) (Some ws) h = sym h
-
-pub consumes_none : (a : Option (List ℕ)) → Consumes a a []
-consumes_none None = tt
-consumes_none (Some zs) = refl
-
 pub reads_none : (r : Rest) (left : Option (List ℕ)) (before : List Note) (Now : Rest → Type 0) → Now r → ReadsOn r left left before before Now
-reads_none r left before Now now = record { fed = []; unheard = []; input = consumes_none left; told = sym (append-nil before); now = now; needed = inl refl; whole = inl refl }
+reads_none r left before Now now = record { fed = []; unheard = []; input = Consumes-nil left; told = sym (append-nil before); now = now; needed = inl refl; whole = inl refl }
 
 awaits_open : (k : Knows) → awaits k ≡ true → k.over ≡ true → ⊥
 awaits_open k e o = let f : awaits k ≡ false = rw o refl in true≢false (sym e ∙ f)
 
 module _ (r : Rest) (left mid : Option (List ℕ)) (before notes : List Note) (Was : Rest → Type 0) (so : ReadsOn r left mid before notes Was) where
   -- what was read so far was fed, all of it, where an answer is still to come
-  pub is_awaited : awaits (hears_all r so.fed).knows ≡ true → IsAwaited r left mid
-  is_awaited waits =
+  all_fed : awaits (hears_all r so.fed).knows ≡ true → so.fed ++ so.unheard ≡ so.fed
+  all_fed waits =
       let none : so.unheard ≡ [] = ⊎_elim (λ e. e) (λ o. absurd (awaits_open (hears_all r so.fed).knows waits o)) so.whole in
-      (so.fed, subst (Consumes left mid) (ap (λ l. so.fed ++ l) none ∙ append-nil so.fed) so.input, waits)
+      ap (λ l. so.fed ++ l) none ∙ append-nil so.fed
+
+  pub is_awaited : awaits (hears_all r so.fed).knows ≡ true → IsAwaited r left mid
+  is_awaited waits = (so.fed, subst (Consumes left mid) (all_fed waits) so.input, waits)
 
   -- it stops
   stops : (left_now : Option (List ℕ)) (fault : Option StreamFault) → Consumes mid left_now [] → (fault ≡ None → IsAtEnd left_now ⊎ (awaits (hears_all r so.fed).knows ≡ false)) → ReadsAll r left left_now before notes Was fault
@@ -72,34 +61,20 @@ module _ (r : Rest) (left mid : Option (List ℕ)) (before notes : List Note) (W
   }
 
   pub stops_waiting : awaits (hears_all r so.fed).knows ≡ false → ReadsAll r left mid before notes Was None
-  stops_waiting e = stops mid None (consumes_none mid) (λ _. inr e)
-
-  pub stops_at_end : (left_now : Option (List ℕ)) → Consumes mid left_now [] → IsAtEnd left_now → ReadsAll r left left_now before notes Was None
-  stops_at_end left_now h e = stops left_now None h (λ _. inl e)
-
-  pub stops_failed : (left_now : Option (List ℕ)) → Keeps mid left_now → ReadsAll r left left_now before notes Was (Some stream_fault.ReadFailed)
-  stops_failed left_now h = stops left_now (Some stream_fault.ReadFailed) (keeps_consumes mid left_now h) (λ e. absurd cc)
+  stops_waiting e = stops mid None (Consumes-nil mid) (λ _. inr e)
 
   -- a piece more, while an answer is still to come
   module _ (left_now : Option (List ℕ)) (piece : List ℕ) (after : List Note) (whole : Bool) (Now : Rest → Type 0) (waits : awaits (hears_all r so.fed).knows ≡ true) (short : length piece ≤ 4096) (read : Consumes mid left_now piece) (f : FeedsPiece (after_all r so.fed) piece notes after whole Now) where
-    none_unheard : so.unheard ≡ []
-    none_unheard = ⊎_elim (λ e. e) (λ o. absurd (awaits_open (hears_all r so.fed).knows waits o)) so.whole
-
     all_read : so.fed ++ piece ≡ (so.fed ++ f.fed) ++ f.unheard
     all_read = ap (λ l. so.fed ++ l) f.parts ∙ sym (append_assoc so.fed f.fed f.unheard)
 
-    heard : hears_all r (so.fed ++ f.fed) ≡ record { knows = (hears_all (after_all r so.fed) f.fed).knows; notes = (hears_all r so.fed).notes ++ (hears_all (after_all r so.fed) f.fed).notes }
-    heard = hears_all-append r so.fed f.fed
-
     input_more : Consumes left left_now ((so.fed ++ f.fed) ++ f.unheard)
-    input_more =
-        let was : so.fed ++ so.unheard ≡ so.fed = ap (λ l. so.fed ++ l) none_unheard ∙ append-nil so.fed in
-        subst (Consumes left left_now) (ap (λ l. l ++ piece) was ∙ all_read) (Consumes-trans left mid left_now (so.fed ++ so.unheard) piece so.input read)
+    input_more = subst (Consumes left left_now) (ap (λ l. l ++ piece) (all_fed waits) ∙ all_read) (Consumes-trans left mid left_now (so.fed ++ so.unheard) piece so.input read)
 
     told_more : after ≡ before ++ (hears_all r (so.fed ++ f.fed)).notes
     told_more =
         f.told ∙ ap (λ l. l ++ (hears_all (after_all r so.fed) f.fed).notes) so.told ∙ append_assoc before (hears_all r so.fed).notes (hears_all (after_all r so.fed) f.fed).notes
-        ∙ ap (λ t. before ++ t.notes) (sym heard)
+        ∙ ap (λ t. before ++ t.notes) (sym (hears_all-append r so.fed f.fed))
 
     needed_more : IsNeeded r ((so.fed ++ f.fed) ++ f.unheard)
     needed_more = inr (record { before = so.fed; last = piece; parts = sym all_read; short = short; waits = waits })
@@ -108,7 +83,7 @@ module _ (r : Rest) (left mid : Option (List ℕ)) (before notes : List Note) (W
     now_more = subst Now (sym (after_all-append r so.fed f.fed)) f.now
 
     whole_more : whole ≡ true → (f.unheard ≡ []) ⊎ ((hears_all r (so.fed ++ f.fed)).knows.over ≡ true)
-    whole_more e = ⊎_elim (λ z. inl z) (λ o. inr (ap (λ t. t.knows.over) heard ∙ o)) (f.ends e)
+    whole_more e = ⊎_elim (λ z. inl z) (λ o. inr (ap (λ t. t.knows.over) (hears_all-append r so.fed f.fed) ∙ o)) (f.ends e)
 
     pub reads_more : whole ≡ true → ReadsOn r left left_now before after Now
     reads_more e = record { fed = so.fed ++ f.fed; unheard = f.unheard; input = input_more; told = told_more; now = now_more; needed = needed_more; whole = whole_more e }
@@ -134,10 +109,10 @@ module _ (r : Rest) (left mid : Option (List ℕ)) (before notes : List Note) (W
   hears_more waits h = reads_more r left mid before notes Was so left_now h.piece after true Now waits h.short h.input h.feeds refl
 
   pub hears_end : HearsPiece (after_all r so.fed) mid left_now notes after Now (Ok false) → ReadsAll r left left_now before after Now None
-  hears_end h = stops_at_end r left mid before after Now (same_so h.told h.now) left_now h.input h.at_end
+  hears_end h = stops r left mid before after Now (same_so h.told h.now) left_now None h.input (λ _. inl h.at_end)
 
   pub hears_fault : (fault : StreamFault) → awaits (hears_all r so.fed).knows ≡ true → HearsPiece (after_all r so.fed) mid left_now notes after Now (Err fault) → ReadsAll r left left_now before after Now (Some fault)
-  hears_fault stream_fault.ReadFailed waits h = stops_failed r left mid before after Now (same_so h.told h.now) left_now h.input
+  hears_fault stream_fault.ReadFailed waits h = stops r left mid before after Now (same_so h.told h.now) left_now (Some stream_fault.ReadFailed) (Consumes-kept mid mid left_now [] (Consumes-nil mid) h.input) (λ e. absurd cc)
   hears_fault stream_fault.WriteFailed waits h = absurd h
   hears_fault stream_fault.Memory waits h = reads_broken r left mid before notes Was so left_now h.piece after false Now waits h.short h.input h.feeds
 
@@ -161,7 +136,7 @@ asks_nothing r left written written_now before Now fault h = record {
   fed = [];
   unheard = [];
   writes = h.1;
-  input = consumes_none left;
+  input = Consumes-nil left;
   told = sym (append-nil before);
   now = h.2;
   needed = inl refl;
@@ -170,17 +145,16 @@ asks_nothing r left written written_now before Now fault h = record {
 }
 
 -- it was, and the input was read
-all_front : (a b : Option (List ℕ)) (out : List ℕ) → Appends a b out → AppendsFront a b out
+pub all_front : (a b : Option (List ℕ)) (out : List ℕ) → Appends a b out → AppendsFront a b out
 all_front a b out h = (out, [], append-nil out, h)
 
 written_all : (out : List ℕ) (n : ℕ) (fault : Option StreamFault) (a b : Option (List ℕ)) → (fault ≡ Some stream_fault.WriteFailed → ⊥) → Appends a b out × (drop n out ≡ []) → Writes out n fault a b
-written_all out n None a b never h = h
-written_all out n (Some stream_fault.ReadFailed) a b never h = h
 written_all out n (Some stream_fault.WriteFailed) a b never h = absurd (never refl)
 written_all out n (Some stream_fault.Memory) a b never h = all_front a b out h.0
+written_all out n _ a b never h = h
 
 -- bytes that are taken out change nothing of what was needed
-needed_taken : (r : Rest) (n : ℕ) (bytes : List ℕ) → IsNeeded (taken_out r n) bytes → IsNeeded r bytes
+pub needed_taken : (r : Rest) (n : ℕ) (bytes : List ℕ) → IsNeeded (taken_out r n) bytes → IsNeeded r bytes
 needed_taken r n bytes (inl none) = inl none
 needed_taken r n bytes (inr piece) =
     inr (record { before = piece.before; last = piece.last; parts = piece.parts; short = piece.short; waits = piece.waits })

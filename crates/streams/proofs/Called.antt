@@ -5,14 +5,14 @@ use Rattle.wire.specs.Framing.{Opened}
 use Rattle.engine.specs.declared.answer.Mode.{Mode as QueryMode}
 use Rattle.engine.specs.Views.{EntryView, WriteView, ParameterView, AnswerView, QueryFault}
 use Rattle.server.specs.declared.kinds.Refused.{Refused}
-use Rattle.server.specs.declared.kinds.Refused.TheVariants.{NoSuchConnection, SessionsFull, Memory}
+use Rattle.server.specs.declared.kinds.Refused.TheVariants.{SessionsFull}
 use Rattle.session.specs.declared.kinds.Worked.{Worked}
 use Rattle.session.specs.Rest.{Kept, worked_of, work_kept, commit_entries}
 use Rattle.server.specs.Serving.{Live, Rest, find, replace, with_kept, with_session, on_live, after_step, setting, work_at}
 use Rattle.server.proofs.Answered.{Answers}
-use Rattle.server.proofs.Runs.{find-conn}
+use Rattle.server.proofs.Runs.{find-conn, find_replaced}
 use Rattle.streams.specs.Conversing.{with_talk}
-use Rattle.streams.proofs.Seats.{find-replace, here, talk-found, talk-replaced}
+use Rattle.streams.proofs.Seats.{here, talk-found, talk-replaced}
 
 abbrev pub pair : {A B : Type 0} → A → B → A × B
 pair a b = (a, b)
@@ -25,9 +25,8 @@ some_second a x b y e = ap (λ o. (unwrap_or o (pair a b)).1) e
 
 -- a refused call changes nothing
 refused : {A G : Type 0} (e : Refused) (p : A × Rest G) (r : Rest G) (Now : Rest G → Type 0) → Answers (Err e) (Some p) r Now → Now r
-refused NoSuchConnection p r Now h = h.1
 refused SessionsFull p r Now h = absurd h
-refused Memory p r Now h = h.1
+refused _ p r Now h = h.1
 
 -- A session that lives does so after every call on it.
 module _ {A G : Type 0} (f : Live → A × Rest G) (conn : ℕ) (r : Rest G) (keeps : (s : Live) → find conn r.sessions ≡ Some s → IsSome (find conn (f s).1.sessions)) where
@@ -47,9 +46,8 @@ module _ {A G : Type 0} (f : Live → A × Rest G) (conn : ℕ) (r : Rest G) (ke
 
 pub found_again : (conn : ℕ) (s t : Live) (ss : List Live) → t.conn ≡ s.conn → find conn ss ≡ Some s → IsSome (find conn (replace t.conn t ss))
 found_again conn s t ss e f =
-    let same : conn ≡ t.conn = sym (find-conn conn ss s f) ∙ sym e in
-    let known : IsSome (find t.conn ss) = subst (λ (n : ℕ). IsSome (find n ss)) same (subst IsSome (sym f) refl) in
-    subst (λ (n : ℕ). IsSome (find n (replace t.conn t ss))) (sym same) (subst IsSome (sym (find-replace t ss known)) refl)
+    let same : t.conn ≡ conn = e ∙ find-conn conn ss s f in
+    subst (λ (n : ℕ). IsSome (find conn (replace n t ss))) (sym same) (subst IsSome (sym (find_replaced conn t ss (subst IsSome (sym f) refl) same)) refl)
 
 module _ {G : Type 0} (r : Rest G) (conn : ℕ) (lives : IsSome (find conn r.sessions)) (u : Opened) (ledger : List EntryView) (k : Kept) where
   abbrev W : Rest G

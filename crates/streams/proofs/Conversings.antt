@@ -2,7 +2,7 @@
 use Rattle.std.proofs.Common.{◌≡◌, refl, sym, ap, subst, ◌∙◌, ℕ, Bool, false, true≢false, List, [], ◌++◌, append_assoc, append-nil, ◌⊎◌, inl, inr, Option, Some, None, Ok, Err}
 use Rattle.std.specs.Prelude.{IsSome}
 use Rattle.std.specs.Io.KnownBytes.{Appends, Consumes, IsAtEnd, Keeps}
-use Rattle.std.proofs.KnownBytes.{Appends-nil, Consumes-kept, Consumes-trans}
+use Rattle.std.proofs.KnownBytes.{Appends-nil, Consumes-kept, Consumes-trans, Consumes-nil}
 use Rattle.wire.specs.Reader.{state}
 use Rattle.wire.specs.Framing.{at_server, opening}
 use Rattle.session.specs.Session.{Setting}
@@ -14,7 +14,6 @@ use Rattle.streams.specs.declared.fault.StreamFault.TheVariants as stream_fault
 use Rattle.streams.specs.Conversing.{Talk, conversation, with_talk}
 use Rattle.streams.specs.Settling.{Breaks, IsDueTo, told_by, Stands, TakesPiece}
 use Rattle.streams.specs.Serving.{IsTurn, Converses, ConversesFront}
-use Rattle.streams.proofs.Asked.{consumes_none}
 use Rattle.streams.proofs.Seats.{replace-itself}
 use Rattle.streams.proofs.Talks.{told_over}
 use Rattle.streams.proofs.Arriving.{talk_by_items}
@@ -43,28 +42,18 @@ module _ {G : Type 0} (r : Rest G) (conn : ℕ) (S : Setting) where
     pub reads_begun : (Now : Rest G → Type 0) → Now r → find conn r.sessions ≡ Some (fresh conn) → Reads Now before left
     reads_begun Now h f =
         let same : with_talk r conn (opening []) r.ledger begun ≡ r = ap (λ (ss : List Live). record { sessions = ss; next = r.next; ledger = r.ledger; gate = r.gate }) (replace-itself conn (fresh conn) r.sessions f) in
-        record { up = []; input = consumes_none left; live = refl; stands = (subst Now (sym same) h, Appends-nil before) }
+        record { up = []; input = Consumes-nil left; live = refl; stands = (subst Now (sym same) h, Appends-nil before) }
 
     -- the sink took all of it, and the session is as these bytes leave it
     ends_with : (Now : Rest G → Type 0) (taken left_now : Option (List ℕ)) (read used : List ℕ) → Consumes left left_now read → told_by r conn S used ≡ told_by r conn S read → IsAtEnd left_now ⊎ IsSome (told_by r conn S used).kept.ended → Stands r conn S Now before taken used
         → Converses r conn S Now left left_now before taken (Ok tt)
-    ends_with Now taken left_now read used i same (inl e) s =
+    ends_with Now taken left_now read used i same e s =
         let t = same ∙ by_read read in
         record {
           read = read;
           unfinished = state at_server at_server.start used;
           input = i;
-          ends = inl e;
-          now = subst (λ (t : Talk). Now (with_talk r conn (state at_server at_server.start used) t.ledger t.kept)) t s.0;
-          took = subst (λ (t : Talk). Appends before taken t.out) t s.1;
-        }
-    ends_with Now taken left_now read used i same (inr e) s =
-        let t = same ∙ by_read read in
-        record {
-          read = read;
-          unfinished = state at_server at_server.start used;
-          input = i;
-          ends = inr (subst (λ (t : Talk). IsSome t.kept.ended) t e);
+          ends = subst (λ (t : Talk). IsAtEnd left_now ⊎ IsSome t.kept.ended) t e;
           now = subst (λ (t : Talk). Now (with_talk r conn (state at_server at_server.start used) t.ledger t.kept)) t s.0;
           took = subst (λ (t : Talk). Appends before taken t.out) t s.1;
         }
@@ -139,5 +128,4 @@ module _ {G : Type 0} (r : Rest G) (conn : ℕ) (S : Setting) where
 -- a fault that is due to the sink or to memory alone isn't one of the source
 pub never_read : (fault : StreamFault) (output : Bool) → IsDueTo fault false output → fault ≡ stream_fault.ReadFailed → ⊥
 never_read stream_fault.ReadFailed output h e = true≢false (sym h)
-never_read stream_fault.WriteFailed output h e = cc
-never_read stream_fault.Memory output h e = cc
+never_read _ output h e = cc

@@ -1,5 +1,5 @@
 -- An item of a piece is fed to the one session.
-use Rattle.std.proofs.Common.{◌≡◌, refl, ap, subst, ℕ, ◌<◌, ◌≤◌, Bool, true, false, List, length, Option, Some, None, Result, Ok, Err, arith}
+use Rattle.std.proofs.Common.{◌≡◌, refl, ap, subst, ℕ, ◌<◌, ◌≤◌, Bool, true, false, List, length, Option, Some, None, Result, Ok, arith}
 use Rattle.std.specs.Prelude.{IsSome, if◌then◌else◌, option_map}
 use Rattle.wire.specs.Reader.{Took as TookOf, takes}
 use Rattle.wire.specs.Framing.{Item, Opened, at_server}
@@ -19,9 +19,8 @@ abbrev pub by_room : Bool → Bool → Opened → Kept → TookOf Opened Item �
 by_room shut full u k t = if shut then takes_none What.Closed k u else (if full then takes_none What.Full k u else takes_item k t)
 
 room_within : (a b : Bool) (u : Opened) (k : Kept) (t : TookOf Opened Item) (n : ℕ) → t.used ≤ n → (by_room a b u k t).took.used ≤ n
-room_within true b u k t n h = omega arith
-room_within false true u k t n h = omega arith
 room_within false false u k t n h = h
+room_within _ _ u k t n h = omega arith
 
 -- the session lives on
 pub feed_lives : {G : Type 0} (piece : List ℕ) (conn : ℕ) (r : Rest G) (o : Result Took Refused) (Now : Rest G → Type 0) → IsSome (find conn r.sessions) → Answers o (feed_at conn piece r) r Now → (x : Rest G) × Now x × IsSome (find conn x.sessions)

@@ -26,27 +26,8 @@ pub none_held : (a : Option (List ℕ)) → append_known a [] ≡ a
 none_held None = refl
 none_held (Some xs) = ap (λ (z : List ℕ). Some z) (append-nil xs)
 
--- more waits
-pub more_held : (a : Option (List ℕ)) (held bytes : List ℕ) → Appends (append_known a held) (append_known a (held ++ bytes)) bytes
-more_held None held bytes = tt
-more_held (Some xs) held bytes = sym (append_assoc xs held bytes)
-
-pub keeps_none : (a b : Option (List ℕ)) → Keeps a b → Appends a b []
-keeps_none a b h = Appends-kept a a b [] (Appends-nil a) h
-
--- what stays as it was, and then grows
-pub kept_then : (a b c : Option (List ℕ)) (bytes : List ℕ) → Keeps a b → Appends b c bytes → Appends a c bytes
-kept_then a b c bytes k h = Appends-trans a b c [] bytes (keeps_none a b k) h
-
-pub kept_front : (a b c : Option (List ℕ)) (bytes : List ℕ) → Keeps a b → AppendsFront b c bytes → AppendsFront a c bytes
-kept_front a b c bytes k h = (h.0, h.1, h.2, kept_then a b c h.0 k h.3)
-
 pub front_kept : (a b c : Option (List ℕ)) (bytes : List ℕ) → AppendsFront a b bytes → Keeps b c → AppendsFront a c bytes
 front_kept a b c bytes h k = (h.0, h.1, h.2, Appends-kept a b c h.0 h.3 k)
-
--- all that waited has gone
-pub all_gone : (a b : Option (List ℕ)) (held bytes : List ℕ) → Appends a (append_known b held) bytes → held ≡ [] → Appends a b bytes
-all_gone a b held bytes h e = subst (λ (o : Option (List ℕ)). Appends a o bytes) (ap (append_known b) e ∙ none_held b) h
 
 -- what the sink itself took is a beginning, whatever still waits
 pub gone_front : (a b c : Option (List ℕ)) (before held out : List ℕ) → Appends a b before → HasSent b c → AppendsFront a (append_known c held) out → AppendsFront a c out
@@ -63,16 +44,7 @@ module _ {G : Type 0} (r : Rest G) (conn : ℕ) (S : Setting) (before old mid ne
   abbrev With : Option (List ℕ)
   With = append_known mid held
 
-  -- what waited behind a piece has gone
-  module _ (k : Keeps With (append_known new left)) (e : left ≡ []) where
-    stands_sent : (used : List ℕ) → Stands r conn S Now before With used → Stands r conn S Now before new used
-    stands_sent used s = (s.0, all_gone before new left (told_by r conn S used).out (Appends-kept before With (append_known new left) (told_by r conn S used).out s.1 k) e)
-
-    pub piece_sent : (standing : Standing) → TakesPiece r conn S Now before With up piece (Ok standing) → TakesPiece r conn S Now before new up piece (Ok standing)
-    piece_sent Open h = (stands_sent (up ++ piece) h.0, h.1)
-    piece_sent Over h = record { front = h.front; rest = h.rest; parts = h.parts; stands = stands_sent (up ++ h.front) h.stands; over = h.over }
-
-  -- or not all of it
+  -- not all of what waited behind a piece has gone
   module _ (k : Keeps With (append_known new left)) (began : Appends before old (told_by r conn S up).out) (sent : HasSent old new) where
     broken : (used : List ℕ) → Breaks r conn (told_by r conn S used) Now before With → Breaks r conn (told_by r conn S used) Now before new
     broken used b = record {

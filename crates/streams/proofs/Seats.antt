@@ -1,31 +1,20 @@
 -- A session's place in a server.
-use Rattle.std.proofs.Common.{◌≡◌, refl, ap, ℕ, List, [], ◌∷◌, eqb, cond, true, false, Bool, Some, arith}
+use Rattle.std.proofs.Common.{◌≡◌, refl, ap, ℕ, List, [], ◌∷◌, eqb, cond, true, false, Bool, Some}
 use Rattle.std.specs.Prelude.{IsSome}
-use Rattle.std.proofs.lemmas.Bool.Decides.{nat_tests}
+use Rattle.std.proofs.lemmas.Bool.{eq-eqb}
 use Rattle.server.specs.Serving.{Live, Rest, find, replace, without}
+use Rattle.server.proofs.Runs.{find_replaced}
 use Rattle.engine.specs.Views.{EntryView}
 use Rattle.wire.specs.Framing.{Opened}
 use Rattle.session.specs.Rest.{Kept}
 use Rattle.streams.specs.Conversing.{with_talk}
-
-eqb-same : (n : ℕ) → eqb n n ≡ true
-eqb-same n = grind (arith, nat_tests)
-
--- what was put in a session's place is found there
-pub find-replace : (t : Live) (ss : List Live) → IsSome (find t.conn ss) → find t.conn (replace t.conn t ss) ≡ Some t
-find-replace t [] h = cc
-find-replace t (s ∷ ss) h = go (eqb s.conn t.conn) refl h (find-replace t ss)
-  where
-    go : (b : Bool) → eqb s.conn t.conn ≡ b → IsSome (cond b (Some s) (find t.conn ss)) → (IsSome (find t.conn ss) → find t.conn (replace t.conn t ss) ≡ Some t) → find t.conn (cond b (t ∷ ss) (s ∷ replace t.conn t ss)) ≡ Some t
-    go true e h more = rw (eqb-same t.conn) refl
-    go false e h more = rw e (more h)
 
 pub replace-replace : (conn : ℕ) (s t : Live) (ss : List Live) → s.conn ≡ conn → replace conn t (replace conn s ss) ≡ replace conn t ss
 replace-replace conn s t [] e = refl
 replace-replace conn s t (x ∷ ss) e = go (eqb x.conn conn) refl (replace-replace conn s t ss e)
   where
     go : (b : Bool) → eqb x.conn conn ≡ b → replace conn t (replace conn s ss) ≡ replace conn t ss → replace conn t (cond b (s ∷ ss) (x ∷ replace conn s ss)) ≡ cond b (t ∷ ss) (x ∷ replace conn t ss)
-    go true q more = let same : eqb s.conn conn ≡ true = rw e (eqb-same conn) in rw same refl
+    go true q more = let same : eqb s.conn conn ≡ true = rw e (eq-eqb conn conn refl) in rw same refl
     go false q more = rw q (ap (λ z. x ∷ z) more)
 
 pub without-replace : (conn : ℕ) (s : Live) (ss : List Live) → s.conn ≡ conn → without conn (replace conn s ss) ≡ without conn ss
@@ -33,7 +22,7 @@ without-replace conn s [] e = refl
 without-replace conn s (x ∷ ss) e = go (eqb x.conn conn) refl (without-replace conn s ss e)
   where
     go : (b : Bool) → eqb x.conn conn ≡ b → without conn (replace conn s ss) ≡ without conn ss → without conn (cond b (s ∷ ss) (x ∷ replace conn s ss)) ≡ cond b ss (x ∷ without conn ss)
-    go true q more = let same : eqb s.conn conn ≡ true = rw e (eqb-same conn) in rw same refl
+    go true q more = let same : eqb s.conn conn ≡ true = rw e (eq-eqb conn conn refl) in rw same refl
     go false q more = rw q (ap (λ z. x ∷ z) more)
 
 -- a session in its own place
@@ -50,7 +39,7 @@ module _ {G : Type 0} (r : Rest G) (conn : ℕ) (lives : IsSome (find conn r.ses
   here = record { conn = conn; kept = k; unfinished = u }
 
   pub talk-found : find conn (with_talk r conn u ledger k).sessions ≡ Some here
-  talk-found = find-replace here r.sessions lives
+  talk-found = find_replaced conn here r.sessions lives refl
 
   pub talk-replaced : (v : Opened) (after : List EntryView) (l : Kept) → replace conn (record { conn = conn; kept = l; unfinished = v }) (with_talk r conn u ledger k).sessions ≡ (with_talk r conn v after l).sessions
   talk-replaced v after l = replace-replace conn here (record { conn = conn; kept = l; unfinished = v }) r.sessions refl

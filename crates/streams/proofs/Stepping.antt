@@ -1,26 +1,17 @@
 -- What a step of a session with one place at most makes, and what follows it.
-use Rattle.std.proofs.Common.{◌≡◌, ◌⊎◌, inl, inr, refl, sym, ap, subst, ◌∙◌, ℕ, zero, suc, ◌<◌, ◌≤◌, List, [], ◌∷◌, ◌++◌, length, append-nil, append_assoc, Bool, true, false, cond, Option, Some, None, arith}
-use Rattle.std.specs.Prelude.{◌&&◌, ◌||◌, if◌then◌else◌, nat_le, is_some, option_to_list, Result, Ok, Err}
-use Rattle.packstream.specs.Tree.{Tree}
+use Rattle.std.proofs.Common.{◌≡◌, ◌⊎◌, inl, inr, refl, sym, ap, subst, ◌∙◌, ℕ, zero, suc, ◌<◌, ◌≤◌, List, [], ◌∷◌, ◌++◌, length, append-nil, append_assoc, Bool, true, false, Option, Some, None, arith}
+use Rattle.std.specs.Prelude.{◌&&◌, ◌||◌, if◌then◌else◌, nat_le}
 use Rattle.wire.specs.declared.Version.{Version}
-use Rattle.wire.specs.Versions.{hello_has_login}
-use Rattle.messages.specs.View.{RequestView, AuthView, ResponseView}
-use Rattle.messages.specs.declared.request.Count.{Count}
-use Rattle.messages.specs.Arrivals.{Arrival, Asked, Unread, TooLong, Shook, NoMagic}
-use Rattle.messages.specs.Arrivals as arrival
-use Rattle.messages.specs.Writing.{response_spelling}
-use Rattle.messages.specs.Summaries.{Closing, Committed, response_of_summary}
+use Rattle.messages.specs.View.{RequestView}
+use Rattle.messages.specs.Arrivals.{Arrival, Asked, Unread, TooLong}
 use Rattle.machine.specs.declared.states.State.{State}
-use Rattle.machine.specs.declared.rows.Verdict.{Verdict}
-use Rattle.machine.specs.Asks.{kind_of, is_goodbye, is_reset}
-use Rattle.machine.specs.Rows.{row_at}
+use Rattle.machine.specs.Asks.{kind_of, is_reset}
 use Rattle.machine.specs.Following.{interruptible}
-use Rattle.engine.specs.Tokens.{Found, Free, There, Other, found_in}
-use Rattle.engine.specs.Views.{Token, EntryView, AnswerView, QueryFault}
+use Rattle.engine.specs.Views.{EntryView}
 use Rattle.session.specs.declared.kinds.Cause.{Cause}
-use Rattle.session.specs.declared.fault.Fault.{Fault}
-use Rattle.session.specs.Said.{fits}
-use Rattle.session.specs.Session.{Setting, Open, no_result, Tx, Change, change_alone, change_inside, commits_as, Reply, OneRow, Summary, Bye, fails, succeeds, close, close_last, if_fits, unwritable, pull, used_up, greets, reply_to_hello, reply_to_login, reply_to_run, result_of_answer, with_write, no_tx, in_transaction, fields_said, perform, serve, passed_over, is_halted}
+use Rattle.session.specs.Session.{Setting, Open, no_result, Tx, Reply, OneRow, Summary, Bye, no_tx, serve}
+use Rattle.session.proofs.Served.{Served, writes_row, serving}
+use Rattle.machine.specs.declared.kinds.Kind.{Kind}
 use Rattle.session.specs.Rest.{Kept, rests, turns, serves, Done, Idle, Full, WroteRow, Wrote, Ended, Step, work_kept, replies, after_interrupt, version_of, commit_entries}
 use Rattle.streams.specs.Conversing.{Talk, silent, after_bytes, heard_out, step_then, steps, steps_due}
 use Rattle.streams.specs.Settling.{IsPlaced, due}
@@ -28,85 +19,15 @@ use Rattle.streams.specs.Settling.{IsPlaced, due}
 -- A row that is written leaves fewer.
 pub Lessens : ℕ → Reply → Type 0
 Lessens n (OneRow r left) = suc (length left.rows) ≤ n
-Lessens n (Summary d m left tx entry) = Unit {0}
-Lessens n Bye = Unit {0}
+Lessens n _ = Unit {0}
 
-either : (n : ℕ) (b : Bool) (x y : Reply) → Lessens n x → Lessens n y → Lessens n (cond b x y)
-either n true x y p q = p
-either n false x y p q = q
-
-if_fits_lessens : (n : ℕ) (v : Version) (m : ResponseView) (reply : Reply) → Lessens n reply → Lessens n (if_fits v m reply)
+served_lessens : (S : Setting) (ledger : List EntryView) (s : State) (left : Open) (tx : Tx) (k : Kind) (reply : Reply) → Served S ledger s left tx k reply → Lessens (length left.rows) reply
 unfolding Lessens
-if_fits_lessens n v m reply h = either n (fits v m) reply (fails (unwritable (response_spelling v m))) h tt
-
-commits_lessens : (n len : ℕ) (change : Change) (said : ℕ → ResponseView) (f : Found) → Lessens n (commits_as len change said f)
-unfolding Lessens
-commits_lessens n len change said Free = tt
-commits_lessens n len change said (There m) = tt
-commits_lessens n len change said Other = tt
-
-last_lessens : (n : ℕ) (s : State) (ledger : List EntryView) (left : Open) (tx : Tx) → Lessens n (close_last s ledger left tx)
-unfolding Lessens
-last_lessens n State.Streaming ledger left tx = commits_lessens n (length ledger) (change_alone left) (λ m. response_of_summary (Closing (Some m) left.mode)) (found_in left.token (option_to_list left.write) ledger)
-last_lessens n s ledger left tx = tt
-
-close_lessens : (n : ℕ) (s : State) (ledger : List EntryView) (rows : List (List Tree)) (left : Open) (tx : Tx) → Lessens n (close s ledger rows left tx)
-unfolding Lessens
-close_lessens n s ledger [] left tx = last_lessens n s ledger left tx
-close_lessens n s ledger (r ∷ rs) left tx = tt
-
-pull_lessens : (v : Version) (s : State) (ledger : List EntryView) (count : Count) (rows : List (List Tree)) (left : Open) (tx : Tx) → Lessens (length rows) (pull v s ledger count rows left tx)
-unfolding Lessens
-pull_lessens v s ledger count [] left tx = last_lessens 0 s ledger left tx
-pull_lessens v s ledger count (r ∷ rs) left tx =
-    let row : Reply = OneRow r (record left { rows = rs; written = suc left.written }) in
-    either (suc (length rs)) (used_up count left.written) (close s ledger (r ∷ rs) left tx) (if_fits v (ResponseView.Record r) row) tt (if_fits_lessens (suc (length rs)) v (ResponseView.Record r) row (omega arith))
-
-admitted_lessens : (n : ℕ) (S : Setting) (a : AuthView) (m : ResponseView) → Lessens n (reply_to_login S a m)
-unfolding Lessens
-admitted_lessens n S a m = either n _ (succeeds m) (fails Fault.Unauthorized) tt tt
-
-hello_lessens : (n : ℕ) (S : Setting) (auth : Option AuthView) (m : ResponseView) → Lessens n (reply_to_hello S auth m)
-unfolding Lessens
-hello_lessens n S None m = tt
-hello_lessens n S (Some a) m = admitted_lessens n S a m
-
-greets_lessens : (n : ℕ) (S : Setting) (v : Version) (c : ℕ) (auth : Option AuthView) → Lessens n (greets S v c auth)
-unfolding Lessens
-greets_lessens n S v c auth = either n (hello_has_login v) (reply_to_hello S auth _) (succeeds _) (hello_lessens n S auth _) tt
-
-ran_lessens : (n : ℕ) (v : Version) (s : State) (tx : Tx) (token : Token) (a : Result AnswerView QueryFault) → Lessens n (reply_to_run v s tx token a)
-unfolding Lessens
-ran_lessens n v s tx token (Err e) = tt
-ran_lessens n v s tx token (Ok a) =
-    let ok : Reply = Summary Verdict.Success (fields_said a.fields) (result_of_answer v s token a) (if in_transaction s then with_write tx a.write else no_tx) None in
-    either n (in_transaction s && (is_some a.write && nat_le 1024 (length tx.writes))) (fails Fault.TooManyWrites) (if_fits v (fields_said a.fields) ok) tt (if_fits_lessens n v (fields_said a.fields) ok tt)
-
-perform_lessens : (S : Setting) (v : Version) (c : ℕ) (ledger : List EntryView) (s : State) (left : Open) (tx : Tx) (q : RequestView) → Lessens (length left.rows) (perform S v c ledger s left tx q)
-unfolding Lessens
-perform_lessens S v c ledger s left tx (RequestView.Hello agent auth) = greets_lessens _ S v c auth
-perform_lessens S v c ledger s left tx (RequestView.Logon a) = admitted_lessens _ S a _
-perform_lessens S v c ledger s left tx RequestView.Logoff = tt
-perform_lessens S v c ledger s left tx RequestView.Goodbye = tt
-perform_lessens S v c ledger s left tx RequestView.Reset = tt
-perform_lessens S v c ledger s left tx (RequestView.Run query params mode token) = either _ (in_transaction s) _ _ (ran_lessens _ v s tx token _) (ran_lessens _ v s tx token _)
-perform_lessens S v c ledger s left tx (RequestView.Begin mode token) = tt
-perform_lessens S v c ledger s left tx RequestView.Commit = commits_lessens _ (length ledger) (change_inside tx) (λ m. response_of_summary (Committed m)) (found_in tx.token tx.writes ledger)
-perform_lessens S v c ledger s left tx RequestView.Rollback = tt
-perform_lessens S v c ledger s left tx (RequestView.Discard n) = close_lessens _ s ledger _ left tx
-perform_lessens S v c ledger s left tx (RequestView.Pull n) = pull_lessens v s ledger n left.rows left tx
-
-passed_lessens : (n : ℕ) (b : Bool) → Lessens n (passed_over b)
-unfolding Lessens
-passed_lessens n true = tt
-passed_lessens n false = tt
+served_lessens S ledger s left tx k reply (writes_row r rs e) = let n : length left.rows ≡ suc (length rs) = ap length e in omega (arith, n)
+served_lessens S ledger s left tx k reply _ = tt
 
 pub serve_lessens : (S : Setting) (v : Version) (c : ℕ) (ledger : List EntryView) (s : State) (left : Open) (tx : Tx) (q : RequestView) → Lessens (length left.rows) (serve S v c ledger s left tx q)
-unfolding Lessens
-serve_lessens S v c ledger s left tx q =
-    either _ (is_goodbye (kind_of q)) Bye _ tt
-    (either _ (is_halted s) _ _ (passed_lessens _ (is_reset (kind_of q)))
-    (either _ (is_some (row_at v s (kind_of q) Verdict.Success)) _ _ (perform_lessens S v c ledger s left tx q) tt))
+serve_lessens S v c ledger s left tx q = served_lessens S ledger s left tx (kind_of q) _ (serving S v c ledger s left tx q)
 
 -- a step that puts something
 abbrev pub IsPut : Done → Type 0
@@ -143,12 +64,7 @@ module _ (S : Setting) (c : ℕ) (ledger : List EntryView) (k : Kept) (sent : k.
   by_turn o (Asked q ∷ []) e p = by_interrupted ((is_reset (kind_of q) || false) && interruptible k.state) q e
   by_turn o (Unread x ∷ []) e p = let d = waits_one (Unread x) e in over Cause.Malformed refl refl refl sent refl (inr (omega arith))
   by_turn o (TooLong ∷ []) e p = let d = waits_one TooLong e in over Cause.TooBig refl refl refl sent refl (inr (omega arith))
-  by_turn o (Asked q ∷ y ∷ ys) e p = absurd p
-  by_turn o (Unread x ∷ y ∷ ys) e p = absurd p
-  by_turn o (TooLong ∷ y ∷ ys) e p = absurd p
-  by_turn o (Shook x ∷ ys) e p = absurd p
-  by_turn o (NoMagic ∷ ys) e p = absurd p
-  by_turn o (arrival.Idle ∷ ys) e p = absurd p
+  by_turn o _ e p = absurd p
 
   by_end : IsPlaced k.waiting → (o : Option Cause) → k.ended ≡ o → StepKind k (work_kept S c ledger k o)
   by_end p (Some e) q = over e refl q refl sent refl (inl refl)
@@ -172,9 +88,7 @@ steps_put S c n ledger k d p = go d.answer p
     go : (a : Done) → IsPut a → step_then c k.first ledger d a (steps S c n) ≡ after_bytes d.kept.unsent (steps S c n (ledger ++ commit_entries c k.first d.commit) (heard_out d.kept))
     go (WroteRow row) p = refl
     go (Wrote x) p = refl
-    go Idle p = absurd p
-    go Full p = absurd p
-    go (Ended e) p = absurd p
+    go _ p = absurd p
 
 -- and of one that puts nothing
 pub steps_idle : (S : Setting) (c n : ℕ) (ledger : List EntryView) (k : Kept) → after_step S c ledger k ≡ rests k Idle → steps S c n ledger k ≡ silent ledger k
@@ -211,11 +125,9 @@ abbrev pub Grown : List EntryView → Talk → Type 0
 Grown ledger t = (more : List EntryView) × (ledger ++ more ≡ t.ledger)
 
 grown_then : (c first : ℕ) (ledger : List EntryView) (d : Step) (a : Done) (more : List EntryView → Kept → Talk) → ((after : List EntryView) (l : Kept) → Grown after (more after l)) → Grown ledger (step_then c first ledger d a more)
-grown_then c first ledger d Idle more f = ([], append-nil ledger)
-grown_then c first ledger d Full more f = ([], append-nil ledger)
-grown_then c first ledger d (Ended e) more f = ([], append-nil ledger)
 grown_then c first ledger d (WroteRow row) more f = let h = f (ledger ++ commit_entries c first d.commit) (heard_out d.kept) in (commit_entries c first d.commit ++ h.0, sym (append_assoc ledger (commit_entries c first d.commit) h.0) ∙ h.1)
 grown_then c first ledger d (Wrote x) more f = let h = f (ledger ++ commit_entries c first d.commit) (heard_out d.kept) in (commit_entries c first d.commit ++ h.0, sym (append_assoc ledger (commit_entries c first d.commit) h.0) ∙ h.1)
+grown_then c first ledger d _ more f = ([], append-nil ledger)
 
 pub steps_grow : (S : Setting) (c n : ℕ) (ledger : List EntryView) (k : Kept) → Grown ledger (steps S c n ledger k)
 steps_grow S c zero ledger k = ([], append-nil ledger)

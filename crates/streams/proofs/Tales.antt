@@ -16,7 +16,7 @@ use Rattle.client.proofs.Makes.{makes, spoiled_over}
 use Rattle.streams.specs.Asking.{notes_by, notes_of, Tale, after_notes, tale_of, hears_all, after_all, has_ended, FeedsPiece, PartFed}
 
 -- nothing is heard after the end
-over_tale : (wish : Wish) (k : Knows) (xs : List Item) → k.over ≡ true → tale_of wish k xs ≡ record { knows = k; notes = [] }
+pub over_tale : (wish : Wish) (k : Knows) (xs : List Item) → k.over ≡ true → tale_of wish k xs ≡ record { knows = k; notes = [] }
 over_tale wish k [] e = refl
 over_tale wish k (x ∷ xs) e = rw e refl
 
@@ -114,9 +114,8 @@ module _ (s : Rest) (piece : List ℕ) (Now : Rest → Type 0) where
   none_after : (result : Result (ℕ × Heard) ClientFault) → (takes at_client s.item piece).item ≡ None → After (fed_item (record s { item = kept }) used None) result → AfterFeed s piece result Now
   none_after (Ok told) e h =
       ok_after (record { knows = s.knows; notes = [] }) (told_is None e) told (ap used_in h.0) (sym (ap (λ z. notes_by (note_in Nothing z)) h.0)) h.1
-  none_after (Err client_fault.Closed) e h = absurd cc
-  none_after (Err client_fault.BadPeer) e h = absurd cc
   none_after (Err client_fault.Memory) e h = tt
+  none_after _ e h = absurd cc
 
   -- an item ended
   module _ (x : Item) (e : (takes at_client s.item piece).item ≡ Some x) (goes : s.knows.over ≡ false) where
@@ -140,13 +139,10 @@ module _ (s : Rest) (piece : List ℕ) (Now : Rest → Type 0) where
     fed_by b = record { rest = record s { item = kept; knows = h.knows }; answer = (if b then Err client_fault.BadPeer else Ok (used, note_of y h)) }
 
     by_bad : (b : Bool) → h.bad ≡ b → (result : Result (ℕ × Heard) ClientFault) → After (fed_by b) result → AfterFeed s piece result Now
-    by_bad true bad (Ok told) k = absurd cc
     by_bad false bad (Ok told) k = ok_after (tale_by false) (told_as false bad) told (ap used_in k.0) (append-nil _ ∙ sym (ap (λ z. notes_by (note_in Nothing z)) k.0)) k.1
-    by_bad true bad (Err client_fault.Closed) k = absurd cc
-    by_bad false bad (Err client_fault.Closed) k = absurd cc
     by_bad true bad (Err client_fault.BadPeer) k = bad_after (tale_by true) (told_as true bad) refl (spoiled_over s.wish s.knows y h (makes s.wish s.knows y) bad) k.1
-    by_bad false bad (Err client_fault.BadPeer) k = absurd cc
     by_bad b bad (Err client_fault.Memory) k = tt
+    by_bad _ bad _ k = absurd cc
 
   open_after : (result : Result (ℕ × Heard) ClientFault) → s.knows.over ≡ false → After (fed_open s (takes at_client s.item piece)) result → AfterFeed s piece result Now
   open_after result goes h = go (takes at_client s.item piece).item refl h
@@ -159,10 +155,9 @@ module _ (s : Rest) (piece : List ℕ) (Now : Rest → Type 0) where
   after_feed result h = go s.knows.over refl h
     where
       closed : (o : Result (ℕ × Heard) ClientFault) → s.knows.over ≡ true → After (record { rest = s; answer = Err client_fault.Closed }) o → AfterFeed s piece o Now
-      closed (Ok told) e k = absurd cc
       closed (Err client_fault.Closed) e k = (k.1, e)
-      closed (Err client_fault.BadPeer) e k = absurd cc
       closed (Err client_fault.Memory) e k = tt
+      closed _ e k = absurd cc
 
       go : (b : Bool) → s.knows.over ≡ b → After (if b then record { rest = s; answer = Err client_fault.Closed } else fed_open s (takes at_client s.item piece)) result → AfterFeed s piece result Now
       go true e k = closed result e k

@@ -2,8 +2,7 @@
 use Rattle.std.proofs.Common.{◌≡◌, refl, sym, ap, subst, ◌∙◌, ℕ, Bool, true, false, List, [], ◌∷◌, ◌++◌, append-nil, append_assoc, Option, Some, None, option_to_list, arith}
 use Rattle.std.specs.Prelude.{◌&&◌, if◌then◌else◌, IsSome}
 use Rattle.wire.specs.Framing.{Item}
-use Rattle.messages.specs.Arrivals.{Arrival, Asked, Unread, TooLong, Shook, NoMagic}
-use Rattle.messages.specs.Arrivals as arrival
+use Rattle.messages.specs.Arrivals.{Arrival, Asked, Unread, TooLong, Shook}
 use Rattle.machine.specs.Asks.{kind_of, is_reset}
 use Rattle.machine.specs.Following.{interruptible}
 use Rattle.engine.specs.Views.{EntryView}
@@ -28,14 +27,11 @@ interrupted_placed true k p = p
 interrupted_placed false k p = p
 
 pub fed_placed : (k : Kept) (o : Option Arrival) → k.waiting ≡ [] → IsPlaced (after_item k o).waiting
-fed_placed k None w = subst IsPlaced (sym w) tt
 fed_placed k (Some (Shook (Some v))) w = subst IsPlaced (sym w) tt
-fed_placed k (Some (Shook None)) w = subst IsPlaced (sym w) tt
-fed_placed k (Some NoMagic) w = subst IsPlaced (sym w) tt
-fed_placed k (Some arrival.Idle) w = subst IsPlaced (sym w) tt
 fed_placed k (Some (Asked q)) w = interrupted_placed (is_reset (kind_of q) && interruptible k.state) (record k { waiting = k.waiting ++ Asked q ∷ [] }) (subst (λ (xs : List Arrival). IsPlaced (xs ++ Asked q ∷ [])) (sym w) tt)
 fed_placed k (Some (Unread e)) w = subst (λ (xs : List Arrival). IsPlaced (xs ++ Unread e ∷ [])) (sym w) tt
 fed_placed k (Some TooLong) w = subst (λ (xs : List Arrival). IsPlaced (xs ++ TooLong ∷ [])) (sym w) tt
+fed_placed k _ w = subst IsPlaced (sym w) tt
 
 pub settled_rests : (S : Setting) (c : ℕ) (ledger : List EntryView) (k : Kept) → IsPlaced k.waiting → RestsAs k (talk_of_due S c ledger k)
 settled_rests S c ledger k p = let h = steps_rest S c (due k) ledger (heard_out k) refl p (omega arith) in (record { sent = h.0.sent; done = h.0.done }, h.1)

@@ -4,7 +4,7 @@ use Rattle.wire.specs.Framing.{Opened}
 use Rattle.engine.specs.Views.{EntryView}
 use Rattle.session.specs.declared.kinds.Worked.{Worked}
 use Rattle.session.specs.Session.{Setting}
-use Rattle.session.specs.Rest.{Kept, Done, Idle, Full, WroteRow, Wrote, Ended, Step, worked_of, commit_entries}
+use Rattle.session.specs.Rest.{Kept, Done, WroteRow, Wrote, Step, worked_of, commit_entries}
 use Rattle.server.specs.Serving.{Rest}
 use Rattle.streams.specs.declared.fault.Standing.{Standing}
 use Rattle.streams.specs.declared.fault.Standing.TheVariants.{Open, Over}
@@ -19,9 +19,7 @@ use Rattle.streams.proofs.Stepping.{StepKind, idle, over, puts, stepped, IsPut, 
 pub outcome_put : (a : Done) → IsPut a → outcome (worked_of a) ≡ None
 outcome_put (WroteRow row) p = refl
 outcome_put (Wrote x) p = refl
-outcome_put Idle p = absurd p
-outcome_put Full p = absurd p
-outcome_put (Ended e) p = absurd p
+outcome_put _ p = absurd p
 
 module _ {G : Type 0} (r : Rest G) (conn : ℕ) (u : Opened) (S : Setting) (Now : Rest G → Type 0) where
   abbrev After : List EntryView → Kept → Type 0
