@@ -1,6 +1,7 @@
 -- What a step of the world is: an opening, or one deed at a connection that is there; and the induction along it.
-use Rattle.std.proofs.Common.{◌≡◌, refl, sym, ap, subst, ℕ, zero, suc, ◌-◌, ◌^◌, Bool, true, false, not, ◌||◌, if◌then◌else◌, nat_le, Option, Some, None, is_some, ◌&&◌, Result, Ok, Err, List, [], ◌∷◌, ◌++◌, ◌≢◌, length, slice_get, slice_set, ◌⊎◌, inl, inr, ⊎_elim, arith}
-use Rattle.std.proofs.lemmas.Bool.{cond_both, or_parts}
+use Rattle.std.proofs.Common.{◌≡◌, refl, sym, ◌∙◌, ap, subst, ℕ, zero, suc, ◌-◌, ◌^◌, Bool, true, false, not, ◌||◌, if◌then◌else◌, nat_le, Option, Some, None, is_some, ◌&&◌, Result, Ok, Err, IfOk, List, [], ◌∷◌, ◌++◌, ◌≢◌, length, slice_get, slice_set, ◌⊎◌, inl, inr, ⊎_elim}
+use Rattle.std.proofs.lemmas.Bool.{cases_eq, cond_both, or_parts}
+use Rattle.std.proofs.lemmas.Option.{same_Some}
 use Rattle.wire.specs.declared.Wish.{Wish}
 use Rattle.wire.specs.Reader.{reach}
 use Rattle.messages.specs.View.{RequestView}
@@ -17,17 +18,10 @@ use Rattle.client.specs.declared.SubmitFault.{SubmitFault}
 use Rattle.client.specs.Client.{refusal_of}
 use Rattle.client.specs.Rest.{Nothing}
 use Rattle.world.specs.Connections.{Peer, Ours, Foreign, Connection, SaysNoop, fresh, answer_count, waiting, said_version, client, kept_of, keeping}
-use Rattle.world.specs.World.{World, Event, Opens, Submit, ToServer, ToClient, Work, PutsNoop, Cut, ClientLost, ServerLost, Feeds, Seen, Opened, Submitted, Fed, Gave, SawWork, SawNoop, SawNothing, Refusal, V3, Effect, quiet, effect_of_submit, feed, to_server, takes, give, taken_for, effect_at_peer, said_by, effect_of_step, work, noop, server_gone, at_peer, after_effect, with_effect, at_conn, result_of_open, live, ledger, place, step, IsMade, IsCountedIn, taken_out, Reached, begins, goes_on, takes_out}
+use Rattle.world.specs.World.{World, Event, Opens, Submit, ToServer, ToClient, Work, PutsNoop, Cut, ClientLost, ServerLost, Feeds, Seen, Opened, Submitted, Fed, Gave, SawWork, SawNoop, SawNothing, Refusal, V3, Effect, quiet, effect_of_submit, feed, to_server, takes, give, taken_for, effect_at_peer, said_by, effect_of_step, work, noop, server_gone, at_peer, after_effect, with_effect, at_conn, live, ledger, place, step, IsMade, IsCountedIn, taken_out, Reached, begins, goes_on, takes_out}
 use Rattle.world.specs.Runs.{told_in}
 
 -- lists of connections
-pub get_set : {A : Type 0} (xs : List A) (i j : ℕ) (x y z : A) → slice_get xs i ≡ Some x → slice_get (slice_set xs i y) j ≡ Some z → ((i ≡ j) × (y ≡ z)) ⊎ ((i ≢ j) × (slice_get xs j ≡ Some z))
-get_set [] i j x y z h e = cc
-get_set (a ∷ xs) zero zero x y z h e = inl (refl, cc)
-get_set (a ∷ xs) zero (suc j) x y z h e = inr ((λ p. absurd (omega arith)), e)
-get_set (a ∷ xs) (suc i) zero x y z h e = inr ((λ p. absurd (omega arith)), e)
-get_set (a ∷ xs) (suc i) (suc j) x y z h e = ⊎_elim (λ r. inl (ap suc r.0, r.1)) (λ r. inr ((λ p. r.0 (omega arith)), r.1)) (get_set xs i j x y z h e)
-
 pub get_more : {A : Type 0} (xs : List A) (j : ℕ) (y z : A) → slice_get (xs ++ y ∷ []) j ≡ Some z → (slice_get xs j ≡ Some z) ⊎ ((j ≡ length xs) × (y ≡ z))
 get_more [] zero y z h = inr (refl, cc)
 get_more [] (suc j) y z h = cc
@@ -44,21 +38,9 @@ set_other (a ∷ xs) zero zero y n = absurd (n refl)
 set_other (a ∷ xs) (suc i) (suc j) y n = set_other xs i j y (λ e. n (ap suc e))
 set_other _ _ _ y n = refl
 
--- what a step answered, in parts
-abbrev world_of : World → Result (World × Seen) Refusal → World
-world_of w (Ok r) = r.0
-world_of w (Err refusal) = w
-
-abbrev seen_of : Seen → Result (World × Seen) Refusal → Seen
-seen_of x (Ok r) = r.1
-seen_of x (Err refusal) = x
-
-pub ok_parts : (w w2 : World) (x x2 : Seen) → ◌≡◌ {A = Result (World × Seen) Refusal} (Ok (w, x)) (Ok (w2, x2)) → (w ≡ w2) × (x ≡ x2)
-ok_parts w w2 x x2 h = (ap (world_of w) h, ap (seen_of x) h)
-
--- by a test, which is known to be false in the second case
-pub if_case : (P : Effect → Type 0) (b : Bool) (x y : Effect) → P x → (b ≡ false → P y) → P (if b then x else y)
-if_case P b x y a f = cond_both b x y P (λ _. a) f
+pub get_set : {A : Type 0} (xs : List A) (i j : ℕ) (x y z : A) → slice_get xs i ≡ Some x → slice_get (slice_set xs i y) j ≡ Some z → ((i ≡ j) × (y ≡ z)) ⊎ ((i ≢ j) × (slice_get xs j ≡ Some z))
+get_set xs i j x y z h e =
+    ⊎_elim (λ q. inl (q, same_Some y z (sym (set_same xs i x y h) ∙ ap (slice_get (slice_set xs i y)) q ∙ e))) (λ n. inr (n, sym (set_other xs i j y n) ∙ e)) (cases_eq i j)
 
 -- A RESET interrupts, or it doesn't.
 pub interrupt_case : (P : Kept → Type 0) (b : Bool) (s : Kept) → P s → (b && interruptible s.state ≡ true → P (after_interrupt s)) → P (interrupts b s)
@@ -68,8 +50,8 @@ interrupt_case P b s x f = cond_both (b && interruptible s.state) (after_interru
 pub feed_case : (P : Effect → Type 0) (piece : List ℕ) (k : Connection) → ((what : What) → P (quiet k (Fed 0 what)))
     → (k.server_lost ≡ false → k.cut ≡ false → shut (kept_of k) ≡ false → P (takes k piece (reach arrivals k.up piece))) → P (feed piece k)
 feed_case P piece k q t =
-    if_case P k.server_lost _ _ (q What.Closed) (λ lives. if_case P k.cut _ _ (q What.Part) (λ joined. if_case P (shut (kept_of k)) _ _ (q What.Closed)
-    (λ going. if_case P (full (kept_of k)) _ _ (q What.Full) (λ _. t lives joined going))))
+    cond_both k.server_lost _ _ P (λ _. q What.Closed) (λ lives. cond_both k.cut _ _ P (λ _. q What.Part) (λ joined. cond_both (shut (kept_of k)) _ _ P (λ _. q What.Closed)
+    (λ going. cond_both (full (kept_of k)) _ _ P (λ _. q What.Full) (λ _. t lives joined going))))
 
 -- an answer to the first that waits, of a session that stands so
 abbrev pub replied : Connection → List EntryView → State → Open → Tx → RequestView → List Arrival → Reply → Step
@@ -108,8 +90,8 @@ noop_case P k q t = go (is_some k.version) (is_some k.ended) (nat_le 65536 (leng
 
 -- What is taken out for a peer is what was taken, or more.
 pub taken_case : (P : ℕ → Type 0) (p : Peer) (n : ℕ) (k : Connection) → P k.taken → P (taken_for n k) → P (effect_at_peer p n k).conn.taken
-taken_case P (Ours wish) n k a b = if_case (λ x. P x.conn.taken) (k.cut || (k.client_lost || ((client k).ended || (client k).bad))) _ _ a (λ _. b)
-taken_case P Foreign n k a b = if_case (λ x. P x.conn.taken) k.cut _ _ a (λ _. b)
+taken_case P (Ours wish) n k a b = cond_both (k.cut || (k.client_lost || ((client k).ended || (client k).bad))) _ _ (λ (x : Effect). P x.conn.taken) (λ _. a) (λ _. b)
+taken_case P Foreign n k a b = cond_both k.cut _ _ (λ (x : Effect). P x.conn.taken) (λ _. a) (λ _. b)
 
 -- What is fed is told to no client, and commits nothing.
 pub feed_hushed : (piece : List ℕ) (k : Connection) → (told_in (feed piece k).seen ≡ []) × ((feed piece k).commit ≡ None)
@@ -131,20 +113,15 @@ pub data Deed (S : Setting) (c : ℕ) (all : List EntryView) (k : Connection) : 
   ends : (i : ℕ) → Deed S c all k (ServerLost i) (server_gone k)
 
 module _ (S : Setting) (c : ℕ) (all : List EntryView) (k : Connection) where
-  -- of an answer that isn't a refusal
-  abbrev IfDone : (Effect → Type 0) → Result Effect Refusal → Type 0
-  IfDone P (Ok x) = P x
-  IfDone P (Err refusal) = Unit {0}
-
   submit_deed : (i : ℕ) (q : RequestView) (wish : Wish) → k.peer ≡ Ours wish → (o : Option SubmitFault) → refusal_of (client k) k.client_lost k.sent q ≡ o → Deed S c all k (Submit i q) (effect_of_submit q k o)
   submit_deed i q wish p None e = submits i q wish p e
   submit_deed i q wish p (Some fault) e = declines i q fault
 
-  event_deed : (p : Peer) (e : Event) → k.peer ≡ p → IfDone (Deed S c all k e) (at_peer S c all e p k)
+  event_deed : (p : Peer) (e : Event) → k.peer ≡ p → IfOk (at_peer S c all e p k) (Deed S c all k e)
   event_deed (Ours wish) (Submit i q) p = submit_deed i q wish p (refusal_of (client k) k.client_lost k.sent q) refl
   event_deed (Ours wish) (ToServer i n) p = hands i n wish p
-  event_deed (Ours wish) (ToClient i n) p = if_case (Deed S c all k (ToClient i n)) (k.cut || (k.client_lost || ((client k).ended || (client k).bad))) _ _ (misses i n) (λ e. gives i n wish p e)
-  event_deed Foreign (ToClient i n) p = if_case (Deed S c all k (ToClient i n)) k.cut _ _ (misses i n) (λ _. drains i n p)
+  event_deed (Ours wish) (ToClient i n) p = cond_both (k.cut || (k.client_lost || ((client k).ended || (client k).bad))) _ _ (Deed S c all k (ToClient i n)) (λ _. misses i n) (λ e. gives i n wish p e)
+  event_deed Foreign (ToClient i n) p = cond_both k.cut _ _ (Deed S c all k (ToClient i n)) (λ _. misses i n) (λ _. drains i n p)
   event_deed Foreign (Feeds i piece) p = feeds i piece p
   event_deed _ (Work i) p = works i
   event_deed _ (PutsNoop i) p = noops i
@@ -163,27 +140,26 @@ pub data Did (S : Setting) (w : World) : Event → Seen → World → Type 0 whe
   acts : (e : Event) (k : Connection) (x : Effect) → slice_get w.conns (place e) ≡ Some k → Deed S (place e) (ledger w) k e x → Did S w e x.seen (after_effect w (place e) k x)
 
 module _ (S : Setting) (w : World) where
-  open_did : (peer : Peer) (seen : Seen) (w2 : World) → result_of_open w peer ≡ Ok (w2, seen) → Did S w (Opens peer) seen w2
-  open_did peer seen w2 h = go (nat_le 16 (live w) || nat_le (2 ^ 63) (length w.conns)) refl h
-    where
-      go : (b : Bool) → (nat_le 16 (live w) || nat_le (2 ^ 63) (length w.conns)) ≡ b → if◌then◌else◌ {A = Result (World × Seen) Refusal} b (Err V3) (Ok (with_fresh w peer, Opened (length w.conns))) ≡ Ok (w2, seen) → Did S w (Opens peer) seen w2
-      go true e h = cc
-      go false e h = let same = ok_parts (with_fresh w peer) w2 (Opened (length w.conns)) seen h in subst (λ s. Did S w (Opens peer) s w2) same.1 (subst (λ z. Did S w (Opens peer) (Opened (length w.conns)) z) same.0 (opens peer e))
+  abbrev DidBy : Event → Result (World × Seen) Refusal → Type 0
+  DidBy e r = IfOk r (λ z. Did S w e z.1 z.0)
 
-  at_did : (e : Event) (seen : Seen) (w2 : World) → at_conn S w e (place e) (slice_get w.conns (place e)) ≡ Ok (w2, seen) → Did S w e seen w2
-  at_did e seen w2 h = go (slice_get w.conns (place e)) refl h
+  at_did : (e : Event) → DidBy e (at_conn S w e (place e) (slice_get w.conns (place e)))
+  at_did e = go (slice_get w.conns (place e)) refl
     where
-      made : (k : Connection) → slice_get w.conns (place e) ≡ Some k → (r : Result Effect Refusal) → IfDone S (place e) (ledger w) k (Deed S (place e) (ledger w) k e) r → with_effect w (place e) k r ≡ Ok (w2, seen) → Did S w e seen w2
-      made k here (Err refusal) d h = cc
-      made k here (Ok x) d h = let same = ok_parts (after_effect w (place e) k x) w2 x.seen seen h in subst (λ s. Did S w e s w2) same.1 (subst (λ z. Did S w e x.seen z) same.0 (acts e k x here d))
+      made : (k : Connection) → slice_get w.conns (place e) ≡ Some k → (r : Result Effect Refusal) → IfOk r (Deed S (place e) (ledger w) k e) → DidBy e (with_effect w (place e) k r)
+      made k here (Err refusal) d = tt
+      made k here (Ok x) d = acts e k x here d
 
-      go : (o : Option Connection) → slice_get w.conns (place e) ≡ o → at_conn S w e (place e) o ≡ Ok (w2, seen) → Did S w e seen w2
-      go None g h = cc
-      go (Some k) g h = made k g (at_peer S (place e) (ledger w) e k.peer k) (event_deed S (place e) (ledger w) k k.peer e refl) h
+      go : (o : Option Connection) → slice_get w.conns (place e) ≡ o → DidBy e (at_conn S w e (place e) o)
+      go None g = tt
+      go (Some k) g = made k g (at_peer S (place e) (ledger w) e k.peer k) (event_deed S (place e) (ledger w) k k.peer e refl)
+
+  did_by : (e : Event) → DidBy e (step S w e)
+  did_by (Opens peer) = cond_both (nat_le 16 (live w) || nat_le (2 ^ 63) (length w.conns)) (Err V3) (Ok (with_fresh w peer, Opened (length w.conns))) (DidBy (Opens peer)) (λ _. tt) (λ room. opens peer room)
+  did_by e = at_did e
 
   pub step_did : (e : Event) (seen : Seen) (w2 : World) → step S w e ≡ Ok (w2, seen) → Did S w e seen w2
-  step_did (Opens peer) seen w2 h = open_did peer seen w2 h
-  step_did e seen w2 h = at_did e seen w2 h
+  step_did e seen w2 h = subst (DidBy e) h (did_by e)
 
 -- What holds of each connection of every world that is reached: of a fresh one; of the one at which a deed is done, after it; of each other, whatever entry comes; and of one of which bytes are taken out.
 module _ (S : Setting) (brought : List EntryView) (P : (brought since : List EntryView) → ℕ → Connection → Type 0)

@@ -1,31 +1,110 @@
--- What the ends of a connection keep is enough for what a client is given, and for what it submits.
-use Rattle.std.proofs.Common.{◌≡◌, refl, sym, ◌∙◌, ap, ap₂, ℕ, suc, ◌+◌, ◌-◌, ◌≤◌, Bool, true, false, ◌||◌, if◌then◌else◌, nat_lt, Option, Some, None, unwrap_or, option_map, option_to_list, Result, Ok, Err, List, [], ◌∷◌, ◌++◌, length, take, drop, arith, true≢false, length-take}
-use Rattle.std.proofs.lemmas.Bool.{lt-ltb, le-ltb, cond-false, cond-true}
-use Rattle.std.proofs.lemmas.List.{drop-append-le}
-use Rattle.std.proofs.Math.Seq.{take-add}
-use Rattle.world.proofs.Fronts.{take_within}
-use Rattle.wire.specs.declared.Version.{Version}
+-- What a stream's reader takes of a piece, and that what the ends of a connection keep is enough for what a client is given, and for what it submits.
+use Rattle.std.proofs.Common.{◌≡◌, refl, ◌∙◌, ap, ℕ, zero, suc, ◌+◌, ◌-◌, ◌≤◌, min, List, ◌∷◌, length, take, drop, arith, sym, subst, if◌then◌else◌, nat_lt, Option, Some, None, option_map, option_to_list, [], ◌++◌, append-nil, length-append, false, ap₂, Bool, true, ◌||◌, unwrap_or, Result, Ok, Err, true≢false, length-take}
+use Rattle.std.proofs.lemmas.List.{drop-take, length-reverse, drop-append-le}
+use Rattle.std.proofs.lemmas.Bool.{lt-ltb, le-ltb, cond-true, cond-false, cond_both}
+use Rattle.wire.specs.Reader.{Reader, state, outputs, ends_at, takes, reach, Took}
+use Rattle.wire.proofs.Readers.{reads_pieces}
 use Rattle.wire.specs.declared.Wish.{Wish}
-use Rattle.wire.specs.Offers.{wish_version}
-use Rattle.wire.specs.Reader.{Took, state, takes, reach}
 use Rattle.wire.specs.Framing.{Item, Opened, at_client}
 use Rattle.messages.specs.View.{RequestView}
-use Rattle.messages.specs.Arrivals.{Heard, hears, request_bytes}
+use Rattle.messages.specs.Arrivals.{Heard, hears, heard_of, request_bytes}
+use Rattle.client.specs.Rest.{heard_as, Note, Nothing, hears_item, note_of}
+use Rattle.client.specs.Client.{reading_of, Reading, knows_of, after_item, hear, reading}
+use Rattle.client.proofs.Hears.{one_heard, more_heard}
+use Rattle.std.proofs.Math.Seq.{take-add}
+use Rattle.wire.specs.declared.Version.{Version}
+use Rattle.wire.specs.Offers.{wish_version}
 use Rattle.client.specs.declared.ClientFault.{ClientFault}
 use Rattle.client.specs.Rest as asking
-use Rattle.client.specs.Rest.{Note, Nothing, heard_as, hears_item, note_of}
-use Rattle.client.specs.Client.{Reading, knows_of, after_item, hear, reading, reading_of}
 use Rattle.client.specs.Moments.{tellings_in}
 use Rattle.client.proofs.Makes.{Makes, spoils, makes}
 use Rattle.client.proofs.Later.{reading_later, reading_count}
-use Rattle.client.proofs.Hears.{more_heard}
 use Rattle.client.proofs.Fed.{rest_at, version_then, fed_rest, fed_told}
 use Rattle.world.specs.Connections.{Connection, output, bytes_delivered, client, wish_of, input}
 use Rattle.world.specs.World.{Seen, Gave, give, taken_for, note_now, note_given, tells_of}
 use Rattle.world.specs.Rests.{client_rest}
-use Rattle.world.proofs.Hearing.{used_same}
-use Rattle.world.proofs.Reaching.{reach_within}
-use Rattle.world.proofs.Growth.{input_more}
+use Rattle.world.proofs.Trace.{input_more}
+
+-- Fronts of lists, and what is left behind them.
+
+-- a front of a longer one
+pub take_within : {A : Type 0} (n m : ℕ) (xs : List A) → min n (length xs) ≤ m → take n (take m xs) ≡ take n xs
+take_within (suc n) zero (x ∷ xs) l = absurd (omega arith)
+take_within (suc n) (suc m) (x ∷ xs) l = ap (λ z. x ∷ z) (take_within n m xs (omega arith))
+take_within _ _ _ l = refl
+
+pub parts : (a b : ℕ) → b ≤ a → a ≡ b + (a - b)
+parts a b l = omega arith
+
+pub rest_of : (a b c : ℕ) → (a - b) - c ≡ a - (b + c)
+rest_of a b c = omega arith
+
+-- what is left of a front
+pub drop_within : {A : Type 0} (u m : ℕ) (xs : List A) → u ≤ m → drop u (take m xs) ≡ take (m - u) (drop u xs)
+drop_within u m xs l = ap (λ z. drop u (take z xs)) (parts m u l) ∙ drop-take u (m - u) xs
+
+-- What is made of the items of a stream grows where an item ends, and nowhere else: so it takes the bytes that the stream's reader takes.
+pub reach_within : {X : Type 0} (items : List ℕ → List X) (up piece : List ℕ) → reach items up piece ≤ length piece
+reach_within items up [] = omega arith
+reach_within items up (b ∷ bs) = let h = reach_within items (up ++ b ∷ []) bs in cond_both (nat_lt (length (items up)) (length (items (up ++ b ∷ [])))) 1 _ (λ n. n ≤ suc (length bs)) (λ _. omega arith) (λ _. omega arith)
+
+-- it depends on lengths alone
+pub reach_lengths : {X Y : Type 0} (f : List ℕ → List X) (g : List ℕ → List Y) → ((bytes : List ℕ) → length (f bytes) ≡ length (g bytes)) → (up piece : List ℕ) → reach f up piece ≡ reach g up piece
+reach_lengths f g e up [] = refl
+reach_lengths f g e up (b ∷ bs) = rw (e up, e (up ++ b ∷ []), reach_lengths f g e (up ++ b ∷ []) bs) refl
+
+module _ (R X Y : Type 0) (p : Reader R X) (f : List X → List Y) (means : X → Y) (base : List X) where
+  abbrev items : List ℕ → List X
+  items bytes = outputs p p.start bytes
+
+  abbrev meanings : List ℕ → List Y
+  meanings bytes = f (items bytes)
+
+  -- an item that ends has its meaning
+  abbrev pub Adds : Option X → Type 0
+  Adds o = f (base ++ option_to_list o) ≡ f base ++ option_to_list (option_map means o)
+
+  next_state : (up : List ℕ) (b : ℕ) → state p p.start (up ++ b ∷ []) ≡ p.byte (state p p.start up) b
+  next_state up b = (reads_pieces R X p).states p.start up (b ∷ [])
+
+  next_items : (up : List ℕ) (b : ℕ) → items up ≡ base → items (up ++ b ∷ []) ≡ base ++ option_to_list (p.item (state p p.start up) b)
+  next_items up b e =
+      (reads_pieces R X p).items p.start up (b ∷ [])
+      ∙ ap (λ z. items up ++ z) (append-nil (option_to_list (p.item (state p p.start up) b)))
+      ∙ ap (λ z. z ++ option_to_list (p.item (state p p.start up) b)) e
+
+  pub reach_used : (up piece : List ℕ) → items up ≡ base → Adds (takes p (state p p.start up) piece).item → reach meanings up piece ≡ (takes p (state p p.start up) piece).used
+  reach_used up [] e a = refl
+  reach_used up (b ∷ bs) e a = go (p.item (state p p.start up) b) refl a (λ same more. reach_used (up ++ b ∷ []) bs same more)
+    where
+      r : R
+      r = state p p.start up
+
+      go : (o : Option X) → p.item r b ≡ o → Adds (ends_at (p.byte r b) o (takes p (p.byte r b) bs)).item
+          → (items (up ++ b ∷ []) ≡ base → Adds (takes p (state p p.start (up ++ b ∷ [])) bs).item → reach meanings (up ++ b ∷ []) bs ≡ (takes p (state p p.start (up ++ b ∷ [])) bs).used)
+          → (if nat_lt (length (meanings up)) (length (meanings (up ++ b ∷ []))) then 1 else suc (reach meanings (up ++ b ∷ []) bs)) ≡ (ends_at (p.byte r b) o (takes p (p.byte r b) bs)).used
+      go None n a h =
+          let same : items (up ++ b ∷ []) ≡ base = next_items up b e ∙ ap (λ o. base ++ option_to_list o) n ∙ append-nil base in
+          let l : length (meanings (up ++ b ∷ [])) ≡ length (meanings up) = ap (λ z. length (f z)) (same ∙ sym e) in
+          let later = h same (subst (λ z. Adds (takes p z bs).item) (sym (next_state up b)) a) in
+          cond-false _ _ _ (le-ltb (length (meanings up)) (length (meanings (up ++ b ∷ []))) (omega arith)) ∙ ap suc (later ∙ ap (λ z. (takes p z bs).used) (next_state up b))
+      go (Some x) n a h =
+          let more : meanings (up ++ b ∷ []) ≡ f base ++ means x ∷ [] = ap f (next_items up b e ∙ ap (λ o. base ++ option_to_list o) n) ∙ a in
+          let l : length (meanings (up ++ b ∷ [])) ≡ length (f base) + 1 = ap length more ∙ length-append (f base) (means x ∷ []) in
+          let k : length (meanings up) ≡ length (f base) = ap (λ z. length (f z)) e in
+          cond-true _ _ _ (lt-ltb (length (meanings up)) (length (meanings (up ++ b ∷ []))) (omega arith))
+
+-- A client that goes on takes what its stream's reader takes of a piece.
+module _ (wish : Wish) (sent : List RequestView) (bytes : List ℕ) (on : ((reading_of wish sent bytes).ended ≡ false) × ((reading_of wish sent bytes).bad ≡ false)) (piece : List ℕ) where
+  abbrev hearings : List ℕ → List Heard
+  hearings bs = heard_of (outputs at_client at_client.start bs)
+
+  pub used_same : reach hears bytes piece ≡ (takes at_client (state at_client at_client.start bytes) piece).used
+  used_same =
+      reach_lengths hears hearings (λ bs. length-reverse (hearings bs)) bytes piece
+      ∙ reach_used Opened Item Heard at_client heard_of (heard_as (reading_of wish sent bytes).version) (outputs at_client at_client.start bytes) bytes piece refl (one_heard wish sent bytes on piece)
+
+-- What the ends of a connection keep is enough for what a client is given, and for what it submits.
 
 -- what is seen of a client's answer; used, where it tells none
 abbrev pub seen_as : ℕ → Result (ℕ × Note) ClientFault → Seen
@@ -93,8 +172,8 @@ module _ (k : Connection) (out n : ℕ) (lives : k.client_lost ≡ false) (on : 
   heard_more = ap hears taken_more ∙ more_heard (wish_of k.peer) k.sent (bytes_delivered k) on piece
 
   -- one item at most, and a version that is known stays
-  pub one_heard : length (hears (bytes_delivered k2)) ≤ suc (length (hears (bytes_delivered k)))
-  one_heard = at (option_map (heard_as (client k).version) t.item) (ap length heard_more)
+  pub one_more : length (hears (bytes_delivered k2)) ≤ suc (length (hears (bytes_delivered k)))
+  one_more = at (option_map (heard_as (client k).version) t.item) (ap length heard_more)
     where
       at : (o : Option Heard) → length (hears (bytes_delivered k2)) ≡ length (option_to_list o ++ hears (bytes_delivered k)) → length (hears (bytes_delivered k2)) ≤ suc (length (hears (bytes_delivered k)))
       at None e = omega arith
@@ -134,8 +213,8 @@ module _ (k : Connection) (out n : ℕ) (lives : k.client_lost ≡ false) (on : 
 
 -- what it keeps is enough for a submit: the rest after one that isn't refused
 module _ (k : Connection) (out : ℕ) (q : RequestView) (few : out ≤ length (input (wish_of k.peer) k.sent)) where
-  abbrev rest_of : Reading → List RequestView → List ℕ → asking.Rest
-  rest_of rd w u =
+  abbrev rest_as : Reading → List RequestView → List ℕ → asking.Rest
+  rest_as rd w u =
       record {
         wish = wish_of k.peer;
         knows = record { version = rd.version; over = k.client_lost || (rd.ended || rd.bad); first = rd.count; phase = rd.phase; waiting = w };
@@ -146,11 +225,11 @@ module _ (k : Connection) (out : ℕ) (q : RequestView) (few : out ≤ length (i
   -- where the client knows the version that it wished
   pub submitted_same : (client k).bad ≡ false → k.client_lost ≡ false → (client k).version ≡ Some (wish_version (wish_of k.peer)) → asking.after_submit (client_rest out k) q ≡ client_rest out (record k { sent = k.sent ++ q ∷ [] })
   submitted_same good lives ver =
-      ap₂ (λ w u. rest_of (client k) w u) (waits k.client_lost lives)
+      ap₂ (λ w u. rest_as (client k) w u) (waits k.client_lost lives)
       (ap (λ o. drop out (input (wish_of k.peer) k.sent) ++ asking.asking_bytes o q) ver
       ∙ sym (drop-append-le out (input (wish_of k.peer) k.sent) (request_bytes (wish_version (wish_of k.peer)) q) few)
       ∙ ap (drop out) (sym (input_more (wish_of k.peer) k.sent q)))
-      ∙ ap (λ rd. rest_of rd (if k.client_lost then [] else drop rd.count (k.sent ++ q ∷ [])) (drop out (input (wish_of k.peer) (k.sent ++ q ∷ [])))) (sym (reading_later (wish_of k.peer) k.sent (q ∷ []) (hears (bytes_delivered k)) good))
+      ∙ ap (λ rd. rest_as rd (if k.client_lost then [] else drop rd.count (k.sent ++ q ∷ [])) (drop out (input (wish_of k.peer) (k.sent ++ q ∷ [])))) (sym (reading_later (wish_of k.peer) k.sent (q ∷ []) (hears (bytes_delivered k)) good))
     where
       waits : (b : Bool) → b ≡ false → (if b then [] else drop (client k).count k.sent) ++ q ∷ [] ≡ (if b then [] else drop (client k).count (k.sent ++ q ∷ []))
       waits false e = sym (drop-append-le (client k).count k.sent (q ∷ []) (reading_count (wish_of k.peer) k.sent (hears (bytes_delivered k))))

@@ -29,12 +29,9 @@ with_end l e = record l { end = e }
 
 module _ (wish : Wish) (c : Client) (lost : Option (List (ℕ × Outcome))) where
   -- the rest of the client of an end
-  pub rest_of : (x : Option asking.Rest) → FitsEnd (end.Ours wish c lost) x → (y : asking.Rest) × (x ≡ Some y) × client.Fits c y
-  rest_of None f = absurd f
-  rest_of (Some y) f = (y, refl, f)
-
   pub held_client : (l : LinkHeld) → l.end ≡ end.Ours wish c lost → (x : Option asking.Rest) → FitsEnd l.end x → (y : asking.Rest) × (x ≡ Some y) × client.Fits c y
-  held_client l is x f = rest_of x (subst (λ e. FitsEnd e x) is f)
+  held_client l is None f = absurd (subst (λ e. FitsEnd e None) is f)
+  held_client l is (Some y) f = (y, refl, subst (λ e. FitsEnd e (Some y)) is f)
 
   pub holds_client : (l : LinkHeld) → l.end ≡ end.Ours wish c lost → (m : Link) → Holds l m
       → (y : asking.Rest) × (m.client ≡ Some y) × client.Fits c y × (m ≡ link_of (with_end l (end.Ours wish c lost)) (Some y))

@@ -1,38 +1,152 @@
--- How much is kept of each connection: what a step does to a world is one call on the server, and one on the client, or none.
-use Rattle.std.proofs.Common.{◌≡◌, refl, sym, ◌∙◌, ap, subst, ℕ, suc, zero, ◌+◌, ◌-◌, ◌≤◌, Bool, true, false, if◌then◌else◌, min, max, true≢false, Option, Some, None, is_some, Ok, Err, List, [], ◌∷◌, ◌++◌, length, take, drop, slice_get, slice_set, ◌⊎◌, inl, inr, ⊎_elim, arith, append-nil}
-use Rattle.std.proofs.lemmas.Bool.{cases_Bool, cond-false}
+-- What a step leaves as it was, how the ledger grows, and how much is kept.
+use Rattle.std.proofs.Common.{◌==◌, ◌≡◌, ℕ, Some, List, refl, sym, ◌∙◌, subst, Option, Ok, None, [], ◌∷◌, ◌++◌, length, take, drop, slice_get, slice_set, append-nil, append_assoc, length-append, length-set, ◌<◌, arith, ◌⊎◌, inl, inr, ap, ◌+◌, ◌-◌, ◌≤◌, Bool, true, false, min, true≢false, is_some, ⊎_elim}
+use Rattle.messages.specs.View.{RequestView}
+use Rattle.messages.specs.Arrivals.{Arrival, Asked}
+use Rattle.machine.specs.declared.State.{State}
 use Rattle.engine.specs.Views.{EntryView}
-use Rattle.client.specs.Rest.{Nothing}
-use Rattle.session.specs.Session.{Setting}
-use Rattle.session.specs.Rest.{Step, work_kept, worked_of}
-use Rattle.server.specs.Serving as serving
-use Rattle.server.specs.Serving.{is_full}
-use Rattle.server.specs.Running as running
-use Rattle.server.specs.Running.{after_call, after_event, after_events, Bounded, AllBounded, IsKept}
-use Rattle.world.specs.Connections.{Connection, output, input, kept_of}
-use Rattle.world.specs.World.{World, Event, Seen, Fed, SawWork, SawNoop, SawNothing, Effect, quiet, Submitted, Gave, feed, give, taken_for, effect_of_step, work, noop, server_gone, after_effect, live, ledger, place, taken_out, Reached, begins, goes_on, takes_out}
-use Rattle.world.specs.Rests.{server_rest, sessions_from, live_of}
-use Rattle.world.specs.Turns.{Definition, setting_of}
+use Rattle.session.proofs.Free.{entry_in, serve_free}
+use Rattle.session.specs.Acts.{IsFree}
+use Rattle.session.specs.Session.{Open, Reply, Setting, Summary, Tx, Change}
+use Rattle.world.specs.Connections.{Connection, said_version, fresh, answer_count, input, output, kept_of, arrivals_at}
+use Rattle.world.specs.World.{Effect, IsCountedIn, effect_of_step, work, World, Event, Work, Seen, IsLedger, after_effect, effect_at_peer, ledger, place, step, taken_out, Reached, begins, goes_on, takes_out, Fed, SawWork, SawNoop, SawNothing, quiet, Gave, feed, give, taken_for, noop, server_gone, live}
+use Rattle.world.proofs.Deeds.{replied, step_case, Deed, Did, opens, acts, step_did, set_other, feed_hushed, taken_case, feed_case, silent_step, noop_case}
+use Rattle.world.proofs.Serve.{Counted}
+use Rattle.std.proofs.lemmas.Option.{slice_get_within, same_Some}
+use Rattle.session.specs.Rest.{commit_entries, Step, work_kept, worked_of}
+use Rattle.world.specs.Good.{CommitsOnce, Each}
+use Rattle.world.specs.Others.{IsAt, Enters, LeavesOthers, GrowsByWork, Commits, GrowsByCommits}
 use Rattle.world.proofs.Deeds as deed
-use Rattle.world.proofs.Deeds.{Deed, Did, opens, acts, step_did, taken_case, feed_case, step_case, silent_step, noop_case}
-use Rattle.world.proofs.Sound.{Sound, AllSound, still_lives, reached_sound}
-use Rattle.world.proofs.Served.{unseen, alike, sessions-length, work_served, feed_served, noop_served, take_served, lost_served, open_served}
+use Rattle.world.proofs.Trace.{each_append, each_map, get_append}
+use Rattle.engine.specs.Tokens.{TokensOnce, added_by}
+use Rattle.engine.proofs.Once.{once_after}
+use Rattle.std.proofs.lemmas.Bool.{cases_Bool, cond-false, cond_both}
+use Rattle.client.specs.Rest.{Nothing}
+use Rattle.server.specs.Serving as serving
+use Rattle.server.specs.Serving.{is_full, Live, find}
+use Rattle.server.specs.Running as running
+use Rattle.server.specs.Running.{after_call, after_event, after_events, Bounded, AllBounded, IsKept, Adds, Grows, nothing, one}
+use Rattle.world.specs.Rests.{server_rest, live_of}
+use Rattle.world.specs.Turns.{Definition, setting_of}
+use Rattle.world.proofs.Sound.{Sound, AllSound, still_lives, reached_sound, first_of}
+use Rattle.world.proofs.Served.{unseen, alike, sessions-length, work_served, feed_served, noop_served, take_served, lost_served, open_served, find_at}
+use Rattle.machine.specs.States.{phase_of}
+use Rattle.machine.specs.Asks.{kind_of}
+use Rattle.machine.specs.Following.{commits}
+use Rattle.server.proofs.Ledgers.{grows}
 
-taken_is : (taken down n len : ℕ) → taken ≤ len → min (taken + ((down + n) - taken)) len ≡ max taken (min (down + n) len)
-taken_is taken down n len a = omega arith
+-- A step adds to the ledger only what was free there.
+
+-- what an effect adds was free, and where it is counted leaves a ledger shorter than 2^63
+pub record AddsFree (all : List EntryView) (e : Effect) : Type 0 where
+  pub free : IsFree all e.commit
+  pub counted : IsCountedIn e.seen → Counted all e.commit
+
+module _ (all : List EntryView) where
+  reply_adds : (k : Connection) (st : State) (re : Open) (t : Tx) (q : RequestView) (later : List Arrival) (r : Reply) → IsFree all (entry_in r) → AddsFree all (effect_of_step k (replied k all st re t q later r))
+  reply_adds k st re t q later (Summary d a left tx (Some u)) f = record { free = f; counted = λ n. n }
+  reply_adds k st re t q later _ f = record { free = tt; counted = λ _. tt }
+
+  pub work_adds : (S : Setting) (c : ℕ) (k : Connection) → AddsFree all (work S c all k)
+  work_adds S c k =
+      step_case (λ d. AddsFree all (effect_of_step k d)) S c all k (λ d _. record { free = tt; counted = λ _. tt }) (λ _ cause. record { free = tt; counted = λ _. tt })
+      (λ _ st re t q later _. reply_adds k st re t q later _ (serve_free S (said_version k) c all st re t q))
+
+-- What a step leaves as it was, and how the ledger grows.
+
+-- no event but Work commits
+abbrev pub CommitsAtWork : List EntryView → Event → Effect → Type 0
+CommitsAtWork all e x = ((x.commit ≡ None) ⊎ (e ≡ Work (place e))) × AddsFree all x
+
+none : (all : List EntryView) (e : Event) (x : Effect) → x.commit ≡ None → CommitsAtWork all e x
+none all e x h = (inl h, record { free = subst (IsFree all) (sym h) tt; counted = λ _. subst (Counted all) (sym h) tt })
+
+module _ {S : Setting} {c : ℕ} {all : List EntryView} {k : Connection} where
+  pub deed_commits : {e : Event} {x : Effect} → Deed S c all k e x → CommitsAtWork all e x
+  deed_commits (deed.works i) = (inr refl, work_adds all S c k)
+  deed_commits (deed.hands i n wish p) = none all _ _ (feed_hushed (take n (drop (length k.up) (input wish k.sent))) k).1
+  deed_commits (deed.feeds i piece p) = none all _ _ (feed_hushed piece k).1
+  deed_commits _ = none all _ _ refl
+
+  deed_at : {e : Event} {x : Effect} → Deed S c all k e x → (j : ℕ) → place e ≡ j → IsAt e j
+  deed_at (deed.works i) j p = p
+  deed_at _ j p = p
+
+-- what a ledger is, of a world: entries that came since are of its connections
+pub record LedgerOf (w : World) : Type 0 where
+  pub is : IsLedger (ledger w)
+  pub below : Each (λ e. e.conn < length w.conns) w.since
+
+-- all of it, of a step from one world to another; and that the ledger stays one
+pub record KeptBy (w : World) (e : Event) (seen : Seen) (w2 : World) : Type 0 where
+  pub others : (j : ℕ) (k : Connection) → (IsAt e j → ⊥) → slice_get w.conns j ≡ Some k → slice_get w2.conns j ≡ Some k
+  pub grows : (w2.brought ≡ w.brought) × ((w2.since ≡ w.since) ⊎ Enters w e w2)
+  pub stays : IsCountedIn seen → LedgerOf w → LedgerOf w2
+
+module _ (S : Setting) (w : World) where
+  entry_of : (e : Event) (k : Connection) (w2 : World) (o : Option Change) → w2.since ≡ w.since ++ commit_entries (place e) (answer_count k.says) o → (o ≡ None) ⊎ (e ≡ Work (place e)) → IsFree (ledger w) o
+      → (w2.since ≡ w.since) ⊎ Enters w e w2
+  entry_of e k w2 None is h f = inl (is ∙ append-nil w.since)
+  entry_of e k w2 (Some u) is (inl h) f = cc
+  entry_of e k w2 (Some u) is (inr h) f = inr (record {
+    conn = place e;
+    ordinal = answer_count k.says;
+    change = u;
+    works = h;
+    free = f;
+    entry = is;
+  })
+
+  is_after : (c : ℕ) (k k2 : Connection) (o : Option Change) → slice_get w.conns c ≡ Some k → IsFree (ledger w) o → Counted (ledger w) o → LedgerOf w
+      → LedgerOf (record { conns = slice_set w.conns c k2; brought = w.brought; since = w.since ++ commit_entries c (answer_count k.says) o })
+  is_after c k k2 None here f n h = record {
+    is = subst (λ es. IsLedger (w.brought ++ es)) (sym (append-nil w.since)) h.is;
+    below = rw (length-set w.conns c k2) (subst (Each (λ e. e.conn < length w.conns)) (sym (append-nil w.since)) h.below);
+  }
+  is_after c k k2 (Some u) here f n h =
+      let x : EntryView = record { conn = c; ordinal = answer_count k.says; writes = u.writes; token = u.token } in
+      record {
+        is = subst IsLedger (append_assoc w.brought w.since (x ∷ [])) (record { once = subst (λ a. TokensOnce (ledger w ++ added_by x a)) f (once_after (ledger w) x h.is.once); counted = omega (arith, n, length-append (ledger w) (x ∷ [])) });
+        below = rw (length-set w.conns c k2) (each_append _ w.since (x ∷ []) h.below (slice_get_within w.conns c k here, tt));
+      }
+
+  did_keeps : (e : Event) (seen : Seen) (w2 : World) → Did S w e seen w2 → KeptBy w e seen w2
+  did_keeps e seen w2 (opens peer room) = record { others = λ j k far g. get_append w.conns (fresh peer ∷ []) j k g; grows = (refl, inl refl); stays = λ n h. record { is = h.is; below = each_map _ _ w.since (λ e l. omega (arith, length-append w.conns (fresh peer ∷ []))) h.below } }
+  did_keeps e seen w2 (acts event k x here d) =
+      let commits = deed_commits d in
+      record {
+        others = λ j k3 far g. set_other w.conns (place event) j x.conn (λ p. far (deed_at d j p)) ∙ g;
+        grows = (refl, entry_of event k (after_effect w (place event) k x) x.commit refl commits.0 commits.1.free);
+        stays = λ n h. is_after (place event) k x.conn x.commit here commits.1.free (commits.1.counted n) h;
+      }
+
+  pub step_keeps : (e : Event) (seen : Seen) (w2 : World) → step S w e ≡ Ok (w2, seen) → KeptBy w e seen w2
+  step_keeps e seen w2 h = did_keeps e seen w2 (step_did S w e seen w2 h)
+
+taken_ledger : (w : World) (c n : ℕ) (o : Option Connection) → LedgerOf w → LedgerOf (taken_out w c n o)
+taken_ledger w c n None h = h
+taken_ledger w c n (Some k) h = record { is = h.is; below = rw (length-set w.conns c (record k { taken = (effect_at_peer k.peer n k).conn.taken })) h.below }
+
+-- every reached ledger keeps its tokens apart
+pub reached_ledger : (S : Setting) (brought : List EntryView) {w : World} → Reached S brought w → LedgerOf w
+reached_ledger S brought (begins l) = record { is = subst IsLedger (sym (append-nil brought)) l; below = tt }
+reached_ledger S brought (goes_on w w2 e seen r s) = (step_keeps S w e seen w2 s.steps).stays s.counted (reached_ledger S brought r)
+reached_ledger S brought (takes_out w c n r) = taken_ledger w c n (slice_get w.conns c) (reached_ledger S brought r)
+
+pub commits_once : CommitsOnce
+commits_once S brought w r = (reached_ledger S brought r).is.once
+
+pub leaves_others : LeavesOthers
+leaves_others S w e seen w2 h j k far here = (step_keeps S w e seen w2 h).others j k far here
+
+pub grows_by_work : GrowsByWork
+grows_by_work S w e seen w2 h = (step_keeps S w e seen w2 h).grows
+
+-- How much is kept of each connection: what a step does to a world is one call on the server, and one on the client, or none.
 
 -- what a list of sessions keeps, each of them keeps
-all_at : (ks : List Connection) (c i j : ℕ) (k : Connection) → j ≡ c + i → AllBounded (sessions_from c ks) → slice_get ks i ≡ Some k → k.server_lost ≡ false → Bounded (live_of j k)
-all_at [] c i j k e b h l = cc
-all_at (x ∷ ks) c zero j k e b h l =
-    let same : x ≡ k = cc in
-    let first : AllBounded (live_of c k ∷ sessions_from (suc c) ks) = subst AllBounded (ap (λ z. if z.server_lost then sessions_from (suc c) ks else live_of c z ∷ sessions_from (suc c) ks) same ∙ cond-false k.server_lost _ _ l) b in
-    subst (λ n. Bounded (live_of n k)) (let here : c ≡ j = omega arith in here) first.0
-all_at (x ∷ ks) c (suc i) j k e b h l = all_at ks (suc c) i j k (omega arith) (rest x.server_lost b) h l
-  where
-    rest : (d : Bool) → AllBounded (if d then sessions_from (suc c) ks else live_of c x ∷ sessions_from (suc c) ks) → AllBounded (sessions_from (suc c) ks)
-    rest true b = b
-    rest false b = b.1
+bounded_at : (ss : List Live) (j : ℕ) (l : Live) → AllBounded ss → find j ss ≡ Some l → Bounded l
+bounded_at [] j l b h = cc
+bounded_at (s ∷ ss) j l b h = cond_both (s.conn == j) (Some s) (find j ss) (λ o. o ≡ Some l → Bounded l) (λ _ e. subst Bounded (same_Some s l e) b.0) (λ _ e. bounded_at ss j l b.1 e) h
 
 module _ {G : Type 0} (answer : Definition) (accepts : G → List ℕ → List ℕ → Bool) (gate : G) where
   abbrev S : Setting
@@ -93,7 +207,8 @@ module _ {G : Type 0} (answer : Definition) (accepts : G → List ℕ → List �
         lives e =
             let m = (k.down + n) - k.taken in
             let k3 = record k { taken = min (k.taken + m) (length (output k)) } in
-            subst (MovesTo w) (alike gate w c k here k3 k2 SawNothing seen e e e (ap (λ t. live_of c (record k { taken = t })) (taken_is k.taken k.down n (length (output k)) s.counts)))
+            let same : min (k.taken + ((k.down + n) - k.taken)) (length (output k)) ≡ taken_for n k = let a = s.counts in omega arith in
+            subst (MovesTo w) (alike gate w c k here k3 k2 SawNothing seen e e e (ap (λ t. live_of c (record k { taken = t })) same))
             (called (running.takes c m) _ _ _ refl (take_served G gate w c k here e s m))
 
     loses : P (server_gone k)
@@ -101,18 +216,14 @@ module _ {G : Type 0} (answer : Definition) (accepts : G → List ℕ → List �
         ⊎_elim (λ e. lost_hidden (server_gone k).conn SawNothing e (sym e)) (λ e. inr (running.loses c, sym (ap (λ x. x.1) (lost_served G gate w c k here e s)))) (cases_Bool k.server_lost)
 
     deed_moves : {e : Event} {x : Effect} → Deed S c (ledger w) k e x → P x
-    deed_moves (deed.declines i q fault) = still (Submitted (Err fault))
-    deed_moves (deed.submits i q wish p none) = hidden (record k { sent = k.sent ++ q ∷ [] }) (Submitted (Ok (length k.sent))) refl (λ _ j. refl)
     deed_moves (deed.hands i n wish p) = feeds (take n (drop (length k.up) (input wish k.sent)))
     deed_moves (deed.feeds i piece p) = feeds piece
-    deed_moves (deed.misses i n) = still (Gave 0 (Ok Nothing))
     deed_moves (deed.gives i n wish p e) = takes n (give n k).conn.down (give n k).seen
     deed_moves (deed.drains i n p) = takes n (taken_for n k) (Gave (taken_for n k - k.down) (Ok Nothing))
     deed_moves (deed.works i) = works
     deed_moves (deed.noops i) = noops
-    deed_moves (deed.cuts i) = hidden (record k { cut = true }) SawNothing refl (λ _ j. refl)
-    deed_moves (deed.loses i wish p) = hidden (record k { client_lost = true }) SawNothing refl (λ _ j. refl)
     deed_moves (deed.ends i) = loses
+    deed_moves {x = x} _ = hidden x.conn x.seen refl (λ _ j. refl)
 
   did_moves : (w : World) → AllSound w → (e : Event) (seen : Seen) (w2 : World) → Did S w e seen w2 → MovesTo w (rest w2)
   did_moves w sound e seen w2 (opens peer room) = let served = open_served G gate w peer in inr (running.opens, sym (cond-false (is_full (rest w)) _ _ (served.0 ∙ room) ∙ served.1))
@@ -149,5 +260,56 @@ module _ {G : Type 0} (answer : Definition) (accepts : G → List ℕ → List �
       let h = reached_calls brought r in
       let is : IsKept (rest w) = subst IsKept (sym h.1) (kept brought h.0) in (
         subst (λ n. n ≤ 16) (sessions-length w.conns) is.live,
-        λ c k here lives. all_at w.conns 0 c c k (omega arith) is.bounded here lives,
+        λ c k here lives. bounded_at (rest w).sessions c (live_of c k) is.bounded (find_at w.conns 0 c c k (omega arith) here lives),
       )
+
+  -- That an entry comes by a row that commits, for a request that came whole.
+  module _ (w : World) (c : ℕ) (k : Connection) (here : slice_get w.conns c ≡ Some k) (s : Sound k) where
+    abbrev w2 : World
+    w2 = after_effect w c k (work S c (ledger w) k)
+
+    abbrev Comes : World → Type 0
+    Comes v = (ledger v ≡ ledger w) ⊎ Commits w (Work c) v
+
+    by_call : k.server_lost ≡ false → Comes w2
+    by_call lives = go g2.0 g2.1 (running.works c) refl g2.2
+      where
+        g2 : Grows (running.works c) (rest w) (rest w2)
+        g2 = subst (λ r. Grows (running.works c) (rest w) r) (ap (λ o. after_call o (rest w)) (work_served G gate w c k here lives s answer accepts)) (grows answer accepts (running.works c) (rest w))
+
+        go : (more : List EntryView) → ledger w2 ≡ ledger w ++ more → (ev : running.Event) → ev ≡ running.works c → Adds (rest w) ev more → Comes w2
+        go more h ev e (nothing x) = inl (h ∙ append-nil (ledger w))
+        go more h ev e (one conn t q later change found first row) =
+            let at : conn ≡ c = cc in
+            let same : t ≡ live_of c k = same_Some t (live_of c k) (sym found ∙ ap (λ n. find n (rest w).sessions) at ∙ find_at w.conns 0 c c k (omega arith) here lives) in
+            inr
+            (record {
+              conn = c;
+              connection = k;
+              request = q;
+              change = change;
+              works = refl;
+              here = here;
+              first = first_of (answer_count k.says) (arrivals_at k) later (Asked q) (ap (λ (z : Live). z.kept.waiting) (sym same) ∙ first);
+              row = ap (λ (z : Live). commits (phase_of z.kept.state) (kind_of q)) (sym same) ∙ row;
+              entry = h ∙ ap (λ (z : Live). ledger w ++ commit_entries z.conn z.kept.first (Some change)) same;
+            })
+
+    comes : Comes w2
+    comes =
+        step_case (λ d. d ≡ work_kept S c (ledger w) (kept_of k) k.ended → Comes (after_effect w c k (effect_of_step k d))) S c (ledger w) k (λ d _ _. inl (ap (λ es. w.brought ++ es) (append-nil w.since)))
+        (λ n cause e. moved _ n e) (λ n st re tx q later _ e. moved _ n e) refl
+      where
+        moved : (d : Step) → k.ended ≡ None → d ≡ work_kept S c (ledger w) (kept_of k) k.ended → Comes (after_effect w c k (effect_of_step k d))
+        moved d n e = subst (λ z. Comes (after_effect w c k (effect_of_step k z))) (sym e) (by_call (still_lives k s (ap is_some n)))
+
+pub grows_by_commits : GrowsByCommits
+grows_by_commits S brought w reached e seen w2 h = go e seen w2 (step_did S w e seen w2 h)
+  where
+    comes_by : (e : Event) (k : Connection) (x : Effect) → slice_get w.conns (place e) ≡ Some k → Deed S (place e) (ledger w) k e x → (ledger (after_effect w (place e) k x) ≡ ledger w) ⊎ Commits w e (after_effect w (place e) k x)
+    comes_by e k x here (deed.works i) = comes S.run (λ (u : Unit {0}). S.check) tt w i k here (reached_sound S brought reached i k here)
+    comes_by e k x here d = inl (ap (λ o. w.brought ++ (w.since ++ commit_entries (place e) (answer_count k.says) o)) (⊎_elim (λ none. none) (λ is. cc) (deed_commits d).0) ∙ ap (λ es. w.brought ++ es) (append-nil w.since))
+
+    go : (e : Event) (seen : Seen) (w2 : World) → Did S w e seen w2 → (ledger w2 ≡ ledger w) ⊎ Commits w e w2
+    go e seen w2 (opens peer room) = inl refl
+    go e seen w2 (acts event k x here d) = comes_by event k x here d

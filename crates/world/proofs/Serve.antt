@@ -1,19 +1,38 @@
--- What one answer of the session keeps, for a request that its phase allows.
-use Rattle.std.proofs.Common.{Bool, Err, List, None, Ok, Option, Result, Some, [], ap, arith, bytes_eq, codes, false, if◌then◌else◌, is_some, length, nat_le, not, refl, slice_get, subst, sym, true, true≢false, ℕ, ◌&&◌, ◌+◌, ◌<◌, ◌^◌, ◌∙◌, ◌∷◌, ◌≡◌}
-use Rattle.std.proofs.lemmas.Bool.{cond_both}
-use Rattle.std.specs.List.{list_all}
+-- What one answer of the session keeps, for a request that its phase allows: what it commits, and that it can be written.
+use Rattle.std.proofs.Common.{◌≡◌, ◌≤◌, sym, ◌∙◌, ap, ℕ, Some, None, List, [], ◌∷◌, ◌++◌, length, append_assoc, arith, refl, ap₂, true, ◌&&◌, Result, Ok, Err, lit≤, nat_lt, Bool, Option, codes, false, if◌then◌else◌, is_some, nat_le, not, slice_get, subst, true≢false, ◌+◌, ◌<◌, ◌^◌}
+use Rattle.std.proofs.lemmas.Option.{slice_get_within}
+use Rattle.engine.proofs.Once.{Has, found_at, under-append}
+use Rattle.engine.specs.Tokens.{There, found_in, under_token, Found, Free, Other}
+use Rattle.engine.specs.Views.{EntryView, Token, WriteView, AnswerView, ParameterView, QueryFault, unknown_text}
+use Rattle.std.specs.Str.{bytes_eq}
+use Rattle.std.proofs.lemmas.Bool.{and_parts, ltb-true, cond_both}
 use Rattle.packstream.specs.Tree.{Tree}
-use Rattle.wire.specs.Framing.{bytes_in_order}
+use Rattle.packstream.specs.Plain.{AreBytes}
 use Rattle.wire.specs.declared.Version.{Version}
+use Rattle.messages.specs.declared.MsgFault.{MsgFault}
+use Rattle.messages.specs.Table.{responses}
+use Rattle.messages.specs.View.{ResponseView, AuthView, RequestView}
+use Rattle.messages.specs.Reading.{response_contents}
+use Rattle.messages.specs.Messages.{contents_in, response_held, response_of}
+use Rattle.messages.specs.Writing.{response_spelling}
+use Rattle.messages.specs.Arrivals.{IsSaid}
+use Rattle.messages.specs.Summaries as summaries
+use Rattle.messages.specs.Summaries.{response_of_summary, IsShort, HasTexts}
+use Rattle.messages.proofs.Sayings.{means_told, told_says}
+use Rattle.messages.proofs.Fitting.{reads_back}
+use Rattle.messages.proofs.Made.{responses_are_made}
+use Rattle.cells.specs.Same.{same_tree}
+use Rattle.cells.proofs.Equality.{bytes_are, trees_are}
+use Rattle.session.specs.Said.{same_cells, same_metadata, same_say, is_reading, are_bytes, is_text, fits}
+use Rattle.session.proofs.Fitting.{fits_with_text}
+use Rattle.session.specs.declared.fault.Fault.{Fault}
+use Rattle.session.specs.Faults.{code_of, message_of, failure, of_query}
+use Rattle.std.specs.List.{list_all}
+use Rattle.wire.specs.Framing.{bytes_in_order}
 use Rattle.wire.specs.Versions.{versions, hello_has_login}
 use Rattle.messages.specs.declared.MsgFault.TheVariants as msg_fault
-use Rattle.messages.specs.Summaries as summaries
-use Rattle.messages.specs.Summaries.{HasTexts, IsShort, response_of_summary}
-use Rattle.messages.specs.View.{AuthView, RequestView, ResponseView}
-use Rattle.messages.specs.Writing.{response_spelling}
 use Rattle.messages.specs.declared.Count.{Count}
 use Rattle.messages.specs.declared.Mode.{Mode}
-use Rattle.messages.specs.declared.MsgFault.{MsgFault}
 use Rattle.machine.proofs.Tables.{at_rows, at_version, implies, implies_at}
 use Rattle.machine.specs.Asks.{in_part, is_part, kind_of, is_goodbye, is_reset}
 use Rattle.machine.specs.Following.{allows, commits}
@@ -22,19 +41,78 @@ use Rattle.machine.specs.States.{phase_of, same_state}
 use Rattle.machine.specs.declared.Kind.{Kind}
 use Rattle.machine.specs.declared.State.{State}
 use Rattle.machine.specs.declared.Verdict.{Verdict}
-use Rattle.engine.specs.Tokens.{Found, Free, There, Other, found_in}
-use Rattle.engine.specs.Views.{AnswerView, EntryView, ParameterView, QueryFault, Token, unknown_text}
 use Rattle.world.specs.Good.{alone_after, commit_of, is_invalid, is_success, tx_after}
 use Rattle.client.specs.Verdicts.{outcome_of, verdict_of}
 use Rattle.client.specs.declared.Outcome.{Outcome}
-use Rattle.session.specs.Faults.{failure, of_query}
-use Rattle.session.specs.Said.{fits}
 use Rattle.session.specs.Session.{Bye, Change, OneRow, Open, Reply, Setting, Summary, Tx, change_alone, change_inside, close, commits_as, commits_over, no_result, fails, fields_said, is_halted, if_fits, left_after, no_tx, perform, pull, query_mode, reply_to_hello, reply_to_login, reply_to_run, serve, succeeds, unwritable, used_up}
-use Rattle.session.specs.declared.fault.Fault.{Fault}
 use Rattle.world.proofs.Trace.{Pays}
-use Rattle.world.proofs.Under.{place_within}
-use Rattle.world.proofs.Writing.{failure_fits, short_fits}
 use Rattle.machine.proofs.Leading.{same_state-true}
+
+-- What stands under a token in a part of a ledger, and where.
+
+-- in a front or in what is behind it
+pub has_left : (t : List ℕ) (xs ys : List EntryView) (w : List WriteView) → Has (under_token t xs) w → Has (under_token t (xs ++ ys)) w
+has_left t xs ys w h =
+    (h.0, h.1 ++ under_token t ys, under-append t xs ys ∙ ap (λ z. z ++ under_token t ys) h.2 ∙ append_assoc h.0 (w ∷ h.1) (under_token t ys))
+
+pub has_right : (t : List ℕ) (xs ys : List EntryView) (w : List WriteView) → Has (under_token t ys) w → Has (under_token t (xs ++ ys)) w
+has_right t xs ys w h =
+    (under_token t xs ++ h.0, h.1, under-append t xs ys ∙ ap (λ z. under_token t xs ++ z) h.2 ∙ sym (append_assoc (under_token t xs) h.0 (w ∷ h.1)))
+
+-- a place that a ledger has for a change is one of its places, from 1
+pub place_within : (token : Token) (w : List WriteView) (es : List EntryView) (n : ℕ) → found_in token w es ≡ There n → n ≤ length es
+place_within None w es n h = cc
+place_within (Some t) w es n h = let r = found_at t w es n h in let l = slice_get_within es r.0 r.1 r.3 in omega (arith, r.2, l)
+
+-- What can be written has a text that stands for it; and the short answers of a session can be written.
+
+-- What has one name is one.
+cells_are : (ts us : List Tree) → same_cells ts us ≡ true → ts ≡ us
+cells_are [] [] h = refl
+cells_are (t ∷ ts) (u ∷ us) h = let r = and_parts (same_tree t u) (same_cells ts us) h in ap₂ (λ a b. a ∷ b) (trees_are t u r.0) (cells_are ts us r.1)
+cells_are _ _ h = cc
+
+metadata_are : (es fs : List (List ℕ × Tree)) → same_metadata es fs ≡ true → es ≡ fs
+metadata_are [] [] h = refl
+metadata_are (e ∷ es) (f ∷ fs) h =
+    let r = and_parts (bytes_eq e.0 f.0) (same_tree e.1 f.1 && same_metadata es fs) h in
+    let p = and_parts (same_tree e.1 f.1) (same_metadata es fs) r.1 in
+    ap₂ (λ (a : List ℕ × Tree) (b : List (List ℕ × Tree)). a ∷ b) (ap₂ (λ (x : List ℕ) (y : Tree). (x, y)) (bytes_are e.0 f.0 r.0) (trees_are e.1 f.1 p.0)) (metadata_are es fs p.1)
+metadata_are _ _ h = cc
+
+pub says_are : (m n : ResponseView) → same_say m n ≡ true → m ≡ n
+says_are (ResponseView.Success ps) (ResponseView.Success qs) h = ap (λ x. ResponseView.Success x) (metadata_are ps qs h)
+says_are (ResponseView.Record ts) (ResponseView.Record us) h = ap (λ x. ResponseView.Record x) (cells_are ts us h)
+says_are ResponseView.Ignored ResponseView.Ignored h = refl
+says_are (ResponseView.Failure c m) (ResponseView.Failure d n) h = let r = and_parts (bytes_eq c d) (bytes_eq m n) h in ap₂ (λ s t. ResponseView.Failure s t) (bytes_are c d r.0) (bytes_are m n r.1)
+says_are _ _ h = cc
+
+are_bytes-true : (bs : List ℕ) → are_bytes bs ≡ true → AreBytes bs
+are_bytes-true [] h = tt
+are_bytes-true (b ∷ bs) h = let r = and_parts (nat_lt b 256) (are_bytes bs) h in (ltb-true b 256 r.0, are_bytes-true bs r.1)
+
+read_is : (m : ResponseView) (r : Result ResponseView MsgFault) → is_reading r m ≡ true → r ≡ Ok m
+read_is m (Ok n) h = ap (λ x. Ok x) (says_are n m h)
+read_is m (Err e) h = cc
+
+stands : (v : Version) (m : ResponseView) (r : Result (List ℕ) MsgFault) → is_text v m r ≡ true → (b : List ℕ) × (r ≡ Ok b) × AreBytes b × (response_of v b ≡ Ok m)
+stands v m (Ok b) h = let p = and_parts (are_bytes b) (is_reading (response_of v b) m) h in (b, refl, are_bytes-true b p.0, read_is m (response_of v b) p.1)
+stands v m (Err e) h = cc
+
+-- what fits can be read
+pub fits_said : (v : Version) (m : ResponseView) → fits v m ≡ true → IsSaid v m
+unfolding fits response_of
+fits_said v m h = let r = stands v m (response_spelling v m) h in (r.0, r.1, means_told response_contents response_held v responses (told_says v) r.0 r.2 m (contents_in v responses r.0) refl r.3)
+
+-- each short answer fits
+pub short_fits : (v : Version) (s : summaries.Summary) → IsShort s → HasTexts s → fits v (response_of_summary s) ≡ true
+short_fits v s h t = let r = reads_back v s h t in (fits_with_text v (response_of_summary s) (responses_are_made v (response_of_summary s) r.0 r.2)).1 (r.0, r.1)
+
+-- a failure's texts are short, and UTF-8
+pub failure_texts : (f : Fault) → IsShort (failure f) × HasTexts (failure f)
+unfolding lib.Utf8.encode
+failure_texts Fault.UnknownText = (lit≤ tt, ((code_of Fault.UnknownText, (refl, refl)), (message_of Fault.UnknownText, (refl, refl))))
+failure_texts f = (lit≤ tt, ((code_of f, (refl, refl)), (message_of f, (refl, refl))))
 
 -- what is open agrees with the transaction t and the change w that the summaries tell
 abbrev pub Held : State → Open → Tx → Tx → Change → Type 0
@@ -79,20 +157,21 @@ query_valid : (e : QueryFault) → is_invalid (response_of_summary (failure (of_
 query_valid unknown_text = refl
 query_valid _ = refl
 
-abbrev option_is : Option State → State → Bool
-option_is None s = false
-option_is (Some x) s = same_state x s
+-- what is there is this one, by a test of sameness
+abbrev pub option_is : {A : Type 0} → (A → A → Bool) → Option A → A → Bool
+option_is same None x = false
+option_is same (Some y) x = same y x
 
-is_state : (o : Option State) (s : State) → option_is o s ≡ true → o ≡ Some s
-is_state None s h = cc
-is_state (Some x) s h = ap (λ y. Some y) (same_state-true x s h)
+pub option_is-true : {A : Type 0} (same : A → A → Bool) → ((x y : A) → same x y ≡ true → x ≡ y) → (o : Option A) (x : A) → option_is same o x ≡ true → o ≡ Some x
+option_is-true same is None x h = cc
+option_is-true same is (Some y) x h = ap (λ z. Some z) (is y x h)
 
 -- a request with a row of Success has this other one, at each version
-row_beside : (s : State) (k : Kind) (d : Verdict) (to : State) → list_all (λ v. implies (is_some (row_at v s k Verdict.Success)) (option_is (row_at v s k d) to)) versions ≡ true
+row_beside : (s : State) (k : Kind) (d : Verdict) (to : State) → list_all (λ v. implies (is_some (row_at v s k Verdict.Success)) (option_is same_state (row_at v s k d) to)) versions ≡ true
     → (v : Version) → is_some (row_at v s k Verdict.Success) ≡ true → row_at v s k d ≡ Some to
 row_beside s k d to all v r =
-    is_state (row_at v s k d) to
-    (implies_at (is_some (row_at v s k Verdict.Success)) _ (at_version (λ v. implies (is_some (row_at v s k Verdict.Success)) (option_is (row_at v s k d) to)) all v) r)
+    option_is-true same_state same_state-true (row_at v s k d) to
+    (implies_at (is_some (row_at v s k Verdict.Success)) _ (at_version (λ v. implies (is_some (row_at v s k Verdict.Success)) (option_is same_state (row_at v s k d) to)) all v) r)
 
 -- a request with a row of Success at no version
 no_row : (s : State) (k : Kind) → list_all (λ v. not (is_some (row_at v s k Verdict.Success))) versions ≡ true
@@ -105,24 +184,20 @@ after_hello b = if b then State.Ready else State.Unauth
 
 hello_row : (v : Version) (b : Bool) → hello_has_login v ≡ b → row_at v State.Fresh Kind.Hello Verdict.Success ≡ Some (after_hello b)
 hello_row v b e =
-    is_state (row_at v State.Fresh Kind.Hello Verdict.Success) (after_hello (hello_has_login v))
-    (at_version (λ v. option_is (row_at v State.Fresh Kind.Hello Verdict.Success) (after_hello (hello_has_login v))) refl v)
+    option_is-true same_state same_state-true (row_at v State.Fresh Kind.Hello Verdict.Success) (after_hello (hello_has_login v))
+    (at_version (λ v. option_is same_state (row_at v State.Fresh Kind.Hello Verdict.Success) (after_hello (hello_has_login v))) refl v)
     ∙ ap (λ b. Some (after_hello b)) e
 
 module _ (S : Setting) (c : ℕ) (numbered : c < 2 ^ 64) (front : List EntryView) (few : length front < 2 ^ 64) where
-  keeps_if : (v : Version) (s : State) (q : RequestView) (t : Tx) (w : Change) (tx : Tx) (b : Bool) (x y : Reply)
-      → (b ≡ true → Keeps S v front s q t w tx x) → (b ≡ false → Keeps S v front s q t w tx y) → Keeps S v front s q t w tx (if b then x else y)
-  keeps_if v s q t w tx b x y f g = cond_both b x y (Keeps S v front s q t w tx) f g
-
   keeps_fails : (v : Version) (s s2 : State) (q : RequestView) (t : Tx) (w : Change) (tx : Tx) (f : Fault) → is_invalid (response_of_summary (failure f)) ≡ false
       → row_at v s (kind_of q) Verdict.Failure ≡ Some s2 → Held s2 no_result no_tx t w → Keeps S v front s q t w tx (fails f)
   keeps_fails v s s2 q t w tx f ok e h =
-      record { told = refl; written = λ _. failure_fits v f; valid = ok; state = s2; rows = e; holds = h; paid = λ p. cc; commit = λ p. cc }
+      record { told = refl; written = λ _. let texts = failure_texts f in short_fits v (failure f) texts.0 texts.1; valid = ok; state = s2; rows = e; holds = h; paid = λ p. cc; commit = λ p. cc }
 
   keeps_fits : (v : Version) (s s2 : State) (q : RequestView) (t : Tx) (w : Change) (tx : Tx) (a : ResponseView) (x : Reply) → row_at v s (kind_of q) Verdict.Failure ≡ Some s2 → Held s2 no_result no_tx t w
       → (fits v a ≡ true → Keeps S v front s q t w tx x) → Keeps S v front s q t w tx (if_fits v a x)
   keeps_fits v s s2 q t w tx a x e h f =
-      keeps_if v s q t w tx (fits v a) _ _ f (λ _. keeps_fails v s s2 q t w tx (unwritable (response_spelling v a)) (unwritable_valid (response_spelling v a)) e h)
+      cond_both (fits v a) _ _ (Keeps S v front s q t w tx) f (λ _. keeps_fails v s s2 q t w tx (unwritable (response_spelling v a)) (unwritable_valid (response_spelling v a)) e h)
 
   -- a commit of what the summaries tell, by what the ledger has of it; said is the SUCCESS, by the place that it tells
   keeps_commit : (v : Version) (s : State) (q : RequestView) (t : Tx) (w : Change) (tx : Tx) (its : Change) (said : ℕ → ResponseView) → its ≡ commit_of (Some q) t w
@@ -172,7 +247,7 @@ module _ (S : Setting) (c : ℕ) (numbered : c < 2 ^ 64) (front : List EntryView
       → Keeps S v front State.Streaming (RequestView.Pull n) t w tx (pull v State.Streaming front n rows left tx)
   pull_alone v n [] left tx t w h = (close_alone v n [] left tx t w h (λ e. cc)).0
   pull_alone v n (r ∷ rs) left tx t w h =
-      keeps_if v _ _ t w tx (used_up n left.written) _ _
+      cond_both (used_up n left.written) _ _ (Keeps S v front State.Streaming (RequestView.Pull n) t w tx)
       (λ used. (close_alone v n (r ∷ rs) left tx t w h (λ e. used_part n left.written used)).0)
       (λ on. keeps_fits v State.Streaming State.Failed _ t w tx (ResponseView.Record r) _ refl tt (λ f. ((n, refl), f, h)))
 
@@ -180,7 +255,7 @@ module _ (S : Setting) (c : ℕ) (numbered : c < 2 ^ 64) (front : List EntryView
       → Keeps S v front State.TxStreaming (RequestView.Pull n) t w tx (pull v State.TxStreaming front n rows left tx)
   pull_inside v n [] left tx t w h = (close_inside v n [] left tx t w h (λ e. cc)).0
   pull_inside v n (r ∷ rs) left tx t w h =
-      keeps_if v _ _ t w tx (used_up n left.written) _ _
+      cond_both (used_up n left.written) _ _ (Keeps S v front State.TxStreaming (RequestView.Pull n) t w tx)
       (λ used. (close_inside v n (r ∷ rs) left tx t w h (λ e. used_part n left.written used)).0)
       (λ on. keeps_fits v State.TxStreaming State.Failed _ t w tx (ResponseView.Record r) _ refl tt (λ f. ((n, refl), f, h)))
 
@@ -199,7 +274,7 @@ module _ (S : Setting) (c : ℕ) (numbered : c < 2 ^ 64) (front : List EntryView
       → Keeps S v front State.TxReady (RequestView.Run query params mode token) t w t (reply_to_run v State.TxReady t token res)
   ran_inside v query params mode token t w (Err e) h = keeps_fails v State.TxReady State.Failed _ t w t (of_query e) (query_valid e) refl tt
   ran_inside v query params mode token t w (Ok a) h =
-      keeps_if v _ _ t w t (is_some a.write && nat_le 1024 (length t.writes)) _ _
+      cond_both (is_some a.write && nat_le 1024 (length t.writes)) _ _ (Keeps S v front State.TxReady (RequestView.Run query params mode token) t w t)
       (λ f. keeps_fails v State.TxReady State.Failed _ t w t Fault.TooManyWrites refl refl tt)
       (λ few. keeps_fits v State.TxReady State.Failed _ t w t (fields_said a.fields) _ refl tt
       (λ f. record { told = refl; written = λ _. f; valid = refl; state = State.TxStreaming; rows = refl; holds = rw h refl; paid = λ p. cc; commit = λ p. cc }))
@@ -213,7 +288,7 @@ module _ (S : Setting) (c : ℕ) (numbered : c < 2 ^ 64) (front : List EntryView
 
   logs_on : (v : Version) (s : State) (q : RequestView) (a : AuthView) (tx t : Tx) (w : Change) (x : summaries.Summary) → Keeps S v front s q t w tx (succeeds (response_of_summary x)) → Keeps S v front s q t w tx (fails Fault.Unauthorized)
       → Keeps S v front s q t w tx (reply_to_login S a (response_of_summary x))
-  logs_on v s q a tx t w x let_in refused = keeps_if v s q t w tx (bytes_eq a.scheme (codes "basic") && S.check a.principal a.credentials) _ _ (λ e. let_in) (λ e. refused)
+  logs_on v s q a tx t w x let_in refused = cond_both (bytes_eq a.scheme (codes "basic") && S.check a.principal a.credentials) _ _ (Keeps S v front s q t w tx) (λ e. let_in) (λ e. refused)
 
   -- a HELLO, by whether it carries who the client is
   greets_keep : (v : Version) (b : Bool) (agent : List ℕ) (auth : Option AuthView) (tx t : Tx) (w : Change) → hello_has_login v ≡ b
@@ -260,8 +335,8 @@ module _ (S : Setting) (c : ℕ) (numbered : c < 2 ^ 64) (front : List EntryView
   ignored_row v s k a g h r =
       let g2 : not (is_goodbye k) ≡ true = ap not g in
       let r2 : not (is_reset k) ≡ true = ap not r in
-      is_state (row_at v s k Verdict.Ignored) s
-      (implies_at (not (is_reset k)) _ (implies_at (is_halted s) _ (implies_at (not (is_goodbye k)) _ (implies_at (allows v (phase_of s) k) _ (at_rows (λ v s k. implies (allows v (phase_of s) k) (implies (not (is_goodbye k)) (implies (is_halted s) (implies (not (is_reset k)) (option_is (row_at v s k Verdict.Ignored) s))))) refl v s k) a) g2) h) r2)
+      option_is-true same_state same_state-true (row_at v s k Verdict.Ignored) s
+      (implies_at (not (is_reset k)) _ (implies_at (is_halted s) _ (implies_at (not (is_goodbye k)) _ (implies_at (allows v (phase_of s) k) _ (at_rows (λ v s k. implies (allows v (phase_of s) k) (implies (not (is_goodbye k)) (implies (is_halted s) (implies (not (is_reset k)) (option_is same_state (row_at v s k Verdict.Ignored) s))))) refl v s k) a) g2) h) r2)
 
   halted_held : (s : State) (tx t : Tx) (w : Change) → is_halted s ≡ true → Held s no_result no_tx t w
   halted_held State.Failed tx t w h = tt
@@ -276,10 +351,11 @@ module _ (S : Setting) (c : ℕ) (numbered : c < 2 ^ 64) (front : List EntryView
   pub serves : (v : Version) (s : State) (left : Open) (tx t : Tx) (w : Change) (q : RequestView) → Held s left tx t w
       → allows v (phase_of s) (kind_of q) ≡ true → Keeps S v front s q t w tx (serve S v c front s left tx q)
   serves v s left tx t w q h a =
-      keeps_if v s q t w tx (is_goodbye (kind_of q)) _ _ (λ g. tt)
-      (λ g. keeps_if v s q t w tx (is_halted s) _ _
-      (λ e. keeps_if v s q t w tx (is_reset (kind_of q)) _ _ (λ r. reset_keeps v s q tx t w e r)
+      let K : Reply → Type 0 = Keeps S v front s q t w tx in
+      cond_both (is_goodbye (kind_of q)) _ _ K (λ g. tt)
+      (λ g. cond_both (is_halted s) _ _ K
+      (λ e. cond_both (is_reset (kind_of q)) _ _ K (λ r. reset_keeps v s q tx t w e r)
       (λ r. record { told = refl; written = λ _. short_fits v summaries.Passed tt tt; valid = refl; state = s; rows = ignored_row v s (kind_of q) a g e r; holds = halted_held s tx t w e; paid = λ p. cc; commit = λ p. cc }))
-      (λ e. keeps_if v s q t w tx (is_some (row_at v s (kind_of q) Verdict.Success)) _ _
+      (λ e. cond_both (is_some (row_at v s (kind_of q) Verdict.Success)) _ _ K
       (λ r. performs v s left tx t w q h r)
       (λ r. absurd (true≢false (sym (has_row v s (kind_of q) a g e) ∙ r)))))

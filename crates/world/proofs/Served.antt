@@ -1,61 +1,104 @@
 -- The server's rest of a world, call by call.
-use Rattle.std.proofs.Common.{◌≡◌, refl, sym, ◌∙◌, ap, ap₂, subst, ℕ, zero, suc, ◌+◌, ◌^◌, ◌<◌, ◌==◌, Bool, true, false, not, ◌||◌, if◌then◌else◌, nat_le, min, Option, Some, None, option_map, Result, List, [], ◌∷◌, ◌++◌, length, take, drop, slice_get, slice_set, count_by, arith, append_assoc, append-nil, length-append, length-set, cond}
-use Rattle.std.proofs.lemmas.Bool.{eq-eqb, ne_eqb, cond-true, cond-false, cond_both}
-use Rattle.std.proofs.lemmas.List.{drop-drop, drop_min}
-use Rattle.std.proofs.lemmas.List.Recursion.{is_count_by}
-use Rattle.wire.specs.Reader.{state, reach, takes as reads}
-use Rattle.wire.specs.Framing.{Opened, at_server}
-use Rattle.messages.specs.Arrivals.{arrivals}
-use Rattle.engine.specs.declared.Mode.{Mode as QueryMode}
+use Rattle.std.proofs.Common.{◌≡◌, refl, sym, ◌∙◌, ap, ℕ, Bool, true, false, if◌then◌else◌, Option, Some, None, option_to_list, List, [], ◌∷◌, ◌++◌, take, drop, map, append-nil, ap₂, subst, zero, suc, ◌+◌, ◌^◌, ◌==◌, not, ◌||◌, nat_le, min, option_map, Result, length, slice_get, slice_set, count_by, arith, append_assoc, length-append, length-set, cond}
+use Rattle.std.proofs.lemmas.List.{drop-append-le, drop-drop, drop_min}
+use Rattle.wire.specs.Reader.{state, takes as reads, reach}
+use Rattle.wire.specs.Framing.{at_server, bytes_newest_first, Opened}
+use Rattle.messages.specs.View.{RequestView, ResponseView}
+use Rattle.messages.specs.Arrivals.{Arrival, Shook, NoMagic, Asked, Unread, TooLong, arrivals, Heard, Chosen, heard_bytes}
+use Rattle.machine.specs.declared.State.{State}
+use Rattle.machine.specs.Asks.{kind_of, is_reset}
 use Rattle.engine.specs.Views.{EntryView, WriteView, ParameterView, AnswerView, QueryFault}
 use Rattle.session.specs.declared.Cause.{Cause}
-use Rattle.session.specs.Rest.{Kept, work_kept, worked_of, puts_noop, what_of, shut, full, unread_among, commit_entries}
+use Rattle.session.specs.Session.{Setting, Open, Tx, Reply, OneRow, Summary, Bye}
+use Rattle.session.specs.Rest.{Step, after_item, after_interrupt, ends, puts, puts_noop, noop_kept, unread_among, work_kept, Kept, worked_of, what_of, shut, full, commit_entries}
+use Rattle.server.specs.Feeding.{arrival, Feeding, feeding, takes_item}
+use Rattle.world.specs.Connections.{Connection, SaysNoop, heard_as, said_version, output, requests_among, arrivals_at, waiting, answer_count, kept_of, keeping, Peer, fresh}
+use Rattle.world.specs.World.{said_by, take_item, noop, live, World, Effect, Seen, quiet, Fed, SawNothing, takes, feed, server_gone, ledger, work, after_effect}
+use Rattle.client.proofs.Steps.{drop_next}
+use Rattle.world.proofs.Deeds.{replied, step_case, interrupt_case}
+use Rattle.world.proofs.Sound.{asked-append, more_arrives, unsaid, Sound, spoken, last_same, used_same, rest_same, reads_on}
+use Rattle.std.proofs.lemmas.Bool.{eq-eqb, ne_eqb, cond-true, cond-false, cond_both}
+use Rattle.std.proofs.lemmas.List.Recursion.{is_count_by}
+use Rattle.engine.specs.declared.Mode.{Mode as QueryMode}
 use Rattle.server.specs.declared.Took.{Took}
-use Rattle.server.specs.Feeding.{Feeding, feeding, arrival, takes_item}
 use Rattle.server.specs.Serving as serving
 use Rattle.server.specs.Serving.{Live, find, replace, without}
-use Rattle.world.specs.Connections.{Peer, fresh, Connection, output, answer_count, arrivals_at, kept_of}
-use Rattle.world.specs.World.{live, World, Effect, Seen, quiet, Fed, SawNothing, take_item, takes, feed, noop, server_gone, ledger, work, after_effect}
 use Rattle.world.specs.Rests.{live_of, sessions_from, server_rest}
-use Rattle.world.proofs.Fed.{last_same, used_same, rest_same}
-use Rattle.world.proofs.Sound.{Sound, reads_on}
-use Rattle.world.proofs.Rests.{step_keeps, noop_keeps, item_keeps}
 
--- the sessions from a place on, by whether the first of them was given up
-by_loss : (P : List Live → Type 0) (c : ℕ) (k : Connection) (ss : List Live) → (k.server_lost ≡ true → P ss) → (k.server_lost ≡ false → P (live_of c k ∷ ss)) → P (if k.server_lost then ss else live_of c k ∷ ss)
-by_loss P c k ss x y = cond_both k.server_lost ss (live_of c k ∷ ss) P x y
+-- What a session keeps after a call is what its connection then says that it keeps.
+module _ (k : Connection) (s : Sound k) where
+  -- what is said is unsent, behind the rest
+  unsent_more : (x : Heard) → drop k.taken (output k ++ heard_bytes (said_version k) x) ≡ drop k.taken (output k) ++ heard_bytes (said_version k) x
+  unsent_more x = drop-append-le k.taken (output k) (heard_bytes (said_version k) x) s.counts
+
+  -- a work step
+  abbrev Keeps : Step → Type 0
+  Keeps d = kept_of (keeping k d.kept (said_by d.answer)) ≡ d.kept
+
+  reply_kept : (all : List EntryView) (st : State) (re : Open) (tx : Tx) (q : RequestView) (later : List Arrival) → waiting k ≡ Asked q ∷ later → (r : Reply) → Keeps (replied k all st re tx q later r)
+  reply_kept all st re tx q later w (OneRow row left) = ap (λ u. record (kept_of k) { state = st; result = left; tx = tx; unsent = u }) (unsent_more (Heard.Told (ResponseView.Record row)))
+  reply_kept all st re tx q later w Bye = refl
+  reply_kept all st re tx q later w (Summary v a left t entry) = rw (unsent_more (Heard.Told a), drop_next (arrivals_at k) (answer_count k.says) ∙ ap (drop 1) w) refl
+
+  pub step_keeps : (S : Setting) (c : ℕ) (all : List EntryView) → Keeps (work_kept S c all (kept_of k) k.ended)
+  step_keeps S c all =
+      step_case Keeps S c all k (λ d e. ap (λ xs. kept_of (keeping k (kept_of k) xs)) e) (λ _ cause. refl)
+      (λ _ st re tx q later w. reply_kept all st re tx q later w _)
+
+  -- a no-op
+  pub noop_keeps : kept_of (noop k).conn ≡ noop_kept (kept_of k)
+  noop_keeps = go (puts_noop (kept_of k))
+    where
+      go : (b : Bool) → kept_of (record k { says = if b then SaysNoop ∷ k.says else k.says }) ≡ (if b then record (kept_of k) { unsent = puts (kept_of k) Heard.Quiet } else kept_of k)
+      go true = ap (λ u. record (kept_of k) { unsent = u }) (unsent_more Heard.Quiet)
+      go false = refl
+
+  -- an item that arrives
+  module _ (going : k.ended ≡ None) (good : unread_among (arrivals_at k) ≡ false) (piece : List ℕ) where
+    abbrev up2 : List ℕ
+    up2 = k.up ++ take (reach arrivals k.up piece) piece
+
+    abbrev a : Option Arrival
+    a = arrival (kept_of k) (reads at_server (state at_server at_server.start k.up) piece).item
+
+    waits : (o : Option Arrival) → a ≡ o → drop (answer_count k.says) (requests_among (arrivals up2)) ≡ waiting k ++ requests_among (option_to_list o)
+    waits o e =
+        ap (λ z. drop (answer_count k.says) (requests_among z)) (more_arrives k.up k.version k.says (s.stage going) good piece ∙ ap (λ x. arrivals k.up ++ option_to_list x) e)
+        ∙ ap (drop (answer_count k.says)) (asked-append (arrivals k.up) (option_to_list o))
+        ∙ drop-append-le (answer_count k.says) (arrivals_at k) (requests_among (option_to_list o)) s.past
+
+    none_waits : (o : Option Arrival) → a ≡ o → requests_among (option_to_list o) ≡ [] → drop (answer_count k.says) (requests_among (arrivals up2)) ≡ waiting k
+    none_waits o e h = waits o e ∙ ap (λ z. waiting k ++ z) h ∙ append-nil (waiting k)
+
+    pub item_keeps : (used : ℕ) (o : Option Arrival) → a ≡ o → kept_of (take_item k up2 used o).conn ≡ after_item (kept_of k) o
+    item_keeps used (Some NoMagic) e = ap (λ w. record (ends Cause.BadMagic (kept_of k)) { waiting = w }) (none_waits (Some NoMagic) e refl)
+    item_keeps used (Some (Unread x)) e = ap (λ w. record (kept_of k) { waiting = w }) (waits (Some (Unread x)) e)
+    item_keeps used (Some TooLong) e = ap (λ w. record (kept_of k) { waiting = w }) (waits (Some TooLong) e)
+    item_keeps used (Some (Asked q)) e =
+        interrupt_case (λ t. kept_of (spoken k t [] up2) ≡ t) (is_reset (kind_of q)) (record (kept_of k) { waiting = waiting k ++ Asked q ∷ [] })
+        (ap (λ w. record (kept_of k) { waiting = w }) (waits (Some (Asked q)) e)) (λ _. ap (λ w. record (after_interrupt (kept_of k)) { waiting = w }) (waits (Some (Asked q)) e))
+    item_keeps used (Some (Shook (Some v))) e =
+        let f = (unsaid k.up k.version k.says (s.stage going) good piece (Some v) e).1 in
+        let said : bytes_newest_first (heard_bytes v) (map heard_as k.says) ≡ output k = ap (λ xs. bytes_newest_first (heard_bytes v) (map heard_as xs)) f ∙ sym (ap (λ xs. bytes_newest_first (heard_bytes (said_version k)) (map heard_as xs)) f) in
+        rw (none_waits (Some (Shook (Some v))) e refl, said, drop-append-le k.taken (output k) (heard_bytes v (Chosen (Some v))) s.counts) refl
+    item_keeps used (Some (Shook None)) e = rw (none_waits (Some (Shook None)) e refl, unsent_more (Chosen None)) refl
+    item_keeps used o e = ap (λ w. record (kept_of k) { waiting = w }) (none_waits o e refl)
 
 -- two choices by one test, where what is chosen stands so
-same_choice : {A B : Type 0} (R : A → B → Type 0) (b : Bool) (x y : A) (z w : B) → R x z → R y w → R (if b then x else y) (if b then z else w)
+same_choice : {A B : Type 0} (R : A → B → Type 0) (b : Bool) (x y : A) (z w : B) → R x z → (b ≡ false → R y w) → R (if b then x else y) (if b then z else w)
 same_choice R true x y z w p q = p
-same_choice R false x y z w p q = q
+same_choice R false x y z w p q = q refl
 
-below : (c j : ℕ) → j < c → (c == j) ≡ false
-below c j l = ne_eqb c j (λ e. absurd (omega arith))
-
-above : (c i j : ℕ) → j ≡ c + suc i → (c == j) ≡ false
-above c i j l = ne_eqb c j (λ e. absurd (omega arith))
-
-at_place : (c j : ℕ) → j ≡ c + 0 → (c == j) ≡ true
-at_place c j l = eq-eqb c j (omega arith)
-
--- no session has a number below the first place
-find_below : (ks : List Connection) (c j : ℕ) → j < c → find j (sessions_from c ks) ≡ None
-find_below [] c j l = refl
-find_below (k ∷ ks) c j l = let h = find_below ks (suc c) j (omega arith) in by_loss (λ ss. find j ss ≡ None) c k (sessions_from (suc c) ks) (λ _. h) (λ _. cond-false (c == j) _ _ (below c j l) ∙ h)
-
--- the session of a place, where it wasn't given up
-pub find_at : (ks : List Connection) (c i j : ℕ) (k : Connection) → j ≡ c + i → slice_get ks i ≡ Some k → find j (sessions_from c ks) ≡ (if k.server_lost then None else Some (live_of j k))
-find_at [] c i j k e h = cc
-find_at (x ∷ ks) c zero j k e h =
+-- the session of a place that wasn't given up
+pub find_at : (ks : List Connection) (c i j : ℕ) (k : Connection) → j ≡ c + i → slice_get ks i ≡ Some k → k.server_lost ≡ false → find j (sessions_from c ks) ≡ Some (live_of j k)
+find_at [] c i j k e h l = cc
+find_at (x ∷ ks) c zero j k e h l =
     let same : x ≡ k = cc in
-    subst (λ z. find j (sessions_from c (x ∷ ks)) ≡ (if z.server_lost then None else Some (live_of j z))) same
-    (by_loss (λ ss. find j ss ≡ (if x.server_lost then None else Some (live_of j x))) c x (sessions_from (suc c) ks)
-    (λ l. find_below ks (suc c) j (omega arith) ∙ sym (cond-true x.server_lost _ _ l))
-    (λ l. cond-true (c == j) _ _ (at_place c j e) ∙ ap (λ a. Some (live_of a x)) (let here : c ≡ j = omega arith in here) ∙ sym (cond-false x.server_lost _ _ l)))
-find_at (x ∷ ks) c (suc i) j k e h =
-    let r = find_at ks (suc c) i j k (omega arith) h in
-    by_loss (λ ss. find j ss ≡ (if k.server_lost then None else Some (live_of j k))) c x (sessions_from (suc c) ks) (λ _. r) (λ _. cond-false (c == j) _ _ (above c i j e) ∙ r)
+    let here : c ≡ j = omega arith in
+    ap (find j) (cond-false x.server_lost _ _ (ap (λ z. z.server_lost) same ∙ l)) ∙ cond-true (c == j) _ _ (eq-eqb c j here) ∙ ap₂ (λ a z. Some (live_of a z)) here same
+find_at (x ∷ ks) c (suc i) j k e h l =
+    let r = find_at ks (suc c) i j k (omega arith) h l in
+    cond_both x.server_lost (sessions_from (suc c) ks) (live_of c x ∷ sessions_from (suc c) ks) (λ ss. find j ss ≡ Some (live_of j k)) (λ _. r) (λ _. cond-false (c == j) _ _ (ne_eqb c j (λ q. absurd (omega arith))) ∙ r)
 
 -- a session in another's place
 pub replace_at : (ks : List Connection) (c i j : ℕ) (k k2 : Connection) (s : Live) → j ≡ c + i → slice_get ks i ≡ Some k → k.server_lost ≡ false → k2.server_lost ≡ false → s ≡ live_of j k2
@@ -65,31 +108,28 @@ replace_at (x ∷ ks) c zero j k k2 s e h l l2 m =
     let same : x ≡ k = cc in
     let here : c ≡ j = omega arith in
     ap (replace j s) (cond-false x.server_lost _ _ (ap (λ z. z.server_lost) same ∙ l))
-    ∙ cond-true (c == j) _ _ (at_place c j e)
+    ∙ cond-true (c == j) _ _ (eq-eqb c j (omega arith))
     ∙ ap (λ z. z ∷ sessions_from (suc c) ks) (m ∙ ap (λ a. live_of a k2) (sym here))
     ∙ sym (cond-false k2.server_lost _ _ l2)
 replace_at (x ∷ ks) c (suc i) j k k2 s e h l l2 m =
     let r = replace_at ks (suc c) i j k k2 s (omega arith) h l l2 m in
-    same_choice (λ (ss : List Live) (zs : List Live). replace j s ss ≡ zs) x.server_lost _ _ _ _ r (cond-false (c == j) _ _ (above c i j e) ∙ ap (λ z. live_of c x ∷ z) r)
+    same_choice (λ (ss : List Live) (zs : List Live). replace j s ss ≡ zs) x.server_lost _ _ _ _ r (λ _. cond-false (c == j) _ _ (ne_eqb c j (λ q. absurd (omega arith))) ∙ ap (λ z. live_of c x ∷ z) r)
 
 -- a session that is given up
-without_below : (ks : List Connection) (c j : ℕ) → j < c → without j (sessions_from c ks) ≡ sessions_from c ks
-without_below [] c j l = refl
-without_below (k ∷ ks) c j l = let h = without_below ks (suc c) j (omega arith) in by_loss (λ ss. without j ss ≡ ss) c k (sessions_from (suc c) ks) (λ _. h) (λ _. cond-false (c == j) _ _ (below c j l) ∙ ap (λ z. live_of c k ∷ z) h)
-
-pub without_at : (ks : List Connection) (c i j : ℕ) (k k2 : Connection) → j ≡ c + i → slice_get ks i ≡ Some k → k2.server_lost ≡ true → without j (sessions_from c ks) ≡ sessions_from c (slice_set ks i k2)
-without_at [] c i j k k2 e h l = cc
-without_at (x ∷ ks) c zero j k k2 e h l =
-    by_loss (λ ss. without j ss ≡ sessions_from (suc c) ks) c x (sessions_from (suc c) ks) (λ _. without_below ks (suc c) j (omega arith)) (λ _. cond-true (c == j) _ _ (at_place c j e)) ∙ sym (cond-true k2.server_lost _ _ l)
-without_at (x ∷ ks) c (suc i) j k k2 e h l =
-    let r = without_at ks (suc c) i j k k2 (omega arith) h l in
-    same_choice (λ (ss : List Live) (zs : List Live). without j ss ≡ zs) x.server_lost _ _ _ _ r (cond-false (c == j) _ _ (above c i j e) ∙ ap (λ z. live_of c x ∷ z) r)
+pub without_at : (ks : List Connection) (c i j : ℕ) (k k2 : Connection) → j ≡ c + i → slice_get ks i ≡ Some k → k.server_lost ≡ false → k2.server_lost ≡ true → without j (sessions_from c ks) ≡ sessions_from c (slice_set ks i k2)
+without_at [] c i j k k2 e h g l = cc
+without_at (x ∷ ks) c zero j k k2 e h g l =
+    let same : x ≡ k = cc in
+    ap (without j) (cond-false x.server_lost _ _ (ap (λ z. z.server_lost) same ∙ g)) ∙ cond-true (c == j) _ _ (eq-eqb c j (omega arith)) ∙ sym (cond-true k2.server_lost _ _ l)
+without_at (x ∷ ks) c (suc i) j k k2 e h g l =
+    let r = without_at ks (suc c) i j k k2 (omega arith) h g l in
+    same_choice (λ (ss : List Live) (zs : List Live). without j ss ≡ zs) x.server_lost _ _ _ _ r (λ _. cond-false (c == j) _ _ (ne_eqb c j (λ q. absurd (omega arith))) ∙ ap (λ z. live_of c x ∷ z) r)
 
 -- a change that no session sees
 pub unseen_at : (ks : List Connection) (c i : ℕ) (k k2 : Connection) → slice_get ks i ≡ Some k → k2.server_lost ≡ k.server_lost → (k.server_lost ≡ false → (j : ℕ) → live_of j k2 ≡ live_of j k) → sessions_from c (slice_set ks i k2) ≡ sessions_from c ks
 unseen_at [] c i k k2 h l m = cc
 unseen_at (x ∷ ks) c zero k k2 h l m = let same : x ≡ k = cc in subst (λ z. sessions_from c (k2 ∷ ks) ≡ sessions_from c (z ∷ ks)) (sym same)
-    (by_loss (λ ss. sessions_from c (k2 ∷ ks) ≡ ss) c k (sessions_from (suc c) ks) (λ e. cond-true k2.server_lost _ _ (l ∙ e)) (λ e. cond-false k2.server_lost _ _ (l ∙ e) ∙ ap (λ z. z ∷ sessions_from (suc c) ks) (m e c)))
+    (cond_both k.server_lost (sessions_from (suc c) ks) (live_of c k ∷ sessions_from (suc c) ks) (λ ss. sessions_from c (k2 ∷ ks) ≡ ss) (λ e. cond-true k2.server_lost _ _ (l ∙ e)) (λ e. cond-false k2.server_lost _ _ (l ∙ e) ∙ ap (λ z. z ∷ sessions_from (suc c) ks) (m e c)))
 unseen_at (x ∷ ks) c (suc i) k k2 h l m = ap (λ z. if x.server_lost then z else live_of c x ∷ z) (unseen_at ks (suc c) i k k2 h l m)
 
 -- one more session
@@ -98,12 +138,12 @@ sessions-append [] c k l = let same : c ≡ c + 0 = omega arith in cond-false k.
 sessions-append (x ∷ ks) c k l =
     let same : suc c + length ks ≡ c + suc (length ks) = omega arith in
     let r = sessions-append ks (suc c) k l ∙ ap (λ n. sessions_from (suc c) ks ++ live_of n k ∷ []) same in
-    same_choice (λ (ss : List Live) (zs : List Live). ss ≡ zs ++ live_of (c + suc (length ks)) k ∷ []) x.server_lost _ _ _ _ r (ap (λ z. live_of c x ∷ z) r)
+    same_choice (λ (ss : List Live) (zs : List Live). ss ≡ zs ++ live_of (c + suc (length ks)) k ∷ []) x.server_lost _ _ _ _ r (λ _. ap (λ z. live_of c x ∷ z) r)
 
 -- as many sessions as live
 lengths_same : (ks : List Connection) (c d : ℕ) → length (sessions_from c ks) ≡ length (sessions_from d ks)
 lengths_same [] c d = refl
-lengths_same (x ∷ ks) c d = let r = lengths_same ks (suc c) (suc d) in same_choice (λ (ss : List Live) (zs : List Live). length ss ≡ length zs) x.server_lost _ _ _ _ r (ap suc r)
+lengths_same (x ∷ ks) c d = let r = lengths_same ks (suc c) (suc d) in same_choice (λ (ss : List Live) (zs : List Live). length ss ≡ length zs) x.server_lost _ _ _ _ r (λ _. ap suc r)
 
 pub sessions-length : (ks : List Connection) → length (sessions_from 0 ks) ≡ count_by (λ k. not k.server_lost) ks
 sessions-length ks = is_count_by (λ xs. length (sessions_from 0 xs)) (λ k. not k.server_lost) refl (λ x xs. go x xs x.server_lost (lengths_same xs 1 0)) ks
@@ -133,7 +173,7 @@ module _ (G : Type 0) (gate : G) (w : World) (c : ℕ) (k : Connection) (here : 
   r = server_rest gate w
 
   found : find c r.sessions ≡ Some (live_of c k)
-  found = find_at w.conns 0 c c k (omega arith) here ∙ cond-false k.server_lost _ _ lives
+  found = find_at w.conns 0 c c k (omega arith) here lives
 
   abbrev effect : Effect → World
   effect e = after_effect w c k e
@@ -179,18 +219,11 @@ module _ (G : Type 0) (gate : G) (w : World) (c : ℕ) (k : Connection) (here : 
   abbrev SameFeed : Effect → Feeding → Type 0
   SameFeed e f = (e.commit ≡ None) × (e.conn.server_lost ≡ false) × ((serving.after_feeding c f).1 ≡ live_of c e.conn) × (e.seen ≡ Fed f.took.used f.took.what)
 
-  both_if : (b : Bool) (x y : Effect) (f g : Feeding) → SameFeed x f → (b ≡ false → SameFeed y g) → SameFeed (if b then x else y) (if b then f else g)
-  both_if true x y f g m n = m
-  both_if false x y f g m n = n refl
-
-  skip : (b : Bool) (x y : Effect) (f : Feeding) → b ≡ false → SameFeed y f → SameFeed (if b then x else y) f
-  skip false x y f h m = m
-  skip true x y f h m = cc
-
   feed_same : k.cut ≡ false → (piece : List ℕ) → SameFeed (feed piece k) (feeding (state at_server at_server.start k.up) piece (kept_of k))
   feed_same joined piece =
-      skip k.server_lost _ _ _ lives (skip k.cut _ _ _ joined (both_if (shut (kept_of k)) _ _ _ _ (refl, lives, refl, refl) (λ going. both_if (full (kept_of k)) _ _ _ _ (refl, lives, refl, refl)
-      (λ _. let g = reads_on k s going in taken g.0 g.1))))
+      subst (λ e. SameFeed e (feeding (state at_server at_server.start k.up) piece (kept_of k))) (sym (cond-false k.server_lost _ _ lives ∙ cond-false k.cut _ _ joined))
+      (same_choice SameFeed (shut (kept_of k)) _ _ _ _ (refl, lives, refl, refl) (λ going. same_choice SameFeed (full (kept_of k)) _ _ _ _ (refl, lives, refl, refl)
+      (λ _. let g = reads_on k s going in taken g.0 g.1)))
     where
       taken : (going : k.ended ≡ None) (good : unread_among (arrivals_at k) ≡ false)
           → SameFeed (takes k piece (reach arrivals k.up piece)) (takes_item (kept_of k) (reads at_server (state at_server at_server.start k.up) piece))
@@ -217,7 +250,7 @@ module _ (G : Type 0) (gate : G) (w : World) (c : ℕ) (k : Connection) (here : 
   pub lost_served : serving.lost_at c r ≡ (Some (serving.cause_or k.ended), server_rest gate (effect (server_gone k)))
   lost_served =
       ap₂ (λ (o : Option Cause) (x : serving.Rest G). (o, x)) (ap (option_map (λ (z : Live). serving.cause_or z.kept.ended)) found)
-      (ap₂ (λ (ss : List Live) (x : ℕ × List EntryView). record { sessions = ss; next = x.0; ledger = w.brought ++ x.1; gate = gate }) (without_at w.conns 0 c c k (server_gone k).conn (omega arith) here refl)
+      (ap₂ (λ (ss : List Live) (x : ℕ × List EntryView). record { sessions = ss; next = x.0; ledger = w.brought ++ x.1; gate = gate }) (without_at w.conns 0 c c k (server_gone k).conn (omega arith) here lives refl)
       (ap₂ (λ (n : ℕ) (es : List EntryView). (n, es)) (sym (length-set w.conns c (server_gone k).conn)) (sym (append-nil w.since))))
 
 -- `open`

@@ -1,6 +1,6 @@
--- A report tells what the model has.
-use Rattle.std.proofs.Common.{◌≡◌, refl, sym, ◌∙◌, ap, ap₂, subst, ℕ, ◌+◌, ◌<◌, ◌≤◌, Bool, Option, Some, None, List, [], ◌∷◌, length, slice_get, slice_index_or, arith, if◌then◌else◌, option_and_then, option_map}
-use Rattle.world.proofs.Alongside.{along_at}
+-- What a report tells, and events one after the other.
+use Rattle.std.proofs.Common.{◌≡◌, refl, sym, ◌∙◌, ap, ap₂, subst, ℕ, ◌+◌, ◌<◌, Bool, Option, Some, None, List, [], ◌∷◌, length, slice_get, slice_index_or, arith, option_and_then, option_map, inl, inr, Result, Ok, Err, IsErr, OnOk, ◌++◌}
+use Rattle.world.proofs.Turning.{along_at, held_at, cause_is, still_there}
 use Rattle.engine.specs.Views.{EntryView}
 use Rattle.session.specs.declared.Cause.{Cause}
 use Rattle.client.specs.Client.{knows_of}
@@ -8,22 +8,27 @@ use Rattle.world.specs.declared.link.Link.{Link as LinkHeld}
 use Rattle.world.specs.declared.report.Standing.{Standing as StandingTold}
 use Rattle.world.specs.declared.world.World.{World as WorldHeld}
 use Rattle.world.specs.Connections.{Peer, Ours, Foreign, Connection, Said, SaysSummary, answer_count, client}
-use Rattle.world.specs.World.{World, Reached}
+use Rattle.world.specs.World.{World, Reached, Event, Seen, Refusal, V1, V2, V3, step, goes_on}
 use Rattle.machine.specs.States.{phase_of}
 use Rattle.world.specs.Good.{tellings_of, delivered_whole, server_outcome, Good}
 use Rattle.world.specs.Reports.{ReadSummary, by_peer, read_after, summaries_told, waits, ordinals, standing, standing_of}
 use Rattle.world.specs.Rests.{client_rest, live_of}
 use Rattle.world.specs.Fits.{Link, FitsClient, FitsLink}
 use Rattle.world.specs.Views.{link_of, waiting_at}
-use Rattle.world.specs.Turns.{Definition, setting_of, Holds, IsWorld}
+use Rattle.world.specs.Turns.{Definition, setting_of, Holds, IsWorld, Goes, GoesBy, FitsWorld, seen_in}
 use Rattle.world.specs.Reported.{standing_seen, StandsBy}
 use Rattle.world.proofs.Sound.{reached_sound}
 use Rattle.world.proofs.Headline.{all_good}
-use Rattle.world.proofs.Placed.{held_at}
-use Rattle.world.proofs.Answering.{cause_is, still_there}
 use Rattle.server.specs.Serving.{Live, find}
 use Rattle.world.proofs.Served.{find_at}
+use Rattle.std.specs.declared.alloc.AllocError.{AllocError}
+use Rattle.session.specs.Session.{Setting}
+use Rattle.world.specs.declared.kinds.Refused.{Refused}
+use Rattle.world.specs.declared.kinds.Refused.TheVariants.{NoSuchConnection, WrongPeer, SessionsFull, Memory}
+use Rattle.world.specs.Contract.{Answers, Follows, Replays}
+use Rattle.world.specs.declared.kinds.Seen.{Seen as SeenTold}
 
+-- A report tells what the model has.
 read_long : (xs : List Said) (later : List ReadSummary) → length (read_after (tellings_of xs) later) ≡ answer_count xs + length later
 read_long [] later = omega arith
 read_long (SaysSummary x ∷ xs) later =
@@ -52,7 +57,7 @@ module _ {E G : Type 0} (entries : E → List EntryView) (answer : Definition) (
     stands_as None e told h =
         let lives = still_there m k there.2 (reached_sound (setting_of answer accepts gate) brought reached c k there.1) e in
         let found : find c f.rest.server.sessions ≡ Some (live_of c k) =
-        ap (λ z. find c z.sessions) f.fits.server ∙ find_at w.conns 0 c c k (omega arith) there.1 ∙ ap (λ b. if b then None else Some (live_of c k)) lives in
+        ap (λ z. find c z.sessions) f.fits.server ∙ find_at w.conns 0 c c k (omega arith) there.1 lives in
         h k.state (ap (λ o. option_map (λ (y : Live). y.kept.state) o) found) ∙ ap (λ o. standing_of k.state o) (ap (λ o. option_and_then (λ (y : Live). y.kept.ended) o) found)
 
     -- those that wait follow those that were read
@@ -70,3 +75,53 @@ module _ {E G : Type 0} (entries : E → List EntryView) (answer : Definition) (
         go Foreign p g =
             let old : FitsClient Foreign m.client m.up k = subst (λ q. FitsClient q m.client m.up k) p g in
             ap (λ q. by_peer q (ordinals (knows_of (client k) k.sent k.client_lost).first (length (knows_of (client k) k.sent k.client_lost).waiting))) p ∙ ap (λ o. ordinals count (waiting_at o)) (sym old.0)
+
+-- Events one after the other.
+pub replays_more : (S : Setting) (w w2 w3 : World) (es : List Event) (e : Event) → Replays S w es w2 → Follows S w2 e w3 → Replays S w (es ++ e ∷ []) w3
+replays_more S w w2 w3 [] e h f = (w3, subst (λ z. Follows S z e w3) h f, refl)
+replays_more S w w2 w3 (x ∷ es) e h f = (h.0, h.1, replays_more S h.0 w2 w3 es e h.2 f)
+
+-- an answer that isn't want of memory isn't seen as one
+pub seen_lacks : (res : Result SeenTold Refused) → (res ≡ Err Memory → ⊥) → seen_in res ≡ Err Memory → ⊥
+seen_lacks (Ok seen) h e = cc
+seen_lacks (Err refused) h e = let same : refused ≡ Memory = cc in h (ap (λ x. Err x) same)
+
+module _ {E G : Type 0} (entries : E → List EntryView) (S : Setting) (gate : G) (brought : List EntryView) (w : World) where
+  -- one more event
+  pub goes_more : (es : List Event) (e : Event) (s t : WorldHeld E G) (h : Goes entries S gate brought w es s)
+      → GoesBy entries S gate brought h.after e t → Goes entries S gate brought w (es ++ e ∷ []) t
+  goes_more es e s t h f = record {
+    after = f.after;
+    replays = replays_more S w h.after f.after es e h.replays f.follows;
+    reached = f.reached;
+    fits = f.fits;
+  }
+
+-- what an answer means for the event
+module _ {E G : Type 0} (entries : E → List EntryView) (S : Setting) (gate : G) (brought : List EntryView) (w : World) where
+  left_out : (e : Event) (t : WorldHeld E G) (v : Refusal) → Reached S brought w → step S w e ≡ Err v
+      → FitsWorld entries t gate w → GoesBy entries S gate brought w e t
+  left_out e t v r h f =
+      record { after = w; follows = inr (subst IsErr (sym h) refl, refl); reached = r; fits = f }
+
+  follows : (e : Event) (t : WorldHeld E G) → Reached S brought w → (res : Result Seen Refused)
+      → (res ≡ Err Memory → ⊥) → Answers S w e res (FitsWorld entries t gate)
+      → GoesBy entries S gate brought w e t
+  follows e t r (Ok seen) lacks a = record {
+    after = a.after;
+    follows = inl (seen, a.steps);
+    reached = goes_on w a.after e seen r a.steps;
+    fits = a.now;
+  }
+  follows e t r (Err NoSuchConnection) lacks a = left_out e t V1 r a.0 a.1
+  follows e t r (Err WrongPeer) lacks a = left_out e t V2 r a.0 a.1
+  follows e t r (Err SessionsFull) lacks a = left_out e t V3 r a.0 a.1
+  follows e t r (Err Memory) lacks a = absurd (lacks refl)
+
+  -- once it is settled
+  pub settled_follows : (e e2 : Event) → Reached S brought w → e2 ≡ e → (res : Result SeenTold Refused) (t : WorldHeld E G) (settled : Result (Unit {0}) AllocError) → OnOk settled (res ≡ Err Memory → ⊥)
+      → Answers S w e2 (seen_in res) (FitsWorld entries t gate) → OnOk settled (GoesBy entries S gate brought w e t)
+  settled_follows e e2 r is res t (Err f) h a = tt
+  settled_follows e e2 r is res t (Ok u) h a =
+      let P : Event → Type 0 = λ z. Answers S w z (seen_in res) (FitsWorld entries t gate) in
+      follows e t r (seen_in res) (seen_lacks res h) (subst P is a)

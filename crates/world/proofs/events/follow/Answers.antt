@@ -1,6 +1,6 @@
 use Rattle.world.specs.Turns.{setting_of}
 use Rattle.world.specs.Views.{event_of}
-use Rattle.world.proofs.Followed.{settled_follows}
+use Rattle.world.proofs.Told.{settled_follows}
 use Rattle.world.proofs.events.follow.Goals as goal
 
 pub returns : goal.returns

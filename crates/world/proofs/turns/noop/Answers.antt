@@ -1,12 +1,14 @@
-use Rattle.world.proofs.Turning.{none_of}
-use Rattle.world.proofs.Turned.{noop_over, noop_lacks, noop_done}
+use Rattle.std.proofs.Common.{refl}
+use Rattle.world.specs.World.{PutsNoop}
+use Rattle.world.proofs.Turning.{lacks, none_of}
+use Rattle.world.proofs.Turned.{noop_over, puts, noop_done}
 use Rattle.world.proofs.turns.noop.Goals as goal
 
 pub returns-in-Some : goal.returns-in-Some
 returns-in-Some g c = λ r w b. noop_over g.E.Engine.entries g.E.Engine.answer g.G.Gate.accepts c.args.conn c.args.link.now c.args.server.now r w b c.in-Some.field-0 c.in-Some.is
 
 pub returns-in_default-noop : goal.returns-in_default-noop
-returns-in_default-noop g c = λ r w b. noop_lacks g.E.Engine.entries g.E.Engine.answer g.G.Gate.accepts c.args.conn c.args.link.now c.args.server.now r w b c.noop.new.self
+returns-in_default-noop g c = λ r w b. lacks g.E.Engine.entries g.E.Engine.answer g.G.Gate.accepts (PutsNoop c.args.conn) c.args.link.now c.args.server.now r w b refl _ (puts g.E.Engine.entries g.E.Engine.answer g.G.Gate.accepts c.args.conn c.args.link.now c.args.server.now r w b) (λ h. h) refl c.args.link.now c.noop.new.self refl b.ends
     (c.in_default-noop.ensures.refused r.server b.server)
 
 pub returns : goal.returns

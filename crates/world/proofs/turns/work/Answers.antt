@@ -1,8 +1,9 @@
-use Rattle.std.proofs.Common.{ap, ◌∙◌, ◌++◌, map}
+use Rattle.std.proofs.Common.{refl, ap, ◌∙◌, ◌++◌, map}
 use Rattle.world.specs.Reports.{wrote_by}
 use Rattle.world.specs.Views.{link_of, wrote_of}
-use Rattle.world.proofs.Turning.{none_of}
-use Rattle.world.proofs.Turned.{work_over, work_lacks, work_done}
+use Rattle.world.specs.World.{Work}
+use Rattle.world.proofs.Turning.{lacks, none_of}
+use Rattle.world.proofs.Turned.{work_over, works, work_done}
 use Rattle.world.proofs.turns.work.Goals as goal
 
 pub returns-in-Some : goal.returns-in-Some
@@ -10,21 +11,18 @@ returns-in-Some g c = λ r w b. work_over g.E.Engine.entries g.E.Engine.answer g
 
 pub returns-then-is_err : goal.returns-then-is_err
 returns-then-is_err g c =
-    let l = c.args.link.now in
-    λ r w b. work_lacks g.E.Engine.entries g.E.Engine.answer g.G.Gate.accepts c.args.conn l c.args.server.now r w b (record l { wrote = c.reserve.new.self }) c.args.server.now
-    (ap (λ ws. record (link_of l b.client) { wrote = map wrote_of ws }) c.reserve.ensures.items) b.ends b.server
+    λ r w b. lacks g.E.Engine.entries g.E.Engine.answer g.G.Gate.accepts (Work c.args.conn) c.args.link.now c.args.server.now r w b refl _ (works g.E.Engine.entries g.E.Engine.answer g.G.Gate.accepts c.args.conn c.args.link.now c.args.server.now r w b) (λ h. h) refl (record c.args.link.now { wrote = c.reserve.new.self }) c.args.server.now
+    (ap (λ ws. record (link_of c.args.link.now b.client) { wrote = map wrote_of ws }) c.reserve.ensures.items) b.ends b.server
 
 pub returns-in_default-work : goal.returns-in_default-work
 returns-in_default-work g c =
-    let l = c.args.link.now in
-    λ r w b. work_lacks g.E.Engine.entries g.E.Engine.answer g.G.Gate.accepts c.args.conn l c.args.server.now r w b (record l { wrote = c.reserve.new.self }) c.work.new.self
-    (ap (λ ws. record (link_of l b.client) { wrote = map wrote_of ws }) c.reserve.ensures.items) b.ends
+    λ r w b. lacks g.E.Engine.entries g.E.Engine.answer g.G.Gate.accepts (Work c.args.conn) c.args.link.now c.args.server.now r w b refl _ (works g.E.Engine.entries g.E.Engine.answer g.G.Gate.accepts c.args.conn c.args.link.now c.args.server.now r w b) (λ h. h) refl (record c.args.link.now { wrote = c.reserve.new.self }) c.work.new.self
+    (ap (λ ws. record (link_of c.args.link.now b.client) { wrote = map wrote_of ws }) c.reserve.ensures.items) b.ends
     (c.in_default-work.ensures.refused r.server b.server)
 
 pub returns : goal.returns
 returns g c =
-    let l = c.args.link.now in
-    λ r w b. work_done g.E.Engine.entries g.E.Engine.answer g.G.Gate.accepts c.args.conn l c.args.server.now r w b (record l { wrote = c.note_work.new.wrote }) c.work.new.self c.in-Ok.worked
-    (none_of l.gone c.in_default.not-Some) c.in-Ok.ensures.counted
-    (ap (λ ws. record (link_of l b.client) { wrote = ws }) (c.note_work.ensures ∙ ap (λ ws. map wrote_of ws ++ wrote_by c.in-Ok.worked) c.reserve.ensures.items)) b.ends
+    λ r w b. work_done g.E.Engine.entries g.E.Engine.answer g.G.Gate.accepts c.args.conn c.args.link.now c.args.server.now r w b (record c.args.link.now { wrote = c.note_work.new.wrote }) c.work.new.self c.in-Ok.worked
+    (none_of c.args.link.now.gone c.in_default.not-Some) c.in-Ok.ensures.counted
+    (ap (λ ws. record (link_of c.args.link.now b.client) { wrote = ws }) (c.note_work.ensures ∙ ap (λ ws. map wrote_of ws ++ wrote_by c.in-Ok.worked) c.reserve.ensures.items)) b.ends
     (c.in-Ok.ensures.done r.server b.server)

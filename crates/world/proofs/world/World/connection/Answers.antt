@@ -4,8 +4,7 @@ use Rattle.world.specs.Reports.{ordinals}
 use Rattle.world.specs.Views.{wrote_of, read_of}
 use Rattle.world.specs.Turns.{FitsWorld}
 use Rattle.world.proofs.Told.{held, there, stands_as, waits_as}
-use Rattle.world.proofs.Alongside.{along_none}
-use Rattle.world.proofs.Placed.{held_past}
+use Rattle.world.proofs.Turning.{along_none, held_past}
 use Rattle.world.specs.Fits.{FitsLink}
 use Rattle.world.proofs.world.World.connection.Goals as goal
 

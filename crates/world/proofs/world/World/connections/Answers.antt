@@ -1,6 +1,6 @@
 use Rattle.std.proofs.Common.{arith, ◌∙◌}
 use Rattle.world.specs.Turns.{FitsWorld, Holds}
-use Rattle.world.proofs.Alongside.{as_long}
+use Rattle.world.proofs.Turning.{as_long}
 use Rattle.world.specs.Fits.{FitsLink}
 use Rattle.world.proofs.world.World.connections.Goals as goal
 

@@ -1,8 +1,7 @@
 use Rattle.std.proofs.Common.{sym, ◌∙◌, ap, refl, ◌++◌, ◌∷◌, []}
 use Rattle.world.specs.Turns.{FitsWorld, setting_of}
 use Rattle.world.specs.Views.{peer_of}
-use Rattle.world.proofs.Placed.{open_refused, opens_lacks, opens_done}
-use Rattle.world.proofs.Answering.{opens_not}
+use Rattle.world.proofs.Turning.{open_refused, opens_lacks, opens_done, opens_not}
 use Rattle.world.proofs.world.World.open.Goals as goal
 
 pub returns-then-is_full : goal.returns-then-is_full

@@ -1,7 +1,7 @@
 use Rattle.std.proofs.Common.{arith, refl}
 use Rattle.world.specs.Turns.{FitsWorld}
 use Rattle.world.specs.Views.{event_of}
-use Rattle.world.proofs.Placed.{nowhere, placed}
+use Rattle.world.proofs.Turning.{nowhere, placed}
 use Rattle.world.proofs.world.World.turn.Goals as goal
 
 pub returns-then-conn-len : goal.returns-then-conn-len
