@@ -17,8 +17,10 @@ use std::alloc::Global;
 /// How many entries a dictionary may have: each key is compared with each before it.
 const FEW: u64 = 16;
 
-/// Room is made for so many members at once, and for more as they come.
-const AT_ONCE: u64 = 1_024;
+/// Room is made for so many members at once, and for more as they come. It is no power of two: doubled, it leaves the longest
+/// list of a message an eighth of its room, so that the list and a copy of its length are less than twice what a C library
+/// has seen given back, which it keeps.
+const AT_ONCE: u64 = 1_152;
 
 /// How many members to make room for: no more than their count, the bytes that are left, and `AT_ONCE`.
 fn first_room(count: u64, bytes: &[u8]) -> usize
