@@ -1,7 +1,7 @@
 -- The first key that stands before it too.
-use Rattle.std.proofs.Common.{◌≡◌, ◌<◌, ◌≤◌, ◌+◌, ℕ, zero, suc, List, [], ◌∷◌, ◌++◌, length, take, get_or, string_bytes, Bool, true, false, ◌==◌, Result, Ok, Err, refl, sym, ap, subst, ◌∙◌, arith, below_more, eqb-true}
+use Rattle.std.proofs.Common.{◌≡◌, ◌<◌, ◌≤◌, ◌+◌, ℕ, List, [], ◌∷◌, ◌++◌, length, take, get_or, string_bytes, Bool, true, false, ◌==◌, Result, Ok, Err, refl, sym, ap, subst, ◌∙◌, arith, below_more, eqb-true}
 use Rattle.std.proofs.lemmas.Bool.{eqb-false}
-use Rattle.std.proofs.lemmas.List.{map_more}
+use Rattle.std.proofs.lemmas.List.{map_more, get_or-map}
 use Rattle.packstream.specs.declared.fault.Reason.{Reason}
 use Rattle.packstream.specs.declared.fault.Reason.TheVariants as reason
 use Rattle.packstream.specs.Tree.{Tree}
@@ -19,10 +19,8 @@ use Rattle.packstream.proofs.Keys.{knows_more}
 abbrev pub AllNew : List Pair → ℕ → Type 0
 AllNew es i = (k : ℕ) → k < i → stands_before es k ≡ false
 
-pub name_is : (es : List Pair) (i : ℕ) (e : Pair) → i < length es → e ≡ get_or es i e → get_or (names es) i [] ≡ string_bytes e.0
-name_is [] i e h is = absurd (omega arith)
-name_is (x ∷ es) zero e h is = ap (λ (y : Pair). string_bytes y.0) (sym is)
-name_is (x ∷ es) (suc i) e h is = name_is es i e (omega arith) is
+name_is : (es : List Pair) (i : ℕ) (e : Pair) → i < length es → e ≡ get_or es i e → get_or (names es) i [] ≡ string_bytes e.0
+name_is es i e h is = get_or-map (λ (y : Pair). string_bytes y.0) es i e [] h ∙ ap (λ (y : Pair). string_bytes y.0) (sym is)
 
 -- whether a pair's key stands before it
 pub before_is : (es : List Pair) (i : ℕ) (e : Pair) → i < length es → e ≡ get_or es i e → stands_before es i ≡ is_among (string_bytes e.0) (names (take i es))

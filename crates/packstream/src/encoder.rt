@@ -153,7 +153,7 @@ fn put_value(out: &mut Adding, value: &Value) -> Result<(), Unwritten>
 }
 
 #[cycle(encoder)]
-#[tactic(auto, using(crate::proofs::Putting::len_trees, crate::proofs::Putting::count_le, crate::proofs::Putting::parts))]
+#[tactic(auto, using(crate::proofs::Putting::len_trees, crate::proofs::Putting::count_le, crate::proofs::Putting::head_some, crate::proofs::Putting::parts))]
 #[inline(never)]
 fn put_list(out: &mut Adding, members: &[Value]) -> Result<(), Unwritten>
     requires { AreSound (trees_of (trees members.now)) }
@@ -169,7 +169,7 @@ fn put_list(out: &mut Adding, members: &[Value]) -> Result<(), Unwritten>
 }
 
 #[cycle(encoder)]
-#[tactic(auto, using(crate::proofs::Putting::len_entries, crate::proofs::Putting::entry_count_le, crate::proofs::Putting::parts))]
+#[tactic(auto, using(crate::proofs::Putting::len_entries, crate::proofs::Putting::entry_count_le, crate::proofs::Putting::head_some, crate::proofs::Putting::parts))]
 #[inline(never)]
 fn put_dict(out: &mut Adding, pairs: &[(String, Value)]) -> Result<(), Unwritten>
     requires { HaveSoundValues (entries_of (entries pairs.now)) }
@@ -199,6 +199,7 @@ fn put_struct(out: &mut Adding, tag: u8, fields: &[Value]) -> Result<(), Unwritt
 }
 
 #[cycle(encoder)]
+#[tactic(auto, using(crate::proofs::Putting::flat_more, crate::proofs::Putting::flat_room, crate::proofs::Putting::sound_at, crate::proofs::Putting::parts))]
 fn put_members(out: &mut Adding, members: &[Value]) -> Result<(), Unwritten>
     requires { AreSound (trees_of (trees members.now)) }
     ensures before { out.new.before ≡ out.old.before }
@@ -215,6 +216,7 @@ fn put_members(out: &mut Adding, members: &[Value]) -> Result<(), Unwritten>
 }
 
 #[cycle(encoder)]
+#[tactic(auto, using(crate::proofs::Putting::flats_more, crate::proofs::Putting::flats_room, crate::proofs::Putting::values_sound_at, crate::proofs::Putting::parts))]
 fn put_pairs(out: &mut Adding, pairs: &[(String, Value)]) -> Result<(), Unwritten>
     requires { HaveSoundValues (entries_of (entries pairs.now)) }
     ensures before { out.new.before ≡ out.old.before }

@@ -1,6 +1,6 @@
 -- A message in one chunk, at the front of a piece.
-use Rattle.std.proofs.Common.{◌≡◌, ◌↔◌, ℕ, suc, ◌+◌, ◌-◌, ◌*◌, ◌/◌, ◌%◌, ◌<◌, ◌≤◌, List, [], ◌∷◌, ◌++◌, length, Option, Some, None, Ok, false, eqb, ltb, refl, sym, ap, subst, ◌∙◌, append_assoc, append-nil, slice_index_or, Fits, w8, take, drop, arith}
-use Rattle.std.proofs.lemmas.List.{take_at, take_all}
+use Rattle.std.proofs.Common.{◌≡◌, ◌↔◌, ℕ, ◌+◌, ◌-◌, ◌*◌, ◌/◌, ◌%◌, ◌<◌, ◌≤◌, List, [], ◌∷◌, ◌++◌, length, Option, Some, None, Ok, false, eqb, ltb, refl, sym, ap, subst, ◌∙◌, append_assoc, append-nil, length-append, slice_index_or, Fits, w8, take, drop, arith}
+use Rattle.std.proofs.lemmas.List.{take_at, drop_at, take_all}
 use Rattle.std.proofs.lemmas.Bool.Decides.{nat_tests}
 use Rattle.wire.specs.declared.items.Piece.TheVariants.{Message}
 use Rattle.wire.specs.Place.{Place, start}
@@ -8,19 +8,13 @@ use Rattle.wire.specs.Unfinished.{fresh}
 use Rattle.wire.specs.Items.{open_at, item_of, Answered, answer_from, further}
 use Rattle.wire.specs.Texts.{chunk_of, run_of, BeginsWith}
 use Rattle.wire.specs.Stream.{TakesFirst}
-use Rattle.wire.proofs.Cuts.{further-zero, further-further}
+use Rattle.wire.proofs.Cuts.{answer_from-grown, further-further}
 use Rattle.wire.proofs.Grammar.{header-number, item_of-some}
 
-content : (c body : List ℕ) (lacks : ℕ) (more : List ℕ) → lacks ≡ length c → answer_from (open_at body None lacks) (c ++ more) ≡ further (length c) (answer_from (open_at (body ++ c) None 0) more)
-content [] body lacks more e = rw (e, append-nil) (sym (further-zero _))
-content (x ∷ c) body lacks more e =
-    let some : eqb lacks 0 ≡ false = grind (arith, nat_tests) in
-    let one : 1 + length c ≡ suc (length c) = omega arith in
-    rw some
-    (ap (further 1) (content c (body ++ x ∷ []) (lacks - 1) more (omega arith))
-    ∙ further-further 1 (length c) _
-    ∙ ap (λ k. further k (answer_from (open_at ((body ++ x ∷ []) ++ c) None 0) more)) one
-    ∙ ap (λ b. further (suc (length c)) (answer_from (open_at b None 0) more)) (append_assoc body (x ∷ []) c))
+content : (c body more : List ℕ) → answer_from (open_at body None (length c)) (c ++ more) ≡ further (length c) (answer_from (open_at (body ++ c) None 0) more)
+content c body more =
+    let none : length c - length c ≡ 0 = omega arith in
+    answer_from-grown (length c) body None (length c) (c ++ more) (omega arith) (omega (arith, length-append c more)) ∙ rw (take_at c more (length c) refl, drop_at c more (length c) refl, none) refl
 
 -- a chunk goes on to its end
 chunk_from : (c body more : List ℕ) → 0 < length c → length c < 65536 → length body + length c ≤ 65536 → answer_from (open_at body None 0) (chunk_of c ++ more) ≡ further (length c + 2) (answer_from (open_at (body ++ c) None 0) more)
@@ -30,7 +24,7 @@ chunk_from c body more some fits all =
     let two : 2 + length c ≡ length c + 2 = omega arith in
     rw (header-number (length c) fits, there, small)
     (further-further 1 1 _
-    ∙ ap (further 2) (content c body (length c) more refl)
+    ∙ ap (further 2) (content c body more)
     ∙ further-further 2 (length c) _
     ∙ ap (λ k. further k (answer_from (open_at (body ++ c) None 0) more)) two)
 

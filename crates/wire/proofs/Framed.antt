@@ -1,5 +1,5 @@
 -- The items of the real bytes.
-use Rattle.std.proofs.Common.{◌≡◌, refl, sym, ◌∙◌, ap, ℕ, zero, suc, ◌+◌, ◌-◌, ◌<◌, ◌≤◌, Bool, cond, true, false, leb, Option, Some, None, option_to_list, Result, Ok, Err, List, [], ◌∷◌, ◌++◌, length, take, drop, arith, append_assoc, length-drop}
+use Rattle.std.proofs.Common.{◌≡◌, refl, sym, ◌∙◌, ap, ℕ, zero, suc, ◌+◌, ◌-◌, ◌<◌, ◌≤◌, Bool, cond, true, false, leb, Option, Some, None, option_to_list, Result, Ok, Err, List, [], ◌∷◌, ◌++◌, length, take, drop, arith, append_assoc, length-append, length-drop}
 use Rattle.std.proofs.lemmas.List.{take-append-drop, take-append-le}
 use Rattle.std.proofs.Math.Seq.{take-append-add}
 use Rattle.std.proofs.lemmas.Bool.Decides.{nat_tests}
@@ -10,13 +10,14 @@ use Rattle.wire.specs.Unfinished.{Unfinished, fresh}
 use Rattle.wire.specs.Items.{Step, goes, ends, refused, after_limit, next, item_of, Answered, answer_from, later}
 use Rattle.wire.specs.Items as items
 use Rattle.wire.specs.Stream.{Seen, on_next, items_of, IsTold}
+use Rattle.wire.specs.Whole.{header_bytes}
+use Rattle.std.specs.Prelude.{if◌then◌else◌}
 use Rattle.wire.specs.Texts.{written_run}
 use Rattle.wire.specs.Reader.{Took, state, outputs, one_more, ends_at, takes}
 use Rattle.wire.specs.Framing.{Item, Opening, Noop, Message, TooBig, item_at_end, after_step, item_at, chunks, item_bytes, bytes_in_order, within, CanCome, AllCome, item_in, took_by, arrivals, refusal, AnswersTake, ReadsItems}
-use Rattle.wire.proofs.Limits.{IsOpen, next-open}
+use Rattle.wire.proofs.Limits.{next_case, IsOpen, next-open}
 use Rattle.wire.proofs.Streams.{answer_from-facts}
 use Rattle.wire.proofs.Grammar.{reads_back}
-use Rattle.wire.proofs.Fronts.{weight, IsHeavy, next-heavy}
 use Rattle.wire.proofs.Readers.{outputs-append, state-append}
 
 -- nothing is read of a message that was refused
@@ -31,12 +32,11 @@ outputs-gone body (b ∷ bytes) = outputs-gone body bytes
 -- what is kept is the unfinished item
 state-items : (s : Unfinished) (bytes : List ℕ) → state chunks s bytes ≡ (items_of s bytes).rest
 state-items s [] = refl
-state-items s (b ∷ bytes) = go (next s b) (λ t. state-items t bytes)
-  where
-    go : (n : Step) → ((t : Unfinished) → state chunks t bytes ≡ (items_of t bytes).rest) → state chunks (after_step n) bytes ≡ (on_next n (λ t. items_of t bytes)).rest
-    go (goes t) h = h t
-    go (ends body) h = h fresh
-    go (refused body) h = state-gone body bytes
+state-items s (b ∷ bytes) = elim (next s b) as (λ n. state chunks (after_step n) bytes ≡ (on_next n (λ t. items_of t bytes)).rest) [
+  | goes t ↦ state-items t bytes
+  | ends body ↦ state-items fresh bytes
+  | refused body ↦ state-gone body bytes
+]
 
 in-item_of : (body : List ℕ) → item_in (item_of body) ≡ Some (item_at_end body)
 in-item_of [] = refl
@@ -48,14 +48,13 @@ item-open s b e = ap (λ z. cond z None (item_at (next s b))) e
 
 outputs-items : (s : Unfinished) (bytes : List ℕ) → s.too_big ≡ false → outputs chunks s bytes ≡ arrivals (items_of s bytes).items ++ refusal (items_of s bytes).rest
 outputs-items s [] e = sym (ap (λ z. cond z (TooBig ∷ []) []) e)
-outputs-items s (b ∷ bytes) e = ap (λ o. option_to_list o ++ outputs chunks (after_step (next s b)) bytes) (item-open s b e) ∙ go (next s b) (next-open s b) (λ t h. outputs-items t bytes h)
-  where
-    go : (n : Step) → IsOpen n → ((t : Unfinished) → t.too_big ≡ false → outputs chunks t bytes ≡ arrivals (items_of t bytes).items ++ refusal (items_of t bytes).rest)
-        → option_to_list (item_at n) ++ outputs chunks (after_step n) bytes ≡ arrivals (on_next n (λ t. items_of t bytes)).items ++ refusal (on_next n (λ t. items_of t bytes)).rest
-    go (goes t) o h = h t o
-    go (ends body) o h = ap (λ l. item_at_end body ∷ l) (h fresh refl) ∙ ap (λ i. option_to_list i ++ (arrivals (items_of fresh bytes).items ++ refusal (items_of fresh bytes).rest)) (sym (in-item_of body))
-        ∙ sym (append_assoc (option_to_list (item_in (item_of body))) (arrivals (items_of fresh bytes).items) (refusal (items_of fresh bytes).rest))
-    go (refused body) o h = ap (λ l. TooBig ∷ l) (outputs-gone body bytes)
+outputs-items s (b ∷ bytes) e = ap (λ o. option_to_list o ++ outputs chunks (after_step (next s b)) bytes) (item-open s b e)
+    ∙ (elim (next s b) as (λ n. IsOpen n → option_to_list (item_at n) ++ outputs chunks (after_step n) bytes ≡ arrivals (on_next n (λ t. items_of t bytes)).items ++ refusal (on_next n (λ t. items_of t bytes)).rest) [
+      | goes t ↦ λ o. outputs-items t bytes o
+      | ends body ↦ λ o. ap (λ l. item_at_end body ∷ l) (outputs-items fresh bytes refl) ∙ ap (λ i. option_to_list i ++ (arrivals (items_of fresh bytes).items ++ refusal (items_of fresh bytes).rest)) (sym (in-item_of body))
+          ∙ sym (append_assoc (option_to_list (item_in (item_of body))) (arrivals (items_of fresh bytes).items) (refusal (items_of fresh bytes).rest))
+      | refused body ↦ λ o. ap (λ l. TooBig ∷ l) (outputs-gone body bytes)
+    ]) (next-open s b)
 
 pub reads_items : ReadsItems
 reads_items bytes = (outputs-items fresh bytes refl, state-items fresh bytes)
@@ -68,17 +67,27 @@ took-goes (Err fault.Memory) rest h = absurd h
 
 takes-from : (s : Unfinished) (bytes : List ℕ) → s.too_big ≡ false → takes chunks s bytes ≡ took_by (answer_from s bytes).answer (answer_from s bytes).rest
 takes-from s [] e = refl
-takes-from s (b ∷ bytes) e = ap (λ o. ends_at (after_step (next s b)) o (takes chunks (after_step (next s b)) bytes)) (item-open s b e) ∙ go (next s b) (next-open s b) (λ t h. takes-from t bytes h)
-  where
-    go : (n : Step) → IsOpen n → ((t : Unfinished) → t.too_big ≡ false → takes chunks t bytes ≡ took_by (answer_from t bytes).answer (answer_from t bytes).rest)
-        → ends_at (after_step n) (item_at n) (takes chunks (after_step n) bytes) ≡ took_by (items.after_step n (λ t. answer_from t bytes)).answer (items.after_step n (λ t. answer_from t bytes)).rest
-    go (goes t) o h = ap one_more (h t o) ∙ took-goes (answer_from t bytes).answer (answer_from t bytes).rest (answer_from-facts t bytes).told
-    go (ends body) o h = ap (λ i. let t : Took Unfinished Item = record { used = 1; item = i; rest = fresh } in t) (sym (in-item_of body))
-    go (refused body) o h = refl
+takes-from s (b ∷ bytes) e = ap (λ o. ends_at (after_step (next s b)) o (takes chunks (after_step (next s b)) bytes)) (item-open s b e)
+    ∙ (elim (next s b) as (λ n. IsOpen n → ends_at (after_step n) (item_at n) (takes chunks (after_step n) bytes) ≡ took_by (items.after_step n (λ t. answer_from t bytes)).answer (items.after_step n (λ t. answer_from t bytes)).rest) [
+      | goes t ↦ λ o. ap one_more (takes-from t bytes o) ∙ took-goes (answer_from t bytes).answer (answer_from t bytes).rest (answer_from-facts t bytes).told
+      | ends body ↦ λ o. ap (λ i. let t : Took Unfinished Item = record { used = 1; item = i; rest = fresh } in t) (sym (in-item_of body))
+      | refused body ↦ λ o. refl
+    ]) (next-open s b)
 
 pub answers_take : AnswersTake
 answers_take s bytes e =
     takes-from s bytes e ∙ sym (ap (λ z. let c : Answered = cond z (record { answer = Err (fault.TooBig 0); rest = s }) (answer_from s bytes) in took_by c.answer c.rest) e)
+
+-- how much an unfinished item holds: nothing only before its first byte
+abbrev weight : Unfinished → ℕ
+weight s = length s.body + s.lacks + header_bytes s.header + (if s.too_big then 1 else 0)
+
+abbrev IsHeavy : Step → Type 0
+IsHeavy (goes t) = 0 < weight t
+IsHeavy n = Unit {0}
+
+next-heavy : (s : Unfinished) (byte : ℕ) → IsHeavy (next s byte)
+next-heavy s byte = next_case IsHeavy s byte tt tt (omega arith) (λ some. omega (arith, length-append s.body (byte ∷ []))) (λ n some fits. omega arith)
 
 -- bytes that complete nothing leave something unfinished
 quiet_step : (n : Step) → IsHeavy n → (z : Bool) → (z ≡ true → (body : List ℕ) × (n ≡ refused body)) → cond z None (item_at n) ≡ None → 0 < weight (after_step n)
@@ -100,7 +109,7 @@ quiet_heavy s b (c ∷ cs) e =
     let none : chunks.item s b ≡ None = no_item (chunks.item s b) (outputs chunks (chunks.byte s b) (c ∷ cs)) e in
     quiet_heavy (chunks.byte s b) c cs (ap (λ o. option_to_list o ++ outputs chunks (chunks.byte s b) (c ∷ cs)) (sym none) ∙ e)
 
-only_last : (s : Unfinished) (bytes : List ℕ) → outputs chunks s bytes ≡ [] → state chunks s bytes ≡ fresh → length bytes ≡ 0
+pub only_last : (s : Unfinished) (bytes : List ℕ) → outputs chunks s bytes ≡ [] → state chunks s bytes ≡ fresh → length bytes ≡ 0
 only_last s [] e f = refl
 only_last s (b ∷ bs) e f =
     let heavy : 0 < weight (state chunks s (b ∷ bs)) = quiet_heavy s b bs e in

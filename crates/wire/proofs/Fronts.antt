@@ -1,51 +1,30 @@
 -- The whole messages of bytes are those of the longest front that no-ops and runs cover.
 use Rattle.std.proofs.Common.{◌≡◌, ℕ, ◌+◌, ◌-◌, ◌*◌, ◌<◌, ◌≤◌, List, [], ◌∷◌, ◌++◌, length, take, drop, true, false, eqb, ltb, None, inl, inr, refl, sym, ap, subst, ◌∙◌, append_assoc, append-nil, length-append, length-take, arith}
-use Rattle.std.proofs.lemmas.List.{take-append-drop, append_cancel_left}
+use Rattle.std.proofs.lemmas.List.{nil_from_length, take-append-drop, append_cancel_left}
 use Rattle.std.proofs.Math.Seq.{take-append_seam, take-append-add}
-use Rattle.std.specs.Prelude.{map, if◌then◌else◌}
+use Rattle.std.specs.Prelude.{map}
 use Rattle.std.specs.List.{flat_map}
 use Rattle.std.proofs.lemmas.Bool.{cases_lt}
 use Rattle.std.proofs.lemmas.Bool.Decides.{nat_tests}
 use Rattle.wire.specs.declared.items.Piece.{Piece}
 use Rattle.wire.specs.declared.items.Piece.TheVariants.{Message}
-use Rattle.wire.specs.Unfinished.{Unfinished, fresh}
-use Rattle.wire.specs.Items.{Step, goes, ends, refused, open_at, next, item_of}
+use Rattle.wire.specs.Unfinished.{fresh}
+use Rattle.wire.specs.Items.{open_at, item_of}
 use Rattle.wire.specs.Texts.{chunk_of, run_of, written_run}
 use Rattle.wire.specs.Runs.{AreChunks, body_of, AreRuns, messages_of, Texts, IsWhole}
-use Rattle.wire.specs.Stream.{Seen, before, on_next, items_of, Splits}
-use Rattle.wire.specs.Whole.{messages, whole, header_bytes, ReadsMessages, ReadsWhole, OneWhole, RefusesPast, BeginsNone}
-use Rattle.wire.proofs.Limits.{next_case}
+use Rattle.wire.specs.Stream.{Seen, before, items_of, Splits}
+use Rattle.wire.specs.Whole.{messages, whole, ReadsMessages, ReadsWhole, OneWhole, RefusesPast, BeginsNone}
+use Rattle.wire.specs.Framing.{arrivals, refusal}
 use Rattle.wire.proofs.Streams.{items_of_append}
+use Rattle.wire.proofs.Framed.{only_last, reads_items}
 use Rattle.wire.proofs.Grammar.{reads_texts, reads_back, items_of-chunk}
 use Rattle.wire.proofs.Whole.{splits_into_runs, past_where}
 
--- how much an unfinished item holds: nothing only before its first byte
-abbrev pub weight : Unfinished → ℕ
-weight s = length s.body + s.lacks + header_bytes s.header + (if s.too_big then 1 else 0)
-
-abbrev pub IsHeavy : Step → Type 0
-IsHeavy (goes t) = 0 < weight t
-IsHeavy n = Unit {0}
-
-pub next-heavy : (s : Unfinished) (byte : ℕ) → IsHeavy (next s byte)
-next-heavy s byte = next_case IsHeavy s byte tt tt (omega arith) (λ some. omega (arith, length-append s.body (byte ∷ []))) (λ n some fits. omega arith)
-
--- bytes that end nothing leave something unfinished
-on_next-heavy : (n : Step) (bytes : List ℕ) → IsHeavy n → ((t : Unfinished) → 0 < weight t → (items_of t bytes).items ≡ [] → 0 < weight (items_of t bytes).rest) → (on_next n (λ t. items_of t bytes)).items ≡ [] → 0 < weight (on_next n (λ t. items_of t bytes)).rest
-on_next-heavy (goes t) bytes h more none = more t h none
-on_next-heavy (ends body) bytes h more none = cc
-on_next-heavy (refused body) bytes h more none = omega arith
-
-stays_heavy : (s : Unfinished) (bytes : List ℕ) → 0 < weight s → (items_of s bytes).items ≡ [] → 0 < weight (items_of s bytes).rest
-stays_heavy s [] h none = h
-stays_heavy s (b ∷ bytes) h none = on_next-heavy (next s b) bytes (next-heavy s b) (λ t. stays_heavy t bytes) none
-
+-- bytes that end nothing and leave nothing unfinished are none
 only_nothing : (bytes : List ℕ) → (items_of fresh bytes).items ≡ [] → (items_of fresh bytes).rest ≡ fresh → bytes ≡ []
-only_nothing [] none rest = refl
-only_nothing (b ∷ bytes) none rest =
-    let heavy : 0 < weight (items_of fresh (b ∷ bytes)).rest = on_next-heavy (next fresh b) bytes (next-heavy fresh b) (λ t. stays_heavy t bytes) none in
-    let light : weight (items_of fresh (b ∷ bytes)).rest ≡ weight fresh = ap weight rest in
-    absurd (omega arith)
+only_nothing bytes none rest =
+    let read = reads_items bytes in
+    nil_from_length bytes (only_last fresh bytes (read.0 ∙ ap (λ i. arrivals i ++ refusal (items_of fresh bytes).rest) none ∙ ap refusal rest) (read.1 ∙ rest))
 
 -- the items of runs are their messages and no-ops
 messages-runs : (runs : List (List (List ℕ))) → AreRuns runs → messages (map (λ run. item_of (body_of run)) runs) ≡ messages_of runs

@@ -1,9 +1,9 @@
 -- Streams that begin with a fixed number of bytes, and the items of their fronts.
-use Rattle.std.proofs.Common.{◌≡◌, refl, sym, ◌∙◌, ap, subst, ℕ, ◌+◌, ◌-◌, ◌<◌, ◌≤◌, cond, true, false, eqb, leb, option_to_list, List, [], ◌∷◌, ◌++◌, length, take, arith, append_assoc, append-nil, length-append, length-take}
+use Rattle.std.proofs.Common.{◌≡◌, refl, sym, ◌∙◌, ap, ℕ, ◌+◌, ◌-◌, ◌<◌, ◌≤◌, Bool, cond, true, false, eqb, leb, inl, inr, option_to_list, List, [], ◌∷◌, ◌++◌, length, take, arith, append_assoc, append-nil, length-append, length-take}
 use Rattle.std.specs.Prelude.{if◌then◌else◌, map, reverse, nat_le}
-use Rattle.std.proofs.lemmas.List.{take-append-le, take_all, reverse-append, reverse-reverse}
+use Rattle.std.proofs.lemmas.List.{take-append-le, reverse-append, reverse-reverse}
 use Rattle.std.proofs.Math.Seq.{take-append-add}
-use Rattle.std.proofs.lemmas.Bool.{cond_both}
+use Rattle.std.proofs.lemmas.Bool.{cases_lt, le-leb, lt-leb, cond_both}
 use Rattle.std.proofs.lemmas.Bool.Decides.{nat_tests}
 use Rattle.wire.specs.declared.offers.Wish.{Wish}
 use Rattle.wire.specs.declared.offers.Wish.TheVariants.{Newest, Only}
@@ -11,9 +11,9 @@ use Rattle.wire.specs.Unfinished.{Unfinished, fresh}
 use Rattle.wire.specs.Offers.{offer_of}
 use Rattle.wire.specs.Texts.{written_run}
 use Rattle.wire.specs.Reader.{state, outputs}
-use Rattle.wire.specs.Framing.{Item, Opening, Noop, Message, TooBig, chunks, Opened, opening, reading, opening_reader, items_received, item_bytes, bytes_in_order, within, bytes_newest_first, within_newest_first, CanCome, AllCome, Spoken, FramesFronts, AreMessages, OursArrives, SaidArrives, ReadersRead}
-use Rattle.wire.proofs.Readers.{outputs-append, state-append, reads_pieces}
-use Rattle.wire.proofs.Framed.{text_read, text_some, fronts_within, front_quiet}
+use Rattle.wire.specs.Framing.{Item, Opening, Noop, Message, TooBig, chunks, Opened, opening, reading, opening_reader, items_received, items_heard, item_bytes, bytes_in_order, within, bytes_newest_first, within_newest_first, CanCome, AllCome, Spoken, FramesFronts, AreMessages, OursArrives, SaidArrives, ReadersRead}
+use Rattle.wire.proofs.Readers.{outputs-append, reads_pieces}
+use Rattle.wire.proofs.Framed.{fronts_within}
 
 pub readers_read : ReadersRead
 readers_read = (reads_pieces Unfinished Item chunks, λ k. reads_pieces Opened Item (opening_reader k))
@@ -59,10 +59,6 @@ reading_outputs : (k : ℕ) (s : Unfinished) (xs : List ℕ) → outputs (openin
 reading_outputs k s [] = refl
 reading_outputs k s (b ∷ xs) = ap (λ l. option_to_list (chunks.item s b) ++ l) (reading_outputs k (chunks.byte s b) xs)
 
-reading_state : (k : ℕ) (s : Unfinished) (xs : List ℕ) → state (opening_reader k) (reading s) xs ≡ reading (state chunks s xs)
-reading_state k s [] = refl
-reading_state k s (b ∷ xs) = reading_state k (chunks.byte s b) xs
-
 -- what opens a stream, and bytes after it
 pub past_opening : (k : ℕ) (start more : List ℕ) → 0 < k → length start ≡ k → outputs (opening_reader k) (opening []) (start ++ more) ≡ Opening start ∷ outputs chunks fresh more
 past_opening k start more some len =
@@ -106,92 +102,73 @@ offered_length (Only v) = refl
 pub ours_arrives : OursArrives
 ours_arrives wish ms n h = ours_after (offer_of wish) ms n (offered_length wish) h
 
--- what a server says, the newest first
-abbrev Read : ℕ → List Item → Type 0
-Read k xs = (outputs (opening_reader k) (opening []) (bytes_newest_first item_bytes xs) ≡ reverse xs) × (state (opening_reader k) (opening []) (bytes_newest_first item_bytes xs) ≡ reading fresh)
+-- ---- the newest first
 
-read_more : (k : ℕ) (x : Item) (xs : List Item) → CanCome x → Read k xs → Read k (x ∷ xs)
-read_more k x xs come h =
-    let T : List ℕ = bytes_newest_first item_bytes xs in
-    let read = text_read x come in (
-      outputs-append Opened Item (opening_reader k) (opening []) (bytes_newest_first item_bytes xs) (item_bytes x)
-          ∙ ap (λ l. l ++ outputs (opening_reader k) (state (opening_reader k) (opening []) (bytes_newest_first item_bytes xs)) (item_bytes x)) h.0
-          ∙ ap (λ s. reverse xs ++ outputs (opening_reader k) s (item_bytes x)) h.1
-          ∙ ap (λ l. reverse xs ++ l) (reading_outputs k fresh (item_bytes x) ∙ read.0)
-          ∙ sym (reverse-append (x ∷ []) xs),
-      state-append Opened Item (opening_reader k) (opening []) (bytes_newest_first item_bytes xs) (item_bytes x)
-          ∙ ap (λ s. state (opening_reader k) s (item_bytes x)) h.1
-          ∙ reading_state k fresh (item_bytes x) ∙ ap reading read.1,
-    )
+cond_under : {A B : Type 0} (f : A → B) (b : Bool) (x y : A) (u v : B) → f x ≡ u → f y ≡ v → f (cond b x y) ≡ cond b u v
+cond_under f true x y u v e g = e
+cond_under f false x y u v e g = g
 
-read_all : (k : ℕ) (xs : List Item) → 0 < k → Spoken k xs → Read k xs
-read_all k [] some h = absurd h
-read_all k (Opening o ∷ xs) some h =
-    let read = opening_read k [] o (omega (arith, h.0)) (omega (arith, h.0)) in
-    rw h.1 read
-read_all k (Noop ∷ xs) some h = read_more k Noop xs tt (read_all k xs some h)
-read_all k (Message m ∷ xs) some h = read_more k (Message m) xs h.0 (read_all k xs some h.1)
-read_all k (TooBig ∷ xs) some h = absurd h
+bytes_in_order-push : (xs : List Item) (x : Item) → bytes_in_order item_bytes (xs ++ x ∷ []) ≡ bytes_in_order item_bytes xs ++ item_bytes x
+bytes_in_order-push [] x = append-nil (item_bytes x)
+bytes_in_order-push (y ∷ xs) x = ap (λ t. item_bytes y ++ t) (bytes_in_order-push xs x) ∙ sym (append_assoc (item_bytes y) (bytes_in_order item_bytes xs) (item_bytes x))
 
--- where all of it lies in the front
-said_whole : (k n : ℕ) (xs : List Item) → Spoken k xs → length (bytes_newest_first item_bytes xs) ≤ n → within_newest_first item_bytes n xs ≡ xs
-said_whole k n [] h l = refl
-said_whole k n (x ∷ xs) h l = let e : leb (length (bytes_newest_first item_bytes (x ∷ xs))) n ≡ true = grind (arith, nat_tests) in rw e refl
+newest_first-reverse : (xs : List Item) → bytes_newest_first item_bytes xs ≡ bytes_in_order item_bytes (reverse xs)
+newest_first-reverse [] = refl
+newest_first-reverse (x ∷ xs) = ap (λ t. t ++ item_bytes x) (newest_first-reverse xs) ∙ sym (bytes_in_order-push (reverse xs) x) ∙ ap (bytes_in_order item_bytes) (sym (reverse-append (x ∷ []) xs))
 
--- a part of a run adds nothing
-part_quiet : (k : ℕ) (x : Item) (xs : List Item) (j : ℕ) → Read k xs → outputs chunks fresh (take j (item_bytes x)) ≡ [] → outputs (opening_reader k) (opening []) (bytes_newest_first item_bytes xs ++ take j (item_bytes x)) ≡ reverse xs
-part_quiet k x xs j h none =
-    outputs-append Opened Item (opening_reader k) (opening []) (bytes_newest_first item_bytes xs) (take j (item_bytes x))
-    ∙ ap (λ l. l ++ outputs (opening_reader k) (state (opening_reader k) (opening []) (bytes_newest_first item_bytes xs)) (take j (item_bytes x))) h.0
-    ∙ ap (λ s. reverse xs ++ outputs (opening_reader k) s (take j (item_bytes x))) h.1
-    ∙ ap (λ l. reverse xs ++ l) (reading_outputs k fresh (take j (item_bytes x)) ∙ none)
-    ∙ append-nil (reverse xs)
+-- one item more at the end comes where all of it lies in the front
+within-push : (n : ℕ) (xs : List Item) (x : Item) → within item_bytes n (xs ++ x ∷ []) ≡ cond (leb (length (bytes_in_order item_bytes xs ++ item_bytes x)) n) (xs ++ x ∷ []) (within item_bytes n xs)
+within-push n [] x = refl
+within-push n (y ∷ xs) x =
+    let whole = length-append (item_bytes y ++ bytes_in_order item_bytes xs) (item_bytes x) in
+    let front = length-append (item_bytes y) (bytes_in_order item_bytes xs) in
+    let later = length-append (bytes_in_order item_bytes xs) (item_bytes x) in
+    elim (cases_lt n (length (item_bytes y))) [
+      | inl short ↦
+          let a : leb (length (item_bytes y)) n ≡ false = lt-leb _ _ short in
+          let b : leb (length ((item_bytes y ++ bytes_in_order item_bytes xs) ++ item_bytes x)) n ≡ false = lt-leb _ _ (omega arith) in
+          rw (a, b) refl
+      | inr fits ↦
+          let a : leb (length (item_bytes y)) n ≡ true = le-leb _ _ fits in
+          let b : leb (length ((item_bytes y ++ bytes_in_order item_bytes xs) ++ item_bytes x)) n ≡ leb (length (bytes_in_order item_bytes xs ++ item_bytes x)) (n - length (item_bytes y)) = grind (arith, nat_tests) in
+          rw (a, b, within-push (n - length (item_bytes y)) xs x) (cond_under (λ l. y ∷ l) _ _ _ _ _ refl refl)
+    ]
 
-module _ (k : ℕ) (some : 0 < k) where
-  abbrev hears : List ℕ → List Item
-  hears bytes = reverse (outputs (opening_reader k) (opening []) bytes)
+reverse-within : (n : ℕ) (xs : List Item) → reverse (within item_bytes n (reverse xs)) ≡ within_newest_first item_bytes n xs
+reverse-within n [] = refl
+reverse-within n (x ∷ xs) =
+    ap (λ l. reverse (within item_bytes n l)) (reverse-append (x ∷ []) xs)
+    ∙ ap reverse (within-push n (reverse xs) x)
+    ∙ ap (λ t. reverse (cond (leb (length (t ++ item_bytes x)) n) (reverse xs ++ x ∷ []) (within item_bytes n (reverse xs)))) (sym (newest_first-reverse xs))
+    ∙ cond_under reverse (leb (length (bytes_newest_first item_bytes (x ∷ xs))) n) (reverse xs ++ x ∷ []) (within item_bytes n (reverse xs)) (x ∷ xs) (within_newest_first item_bytes n xs)
+    (ap reverse (sym (reverse-append (x ∷ []) xs)) ∙ reverse-reverse (x ∷ xs)) (reverse-within n xs)
 
-  hears_more : (x : Item) (xs : List Item) (n : ℕ) → CanCome x → Spoken k xs → hears (take n (bytes_newest_first item_bytes xs)) ≡ within_newest_first item_bytes n xs → hears (take n (bytes_newest_first item_bytes (x ∷ xs))) ≡ within_newest_first item_bytes n (x ∷ xs)
-  hears_more x xs n come spoken ih =
-      let T : List ℕ = bytes_newest_first item_bytes xs in
-      let t : List ℕ = item_bytes x in
-      let read = text_read x come in
-      let all = read_all k xs some spoken in
-      let more = text_some x come in
-      let len : length (bytes_newest_first item_bytes xs ++ item_bytes x) ≡ length (bytes_newest_first item_bytes xs) + length (item_bytes x) = length-append (bytes_newest_first item_bytes xs) (item_bytes x) in
-      elim (leb n (length (bytes_newest_first item_bytes xs))) as (λ b. leb n (length (bytes_newest_first item_bytes xs)) ≡ b → hears (take n (bytes_newest_first item_bytes xs ++ item_bytes x)) ≡ cond (leb (length (bytes_newest_first item_bytes xs ++ item_bytes x)) n) (x ∷ xs) (within_newest_first item_bytes n xs)) [
-        | true ↦ λ e.
-            let short : n ≤ length (bytes_newest_first item_bytes xs) = grind (arith, nat_tests, e) in
-            let out : leb (length (bytes_newest_first item_bytes xs ++ item_bytes x)) n ≡ false = grind (arith, nat_tests) in
-            ap hears (take-append-le n (bytes_newest_first item_bytes xs) (item_bytes x) short) ∙ ih ∙ sym (ap (λ b. cond b (x ∷ xs) (within_newest_first item_bytes n xs)) out)
-        | false ↦ λ e.
-            let long : length (bytes_newest_first item_bytes xs) < n = grind (arith, nat_tests, e) in
-            elim (leb (length (bytes_newest_first item_bytes xs ++ item_bytes x)) n) as (λ b. leb (length (bytes_newest_first item_bytes xs ++ item_bytes x)) n ≡ b → hears (take n (bytes_newest_first item_bytes xs ++ item_bytes x)) ≡ cond b (x ∷ xs) (within_newest_first item_bytes n xs)) [
-              | true ↦ λ f.
-                  let fits : length (bytes_newest_first item_bytes xs ++ item_bytes x) ≤ n = grind (arith, nat_tests, f) in
-                  ap hears (take_all n (bytes_newest_first item_bytes xs ++ item_bytes x) fits) ∙ ap reverse (read_more k x xs come all).0 ∙ reverse-reverse (x ∷ xs)
-              | false ↦ λ f.
-                  let cut : n < length (bytes_newest_first item_bytes xs ++ item_bytes x) = grind (arith, nat_tests, f) in
-                  let j : ℕ = n - length (bytes_newest_first item_bytes xs) in
-                  let is : n ≡ length (bytes_newest_first item_bytes xs) + (n - length (bytes_newest_first item_bytes xs)) = omega arith in
-                  ap (λ m. hears (take m (bytes_newest_first item_bytes xs ++ item_bytes x))) is
-                  ∙ ap hears (take-append-add (bytes_newest_first item_bytes xs) (item_bytes x) (n - length (bytes_newest_first item_bytes xs)))
-                  ∙ ap reverse (part_quiet k x xs (n - length (bytes_newest_first item_bytes xs)) all (front_quiet (item_bytes x) x read.0 read.1 (n - length (bytes_newest_first item_bytes xs)) (omega arith)))
-                  ∙ reverse-reverse xs ∙ sym (said_whole k n xs spoken (omega arith))
-            ] refl
-      ] refl
+-- what a server says, in order: what opens the stream, and what may come
+record Begun (k : ℕ) (xs : List Item) : Type 0 where
+  start : List ℕ
+  rest : List Item
+  ordered : reverse xs ≡ Opening start ∷ rest
+  long : length start ≡ k
+  come : AllCome rest
 
-  hears_opening : (o : List ℕ) (n : ℕ) → length o ≡ k → hears (take n o) ≡ (if nat_le (length o) n then Opening o ∷ [] else [])
-  hears_opening o n len =
-      ap (λ t. hears (take n t)) (sym (append-nil o)) ∙ ap reverse (frames_fronts k o [] n some len tt)
-      ∙ ap (λ m. reverse (if nat_le m n then Opening o ∷ [] else [])) (sym len) ∙ cond_both (leb (length o) n) _ _ (λ l. reverse l ≡ l) (λ b. refl) (λ b. refl)
+come-push : (xs : List Item) (x : Item) → AllCome xs → CanCome x → AllCome (xs ++ x ∷ [])
+come-push [] x h come = (come, tt)
+come-push (y ∷ xs) x h come = (h.0, come-push xs x h.1 come)
 
-  hears_front : (xs : List Item) (n : ℕ) → Spoken k xs → hears (take n (bytes_newest_first item_bytes xs)) ≡ within_newest_first item_bytes n xs
-  hears_front [] n h = absurd h
-  hears_front (Opening o ∷ xs) n h = subst (λ (l : List Item). hears (take n (bytes_newest_first item_bytes (Opening o ∷ l))) ≡ within_newest_first item_bytes n (Opening o ∷ l)) (sym h.1) (hears_opening o n h.0)
-  hears_front (Noop ∷ xs) n h = hears_more Noop xs n tt h (hears_front xs n h)
-  hears_front (Message m ∷ xs) n h = hears_more (Message m) xs n h.0 h.1 (hears_front xs n h.1)
-  hears_front (TooBig ∷ xs) n h = absurd h
+begun-push : (k : ℕ) (x : Item) (xs : List Item) → CanCome x → Begun k xs → Begun k (x ∷ xs)
+begun-push k x xs come b = record { start = b.start; rest = b.rest ++ x ∷ []; ordered = reverse-append (x ∷ []) xs ∙ ap (λ l. l ++ x ∷ []) b.ordered; long = b.long; come = come-push b.rest x b.come come }
+
+begun : (k : ℕ) (xs : List Item) → Spoken k xs → Begun k xs
+begun k [] h = absurd h
+begun k (Opening o ∷ xs) h = record { start = o; rest = []; ordered = ap (λ l. reverse (Opening o ∷ l)) h.1; long = h.0; come = tt }
+begun k (Noop ∷ xs) h = begun-push k Noop xs tt (begun k xs h)
+begun k (Message m ∷ xs) h = begun-push k (Message m) xs h.0 (begun k xs h.1)
+begun k (TooBig ∷ xs) h = absurd h
 
 pub said_arrives : SaidArrives
-said_arrives xs n h = hears_front 4 (omega arith) xs n h
+said_arrives xs n h =
+    let b = begun 4 xs h in
+    ap (λ t. reverse (items_heard (take n t))) (newest_first-reverse xs ∙ ap (bytes_in_order item_bytes) b.ordered)
+    ∙ ap reverse (frames_fronts 4 b.start b.rest n (omega arith) b.long b.come)
+    ∙ ap (λ k. reverse (cond (leb k n) (Opening b.start ∷ within item_bytes (n - k) b.rest) [])) (sym b.long)
+    ∙ ap (λ l. reverse (within item_bytes n l)) (sym b.ordered) ∙ reverse-within n xs

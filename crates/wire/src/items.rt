@@ -155,6 +155,7 @@ fn scan_piece(body: &mut BytesMut, chunks: &mut Chunks, piece: &[u8]) -> Result<
 }
 
 /// Takes one part, with its data. Room is made for the data of one chunk that the piece holds, and for nothing else.
+#[tactic(auto, using(crate::proofs::Cuts::took_data, crate::proofs::Room::part_wants))]
 fn take_part(body: &mut BytesMut, chunks: &mut Chunks, piece: &[u8]) -> Result<Cut, AllocError>
     requires some { 0 < length piece.now }
     requires holds { Holds body.old.items chunks.old }

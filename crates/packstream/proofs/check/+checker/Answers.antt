@@ -1,14 +1,14 @@
-use Rattle.std.proofs.Common.{◌≡◌, ◌-◌, take, string_bytes, Bool, ℕ, ◌==◌, refl, ap, sym, subst, ◌∙◌, arith}
+use Rattle.std.proofs.Common.{◌≡◌, ◌-◌, take, string_bytes, Bool, ◌==◌, Ok, Err, refl, ap, sym, subst, ◌∙◌}
 use Rattle.std.proofs.lemmas.Str.{IsUtf8-string_bytes}
 use Rattle.packstream.specs.Good.{is_among}
 use Rattle.packstream.specs.Plain.{IsPlain}
 use Rattle.packstream.specs.Tree.{Tree}
-use Rattle.packstream.specs.View.{tree, trees, trees_of}
-use Rattle.packstream.specs.Making.{faults_in, faults_in_all, first_fault}
-use Rattle.packstream.specs.declared.value.Value.{Value}
-use Rattle.packstream.proofs.Views.{Pair, names, tree-Text}
-use Rattle.packstream.proofs.Putting.{len_trees, plain_take, plains_take, IsPlainPair}
-use Rattle.packstream.proofs.Checking.{members_on, members_err, members_done, pairs_on, pairs_err, pairs_done, struct_deep, struct_wide, struct_inside}
+use Rattle.packstream.specs.View.{tree}
+use Rattle.packstream.specs.Making.{faults_in, first_fault}
+use Rattle.packstream.specs.Twins.{names}
+use Rattle.packstream.proofs.Views.{tree-Text}
+use Rattle.packstream.proofs.Putting.{plain_more, plains_more}
+use Rattle.packstream.proofs.Checking.{members_step, pairs_step, pairs_done}
 use Rattle.packstream.proofs.FirstTwin.{twin_is, still_before}
 use Rattle.packstream.proofs.check.+checker.Goals as goal
 
@@ -16,41 +16,28 @@ pub check-returns-in-Text-clause-plain : goal.check-returns-in-Text-clause-plain
 check-returns-in-Text-clause-plain t c = subst (λ (u : Tree). IsPlain u) (sym (ap tree c.in-Text.is ∙ tree-Text c.in-Text.field-0)) (IsUtf8-string_bytes c.in-Text.field-0)
 
 pub check_members-returns-in-Err-clause-fault : goal.check_members-returns-in-Err-clause-fault
-check_members-returns-in-Err-clause-fault t c = members_err (32 - c.args.room) c.loop-member.at c.loop-member.member-index c.args.members.now c.member-item.result c.in-Err.fault _ c.loop-member-test.true c.member-item.is c.in-Err.ensures.fault c.loop-member.invariant.0
+check_members-returns-in-Err-clause-fault t c = members_step (32 - c.args.room) c.loop-member.at c.loop-member.member-index c.args.members.now c.member-item.result (Err c.in-Err.fault) _ c.loop-member-test.true c.member-item.is c.in-Err.ensures.fault c.loop-member.invariant.0
 
 pub check_members-loop-member-preserved : goal.check_members-loop-member-preserved
 check_members-loop-member-preserved t c = (
-  members_on (32 - c.args.room) c.loop-member.at c.in-Ok.next c.loop-member.member-index c.args.members.now c.member-item.result _ c.loop-member-test.true c.member-item.is c.in-Ok.ensures.fault c.loop-member.invariant.0,
-  plain_take c.args.members.now c.loop-member.member-index c.member-item.result c.loop-member-test.true c.loop-member.invariant.1 (subst (λ (v : Value). IsPlain (tree v)) c.member-item.is c.in-Ok.ensures.plain),
+  members_step (32 - c.args.room) c.loop-member.at c.loop-member.member-index c.args.members.now c.member-item.result (Ok c.in-Ok.next) _ c.loop-member-test.true c.member-item.is c.in-Ok.ensures.fault c.loop-member.invariant.0,
+  plain_more c.args.members.now c.loop-member.member-index c.member-item.result c.loop-member-test.true c.member-item.is c.loop-member.invariant.1 c.in-Ok.ensures.plain,
 )
-
-pub check_members-returns-clause-fault : goal.check_members-returns-clause-fault
-check_members-returns-clause-fault t c = members_done (32 - c.args.room) c.loop-member.at c.loop-member.member-index c.args.members.now _ c.loop-member-test.false c.loop-member.invariant.0
-
-pub check_struct-returns-then-room-eq0-clause-fault : goal.check_struct-returns-then-room-eq0-clause-fault
-check_struct-returns-then-room-eq0-clause-fault t c = sym (struct_deep c.args.room c.args.at c.args.tag (trees_of (trees c.args.fields.now)) c.if-room-eq0.true)
-
-pub check_struct-returns-then-fields-gt15-clause-fault : goal.check_struct-returns-then-fields-gt15-clause-fault
-check_struct-returns-then-fields-gt15-clause-fault t c = sym (struct_wide c.args.room c.args.at c.args.tag (trees_of (trees c.args.fields.now)) c.if-room-eq0.false (omega (arith, len_trees c.args.fields.now)))
-
-pub check_struct-returns-clause-fault : goal.check_struct-returns-clause-fault
-check_struct-returns-clause-fault t c =
-    c.check_members.ensures.fault ∙ ap (λ (n : ℕ). first_fault (faults_in_all (32 - (c.args.room - 1)) (trees_of (trees c.args.fields.now))) n) c.saturating_add.ensures ∙ sym (struct_inside c.args.room c.args.at c.args.tag (trees_of (trees c.args.fields.now)) c.requires c.if-room-eq0.false (omega (arith, len_trees c.args.fields.now)))
 
 pub check_pairs-returns-in-Err-clause-fault : goal.check_pairs-returns-in-Err-clause-fault
 check_pairs-returns-in-Err-clause-fault t c =
     let e = c.index-pairs-i.result in
     let again : (c.loop-i.i == c.first_twin-twin.result) ≡ is_among (string_bytes e.0) (names (take c.loop-i.i c.args.pairs.now)) =
     twin_is c.args.pairs.now c.first_twin-twin.result c.loop-i.i e c.first_twin-twin.ensures c.loop-i.invariant.2 c.loop-i-test.true c.index-pairs-i.is in
-    pairs_err (32 - c.args.room) c.loop-i.at c.loop-i.i c.args.pairs.now e c.in-Err.fault _ c.loop-i-test.true c.index-pairs-i.is (c.in-Err.ensures.fault ∙ ap (λ (b : Bool). first_fault (faults_in (32 - c.args.room) b (tree e.1)) c.loop-i.at) again) c.loop-i.invariant.0
+    pairs_step (32 - c.args.room) c.loop-i.at c.loop-i.i c.args.pairs.now e (Err c.in-Err.fault) _ c.loop-i-test.true c.index-pairs-i.is (c.in-Err.ensures.fault ∙ ap (λ (b : Bool). first_fault (faults_in (32 - c.args.room) b (tree e.1)) c.loop-i.at) again) c.loop-i.invariant.0
 
 pub check_pairs-loop-i-preserved : goal.check_pairs-loop-i-preserved
 check_pairs-loop-i-preserved t c =
     let e = c.index-pairs-i.result in
     let again : (c.loop-i.i == c.first_twin-twin.result) ≡ is_among (string_bytes e.0) (names (take c.loop-i.i c.args.pairs.now)) =
     twin_is c.args.pairs.now c.first_twin-twin.result c.loop-i.i e c.first_twin-twin.ensures c.loop-i.invariant.2 c.loop-i-test.true c.index-pairs-i.is in (
-      pairs_on (32 - c.args.room) c.loop-i.at c.in-Ok.next c.loop-i.i c.args.pairs.now e _ c.loop-i-test.true c.index-pairs-i.is (c.in-Ok.ensures.fault ∙ ap (λ (b : Bool). first_fault (faults_in (32 - c.args.room) b (tree e.1)) c.loop-i.at) again) c.loop-i.invariant.0,
-      plains_take c.args.pairs.now c.loop-i.i e c.loop-i-test.true c.loop-i.invariant.1 (subst (λ (p : Pair). IsPlainPair p) c.index-pairs-i.is (IsUtf8-string_bytes e.0, c.in-Ok.ensures.plain)),
+      pairs_step (32 - c.args.room) c.loop-i.at c.loop-i.i c.args.pairs.now e (Ok c.in-Ok.next) _ c.loop-i-test.true c.index-pairs-i.is (c.in-Ok.ensures.fault ∙ ap (λ (b : Bool). first_fault (faults_in (32 - c.args.room) b (tree e.1)) c.loop-i.at) again) c.loop-i.invariant.0,
+      plains_more c.args.pairs.now c.loop-i.i e c.loop-i-test.true c.index-pairs-i.is c.loop-i.invariant.1 (IsUtf8-string_bytes e.0) c.in-Ok.ensures.plain,
       still_before c.first_twin-twin.result c.loop-i.i (32 - c.args.room) c.loop-i.at c.in-Ok.next (tree e.1) _ refl c.loop-i.invariant.2 c.in-Ok.ensures.fault,
     )
 

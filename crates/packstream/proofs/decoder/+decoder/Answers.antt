@@ -1,25 +1,12 @@
-use Rattle.std.proofs.Common.{◌≡◌, ◌++◌, ◌∷◌, [], ap, sym, ◌∙◌, rules, Ok, List, ℕ}
+use Rattle.std.proofs.Common.{◌≡◌, ◌++◌, ◌∷◌, [], ap, ◌∙◌, List, ℕ}
 use Rattle.std.proofs.lemmas.Result.{err_from_is_err_and}
 use Rattle.std.proofs.lemmas.List.{map_push}
 use Rattle.packstream.specs.View.{tree, trees, entry, entries}
-use Rattle.packstream.specs.Reading.{list_at, dict_at, struct_at, layer, inner, items_at, entries_at, keys}
-use Rattle.packstream.specs.declared.value.Value.{the_lemmas}
-use Rattle.packstream.proofs.Views.{tree-Dict, keys-entries}
-use Rattle.packstream.proofs.Steps.{inner_more, items_on, items_end, items_done, entries_on, entries_end_key, entries_end_value, entries_done}
+use Rattle.packstream.specs.Reading.{layer, inner, items_at, entries_at, keys}
+use Rattle.packstream.proofs.Views.{keys-entries}
+use Rattle.packstream.proofs.Steps.{items_on, items_end, entries_on, entries_end_key, entries_end_value}
 use Rattle.packstream.proofs.Complete.{keys_push}
 use Rattle.packstream.proofs.decoder.+decoder.Goals as goal
-
-pub list_of-returns : goal.list_of-returns
-unfolding list_at
-list_of-returns t c = rw (inner_more c.args.room c.if-room-eq0.false, c.in_ok-count.ensures, c.in_ok-members.ensures) (search (rules, the_lemmas))
-
-pub dict_of-returns : goal.dict_of-returns
-unfolding dict_at
-dict_of-returns t c = rw (inner_more c.args.room c.if-room-eq0.false, c.in_ok-count.ensures, c.in_ok-pairs.ensures) (ap (λ d. Ok (d, c.in_ok-pairs.rest.now)) (sym (tree-Dict c.in_ok-pairs.pairs)))
-
-pub struct_of-returns : goal.struct_of-returns
-unfolding struct_at
-struct_of-returns t c = rw (inner_more c.args.room c.if-room-eq0.false, c.in-Some.ensures.cases.0, c.in_ok-fields.ensures) (search (rules, the_lemmas))
 
 pub members_of-returns-in_err-member : goal.members_of-returns-in_err-member
 members_of-returns-in_err-member t c =
@@ -31,9 +18,6 @@ members_of-loop-preserved t c =
     let n = c.in_ok-member.member in
     let e : trees c.push.new.self.items ≡ trees c.loop.members.items ++ tree n ∷ [] = rw c.in_ok-push.ensures.items (map_push _ c.loop.members.items n) in
     rw e (items_on (layer (inner c.args.room)) c.args.count c.loop.counter (trees c.loop.members.items) c.loop.rest.now c.in_ok-member.after.now (tree n) (items_at (layer (inner c.args.room)) c.args.count [] c.args.bytes.now) c.loop-test.true c.in_ok-member.ensures c.loop.invariant)
-
-pub members_of-returns : goal.members_of-returns
-members_of-returns t c = items_done (layer (inner c.args.room)) c.args.count c.loop.counter (trees c.loop.members.items) c.loop.rest.now (items_at (layer (inner c.args.room)) c.args.count [] c.args.bytes.now) c.loop-test.false c.loop.invariant
 
 pub pairs_of-returns-in_err-key : goal.pairs_of-returns-in_err-key
 pairs_of-returns-in_err-key t c =
@@ -53,9 +37,6 @@ pairs_of-loop-preserved t c =
     let h = rw (c.deref.ensures.value, ← keys-entries c.loop.pairs.items) at c.in_ok-key.ensures in
     let e : entries c.push.new.self.items ≡ entries c.loop.pairs.items ++ (c.in_ok-key.key.now, tree n) ∷ [] = rw c.in_ok-push.ensures.items (map_push entry c.loop.pairs.items (c.in_ok-name.name, n) ∙ ap (λ (k : List ℕ). entries c.loop.pairs.items ++ (k, tree n) ∷ []) c.in_ok-name.ensures.ok) in
     rw e (entries_on (layer (inner c.args.room)) c.args.count c.loop.counter (entries c.loop.pairs.items) c.loop.rest.now c.in_ok-key.after.now c.in_ok-value.after.now c.in_ok-key.key.now (tree n) (entries_at (layer (inner c.args.room)) c.args.count [] c.args.bytes.now) c.loop-test.true h c.in_ok-value.ensures c.loop.invariant)
-
-pub pairs_of-returns : goal.pairs_of-returns
-pairs_of-returns t c = entries_done (layer (inner c.args.room)) c.args.count c.loop.counter (entries c.loop.pairs.items) c.loop.rest.now (entries_at (layer (inner c.args.room)) c.args.count [] c.args.bytes.now) c.loop-test.false c.loop.invariant
 
 pub many_pairs_of-returns-in_err-key : goal.many_pairs_of-returns-in_err-key
 many_pairs_of-returns-in_err-key t c =
@@ -79,6 +60,3 @@ many_pairs_of-loop-preserved t c =
       rw e (entries_on (layer (inner c.args.room)) c.args.count c.loop.counter (entries c.loop.pairs.items) c.loop.rest.now c.in_ok-key.after.now c.in_ok-value.after.now k (tree n) (entries_at (layer (inner c.args.room)) c.args.count [] c.args.bytes.now) c.loop-test.true h c.in_ok-value.ensures c.loop.invariant.0),
       rw (e, keys_push (entries c.loop.pairs.items) k (tree n)) g,
     )
-
-pub many_pairs_of-returns : goal.many_pairs_of-returns
-many_pairs_of-returns t c = entries_done (layer (inner c.args.room)) c.args.count c.loop.counter (entries c.loop.pairs.items) c.loop.rest.now (entries_at (layer (inner c.args.room)) c.args.count [] c.args.bytes.now) c.loop-test.false c.loop.invariant.0
