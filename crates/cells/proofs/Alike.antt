@@ -85,9 +85,6 @@ path_alike a b =
     ap₂ same_tree (path-out a) (path-out b)
     ∙ ap (λ e. SameMembers node_shape (out-Path a).nodes.items (out-Path b).nodes.items && (SameMembers unbound_shape (out-Path a).relationships.items (out-Path b).relationships.items && e)) (and-true (SameMembers int (out-Path a).indices.items (out-Path b).indices.items) ∙ numbers_same (out-Path a).indices.items (out-Path b).indices.items)
 
-pub third_left : (n u r : Bool) → n ≡ true → u ≡ true → (n && (u && r)) ≡ r
-third_left n u r x y = ap (λ b. b && (u && r)) x ∙ ap (λ b. b && r) y
-
 -- the tag of a structure
 abbrev pub tag_in : Tree → Option ℕ
 tag_in (structure tag ts) = Some tag

@@ -14,7 +14,7 @@ use Rattle.cells.specs.declared.fault.Reason.{Reason}
 use Rattle.cells.specs.Table.{kinds}
 use Rattle.cells.specs.Faults.{FaultOf, scan, fault_or_rest, next, structures, structures_in, structures_under, is_int, each, is_between, in_range, are_in_range}
 use Rattle.cells.specs.Shape.{text_of, texts_of, numbers_of, element_of, elements_of, entries, path_of}
-use Rattle.cells.specs.Writing.{fault_of_structure, fault_of_structure_by}
+use Rattle.cells.specs.Writing.{fault_of_structure, fault_of_structure_by, tag_at}
 use Rattle.cells.specs.Steps.{range_fault, range_fault_by, numbers_in_range, walk_fault, all_fine}
 use Rattle.cells.proofs.Both.{and_left, and_right, both_true}
 use Rattle.cells.proofs.Views.{Pair, node_parts, unbound_parts, relationship_parts}
@@ -67,7 +67,7 @@ typed_err : (j : FaultOf) (k : ℕ) (b : Reason × ℕ) (f : Option Reason) (tag
 typed_err j k b None tag ts h e = absurd cc
 typed_err j k b (Some r) tag ts h e = rw (sym e) h
 
-texts_plain : (ss : List (String Global)) → structures_in (trees_of (map text_of ss)) ≡ []
+pub texts_plain : (ss : List (String Global)) → structures_in (trees_of (map text_of ss)) ≡ []
 texts_plain [] = refl
 texts_plain (s ∷ ss) = texts_plain ss
 
@@ -75,41 +75,31 @@ numbers_plain : (zs : List ℤ) → structures_in (trees_of (map int zs)) ≡ []
 numbers_plain [] = refl
 numbers_plain (z ∷ zs) = numbers_plain zs
 
-node_inner : (id : ℤ) (labels : List (String Global)) (ps : List Pair) (e : Option (String Global)) → structures_in (tree_then (int id) (tree_then (texts_of labels) (tree_then (dict (entries_of (entries ps))) (element_of e)))) ≡ structures_under (entries_of (entries ps))
-node_inner id labels ps None = rw (texts_plain labels) (append-nil _)
-node_inner id labels ps (Some s) = rw (texts_plain labels) (append-nil _)
+-- the fields of a node, or of a relationship without ends
+abbrev pub fields : ℤ → Tree → List Pair → Option (String Global) → Trees
+fields id x ps e = tree_then (int id) (tree_then x (tree_then (dict (entries_of (entries ps))) (element_of e)))
 
-unbound_inner : (id : ℤ) (kind : String Global) (ps : List Pair) (e : Option (String Global)) → structures_in (tree_then (int id) (tree_then (text_of kind) (tree_then (dict (entries_of (entries ps))) (element_of e)))) ≡ structures_under (entries_of (entries ps))
-unbound_inner id kind ps None = append-nil _
-unbound_inner id kind ps (Some s) = append-nil _
+inner_of : (id : ℤ) (x : Tree) (ps : List Pair) (e : Option (String Global)) → structures x ≡ [] → structures_in (fields id x ps e) ≡ structures_under (entries_of (entries ps))
+inner_of id x ps None plain = rw plain (append-nil _)
+inner_of id x ps (Some s) plain = rw plain (append-nil _)
 
 relationship_inner : (id s d : ℤ) (kind : String Global) (ps : List Pair) (e : Option ElementIds)
     → structures_in (tree_then (int id) (tree_then (int s) (tree_then (int d) (tree_then (text_of kind) (tree_then (dict (entries_of (entries ps))) (elements_of e)))))) ≡ structures_under (entries_of (entries ps))
 relationship_inner id s d kind ps None = append-nil _
 relationship_inner id s d kind ps (Some x) = append-nil _
 
-node_judged : (v : Version) (n : ℕ) (id : ℤ) (labels : List (String Global)) (ps : List Pair) (e : Option (String Global)) → n ≡ 3 + count (element_of e)
-    → range_fault v 0x4E n (id ∷ []) ≡ fault_of_structure v 0x4E (tree_then (int id) (tree_then (texts_of labels) (tree_then (dict (entries_of (entries ps))) (element_of e))))
-node_judged v n id labels ps None h = ap (λ m. range_fault v 0x4E m (id ∷ [])) h ∙ judged_is (kinds v 0x4E) 0x4E (id ∷ []) (tree_then (texts_of labels) (tree_then (dict (entries_of (entries ps))) (element_of None))) refl refl
-node_judged v n id labels ps (Some sx) h = ap (λ m. range_fault v 0x4E m (id ∷ [])) h ∙ judged_is (kinds v 0x4E) 0x4E (id ∷ []) (tree_then (texts_of labels) (tree_then (dict (entries_of (entries ps))) (element_of (Some sx)))) refl refl
-
-unbound_judged : (v : Version) (n : ℕ) (id : ℤ) (kind : String Global) (ps : List Pair) (e : Option (String Global)) → n ≡ 3 + count (element_of e)
-    → range_fault v 0x72 n (id ∷ []) ≡ fault_of_structure v 0x72 (tree_then (int id) (tree_then (text_of kind) (tree_then (dict (entries_of (entries ps))) (element_of e))))
-unbound_judged v n id kind ps None h = ap (λ m. range_fault v 0x72 m (id ∷ [])) h ∙ judged_is (kinds v 0x72) 0x72 (id ∷ []) (tree_then (text_of kind) (tree_then (dict (entries_of (entries ps))) (element_of None))) refl refl
-unbound_judged v n id kind ps (Some sx) h = ap (λ m. range_fault v 0x72 m (id ∷ [])) h ∙ judged_is (kinds v 0x72) 0x72 (id ∷ []) (tree_then (text_of kind) (tree_then (dict (entries_of (entries ps))) (element_of (Some sx)))) refl refl
+fields_judged : (v : Version) (tag n : ℕ) (id : ℤ) (x : Tree) (ps : List Pair) (e : Option (String Global)) → (tag == 0x50) ≡ false → is_no_int x ≡ true → n ≡ 3 + count (element_of e) → range_fault v tag n (id ∷ []) ≡ fault_of_structure v tag (fields id x ps e)
+fields_judged v tag n id x ps None other plain h = ap (λ m. range_fault v tag m (id ∷ [])) h ∙ judged_is (kinds v (tag_at v tag)) tag (id ∷ []) (tree_then x (tree_then (dict (entries_of (entries ps))) (element_of None))) other (both_true _ _ plain refl)
+fields_judged v tag n id x ps (Some s) other plain h = ap (λ m. range_fault v tag m (id ∷ [])) h ∙ judged_is (kinds v (tag_at v tag)) tag (id ∷ []) (tree_then x (tree_then (dict (entries_of (entries ps))) (element_of (Some s)))) other (both_true _ _ plain refl)
 
 relationship_judged : (v : Version) (n : ℕ) (id s d : ℤ) (kind : String Global) (ps : List Pair) (e : Option ElementIds) → n ≡ 5 + count (elements_of e)
     → range_fault v 0x52 n (id ∷ s ∷ d ∷ []) ≡ fault_of_structure v 0x52 (tree_then (int id) (tree_then (int s) (tree_then (int d) (tree_then (text_of kind) (tree_then (dict (entries_of (entries ps))) (elements_of e))))))
 relationship_judged v n id s d kind ps None h = ap (λ m. range_fault v 0x52 m (id ∷ s ∷ d ∷ [])) h ∙ judged_is (kinds v 0x52) 0x52 (id ∷ s ∷ d ∷ []) (tree_then (text_of kind) (tree_then (dict (entries_of (entries ps))) (elements_of None))) refl refl
 relationship_judged v n id s d kind ps (Some xx) h = ap (λ m. range_fault v 0x52 m (id ∷ s ∷ d ∷ [])) h ∙ judged_is (kinds v 0x52) 0x52 (id ∷ s ∷ d ∷ []) (tree_then (text_of kind) (tree_then (dict (entries_of (entries ps))) (elements_of (Some xx)))) refl refl
 
-pub node_ok : (v : Version) (k m n : ℕ) (id : ℤ) (labels : List (String Global)) (ps : List Pair) (e : Option (String Global)) → n ≡ 3 + count (element_of e) → Ok m ≡ fault_or_rest (range_fault v 0x4E n (id ∷ [])) k (Ok (next k))
-    → scan (fault_of_structure v) m (structures_under (entries_of (entries ps))) ≡ scan (fault_of_structure v) k (structures (node_parts id labels ps e))
-node_ok v k m n id labels ps e h o = typed_ok (fault_of_structure v) k m _ 0x4E (tree_then (int id) (tree_then (texts_of labels) (tree_then (dict (entries_of (entries ps))) (element_of e)))) _ o (node_judged v n id labels ps e h) (node_inner id labels ps e)
-
-pub unbound_ok : (v : Version) (k m n : ℕ) (id : ℤ) (kind : String Global) (ps : List Pair) (e : Option (String Global)) → n ≡ 3 + count (element_of e) → Ok m ≡ fault_or_rest (range_fault v 0x72 n (id ∷ [])) k (Ok (next k))
-    → scan (fault_of_structure v) m (structures_under (entries_of (entries ps))) ≡ scan (fault_of_structure v) k (structures (unbound_parts id kind ps e))
-unbound_ok v k m n id kind ps e h o = typed_ok (fault_of_structure v) k m _ 0x72 (tree_then (int id) (tree_then (text_of kind) (tree_then (dict (entries_of (entries ps))) (element_of e)))) _ o (unbound_judged v n id kind ps e h) (unbound_inner id kind ps e)
+pub fields_ok : (v : Version) (k m tag n : ℕ) (id : ℤ) (x : Tree) (ps : List Pair) (e : Option (String Global)) → (tag == 0x50) ≡ false → is_no_int x ≡ true → structures x ≡ [] → n ≡ 3 + count (element_of e) → Ok m ≡ fault_or_rest (range_fault v tag n (id ∷ [])) k (Ok (next k))
+    → scan (fault_of_structure v) m (structures_under (entries_of (entries ps))) ≡ scan (fault_of_structure v) k (structures (structure tag (fields id x ps e)))
+fields_ok v k m tag n id x ps e other plain none h o = typed_ok (fault_of_structure v) k m (range_fault v tag n (id ∷ [])) tag (fields id x ps e) _ o (fields_judged v tag n id x ps e other plain h) (inner_of id x ps e none)
 
 pub relationship_ok : (v : Version) (k m n : ℕ) (id s d : ℤ) (kind : String Global) (ps : List Pair) (e : Option ElementIds) → n ≡ 5 + count (elements_of e) → Ok m ≡ fault_or_rest (range_fault v 0x52 n (id ∷ s ∷ d ∷ [])) k (Ok (next k))
     → scan (fault_of_structure v) m (structures_under (entries_of (entries ps))) ≡ scan (fault_of_structure v) k (structures (relationship_parts id s d kind ps e))
@@ -135,10 +125,10 @@ path_err v k n l b ns rs is en el o = typed_err (fault_of_structure v) k b _ 0x5
 
 -- what is inside a typed cell without a fault has none
 pub node_fine : (j : FaultOf) (id : ℤ) (labels : List (String Global)) (ps : List Pair) (e : Option (String Global)) → all_fine j (structures (node_parts id labels ps e)) ≡ true → all_fine j (structures_under (entries_of (entries ps))) ≡ true
-node_fine j id labels ps e h = sym (ap (all_fine j) (node_inner id labels ps e)) ∙ fine_within j 0x4E (tree_then (int id) (tree_then (texts_of labels) (tree_then (dict (entries_of (entries ps))) (element_of e)))) h
+node_fine j id labels ps e h = sym (ap (all_fine j) (inner_of id (texts_of labels) ps e (texts_plain labels))) ∙ fine_within j 0x4E (fields id (texts_of labels) ps e) h
 
 pub unbound_fine : (j : FaultOf) (id : ℤ) (kind : String Global) (ps : List Pair) (e : Option (String Global)) → all_fine j (structures (unbound_parts id kind ps e)) ≡ true → all_fine j (structures_under (entries_of (entries ps))) ≡ true
-unbound_fine j id kind ps e h = sym (ap (all_fine j) (unbound_inner id kind ps e)) ∙ fine_within j 0x72 (tree_then (int id) (tree_then (text_of kind) (tree_then (dict (entries_of (entries ps))) (element_of e)))) h
+unbound_fine j id kind ps e h = sym (ap (all_fine j) (inner_of id (text_of kind) ps e refl)) ∙ fine_within j 0x72 (fields id (text_of kind) ps e) h
 
 pub relationship_fine : (j : FaultOf) (id s d : ℤ) (kind : String Global) (ps : List Pair) (e : Option ElementIds) → all_fine j (structures (relationship_parts id s d kind ps e)) ≡ true → all_fine j (structures_under (entries_of (entries ps))) ≡ true
 relationship_fine j id s d kind ps e h =

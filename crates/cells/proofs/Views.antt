@@ -19,6 +19,9 @@ Pair = String Global × Cell
 pub shape-Dict : (v : Vec Pair Global) → shape (DictCase v) ≡ dict (entries_of (entries v.items))
 shape-Dict v = search (rules, the_lemmas, map-map)
 
+-- the same, by a name that an attribute can have
+pub ruleset dicts = (shape-Dict)
+
 abbrev pub node_parts : ℤ → List (String Global) → List Pair → Option (String Global) → Tree
 node_parts id labels ps e = structure 0x4E (tree_then (int id) (tree_then (texts_of labels) (tree_then (dict (entries_of (entries ps))) (element_of e))))
 

@@ -15,6 +15,7 @@ impl Clone for Cell {
 }
 
 #[cycle(copy)]
+#[tactic(auto, using(crate::proofs::Views::dicts))]
 fn copy(cell: &Cell) -> Result<Cell, AllocError>
     ensures { IfOk result (λ c. shape c ≡ shape cell.now) }
 {
@@ -200,6 +201,7 @@ fn copy_relationship(relationship: &Relationship) -> Result<Relationship, AllocE
 }
 
 #[cycle(copy)]
+#[tactic(auto, using(crate::proofs::Views::same_path, std::proofs::lemmas::List::Elements::same_from_all_zip))]
 fn copy_path(path: &Path) -> Result<Path, AllocError>
     ensures { IfOk result (λ p. path_shape p ≡ path_shape path.now) }
 {

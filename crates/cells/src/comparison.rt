@@ -15,6 +15,7 @@ pub fn same(one: &Cell, other: &Cell) -> bool
 }
 
 #[cycle(same_cell)]
+#[tactic(auto, using(crate::proofs::Views::dicts))]
 fn same_cell(one: &Cell, other: &Cell) -> bool
     ensures { result ≡ same_tree (shape one.now) (shape other.now) }
 {
@@ -137,6 +138,7 @@ fn same_cell(one: &Cell, other: &Cell) -> bool
 }
 
 #[cycle(same_cell)]
+#[tactic(auto, using(crate::proofs::Walking::members_apart))]
 fn same_members(some: &Vec<Cell>, others: &Vec<Cell>) -> bool
     ensures { result
         ≡ same_trees (trees_of (shapes some.now.items)) (trees_of (shapes others.now.items)) }
@@ -153,6 +155,7 @@ fn same_members(some: &Vec<Cell>, others: &Vec<Cell>) -> bool
 }
 
 #[cycle(same_cell)]
+#[tactic(auto, using(crate::proofs::Walking::pairs_apart))]
 fn same_pairs(some: &Vec<(String, Cell)>, others: &Vec<(String, Cell)>) -> bool
     ensures { result ≡ same_entries (entries_of (entries some.now.items))
         (entries_of (entries others.now.items)) }
@@ -170,6 +173,7 @@ fn same_pairs(some: &Vec<(String, Cell)>, others: &Vec<(String, Cell)>) -> bool
 }
 
 #[cycle(same_cell)]
+#[tactic(auto, using(crate::proofs::Walking::members_apart))]
 fn same_nodes(some: &Vec<Node>, others: &Vec<Node>) -> bool
     ensures { result ≡ same_trees (trees_of (map node_shape some.now.items))
         (trees_of (map node_shape others.now.items)) }
@@ -186,6 +190,7 @@ fn same_nodes(some: &Vec<Node>, others: &Vec<Node>) -> bool
 }
 
 #[cycle(same_cell)]
+#[tactic(auto, using(crate::proofs::Walking::members_apart))]
 fn same_unbounds(some: &Vec<UnboundRelationship>, others: &Vec<UnboundRelationship>) -> bool
     ensures { result ≡ same_trees (trees_of (map unbound_shape some.now.items))
         (trees_of (map unbound_shape others.now.items)) }
@@ -202,6 +207,7 @@ fn same_unbounds(some: &Vec<UnboundRelationship>, others: &Vec<UnboundRelationsh
 }
 
 #[cycle(same_cell)]
+#[tactic(auto, using(crate::proofs::Alike::node_alike))]
 fn same_node(one: &Node, other: &Node) -> bool
     ensures { result ≡ same_tree (node_shape one.now) (node_shape other.now) }
 {
@@ -218,6 +224,7 @@ fn same_node(one: &Node, other: &Node) -> bool
 }
 
 #[cycle(same_cell)]
+#[tactic(auto, using(crate::proofs::Alike::unbound_alike))]
 fn same_unbound(one: &UnboundRelationship, other: &UnboundRelationship) -> bool
     ensures { result ≡ same_tree (unbound_shape one.now) (unbound_shape other.now) }
 {
@@ -250,6 +257,7 @@ fn same_relationship(one: &Relationship, other: &Relationship) -> bool
 }
 
 #[cycle(same_cell)]
+#[tactic(auto, using(crate::proofs::Alike::path_alike))]
 fn same_path(one: &Path, other: &Path) -> bool
     ensures { result ≡ same_tree (path_shape one.now) (path_shape other.now) }
 {

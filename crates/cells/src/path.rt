@@ -75,6 +75,7 @@ fn is_shaped_by(nodes: &Value, relationships: &Value, steps: &Value) -> bool
     }
 }
 
+#[tactic(auto, using(crate::proofs::Faulty::other_path, packstream::proofs::Putting::len_trees))]
 pub(crate) fn is_shaped(fields: &[Value]) -> bool
     ensures { result ≡ is_path (trees_of (trees fields.now)) }
 {

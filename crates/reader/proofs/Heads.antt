@@ -1,5 +1,5 @@
 -- The bytes of a head: its marker, and the number after it.
-use Rattle.std.proofs.Common.{◌≡◌, ◌≤◌, ◌<◌, ◌+◌, ◌*◌, ◌^◌, ◌/◌, ◌%◌, ℕ, zero, suc, List, [], ◌∷◌, ◌++◌, length, drop, Some, refl, sym, ap, subst, ◌∙◌, arith, append_assoc}
+use Rattle.std.proofs.Common.{◌≡◌, ◌≤◌, ◌<◌, ◌+◌, ◌*◌, ◌^◌, ◌/◌, ◌%◌, ℕ, zero, suc, List, [], ◌∷◌, ◌++◌, length, drop, get_or, Some, refl, sym, ap, subst, ◌∙◌, arith, append_assoc, drop-cons}
 use Rattle.std.proofs.lemmas.List.{append-nil, take_at, drop_at}
 use Rattle.std.proofs.Math.Nat.{div-div-eq-div-mul, pow-succ', pow-le-pow_right}
 use Rattle.byteorder.specs.Endian.{big_bytes, big_number}
@@ -17,6 +17,14 @@ use Rattle.std.specs.Int.{byte_at}
 use Rattle.reader.specs.Heads.{field, size_with, body, number_from, IsTiny, AreTiny}
 
 -- ---- a byte more behind a number
+
+joined_least : (n : ℕ) (bs : List ℕ) → n ≤ number_from n bs
+joined_least n [] = omega arith
+joined_least n (b ∷ bs) = let more = joined_least (n * 256 + b) bs in omega arith
+
+-- the number with one byte more is no more than that of all; the first part gives a tactic the term to match
+pub joined_room : (n i : ℕ) (bs : List ℕ) → i < length bs → (number_from n (drop i bs) ≡ number_from n (drop i bs)) × (n * 256 + get_or bs i 0 ≤ number_from n (drop i bs))
+joined_room n i bs lt = (refl, rw (drop-cons bs i 0) (joined_least (n * 256 + get_or bs i 0) (drop (suc i) bs)))
 
 next_place : (j n b : ℕ) → b < 256 → byte_at (suc j) (n * 256 + b) ≡ byte_at j n
 next_place zero n b lt = ap (λ (x : ℕ). x % 256) (omega arith)

@@ -1,5 +1,5 @@
 -- Points that a reader leaves and returns to.
-use Rattle.std.proofs.Common.{◌≡◌, ◌≤◌, Bool, ℕ, List, [], ◌++◌, length, take, None, refl, sym, ap, subst, ◌∙◌, append_assoc, arith, inl, inr, true≢false}
+use Rattle.std.proofs.Common.{◌≡◌, ◌≤◌, Bool, ℕ, List, [], ◌++◌, length, take, None, refl, sym, ap, subst, ◌∙◌, append_assoc, arith, inl, inr}
 use Rattle.std.proofs.lemmas.List.{take-take, take_at, length-take-le, append-nil, length-append}
 use Rattle.std.proofs.Math.Seq.{take-length}
 use Rattle.std.specs.Prelude.{true, false}
@@ -21,11 +21,9 @@ use Rattle.reader.specs.declared.progress.Standing.{Standing}
 use Rattle.reader.specs.declared.stop.Stop.TheVariants as stop
 use Rattle.reader.specs.Frames.{Frame, AreLevels}
 use Rattle.reader.specs.Heads.{part_head}
-use Rattle.reader.specs.Naming.{ArePlaced}
-use Rattle.reader.specs.Piecewise.{Point, Points, IsBeginning, Takes, MayGoOn}
+use Rattle.reader.specs.Piecewise.{Point, IsBeginning, Takes, MayGoOn}
 use Rattle.reader.specs.Holding.{Holds, point, mark_of, at_mark, with_fault, points_at, IsKeptAt, Goes, IsLacking, IsDone, IsStanding, IsKeeping, HasGrown, IsKept, IsMark, HoldsOn, IsFaultOf}
-use Rattle.reader.proofs.Opening.{bad_behind}
-use Rattle.reader.proofs.Faulting.{part_is_short}
+use Rattle.reader.proofs.Opening.{bad_behind, part_is_short}
 
 pub cut_cut : (m k : Mark) (h : Holds) → m.store ≤ k.store → m.keys ≤ k.keys → at_mark m (at_mark k h) ≡ at_mark m h
 cut_cut m k h a b = rw (take-take m.store k.store h.store a, take-take m.keys k.keys h.names b) refl
@@ -37,67 +35,29 @@ cut_grown old new g =
     let c = ap (take (length old.names)) g.names.1 ∙ take_at old.names g.names.0 (length old.names) refl in
     rw (b, c) refl
 
-no_names_placed : ArePlaced [] 0
-no_names_placed = λ i n e. absurd cc
-
--- where nothing was read, a value may begin
-pub keeps_start : (h : Holds) → h.store ≡ [] → h.names ≡ [] → h.standing.read ≡ 0 → h.standing.«open».is_whole ≡ false → h.standing.«open».depth ≡ 0 → h.standing.part ≡ part.Nothing → IsKeeping h
-keeps_start h store names read unread depth none =
-    record {
-      bytes = subst (λ (x : List ℕ). AreBytes x) (sym store) tt;
-      stands = inr (
-        record {
-          frames = [];
-          full = [];
-          tail = [];
-          unread = unread;
-          store = rw (none, store) refl;
-          are = refl;
-          read = read;
-          levels = depth;
-          named = tt;
-          placed = rw (names, store) no_names_placed;
-          isa = rw none refl;
-        },
-        rw none tt,
-      );
-    }
-
 begins_itself : (b : List ℕ) → IsBeginning b b
 begins_itself b = ([], sym (append-nil b))
-
-pub kept_back : (h : Holds) (m : Mark) → IsKept h m → IsKept (at_mark m h) m
-kept_back h m kept =
-    let again : at_mark m (at_mark m h) ≡ at_mark m h = cut_cut m m h (omega arith) (omega arith) in
-    record {
-      store = omega (arith, length-take-le m.store h.store kept.store);
-      names = omega (arith, length-take-le m.keys h.names kept.names);
-      here = kept.behind;
-      behind = subst IsKeeping (sym again) kept.behind;
-      held = subst (λ (x : Holds). IsBeginning (x.store) ((at_mark m h).store)) (sym again) (begins_itself ((at_mark m h).store));
-    }
 
 -- a cut at the held point undoes no growth since
 cut_on : (old new : Holds) (m : Mark) → HasGrown old new → m.store ≤ length old.store → m.keys ≤ length old.names → at_mark m new ≡ at_mark m old
 cut_on old new m g a b = sym (cut_cut m (mark_of old) new a b) ∙ ap (at_mark m) (cut_grown old new g)
 
--- a piece that was taken leaves the held point
-pub kept_on : (old new : Holds) (m : Mark) (piece : List ℕ) → IsKept old m → HasGrown old new → IsKeeping new → new.store ≡ old.store ++ piece → IsKept new m
-kept_on old new m piece kept grown keeps bytes =
-    let same = cut_on old new m grown kept.store kept.names in
-    record {
-      store = omega (arith, kept.store, ap length grown.store.1, length-append old.store grown.store.0);
-      names = omega (arith, kept.names, ap length grown.names.1, length-append old.names grown.names.0);
-      here = keeps;
-      behind = subst IsKeeping (sym same) kept.behind;
-      held = (
-        kept.held.0 ++ piece,
-        bytes ∙ ap (λ (b : List ℕ). b ++ piece) kept.held.1 ∙ append_assoc (at_mark m old).store kept.held.0 piece ∙ ap (λ (x : Holds). x.store ++ (kept.held.0 ++ piece)) (sym same),
-      );
-    }
-
-pub held_on : (old new : Holds) (m : Mark) → IsKept old m → HasGrown old new → point (at_mark m new) ≡ point (at_mark m old)
-held_on old new m kept grown = ap point (cut_on old new m grown kept.store kept.names)
+-- a piece that was taken leaves each held point
+pub on_taken : (old new : Holds) (piece : List ℕ) → HasGrown old new → IsKeeping new → new.store ≡ old.store ++ piece → HoldsOn old new
+on_taken old new piece grown keeps bytes = λ m kept.
+    (let same = cut_on old new m grown kept.store kept.names in (
+      record {
+        store = omega (arith, kept.store, ap length grown.store.1, length-append old.store grown.store.0);
+        names = omega (arith, kept.names, ap length grown.names.1, length-append old.names grown.names.0);
+        here = keeps;
+        behind = subst IsKeeping (sym same) kept.behind;
+        held = (
+          kept.held.0 ++ piece,
+          bytes ∙ ap (λ (b : List ℕ). b ++ piece) kept.held.1 ∙ append_assoc (at_mark m old).store kept.held.0 piece ∙ ap (λ (x : Holds). x.store ++ (kept.held.0 ++ piece)) (sym same),
+        );
+      },
+      ap point same,
+    ))
 
 -- ---- a point that is held here, or at a mark
 
@@ -108,21 +68,11 @@ keeps_at false h m kept = kept.here
 -- what was taken leaves it
 pub kept_within : (still : Bool) (old new : Holds) (m : Mark) (piece : List ℕ) → IsKeptAt still old m → HasGrown old new → IsKeeping new → new.store ≡ old.store ++ piece → IsKeptAt still new m
 kept_within true old new m piece kept grown keeps bytes = keeps
-kept_within false old new m piece kept grown keeps bytes = kept_on old new m piece kept grown keeps bytes
+kept_within false old new m piece kept grown keeps bytes = (on_taken old new piece grown keeps bytes m kept).0
 
 pub here_at : (still : Bool) (h : Holds) (m : Mark) → (points_at still h m).here ≡ point h
 here_at true h m = refl
 here_at false h m = refl
-
-pub begins_at : (still : Bool) (h : Holds) (m : Mark) → IsKeptAt still h m → IsBeginning (points_at still h m).held.bytes (points_at still h m).here.bytes
-begins_at true h m keeps = begins_itself h.store
-begins_at false h m kept = kept.held
-
--- the way back to a mark
-
-pub back_at : (still : Bool) (h back : Holds) (m : Mark) → still ≡ false → back ≡ at_mark m h → IsKeptAt still h m → IsKeptAt still back m
-back_at true h back m e b kept = absurd (true≢false e)
-back_at false h back m e b kept = subst (λ (x : Holds). IsKept x m) (sym b) (kept_back h m kept)
 
 -- ---- what the bytes have
 
@@ -156,20 +106,6 @@ keeps_on old new piece keeps are stands bytes = record {
 pub joins : (old new : Holds) (before : Point) (piece : List ℕ) → point old ≡ before → IsKeeping new → old.standing.bad ≡ None → new.store ≡ old.store ++ piece → new.standing.bad ≡ None → Takes before piece (point new)
 joins old new before piece is keeps good bytes still =
     subst (λ (p : Point). Takes p piece (point new)) is (rw good (inl (record { joined = bytes; good = still; goes_on = may_go_on new keeps })))
-
--- a piece that ends in a fault is taken back, and the fault is kept
-pub turns : (old new : Holds) (before : Point) (piece : List ℕ) (r : Reason) (o : ℕ) → point old ≡ before → old.standing.bad ≡ None → new ≡ with_fault r o old → Bad (old.store ++ piece) o r × (r ≡ reason.Short → ⊥) → Takes before piece (point new)
-turns old new before piece r o is good turn bad =
-    subst (λ (p : Point). Takes p piece (point new)) is
-    (subst (λ (x : Holds). Takes (point old) piece (point x)) (sym turn)
-    (rw good (inr (record {
-      why = r;
-      place = o;
-      told = refl;
-      always = stays (old.store ++ piece) r o bad.0 bad.1;
-      certain = bad.1;
-      kept = begins_itself old.store;
-    }))))
 
 -- ---- a mark that has the open levels alone
 
@@ -220,15 +156,9 @@ alike_point h s same = rw same refl
 alike_keeps : (h : Holds) (s : Standing) → IsAlike s h.standing → IsKeeping h → IsKeeping (standing_so h s)
 alike_keeps h s like keeps = record { bytes = keeps.bytes; stands = alike_stands h s like keeps.stands }
 
--- a fault changes neither lists nor places
-pub kept_turned : (h : Holds) (m : Mark) (r : Reason) (o : ℕ) → IsKept h m → IsKept (with_fault r o h) m
-kept_turned h m r o kept = record {
-  store = kept.store;
-  names = kept.names;
-  here = alike_keeps h (with_fault r o h).standing (record { part = refl; read = refl; is_whole = refl; levels = λ fs l. l }) kept.here;
-  behind = kept.behind;
-  held = kept.held;
-}
+-- so each held point stays
+alike_on : (h : Holds) (s : Standing) → IsAlike s h.standing → HoldsOn h (standing_so h s)
+alike_on h s like = λ m kept. (record { store = kept.store; names = kept.names; here = alike_keeps h s like kept.here; behind = kept.behind; held = kept.held }, refl)
 
 marked : (h : Holds) (m : Mark) → IsMark h m → IsAlike m.standing h.standing
 marked h m is = record { part = is.part; read = is.read; is_whole = is.is_whole; levels = is.levels }
@@ -255,6 +185,12 @@ kept_marked h m is keeps = record {
   held = subst (λ (p : Point). IsBeginning p.bytes h.store) (sym (marked_point h m is)) (begins_itself h.store);
 }
 
+-- the way back to a mark
+pub kept_back : (h : Holds) (m : Mark) → IsKept h m → IsKept (at_mark m h) m
+kept_back h m kept =
+    kept_marked (at_mark m h) m
+    (record { store = sym (length-take-le m.store h.store kept.store); names = sym (length-take-le m.keys h.names kept.names); part = refl; read = refl; bad = refl; is_whole = refl; levels = λ fs l. l }) kept.behind
+
 -- what has grown since is cut back to the mark
 cut_marked : (old new : Holds) (b : Mark) → IsMark old b → HasGrown old new → at_mark b new ≡ at_mark b old
 cut_marked old new b is grown = cut_on old new b grown (omega (arith, is.store)) (omega (arith, is.names))
@@ -265,25 +201,9 @@ keeps_cut old new b is grown keeps = subst IsKeeping (sym (cut_marked old new b 
 pub point_cut : (old new : Holds) (b : Mark) → IsMark old b → HasGrown old new → point (at_mark b new) ≡ point old
 point_cut old new b is grown = ap point (cut_marked old new b is grown) ∙ marked_point old b is
 
--- a piece that was taken leaves each held point
-pub on_taken : (old new : Holds) (piece : List ℕ) → HasGrown old new → IsKeeping new → new.store ≡ old.store ++ piece → HoldsOn old new
-on_taken old new piece grown now bytes = λ m kept. (kept_on old new m piece kept grown now bytes, held_on old new m kept grown)
-
 -- a way back to where it stood does so too
 on_marked : (old : Holds) (b : Mark) → IsMark old b → HoldsOn old (at_mark b old)
-on_marked old b is = λ m kept.
-    (let same : at_mark m (at_mark b old) ≡ at_mark m old = cut_cut m b old (omega (arith, kept.store, is.store)) (omega (arith, kept.names, is.names)) in
-    let now = at_marked old b is in (
-      record {
-        store = subst (λ (x : Holds). m.store ≤ length x.store) (sym now) kept.store;
-        names = subst (λ (x : Holds). m.keys ≤ length x.names) (sym now) kept.names;
-        here = marked_keeps old b is kept.here;
-        behind = subst IsKeeping (sym same) kept.behind;
-        held = subst (λ (x : Holds). IsBeginning (x.store) ((at_mark b old).store)) (sym same)
-            (subst (λ (p : Point). IsBeginning ((at_mark m old).store) p.bytes) (sym (marked_point old b is)) kept.held);
-      },
-      ap point same,
-    ))
+on_marked old b is = subst (λ (x : Holds). HoldsOn old x) (sym (at_marked old b is)) (alike_on old b.standing (marked old b is))
 
 pub on_cut : (old new : Holds) (b : Mark) → IsMark old b → HasGrown old new → HoldsOn old (at_mark b new)
 on_cut old new b is grown = subst (λ (x : Holds). HoldsOn old x) (sym (cut_marked old new b is grown)) (on_marked old b is)
@@ -291,30 +211,14 @@ on_cut old new b is grown = subst (λ (x : Holds). HoldsOn old x) (sym (cut_mark
 -- and so does a fault that is kept there
 pub on_bad : (old new bad : Holds) (b : Mark) (r : Reason) (o : ℕ) → IsMark old b → HasGrown old new → bad ≡ with_fault r o (at_mark b new) → HoldsOn old bad
 on_bad old new bad b r o is grown e = subst (λ (x : Holds). HoldsOn old x) (sym e)
-    (λ m kept. (let on = on_cut old new b is grown m kept in (kept_turned (at_mark b new) m r o on.0, on.1)))
+    (λ m kept.
+    (let on = on_cut old new b is grown m kept in
+    let turned = alike_on (at_mark b new) (with_fault r o (at_mark b new)).standing (record { part = refl; read = refl; is_whole = refl; levels = λ fs l. l }) m on.0 in (turned.0, turned.1 ∙ on.1)))
 
 -- a piece in which a fault is makes it bad where it stood
 pub turns_back : (old new bad : Holds) (b : Mark) (piece : List ℕ) (r : Reason) (o : ℕ) → IsMark old b → HasGrown old new → old.standing.bad ≡ None
     → bad ≡ with_fault r o (at_mark b new) → IsFaultOf (stop.Fault r o) (old.store ++ piece) → Takes (point old) piece (point bad)
 turns_back old new bad b piece r o is grown good e fault =
-    let same = point_cut old new b is grown in
-    turns (at_mark b new) bad (point old) piece r o same (ap (λ (p : Point). p.bad) same ∙ good) e
-    (subst (λ (p : Point). IsFaultOf (stop.Fault r o) (p.bytes ++ piece)) (sym same) fault)
-
--- ---- a piece at the held point, or behind it
-
-pub still_held : (still : Bool) (h : Holds) (m : Mark) (value : Points) → still ≡ true → points_at still h m ≡ value → point h ≡ value.held
-still_held true h m value e is = ap (λ (p : Points). p.held) is
-still_held false h m value e is = absurd (true≢false (sym e))
-
-pub still_keeps : (still : Bool) (h : Holds) (m : Mark) → still ≡ true → IsKeeping h → IsKeptAt still h m
-still_keeps true h m e keeps = keeps
-still_keeps false h m e keeps = absurd (true≢false (sym e))
-
-pub kept_behind : (still : Bool) (h : Holds) (m : Mark) → still ≡ false → IsKeptAt still h m → IsKept h m
-kept_behind true h m e kept = absurd (true≢false e)
-kept_behind false h m e kept = kept
-
-pub behind_keeps : (still : Bool) (h : Holds) (m : Mark) → still ≡ false → IsKept h m → IsKeptAt still h m
-behind_keeps true h m e kept = absurd (true≢false e)
-behind_keeps false h m e kept = kept
+    let kept = subst (λ (p : Point). IsBeginning old.store p.bytes) (sym (point_cut old new b is grown)) (begins_itself old.store) in
+    subst (λ (x : Holds). Takes (point old) piece (point x)) (sym e)
+    (rw good (inr (record { why = r; place = o; told = refl; always = stays (old.store ++ piece) r o fault.0 fault.1; certain = fault.1; kept = kept })))

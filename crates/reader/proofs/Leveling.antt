@@ -1,7 +1,7 @@
 -- The levels of an array as what is open.
-use Rattle.std.proofs.Common.{◌≡◌, ◌≤◌, ◌<◌, ◌+◌, ◌-◌, ℕ, nat_lt, true, false, List, [], ◌∷◌, length, get_or, Some, refl, sym, ap, subst, ◌∙◌, ⊎_elim, arith}
+use Rattle.std.proofs.Common.{◌≡◌, ◌≤◌, ◌<◌, ◌+◌, ◌-◌, ℕ, nat_lt, true, false, List, [], ◌∷◌, length, get_or, Some, refl, sym, ap, subst, ◌∙◌, arith}
 use Rattle.std.specs.Prelude.{slice_get, slice_set}
-use Rattle.std.proofs.lemmas.Bool.{lt-ltb, le-ltb, cases_eq}
+use Rattle.std.proofs.lemmas.Bool.{lt-ltb, le-ltb}
 use Rattle.std.proofs.lemmas.List.{get_or-set_same, get_or-set_other, length-set}
 use Rattle.std.proofs.lemmas.Option.{slice_get_within, slice_get-get_or, get_or_from_slice_get}
 use Rattle.packstream.specs.Tree.{Tree, Entries}
@@ -46,10 +46,13 @@ step_out d (f ∷ fs) t n xs lt h le =
     (fs, tree_so_far (with_member f.opened t), subst (λ (m : ℕ). AreLevels fs m xs) k h.others, rw last refl)
 
 -- once it is written
-last_written : (d : Level) (f g : Frame) (fs : List Frame) (n : ℕ) (xs : List Level) (new : Level) → AreLevels (f ∷ fs) n xs → new ≡ level g → AreLevels (g ∷ fs) n (slice_set xs (n - 1) new)
-last_written d f g fs n xs new h is =
+last_written : (d : Level) (write : Level → Level) (f g : Frame) (fs : List Frame) (n : ℕ) (xs : List Level) → AreLevels (f ∷ fs) n xs → write (level f) ≡ level g
+    → AreLevels (g ∷ fs) n (slice_set xs (n - 1) (write (get_or xs (n - 1) d)))
+last_written d write f g fs n xs h is =
     let k : h.below ≡ n - 1 = omega (arith, h.counted) in
-    let written : slice_get (slice_set xs h.below new) h.below ≡ Some (level g) = get_set_same xs h.below new d (slice_get_within xs h.below (level f) h.there) ∙ ap (λ (l : Level). Some l) is in
+    let new : Level = write (get_or xs (n - 1) d) in
+    let new_is : new ≡ level g = ap write (last_level d f fs n xs h) ∙ is in
+    let written : slice_get (slice_set xs h.below new) h.below ≡ Some (level g) = get_set_same xs h.below new d (slice_get_within xs h.below (level f) h.there) ∙ ap (λ (l : Level). Some l) new_is in
     record {
       below = h.below;
       counted = h.counted;
@@ -63,24 +66,18 @@ pub stay_in : (d : Level) (fs : List Frame) (t : Tree) (n : ℕ) (xs : List Leve
     × AreLevels gs n (slice_set xs (n - 1) (record { next = after_value (get_or xs (n - 1) d).next; lacks = (get_or xs (n - 1) d).lacks - 1; keys = (get_or xs (n - 1) d).keys }))
 stay_in d [] t n xs lt h more = absurd (omega (arith, h))
 stay_in d (f ∷ fs) t n xs lt h more =
-    let is = last_level d f fs n xs h in
-    let lacks : (get_or xs (n - 1) d).lacks ≡ f.lacks = ap (λ (l : Level). l.lacks) is in
+    let lacks : (get_or xs (n - 1) d).lacks ≡ f.lacks = ap (λ (l : Level). l.lacks) (last_level d f fs n xs h) in
     let some : nat_lt 1 f.lacks ≡ true = lt-ltb _ _ (omega arith) in
-    let g : Frame = record { opened = with_member f.opened t; lacks = f.lacks - 1; first = f.first } in
-    let new : Level = record { next = after_value (get_or xs (n - 1) d).next; lacks = (get_or xs (n - 1) d).lacks - 1; keys = (get_or xs (n - 1) d).keys } in
-    let new_is : new ≡ level g =
-    ap (λ (l : Level). record { next = after_value l.next; lacks = l.lacks - 1; keys = l.keys }) is
-    ∙ ap (λ (i : Inside). record { next = i; lacks = f.lacks - 1; keys = f.first }) (sym (next_put f.opened t)) in
-    (g ∷ fs, rw some refl, last_written d f g fs n xs new h new_is)
+    let g : Frame = waits (with_member f.opened t) (f.lacks - 1) f.first in
+    let alike : record { next = after_value (next_of f.opened); lacks = f.lacks - 1; keys = f.first } ≡ level g = ap (λ (i : Inside). record { next = i; lacks = f.lacks - 1; keys = f.first }) (sym (next_put f.opened t)) in
+    (g ∷ fs, rw some refl, last_written d (λ (l : Level). record { next = after_value l.next; lacks = l.lacks - 1; keys = l.keys }) f g fs n xs h alike)
 
 -- it has as many more as are passed
 pub passes : (d : Level) (k n : ℕ) (xs : List Level) (f : Frame) (fs : List Frame) (g : Opened) → AreLevels (f ∷ fs) n xs → next_of g ≡ inside.Member
     → AreLevels (waits g (f.lacks - k) f.first ∷ fs) n (slice_set xs (n - 1) (record { next = inside.Member; lacks = (get_or xs (n - 1) d).lacks - k; keys = (get_or xs (n - 1) d).keys }))
 passes d k n xs f fs g h e =
-    let new_is : record { next = inside.Member; lacks = (get_or xs (n - 1) d).lacks - k; keys = (get_or xs (n - 1) d).keys } ≡ level (waits g (f.lacks - k) f.first) =
-    ap (λ (l : Level). record { next = inside.Member; lacks = l.lacks - k; keys = l.keys }) (last_level d f fs n xs h)
-    ∙ ap (λ (i : Inside). record { next = i; lacks = f.lacks - k; keys = f.first }) (sym e) in
-    last_written d f (waits g (f.lacks - k) f.first) fs n xs _ h new_is
+    last_written d (λ (l : Level). record { next = inside.Member; lacks = l.lacks - k; keys = l.keys }) f (waits g (f.lacks - k) f.first) fs n xs h
+    (ap (λ (i : Inside). record { next = i; lacks = f.lacks - k; keys = f.first }) (sym e))
 
 pub all_ended : (fs : List Frame) (t : Tree) (n : ℕ) (xs : List Level) → n ≤ 0 → AreLevels fs n xs → ends fs t ≡ whole t
 all_ended [] t n xs le h = refl
@@ -90,37 +87,19 @@ all_ended (f ∷ fs) t n xs le h = absurd (omega (arith, h.counted))
 pub key_stands : (d : Level) (fs : List Frame) (es : Entries) (k : List ℕ) (n first m : ℕ) (xs : List Level) → AreLevels (waits (at_key es) n first ∷ fs) m xs
     → AreLevels (waits (at_value es k) n first ∷ fs) m (slice_set xs (m - 1) (record { next = inside.ValueOfKey; lacks = (get_or xs (m - 1) d).lacks; keys = (get_or xs (m - 1) d).keys }))
 key_stands d fs es k n first m xs h =
-    last_written d (waits (at_key es) n first) (waits (at_value es k) n first) fs m xs _ h
-    (ap (λ (l : Level). record { next = inside.ValueOfKey; lacks = l.lacks; keys = l.keys }) (last_level d (waits (at_key es) n first) fs m xs h))
+    last_written d (λ (l : Level). record { next = inside.ValueOfKey; lacks = l.lacks; keys = l.keys }) (waits (at_key es) n first) (waits (at_value es k) n first) fs m xs h refl
 
-pub level_opens : (d : Level) (fs : List Frame) (f : Opened) (next : Inside) (lacks keys n : ℕ) (xs : List Level) → n < length xs → AreLevels fs n xs → next_of f ≡ next
+pub level_opens : (fs : List Frame) (f : Opened) (next : Inside) (lacks keys n : ℕ) (xs : List Level) → n < length xs → AreLevels fs n xs → next_of f ≡ next
     → AreLevels (waits f lacks keys ∷ fs) (n + 1) (slice_set xs n (record { next = next; lacks = lacks; keys = keys }))
-level_opens d fs f next lacks keys n xs lt h e =
+level_opens fs f next lacks keys n xs lt h e =
     let l : Level = record { next = next; lacks = lacks; keys = keys } in
     let is : l ≡ level (waits f lacks keys) = ap (λ (i : Inside). record { next = i; lacks = lacks; keys = keys }) (sym e) in
     record {
       below = n;
       counted = omega arith;
-      there = get_set_same xs n l d lt ∙ ap (λ (x : Level). Some x) is;
-      others = levels_set fs n n xs l d (omega arith) h;
+      there = get_set_same xs n l l lt ∙ ap (λ (x : Level). Some x) is;
+      others = levels_set fs n n xs l l (omega arith) h;
     }
-
--- ---- levels that are copied
-
--- the level that is copied is alike, and those before it stay so
-pub copied_on : (d : Level) (n : ℕ) (xs ys : List Level) → n < length xs → n < length ys
-    → ((i : ℕ) → i < n → slice_get xs i ≡ slice_get ys i) → (i : ℕ) → i < n + 1 → slice_get (slice_set xs n (get_or ys n d)) i ≡ slice_get ys i
-copied_on d n xs ys lx ly alike i lt =
-    let v : Level = get_or ys n d in
-    let len : length (slice_set xs n v) ≡ length xs = length-set xs n v in
-    ⊎_elim
-    (λ (e : i ≡ n). subst (λ (k : ℕ). slice_get (slice_set xs n v) k ≡ slice_get ys k) (sym e) (get_set_same xs n v d lx ∙ sym (slice_get-get_or ys n d ly)))
-    (λ (e : i ≡ n → ⊥).
-    slice_get-get_or (slice_set xs n v) i d (omega (arith, len))
-    ∙ ap (λ (l : Level). Some l) (get_or-set_other xs n i v d e)
-    ∙ sym (slice_get-get_or xs i d (omega arith))
-    ∙ alike i (omega (arith, e)))
-    (cases_eq i n)
 
 -- what is open is so in an array that is alike
 pub levels_alike : (fs : List Frame) (n m : ℕ) (xs ys : List Level) → n ≤ m → ((i : ℕ) → i < m → slice_get ys i ≡ slice_get xs i) → AreLevels fs n xs → AreLevels fs n ys

@@ -1,16 +1,11 @@
-pub mod Joining
 pub mod Treeing
 pub mod Hanging
 pub mod Heads
 pub mod Opening
 pub mod Pushing
-pub mod Heading
 pub mod Leveling
 pub mod Standing
-pub mod Faulting
 pub mod Values
 pub mod Taking
-pub mod Passing
 pub mod Held
 pub mod Pieces
-pub mod Alike

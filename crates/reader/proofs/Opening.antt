@@ -1,10 +1,24 @@
--- What is open, the innermost first, as the definition of faults has it, the outermost first.
-use Rattle.std.proofs.Common.{◌≡◌, ◌<◌, ◌+◌, ℕ, List, [], ◌∷◌, ◌++◌, length, Some, None, refl, sym, ap, subst, ◌∙◌, append_assoc, add-one, arith, inl}
-use Rattle.std.proofs.lemmas.List.{append-nil}
+-- What is open as the definition of faults has it, the outermost first; which rule a head breaks, and which the bytes after it.
+use Rattle.std.proofs.Common.{◌≡◌, ◌<◌, ◌+◌, ℕ, List, [], ◌∷◌, ◌++◌, length, Some, None, refl, sym, ap, subst, ◌∙◌, append_assoc, add-one, arith, inl, ◌^◌, ◌&&◌, Bool, true, false, not, cond, nat_lt, nat_le, Option, is_some}
+use Rattle.std.proofs.lemmas.List.{append-nil, length-append}
 use Rattle.packstream.specs.declared.fault.Reason.{Reason}
-use Rattle.packstream.specs.Good.{count, entry_count}
-use Rattle.packstream.specs.Faults.{Place, Opened, in_list, in_struct, at_key, at_value, key_there, within, innermost, outside, IsOpened, AreOpened, fault_at, Bad}
-use Rattle.reader.specs.Frames.{Frame, IsFrame, place, AreFrames}
+use Rattle.packstream.specs.Good.{count, entry_count, is_among}
+use Rattle.packstream.specs.Faults.{Place, Opened, in_list, in_struct, at_key, at_value, key_there, within, innermost, outside, IsOpened, AreOpened, fault_at, Bad, is_text, nests, needs, text_in, is_repeated, fault_of}
+use Rattle.reader.specs.Frames.{Frame, IsFrame, place, AreFrames, head_fault}
+use Rattle.std.proofs.lemmas.Bool.{lt-ltb, le-ltb}
+use Rattle.std.specs.Str.{is_utf8}
+use Rattle.byteorder.specs.Endian.{big_bytes}
+use Rattle.byteorder.specs.Numbers.{length-bytes_high_first}
+use Rattle.packstream.specs.declared.fault.Reason.TheVariants as reason
+use Rattle.packstream.specs.declared.marker.Size.{Size}
+use Rattle.packstream.specs.declared.marker.Marker.{Marker}
+use Rattle.packstream.specs.declared.marker.Marker.TheVariants as announces
+use Rattle.packstream.specs.Markers.{marker, size_len}
+use Rattle.reader.specs.Heads.{field, body, size_with, head_bytes, part_head}
+use Rattle.reader.specs.declared.progress.Part.{Part}
+use Rattle.reader.specs.declared.progress.Part.TheVariants as part
+use Rattle.reader.specs.Holding.{IsPart, IsLacking}
+use Rattle.reader.proofs.Heads.{needs_are, needs_more, text_there}
 
 -- the outermost first
 abbrev pub outer_first : List Frame → List Opened
@@ -67,3 +81,91 @@ bad_behind fs front rest r h fault =
       place = refl;
       broken = ap (λ (p : Place). fault_at p rest) (innermost_is fs) ∙ fault;
     })
+
+-- ---- the head alone
+
+passes : (text key full : Bool) (z : Option Reason) → (text ≡ true → full ≡ false) → cond text None (cond key (Some reason.KeyKind) (cond full (Some reason.Depth) None)) ≡ None
+    → cond (key && not text) (Some reason.KeyKind) (cond full (Some reason.Depth) z) ≡ z
+passes true true full z f e = rw (f refl) refl
+passes true false full z f e = rw (f refl) refl
+passes false false false z f e = refl
+passes false key full z f e = absurd cc
+
+breaks : (text key full : Bool) (z : Option Reason) (r : Reason) → cond text None (cond key (Some reason.KeyKind) (cond full (Some reason.Depth) None)) ≡ Some r
+    → (cond (key && not text) (Some reason.KeyKind) (cond full (Some reason.Depth) z) ≡ Some r) × (r ≡ reason.Short → ⊥)
+breaks true key full z r e = absurd cc
+breaks false true full z r e = (e, λ (s : r ≡ reason.Short). cc)
+breaks false false true z r e = (e, λ (s : r ≡ reason.Short). cc)
+breaks false false false z r e = absurd cc
+
+text_nests : (m : Marker) (full : Bool) → is_text m ≡ true → (nests m && full) ≡ false
+text_nests (announces.Text size) full e = refl
+text_nests m full e = absurd cc
+
+-- the rules after the head's
+abbrev pub body_fault : Place → Marker → List ℕ → Option Reason
+body_fault p m rest =
+    cond (nat_lt (length rest) (needs m rest)) (Some reason.Short)
+    (cond (is_text m && not (is_utf8 (text_in m rest))) (Some reason.Utf8)
+    (cond (is_repeated p.key (text_in m rest)) (Some reason.KeyTwice) None))
+
+pub refused : (p : Place) (b : ℕ) (m : Marker) (rest : List ℕ) (r : Reason) → marker b ≡ Some m → head_fault p m ≡ Some r → (fault_at p (b ∷ rest) ≡ Some r) × (r ≡ reason.Short → ⊥)
+unfolding fault_of fault_at
+refused p b m rest r is e =
+    let h = breaks (is_text m) (is_some p.key) (nests m && nat_le 32 p.heads) (body_fault p m rest) r e in
+    (ap (λ (o : Option Marker). fault_of p o rest) is ∙ h.0, h.1)
+
+pub no_marker : (p : Place) (b : ℕ) (rest : List ℕ) → marker b ≡ None → fault_at p (b ∷ rest) ≡ Some reason.Marker
+unfolding fault_of fault_at
+no_marker p b rest is = ap (λ (o : Option Marker). fault_of p o rest) is
+
+at_body : (p : Place) (b : ℕ) (m : Marker) (rest : List ℕ) → marker b ≡ Some m → head_fault p m ≡ None → fault_at p (b ∷ rest) ≡ body_fault p m rest
+unfolding fault_of fault_at
+at_body p b m rest is e =
+    ap (λ (o : Option Marker). fault_of p o rest) is ∙ passes (is_text m) (is_some p.key) (nests m && nat_le 32 p.heads) (body_fault p m rest) (text_nests m (nat_le 32 p.heads)) e
+
+-- ---- what is missing
+
+missing : (p : Place) (b : ℕ) (m : Marker) (rest : List ℕ) → marker b ≡ Some m → head_fault p m ≡ None → length rest < needs m rest → fault_at p (b ∷ rest) ≡ Some reason.Short
+missing p b m rest is e lt = let short : nat_lt (length rest) (needs m rest) ≡ true = lt-ltb _ _ lt in at_body p b m rest is e ∙ rw short refl
+
+pub part_is_short : (p : Place) (q : Part) (tail : List ℕ) → IsPart p q tail → IsLacking q → fault_at p (part_head q ++ tail) ≡ Some reason.Short
+unfolding fault_at
+part_is_short p part.Nothing tail is lacks = ap (fault_at p) is
+part_is_short p (part.Head b number has) tail is lacks =
+    let a = is.admitted in
+    let few : field (marker b) ≡ field (Some a.0) = ap field a.1 in
+    let len : length (big_bytes has number ++ tail) ≡ has = length-append (big_bytes has number) tail ∙ omega (arith, length-bytes_high_first has number, ap length is.bare) in
+    missing p b a.0 (big_bytes has number ++ tail) a.1 a.2 (omega (arith, needs_more a.0 (big_bytes has number ++ tail), len, few, lacks))
+part_is_short p (part.Body b number lack) tail is lacks =
+    let a = is.admitted in
+    let f : field (marker b) ≡ field (Some a.0) = ap field a.1 in
+    let c : body (marker b) number ≡ body (Some a.0) number = ap (λ (o : Option Marker). body o number) a.1 in
+    let small : number < 256 ^ field (Some a.0) = subst (λ (o : Option Marker). number < 256 ^ field o) a.1 is.small in
+    let need : needs a.0 (big_bytes (field (marker b)) number ++ tail) ≡ field (Some a.0) + body (Some a.0) number =
+    ap (λ (n : ℕ). needs a.0 (big_bytes n number ++ tail)) f ∙ needs_are a.0 number tail small in
+    let len : length (big_bytes (field (marker b)) number ++ tail) ≡ field (marker b) + length tail = length-append (big_bytes (field (marker b)) number) tail ∙ omega (arith, length-bytes_high_first (field (marker b)) number) in
+    missing p b a.0 (big_bytes (field (marker b)) number ++ tail) a.1 a.2 (omega (arith, need, len, f, c, is.long, lacks))
+
+-- ---- a text that is whole
+
+whole_text : (p : Place) (b number : ℕ) (size : Size) (text rest : List ℕ) → marker b ≡ Some (announces.Text size) → number < 256 ^ size_len size → length text ≡ size_with size number
+    → fault_at p (head_bytes b number ++ (text ++ rest)) ≡ cond (not (is_utf8 text)) (Some reason.Utf8) (cond (is_repeated p.key text) (Some reason.KeyTwice) None)
+whole_text p b number size text rest is small len =
+    let m : Marker = announces.Text size in
+    let f : field (marker b) ≡ size_len size = ap field is in
+    let there : List ℕ = big_bytes (size_len size) number ++ (text ++ rest) in
+    let need : needs m there ≡ size_len size + size_with size number = needs_are m number (text ++ rest) small in
+    let long : length there ≡ size_len size + (length text + length rest) =
+    length-append (big_bytes (size_len size) number) (text ++ rest) ∙ omega (arith, length-bytes_high_first (size_len size) number, length-append text rest) in
+    let enough : nat_lt (length there) (needs m there) ≡ false = le-ltb _ _ (omega arith) in
+    let t : text_in m there ≡ text = text_there size number text rest small len in
+    ap (λ (n : ℕ). fault_at p (b ∷ (big_bytes n number ++ (text ++ rest)))) f ∙ at_body p b m there is refl ∙ rw (enough, t) refl
+
+pub not_text : (p : Place) (b number : ℕ) (size : Size) (text rest : List ℕ) → marker b ≡ Some (announces.Text size) → number < 256 ^ size_len size → length text ≡ size_with size number
+    → is_utf8 text ≡ false → fault_at p (head_bytes b number ++ (text ++ rest)) ≡ Some reason.Utf8
+not_text p b number size text rest is small len e = whole_text p b number size text rest is small len ∙ rw e refl
+
+pub twice : (p : Place) (b number : ℕ) (size : Size) (text rest : List ℕ) (keys : List (List ℕ)) → marker b ≡ Some (announces.Text size) → number < 256 ^ size_len size → length text ≡ size_with size number
+    → is_utf8 text ≡ true → p.key ≡ Some keys → is_among text keys ≡ true → fault_at p (head_bytes b number ++ (text ++ rest)) ≡ Some reason.KeyTwice
+twice p b number size text rest keys is small len e k among = whole_text p b number size text rest is small len ∙ rw (e, k, among) refl

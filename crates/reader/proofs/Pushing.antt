@@ -1,5 +1,5 @@
--- A value behind what is open becomes a member of it.
-use Rattle.std.proofs.Common.{◌≡◌, ◌≤◌, ◌<◌, ◌+◌, ◌-◌, ℕ, suc, nat_lt, true, false, List, [], ◌∷◌, ◌++◌, length, None, refl, sym, ap, subst, ◌∙◌, append_assoc, arith, inl, inr}
+-- What is open: a head begins it, a value behind it becomes a member of it, and a key waits for its value.
+use Rattle.std.proofs.Common.{◌≡◌, ◌≤◌, ◌<◌, ◌+◌, ◌-◌, ℕ, suc, nat_lt, true, false, List, [], ◌∷◌, ◌++◌, length, None, refl, sym, ap, subst, ◌∙◌, append_assoc, zero-add, arith, inl, inr}
 use Rattle.std.proofs.lemmas.Bool.{lt-ltb, le-ltb, cases_lt}
 use Rattle.std.proofs.lemmas.List.{append-nil}
 use Rattle.packstream.specs.declared.marker.Size.{Size}
@@ -65,7 +65,7 @@ depth_pair (entry_then j x es) k t n h one = let ih = depth_pair es k t n (omega
 begins_more : (what : Marker) (rest more b c : List ℕ) → Begins what rest b → rest ++ c ≡ more → Begins what more (b ++ c)
 begins_more what rest more b c h e = (h.0, h.1, ap (λ (x : List ℕ). x ++ c) h.2 ∙ ap (λ (x : List ℕ). h.0 ∷ x) e)
 
-sized : (size : Size) (n m : ℕ) (field : List ℕ) → n ≡ m → IsSize size n field → IsSize size m field
+pub sized : (size : Size) (n m : ℕ) (field : List ℕ) → n ≡ m → IsSize size n field → IsSize size m field
 sized size n m field e is = subst (λ (k : ℕ). IsSize size k field) e is
 
 frame_put : (heads : ℕ) (f : Opened) (lacks : ℕ) (t : Tree) (b c : List ℕ) → IsFrame heads f lacks b → key_there f ≡ None → 0 < lacks → SpellsTree t c → IsSound t → depth t + heads ≤ 32
@@ -104,42 +104,48 @@ frame_put heads (at_value es k) lacks t b c h none lt one sound deep = record {
 }
 
 -- it is a value, where it lacks no more
-abbrev IsValue : ℕ → Tree → List ℕ → Type 0
-IsValue heads t b = SpellsTree t b × IsSound t × (depth t + heads ≤ 33)
+abbrev pub IsWhole : ℕ → Tree → List ℕ → Type 0
+IsWhole heads t b = SpellsTree t b × IsSound t × (depth t + heads ≤ 33)
 
-list_closes : (heads : ℕ) (ts : Trees) (b : List ℕ) → IsFrame heads (in_list ts) 0 b → IsValue heads (list ts) b
+pub list_closes : (heads : ℕ) (ts : Trees) (b : List ℕ) → IsFrame heads (in_list ts) 0 b → IsWhole heads (list ts) b
 list_closes heads ts b h = ((h.size, h.field, h.body, sized h.size (count ts + 0) (count ts) h.field (omega arith) h.sized, h.spelled, h.begins), h.sound, omega (arith, h.deep))
 
-struct_closes : (heads tag : ℕ) (ts : Trees) (b : List ℕ) → IsFrame heads (in_struct tag ts) 0 b → IsValue heads (structure tag ts) b
+pub struct_closes : (heads tag : ℕ) (ts : Trees) (b : List ℕ) → IsFrame heads (in_struct tag ts) 0 b → IsWhole heads (structure tag ts) b
 struct_closes heads tag ts b h =
     let n : count ts + 0 ≡ count ts = omega arith in
     let begins : Begins (announces.Struct (count ts)) (tag ∷ h.body) b = subst (λ (k : ℕ). Begins (announces.Struct k) (tag ∷ h.body) b) n h.begins in
     ((h.body, h.spelled, begins), (few_fields begins.0 (count ts) begins.1, h.sound), omega (arith, h.deep))
 
-dict_closes : (heads : ℕ) (es : Entries) (b : List ℕ) → IsFrame heads (at_key es) 0 b → IsValue heads (dict es) b
+pub dict_closes : (heads : ℕ) (es : Entries) (b : List ℕ) → IsFrame heads (at_key es) 0 b → IsWhole heads (dict es) b
 dict_closes heads es b h = ((h.size, h.field, h.body, sized h.size (entry_count es + 0) (entry_count es) h.field (omega arith) h.sized, h.spelled, h.begins), (h.fresh, h.sound), omega (arith, h.deep))
 
-put_closes : (heads : ℕ) (f : Opened) (t : Tree) (b : List ℕ) → IsFrame heads (with_member f t) 0 b → IsValue heads (tree_so_far (with_member f t)) b
+put_closes : (heads : ℕ) (f : Opened) (t : Tree) (b : List ℕ) → IsFrame heads (with_member f t) 0 b → IsWhole heads (tree_so_far (with_member f t)) b
 put_closes heads (in_list ts) t b h = list_closes heads (push_tree ts t) b h
 put_closes heads (in_struct tag ts) t b h = struct_closes heads tag (push_tree ts t) b h
 put_closes heads (at_key es) t b h = dict_closes heads es b h
 put_closes heads (at_value es k) t b h = dict_closes heads (push_entry es k t) b h
 
-pub stays_open : (f : Frame) (fs : List Frame) (front : List ℕ) (t : Tree) (c : List ℕ) → AreFrames (f ∷ fs) front → (place (f ∷ fs)).key ≡ None → SpellsTree t c → IsSound t → depth t + length (f ∷ fs) ≤ 32 → 1 < f.lacks
-    → AreFrames (record { opened = with_member f.opened t; lacks = f.lacks - 1; first = f.first } ∷ fs) (front ++ c)
-stays_open f fs front t c h none one sound deep lt = record {
+-- the innermost has more behind it
+innermost_more : (f g : Frame) (fs : List Frame) (front c : List ℕ) → (h : AreFrames (f ∷ fs) front) → 0 < g.lacks → IsFrame (length fs + 1) g.opened g.lacks (h.rest ++ c) → AreFrames (g ∷ fs) (front ++ c)
+innermost_more f g fs front c h some is = record {
   front = h.front;
   rest = h.rest ++ c;
   around = h.around;
   keyless = h.keyless;
   room = h.room;
-  waiting = omega arith;
-  frame = frame_put (length fs + 1) f.opened f.lacks t h.rest c h.frame none h.waiting one sound (omega arith);
+  waiting = some;
+  frame = is;
   whole = ap (λ (x : List ℕ). x ++ c) h.whole ∙ append_assoc h.front h.rest c;
 }
 
+pub stays_open : (f : Frame) (fs : List Frame) (front : List ℕ) (t : Tree) (c : List ℕ) → AreFrames (f ∷ fs) front → (place (f ∷ fs)).key ≡ None → SpellsTree t c → IsSound t → depth t + length (f ∷ fs) ≤ 32 → 1 < f.lacks
+    → AreFrames (record { opened = with_member f.opened t; lacks = f.lacks - 1; first = f.first } ∷ fs) (front ++ c)
+stays_open f fs front t c h none one sound deep lt =
+    innermost_more f (record { opened = with_member f.opened t; lacks = f.lacks - 1; first = f.first }) fs front c h (omega arith)
+    (frame_put (length fs + 1) f.opened f.lacks t h.rest c h.frame none h.waiting one sound (omega arith))
+
 last_closes : (f : Frame) (fs : List Frame) (front : List ℕ) (t : Tree) (c : List ℕ) → (h : AreFrames (f ∷ fs) front) → (place (f ∷ fs)).key ≡ None → SpellsTree t c → IsSound t → depth t + length (f ∷ fs) ≤ 32 → f.lacks ≤ 1
-    → IsValue (length fs + 1) (tree_so_far (with_member f.opened t)) (h.rest ++ c)
+    → IsWhole (length fs + 1) (tree_so_far (with_member f.opened t)) (h.rest ++ c)
 last_closes f fs front t c h none one sound deep le =
     let zero : f.lacks - 1 ≡ 0 = omega arith in
     put_closes (length fs + 1) f.opened t (h.rest ++ c)
@@ -160,3 +166,61 @@ ends_stand (f ∷ fs) front t c h none one sound deep =
           let whole : front ++ c ≡ h.front ++ (h.rest ++ c) = ap (λ (x : List ℕ). x ++ c) h.whole ∙ append_assoc h.front h.rest c in
           rw (e, whole) (ends_stand fs h.front (tree_so_far (with_member f.opened t)) (h.rest ++ c) h.around h.keyless v.0 v.1 (omega (arith, v.2))))
     ]
+
+-- ---- what a head opens, and a key
+
+-- a head begins what opens, without members yet
+pub list_frame : (heads : ℕ) (size : Size) (n : ℕ) (field b : List ℕ) → heads ≤ 32 → IsSize size n field → Begins (announces.List size) field b → IsFrame heads (in_list no_trees) n b
+list_frame heads size n field b le is begins = record {
+  size = size;
+  field = field;
+  body = [];
+  sized = sized size n (0 + n) field (omega arith) is;
+  spelled = refl;
+  sound = tt;
+  deep = omega arith;
+  begins = subst (λ (x : List ℕ). Begins (announces.List size) x b) (sym (append-nil field)) begins;
+}
+
+pub dict_frame : (heads : ℕ) (size : Size) (n : ℕ) (field b : List ℕ) → heads ≤ 32 → IsSize size n field → Begins (announces.Dict size) field b → IsFrame heads (at_key no_entries) n b
+dict_frame heads size n field b le is begins = record {
+  size = size;
+  field = field;
+  body = [];
+  sized = sized size n (0 + n) field (omega arith) is;
+  spelled = refl;
+  fresh = tt;
+  sound = tt;
+  deep = omega arith;
+  begins = subst (λ (x : List ℕ). Begins (announces.Dict size) x b) (sym (append-nil field)) begins;
+}
+
+pub struct_frame : (heads tag n : ℕ) (b : List ℕ) → heads ≤ 32 → Begins (announces.Struct n) (tag ∷ []) b → IsFrame heads (in_struct tag no_trees) n b
+struct_frame heads tag n b le begins = record {
+  body = [];
+  spelled = refl;
+  sound = tt;
+  deep = omega arith;
+  begins = subst (λ (k : ℕ). Begins (announces.Struct k) (tag ∷ []) b) (sym (zero-add n)) begins;
+}
+
+-- a key that its dictionary didn't have
+pub key_waits : (es : Entries) (k : List ℕ) (n first : ℕ) (fs : List Frame) (front key : List ℕ) → AreFrames (record { opened = at_key es; lacks = n; first = first } ∷ fs) front
+    → SpellsText k key → is_among k (keys_of es) ≡ false → AreFrames (record { opened = at_value es k; lacks = n; first = first } ∷ fs) (front ++ key)
+key_waits es k n first fs front key h name new =
+    let is = h.frame in
+    innermost_more (record { opened = at_key es; lacks = n; first = first }) (record { opened = at_value es k; lacks = n; first = first }) fs front key h h.waiting
+    (record {
+      size = is.size;
+      field = is.field;
+      body = is.body;
+      key = key;
+      sized = is.sized;
+      spelled = is.spelled;
+      fresh = is.fresh;
+      sound = is.sound;
+      deep = is.deep;
+      spelled_key = name;
+      new_key = new;
+      begins = begins_more (announces.Dict is.size) (is.field ++ is.body) (is.field ++ (is.body ++ key)) h.rest key is.begins (append_assoc is.field is.body key);
+    })

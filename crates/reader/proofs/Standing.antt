@@ -1,5 +1,5 @@
 -- Where an item ends, something is open behind it, or the value is whole.
-use Rattle.std.proofs.Common.{◌≡◌, ◌⊎◌, ◌≤◌, ◌<◌, ◌-◌, nat_lt, ℕ, suc, Bool, true, false, ◌||◌, List, [], ◌∷◌, ◌++◌, length, Option, Some, None, refl, sym, ap, subst, ◌∙◌, arith, inl, inr}
+use Rattle.std.proofs.Common.{◌≡◌, ◌↔◌, ◌⊎◌, ◌≤◌, ◌<◌, nat_lt, ℕ, suc, Bool, true, false, ◌||◌, List, [], ◌∷◌, ◌++◌, length, None, refl, sym, ap, subst, ◌∙◌, arith, inl, inr}
 use Rattle.std.proofs.lemmas.Bool.{lt-ltb, le-ltb, cases_lt, or_left, or_right, or_cases}
 use Rattle.std.proofs.lemmas.List.{append-nil, length-append}
 use Rattle.std.proofs.lemmas.Option.{slice_get_within}
@@ -8,9 +8,8 @@ use Rattle.std.specs.List.{list_any}
 use Rattle.std.proofs.lemmas.List.Folds.{list_any-append}
 use Rattle.std.proofs.lemmas.Slice.Eq.{bytes_eq-Decides}
 use Rattle.packstream.specs.Tree.{Tree, Entries, no_entries, entry_then}
-use Rattle.packstream.specs.Good.{depth, IsSound, is_among}
-use Rattle.packstream.specs.Spelling.{SpellsTree}
-use Rattle.packstream.specs.Faults.{Opened, at_key, at_value, keys_of}
+use Rattle.packstream.specs.Good.{depth, is_among}
+use Rattle.packstream.specs.Faults.{Opened, at_key, at_value, keys_of, key_there}
 use Rattle.reader.specs.declared.open.Open.{Open}
 use Rattle.reader.specs.declared.open.Level.{Level}
 use Rattle.reader.specs.declared.progress.Part.TheVariants as part
@@ -41,52 +40,50 @@ some_key : (ks : List (List ℕ)) (k : List ℕ) → ks ++ k ∷ [] ≡ [] → �
 some_key [] k e = cc
 some_key (j ∷ ks) k e = cc
 
-names_put : (f : Opened) (t : Tree) (first : ℕ) (names : List Name) (store : List ℕ) → HasNames f first names store → ((es : Entries) → f ≡ at_key es → ⊥) → HasNames (with_member f t) first names store
-names_put (at_key es) t first names store h other = absurd (other es refl)
-names_put (at_value es k) t first names store h other = (
+names_put : (f : Opened) (t : Tree) (first : ℕ) (names : List Name) (store : List ℕ) → HasNames f first names store → key_there f ≡ None → HasNames (with_member f t) first names store
+names_put (at_key es) t first names store h none = absurd cc
+names_put (at_value es k) t first names store h none = (
   subst (λ (ks : List (List ℕ)). AreNames names store first ks) (sym (keys_push es k t)) h,
   λ (e : keys_of (push_entry es k t) ≡ []). absurd (some_key (keys_of es) k (sym (keys_push es k t) ∙ e)),
 )
-names_put f t first names store h other = tt
+names_put f t first names store h none = tt
 
 apart_put : (f : Opened) (t : Tree) (first : ℕ) (fs : List Frame) → IsApart f first fs → IsApart (with_member f t) first fs
 apart_put (at_key es) t first fs h = h
 apart_put (at_value es k) t first fs h = h
 apart_put f t first fs h = tt
 
-no_key : (f : Frame) (fs : List Frame) → (place (f ∷ fs)).key ≡ None → (es : Entries) → f.opened ≡ at_key es → ⊥
-no_key f fs none es e = let k : ◌≡◌ {A = Option (List (List ℕ))} (Some (keys_of es)) None = sym (ap (λ (o : Opened). (place (record { opened = o; lacks = f.lacks; first = f.first } ∷ fs)).key) e) ∙ none in cc
+-- what is still open has its names
+abbrev HasLeftNames : Left → List Name → List ℕ → Type 0
+HasLeftNames (whole t) names store = Unit {0}
+HasLeftNames (still fs) names store = HaveNames fs names store
 
 -- what a value leaves has its names
-pub names_end : (fs : List Frame) (t : Tree) (b : List ℕ) (names : List Name) (store : List ℕ) (gs : List Frame) → AreFrames fs b → (place fs).key ≡ None → HaveNames fs names store → ends fs t ≡ still gs → HaveNames gs names store
-names_end [] t b names store gs are none h e = absurd cc
-names_end (f ∷ fs) t b names store gs are none h e =
-    elim (cases_lt 1 f.lacks) as (λ _. HaveNames gs names store) [
-      | inl lt ↦ (let l : nat_lt 1 f.lacks ≡ true = lt-ltb _ _ lt in
-          let same : still (record { opened = with_member f.opened t; lacks = f.lacks - 1; first = f.first } ∷ fs) ≡ still gs = rw l at e in
-          let g : record { opened = with_member f.opened t; lacks = f.lacks - 1; first = f.first } ∷ fs ≡ gs = cc in
-          subst (λ (x : List Frame). HaveNames x names store) g ((names_put f.opened t f.first names store h.0.0 (no_key f fs none), apart_put f.opened t f.first fs h.0.1), h.1))
-      | inr le ↦ (let l : nat_lt 1 f.lacks ≡ false = le-ltb _ _ le in
-          let same : ends fs (tree_so_far (with_member f.opened t)) ≡ still gs = rw l at e in
-          names_end fs (tree_so_far (with_member f.opened t)) are.front names store gs are.around are.keyless h.1 same)
+names_end : (fs : List Frame) (t : Tree) (b : List ℕ) (names : List Name) (store : List ℕ) → AreFrames fs b → (place fs).key ≡ None → HaveNames fs names store → HasLeftNames (ends fs t) names store
+names_end [] t b names store are none h = tt
+names_end (f ∷ fs) t b names store are none h =
+    elim (cases_lt 1 f.lacks) as (λ _. HasLeftNames (ends (f ∷ fs) t) names store) [
+      | inl lt ↦ (let l : nat_lt 1 f.lacks ≡ true = lt-ltb _ _ lt in rw l ((names_put f.opened t f.first names store h.0.0 none, apart_put f.opened t f.first fs h.0.1), h.1))
+      | inr le ↦ (let l : nat_lt 1 f.lacks ≡ false = le-ltb _ _ le in rw l (names_end fs (tree_so_far (with_member f.opened t)) are.front names store are.around are.keyless h.1))
     ]
 
+-- the same texts are keys, where the same are named
+are_same : (names ns : List Name) (store b : List ℕ) (first : ℕ) (keys : List (List ℕ)) → ((x : List ℕ) → IsNamed names store first x ↔ IsNamed ns b first x) → AreNames names store first keys → AreNames ns b first keys
+are_same names ns store b first keys same h = λ x. (
+  (λ (e : is_among x keys ≡ true). (same x).0 ((h x).0 e)),
+  (λ (n : IsNamed ns b first x). (h x).1 ((same x).1 n)),
+)
+
 -- more bytes change no name
-named_more : (names : List Name) (store s : List ℕ) (first : ℕ) (x : List ℕ) → ArePlaced names (length store) → (IsNamed names store first x → IsNamed names (store ++ s) first x) × (IsNamed names (store ++ s) first x → IsNamed names store first x)
+named_more : (names : List Name) (store s : List ℕ) (first : ℕ) (x : List ℕ) → ArePlaced names (length store) → IsNamed names store first x ↔ IsNamed names (store ++ s) first x
 named_more names store s first x placed = (
   (λ (n : IsNamed names store first x). record { index = n.index; found = n.found; there = n.there; begins = n.begins; text = text_more store s (n.found).start (n.found).len (placed n.index n.found n.there).1 ∙ n.text }),
   (λ (n : IsNamed names (store ++ s) first x). record { index = n.index; found = n.found; there = n.there; begins = n.begins; text = sym (text_more store s (n.found).start (n.found).len (placed n.index n.found n.there).1) ∙ n.text }),
 )
 
-are_more : (names : List Name) (store s : List ℕ) (first : ℕ) (keys : List (List ℕ)) → ArePlaced names (length store) → AreNames names store first keys → AreNames names (store ++ s) first keys
-are_more names store s first keys placed h = λ x. (let m = named_more names store s first x placed in (
-  (λ (e : is_among x keys ≡ true). m.0 ((h x).0 e)),
-  (λ (n : IsNamed names (store ++ s) first x). (h x).1 (m.1 n)),
-))
-
 has_more : (f : Opened) (names : List Name) (store s : List ℕ) (first : ℕ) → ArePlaced names (length store) → HasNames f first names store → HasNames f first names (store ++ s)
-has_more (at_key es) names store s first placed h = (are_more names store s first (keys_of es) placed h.0, h.1)
-has_more (at_value es k) names store s first placed h = are_more names store s first (keys_of es ++ k ∷ []) placed h
+has_more (at_key es) names store s first placed h = (are_same names names store (store ++ s) first (keys_of es) (λ x. named_more names store s first x placed) h.0, h.1)
+has_more (at_value es k) names store s first placed h = are_same names names store (store ++ s) first (keys_of es ++ k ∷ []) (λ x. named_more names store s first x placed) h
 has_more f names store s first placed h = tt
 
 pub names_more : (fs : List Frame) (names : List Name) (store s : List ℕ) → ArePlaced names (length store) → HaveNames fs names store → HaveNames fs names (store ++ s)
@@ -97,7 +94,7 @@ pub placed_more : (names : List Name) (store s : List ℕ) → ArePlaced names (
 placed_more names store s placed = λ i n e. (let p = placed i n e in (p.0, omega (arith, p.1, length-append store s)))
 
 -- a name of another dictionary
-named_push : (names : List Name) (n : Name) (store : List ℕ) (first : ℕ) (x : List ℕ) → first < n.first → (IsNamed names store first x → IsNamed (names ++ n ∷ []) store first x) × (IsNamed (names ++ n ∷ []) store first x → IsNamed names store first x)
+named_push : (names : List Name) (n : Name) (store : List ℕ) (first : ℕ) (x : List ℕ) → first < n.first → IsNamed names store first x ↔ IsNamed (names ++ n ∷ []) store first x
 named_push names n store first x lt = (
   (λ (h : IsNamed names store first x). record { index = h.index; found = h.found; there = get_front names (n ∷ []) h.index h.found h.there; begins = h.begins; text = h.text }),
   (λ (h : IsNamed (names ++ n ∷ []) store first x).
@@ -107,22 +104,16 @@ named_push names n store first x lt = (
       ]),
 )
 
-are_push : (names : List Name) (n : Name) (store : List ℕ) (first : ℕ) (keys : List (List ℕ)) → first < n.first → AreNames names store first keys → AreNames (names ++ n ∷ []) store first keys
-are_push names n store first keys lt h = λ x. (let m = named_push names n store first x lt in (
-  (λ (e : is_among x keys ≡ true). m.0 ((h x).0 e)),
-  (λ (w : IsNamed (names ++ n ∷ []) store first x). (h x).1 (m.1 w)),
-))
-
-has_push : (f : Opened) (names : List Name) (n : Name) (store : List ℕ) (first : ℕ) → ((es : Entries) → f ≡ at_key es → ⊥) → BeginsBefore f first n.first → HasNames f first names store → HasNames f first (names ++ n ∷ []) store
-has_push (at_key es) names n store first other lt h = absurd (other es refl)
-has_push (at_value es k) names n store first other lt h = are_push names n store first (keys_of es ++ k ∷ []) lt h
-has_push f names n store first other lt h = tt
+has_push : (f : Opened) (names : List Name) (n : Name) (store : List ℕ) (first : ℕ) → key_there f ≡ None → BeginsBefore f first n.first → HasNames f first names store → HasNames f first (names ++ n ∷ []) store
+has_push (at_key es) names n store first none lt h = absurd cc
+has_push (at_value es k) names n store first none lt h = are_same names (names ++ n ∷ []) store store first (keys_of es ++ k ∷ []) (λ x. named_push names n store first x lt) h
+has_push f names n store first none lt h = tt
 
 -- those around keep theirs where an inner dictionary has one more
 pub names_push : (fs : List Frame) (b : List ℕ) (names : List Name) (n : Name) (store : List ℕ) → AreFrames fs b → (place fs).key ≡ None → BeginBefore fs n.first → HaveNames fs names store → HaveNames fs (names ++ n ∷ []) store
 names_push [] b names n store are none lt h = tt
 names_push (f ∷ fs) b names n store are none lt h =
-    ((has_push f.opened names n store f.first (no_key f fs none) lt.0 h.0.0, h.0.1), names_push fs are.front names n store are.around are.keyless lt.1 h.1)
+    ((has_push f.opened names n store f.first none lt.0 h.0.0, h.0.1), names_push fs are.front names n store are.around are.keyless lt.1 h.1)
 
 -- ---- keys among keys
 
@@ -161,25 +152,25 @@ key_named names n store keys k h t = λ x. (
       ]),
 )
 
+named_before : (names : List Name) (store : List ℕ) (first : ℕ) (x : List ℕ) → ArePlaced names (length store) → IsNamed names store first x → first < length names
+named_before names store first x placed w = omega (arith, (placed w.index w.found w.there).0, slice_get_within names w.index w.found w.there, w.begins)
+
 -- a dictionary that opens has no names
 pub no_names : (names : List Name) (store : List ℕ) → ArePlaced names (length store) → AreNames names store (length names) []
 no_names names store placed = λ x. (
   (λ (e : is_among x [] ≡ true). absurd cc),
-  (λ (w : IsNamed names store (length names) x). absurd (omega (arith, (placed w.index w.found w.there).0, slice_get_within names w.index w.found w.there, w.begins))),
+  (λ (w : IsNamed names store (length names) x). absurd (omega (arith, named_before names store (length names) x placed w))),
 )
 
-named_before : (names : List Name) (store : List ℕ) (first : ℕ) (x : List ℕ) → ArePlaced names (length store) → IsNamed names store first x → first < length names
-named_before names store first x placed w = omega (arith, (placed w.index w.found w.there).0, slice_get_within names w.index w.found w.there, w.begins)
-
-opened_before : (f : Opened) (names : List Name) (store : List ℕ) (first : ℕ) → ArePlaced names (length store) → ((es : Entries) → f ≡ at_key es → ⊥) → HasNames f first names store → BeginsBefore f first (length names)
-opened_before (at_key es) names store first placed other h = absurd (other es refl)
-opened_before (at_value es k) names store first placed other h = named_before names store first k placed ((h k).0 (among_itself (keys_of es) k))
-opened_before f names store first placed other h = tt
+opened_before : (f : Opened) (names : List Name) (store : List ℕ) (first : ℕ) → ArePlaced names (length store) → key_there f ≡ None → HasNames f first names store → BeginsBefore f first (length names)
+opened_before (at_key es) names store first placed none h = absurd cc
+opened_before (at_value es k) names store first placed none h = named_before names store first k placed ((h k).0 (among_itself (keys_of es) k))
+opened_before f names store first placed none h = tt
 
 pub all_before : (fs : List Frame) (b : List ℕ) (names : List Name) (store : List ℕ) → AreFrames fs b → (place fs).key ≡ None → ArePlaced names (length store) → HaveNames fs names store → BeginBefore fs (length names)
 all_before [] b names store are none placed h = tt
 all_before (f ∷ fs) b names store are none placed h =
-    (opened_before f.opened names store f.first placed (no_key f fs none) h.0.0, all_before fs are.front names store are.around are.keyless placed h.1)
+    (opened_before f.opened names store f.first placed none h.0.0, all_before fs are.front names store are.around are.keyless placed h.1)
 
 -- the next key of a dictionary is its first, or another stands where its keys begin
 pub root_of : (names : List Name) (store : List ℕ) (first : ℕ) (keys : List (List ℕ)) → AreNames names store first keys → (keys ≡ [] → first ≡ length names) → IsRoot names first
@@ -210,12 +201,9 @@ goes_on h o gs unread are levels names placed = inr (
   tt,
 )
 
-is_done : (h : Holds) (o : Open) (t : Tree) → o.is_whole ≡ true → SpellsTree t h.store → IsSound t → depth t ≤ 32 → ArePlaced h.names (length h.store) → IsStanding (after o (with_item h))
-is_done h o t ended spells sound deep placed = inl (record { tree = t; whole = ended; none = refl; spells = spells; sound = sound; deep = deep; read = refl; placed = placed })
-
-left_stands : (h : Holds) (o : Open) (l : Left) → Stands l h.store → IsLeft l o → ((gs : List Frame) → l ≡ still gs → HaveNames gs h.names h.store) → ArePlaced h.names (length h.store) → IsStanding (after o (with_item h))
-left_stands h o (whole t) s i names placed = is_done h o t i s.spells s.sound s.deep placed
-left_stands h o (still gs) s i names placed = goes_on h o gs i.0 s i.1 (names gs refl) placed
+left_stands : (h : Holds) (o : Open) (l : Left) → Stands l h.store → IsLeft l o → HasLeftNames l h.names h.store → ArePlaced h.names (length h.store) → IsStanding (after o (with_item h))
+left_stands h o (whole t) s i names placed = inl (record { tree = t; whole = i; none = refl; spells = s.spells; sound = s.sound; deep = s.deep; read = refl; placed = placed })
+left_stands h o (still gs) s i names placed = goes_on h o gs i.0 s i.1 names placed
 
 -- a value without members
 pub value_stands : (h : Holds) (m number : ℕ) (o : Open) → (g : Goes h (part.Body m number 0)) → IsValue h m number
@@ -225,8 +213,7 @@ value_stands h m number o g value left =
     left_stands h o (ends g.frames v.tree)
     (subst (λ (b : List ℕ). Stands (ends g.frames v.tree) b) (sym g.store) (ends_stand g.frames g.full v.tree (head_bytes m number ++ g.tail) g.are v.keyless v.spells v.sound v.deep))
     (left g.frames v.tree g.levels g.unread)
-    (λ gs e. names_end g.frames v.tree g.full h.names h.store gs g.are v.keyless g.named e)
-    g.placed
+    (names_end g.frames v.tree g.full h.names h.store g.are v.keyless g.named) g.placed
 
 -- what was taken with an item that ends
 pub has_taken : (h now : Holds) (o : Open) (rest : List ℕ) → now ≡ after o (with_item h) → h.standing.bad ≡ None → IsStanding (after o (with_item h)) → HasTaken (h.store ++ rest) now rest

@@ -1,5 +1,5 @@
--- What a piece does to a part.
-use Rattle.std.proofs.Common.{◌≡◌, ◌≤◌, ◌<◌, ◌+◌, ◌-◌, ◌^◌, ℕ, true, false, List, [], ◌∷◌, ◌++◌, length, drop, Option, Some, None, is_some, nat_le, refl, sym, ap, subst, ◌∙◌, append_assoc, arith, inl, inr}
+-- What a piece does to a part, and integers of one byte each that are members of what is open.
+use Rattle.std.proofs.Common.{◌≡◌, ◌≤◌, ◌<◌, ◌+◌, ◌-◌, ◌^◌, ℕ, true, false, List, [], ◌∷◌, ◌++◌, length, take, drop, Option, Some, None, is_some, nat_le, refl, sym, ap, subst, ◌∙◌, append_assoc, arith, inl, inr}
 use Rattle.std.proofs.lemmas.List.{append-nil, length-append, drop_at}
 use Rattle.byteorder.specs.Endian.{big_bytes}
 use Rattle.packstream.specs.declared.fault.Reason.{Reason}
@@ -13,21 +13,25 @@ use Rattle.std.specs.Str.{IsUtf8, is_utf8}
 use Rattle.std.proofs.lemmas.Str.{is_utf8-from_IsUtf8}
 use Rattle.std.proofs.lemmas.Bool.{le-leb, lt-leb}
 use Rattle.packstream.specs.Good.{is_among}
-use Rattle.packstream.specs.Faults.{fault_at, is_text, nests, keys_of, Bad}
+use Rattle.packstream.specs.Faults.{fault_at, is_text, nests, keys_of, Bad, Opened, in_list, in_struct, key_there}
 use Rattle.packstream.proofs.Bounds.{good_spelled}
 use Rattle.packstream.proofs.Ranges.{front_bytes}
 use Rattle.reader.specs.declared.progress.Part.{Part}
 use Rattle.reader.specs.declared.progress.Part.TheVariants as part
-use Rattle.reader.specs.Heads.{field, body, size_with, number_from, head_bytes, part_head}
+use Rattle.reader.specs.Heads.{field, body, size_with, number_from, head_bytes, part_head, IsTiny, AreTiny}
 use Rattle.reader.specs.declared.open.Level.{Level}
 use Rattle.reader.specs.Naming.{Name, IsNamed}
-use Rattle.reader.specs.Frames.{Frame, place, AreLevels, HaveNames, head_fault}
-use Rattle.reader.specs.Holding.{Holds, IsAdmitted, IsPart, IsLacking, Goes, IsDone, IsStanding, HasTaken}
+use Rattle.reader.specs.Frames.{Frame, place, AreLevels, HaveNames, head_fault, waits, next_of, AreFrames, HasOwnNames, with_member, Passes}
+use Rattle.reader.specs.Holding.{Holds, IsAdmitted, IsPart, IsLacking, Goes, IsDone, IsStanding, HasTaken, with_item}
 use Rattle.reader.proofs.Heads.{joined_bytes, joined_fits}
-use Rattle.reader.proofs.Opening.{bad_behind, heads_are}
-use Rattle.reader.proofs.Faulting.{not_text, twice}
+use Rattle.reader.proofs.Opening.{bad_behind, heads_are, not_text, twice}
+use Rattle.reader.proofs.Hanging.{text_from}
 use Rattle.reader.proofs.Values.{IsKeyFrame}
-use Rattle.reader.proofs.Standing.{levels_depth, names_more, placed_more}
+use Rattle.reader.proofs.Standing.{levels_depth, names_more, placed_more, few_frames, after, goes_on}
+use Rattle.packstream.specs.Tree.{int}
+use Rattle.reader.specs.declared.open.Open.{Open}
+use Rattle.reader.specs.declared.open.Inside.TheVariants as inside
+use Rattle.reader.proofs.Pushing.{stays_open}
 
 -- with other parts, or more bytes in the store
 abbrev pub parted : Part → Holds → Holds
@@ -36,6 +40,10 @@ parted p h = record h { standing = record h.standing { part = p } }
 abbrev pub stored : List ℕ → Holds → Holds
 stored s h = record h { store = h.store ++ s }
 
+-- as the code has it
+pub stored_is : (h : Holds) (b s : List ℕ) (ns : List Name) → b ≡ h.store ++ s → ns ≡ h.names → record h { store = b; names = ns } ≡ stored s h
+stored_is h b s ns e f = rw (e, f) refl
+
 -- ---- bytes behind a part
 
 grown_head : (b full head s : List ℕ) → b ≡ full ++ (head ++ []) → b ++ s ≡ full ++ ((head ++ s) ++ [])
@@ -43,10 +51,6 @@ grown_head b full head s e = rw (e, append-nil head, append-nil (head ++ s)) (ap
 
 grown_tail : (b full head tail s : List ℕ) → b ≡ full ++ (head ++ tail) → b ++ s ≡ full ++ (head ++ (tail ++ s))
 grown_tail b full head tail s e = ap (λ (x : List ℕ). x ++ s) e ∙ append_assoc full (head ++ tail) s ∙ ap (λ (x : List ℕ). full ++ x) (append_assoc head tail s)
-
--- what follows the front of a piece that the bytes took
-pub split_behind : (b all s rest c : List ℕ) → c ≡ b ++ s → all ≡ s ++ rest → c ++ rest ≡ b ++ all
-split_behind b all s rest c e f = rw (e, f) (append_assoc b s rest)
 
 -- where the part has more bytes
 behind : (h : Holds) (p q : Part) (s tail : List ℕ) → (g : Goes h p) → h.store ++ s ≡ g.full ++ (part_head q ++ tail) → IsPart (place g.frames) q tail → Goes (stored s h) q
@@ -125,6 +129,13 @@ goes_parted h p q g = record { frames = g.frames; full = g.full; tail = g.tail; 
 pub part_taken : (h : Holds) (p : Part) → Goes h p → IsLacking p → h.standing.bad ≡ None → HasTaken h.store (parted p h) []
 part_taken h p g lacks good = record { stands = inr (goes_parted h p p g, lacks); bytes = append-nil h.store; ends = inr refl; bad = good }
 
+-- a text or a byte string that goes on behind the bytes
+pub body_taken : (h : Holds) (m number lacks left : ℕ) (b s : List ℕ) (ns : List Name) → b ≡ h.store ++ s → ns ≡ h.names → Goes h (part.Body m number lacks) → left + length s ≡ lacks → 0 < left → h.standing.bad ≡ None
+    → HasTaken (h.store ++ s) (parted (part.Body m number left) (record h { store = b; names = ns })) []
+body_taken h m number lacks left b s ns e f g all some good =
+    subst (λ (x : Holds). HasTaken (h.store ++ s) (parted (part.Body m number left) x) []) (sym (stored_is h b s ns e f))
+    (part_taken (stored s h) (part.Body m number left) (body_longer h m number lacks left s g all) some good)
+
 -- ---- what follows the value
 
 pub trails : (h : Holds) (x : ℕ) (rest : List ℕ) → (d : IsDone h) → AreBytes h.store → Bad (h.store ++ x ∷ rest) h.standing.read reason.Trailing × (reason.Trailing ≡ reason.Short → ⊥)
@@ -158,18 +169,11 @@ key_twice h m number start size rest is g k there utf8 named =
     (ap (fault_at (place g.frames)) (append_assoc (head_bytes m number) g.tail rest) ∙ twice (place g.frames) m number size g.tail rest (keys_of k.es) is small n (is_utf8-from_IsUtf8 g.tail utf8) key among)
     (λ (e : reason.KeyTwice ≡ reason.Short). cc)
 
--- as the code has it
-pub stored_is : (h : Holds) (b s : List ℕ) (ns : List Name) → b ≡ h.store ++ s → ns ≡ h.names → record h { store = b; names = ns } ≡ stored s h
-stored_is h b s ns e f = rw (e, f) refl
-
 -- what an admitted head isn't
 pub refuses_deep : (fs : List Frame) (m : Marker) (n : ℕ) (around : List Level) → AreLevels fs n around → is_text m ≡ false → is_some (place fs).key ≡ false → nests m ≡ true → n ≡ 32 → head_fault (place fs) m ≡ Some reason.Depth
 refuses_deep fs m n around levels t k e d =
     let heads : nat_le 32 (place fs).heads ≡ true = le-leb 32 (place fs).heads (omega (arith, heads_are fs, levels_depth fs n around levels)) in
     rw (t, k, e, heads) refl
-
-pub refuses_flat : (fs : List Frame) (m : Marker) → is_text m ≡ false → is_some (place fs).key ≡ false → nests m ≡ false → head_fault (place fs) m ≡ None
-refuses_flat fs m t k e = rw (t, k, e) refl
 
 pub refuses_none : (fs : List Frame) (m : Marker) (n : ℕ) (around : List Level) → AreLevels fs n around → is_text m ≡ false → is_some (place fs).key ≡ false → nests m ≡ true → n ≤ 32 → (n ≡ 32 → ⊥) → head_fault (place fs) m ≡ None
 refuses_none fs m n around levels t k e le d =
@@ -202,9 +206,68 @@ head_bad h m rest r g f = fault_behind h part.Nothing (m ∷ rest) r g (ap (λ (
 pub has_bytes : (b : List ℕ) (new : Holds) (rest : List ℕ) → HasTaken b new rest → AreBytes b → AreBytes new.store
 has_bytes b new rest t are = front_bytes new.store rest (subst AreBytes (sym t.bytes) are)
 
--- the text of an item that is all there begins so far before the end
-pub text_starts : (h : Holds) (m number start all len : ℕ) (size : Size) → marker m ≡ Some (announces.Text size) → (g : Goes h (part.Body m number 0)) → all ≡ length h.store → len ≡ size_with size number → start ≡ all - len
-    → start + size_with size number ≡ length h.store
-text_starts h m number start all len size is g a l e =
+-- the text of an item that is all there, as the code reads it
+pub text_told : (h : Holds) (m number all len : ℕ) (size : Size) (found : List ℕ) → marker m ≡ Some (announces.Text size) → (g : Goes h (part.Body m number 0)) → all ≡ length h.store → len ≡ size_with size number → found ≡ h.store
+    → take (length found - (all - len)) (drop (all - len) found) ≡ g.tail
+text_told h m number all len size found is g a l e =
     let n : body (marker m) number ≡ size_with size number = ap (λ (o : Option Marker). body o number) is in
-    omega (arith, n, g.isa.long, ap length g.store, length-append g.full (head_bytes m number ++ g.tail), length-append (head_bytes m number) g.tail)
+    let starts : (all - len) + size_with size number ≡ length h.store = omega (arith, n, g.isa.long, ap length g.store, length-append g.full (head_bytes m number ++ g.tail), length-append (head_bytes m number) g.tail) in
+    text_from found h.store (all - len) e ∙ tail_at h m number (all - len) size is g starts
+
+-- ---- integers of one byte each, in a row
+
+member_next : (f : Opened) (b : ℕ) → (t : IsTiny b) → next_of f ≡ inside.Member → next_of (with_member f (int t.0)) ≡ inside.Member
+member_next (in_list ts) b t e = refl
+member_next (in_struct tag ts) b t e = refl
+member_next f b t e = absurd cc
+
+no_key : (f : Opened) → next_of f ≡ inside.Member → key_there f ≡ None
+no_key (in_list ts) e = refl
+no_key (in_struct tag ts) e = refl
+no_key f e = absurd cc
+
+no_names : (f : Opened) (n first : ℕ) (fs : List Frame) (names : List Name) (store : List ℕ) → next_of f ≡ inside.Member → HasOwnNames (waits f n first) fs names store
+no_names (in_list ts) n first fs names store e = (tt, tt)
+no_names (in_struct tag ts) n first fs names store e = (tt, tt)
+no_names f n first fs names store e = absurd cc
+
+-- with these members more
+abbrev with_tiny : Opened → (bs : List ℕ) → AreTiny bs → Opened
+with_tiny f [] t = f
+with_tiny f (b ∷ bs) t = with_tiny (with_member f (int t.0.0)) bs t.1
+
+tiny_next : (f : Opened) (bs : List ℕ) → (t : AreTiny bs) → next_of f ≡ inside.Member → next_of (with_tiny f bs t) ≡ inside.Member
+tiny_next f [] t e = e
+tiny_next f (b ∷ bs) t e = tiny_next (with_member f (int t.0.0)) bs t.1 (member_next f b t.0 e)
+
+frames_on : (f : Opened) (n first : ℕ) (fs : List Frame) (front bs : List ℕ) → (t : AreTiny bs) → next_of f ≡ inside.Member → length bs < n → AreFrames (waits f n first ∷ fs) front
+    → AreFrames (waits (with_tiny f bs t) (n - length bs) first ∷ fs) (front ++ bs)
+frames_on f n first fs front [] t e lt h =
+    let left : n ≡ n - length {A = ℕ} [] = omega arith in
+    subst (λ (k : ℕ). AreFrames (waits f k first ∷ fs) (front ++ [])) left (subst (λ (b : List ℕ). AreFrames (waits f n first ∷ fs) b) (sym (append-nil front)) h)
+frames_on f n first fs front (b ∷ bs) t e lt h =
+    let one = stays_open (waits f n first) fs front (int t.0.0) (b ∷ []) h (no_key f e) (inl (b, t.0.1, refl)) tt (omega (arith, few_frames (waits f n first ∷ fs) front h)) (omega arith) in
+    let more = frames_on (with_member f (int t.0.0)) (n - 1) first fs (front ++ b ∷ []) bs t.1 (member_next f b t.0 e) (omega arith) one in
+    let left : n - 1 - length bs ≡ n - length (b ∷ bs) = omega arith in
+    subst (λ (k : ℕ). AreFrames (waits (with_tiny f (b ∷ bs) t) k first ∷ fs) (front ++ b ∷ bs)) left
+    (subst (λ (x : List ℕ). AreFrames (waits (with_tiny f (b ∷ bs) t) (n - 1 - length bs) first ∷ fs) x) (append_assoc front (b ∷ []) bs) more)
+
+stands_on : (h : Holds) (o : Open) (bs : List ℕ) (fs : List Frame) → (g : Goes h part.Nothing) → fs ≡ g.frames → AreTiny bs → 0 < h.standing.«open».depth → o.is_whole ≡ false
+    → ((f : Frame) (around : List Frame) → AreLevels (f ∷ around) h.standing.«open».depth h.standing.«open».around → Passes f around (length bs) o) → IsStanding (after o (with_item (stored bs h)))
+stands_on h o bs [] g is t deep unread passed = absurd (omega (arith, subst (λ (x : List Frame). AreLevels x h.standing.«open».depth h.standing.«open».around) (sym is) g.levels))
+stands_on h o bs (f ∷ fs) g is t deep unread passed =
+    let levels = subst (λ (x : List Frame). AreLevels x h.standing.«open».depth h.standing.«open».around) (sym is) g.levels in
+    let names = subst (λ (x : List Frame). HaveNames x h.names h.store) (sym is) g.named in
+    let all : g.full ≡ h.store = sym (g.store ∙ ap (λ (x : List ℕ). g.full ++ x) g.isa ∙ append-nil g.full) in
+    let are = subst (λ (b : List ℕ). AreFrames (f ∷ fs) b) all (subst (λ (x : List Frame). AreFrames x g.full) (sym is) g.are) in
+    let p = passed f fs levels in
+    let new : Opened = with_tiny f.opened bs t in
+    let next = tiny_next f.opened bs t p.member in
+    goes_on (stored bs h) o (waits new (f.lacks - length bs) f.first ∷ fs) unread (frames_on f.opened f.lacks f.first fs h.store bs t p.member p.fewer are) (p.levels new next)
+    (no_names new (f.lacks - length bs) f.first fs h.names (h.store ++ bs) next, names_more fs h.names h.store bs g.placed names.1)
+    (placed_more h.names h.store bs g.placed)
+
+-- so something is still open behind them
+pub tiny_stands : (h : Holds) (o : Open) (bs : List ℕ) → Goes h part.Nothing → AreTiny bs → 0 < h.standing.«open».depth → o.is_whole ≡ false
+    → ((f : Frame) (around : List Frame) → AreLevels (f ∷ around) h.standing.«open».depth h.standing.«open».around → Passes f around (length bs) o) → IsStanding (after o (with_item (stored bs h)))
+tiny_stands h o bs g t deep unread passed = stands_on h o bs g.frames g refl t deep unread passed

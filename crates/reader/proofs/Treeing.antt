@@ -1,12 +1,13 @@
 -- The tree of a dictionary's keys: it stays where bytes come, where it is cut, and where a key is hung on it.
-use Rattle.std.proofs.Common.{◌≡◌, ◌≤◌, ◌<◌, ◌+◌, ◌-◌, ℕ, zero, suc, Bool, true, false, cond, List, [], ◌∷◌, ◌++◌, length, take, drop, Option, Some, None, refl, sym, ap, subst, ◌∙◌, arith, inl, inr}
-use Rattle.std.specs.Prelude.{slice_get, ◌⊎◌, ◌↔◌, IsTrue, ◌==◌, ◌/◌, ◌%◌, ◌^◌, nat_lt, bit_and}
+use Rattle.std.proofs.Common.{◌≡◌, ◌≤◌, ◌<◌, ◌+◌, ◌-◌, ℕ, zero, suc, Bool, false, cond, List, [], ◌∷◌, ◌++◌, length, take, drop, Option, Some, None, refl, sym, ap, subst, ◌∙◌, arith, inl, inr}
+use Rattle.std.specs.Prelude.{slice_get, ◌⊎◌, ◌==◌, ◌/◌, ◌%◌, ◌^◌, nat_lt, bit_and}
 use Rattle.std.proofs.lemmas.Bool.{le-ltb}
 use Rattle.std.proofs.lemmas.Nat.Bits.{shr_and_one}
 use Rattle.std.proofs.lemmas.List.{length-map, take-append-le, drop-append-le, length-drop, length-append, take-append-drop}
-use Rattle.std.proofs.lemmas.Option.{slice_get_within}
+use Rattle.std.specs.Option.{option_map}
+use Rattle.std.proofs.lemmas.Option.{slice_get_within, slice_get-map}
 use Rattle.reader.specs.declared.texts.Key.{Key}
-use Rattle.reader.specs.Naming.{Name, name, names_of, text_of, IsNamed, ArePlaced, IsRoot, digest_of, side_of, HangsOn, Leads, IsTree, HangsNone, IsFree}
+use Rattle.reader.specs.Naming.{Name, name, names_of, text_of, IsNamed, ArePlaced, IsRoot, digest_of, side_of, HangsOn, Leads, IsInPlace, IsTree, HangsNone, IsFree}
 
 -- ---- elements of lists
 
@@ -52,9 +53,7 @@ named_key (k ∷ keys) zero n e = (k, refl, cc)
 named_key (k ∷ keys) (suc i) n e = named_key keys i n e
 
 pub name_at : (keys : List Key) (i : ℕ) (k : Key) → slice_get keys i ≡ Some k → slice_get (names_of keys) i ≡ Some (name k)
-name_at [] i k e = absurd cc
-name_at (x ∷ keys) zero k e = let same : x ≡ k = cc in ap (λ (y : Key). Some (name y)) same
-name_at (x ∷ keys) (suc i) k e = name_at keys i k e
+name_at keys i k e = slice_get-map name keys i ∙ ap (option_map name) e
 
 pub count_names : (keys : List Key) → length (names_of keys) ≡ length keys
 count_names keys = length-map keys name
@@ -64,47 +63,77 @@ text_more a b start len le =
     let d : drop start (a ++ b) ≡ drop start a ++ b = drop-append-le start a b (omega arith) in
     rw d (take-append-le len (drop start a) b (omega (arith, length-drop start a)))
 
--- ---- more bytes
+-- ---- other keys, and other bytes
+
+-- but for what hangs below it, it is the same key
+pub record IsSameKey (k j : Key) : Type 0 where
+  pub names : name j ≡ name k
+  pub digest : j.digest ≡ k.digest
+  pub above : j.above ≡ k.above
+
+pub same_key : (k : Key) → IsSameKey k k
+same_key k = record { names = refl; digest = refl; above = refl }
+
+-- there is a key of the dictionary whose keys begin at first
+abbrev pub HasKey : List Key → ℕ → ℕ → Type 0
+HasKey keys first at = (k : Key) × (slice_get keys at ≡ Some k) × (k.first ≡ first)
+
+-- a key with the text s is in its place, where its sides lead
+pub in_place : (keys : List Key) (bytes : List ℕ) (first : ℕ) (s : List ℕ) (i : ℕ) (k : Key) (steps : ℕ) → k.first ≡ first → text_of bytes (name k) ≡ s → k.start + k.len ≤ length bytes → k.digest ≡ digest_of s
+    → first ≤ i → HasKey keys first first → Leads keys first s 0 first steps i → IsInPlace keys bytes i k
+in_place keys bytes first s i k steps of_first text within digest behind root leads = record {
+  root = root.0;
+  root_is = subst (λ (x : ℕ). slice_get keys x ≡ Some root.0) (sym of_first) root.1;
+  root_first = root.2 ∙ sym of_first;
+  behind = omega (arith, of_first, behind);
+  within = within;
+  digest = digest ∙ ap digest_of (sym text);
+  steps = steps;
+  leads = subst (λ (x : List ℕ). Leads keys k.first x 0 k.first steps i) (sym text) (subst (λ (x : ℕ). Leads keys x s 0 x steps i) (sym of_first) leads);
+}
+
+-- it stays there among other keys, where its root and the way from there do
+pub stays_in_place : (keys more : List Key) (bytes new : List ℕ) (i : ℕ) (k j : Key) → (p : IsInPlace keys bytes i k) → IsSameKey k j → text_of new (name k) ≡ text_of bytes (name k) → k.start + k.len ≤ length new
+    → (r : Key) × (slice_get more k.first ≡ Some r) × IsSameKey p.root r → Leads more k.first (text_of bytes (name k)) 0 k.first p.steps i → IsInPlace more new i j
+stays_in_place keys more bytes new i k j p same text within root leads =
+    let n : name j ≡ name k = same.names in
+    in_place more new k.first (text_of bytes (name k)) i j p.steps (ap (λ (x : Name). x.first) n) (ap (λ (x : Name). text_of new x) n ∙ text)
+    (omega (arith, within, ap (λ (x : Name). x.start) n, ap (λ (x : Name). x.len) n)) (same.digest ∙ p.digest) p.behind
+    (root.0, root.1, ap (λ (x : Name). x.first) (root.2).names ∙ p.root_first) leads
 
 pub tree_extends : (keys : List Key) (bytes s : List ℕ) → IsTree keys bytes → IsTree keys (bytes ++ s)
 tree_extends keys bytes s tree = λ i k e.
     (let p = tree i k e in
-    let same : text_of (bytes ++ s) (name k) ≡ text_of bytes (name k) = text_more bytes s k.start k.len p.within in
-    record {
-      root = p.root;
-      root_is = p.root_is;
-      root_first = p.root_first;
-      behind = p.behind;
-      within = omega (arith, p.within, length-append bytes s);
-      digest = rw same p.digest;
-      steps = p.steps;
-      leads = rw same p.leads;
-    })
+    stays_in_place keys keys bytes (bytes ++ s) i k k p (same_key k) (text_more bytes s k.start k.len p.within) (omega (arith, p.within, length-append bytes s)) (p.root, p.root_is, same_key p.root) p.leads)
 
--- ---- a cut
-
-hangs_cut : (keys : List Key) (m first at : ℕ) (side : Bool) (next : ℕ) → HangsOn keys first at side next → next < m → HangsOn (take m keys) first at side next
-hangs_cut keys m first at side next h lt = record {
-  upper = h.upper;
-  lower = h.lower;
-  upper_is = get_take keys m at h.upper (omega (arith, h.later)) h.upper_is;
-  upper_first = h.upper_first;
-  linked = h.linked;
+-- a key hangs on another where both are there, and the upper one has the same below it
+pub still_hangs : (keys more : List Key) (f a : ℕ) (s : Bool) (next : ℕ) → (h : HangsOn keys f a s next) → (up : Key) → slice_get more a ≡ Some up → IsSameKey h.upper up → cond s up.right up.left ≡ cond s h.upper.right h.upper.left
+    → (low : Key) → slice_get more next ≡ Some low → IsSameKey h.lower low → HangsOn more f a s next
+still_hangs keys more f a s next h up upper same_up linked low lower same_low = record {
+  upper = up;
+  lower = low;
+  upper_is = upper;
+  upper_first = ap (λ (x : Name). x.first) same_up.names ∙ h.upper_first;
+  linked = linked ∙ h.linked;
   later = h.later;
-  lower_is = get_take keys m next h.lower lt h.lower_is;
-  lower_first = h.lower_first;
-  above = h.above;
+  lower_is = lower;
+  lower_first = ap (λ (x : Name). x.first) same_low.names ∙ h.lower_first;
+  above = same_low.above ∙ h.above;
 }
 
 pub leads_up : (keys : List Key) (first : ℕ) (s : List ℕ) (above at steps to : ℕ) → Leads keys first s above at steps to → at ≤ to
 leads_up keys first s above at zero to h = omega (arith, h)
 leads_up keys first s above at (suc steps) to h = let up = leads_up keys first s (suc above) h.0 steps to h.2 in omega (arith, h.1.later)
 
-leads_cut : (keys : List Key) (m first : ℕ) (s : List ℕ) (above at steps to : ℕ) → Leads keys first s above at steps to → to < m → Leads (take m keys) first s above at steps to
-leads_cut keys m first s above at zero to h lt = h
-leads_cut keys m first s above at (suc steps) to h lt =
+-- the way to a key is the same where what hangs so far does
+pub still_leads : (keys more : List Key) (to : ℕ) → ((f a : ℕ) (s : Bool) (next : ℕ) → next ≤ to → HangsOn keys f a s next → HangsOn more f a s next)
+    → (first : ℕ) (s : List ℕ) (above at steps : ℕ) → Leads keys first s above at steps to → Leads more first s above at steps to
+still_leads keys more to hangs first s above at zero h = h
+still_leads keys more to hangs first s above at (suc steps) h =
     let up = leads_up keys first s (suc above) h.0 steps to h.2 in
-    (h.0, hangs_cut keys m first at (side_of (digest_of s) s above) h.0 h.1 (omega arith), leads_cut keys m first s (suc above) h.0 steps to h.2 lt)
+    (h.0, hangs first at (side_of (digest_of s) s above) h.0 up h.1, still_leads keys more to hangs first s (suc above) h.0 steps h.2)
+
+-- ---- a cut
 
 pub tree_cut : (keys : List Key) (bytes : List ℕ) (m n : ℕ) → IsTree keys bytes → ArePlaced (take m (names_of keys)) (length (take n bytes)) → IsTree (take m keys) (take n bytes)
 tree_cut keys bytes m n tree placed = λ i k e.
@@ -113,16 +142,11 @@ tree_cut keys bytes m n tree placed = λ i k e.
     let in_cut = placed i (name k) (get_take (names_of keys) m i (name k) g.0 (name_at keys i k g.1)) in
     let same : text_of (take n bytes) (name k) ≡ text_of bytes (name k) =
     sym (text_more (take n bytes) (drop n bytes) k.start k.len in_cut.1) ∙ ap (λ (b : List ℕ). text_of b (name k)) (take-append-drop n bytes) in
-    record {
-      root = p.root;
-      root_is = get_take keys m k.first p.root (omega (arith, p.behind, g.0)) p.root_is;
-      root_first = p.root_first;
-      behind = p.behind;
-      within = in_cut.1;
-      digest = rw same p.digest;
-      steps = p.steps;
-      leads = rw same (leads_cut keys m k.first (text_of bytes (name k)) 0 k.first p.steps i p.leads g.0);
-    })
+    let hangs : (f a : ℕ) (s : Bool) (next : ℕ) → next ≤ i → HangsOn keys f a s next → HangsOn (take m keys) f a s next = λ f a s next le h.
+    still_hangs keys (take m keys) f a s next h h.upper (get_take keys m a h.upper (omega (arith, g.0, le, h.later)) h.upper_is) (same_key h.upper) refl
+    h.lower (get_take keys m next h.lower (omega (arith, g.0, le)) h.lower_is) (same_key h.lower) in
+    stays_in_place keys (take m keys) bytes (take n bytes) i k k p (same_key k) same in_cut.1
+    (p.root, get_take keys m k.first p.root (omega (arith, p.behind, g.0)) p.root_is, same_key p.root) (still_leads keys (take m keys) i hangs k.first (text_of bytes (name k)) 0 k.first p.steps p.leads))
 
 -- ---- a search
 
@@ -140,12 +164,8 @@ one_below keys first at side a b g h =
 
 -- so far a search for s came down to `at`, and each key s of the dictionary stands there or below it
 pub record Searched (keys : List Key) (bytes : List ℕ) (first : ℕ) (s : List ℕ) (above at : ℕ) : Type 0 where
-  pub upper : Key
-  pub upper_is : slice_get keys at ≡ Some upper
-  pub upper_first : upper.first ≡ first
-  pub root : Key
-  pub root_is : slice_get keys first ≡ Some root
-  pub root_first : root.first ≡ first
+  pub upper : HasKey keys first at
+  pub root : HasKey keys first first
   pub low : above ≤ at
   pub led : Leads keys first s 0 first above at
   pub below : (i : ℕ) (k : Key) → slice_get keys i ≡ Some k → k.first ≡ first → text_of bytes (name k) ≡ s → (steps : ℕ) × Leads keys first s above at steps i
@@ -156,24 +176,21 @@ search_starts keys bytes first s tree (inr h) lt =
     let k = named_key keys h.index h.found h.there in
     let first_is : (k.0).first ≡ first = ap (λ (n : Name). n.first) k.2 ∙ h.begins in
     let p = tree h.index k.0 k.1 in
+    let root : HasKey keys first first = (p.root, subst (λ (n : ℕ). slice_get keys n ≡ Some p.root) first_is p.root_is, p.root_first ∙ first_is) in
     record {
-      upper = p.root;
-      upper_is = subst (λ (n : ℕ). slice_get keys n ≡ Some p.root) first_is p.root_is;
-      upper_first = p.root_first ∙ first_is;
-      root = p.root;
-      root_is = subst (λ (n : ℕ). slice_get keys n ≡ Some p.root) first_is p.root_is;
-      root_first = p.root_first ∙ first_is;
+      upper = root;
+      root = root;
       low = omega arith;
       led = refl;
       below = λ i j e f t. (let q = tree i j e in (q.steps, subst (λ (x : List ℕ). Leads keys first x 0 first q.steps i) t (subst (λ (n : ℕ). Leads keys n (text_of bytes (name j)) 0 n q.steps i) f q.leads)));
     }
 
-goes_below : (keys : List Key) (bytes : List ℕ) (first : ℕ) (s : List ℕ) (above at next : ℕ) → ((k : Key) → slice_get keys at ≡ Some k → text_of bytes (name k) ≡ s → ⊥) → HangsOn keys first at (side_of (digest_of s) s above) next
-    → (i : ℕ) (k : Key) → slice_get keys i ≡ Some k → text_of bytes (name k) ≡ s → (steps : ℕ) × Leads keys first s above at steps i → (steps : ℕ) × Leads keys first s (suc above) next steps i
-goes_below keys bytes first s above at next other hang i k e t (zero, h) = absurd (other k (subst (λ (n : ℕ). slice_get keys n ≡ Some k) (sym h) e) t)
-goes_below keys bytes first s above at next other hang i k e t (suc steps, h) =
-    let same : h.0 ≡ next = one_below keys first at (side_of (digest_of s) s above) h.0 next h.1 hang in
-    (steps, subst (λ (n : ℕ). Leads keys first s (suc above) n steps i) same h.2)
+-- a key s that isn't the one at `at` stands below what hangs there
+goes_below : (keys : List Key) (bytes : List ℕ) (first : ℕ) (s : List ℕ) (above at : ℕ) → ((k : Key) → slice_get keys at ≡ Some k → text_of bytes (name k) ≡ s → ⊥)
+    → (i : ℕ) (k : Key) → slice_get keys i ≡ Some k → text_of bytes (name k) ≡ s → (steps : ℕ) × Leads keys first s above at steps i
+    → (next : ℕ) × HangsOn keys first at (side_of (digest_of s) s above) next × (steps : ℕ) × Leads keys first s (suc above) next steps i
+goes_below keys bytes first s above at other i k e t (zero, h) = absurd (other k (subst (λ (n : ℕ). slice_get keys n ≡ Some k) (sym h) e) t)
+goes_below keys bytes first s above at other i k e t (suc steps, h) = (h.0, h.1, steps, h.2)
 
 -- it isn't this key: so the search goes on below it
 pub search_goes_on : (keys : List Key) (bytes : List ℕ) (first : ℕ) (s : List ℕ) (above at next : ℕ) → Searched keys bytes first s above at
@@ -181,28 +198,21 @@ pub search_goes_on : (keys : List Key) (bytes : List ℕ) (first : ℕ) (s : Lis
 search_goes_on keys bytes first s above at next h other hang =
     let more : suc above ≡ above + 1 = omega arith in
     subst (λ (n : ℕ). Searched keys bytes first s n next) more (record {
-      upper = hang.lower;
-      upper_is = hang.lower_is;
-      upper_first = hang.lower_first;
+      upper = (hang.lower, hang.lower_is, hang.lower_first);
       root = h.root;
-      root_is = h.root_is;
-      root_first = h.root_first;
       low = omega (arith, h.low, hang.later);
       led = leads_on keys first s 0 first above at above next h.led (omega arith) hang;
-      below = λ i k e f t. goes_below keys bytes first s above at next other hang i k e t (h.below i k e f t);
+      below = λ i k e f t.
+          (let d = goes_below keys bytes first s above at other i k e t (h.below i k e f t) in
+          (d.2, subst (λ (n : ℕ). Leads keys first s (suc above) n d.2 i) (one_below keys first at (side_of (digest_of s) s above) d.0 next d.1 hang) d.3));
     })
 
 -- it is this key
 pub search_finds : (keys : List Key) (bytes : List ℕ) (first : ℕ) (s : List ℕ) (above at : ℕ) (k : Key) → Searched keys bytes first s above at → slice_get keys at ≡ Some k → text_of bytes (name k) ≡ s
     → IsNamed (names_of keys) bytes first s
 search_finds keys bytes first s above at k h e t =
-    let same : h.upper ≡ k = one_element keys at h.upper k h.upper_is e in
-    record { index = at; found = name k; there = name_at keys at k e; begins = ap (λ (x : Key). x.first) (sym same) ∙ h.upper_first; text = t }
-
-not_below : (keys : List Key) (bytes : List ℕ) (first : ℕ) (s : List ℕ) (above at : ℕ) → ((k : Key) → slice_get keys at ≡ Some k → text_of bytes (name k) ≡ s → ⊥) → HangsNone keys first at (side_of (digest_of s) s above)
-    → (i : ℕ) (k : Key) → slice_get keys i ≡ Some k → text_of bytes (name k) ≡ s → (steps : ℕ) × Leads keys first s above at steps i → ⊥
-not_below keys bytes first s above at other none i k e t (zero, h) = other k (subst (λ (n : ℕ). slice_get keys n ≡ Some k) (sym h) e) t
-not_below keys bytes first s above at other none i k e t (suc steps, h) = none h.0 h.1
+    let same : h.upper.0 ≡ k = one_element keys at h.upper.0 k h.upper.1 e in
+    record { index = at; found = name k; there = name_at keys at k e; begins = ap (λ (x : Key). x.first) (sym same) ∙ h.upper.2; text = t }
 
 -- nothing is below it: so no key is this text, which may hang there
 pub search_ends : (keys : List Key) (bytes : List ℕ) (first : ℕ) (s : List ℕ) (above at : ℕ) (side : Bool) → Searched keys bytes first s above at
@@ -213,18 +223,19 @@ search_ends keys bytes first s above at side h other is none = (
       let k = named_key keys n.index n.found n.there in
       let of_first : (k.0).first ≡ first = ap (λ (x : Name). x.first) k.2 ∙ n.begins in
       let text : text_of bytes (name k.0) ≡ s = ap (λ (x : Name). text_of bytes x) k.2 ∙ n.text in
-      not_below keys bytes first s above at other (subst (λ (b : Bool). HangsNone keys first at b) is none) n.index k.0 k.1 text (h.below n.index k.0 k.1 of_first text)),
+      let d = goes_below keys bytes first s above at other n.index k.0 k.1 text (h.below n.index k.0 k.1 of_first text) in
+      none d.0 (subst (λ (b : Bool). HangsOn keys first at b d.0) (sym is) d.1)),
   record {
     steps = above;
     leads = h.led;
     side = is;
     none = none;
-    upper = h.upper;
-    upper_is = h.upper_is;
-    upper_first = h.upper_first;
-    root = h.root;
-    root_is = h.root_is;
-    root_first = h.root_first;
+    upper = h.upper.0;
+    upper_is = h.upper.1;
+    upper_first = h.upper.2;
+    root = h.root.0;
+    root_is = h.root.1;
+    root_first = h.root.2;
   },
 )
 
@@ -246,14 +257,6 @@ search_is_over keys bytes first s tree root le = (
 )
 
 -- ---- tests
-
-pub iff_true : (b : Bool) (P : Type 0) → (IsTrue b ↔ P) → b ≡ true → P
-iff_true true P h e = h.0 refl
-iff_true false P h e = absurd cc
-
-pub iff_false : (b : Bool) (P : Type 0) → (IsTrue b ↔ P) → b ≡ false → P → ⊥
-iff_false true P h e p = cc
-iff_false false P h e p = let q : false ≡ true = h.1 p in cc
 
 pub side_deep : (d : ℕ) (s : List ℕ) (above b : ℕ) → 64 ≤ above → slice_get s ((above - 64) / 8) ≡ Some b → (bit_and (b / 2 ^ ((above - 64) % 8)) 1 == 1) ≡ side_of d s above
 unfolding side_of

@@ -14,18 +14,18 @@ use Rattle.packstream.specs.Tree.{Tree, null, boolean, int, float, byte_string, 
 use Rattle.packstream.specs.Good.{depth, IsSound, is_among}
 use Rattle.packstream.specs.Markers.{width, marker, size_len}
 use Rattle.packstream.specs.Spelling.{SpellsText, SpellsTree}
-use Rattle.packstream.specs.Faults.{Place, Opened, in_list, in_struct, at_key, at_value, keys_of, key_there, is_text, nests}
+use Rattle.packstream.specs.Faults.{Opened, in_list, in_struct, at_key, at_value, keys_of, key_there, is_text, nests}
 use Rattle.packstream.proofs.Shortest.{number_of}
 use Rattle.reader.specs.declared.open.Open.{Open}
 use Rattle.reader.specs.declared.open.Inside.TheVariants as inside
 use Rattle.reader.specs.declared.progress.Part.TheVariants as part
 use Rattle.reader.specs.Heads.{field, body, size_with, head_bytes}
 use Rattle.reader.specs.Naming.{Name, IsNamed, ArePlaced, IsRoot, text_of}
-use Rattle.reader.specs.Frames.{Frame, waits, next_of, place, AreFrames, AreLevels, AreNames, HaveNames, head_fault}
-use Rattle.reader.specs.Holding.{Holds, with_item, IsAdmitted, Goes, IsStanding, IsValue, IsListOf}
+use Rattle.reader.specs.Frames.{Frame, waits, next_of, place, IsFrame, AreFrames, AreLevels, HasOwnNames, HaveNames, head_fault}
+use Rattle.reader.specs.Holding.{Holds, with_item, Goes, IsStanding, IsValue, IsListOf}
 use Rattle.reader.proofs.Heads.{sized_by}
 use Rattle.reader.proofs.Opening.{heads_are}
-use Rattle.reader.proofs.Heading.{list_opens, dict_opens, struct_opens, list_is_empty, dict_is_empty, struct_is_empty, key_waits}
+use Rattle.reader.proofs.Pushing.{IsWhole, list_closes, dict_closes, struct_closes, list_frame, dict_frame, struct_frame, key_waits}
 use Rattle.reader.proofs.Treeing.{get_pushed}
 use Rattle.reader.proofs.Standing.{levels_depth, few_frames, after, goes_on, names_push, key_named, no_names, all_before, root_of}
 
@@ -35,30 +35,33 @@ no_key_there : (o : Option (List (List ℕ))) → is_some o ≡ false → o ≡ 
 no_key_there None e = refl
 no_key_there (Some k) e = absurd cc
 
-keyless : (key full : Bool) → cond key (Some reason.KeyKind) (cond full (Some reason.Depth) None) ≡ None → (key ≡ false) × (full ≡ false)
-keyless true full e = absurd cc
-keyless false true e = absurd cc
-keyless false false e = (refl, refl)
-
 not_text : (text key full : Bool) → text ≡ false → cond text None (cond key (Some reason.KeyKind) (cond full (Some reason.Depth) None)) ≡ None → (key ≡ false) × (full ≡ false)
 not_text true key full e f = absurd cc
-not_text false key full e f = keyless key full f
+not_text false true full e f = absurd cc
+not_text false false true e f = absurd cc
+not_text false false false e f = (refl, refl)
 
--- a head that isn't a text's stands where no key does
-no_key_at : (p : Place) (m : Marker) → is_text m ≡ false → head_fault p m ≡ None → p.key ≡ None
-no_key_at p m e f = no_key_there p.key (not_text (is_text m) (is_some p.key) (nests m && nat_le 32 p.heads) e f).0
+-- a head that may stand there, and isn't a text's
+free : (h : Holds) (m number : ℕ) (what : Marker) → marker m ≡ Some what → is_text what ≡ false → (g : Goes h (part.Body m number 0))
+    → (is_some (place g.frames).key ≡ false) × ((nests what && nat_le 32 (place g.frames).heads) ≡ false)
+free h m number what is not g =
+    let a = g.isa.admitted in
+    let both : ◌≡◌ {A = Option Marker} (Some a.0) (Some what) = sym a.1 ∙ is in
+    let same : a.0 ≡ what = cc in
+    not_text (is_text what) (is_some (place g.frames).key) (nests what && nat_le 32 (place g.frames).heads) not (subst (λ (x : Marker). head_fault (place g.frames) x ≡ None) same a.2)
+
+-- it stands where no key does
+no_key_at : (h : Holds) (m number : ℕ) (what : Marker) → marker m ≡ Some what → is_text what ≡ false → (g : Goes h (part.Body m number 0)) → (place g.frames).key ≡ None
+no_key_at h m number what is not g = no_key_there (place g.frames).key (free h m number what is not g).0
 
 -- and what nests stands not too deep
-not_deep : (p : Place) (m : Marker) → is_text m ≡ false → nests m ≡ true → head_fault p m ≡ None → p.heads < 32
-not_deep p m e n f =
-    let g = (not_text (is_text m) (is_some p.key) (nests m && nat_le 32 p.heads) e f).1 in
-    leb-false 32 p.heads (ap (λ (b : Bool). b && nat_le 32 p.heads) (sym n) ∙ g)
+room : (h : Holds) (m number : ℕ) (what : Marker) → marker m ≡ Some what → is_text what ≡ false → nests what ≡ true → (g : Goes h (part.Body m number 0)) → length g.frames < 32
+room h m number what is not nest g =
+    let heads : ℕ = (place g.frames).heads in
+    omega (arith, leb-false 32 heads (ap (λ (b : Bool). b && nat_le 32 heads) (sym nest) ∙ (free h m number what is not g).1), heads_are g.frames)
 
-same_marker : (a b : Marker) (m : ℕ) → marker m ≡ Some a → marker m ≡ Some b → a ≡ b
-same_marker a b m e f = let g : ◌≡◌ {A = Option Marker} (Some a) (Some b) = sym e ∙ f in cc
-
-head_ok : (p : Place) (m : ℕ) (what : Marker) → marker m ≡ Some what → IsAdmitted p m → head_fault p what ≡ None
-head_ok p m what is a = subst (λ (x : Marker). head_fault p x ≡ None) (same_marker a.0 what m a.1 is) a.2
+pub has_room : (h : Holds) (m number : ℕ) (what : Marker) → marker m ≡ Some what → is_text what ≡ false → nests what ≡ true → (g : Goes h (part.Body m number 0)) → h.standing.«open».depth < 32
+has_room h m number what is not nest g = omega (arith, room h m number what is not nest g, levels_depth g.frames h.standing.«open».depth h.standing.«open».around g.levels)
 
 head_is : (m number : ℕ) (what : Marker) → marker m ≡ Some what → head_bytes m number ≡ m ∷ big_bytes (field (Some what)) number
 head_is m number what is = ap (λ (o : Option Marker). m ∷ big_bytes (field o) number) is
@@ -66,6 +69,12 @@ head_is m number what is = ap (λ (o : Option Marker). m ∷ big_bytes (field o)
 no_tail : (tail : List ℕ) (n : ℕ) → length tail + 0 ≡ n → n ≡ 0 → tail ≡ []
 no_tail [] n e f = refl
 no_tail (x ∷ tail) n e f = absurd (omega (arith, e, f))
+
+-- a head without a text or a byte string is all that there is
+head_alone : (h : Holds) (m number : ℕ) (what : Marker) → marker m ≡ Some what → body (Some what) number ≡ 0 → (g : Goes h (part.Body m number 0)) → m ∷ big_bytes (field (Some what)) number ≡ head_bytes m number ++ g.tail
+head_alone h m number what is none g =
+    let tail : g.tail ≡ [] = no_tail g.tail (body (marker m) number) g.isa.long (ap (λ (o : Option Marker). body o number) is ∙ none) in
+    sym (head_is m number what is) ∙ sym (append-nil (head_bytes m number)) ∙ ap (λ (x : List ℕ). head_bytes m number ++ x) (sym tail)
 
 few_around : (h : Holds) (m number : ℕ) → (g : Goes h (part.Body m number 0)) → 0 + length g.frames ≤ 32
 few_around h m number g = omega (arith, few_frames g.frames g.full g.are)
@@ -76,15 +85,13 @@ few_around h m number g = omega (arith, few_frames g.frames g.full g.are)
 headed : (h : Holds) (m number : ℕ) (what : Marker) (t : Tree) → marker m ≡ Some what → is_text what ≡ false → IsSound t → ((g : Goes h (part.Body m number 0)) → depth t + length g.frames ≤ 32) → body (Some what) number ≡ 0
     → SpellsTree t (m ∷ big_bytes (field (Some what)) number) → IsValue h m number
 headed h m number what t is not sound deep none spells = λ g.
-    (let tail : g.tail ≡ [] = no_tail g.tail (body (marker m) number) g.isa.long (ap (λ (o : Option Marker). body o number) is ∙ none) in
-    let all : m ∷ big_bytes (field (Some what)) number ≡ head_bytes m number ++ g.tail = sym (head_is m number what is) ∙ sym (append-nil (head_bytes m number)) ∙ ap (λ (x : List ℕ). head_bytes m number ++ x) (sym tail) in
     record {
       tree = t;
       sound = sound;
       deep = deep g;
-      spells = subst (λ (b : List ℕ). SpellsTree t b) all spells;
-      keyless = no_key_at (place g.frames) what not (head_ok (place g.frames) m what is g.isa.admitted);
-    })
+      spells = subst (λ (b : List ℕ). SpellsTree t b) (head_alone h m number what is none g) spells;
+      keyless = no_key_at h m number what is not g;
+    }
 
 small_by : (m number : ℕ) (what : Marker) → marker m ≡ Some what → number < 256 ^ field (marker m) → number < 256 ^ field (Some what)
 small_by m number what is lt = subst (λ (o : Option Marker). number < 256 ^ field o) is lt
@@ -100,7 +107,7 @@ byte_value h m number size is = λ g.
       sound = tt;
       deep = few_around h m number g;
       spells = subst (λ (b : List ℕ). SpellsTree (byte_string g.tail) b) all (size, big_bytes (size_len size) number, sized_by size number (length g.tail) small long, (m, is, refl));
-      keyless = no_key_at (place g.frames) what refl (head_ok (place g.frames) m what is g.isa.admitted);
+      keyless = no_key_at h m number what is refl g;
     })
 
 text_spelled : (m number : ℕ) (size : Size) (s : List ℕ) → marker m ≡ Some (announces.Text size) → number < 256 ^ field (marker m) → length s + 0 ≡ body (marker m) number → IsUtf8 s → SpellsText s (head_bytes m number ++ s)
@@ -140,75 +147,74 @@ plain_value h m number (announces.Struct n) is nt nl nd ns lt = absurd (ns n ref
 
 -- ---- what nests
 
-room : (h : Holds) (m number : ℕ) (what : Marker) → marker m ≡ Some what → is_text what ≡ false → nests what ≡ true → (g : Goes h (part.Body m number 0)) → length g.frames < 32
-room h m number what is not nest g = omega (arith, not_deep (place g.frames) what not nest (head_ok (place g.frames) m what is g.isa.admitted), heads_are g.frames)
-
 pub list_has_room : (h : Holds) (m number count : ℕ) (what : Marker) → marker m ≡ Some what → IsListOf what number count → (g : Goes h (part.Body m number 0)) → h.standing.«open».depth < 32
-list_has_room h m number count (announces.List size) is l g = omega (arith, room h m number (announces.List size) is refl refl g, levels_depth g.frames h.standing.«open».depth h.standing.«open».around g.levels)
-list_has_room h m number count (announces.Struct n) is l g = omega (arith, room h m number (announces.Struct n) is refl refl g, levels_depth g.frames h.standing.«open».depth h.standing.«open».around g.levels)
+list_has_room h m number count (announces.List size) is l g = has_room h m number (announces.List size) is refl refl g
+list_has_room h m number count (announces.Struct n) is l g = has_room h m number (announces.Struct n) is refl refl g
 list_has_room h m number count what is l g = absurd l
 
-pub dict_has_room : (h : Holds) (m number : ℕ) (size : Size) → marker m ≡ Some (announces.Dict size) → (g : Goes h (part.Body m number 0)) → h.standing.«open».depth < 32
-dict_has_room h m number size is g = omega (arith, room h m number (announces.Dict size) is refl refl g, levels_depth g.frames h.standing.«open».depth h.standing.«open».around g.levels)
-
-nested : (h : Holds) (m number : ℕ) (what : Marker) (t : Tree) → marker m ≡ Some what → is_text what ≡ false → nests what ≡ true → IsSound t → depth t ≡ 1 → body (Some what) number ≡ 0
-    → SpellsTree t (m ∷ big_bytes (field (Some what)) number) → IsValue h m number
-nested h m number what t is not nest sound flat none spells = headed h m number what t is not sound (λ g. omega (arith, flat, room h m number what is not nest g)) none spells
+-- a head, and nothing to come
+nested : (h : Holds) (m number : ℕ) (what : Marker) (t : Tree) → marker m ≡ Some what → is_text what ≡ false → nests what ≡ true → depth t ≡ 1 → body (Some what) number ≡ 0
+    → IsWhole 1 t (m ∷ big_bytes (field (Some what)) number) → IsValue h m number
+nested h m number what t is not nest flat none value = headed h m number what t is not value.1 (λ g. omega (arith, flat, room h m number what is not nest g)) none value.0
 
 pub list_value : (h : Holds) (m number count : ℕ) (what : Marker) → marker m ≡ Some what → IsListOf what number count → count ≡ 0 → number < 256 ^ field (marker m) → IsValue h m number
 list_value h m number count (announces.List size) is l e lt =
     let field_is = sized_by size number 0 (small_by m number (announces.List size) is lt) (l ∙ e) in
-    nested h m number (announces.List size) (list no_trees) is refl refl tt refl refl (list_is_empty size (big_bytes (size_len size) number) (m ∷ big_bytes (size_len size) number) field_is (m, is, refl))
+    let b : List ℕ = m ∷ big_bytes (size_len size) number in
+    nested h m number (announces.List size) (list no_trees) is refl refl refl refl (list_closes 1 no_trees b (list_frame 1 size 0 (big_bytes (size_len size) number) b (omega arith) field_is (m, is, refl)))
 list_value h m number count (announces.Struct n) is l e lt =
     let none : marker m ≡ Some (announces.Struct 0) = is ∙ ap (λ (k : ℕ). Some (announces.Struct k)) (l ∙ e) in
-    nested h m number (announces.Struct 0) (structure (number % 256) no_trees) none refl refl (omega arith, tt) refl refl (struct_is_empty (number % 256) (m ∷ big_bytes 1 number) (m, none, refl))
+    let b : List ℕ = m ∷ big_bytes 1 number in
+    nested h m number (announces.Struct 0) (structure (number % 256) no_trees) none refl refl refl refl (struct_closes 1 (number % 256) no_trees b (struct_frame 1 (number % 256) 0 b (omega arith) (m, none, refl)))
 list_value h m number count what is l e lt = absurd l
 
 pub dict_value : (h : Holds) (m number : ℕ) (size : Size) → marker m ≡ Some (announces.Dict size) → size_with size number ≡ 0 → number < 256 ^ field (marker m) → IsValue h m number
 dict_value h m number size is e lt =
     let field_is = sized_by size number 0 (small_by m number (announces.Dict size) is lt) e in
-    nested h m number (announces.Dict size) (dict no_entries) is refl refl (tt, tt) refl refl (dict_is_empty size (big_bytes (size_len size) number) (m ∷ big_bytes (size_len size) number) field_is (m, is, refl))
+    let b : List ℕ = m ∷ big_bytes (size_len size) number in
+    nested h m number (announces.Dict size) (dict no_entries) is refl refl refl refl (dict_closes 1 no_entries b (dict_frame 1 size 0 (big_bytes (size_len size) number) b (omega arith) field_is (m, is, refl)))
 
--- the frames behind a head
-opened : (h : Holds) (m number : ℕ) (what : Marker) (gs : List Frame) → marker m ≡ Some what → body (Some what) number ≡ 0 → (g : Goes h (part.Body m number 0))
-    → AreFrames gs (g.full ++ (m ∷ big_bytes (field (Some what)) number)) → AreFrames gs h.store
-opened h m number what gs is none g are =
-    let tail : g.tail ≡ [] = no_tail g.tail (body (marker m) number) g.isa.long (ap (λ (o : Option Marker). body o number) is ∙ none) in
-    let all : m ∷ big_bytes (field (Some what)) number ≡ head_bytes m number ++ g.tail = sym (head_is m number what is) ∙ sym (append-nil (head_bytes m number)) ∙ ap (λ (x : List ℕ). head_bytes m number ++ x) (sym tail) in
-    subst (λ (b : List ℕ). AreFrames gs b) (sym g.store) (subst (λ (b : List ℕ). AreFrames gs (g.full ++ b)) all are)
+-- a head, and something to come
+opens : (h : Holds) (m number : ℕ) (what : Marker) (o : Open) (f : Opened) (n first : ℕ) → marker m ≡ Some what → is_text what ≡ false → nests what ≡ true → body (Some what) number ≡ 0 → (n ≡ 0 → ⊥) → (g : Goes h (part.Body m number 0))
+    → ((heads : ℕ) → heads ≤ 32 → IsFrame heads f n (m ∷ big_bytes (field (Some what)) number)) → AreLevels (waits f n first ∷ g.frames) o.depth o.around → o.is_whole ≡ h.standing.«open».is_whole → HasOwnNames (waits f n first) g.frames h.names h.store
+    → IsStanding (after o (with_item h))
+opens h m number what o f n first is not nest none some g frame levels whole names =
+    let deep = room h m number what is not nest g in
+    let are : AreFrames (waits f n first ∷ g.frames) (g.full ++ (m ∷ big_bytes (field (Some what)) number)) = record {
+      front = g.full;
+      rest = m ∷ big_bytes (field (Some what)) number;
+      around = g.are;
+      keyless = no_key_at h m number what is not g;
+      room = deep;
+      waiting = omega (arith, some);
+      frame = frame (length g.frames + 1) (omega (arith, deep));
+      whole = refl;
+    } in
+    let all = ap (λ (x : List ℕ). g.full ++ x) (head_alone h m number what is none g) ∙ sym g.store in
+    goes_on h o (waits f n first ∷ g.frames) (whole ∙ g.unread) (subst (λ (b : List ℕ). AreFrames (waits f n first ∷ g.frames) b) all are) levels (names, g.named) g.placed
 
 pub list_stands : (h : Holds) (m number count : ℕ) (what : Marker) (o : Open) → marker m ≡ Some what → IsListOf what number count → (count ≡ 0 → ⊥) → (g : Goes h (part.Body m number 0))
     → ((fs : List Frame) (f : Opened) → AreLevels fs h.standing.«open».depth h.standing.«open».around → next_of f ≡ inside.Member → AreLevels (waits f count 0 ∷ fs) o.depth o.around) → o.is_whole ≡ h.standing.«open».is_whole
     → IsStanding (after o (with_item h))
 list_stands h m number count (announces.List size) o is l some g levels whole =
-    let what : Marker = announces.List size in
-    let none = no_key_at (place g.frames) what refl (head_ok (place g.frames) m what is g.isa.admitted) in
-    let field_is = sized_by size number count (small_by m number what is g.isa.small) l in
-    let are = list_opens size count 0 (big_bytes (size_len size) number) g.frames g.full (m ∷ big_bytes (size_len size) number) g.are none (room h m number what is refl refl g) (omega arith) field_is (m, is, refl) in
-    goes_on h o (waits (in_list no_trees) count 0 ∷ g.frames) (whole ∙ g.unread)
-    (opened h m number what (waits (in_list no_trees) count 0 ∷ g.frames) is refl g are) (levels g.frames (in_list no_trees) g.levels refl) ((tt, tt), g.named) g.placed
+    let field_is = sized_by size number count (small_by m number (announces.List size) is g.isa.small) l in
+    opens h m number (announces.List size) o (in_list no_trees) count 0 is refl refl refl some g
+    (λ heads le. list_frame heads size count (big_bytes (size_len size) number) (m ∷ big_bytes (size_len size) number) le field_is (m, is, refl)) (levels g.frames (in_list no_trees) g.levels refl) whole (tt, tt)
 list_stands h m number count (announces.Struct n) o is l some g levels whole =
-    let what : Marker = announces.Struct n in
-    let none = no_key_at (place g.frames) what refl (head_ok (place g.frames) m what is g.isa.admitted) in
     let counted : marker m ≡ Some (announces.Struct count) = is ∙ ap (λ (k : ℕ). Some (announces.Struct k)) l in
-    let are = struct_opens (number % 256) count 0 g.frames g.full (m ∷ big_bytes 1 number) g.are none (room h m number what is refl refl g) (omega arith) (m, counted, refl) in
-    goes_on h o (waits (in_struct (number % 256) no_trees) count 0 ∷ g.frames) (whole ∙ g.unread)
-    (opened h m number what (waits (in_struct (number % 256) no_trees) count 0 ∷ g.frames) is refl g are) (levels g.frames (in_struct (number % 256) no_trees) g.levels refl) ((tt, tt), g.named) g.placed
+    opens h m number (announces.Struct n) o (in_struct (number % 256) no_trees) count 0 is refl refl refl some g
+    (λ heads le. struct_frame heads (number % 256) count (m ∷ big_bytes 1 number) le (m, counted, refl)) (levels g.frames (in_struct (number % 256) no_trees) g.levels refl) whole (tt, tt)
 list_stands h m number count what o is l some g levels whole = absurd l
 
 pub dict_stands : (h : Holds) (m number count : ℕ) (size : Size) (o : Open) → marker m ≡ Some (announces.Dict size) → size_with size number ≡ count → (count ≡ 0 → ⊥) → (g : Goes h (part.Body m number 0))
     → ((fs : List Frame) (f : Opened) → AreLevels fs h.standing.«open».depth h.standing.«open».around → next_of f ≡ inside.Key → AreLevels (waits f count (length h.names) ∷ fs) o.depth o.around) → o.is_whole ≡ h.standing.«open».is_whole
     → IsStanding (after o (with_item h))
 dict_stands h m number count size o is l some g levels whole =
-    let what : Marker = announces.Dict size in
-    let none = no_key_at (place g.frames) what refl (head_ok (place g.frames) m what is g.isa.admitted) in
-    let field_is = sized_by size number count (small_by m number what is g.isa.small) l in
-    let first : ℕ = length h.names in
-    let are = dict_opens size count first (big_bytes (size_len size) number) g.frames g.full (m ∷ big_bytes (size_len size) number) g.are none (room h m number what is refl refl g) (omega arith) field_is (m, is, refl) in
-    let before = all_before g.frames g.full h.names h.store g.are none g.placed g.named in
-    goes_on h o (waits (at_key no_entries) count first ∷ g.frames) (whole ∙ g.unread)
-    (opened h m number what (waits (at_key no_entries) count first ∷ g.frames) is refl g are) (levels g.frames (at_key no_entries) g.levels refl)
-    (((no_names h.names h.store g.placed, λ e. refl), before), g.named) g.placed
+    let field_is = sized_by size number count (small_by m number (announces.Dict size) is g.isa.small) l in
+    let before = all_before g.frames g.full h.names h.store g.are (no_key_at h m number (announces.Dict size) is refl g) g.placed g.named in
+    opens h m number (announces.Dict size) o (at_key no_entries) count (length h.names) is refl refl refl some g
+    (λ heads le. dict_frame heads size count (big_bytes (size_len size) number) (m ∷ big_bytes (size_len size) number) le field_is (m, is, refl)) (levels g.frames (at_key no_entries) g.levels refl) whole
+    ((no_names h.names h.store g.placed, λ e. refl), before)
 
 -- ---- keys
 
@@ -227,10 +233,6 @@ frame_by f fs o is e = absurd cc
 pub key_frame : (fs : List Frame) → is_some (place fs).key ≡ true → IsKeyFrame fs
 key_frame [] e = absurd cc
 key_frame (f ∷ fs) e = frame_by f fs f.opened refl e
-
--- a text that is no name of a dictionary is none of its keys
-pub fresh_key : (names : List Name) (store : List ℕ) (first : ℕ) (keys : List (List ℕ)) (k : List ℕ) → AreNames names store first keys → (IsNamed names store first k → ⊥) → is_among k keys ≡ false
-fresh_key names store first keys k h unnamed = false_from_ne_true (is_among k keys) (λ e. unnamed ((h k).0 e))
 
 -- a name that is placed
 pub placed_push : (names : List Name) (n : Name) (len : ℕ) → ArePlaced names len → n.first ≤ length names → n.start + n.len ≤ len → ArePlaced (names ++ n ∷ []) len
@@ -268,7 +270,8 @@ key_stands h m number start size o is g k from there utf8 other levels same =
     let here = subst (λ (fs : List Frame). AreFrames fs g.full) k.is g.are in
     let around = subst (λ (fs : List Frame). AreLevels fs h.standing.«open».depth h.standing.«open».around) k.is g.levels in
     let named = subst (λ (fs : List Frame). HaveNames fs h.names h.store) k.is g.named in
-    let fresh : is_among g.tail (keys_of k.es) ≡ false = fresh_key h.names h.store k.first (keys_of k.es) g.tail named.0.0.0 (subst (λ (s : List ℕ). IsNamed h.names h.store k.first s → ⊥) there other) in
+    let unnamed = subst (λ (s : List ℕ). IsNamed h.names h.store k.first s → ⊥) there other in
+    let fresh : is_among g.tail (keys_of k.es) ≡ false = false_from_ne_true (is_among g.tail (keys_of k.es)) (λ e. unnamed ((named.0.0.0 g.tail).0 e)) in
     let are = key_waits k.es g.tail k.lacks k.first k.around g.full (head_bytes m number ++ g.tail) here (text_spelled m number size g.tail is g.isa.small g.isa.long utf8) fresh in
     let len : n.len ≡ length g.tail = omega arith in
     let has : text_of h.store n ≡ g.tail = ap (λ (x : ℕ). take x (drop start h.store)) len ∙ ap (λ (x : List ℕ). take (length g.tail) x) there ∙ take-length g.tail in

@@ -57,6 +57,7 @@ pub(crate) fn body_len(announced: Marker, number: u64) -> u64
 }
 
 /// The number of which these bytes are the next ones, the highest first.
+#[tactic(auto, using(crate::proofs::Heads::joined_room))]
 pub(crate) fn join(number: u64, bytes: &[u8]) -> u64
     requires { number_from number bytes.now < 2 ^ 64 }
     ensures { result ≡ number_from number bytes.now }

@@ -116,6 +116,7 @@ impl Reading {
 
     /// Ends an item of which all bytes are there, and answers what follows it.
     #[inline]
+    #[tactic(auto, using(crate::proofs::Values::plain_value))]
     fn end_item<'a>(
         &mut self,
         announced: Marker,
@@ -232,6 +233,7 @@ impl Reading {
     }
 
     /// Ends the head of a list or a structure, to have so many members.
+    #[tactic(auto, using(crate::proofs::Values::list_value))]
     fn end_list<'a>(
         &mut self,
         announced: Marker,
@@ -259,6 +261,7 @@ impl Reading {
     }
 
     /// Ends the head of a dictionary.
+    #[tactic(auto, using(crate::proofs::Values::dict_value))]
     fn end_dict<'a>(
         &mut self,
         size: Size,

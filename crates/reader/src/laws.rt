@@ -20,6 +20,7 @@ pub fn reads_more()
 {}
 
 /// What `finish` tells is what `decode` tells of the bytes that were read, whatever of them the reader kept.
+#[tactic(auto, using(crate::proofs::Pieces::value_read, crate::proofs::Pieces::fault_read, crate::proofs::Pieces::whole_read))]
 pub fn finish_reads()
     ensures value { (p : Point) (b : List ℕ) (told : Result Tree AnyFault) → Reads p b
         → Finishes p told → TellsValue b told }

@@ -61,6 +61,7 @@ impl Open {
 
     /// What is open there is open here.
     #[inline]
+    #[tactic(auto, using(crate::proofs::Leveling::levels_alike))]
     pub(crate) fn copy_from(&mut self, other: &Open)
         ensures is_whole { self.new.is_whole ≡ other.now.is_whole }
         ensures levels { (fs : List Frame) → AreLevels fs other.now.depth other.now.around
@@ -156,6 +157,7 @@ impl Open {
     }
 
     #[inline]
+    #[tactic(auto, using(crate::proofs::Leveling::level_opens))]
     fn enter(&mut self, next: Inside, lacks: u64, keys: usize)
         requires { self.old.depth < max_depth }
         ensures frames { (fs : List Frame) (f : Opened)
@@ -170,6 +172,7 @@ impl Open {
 
     /// A key is whole.
     #[inline]
+    #[tactic(auto, using(crate::proofs::Leveling::key_stands))]
     pub(crate) fn key_ends(&mut self)
         requires { 0 < self.old.depth }
         ensures frames { (fs : List Frame) (es : Entries) (k : List ℕ) (n first : ℕ)

@@ -125,6 +125,7 @@ impl Reading {
     /// members of a list or a structure that are integers of one byte each, where others are missing behind them; and
     /// answers whether it did. Else nothing changes.
     #[inline]
+    #[tactic(auto, using(crate::proofs::Taking::part_of))]
     pub(crate) fn take_within(&mut self, piece: &[u8]) -> Result<bool, AllocError>
         requires { IsStanding (holds self.old) }
         ensures taken { result ≡ Ok true

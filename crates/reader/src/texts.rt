@@ -80,6 +80,7 @@ impl Texts {
     }
 
     /// Appends bytes.
+    #[tactic(auto, using(crate::proofs::Hanging::tree_extends_if))]
     pub(crate) fn extend(&mut self, bytes: &[u8]) -> Result<(), AllocError>
         ensures ok { OnOk result (self.new.bytes ≡ self.old.bytes ++ bytes.now) }
         ensures err { OnErr result (self.new.bytes ≡ self.old.bytes) }

@@ -27,17 +27,8 @@ taken room b rest t bytes le e =
 abbrev pub Reads : {X E : Type 0} → Result X E → (X → Tree) → (X → List ℕ) → List ℕ → ℕ → Type 0
 Reads r view rest b room = IfOk r (λ x. layer (inner room) b ≡ Ok (view x, rest x))
 
--- where a function answers what reading gives, its answer is spelled by the front of the bytes ..
-pub front_spelled : {X E : Type 0} (r : Result X E) (view : X → Tree) (rest : X → List ℕ) (b : List ℕ) (room : ℕ) → AreBytes b → room ≤ 32 → Reads r view rest b room → IfOk r (λ x. SpellsFront (view x) (rest x) b)
-front_spelled (Ok x) view rest b room bytes le e = (taken room b (rest x) (view x) bytes le e).spelled
-front_spelled (Err d) view rest b room bytes le e = tt
-
--- .. good ..
-pub front_good : {X E : Type 0} (r : Result X E) (view : X → Tree) (rest : X → List ℕ) (b : List ℕ) (room : ℕ) → AreBytes b → room ≤ 32 → Reads r view rest b room → IfOk r (λ x. IsGood (view x))
-front_good (Ok x) view rest b room bytes le e = (taken room b (rest x) (view x) bytes le e).good
-front_good (Err d) view rest b room bytes le e = tt
-
--- .. and no deeper than was asked
-pub front_deep : {X E : Type 0} (r : Result X E) (view : X → Tree) (rest : X → List ℕ) (b : List ℕ) (room : ℕ) → AreBytes b → room ≤ 32 → Reads r view rest b room → IfOk r (λ x. depth (view x) ≤ room)
-front_deep (Ok x) view rest b room bytes le e = (taken room b (rest x) (view x) bytes le e).deep
-front_deep (Err d) view rest b room bytes le e = tt
+-- where a function answers what reading gives, its answer is spelled by the front of the bytes, good, and no deeper than was asked
+pub fronts : {X E : Type 0} (r : Result X E) (view : X → Tree) (rest : X → List ℕ) (b : List ℕ) (room : ℕ) → AreBytes b → room ≤ 32 → Reads r view rest b room
+    → IfOk r (λ x. SpellsFront (view x) (rest x) b) × IfOk r (λ x. IsGood (view x)) × IfOk r (λ x. depth (view x) ≤ room)
+fronts (Ok x) view rest b room bytes le e = let t = taken room b (rest x) (view x) bytes le e in (t.spelled, t.good, t.deep)
+fronts (Err d) view rest b room bytes le e = (tt, tt, tt)

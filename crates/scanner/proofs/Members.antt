@@ -1,8 +1,8 @@
 -- Cells and entries, and one more behind them.
-use Rattle.std.proofs.Common.{◌≡◌, ℕ, suc, ℤ, Ok, rules, List, [], ◌∷◌, ◌++◌, map, string_bytes, refl, sym, ap, ◌∙◌, append_assoc}
+use Rattle.std.proofs.Common.{◌≡◌, ℕ, suc, ℤ, Ok, rules, List, [], ◌∷◌, ◌++◌, map, string_bytes, refl, sym, ◌∙◌, append_assoc}
 use Rattle.std.proofs.lemmas.List.{append-nil}
 use Rattle.std.proofs.lemmas.Simd.{map-map}
-use Rattle.packstream.specs.Tree.{Tree, Trees, int}
+use Rattle.packstream.specs.Tree.{Tree, int}
 use Rattle.packstream.specs.View.{trees_of, entries_of}
 use Rattle.packstream.specs.Reading.{Read, keys, key_at, items_at, entries_at}
 use Rattle.packstream.proofs.Complete.{Pairs}
@@ -33,25 +33,15 @@ pub entry_on : (read : List ℕ → Read Tree) (n : ℕ) (done : Pairs) (bs mid 
 unfolding entries_at
 entry_on read n done bs mid after k t h e = rw (h, e) refl
 
-abbrev Structures : Type 0
-Structures = List (ℕ × Trees)
-
-member_joins : (ts : List Tree) (t : Tree) → structures_in (trees_of (ts ++ t ∷ [])) ≡ structures_in (trees_of ts) ++ structures t
-member_joins [] t = append-nil (structures t)
-member_joins (u ∷ ts) t =
-    ap (λ (x : Structures). structures u ++ x) (member_joins ts t)
-    ∙ sym (append_assoc (structures u) (structures_in (trees_of ts)) (structures t))
+-- what is gathered of a list's elements, and of one more behind them
+gathered : {A B : Type 0} (F : List A → List B) (f : A → List B) → F [] ≡ [] → ((x : A) (xs : List A) → F (x ∷ xs) ≡ f x ++ F xs) → (xs : List A) (y : A) → F (xs ++ y ∷ []) ≡ F xs ++ f y
+gathered F f none step [] y = rw (step y [], none) (append-nil (f y))
+gathered F f none step (x ∷ xs) y = rw (step x (xs ++ y ∷ []), step x xs, gathered F f none step xs y) (sym (append_assoc (f x) (F xs) (f y)))
 
 -- a member without structures joins members without structures
 pub plain_member : (ts : List Tree) (t : Tree) → structures_in (trees_of ts) ≡ [] → structures t ≡ [] → structures_in (trees_of (ts ++ t ∷ [])) ≡ []
-plain_member ts t all one = member_joins ts t ∙ rw (all, one) refl
-
-entry_joins : (es : Pairs) (k : List ℕ) (t : Tree) → structures_under (entries_of (es ++ (k, t) ∷ [])) ≡ structures_under (entries_of es) ++ structures t
-entry_joins [] k t = append-nil (structures t)
-entry_joins (e ∷ es) k t =
-    ap (λ (x : Structures). structures e.1 ++ x) (entry_joins es k t)
-    ∙ sym (append_assoc (structures e.1) (structures_under (entries_of es)) (structures t))
+plain_member ts t all one = gathered (λ (us : List Tree). structures_in (trees_of us)) structures refl (λ u us. refl) ts t ∙ rw (all, one) refl
 
 -- an entry without structures joins entries without structures
 pub plain_entry : (es : Pairs) (k : List ℕ) (t : Tree) → structures_under (entries_of es) ≡ [] → structures t ≡ [] → structures_under (entries_of (es ++ (k, t) ∷ [])) ≡ []
-plain_entry es k t all one = entry_joins es k t ∙ rw (all, one) refl
+plain_entry es k t all one = gathered (λ (fs : Pairs). structures_under (entries_of fs)) (λ (e : List ℕ × Tree). structures e.1) refl (λ e fs. refl) es (k, t) ∙ rw (all, one) refl

@@ -1,72 +1,37 @@
 -- What is ready is good, nests within its room, and has no structure.
-use Rattle.std.proofs.Common.{◌≡◌, ℕ, ◌-◌, ◌≤◌, [], refl, arith}
-use Rattle.packstream.specs.Tree.{Tree, null, boolean, int, float, byte_string, text, list, dict, structure, Trees, no_trees, tree_then, Entries, no_entries, entry_then}
+use Rattle.std.proofs.Common.{◌≡◌, ℕ, ◌-◌, ◌≤◌, List, [], refl, arith}
+use Rattle.packstream.specs.Tree.{Tree, null, boolean, list, dict, structure, Trees, no_trees, tree_then, Entries, no_entries, entry_then}
 use Rattle.packstream.specs.Plain.{IsPlain, ArePlain, HavePlain}
 use Rattle.packstream.specs.Good.{depth, trees_depth, entries_depth, IsSound, AreSound, HaveSoundValues, IsGood}
 use Rattle.cells.specs.Faults.{structures, structures_in, structures_under}
 use Rattle.speller.specs.Ready.{IsReady, AreReady, HaveReady}
 
-mutual
-  pub deep_by : (t : Tree) (r : ℕ) → IsReady r t → depth t ≤ r
-  deep_by (list ts) r h = let some = h.0 in let inside = all_deep ts (r - 1) h.1 in omega (arith, some, inside)
-  deep_by (dict es) r h = let some = h.0 in let inside = under_deep es (r - 1) h.2 in omega (arith, some, inside)
-  deep_by (structure tag ts) r h = absurd h
-  deep_by t r h = omega arith
-
-  pub all_deep : (ts : Trees) (r : ℕ) → AreReady r ts → trees_depth ts ≤ r
-  all_deep no_trees r h = omega arith
-  all_deep (tree_then t ts) r h = let a = deep_by t r h.0 in let b = all_deep ts r h.1 in omega (arith, a, b)
-
-  pub under_deep : (es : Entries) (r : ℕ) → HaveReady r es → entries_depth es ≤ r
-  under_deep no_entries r h = omega arith
-  under_deep (entry_then k t es) r h = let a = deep_by t r h.1 in let b = under_deep es r h.2 in omega (arith, a, b)
+-- what nests no deeper than the room, is sound and plain, and has no structures
+abbrev pub IsSure : ℕ → ℕ → Type 0 → Type 0 → List (ℕ × Trees) → Type 0
+IsSure deep room Sound Plain inside = (deep ≤ room) × Sound × Plain × (inside ≡ [])
 
 mutual
-  pub sound_by : (t : Tree) (r : ℕ) → IsReady r t → IsSound t
-  sound_by (list ts) r h = all_sound ts (r - 1) h.1
-  sound_by (dict es) r h = (h.1, under_sound es (r - 1) h.2)
-  sound_by (structure tag ts) r h = absurd h
-  sound_by t r h = tt
+  pub sure : (t : Tree) (r : ℕ) → IsReady r t → IsSure (depth t) r (IsSound t) (IsPlain t) (structures t)
+  sure null r h = (omega arith, tt, tt, refl)
+  sure (boolean b) r h = (omega arith, tt, tt, refl)
+  sure (list ts) r h = let some = h.0 in let a = all_sure ts (r - 1) h.1 in (omega (arith, some, a.0), a.1, a.2, a.3)
+  sure (dict es) r h = let some = h.0 in let a = under_sure es (r - 1) h.2 in (omega (arith, some, a.0), (h.1, a.1), a.2, a.3)
+  sure (structure tag ts) r h = absurd h
+  sure t r h = (omega arith, tt, h, refl)
 
-  pub all_sound : (ts : Trees) (r : ℕ) → AreReady r ts → AreSound ts
-  all_sound no_trees r h = tt
-  all_sound (tree_then t ts) r h = (sound_by t r h.0, all_sound ts r h.1)
+  pub all_sure : (ts : Trees) (r : ℕ) → AreReady r ts → IsSure (trees_depth ts) r (AreSound ts) (ArePlain ts) (structures_in ts)
+  all_sure no_trees r h = (omega arith, tt, tt, refl)
+  all_sure (tree_then t ts) r h =
+      let a = sure t r h.0 in
+      let b = all_sure ts r h.1 in
+      (omega (arith, a.0, b.0), (a.1, b.1), (a.2, b.2), rw a.3 b.3)
 
-  pub under_sound : (es : Entries) (r : ℕ) → HaveReady r es → HaveSoundValues es
-  under_sound no_entries r h = tt
-  under_sound (entry_then k t es) r h = (sound_by t r h.1, under_sound es r h.2)
-
-mutual
-  pub plain_by : (t : Tree) (r : ℕ) → IsReady r t → IsPlain t
-  plain_by null r h = tt
-  plain_by (boolean b) r h = tt
-  plain_by (list ts) r h = all_plain ts (r - 1) h.1
-  plain_by (dict es) r h = under_plain es (r - 1) h.2
-  plain_by (structure tag ts) r h = absurd h
-  plain_by t r h = h
-
-  pub all_plain : (ts : Trees) (r : ℕ) → AreReady r ts → ArePlain ts
-  all_plain no_trees r h = tt
-  all_plain (tree_then t ts) r h = (plain_by t r h.0, all_plain ts r h.1)
-
-  pub under_plain : (es : Entries) (r : ℕ) → HaveReady r es → HavePlain es
-  under_plain no_entries r h = tt
-  under_plain (entry_then k t es) r h = (h.0, plain_by t r h.1, under_plain es r h.2)
+  pub under_sure : (es : Entries) (r : ℕ) → HaveReady r es → IsSure (entries_depth es) r (HaveSoundValues es) (HavePlain es) (structures_under es)
+  under_sure no_entries r h = (omega arith, tt, tt, refl)
+  under_sure (entry_then k t es) r h =
+      let a = sure t r h.1 in
+      let b = under_sure es r h.2 in
+      (omega (arith, a.0, b.0), (a.1, b.1), (h.0, a.2, b.2), rw a.3 b.3)
 
 pub good_by : (t : Tree) (r : ℕ) → r ≤ 32 → IsReady r t → IsGood t
-good_by t r le h = let d = deep_by t r h in record { deep = omega (arith, d, le); sound = sound_by t r h; plain = plain_by t r h }
-
-mutual
-  pub none_by : (t : Tree) (r : ℕ) → IsReady r t → structures t ≡ []
-  none_by (list ts) r h = all_none ts (r - 1) h.1
-  none_by (dict es) r h = under_none es (r - 1) h.2
-  none_by (structure tag ts) r h = absurd h
-  none_by t r h = refl
-
-  pub all_none : (ts : Trees) (r : ℕ) → AreReady r ts → structures_in ts ≡ []
-  all_none no_trees r h = refl
-  all_none (tree_then t ts) r h = rw (none_by t r h.0) (all_none ts r h.1)
-
-  pub under_none : (es : Entries) (r : ℕ) → HaveReady r es → structures_under es ≡ []
-  under_none no_entries r h = refl
-  under_none (entry_then k t es) r h = rw (none_by t r h.1) (under_none es r h.2)
+good_by t r le h = let s = sure t r h in record { deep = omega (arith, s.0, le); sound = s.1; plain = s.2 }

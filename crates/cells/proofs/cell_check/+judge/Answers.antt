@@ -4,15 +4,12 @@ use Rattle.packstream.specs.Tree.{Tree, int, structure, no_trees, tree_then}
 use Rattle.packstream.specs.View.{trees_of}
 use Rattle.cells.specs.Faults.{scan, structures, structures_in}
 use Rattle.cells.specs.declared.cell.Path.{out-Path}
-use Rattle.cells.specs.Shape.{shape, entry, node_shape, unbound_shape}
+use Rattle.cells.specs.Shape.{shape, entry, node_shape, unbound_shape, text_of, texts_of}
 use Rattle.cells.specs.Writing.{fault_of_structure}
-use Rattle.cells.proofs.Views.{node_parts, unbound_parts, relationship_parts, shape-Dict, shape-Duration, node-out, unbound-out, relationship-out, path-out}
+use Rattle.cells.proofs.Views.{node_parts, unbound_parts, relationship_parts, shape-Duration, node-out, unbound-out, relationship-out, path-out}
 use Rattle.cells.proofs.Scanning.{members_step, pairs_step, scan_append, onward, Found}
-use Rattle.cells.proofs.Judged.{duration_judged, node_ok, unbound_ok, relationship_ok, path_ok, path_err, mapped}
+use Rattle.cells.proofs.Judged.{duration_judged, texts_plain, fields_ok, relationship_ok, path_ok, path_err, mapped}
 use Rattle.cells.proofs.cell_check.+judge.Goals as goal
-
-pub check_cell-returns-in-Dict : goal.check_cell-returns-in-Dict
-check_cell-returns-in-Dict t c = c.check_entries.ensures ∙ ap (λ (u : Tree). scan (fault_of_structure c.args.version) c.args.seen (structures u)) (sym (ap shape c.in-Dict.is ∙ shape-Dict c.in-Dict.pairs))
 
 pub check_cell-returns-in-Duration : goal.check_cell-returns-in-Duration
 check_cell-returns-in-Duration t c =
@@ -24,8 +21,7 @@ check_cell-returns-in-Duration t c =
     let same : structure 0x45 (tree_then (int (to_z w64 (of_z w64 w.months))) (tree_then (int (to_z w64 (of_z w64 w.days))) (tree_then (int (to_z w64 (of_z w64 w.seconds))) (tree_then (int (to_z w64 (of_z w64 w.nanos))) no_trees))))
     ≡ structure 0x45 (tree_then (int w.months) (tree_then (int w.days) (tree_then (int w.seconds) (tree_then (int w.nanos) no_trees)))) = rw (z0, z1, z2, z3) refl in
     c.judge-in-Duration.ensures ∙ duration_judged c.args.version c.args.seen (to_z w64 (of_z w64 w.months)) (to_z w64 (of_z w64 w.days)) (to_z w64 (of_z w64 w.seconds)) (to_z w64 (of_z w64 w.nanos))
-    ∙ ap (λ (u : Tree). scan (fault_of_structure c.args.version) c.args.seen (structures u)) same
-    ∙ ap (λ (u : Tree). scan (fault_of_structure c.args.version) c.args.seen (structures u)) (sym (ap shape w.is ∙ shape-Duration w.months w.days w.seconds w.nanos))
+    ∙ ap (λ (u : Tree). scan (fault_of_structure c.args.version) c.args.seen (structures u)) (same ∙ sym (ap shape w.is ∙ shape-Duration w.months w.days w.seconds w.nanos))
 
 pub check_cells-returns-in_err-number : goal.check_cells-returns-in_err-number
 check_cells-returns-in_err-number t c =
@@ -67,15 +63,15 @@ pub check_node-returns : goal.check_node-returns
 check_node-returns t c =
     let n = c.args.node.now in
     let z : to_z w64 (of_z w64 n.id) ≡ n.id = search rules in
-    c.check_entries.ensures ∙ node_ok c.args.version c.args.seen c.in_ok-number.number (3 + c.element_count-count.result) (to_z w64 (of_z w64 n.id)) n.labels.items n.properties.items n.element_id (search rules) c.in_ok-number.ensures
-    ∙ ap (λ (x : ℤ). scan (fault_of_structure c.args.version) c.args.seen (structures (node_parts x n.labels.items n.properties.items n.element_id))) z ∙ ap (λ (u : Tree). scan (fault_of_structure c.args.version) c.args.seen (structures u)) (sym (node-out n))
+    c.check_entries.ensures ∙ fields_ok c.args.version c.args.seen c.in_ok-number.number 0x4E (3 + c.element_count-count.result) (to_z w64 (of_z w64 n.id)) (texts_of n.labels.items) n.properties.items n.element_id refl refl (texts_plain n.labels.items) (search rules) c.in_ok-number.ensures
+    ∙ ap (λ (u : Tree). scan (fault_of_structure c.args.version) c.args.seen (structures u)) (ap (λ (x : ℤ). node_parts x n.labels.items n.properties.items n.element_id) z ∙ sym (node-out n))
 
 pub check_unbound-returns : goal.check_unbound-returns
 check_unbound-returns t c =
     let n = c.args.unbound.now in
     let z : to_z w64 (of_z w64 n.id) ≡ n.id = search rules in
-    c.check_entries.ensures ∙ unbound_ok c.args.version c.args.seen c.in_ok-number.number (3 + c.element_count-count.result) (to_z w64 (of_z w64 n.id)) n.kind n.properties.items n.element_id (search rules) c.in_ok-number.ensures
-    ∙ ap (λ (x : ℤ). scan (fault_of_structure c.args.version) c.args.seen (structures (unbound_parts x n.kind n.properties.items n.element_id))) z ∙ ap (λ (u : Tree). scan (fault_of_structure c.args.version) c.args.seen (structures u)) (sym (unbound-out n))
+    c.check_entries.ensures ∙ fields_ok c.args.version c.args.seen c.in_ok-number.number 0x72 (3 + c.element_count-count.result) (to_z w64 (of_z w64 n.id)) (text_of n.kind) n.properties.items n.element_id refl refl refl (search rules) c.in_ok-number.ensures
+    ∙ ap (λ (u : Tree). scan (fault_of_structure c.args.version) c.args.seen (structures u)) (ap (λ (x : ℤ). unbound_parts x n.kind n.properties.items n.element_id) z ∙ sym (unbound-out n))
 
 pub check_relationship-returns : goal.check_relationship-returns
 check_relationship-returns t c =
@@ -83,10 +79,9 @@ check_relationship-returns t c =
     let z0 : to_z w64 (of_z w64 n.id) ≡ n.id = search rules in
     let z1 : to_z w64 (of_z w64 n.start) ≡ n.start = search rules in
     let z2 : to_z w64 (of_z w64 n.end) ≡ n.end = search rules in
+    let same : relationship_parts (to_z w64 (of_z w64 n.id)) (to_z w64 (of_z w64 n.start)) (to_z w64 (of_z w64 n.end)) n.kind n.properties.items n.element_ids ≡ relationship_parts n.id n.start n.end n.kind n.properties.items n.element_ids = rw (z0, z1, z2) refl in
     c.check_entries.ensures ∙ relationship_ok c.args.version c.args.seen c.in_ok-number.number (5 + c.elements_count-count.result) (to_z w64 (of_z w64 n.id)) (to_z w64 (of_z w64 n.start)) (to_z w64 (of_z w64 n.end)) n.kind n.properties.items n.element_ids (search rules) c.in_ok-number.ensures
-    ∙ ap (λ (x : ℤ). scan (fault_of_structure c.args.version) c.args.seen (structures (relationship_parts x (to_z w64 (of_z w64 n.start)) (to_z w64 (of_z w64 n.end)) n.kind n.properties.items n.element_ids))) z0
-    ∙ ap (λ (x : ℤ). scan (fault_of_structure c.args.version) c.args.seen (structures (relationship_parts n.id x (to_z w64 (of_z w64 n.end)) n.kind n.properties.items n.element_ids))) z1
-    ∙ ap (λ (x : ℤ). scan (fault_of_structure c.args.version) c.args.seen (structures (relationship_parts n.id n.start x n.kind n.properties.items n.element_ids))) z2 ∙ ap (λ (u : Tree). scan (fault_of_structure c.args.version) c.args.seen (structures u)) (sym (relationship-out n))
+    ∙ ap (λ (u : Tree). scan (fault_of_structure c.args.version) c.args.seen (structures u)) (same ∙ sym (relationship-out n))
 
 pub check_path-returns-in_err-number : goal.check_path-returns-in_err-number
 check_path-returns-in_err-number t c =

@@ -1,5 +1,4 @@
-use Rattle.reader.proofs.Pieces.{value_read, fault_read}
-use Rattle.reader.proofs.Alike.{alike}
+use Rattle.reader.proofs.Pieces.{value_read, fault_read, alike}
 use Rattle.reader.proofs.laws.decodes_alike.Goals as goal
 
 pub returns : goal.returns

@@ -1,10 +1,10 @@
-use Rattle.std.proofs.Common.{◌≡◌, ◌<◌, ◌↔◌, ℕ, Bool, List, length, Option, Some, None, false, sym, ap, subst, ◌∙◌, arith, get_or}
+use Rattle.std.proofs.Common.{◌≡◌, ◌<◌, ◌↔◌, ℕ, Bool, List, length, Option, Some, None, true, false, sym, ap, subst, ◌∙◌, arith, get_or}
 use Rattle.std.specs.Prelude.{slice_get, IsTrue}
 use Rattle.std.proofs.lemmas.Option.{slice_get-get_or, slice_get_within, get_or_from_slice_get}
 use Rattle.reader.specs.declared.texts.Key.{Key}
 use Rattle.reader.specs.declared.texts.Link.{Link}
 use Rattle.reader.specs.Naming.{name, names_of, text_of, IsNamed, IsFree, HangsOn, HangsNone, side_of}
-use Rattle.reader.proofs.Treeing.{search_starts, search_finds, search_goes_on, search_ends, search_is_over, iff_true, iff_false}
+use Rattle.reader.proofs.Treeing.{search_starts, search_finds, search_goes_on, search_ends, search_is_over}
 use Rattle.reader.proofs.texts.find.Goals as goal
 
 pub returns-then-first-keys-clause-free : goal.returns-then-first-keys-clause-free
@@ -17,39 +17,31 @@ pub loop-at-init : goal.loop-at-init
 loop-at-init c = search_starts c.args.keys.now c.args.bytes.now c.args.first c.args.text.now c.requires.tree c.requires.root (omega arith)
 
 -- what stands outside a list
-nothing : Key
+abbrev nothing : Key
 nothing = record { start = 0; len = 0; digest = 0; first = 0; above = None; left = 0; right = 0 }
 
-pub is_same-requires-clause-within : goal.is_same-requires-clause-within
-unfolding nothing
-is_same-requires-clause-within c =
+pub is_same-requires : goal.is_same-requires
+is_same-requires c =
     let keys = c.args.keys.now in
-    (c.requires.tree c.loop-at.at (get_or keys c.loop-at.at nothing) (slice_get-get_or keys c.loop-at.at nothing c.loop-at-test.true)).within
-
-pub is_same-requires-clause-digest : goal.is_same-requires-clause-digest
-unfolding nothing
-is_same-requires-clause-digest c =
-    let keys = c.args.keys.now in
-    (c.requires.tree c.loop-at.at (get_or keys c.loop-at.at nothing) (slice_get-get_or keys c.loop-at.at nothing c.loop-at-test.true)).digest
+    let p = c.requires.tree c.loop-at.at (get_or keys c.loop-at.at nothing) (slice_get-get_or keys c.loop-at.at nothing c.loop-at-test.true) in
+    record { within = p.within; digest = p.digest; of_text = c.requires.digest }
 
 pub returns-then-is_same-clause-again : goal.returns-then-is_same-clause-again
-unfolding nothing
 returns-then-is_same-clause-again c = λ e.
     (let keys = c.args.keys.now in
     search_finds keys c.args.bytes.now c.args.first c.args.text.now c.loop-at.above c.loop-at.at (get_or keys c.loop-at.at nothing) c.loop-at.invariant (slice_get-get_or keys c.loop-at.at nothing c.loop-at-test.true)
-    (iff_true c.is_same.result (text_of c.args.bytes.now (name (get_or keys c.loop-at.at nothing)) ≡ c.args.text.now) c.is_same.ensures c.if-is_same.true))
+    (c.is_same.ensures.0 c.if-is_same.true))
 
 -- the key there is another
 other_key : (keys : List Key) (bytes s : List ℕ) (at : ℕ) (d : Key) (b : Bool) → at < length keys → (IsTrue b ↔ (text_of bytes (name (get_or keys at d)) ≡ s)) → b ≡ false → (k : Key) → slice_get keys at ≡ Some k → text_of bytes (name k) ≡ s → ⊥
 other_key keys bytes s at d b lt h e k is t =
     let same : get_or keys at d ≡ k = get_or_from_slice_get keys at k d is in
-    iff_false b (text_of bytes (name (get_or keys at d)) ≡ s) h e (ap (λ (x : Key). text_of bytes (name x)) same ∙ t)
+    let passed : b ≡ true = h.1 (ap (λ (x : Key). text_of bytes (name x)) same ∙ t) in cc
 
 none_hangs : (keys : List Key) (first at : ℕ) (side : Bool) (r : Option ℕ) → ((next : ℕ) → (r ≡ Some next) ↔ HangsOn keys first at side next) → r ≡ None → HangsNone keys first at side
 none_hangs keys first at side r h e = λ next hang. (let f : ◌≡◌ {A = Option ℕ} None (Some next) = sym e ∙ (h next).1 hang in cc)
 
 pub returns-in_default-clause-free : goal.returns-in_default-clause-free
-unfolding nothing
 returns-in_default-clause-free c = λ l e.
     (let keys = c.args.keys.now in
     let same : ◌≡◌ {A = Option Link} (Some (record { key = c.loop-at.at; is_right = c.is_right-side.result })) l = cc in
@@ -66,7 +58,6 @@ loop-at-smaller c =
     omega (arith, h.later, within)
 
 pub loop-at-preserved : goal.loop-at-preserved
-unfolding nothing
 loop-at-preserved c =
     let keys = c.args.keys.now in
     let h = (c.below.ensures c.in-Some.next).0 c.in-Some.is in
@@ -76,4 +67,4 @@ loop-at-preserved c =
     (subst (λ (b : Bool). HangsOn keys c.args.first c.loop-at.at b c.in-Some.next) side h)
 
 pub returns-clause-again : goal.returns-clause-again
-returns-clause-again c = λ e. absurd (omega (arith, slice_get_within c.args.keys.now c.loop-at.at c.loop-at.invariant.upper c.loop-at.invariant.upper_is))
+returns-clause-again c = λ e. absurd (omega (arith, slice_get_within c.args.keys.now c.loop-at.at c.loop-at.invariant.upper.0 c.loop-at.invariant.upper.1))

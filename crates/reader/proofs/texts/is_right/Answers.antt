@@ -1,6 +1,5 @@
-use Rattle.std.proofs.Common.{refl, length}
+use Rattle.std.proofs.Common.{refl, length, ◌/◌, ◌-◌}
 use Rattle.std.proofs.lemmas.Option.{slice_get_read, slice_get_past}
-use Rattle.std.proofs.Common.{◌/◌, ◌-◌}
 use Rattle.reader.proofs.Treeing.{side_deep, side_past}
 use Rattle.reader.proofs.texts.is_right.Goals as goal
 

@@ -2,14 +2,10 @@ use Rattle.packstream.proofs.Ranges.{bytes_from_each}
 use Rattle.packstream.specs.Tree.{dict}
 use Rattle.packstream.specs.View.{entries_of}
 use Rattle.cells.specs.Shape.{entries}
-use Rattle.scanner.proofs.Fronts.{front_spelled, front_good, front_deep}
+use Rattle.scanner.proofs.Fronts.{fronts}
 use Rattle.scanner.proofs.whole.scan_dict.Goals as goal
 
-pub returns-clause-spelled : goal.returns-clause-spelled
-returns-clause-spelled c = front_spelled c.dict_in.result (λ x. dict (entries_of (entries x.0.items))) (λ x. x.1.now) c.args.bytes.now c.args.room (bytes_from_each c.args.bytes.now c.type_inv.bytes) c.requires c.dict_in.ensures.read
-
-pub returns-clause-good : goal.returns-clause-good
-returns-clause-good c = front_good c.dict_in.result (λ x. dict (entries_of (entries x.0.items))) (λ x. x.1.now) c.args.bytes.now c.args.room (bytes_from_each c.args.bytes.now c.type_inv.bytes) c.requires c.dict_in.ensures.read
-
-pub returns-clause-deep : goal.returns-clause-deep
-returns-clause-deep c = front_deep c.dict_in.result (λ x. dict (entries_of (entries x.0.items))) (λ x. x.1.now) c.args.bytes.now c.args.room (bytes_from_each c.args.bytes.now c.type_inv.bytes) c.requires c.dict_in.ensures.read
+pub returns : goal.returns
+returns c =
+    let f = fronts c.dict_in.result (λ x. dict (entries_of (entries x.0.items))) (λ x. x.1.now) c.args.bytes.now c.args.room (bytes_from_each c.args.bytes.now c.type_inv.bytes) c.requires c.dict_in.ensures.read in
+    record { spelled = f.0; good = f.1; deep = f.2; plain = c.dict_in.ensures.plain }

@@ -1,8 +1,8 @@
 use Rattle.std.proofs.Common.{arith}
 use Rattle.packstream.proofs.Ranges.{bytes_from_each}
 use Rattle.packstream.specs.Tree.{text}
-use Rattle.scanner.proofs.Fronts.{front_spelled}
+use Rattle.scanner.proofs.Fronts.{fronts}
 use Rattle.scanner.proofs.whole.scan_text.Goals as goal
 
 pub returns-clause-spelled : goal.returns-clause-spelled
-returns-clause-spelled c = front_spelled c.text_in.result (λ x. text x.0.now) (λ x. x.1.now) c.args.bytes.now 0 (bytes_from_each c.args.bytes.now c.type_inv.bytes) (omega arith) (c.text_in.ensures 0)
+returns-clause-spelled c = (fronts c.text_in.result (λ x. text x.0.now) (λ x. x.1.now) c.args.bytes.now 0 (bytes_from_each c.args.bytes.now c.type_inv.bytes) (omega arith) (c.text_in.ensures 0)).0

@@ -1,19 +1,16 @@
-use Rattle.std.proofs.Common.{◌≡◌, ◌<◌, ◌∷◌, ℕ, length, ap, sym, subst, ◌∙◌}
+use Rattle.std.proofs.Common.{◌≡◌, ◌<◌, ◌∷◌, ℕ, length, refl, ap, sym, subst, ◌∙◌}
+use Rattle.packstream.specs.declared.marker.Marker.TheVariants as announces
 use Rattle.reader.specs.declared.open.Open.{Open}
 use Rattle.reader.specs.Frames.{AreLevels, waits}
 use Rattle.reader.specs.Holding.{Holds, holds}
 use Rattle.reader.proofs.Standing.{after, has_taken}
-use Rattle.reader.proofs.Values.{dict_value, dict_has_room, dict_stands}
+use Rattle.reader.proofs.Values.{has_room, dict_stands}
 use Rattle.reader.proofs.progress.Reading.end_dict.Goals as goal
-
-pub end_value-requires-clause-value : goal.end_value-requires-clause-value
-end_value-requires-clause-value c =
-    dict_value (holds c.args.self.now) c.args.marker c.args.number c.args.size c.requires.announced (sym c.size_in-count.ensures ∙ c.if-count-eq0.true) (c.requires.goes).isa.small
 
 pub open_dict-requires : goal.open_dict-requires
 open_dict-requires c =
     subst (λ (x : Open). x.depth < 32) (sym c.end_here.ensures.opened)
-    (dict_has_room (holds c.args.self.now) c.args.marker c.args.number c.args.size c.requires.announced c.requires.goes)
+    (has_room (holds c.args.self.now) c.args.marker c.args.number (announces.Dict c.args.size) c.requires.announced refl refl c.requires.goes)
 
 pub returns-clause-told : goal.returns-clause-told
 returns-clause-told c =

@@ -3,12 +3,8 @@ use Rattle.reader.specs.declared.open.Open.{Open}
 use Rattle.reader.specs.Frames.{AreLevels}
 use Rattle.reader.specs.Holding.{Holds, holds}
 use Rattle.reader.proofs.Standing.{after, has_taken}
-use Rattle.reader.proofs.Values.{list_value, list_has_room, list_stands}
+use Rattle.reader.proofs.Values.{list_has_room, list_stands}
 use Rattle.reader.proofs.progress.Reading.end_list.Goals as goal
-
-pub end_value-requires-clause-value : goal.end_value-requires-clause-value
-end_value-requires-clause-value c =
-    list_value (holds c.args.self.now) c.args.marker c.args.number c.args.count c.args.announced c.requires.announced c.requires.list c.if-count-eq0.true (c.requires.goes).isa.small
 
 pub open-requires : goal.open-requires
 open-requires c =

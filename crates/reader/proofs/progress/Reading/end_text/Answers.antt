@@ -1,27 +1,21 @@
-use Rattle.std.proofs.Common.{◌≡◌, ◌-◌, ℕ, List, false, sym, subst, ◌∙◌, arith}
+use Rattle.std.proofs.Common.{◌≡◌, ℕ, List, false, sym, subst, ◌∙◌}
 use Rattle.std.specs.Str.{IsUtf8, is_utf8}
 use Rattle.packstream.proofs.Texts.{not_utf8}
 use Rattle.reader.specs.Holding.{Holds, holds}
-use Rattle.reader.proofs.Hanging.{text_from}
 use Rattle.reader.proofs.Values.{text_value}
-use Rattle.reader.proofs.Taking.{tail_at, text_bad, text_starts}
+use Rattle.reader.proofs.Taking.{text_bad, text_told}
 use Rattle.reader.proofs.progress.Reading.end_text.Goals as goal
 
 pub returns-in_default-clause-told : goal.returns-in_default-clause-told
 returns-in_default-clause-told c =
     let h : Holds = holds c.args.self.now in
     let g = c.requires.goes in
-    let start : ℕ = c.len.result - c.size_in.result in
-    let e = text_starts h c.args.marker c.args.number start c.len.result c.size_in.result c.args.size c.requires.announced g c.len.ensures c.size_in.ensures (omega arith) in
-    let there = text_from _ _ start c.bytes.ensures ∙ tail_at h c.args.marker c.args.number start c.args.size c.requires.announced g e in
+    let there = text_told h c.args.marker c.args.number c.len.result c.size_in.result c.args.size _ c.requires.announced g c.len.ensures c.size_in.ensures c.bytes.ensures in
     text_bad h c.args.marker c.args.number c.args.size c.args.rest.now c.requires.announced g (subst (λ (s : List ℕ). is_utf8 s ≡ false) there (not_utf8 _ c.in_default.ensures))
 
 pub end_value-requires-clause-value : goal.end_value-requires-clause-value
 end_value-requires-clause-value c =
     let h : Holds = holds c.args.self.now in
-    let start : ℕ = c.len.result - c.size_in.result in
     text_value h c.args.marker c.args.number c.args.size c.requires.announced
-    (λ g.
-    (let e = text_starts h c.args.marker c.args.number start c.len.result c.size_in.result c.args.size c.requires.announced g c.len.ensures c.size_in.ensures (omega arith) in
-    subst (λ (s : List ℕ). IsUtf8 s) (text_from _ _ start c.bytes.ensures ∙ tail_at h c.args.marker c.args.number start c.args.size c.requires.announced g e) c.in-Ok.ensures.1))
+    (λ g. subst (λ (s : List ℕ). IsUtf8 s) (text_told h c.args.marker c.args.number c.len.result c.size_in.result c.args.size _ c.requires.announced g c.len.ensures c.size_in.ensures c.bytes.ensures) c.in-Ok.ensures.1)
     (λ g. sym (c.waits_for_key.ensures g.frames g.levels) ∙ c.if-waits_for_key.false)

@@ -1,4 +1,4 @@
-use Rattle.std.proofs.Common.{◌≡◌, ◌+◌, ◌++◌, ℕ, List, [], length, Option, ap, sym, subst, ◌∙◌, arith}
+use Rattle.std.proofs.Common.{◌≡◌, ◌+◌, ◌++◌, ℕ, [], length, Option, ap, sym, subst, ◌∙◌, arith}
 use Rattle.packstream.specs.declared.marker.Marker.{Marker}
 use Rattle.packstream.specs.Plain.{AreBytes}
 use Rattle.packstream.proofs.Ranges.{bytes_from_each, front_bytes}
@@ -31,15 +31,11 @@ returns-then-bytes-lacks-clause-told c =
     subst (λ (x : Holds). HasTaken (h.store ++ bytes) x []) (sym same)
     (part_taken (stored bytes h) (p (number_from c.args.number bytes)) (head_longer h m c.args.number c.args.has bytes are g (omega (arith, wide))) (omega (arith, wide)) c.requires.good)
 
--- the front that is split off
-split_front : (all front back : List ℕ) → AreBytes all → all ≡ front ++ back → AreBytes front
-split_front all front back are e = front_bytes front back (subst AreBytes e are)
-
 pub join-number-requires : goal.join-number-requires
 join-number-requires c =
     let g = c.requires.goes in
     let front = c.split_at.result.0.now in
-    let are = split_front c.args.bytes.now front c.split_at.result.1.now (bytes_from_each c.args.bytes.now c.type_inv.bytes) c.split_at.ensures.by_index.0 in
+    let are = front_bytes front c.split_at.result.1.now (subst AreBytes c.split_at.ensures.by_index.0 (bytes_from_each c.args.bytes.now c.type_inv.bytes)) in
     let wide : c.field_len.result ≡ field (marker c.args.marker) = c.field_len.ensures.value ∙ ap field (sym c.requires.announced) in
     fits_word (c.args.has + length front) (number_from c.args.number front) (omega (arith, c.field_len.ensures.few, c.split_at.ensures.front_len, wide, g.isa.few)) (joined_fits c.args.has c.args.number front are g.isa.small)
 
@@ -49,7 +45,7 @@ take_body-requires-clause-goes c =
     let g = c.requires.goes in
     let m = c.args.marker in
     let front = c.split_at.result.0.now in
-    let are = split_front c.args.bytes.now front c.split_at.result.1.now (bytes_from_each c.args.bytes.now c.type_inv.bytes) c.split_at.ensures.by_index.0 in
+    let are = front_bytes front c.split_at.result.1.now (subst AreBytes c.split_at.ensures.by_index.0 (bytes_from_each c.args.bytes.now c.type_inv.bytes)) in
     let wide : c.field_len.result ≡ field (marker m) = c.field_len.ensures.value ∙ ap field (sym c.requires.announced) in
     let len : c.args.has + length front ≡ field (marker m) = omega (arith, c.split_at.ensures.front_len, wide, g.isa.few) in
     let body_is : c.body_len.result ≡ body (marker m) (number_from c.args.number front) = c.body_len.ensures ∙ ap (λ (o : Option Marker). body o c.join-number.result) (sym c.requires.announced) ∙ ap (λ (n : ℕ). body (marker m) n) c.join-number.ensures in
