@@ -1,13 +1,33 @@
--- The fields of a structure by their number.
-use Rattle.std.proofs.Common.{◌≡◌, List, [], ◌∷◌, length, false, ◌==◌, refl, sym, ◌∙◌, Err, Global, String, rules}
-use Rattle.packstream.specs.Tree.{dict, text, Trees, no_trees, tree_then}
-use Rattle.packstream.specs.Good.{count}
+-- Fields one at a time: by their number, what they say by the row of their structure, and how a field of cells is written.
+use Rattle.std.proofs.Common.{◌≡◌, List, [], ◌∷◌, length, false, ◌==◌, refl, sym, ◌∙◌, Err, Global, String, rules, ℕ, true, ap, codes, ◌++◌, append-nil, Result, Ok}
+use Rattle.packstream.specs.Tree.{dict, text, Trees, no_trees, tree_then, Tree, list, Entries}
+use Rattle.packstream.specs.Good.{count, IsGood}
 use Rattle.packstream.specs.View.{tree, trees, trees_of}
 use Rattle.packstream.specs.declared.value.Value.{Value, Text as TextCase, the_lemmas}
 use Rattle.packstream.proofs.Putting.{len_trees}
-use Rattle.cells.specs.Shape.{text_of}
+use Rattle.cells.specs.Shape.{text_of, shape}
+use Rattle.messages.specs.Parts.{no_field, one_field, run_parts, entries_of_dict, members_of_list, only_dict, contents_of_login, contents_of_run, as_dict, as_list}
+use Rattle.wire.specs.declared.Version.{Version}
+use Rattle.wire.specs.Versions.{hello_has_login}
+use Rattle.messages.specs.declared.fault.MsgFault.{MsgFault}
+use Rattle.messages.specs.Table.{Name, Others, Named, ignored, extra, text_field, cells, cell_list, credentials, RUN, of_transaction}
+use Rattle.structures.specs.Form.{typed_under, Form, form}
+use Rattle.messages.specs.Reading.{◌>>=◌, contents, contents_of_named, contents_of_row, contents_of_extra, cell_of_field, contents_of_mode, contents_of_metadata, lookup, cell_by, Answers}
+use Rattle.cells.specs.declared.fault.Reason.{Reason as CellReason}
+use Rattle.cells.specs.Faults.{scan, fault as structure_fault, structures}
+use Rattle.packstream.specs.declared.fault.Reason.{Reason as PackReason}
+use Rattle.packstream.specs.Making.{first_fault, faults_in}
+use Rattle.packstream.proofs.Checking.{bad_when}
+use Rattle.cells.proofs.Fine.{fine_scan}
+use Rattle.structures.specs.declared.fault.CellFault.{CellFault}
+use Rattle.structures.specs.Answers.{Reads, Writes}
+use Rattle.structures.proofs.Formed.{again}
+use Rattle.messages.specs.Faults.{of_cell}
+use Rattle.cells.specs.declared.cell.Cell.{Cell}
+use Rattle.messages.specs.Cells.{value_by, form_by, cell_put}
 use Rattle.messages.specs.declared.fault.MsgFault.TheVariants as fault
-use Rattle.messages.specs.Parts.{no_field, one_field, run_parts}
+use Rattle.structures.specs.declared.fault.CellFault.TheVariants as cell_fault
+use Rattle.messages.specs.declared.fault.MsgFault.TheVariants as fault
 
 pub some_field : (vs : List Value) → (length vs == 0) ≡ false → no_field (trees_of (trees vs)) ≡ Err fault.Fields
 some_field [] h = cc
@@ -29,3 +49,75 @@ not_three vs h = not_three_trees _ (λ e. h (sym (len_trees vs) ∙ e))
 
 pub tree_of_text : (s : String Global) → tree (TextCase s) ≡ text_of s
 tree_of_text s = search (rules, the_lemmas)
+
+pub none_row : (v : Version) (n : Name) (ts : Trees) → contents_of_row v n [] ts ≡ (no_field ts >>= λ x. Ok (contents n [] []))
+none_row v n no_trees = refl
+none_row v n (tree_then t ts) = refl
+
+pub extra_row : (v : Version) (n : Name) (o : Others) (ns : List Named) (ts : Trees) → contents_of_row v n (extra o ns ∷ []) ts ≡ (only_dict ts >>= λ es. contents_of_extra v o ns es >>= λ xs. Ok (contents n [] xs))
+extra_row v n o ns (tree_then (dict es) no_trees) = refl
+extra_row v n o ns (tree_then t no_trees) = refl
+extra_row v n o ns ts = refl
+
+-- who the client is, where HELLO carries it
+pub login_here : (v : Version) (es : Entries) → hello_has_login v ≡ true → contents_of_named v (credentials hello_has_login) es ≡ contents_of_login es
+login_here v es h = rw h refl
+
+one_dict : (n : Name) (es : Entries) (r : Result ℕ (CellReason × ℕ)) → ((cell_by r (dict es) >>= λ x. Ok (x ∷ [])) >>= λ fs. Ok (contents n fs [])) ≡ ((cell_by r (dict es) >>= as_dict) >>= λ c. Ok (contents n (c ∷ []) []))
+one_dict n es (Ok k) = refl
+one_dict n es (Err e) = refl
+
+one_list : (n : Name) (ts : Trees) (r : Result ℕ (CellReason × ℕ)) → ((cell_by r (list ts) >>= λ x. Ok (x ∷ [])) >>= λ fs. Ok (contents n fs [])) ≡ ((cell_by r (list ts) >>= as_list) >>= λ c. Ok (contents n (c ∷ []) []))
+one_list n ts (Ok k) = refl
+one_list n ts (Err e) = refl
+
+pub cells_row : (v : Version) (n : Name) (ts : Trees) → contents_of_row v n (cells ∷ []) ts ≡ (one_field ts >>= λ t. entries_of_dict t >>= λ es. (cell_of_field v t >>= as_dict) >>= λ c. Ok (contents n (c ∷ []) []))
+cells_row v n (tree_then (dict es) no_trees) = one_dict n es (scan (structure_fault v) 0 (structures (dict es)))
+cells_row v n (tree_then t no_trees) = refl
+cells_row v n ts = refl
+
+pub list_row : (v : Version) (n : Name) (ts : Trees) → contents_of_row v n (cell_list ∷ []) ts ≡ (one_field ts >>= λ t. members_of_list t >>= λ us. (cell_of_field v t >>= as_list) >>= λ c. Ok (contents n (c ∷ []) []))
+list_row v n (tree_then (list us) no_trees) = one_list n us (scan (structure_fault v) 0 (structures (list us)))
+list_row v n (tree_then t no_trees) = refl
+list_row v n ts = refl
+
+text_and_dict : (n : Name) (t : Tree) (es : Entries) (a b : Result (List Tree) MsgFault) (r : Result ℕ (CellReason × ℕ))
+    → ((a >>= λ x. (b >>= λ y. Ok (y ++ [])) >>= λ xs. Ok (x ++ xs)) >>= λ x. ((cell_by r (dict es) >>= λ x. Ok (x ∷ [])) >>= λ xs. Ok (t ∷ xs)) >>= λ fs. Ok (contents n fs x))
+    ≡ (a >>= λ x. b >>= λ y. (cell_by r (dict es) >>= as_dict) >>= λ c. Ok (contents n (t ∷ c ∷ []) (x ++ y)))
+text_and_dict n t es (Ok a) (Ok b) (Ok k) = ap (λ y. Ok (contents n (t ∷ dict (typed_under es) ∷ []) (a ++ y))) (append-nil b)
+text_and_dict n t es a b r = refl
+
+pub run_row : (v : Version) (ts : Trees) → contents_of_row v RUN (text_field ∷ cells ∷ extra ignored of_transaction ∷ []) ts
+    ≡ (run_parts ts >>= λ p. contents_of_run v p.text p.parameters p.entries)
+run_row v (tree_then (text s) (tree_then (dict ps) (tree_then (dict es) no_trees))) = text_and_dict RUN (text s) ps (contents_of_mode (lookup (codes "mode") es)) (contents_of_metadata (lookup (codes "tx_metadata") es)) (scan (structure_fault v) 0 (structures (dict ps)))
+run_row v ts = refl
+
+-- a value that stands for a cell is the cell's form
+pub form_again : (v : Version) (s t : Tree) → Form v s t → form v s ≡ t
+form_again v s t f = ap (form v) f.1 ∙ again v t (fine_scan (structure_fault v) 0 f.0.0 (structures t) f.0.1)
+
+good_value : (t : Tree) (r : Result ℕ (PackReason × ℕ)) → first_fault (faults_in 0 false t) 0 ≡ r → IsGood t → value_by r t ≡ Ok t
+good_value t (Ok n) w g = refl
+good_value t (Err e) w g = absurd (bad_when t e (sym w) g)
+
+pub read_value_is : (v : Version) (t : Tree) (c : Cell) → Reads v t (Ok c) → cell_of_field v t ≡ Ok (shape c)
+read_value_is v t c h = ap (λ x. cell_by x t) h.0.1 ∙ ap (λ s. Ok s) (sym h.1)
+
+pub read_fault_is : (v : Version) (t : Tree) (e : CellFault) → Reads v t (Err e) → (of_cell e ≡ fault.Memory → ⊥) → cell_of_field v t ≡ Err (of_cell e)
+read_fault_is v t (cell_fault.Refused r k) h n = ap (λ x. cell_by x t) h
+read_fault_is v t (cell_fault.Pack r o) h n = absurd h
+read_fault_is v t cell_fault.Memory h n = absurd (n refl)
+
+pub put_value : (v : Version) (s t : Tree) → Writes v s (Ok t) → cell_put v s ≡ Ok t
+put_value v s t h = ap (λ r. form_by r (form v s)) h.writable.1 ∙ ap (λ u. value_by (first_fault (faults_in 0 false u) 0) u) (form_again v s t h.formed)
+    ∙ good_value t (first_fault (faults_in 0 false t) 0) refl h.good
+
+pub put_fault : (v : Version) (s : Tree) (e : CellFault) → Writes v s (Err e) → (of_cell e ≡ fault.Memory → ⊥) → cell_put v s ≡ Err (of_cell e)
+put_fault v s (cell_fault.Refused r k) h n = ap (λ x. form_by x (form v s)) h
+put_fault v s (cell_fault.Pack r o) h n = ap (λ x. form_by x (form v s)) h.writable.1
+    ∙ ap (λ u. value_by (first_fault (faults_in 0 false u) 0) u) (form_again v s h.value h.formed)
+    ∙ ap (λ x. value_by x h.value) h.unpacked
+put_fault v s cell_fault.Memory h n = absurd (n refl)
+
+pub told_fault : {X Y : Type 0} (view : X → Y) (r : Result X MsgFault) (s : Result Y MsgFault) (e : MsgFault) → r ≡ Err e → ((e ≡ fault.Memory → ⊥) → s ≡ Err e) → Answers view r s
+told_fault view r s e h k = rw h k

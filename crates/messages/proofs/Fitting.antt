@@ -1,10 +1,11 @@
 -- The responses of a server that are neither rows nor the SUCCESS of a RUN: what they are written as, how long that is, and what it stands for.
-use Rattle.std.proofs.Common.{◌≡◌, ◌<◌, ◌≤◌, ◌+◌, ◌^◌, ℕ, List, ◌++◌, length, Bool, true, false, cond, nat_lt, None, Some, Ok, codes, refl, ap, sym, ◌∙◌, arith}
+use Rattle.std.proofs.Common.{◌≡◌, ◌<◌, ◌≤◌, ◌+◌, ◌^◌, ℕ, List, ◌++◌, length, Bool, true, false, cond, nat_lt, None, Some, Result, Ok, Err, codes, refl, ap, sym, ◌∙◌, arith}
 use Rattle.std.specs.Str.{IsUtf8}
 use Rattle.std.specs.Fmt.{decimal}
 use Rattle.std.proofs.lemmas.List.{length-append}
 use Rattle.std.proofs.lemmas.Str.{IsUtf8-append, IsUtf8-from_ascii}
 use Rattle.std.proofs.lemmas.Fmt.{IsAscii-decimal, length-decimal-le}
+use Rattle.packstream.specs.declared.fault.Reason.{Reason as PackReason}
 use Rattle.packstream.specs.Tree.{Tree, text, dict, structure, Trees, no_trees, tree_then, Entries, no_entries, entry_then}
 use Rattle.packstream.specs.Good.{IsGood, entry_count}
 use Rattle.packstream.specs.Plain.{IsPlain, HavePlain}
@@ -21,31 +22,23 @@ use Rattle.messages.specs.Table.{responses}
 use Rattle.messages.specs.Reading.{◌>>=◌, contents_of_message, response_contents}
 use Rattle.messages.specs.Writing.{form_put, spelling_of_tree, packed_by, spelling_within, response_spelling}
 use Rattle.messages.specs.Summaries.{Summary, Greeting, RowsLeft, Closing, Committed, Plain, Refused, Passed, bookmark, greeting, ending, response_of_summary, form_of, IsShort, HasTexts, room, FitsRoom, ReadsBack}
-use Rattle.messages.proofs.Texts.{sized_fits}
+use Rattle.messages.proofs.Sent.{sized_fits}
 
-formed : (v : Version) (s : Summary) → form_put v (response_contents (response_of_summary s)) ≡ Ok (form_of s)
+abbrev number_in : Result ℕ (PackReason × ℕ) → ℕ
+number_in (Ok n) = n
+number_in (Err e) = 0
+
+-- the form is written, has no fault, and says the response again
+abbrev IsWhole : Version → Summary → Type 0
+IsWhole v s = (form_put v (response_contents (response_of_summary s)) ≡ Ok (form_of s))
+    × ((n : ℕ) × (Ok n ≡ first_fault (faults_in 0 false (form_of s)) 0))
+    × (contents_of_message v responses (form_of s) ≡ Ok (response_contents (response_of_summary s)))
+
+whole : (v : Version) (s : Summary) → IsWhole v s
 unfolding first_fault
-formed v (Closing None Read) = refl
-formed v (Closing (Some n) Read) = refl
-formed v s = refl
-
-faultless : (s : Summary) → (n : ℕ) × (Ok n ≡ first_fault (faults_in 0 false (form_of s)) 0)
-unfolding first_fault
-faultless (Greeting n) = (4, refl)
-faultless RowsLeft = (3, refl)
-faultless (Closing None Read) = (4, refl)
-faultless (Closing None Write) = (4, refl)
-faultless (Closing (Some n) Read) = (5, refl)
-faultless (Closing (Some n) Write) = (5, refl)
-faultless (Committed n) = (3, refl)
-faultless Plain = (2, refl)
-faultless (Refused code message) = (4, refl)
-faultless Passed = (1, refl)
-
-told : (v : Version) (s : Summary) → contents_of_message v responses (form_of s) ≡ Ok (response_contents (response_of_summary s))
-told v (Closing None Read) = refl
-told v (Closing (Some n) Read) = refl
-told v s = refl
+whole v (Closing None Read) = (refl, (4, refl), refl)
+whole v (Closing (Some n) Read) = (refl, (5, refl), refl)
+whole v s = (refl, (number_in (first_fault (faults_in 0 false (form_of s)) 0), refl), refl)
 
 -- How long it is.
 either_le : (b : Bool) (xs ys : List ℕ) (k : ℕ) → length xs ≤ k → length ys ≤ k → length (cond b xs ys) ≤ k
@@ -54,8 +47,7 @@ either_le false xs ys k h o = o
 
 long_head_le : (m n : ℕ) → length (long_head m n) ≤ 5
 unfolding long_head
-long_head_le m n =
-    either_le (nat_lt n 0x100) _ _ 5 (omega arith) (either_le (nat_lt n 0x10000) _ _ 5 (omega arith) (omega arith))
+long_head_le m n = either_le (nat_lt n 0x100) _ _ 5 (omega arith) (either_le (nat_lt n 0x10000) _ _ 5 (omega arith) (omega arith))
 
 head_le : (tiny m n : ℕ) → length (head tiny m n) ≤ 5
 unfolding head
@@ -111,9 +103,7 @@ room_le s h = omega arith
 -- its spelling
 pub text_is : (v : Version) (s : Summary) → IsShort s → response_spelling v (response_of_summary s) ≡ Ok (canon (form_of s))
 unfolding response_spelling
-text_is v s h =
-    ap (λ r. r >>= spelling_of_tree) (formed v s)
-    ∙ ap (λ x. packed_by x (form_of s) >>= spelling_within) (sym (faultless s).1)
+text_is v s h = ap (λ r. r >>= spelling_of_tree) (whole v s).0 ∙ ap (λ x. packed_by x (form_of s) >>= spelling_within) (sym (whole v s).1.1)
     ∙ sized_fits (form_of s) (λ long. omega (arith, long, form_le s h, room_le s h))
 
 pub fits_room : (v : Version) (s : Summary) → IsShort s → FitsRoom v s
@@ -149,14 +139,9 @@ plain_form Passed h u = (omega arith, tt)
 
 pub reads_back : (v : Version) (s : Summary) → IsShort s → HasTexts s → ReadsBack v s
 reads_back v s h u =
-    let good : IsGood (form_of s) = good_when (form_of s) (faultless s).0 (faultless s).1 (plain_form s h u) in
+    let good : IsGood (form_of s) = good_when (form_of s) (whole v s).1.0 (whole v s).1.1 (plain_form s h u) in
     let fits : length (canon (form_of s)) ≤ 65536 = omega (arith, form_le s h, room_le s h) in (
       canon (form_of s),
       text_is v s h,
-      record {
-        value = form_of s;
-        good = good;
-        spelled = canon_spells (form_of s) good fits;
-        says = told v s;
-      },
+      record { value = form_of s; good = good; spelled = canon_spells (form_of s) good fits; says = (whole v s).2 },
     )

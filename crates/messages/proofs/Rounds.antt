@@ -1,7 +1,7 @@
--- What is written is told again, and is plain where the message is made of texts, of numbers in their ranges and of cells.
+-- What is written is told again, and is plain where the message is made of texts, of numbers in their ranges and of cells; so a spelling reads back.
 use Rattle.std.proofs.Common.{◌≡◌, ℕ, ℤ, pos, negsuc, int_le, ◌++◌, Bool, true, false, cond, List, [], ◌∷◌, Option, None, Some, IfSome, Result, Ok, Err, codes, refl, ap, sym, subst, ◌∙◌, arith}
 use Rattle.std.specs.Str.{IsUtf8}
-use Rattle.packstream.specs.declared.fault.Reason.{Reason as PackReason}
+use Rattle.packstream.specs.declared.fault.Reason.{Reason as PackReason, Reason}
 use Rattle.packstream.specs.Tree.{Tree, text, dict, list, structure, no_trees, tree_then, Entries, entry_then, no_entries}
 use Rattle.packstream.specs.View.{entries_of, trees_of}
 use Rattle.packstream.specs.Plain.{IsPlain, HavePlain}
@@ -20,22 +20,26 @@ use Rattle.cells.proofs.Fine.{fine_scan}
 use Rattle.structures.specs.Form.{form, form_under, form_all}
 use Rattle.structures.proofs.Formed.{form_is as formed_is}
 use Rattle.messages.specs.declared.request.Request.{Request}
-use Rattle.messages.specs.declared.request.Request.TheVariants as request
 use Rattle.messages.specs.declared.response.Response.{Response}
-use Rattle.messages.specs.declared.response.Response.TheVariants as response
 use Rattle.messages.specs.declared.request.Mode.{Mode}
 use Rattle.messages.specs.declared.request.Mode.TheVariants.{Read, Write}
 use Rattle.messages.specs.declared.request.Count.TheVariants.{All, Of}
 use Rattle.messages.specs.declared.fault.MsgFault.{MsgFault}
-use Rattle.messages.specs.declared.fault.MsgFault.TheVariants as fault
 use Rattle.messages.specs.Table.{Row, requests, responses, RUN}
 use Rattle.messages.specs.View.{request_view, response_view, AuthView, RequestView, Hello, Logon, Logoff, Goodbye, Reset, Run, Begin, Commit, Rollback, Discard, Pull, ResponseView, Success, Record, Ignored, Failure}
 use Rattle.messages.specs.Reading.{◌>>=◌, Answers, Contents, contents, contents_of_message, contents_of_mode, is_token, contents_of_metadata, lookup, mode_tree, token_tree, cell_of_field, cell_by, request_contents, response_contents}
 use Rattle.messages.specs.Cells.{value_by, form_by, cell_put}
-use Rattle.messages.specs.Sound.{IsCell, HasTexts, IsRequest, IsResponse}
-use Rattle.messages.specs.Writing.{form_put}
+use Rattle.messages.specs.Sound.{IsCell, HasTexts, IsRequest, IsResponse, RequestsReadBack, ResponsesReadBack}
+use Rattle.messages.specs.Writing.{form_put, packed_by, spelling_within, spelling_of_tree, request_spelling, response_spelling}
 use Rattle.messages.specs.Parts.{transaction_put, mode_pairs, token_dict, token_pairs}
-use Rattle.messages.proofs.Forms.{form_again}
+use Rattle.messages.proofs.Fields.{form_again}
+use Rattle.packstream.specs.Good.{IsGood}
+use Rattle.packstream.proofs.Checking.{good_when}
+use Rattle.messages.specs.Messages.{Means}
+use Rattle.messages.proofs.Sent.{request_is, response_is, means_of}
+use Rattle.messages.specs.declared.request.Request.TheVariants as request
+use Rattle.messages.specs.declared.response.Response.TheVariants as response
+use Rattle.messages.specs.declared.fault.MsgFault.TheVariants as fault
 
 -- a field of cells that is written is told as these cells again
 abbrev pub IsBack : Version → Tree → Type 0
@@ -92,8 +96,7 @@ discard_back v z false t e h = let k = rw e at h in absurd cc
 
 -- entries that say this mode and this token, and are plain where the token is UTF-8
 abbrev TellTransaction : Entries → Mode → Option (List ℕ) → Type 0
-TellTransaction es m token =
-    (contents_of_mode (lookup (codes "mode") es) ≡ Ok (mode_tree m ∷ []))
+TellTransaction es m token = (contents_of_mode (lookup (codes "mode") es) ≡ Ok (mode_tree m ∷ []))
     × (contents_of_metadata (lookup (codes "tx_metadata") es) ≡ Ok (token_tree token ∷ []))
     × (IfSome token IsUtf8 → HavePlain es)
 
@@ -152,8 +155,7 @@ written_form : (v : Version) (s u : Tree) (c : IsCell v s) → cell_put v s ≡ 
 written_form v s u c h = put_is v s u h ∙ form_again v s c.0 c.2
 
 pub cell_again : (v : Version) (s : Tree) → IsCell v s → IsBack v s
-cell_again v s c u h =
-    ap (cell_of_field v) (written_form v s u c h) ∙ ap (λ r. cell_by r c.0) c.2.0.1 ∙ ap Ok (sym c.2.1)
+cell_again v s c u h = ap (cell_of_field v) (written_form v s u c h) ∙ ap (λ r. cell_by r c.0) c.2.0.1 ∙ ap Ok (sym c.2.1)
 
 cell_plain : (v : Version) (s u : Tree) → IsCell v s → cell_put v s ≡ Ok u → IsPlain u
 cell_plain v s u c h = subst IsPlain (sym (written_form v s u c h)) c.1
@@ -176,9 +178,7 @@ run_back v s ps m token (Err x) r t w e p h = let k = rw w at h in absurd cc
 
 -- the entries of a login
 abbrev login_entries : AuthView → Entries
-login_entries l =
-    entry_then (codes "scheme") (text l.scheme)
-    (entry_then (codes "principal") (text l.principal)
+login_entries l = entry_then (codes "scheme") (text l.scheme) (entry_then (codes "principal") (text l.principal)
     (entry_then (codes "credentials") (text l.credentials) no_entries))
 
 texts_plain : (l : AuthView) → HasTexts l → HavePlain (login_entries l)
@@ -248,3 +248,35 @@ pub response_back : (v : Version) (r : Response) → AreAnsweredBack v (response
 response_back v (response.Success ms) = subst (IsBack v) (shape-Dict ms) (cell_back v (DictCell ms))
 response_back v (response.Record cs) = subst (IsBack v) (shape-List cs) (cell_back v (ListCell cs))
 response_back v r = tt
+
+asked_again : (v : Version) (m : RequestView) → IsRequest v m → AreBack v m
+asked_again v (Run s ps m token) h = cell_again v (dict (entries_of ps)) h.1
+asked_again v m h = tt
+
+said_again : (v : Version) (m : ResponseView) → IsResponse v m → AreAnsweredBack v m
+said_again v (Success ms) h = cell_again v (dict (entries_of ms)) h
+said_again v (Record cs) h = cell_again v (list (trees_of cs)) h
+said_again v m h = tt
+
+-- What has a spelling was made of a good value.
+good_of : (t : Tree) (b : List ℕ) (r : Result ℕ (Reason × ℕ)) → first_fault (faults_in 0 false t) 0 ≡ r → (packed_by r t >>= spelling_within) ≡ Ok b → IsPlain t → IsGood t
+good_of t b (Ok n) w h p = good_when t n (sym w) p
+good_of t b (Err e) w h p = absurd cc
+
+means_back : (v : Version) (table : List Row) (s : Contents) (Made : Type 0) (b : List ℕ) (r : Result Tree MsgFault) → Made → ((t : Tree) → r ≡ Ok t → SaysBack v table s Made t) → (r >>= spelling_of_tree) ≡ Ok b → Means v table s b
+means_back v table s Made b (Ok t) made back h =
+    let k = back t refl in
+    means_of (Ok t) t v table s b refl (good_of t b (first_fault (faults_in 0 false t) 0) refl h (k.plain made)) k.told h
+means_back v table s Made b (Err e) made back h = absurd cc
+
+pub request_reads_back : RequestsReadBack
+unfolding request_spelling
+request_reads_back v m b q h =
+    let r = means_back v requests (request_contents m) (IsRequest v m) b (form_put v (request_contents m)) q (λ t w. asks_back v m t (asked_again v m q) w) h in
+    (r, request_is v m b r)
+
+pub response_reads_back : ResponsesReadBack
+unfolding response_spelling
+response_reads_back v m b q h =
+    let r = means_back v responses (response_contents m) (IsResponse v m) b (form_put v (response_contents m)) q (λ t w. tells_back v m t (said_again v m q) w) h in
+    (r, response_is v m b r)

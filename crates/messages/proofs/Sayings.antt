@@ -1,8 +1,7 @@
--- What a row of the table says of a plain value is what some message holds, and that is made of texts, of numbers in their ranges and
--- of cells.
+-- What a row of the table says of a plain value is what some message holds, made of texts, of numbers in their ranges and of cells; and no value is a request and a response.
 use Rattle.std.proofs.Common.{◌≡◌, ℕ, pos, List, [], ◌∷◌, ◌++◌, Bool, true, false, Option, None, Some, IfSome, Result, Ok, Err, codes, refl, ap, sym, subst, ◌∙◌}
 use Rattle.std.specs.Str.{IsUtf8}
-use Rattle.packstream.specs.Tree.{Tree, text, list, dict, Trees, no_trees, tree_then, Entries, no_entries, entry_then}
+use Rattle.packstream.specs.Tree.{Tree, text, list, dict, Trees, no_trees, tree_then, Entries, no_entries, entry_then, structure}
 use Rattle.packstream.specs.View.{entries_of, trees_of}
 use Rattle.packstream.specs.Plain.{AreBytes, IsPlain, ArePlain, HavePlain}
 use Rattle.wire.specs.declared.Version.{Version}
@@ -17,8 +16,8 @@ use Rattle.messages.specs.Table.{Holds, a_text, a_mode, a_count, last_query, a_t
 use Rattle.messages.specs.Reading.{◌>>=◌, Contents, contents, contents_of_message, mode_tree, token_tree, count_tree, request_contents, response_contents}
 use Rattle.messages.specs.Messages.{Means, contents_in, request_held, response_held, pairs_of, list_of}
 use Rattle.messages.specs.Saying.{IsEntry, absent, here, further, SaysEntry, the_text, reads, writes, writes_unsaid, all_rows, some_rows, of_last, of_last_unsaid, the_token, token_unsaid, metadata_unsaid, SaysNamed, no_more, passed_over, then_named, of_text, of_cells, of_list, of_extra, SaysFields, no_fields, then_field, SaysRow, of_row}
-use Rattle.messages.specs.Sound.{IsCell, IsCount, IsRequest, IsResponse}
-use Rattle.messages.proofs.Meanings.{said_means, mode_back, token_back, count_back}
+use Rattle.messages.specs.Sound.{IsCell, IsCount, IsRequest, IsResponse, RequestsAreMade, ResponsesAreMade}
+use Rattle.messages.proofs.Sent.{said_means, mode_back, token_back, count_back, asked_back, answered_back}
 use Rattle.messages.proofs.Layouts.{message_says, is_laid, requests_laid, responses_laid}
 
 -- What holds of everything that an entry may say holds of what it says.
@@ -74,11 +73,9 @@ EachFields v (extra o ns ∷ ks) P = EachNamed v ns (λ x. EachFields v ks (λ f
 fields_each : (v : Version) (ks : List Field) (ts : Trees) (fs xs : List Tree) → SaysFields v ks ts fs xs → ArePlain ts → (P : List Tree → List Tree → Type 0) → EachFields v ks P → P fs xs
 fields_each v _ _ _ _ no_fields h P all = all
 fields_each v _ _ _ _ (then_field _ ks _ ts _ fs _ xs (of_text s) r) h P all = fields_each v ks ts fs xs r h.1 (λ gs ys. P (text s ∷ gs) ys) (all s h.0)
-fields_each v _ _ _ _ (then_field _ ks _ ts _ fs _ xs (of_cells c es f) r) h P all =
-    fields_each v ks ts fs xs r h.1 (λ gs ys. P (c ∷ gs) ys)
+fields_each v _ _ _ _ (then_field _ ks _ ts _ fs _ xs (of_cells c es f) r) h P all = fields_each v ks ts fs xs r h.1 (λ gs ys. P (c ∷ gs) ys)
     (subst (λ (d : Tree). EachFields v ks (λ gs ys. P (d ∷ gs) ys)) (sym f.1) (all (typed_under es) (subst (IsCell v) f.1 (dict es, h.0, f))))
-fields_each v _ _ _ _ (then_field _ ks _ ts _ fs _ xs (of_list c us f) r) h P all =
-    fields_each v ks ts fs xs r h.1 (λ gs ys. P (c ∷ gs) ys)
+fields_each v _ _ _ _ (then_field _ ks _ ts _ fs _ xs (of_list c us f) r) h P all = fields_each v ks ts fs xs r h.1 (λ gs ys. P (c ∷ gs) ys)
     (subst (λ (d : Tree). EachFields v ks (λ gs ys. P (d ∷ gs) ys)) (sym f.1) (all (typed_all us) (subst (IsCell v) f.1 (list us, h.0, f))))
 fields_each v _ _ _ _ (then_field _ ks _ ts _ fs _ xs (of_extra o ns es ys only s) r) h P all =
     fields_each v ks ts fs xs r h.1 (λ gs zs. P gs (ys ++ zs)) (named_each v es ns ys s h.0 (λ y. EachFields v ks (λ gs zs. P gs (y ++ zs))) all)
@@ -118,9 +115,6 @@ asked v t s h e =
     let m = message_says v requests t s requests_laid e in
     row_each v (layout m.0) t s m.2 h (IsAsked v) (asks v m.0 (is_laid requests requests (layout m.0) requests_laid m.1).2)
 
-pub told_asks : (v : Version) (t : Tree) (s : Contents) → IsPlain t → contents_of_message v requests t ≡ Ok s → request_contents (request_held s) ≡ s
-told_asks v t s h e = (asked v t s h e).0
-
 -- The same of responses.
 abbrev pub IsAnswered : Version → Contents → Type 0
 IsAnswered v s = (response_contents (response_held s) ≡ s) × IsResponse v (response_held s)
@@ -148,3 +142,23 @@ means_told holds back v table again b bytes m (Ok s) e h =
     let w = said_means v table s b bytes e in
     subst (λ (x : Contents). Means v table x b) (sym (again w.value s w.good.plain w.says) ∙ ap holds same) w
 means_told holds back v table again b bytes m (Err x) e h = absurd cc
+
+pub requests_are_made : RequestsAreMade
+requests_are_made v m b r = subst (IsRequest v) (asked_back m) (asked v r.value (request_contents m) r.good.plain r.says).1
+
+pub responses_are_made : ResponsesAreMade
+responses_are_made v m b r = subst (IsResponse v) (answered_back m) (answered v r.value (response_contents m) r.good.plain r.says).1
+
+-- no tag is of a request and a response
+row_tagged : (v : Version) (r : Row) (t : Tree) (s : Contents) → SaysRow v r t s → (ts : Trees) × (t ≡ structure r.tag ts)
+row_tagged v r _ _ (of_row ts fs xs on f) = (ts, refl)
+
+unasked : (v : Version) (n : Name) (ts : Trees) (s : Contents) → row_in (layout n).tag responses ≡ Some (layout n) → contents_of_message v requests (structure (layout n).tag ts) ≡ Ok s → ⊥
+unasked v HELLO ts s e h = cc
+unasked v n ts s e h = cc
+
+pub not_both : (v w : Version) (t : Tree) (s u : Contents) → contents_of_message v requests t ≡ Ok s → contents_of_message w responses t ≡ Ok u → ⊥
+not_both v w t s u h k =
+    let m = message_says w responses t u responses_laid k in
+    let r = row_tagged w (layout m.0) t u m.2 in
+    unasked v m.0 r.0 s (is_laid responses responses (layout m.0) responses_laid m.1).2 (ap (contents_of_message v requests) (sym r.1) ∙ h)

@@ -84,7 +84,7 @@ fn plain(request: Request, fields: &[Value]) -> Result<Request, MsgFault>
 }
 
 /// HELLO: the client's name, and who it is where the version tells that with it.
-#[tactic(auto, using(crate::proofs::Rows::extra_row, crate::proofs::Rows::login_here))]
+#[tactic(auto, using(crate::proofs::Fields::extra_row, crate::proofs::Fields::login_here))]
 fn hello_of(version: Version, fields: &[Value]) -> Result<Request, MsgFault>
     ensures { Answers (λ r. request_contents (request_view r)) result
         (contents_of_row version HELLO (extra ignored hello ∷ [])
@@ -102,7 +102,7 @@ fn hello_of(version: Version, fields: &[Value]) -> Result<Request, MsgFault>
     })
 }
 
-#[tactic(auto, using(crate::proofs::Rows::extra_row))]
+#[tactic(auto, using(crate::proofs::Fields::extra_row))]
 fn logon_of(fields: &[Value]) -> Result<Request, MsgFault>
     ensures { (v : AnyVersion)
         → Answers (λ r. request_contents (request_view r)) result
@@ -114,7 +114,7 @@ fn logon_of(fields: &[Value]) -> Result<Request, MsgFault>
     Ok(Request::Logon(auth))
 }
 
-#[tactic(auto, using(crate::proofs::Rows::extra_row))]
+#[tactic(auto, using(crate::proofs::Fields::extra_row))]
 fn begin_of(fields: &[Value]) -> Result<Request, MsgFault>
     ensures { (v : AnyVersion)
         → Answers (λ r. request_contents (request_view r)) result
@@ -127,7 +127,7 @@ fn begin_of(fields: &[Value]) -> Result<Request, MsgFault>
     Ok(Request::Begin { mode, token })
 }
 
-#[tactic(auto, using(crate::proofs::Rows::extra_row))]
+#[tactic(auto, using(crate::proofs::Fields::extra_row))]
 fn discard_of(fields: &[Value]) -> Result<Request, MsgFault>
     ensures { (v : AnyVersion)
         → Answers (λ r. request_contents (request_view r)) result
@@ -138,7 +138,7 @@ fn discard_of(fields: &[Value]) -> Result<Request, MsgFault>
     Ok(Request::Discard(count_in(pairs)?))
 }
 
-#[tactic(auto, using(crate::proofs::Rows::extra_row))]
+#[tactic(auto, using(crate::proofs::Fields::extra_row))]
 fn pull_of(fields: &[Value]) -> Result<Request, MsgFault>
     ensures { (v : AnyVersion)
         → Answers (λ r. request_contents (request_view r)) result
@@ -148,7 +148,7 @@ fn pull_of(fields: &[Value]) -> Result<Request, MsgFault>
     Ok(Request::Pull(count_in(pairs)?))
 }
 
-#[tactic(auto, using(crate::proofs::Rows::cells_row))]
+#[tactic(auto, using(crate::proofs::Fields::cells_row))]
 fn success_of(alloc: Global, version: Version, fields: &[Value]) -> Result<Response, MsgFault>
     ensures { Answers (λ r. response_contents (response_view r)) result
         (contents_of_row version SUCCESS (cells ∷ []) (trees_of (trees fields.now))) }
@@ -158,7 +158,7 @@ fn success_of(alloc: Global, version: Version, fields: &[Value]) -> Result<Respo
     Ok(Response::Success(cells_in(alloc, version, field)?))
 }
 
-#[tactic(auto, using(crate::proofs::Rows::list_row))]
+#[tactic(auto, using(crate::proofs::Fields::list_row))]
 fn record_of(alloc: Global, version: Version, fields: &[Value]) -> Result<Response, MsgFault>
     ensures { Answers (λ r. response_contents (response_view r)) result
         (contents_of_row version RECORD (cell_list ∷ []) (trees_of (trees fields.now))) }
@@ -176,7 +176,7 @@ fn ignored_of(fields: &[Value]) -> Result<Response, MsgFault>
     Ok(Response::Ignored)
 }
 
-#[tactic(auto, using(crate::proofs::Rows::extra_row))]
+#[tactic(auto, using(crate::proofs::Fields::extra_row))]
 fn failure_of(fields: &[Value]) -> Result<Response, MsgFault>
     ensures { (v : AnyVersion)
         → Answers (λ r. response_contents (response_view r)) result
@@ -237,7 +237,7 @@ fn run_with(
     })
 }
 
-#[tactic(auto, using(crate::proofs::Rows::run_row))]
+#[tactic(auto, using(crate::proofs::Fields::run_row))]
 fn run_of(alloc: Global, version: Version, fields: &[Value]) -> Result<Request, MsgFault>
     ensures { Answers (λ r. request_contents (request_view r)) result
         (contents_of_row version RUN (text_field ∷ cells ∷ extra ignored of_transaction ∷ [])
@@ -248,7 +248,7 @@ fn run_of(alloc: Global, version: Version, fields: &[Value]) -> Result<Request, 
 }
 
 /// The request of a structure with this tag and these fields.
-#[tactic(auto, using(crate::proofs::Rows::none_row))]
+#[tactic(auto, using(crate::proofs::Fields::none_row))]
 fn request_tagged(
     alloc: Global,
     version: Version,
@@ -290,7 +290,7 @@ pub(crate) fn request_of_value(
 }
 
 /// The response of a value, by the table of responses.
-#[tactic(auto, using(crate::proofs::Rows::none_row))]
+#[tactic(auto, using(crate::proofs::Fields::none_row))]
 pub(crate) fn response_of_value(
     alloc: Global,
     version: Version,

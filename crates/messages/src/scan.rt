@@ -104,7 +104,7 @@ fn discard_of(bytes: &[u8]) -> Result<Request, Unscanned>
 }
 
 /// A BEGIN behind its head.
-#[tactic(auto, using(crate::proofs::Scanned::begin_scanned))]
+#[tactic(auto, using(crate::proofs::Added::begin_scanned))]
 fn begin_of(bytes: &[u8]) -> Result<Request, Unscanned>
     ensures { (v : AnyVersion)
         → IfOk result (λ r. SpellsForm (form_put v (request_contents (request_view r)))
@@ -155,6 +155,7 @@ fn record_of(alloc: Global, bytes: &[u8]) -> Result<Response, Unscanned>
 }
 
 /// A request without fields.
+#[tactic(auto, using(crate::proofs::Added::plain_scanned))]
 fn plain_of(tag: u8) -> Result<Request, Unscanned>
     ensures { (v : AnyVersion)
         → IfOk result (λ r. SpellsForm (form_put v (request_contents (request_view r)))

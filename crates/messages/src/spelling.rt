@@ -227,6 +227,7 @@ fn keep_short(out: &mut BytesMut, adding: Adding) -> bool
 }
 
 /// Appends the one spelling that is written of a request, or nothing.
+#[tactic(auto, using(crate::proofs::Added::settled, crate::proofs::Added::short_by))]
 pub(crate) fn spell_request(request: &Request, out: &mut BytesMut) -> bool
     ensures adds { result ≡ true → (v : AnyVersion)
         → Adds (form_put v (request_contents (request_view request.now)))
@@ -245,6 +246,7 @@ pub(crate) fn spell_request(request: &Request, out: &mut BytesMut) -> bool
 }
 
 /// Appends the one spelling that is written of a response, or nothing.
+#[tactic(auto, using(crate::proofs::Added::settled, crate::proofs::Added::short_by))]
 pub(crate) fn spell_response(response: &Response, out: &mut BytesMut) -> bool
     ensures adds { result ≡ true → (v : AnyVersion)
         → Adds (form_put v (response_contents (response_view response.now)))

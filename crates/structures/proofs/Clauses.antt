@@ -1,38 +1,158 @@
--- What reading and writing answer, clause by clause and as one.
-use Rattle.std.proofs.Common.{◌≡◌, ◌↔◌, ℕ, Result, Ok, Err, inl, inr, refl, sym, ap, ◌∙◌, subst}
-use Rattle.packstream.specs.declared.fault.Reason.{Reason as PackReason}
-use Rattle.packstream.specs.Good.{IsGood}
-use Rattle.packstream.specs.Tree.{Tree}
-use Rattle.packstream.proofs.Checking.{bad_when}
+-- What was read can be written. A value is read and a cell is written in one way, or refused for one fault; so what is answered, clause by clause, is one.
+use Rattle.std.proofs.Common.{◌≡◌, ℕ, List, [], ◌∷◌, length, Bool, true, false, cond, ◌&&◌, ◌==◌, None, is_none, Ok, Err, refl, sym, ap, ◌∙◌, eqb-true, eq-eqb, subst, inl, inr, ◌↔◌, Result}
+use Rattle.packstream.specs.Tree.{Tree, list, dict, structure, Trees, no_trees, tree_then, Entries, no_entries, entry_then}
+use Rattle.packstream.specs.Good.{count, IsGood}
 use Rattle.wire.specs.declared.Version.{Version}
-use Rattle.cells.specs.declared.cell.Cell.{Cell}
+use Rattle.wire.specs.declared.Version.TheVariants.{V44}
+use Rattle.cells.specs.declared.table.Field.{Field}
+use Rattle.cells.specs.declared.table.Field.TheVariants.{Nodes, Relationships, Indices}
 use Rattle.cells.specs.declared.fault.Reason.{Reason}
-use Rattle.cells.specs.Faults.{IsBad, IsFine}
-use Rattle.cells.specs.Shape.{shape}
-use Rattle.cells.specs.Writing.{IsWritable, IsUnwritable}
+use Rattle.cells.specs.declared.fault.Reason.TheVariants.{NotInVersion, Range, PathShape}
+use Rattle.cells.specs.Table.{kinds}
+use Rattle.cells.specs.Faults.{first_failed, to_utc, are_in_range, is_path, fault, structures, structures_in, structures_under, scan, IsBad, IsFine}
+use Rattle.cells.specs.Steps.{all_fine}
+use Rattle.cells.specs.Writing.{moment_tag, fault_of_structure, fault_of_structure_by, IsWritable, IsUnwritable}
 use Rattle.cells.proofs.Scanning.{Found}
+use Rattle.cells.proofs.Both.{both_true}
+use Rattle.cells.proofs.Fine.{scan_fine, fine_scan, fine_append, fine_itself, fine_within, fine_left, fine_right}
+use Rattle.structures.specs.Form.{Form, typed, typed_all, typed_under, form}
+use Rattle.structures.proofs.Got.{passed, at_both, fine_at, row_of, of_local}
+use Rattle.structures.proofs.Formed.{Maps, ranges_kept, count_kept, path_kept, again, form_is}
+use Rattle.structures.specs.Answers.{HasOneReading, HasOneWriting, Reads, Writes, HasGoodForm, HasBadForm, Gave, UnlessMemory, IsUnpacked}
+use Rattle.cells.specs.declared.cell.Cell.{Cell}
+use Rattle.cells.specs.Shape.{shape}
+use Rattle.packstream.specs.declared.fault.Reason.{Reason as PackReason}
+use Rattle.packstream.proofs.Checking.{bad_when}
 use Rattle.structures.specs.declared.fault.CellFault.{CellFault}
-use Rattle.structures.specs.declared.fault.CellFault.TheVariants as fault
-use Rattle.structures.specs.Answers.{Reads, Writes, HasGoodForm, HasBadForm, Gave, UnlessMemory, IsUnpacked, HasOneReading}
-use Rattle.structures.specs.Form.{Form}
-use Rattle.structures.proofs.OneReading.{one_reading_is}
-use Rattle.structures.proofs.OneWriting.{same_form}
+use Rattle.structures.specs.declared.fault.CellFault.TheVariants as told
+
+typed_maps : Maps typed typed_all
+typed_maps = record { none = refl; more = λ t ts. refl; on_int = λ z. refl; on_list = λ ts. refl }
+
+walk_kept : (v : Version) (tag : ℕ) (ts : Trees) (b : Bool) → (tag == 0x50) ≡ b → fault v tag ts ≡ None → cond b (is_path (typed_all ts)) true ≡ true
+walk_kept v tag ts true e h =
+    let p = passed v 0x50 ts (Nodes ∷ Relationships ∷ Indices ∷ []) (at_both v 0x50 _ refl) (fine_at v tag 0x50 ts (eqb-true _ _ e) h) in
+    path_kept typed typed_all typed_maps ts p.counted p.kinded ∙ p.shaped
+walk_kept v tag ts false e h = refl
+
+-- the tag that reading gave is written as it was
+tag_back : (v : Version) (tag : ℕ) (ts : Trees) (b : Bool) → (tag == 0x49) ≡ b → fault v tag ts ≡ None → cond b (moment_tag v) tag ≡ tag
+tag_back V44 tag ts true e h = absurd (let g : fault V44 0x49 ts ≡ None = subst (λ m. fault V44 m ts ≡ None) (eqb-true _ _ e) h in cc)
+tag_back v tag ts false e h = refl
+tag_back v tag ts b e h = sym (eqb-true _ _ e)
+
+passes_by : (ks : List Field) (tag : ℕ) (us : Trees) (a b d : Bool) → (count us == length ks) ≡ a → are_in_range ks us ≡ b → cond (tag == 0x50) (is_path us) true ≡ d
+    → fault_of_structure_by (Ok ks) tag us ≡ first_failed ((a, NotInVersion) ∷ (b, Range) ∷ (d, PathShape) ∷ [])
+passes_by ks tag us a b d ea eb ed = rw (ea, eb, ed) refl
+
+plain_writable : (v : Version) (tag : ℕ) (ts : Trees) → (tag == 0x46) ≡ false → fault v tag ts ≡ None → fault_of_structure v tag (typed_all ts) ≡ None
+plain_writable v tag ts n h =
+    let k = row_of v tag ts h in
+    let p = passed v tag ts k.0 k.1 h in
+    let ranged = ranges_kept typed typed_all typed_maps k.0 ts p.kinded ∙ ap (λ c. are_in_range k.0 (cond c (to_utc ts) ts)) (sym n) ∙ p.ranged in
+    ap (λ m. fault_of_structure_by (kinds v m) tag (typed_all ts)) (tag_back v tag ts (tag == 0x49) refl h) ∙ ap (λ r. fault_of_structure_by r tag (typed_all ts)) k.1
+    ∙ passes_by k.0 tag (typed_all ts) true true true (eq-eqb _ _ (count_kept typed typed_all typed_maps ts ∙ p.counted)) ranged (walk_kept v tag ts (tag == 0x50) refl h)
+
+-- local seconds that were brought to UTC
+moment_writable : (v : Version) (ts : Trees) → fault v 0x46 ts ≡ None → all_fine (fault_of_structure v) (structures (structure 0x49 (to_utc (typed_all ts)))) ≡ true
+moment_writable = of_local (λ w us. all_fine (fault_of_structure w) (structures (structure 0x49 (to_utc (typed_all us)))) ≡ true) (λ a b d h.
+    ap (λ x. is_none (first_failed ((true, NotInVersion) ∷ (x, Range) ∷ (true, PathShape) ∷ [])) && true) h)
+
+structure_writable : (v : Version) (tag : ℕ) (ts : Trees) (b : Bool) → (tag == 0x46) ≡ b → fault v tag ts ≡ None → all_fine (fault_of_structure v) (structures_in (typed_all ts)) ≡ true
+    → all_fine (fault_of_structure v) (structures (structure (cond b 0x49 tag) (cond b (to_utc (typed_all ts)) (typed_all ts)))) ≡ true
+structure_writable v tag ts true e h i = moment_writable v ts (fine_at v tag 0x46 ts (eqb-true _ _ e) h)
+structure_writable v tag ts false e h i = both_true _ _ (ap is_none (plain_writable v tag ts e h)) i
+
+mutual
+  pub writable : (v : Version) (t : Tree) → all_fine (fault v) (structures t) ≡ true → all_fine (fault_of_structure v) (structures (typed t)) ≡ true
+  writable v (list ts) h = writable_all v ts h
+  writable v (dict es) h = writable_under v es h
+  writable v (structure tag ts) h = structure_writable v tag ts (tag == 0x46) refl (fine_itself (fault v) tag ts h) (writable_all v ts (fine_within (fault v) tag ts h))
+  writable v t h = refl
+
+  pub writable_all : (v : Version) (ts : Trees) → all_fine (fault v) (structures_in ts) ≡ true → all_fine (fault_of_structure v) (structures_in (typed_all ts)) ≡ true
+  writable_all v no_trees h = refl
+  writable_all v (tree_then t ts) h =
+      fine_append (fault_of_structure v) (structures (typed t)) (structures_in (typed_all ts)) ∙ both_true _ _ (writable v t (fine_left (fault v) (structures t) (structures_in ts) h)) (writable_all v ts (fine_right (fault v) (structures t) (structures_in ts) h))
+
+  pub writable_under : (v : Version) (es : Entries) → all_fine (fault v) (structures_under es) ≡ true → all_fine (fault_of_structure v) (structures_under (typed_under es)) ≡ true
+  writable_under v no_entries h = refl
+  writable_under v (entry_then k t es) h =
+      fine_append (fault_of_structure v) (structures (typed t)) (structures_under (typed_under es)) ∙ both_true _ _ (writable v t (fine_left (fault v) (structures t) (structures_under es) h)) (writable_under v es (fine_right (fault v) (structures t) (structures_under es) h))
+
+-- what was read can be written
+pub read_writable : (v : Version) (s t : Tree) → Form v s t → IsWritable v s
+read_writable v s t f = subst (IsWritable v) (sym f.1) (scan_fine (fault_of_structure v) 0 (structures (typed t)) (writable v t (fine_scan (fault v) 0 f.0.0 (structures t) f.0.1)))
+
+pub never_unwritable : (v : Version) (s t : Tree) (k : ℕ) (r : Reason) → Form v s t → IsUnwritable v s k r → ⊥
+never_unwritable v s t k r f u = let w = read_writable v s t f in let both : ◌≡◌ {A = Found} (Ok w.0) (Err (r, k)) = sym w.1 ∙ u in cc
+
+abbrev bad_at : Reason × ℕ → Found
+bad_at x = Err x
+
+-- faults that are one have one number and one reason
+same_place : (x : Reason × ℕ) (k : ℕ) (r : Reason) → bad_at x ≡ Err (r, k) → (x.1 ≡ k) × (x.0 ≡ r)
+same_place x k r h = let w : x ≡ (r, k) = cc in (ap (λ (y : Reason × ℕ). y.1) w, ap (λ (y : Reason × ℕ). y.0) w)
+
+read_once : (v : Version) (t : Tree) (f : Found) → scan (fault v) 0 (structures t) ≡ f → HasOneReading v t
+read_once v t (Ok n) e = inl (record {
+  cell = typed t;
+  formed = ((n, e), refl);
+  only = λ s h. sym h.1;
+  never_bad = λ k r h. let bad : Ok n ≡ Err (r, k) = sym e ∙ h in cc;
+})
+read_once v t (Err x) e = inr (record {
+  number = x.1;
+  why = x.0;
+  bad = e;
+  only = λ k r h. same_place x k r (sym e ∙ h);
+  forms_none = λ s h. let bad : bad_at x ≡ Ok h.0.0 = sym e ∙ h.0.1 in cc;
+})
+
+pub one_reading_is : (v : Version) (t : Tree) → HasOneReading v t
+one_reading_is v t = read_once v t (scan (fault v) 0 (structures t)) refl
+
+-- a cell has at most one form
+pub same_form : (v : Version) (s t u : Tree) → Form v s t → Form v s u → t ≡ u
+same_form v s t u f g =
+    sym (again v t (fine_scan (fault v) 0 f.0.0 (structures t) f.0.1)) ∙ ap (form v) (sym f.1) ∙ ap (form v) g.1 ∙ again v u (fine_scan (fault v) 0 g.0.0 (structures u) g.0.1)
+
+written_once : (v : Version) (c : Cell) (f : Found) → scan (fault_of_structure v) 0 (structures (shape c)) ≡ f → HasOneWriting v (shape c)
+written_once v c (Ok n) e =
+    let is = form_is v c (fine_scan (fault_of_structure v) 0 n (structures (shape c)) e) in
+    inl (record {
+      value = form v (shape c);
+      writable = (n, e);
+      formed = is;
+      only = λ t g. same_form v (shape c) (form v (shape c)) t is g;
+      never_unwritable = λ k r h. never_unwritable v (shape c) (form v (shape c)) k r is h;
+    })
+written_once v c (Err x) e = inr (record {
+  number = x.1;
+  why = x.0;
+  unwritable = e;
+  only = λ k r h. same_place x k r (sym e ∙ h);
+  never_writable = λ w. let bad : bad_at x ≡ Ok w.0 = sym e ∙ w.1 in cc;
+  has_none = λ t g. never_unwritable v (shape c) t x.1 x.0 g e;
+})
+
+pub one_writing_is : (v : Version) (c : Cell) → HasOneWriting v (shape c)
+one_writing_is v c = written_once v c (scan (fault_of_structure v) 0 (structures (shape c))) refl
 
 module _ (v : Version) (t : Tree) where
-  no_pack : (q : PackReason) (o : ℕ) → HasOneReading v t
-      → ((s : Tree) → ⊥ ↔ Form v s t)
-      → ((r : Reason) (k : ℕ) → (◌≡◌ {A = Result Cell CellFault} (Err (fault.Pack q o)) (Err (fault.Refused r k))) ↔ IsBad v t k r) → ⊥
+  no_pack : (q : PackReason) (o : ℕ) → HasOneReading v t → ((s : Tree) → ⊥ ↔ Form v s t)
+      → ((r : Reason) (k : ℕ) → (◌≡◌ {A = Result Cell CellFault} (Err (told.Pack q o)) (Err (told.Refused r k))) ↔ IsBad v t k r) → ⊥
   no_pack q o (inl h) cell bad = (cell h.cell).1 h.formed
   no_pack q o (inr h) cell bad = let e = (bad h.why h.number).1 h.bad in cc
 
   -- the clauses are all
   pub reads_by : (r : Result Cell CellFault) → ((s : Tree) → UnlessMemory r (Gave r s ↔ Form v s t))
-      → ((q : Reason) (k : ℕ) → UnlessMemory r ((r ≡ Err (fault.Refused q k)) ↔ IsBad v t k q))
-      → (r ≡ Err fault.Memory → IsFine v t) → Reads v t r
+      → ((q : Reason) (k : ℕ) → UnlessMemory r ((r ≡ Err (told.Refused q k)) ↔ IsBad v t k q))
+      → (r ≡ Err told.Memory → IsFine v t) → Reads v t r
   reads_by (Ok c) cell bad memory = (cell (shape c)).0 refl
-  reads_by (Err (fault.Refused q k)) cell bad memory = (bad q k).0 refl
-  reads_by (Err fault.Memory) cell bad memory = memory refl
-  reads_by (Err (fault.Pack q o)) cell bad memory = no_pack q o (one_reading_is v t) cell bad
+  reads_by (Err (told.Refused q k)) cell bad memory = (bad q k).0 refl
+  reads_by (Err told.Memory) cell bad memory = memory refl
+  reads_by (Err (told.Pack q o)) cell bad memory = no_pack q o (one_reading_is v t) cell bad
 
 never_both : (v : Version) (s : Tree) (k : ℕ) (r : Reason) → IsWritable v s → IsUnwritable v s k r → ⊥
 never_both v s k r w u = let both : ◌≡◌ {A = Found} (Ok w.0) (Err (r, k)) = sym w.1 ∙ u in cc
@@ -40,49 +160,42 @@ never_both v s k r w u = let both : ◌≡◌ {A = Found} (Ok w.0) (Err (r, k)) 
 good_or_not : (t : Tree) (q : PackReason) (o : ℕ) → IsGood t → IsUnpacked t q o → ⊥
 good_or_not t q o good bad = bad_when t (q, o) (sym bad) good
 
-one_unpacked : (t : Tree) (q r : PackReason) (o p : ℕ) → IsUnpacked t q o → IsUnpacked t r p → ◌≡◌ {A = Result Tree CellFault} (Err (fault.Pack q o)) (Err (fault.Pack r p))
-one_unpacked t q r o p a b = let both : ◌≡◌ {A = Result ℕ (PackReason × ℕ)} (Err (q, o)) (Err (r, p)) = sym a ∙ b in let same : (q, o) ≡ (r, p) = cc in ap (λ (x : PackReason × ℕ). Err (fault.Pack x.0 x.1)) same
+one_unpacked : (t : Tree) (q r : PackReason) (o p : ℕ) → IsUnpacked t q o → IsUnpacked t r p → ◌≡◌ {A = Result Tree CellFault} (Err (told.Pack q o)) (Err (told.Pack r p))
+one_unpacked t q r o p a b = let both : ◌≡◌ {A = Result ℕ (PackReason × ℕ)} (Err (q, o)) (Err (r, p)) = sym a ∙ b in let same : (q, o) ≡ (r, p) = cc in ap (λ (x : PackReason × ℕ). Err (told.Pack x.0 x.1)) same
 
 module _ (v : Version) (s : Tree) where
   -- the fault of the cell's form
-  unpacked_of : (t : Tree) → Form v s t → (q : PackReason) (o : ℕ) → HasBadForm v s q o
-      → IsUnpacked t q o
-  unpacked_of t f q o h =
-      subst (λ x. IsUnpacked x q o) (same_form v s h.value t h.formed f) h.unpacked
+  unpacked_of : (t : Tree) → Form v s t → (q : PackReason) (o : ℕ) → HasBadForm v s q o → IsUnpacked t q o
+  unpacked_of t f q o h = subst (λ x. IsUnpacked x q o) (same_form v s h.value t h.formed f) h.unpacked
 
   both_forms : (t : Tree) → HasGoodForm v s t → (q : PackReason) (o : ℕ) → HasBadForm v s q o → ⊥
   both_forms t g q o h = good_or_not t q o g.good (unpacked_of t g.formed q o h)
 
-  pub writes_value : (r : Result Tree CellFault) → Writes v s r → (t : Tree)
-      → UnlessMemory r ((r ≡ Ok t) ↔ HasGoodForm v s t)
+  pub writes_value : (r : Result Tree CellFault) → Writes v s r → (t : Tree) → UnlessMemory r ((r ≡ Ok t) ↔ HasGoodForm v s t)
   writes_value (Ok u) w t = (
     (λ e. subst (λ r. Writes v s r) e w),
     (λ h. ap (λ x. Ok x) (same_form v s u t w.formed h.formed)),
   )
-  writes_value (Err (fault.Refused q k)) w t =
-      ((λ e. absurd cc), (λ h. absurd (never_both v s k q h.writable w)))
-  writes_value (Err fault.Memory) w t = tt
-  writes_value (Err (fault.Pack q o)) w t = ((λ e. absurd cc), (λ h. absurd (both_forms t h q o w)))
+  writes_value (Err (told.Refused q k)) w t = ((λ e. absurd cc), (λ h. absurd (never_both v s k q h.writable w)))
+  writes_value (Err told.Memory) w t = tt
+  writes_value (Err (told.Pack q o)) w t = ((λ e. absurd cc), (λ h. absurd (both_forms t h q o w)))
 
-  pub writes_pack : (r : Result Tree CellFault) → Writes v s r → (q : PackReason) (o : ℕ)
-      → UnlessMemory r ((r ≡ Err (fault.Pack q o)) ↔ HasBadForm v s q o)
+  pub writes_pack : (r : Result Tree CellFault) → Writes v s r → (q : PackReason) (o : ℕ) → UnlessMemory r ((r ≡ Err (told.Pack q o)) ↔ HasBadForm v s q o)
   writes_pack (Ok u) w q o = ((λ e. absurd cc), (λ h. absurd (both_forms u w q o h)))
-  writes_pack (Err (fault.Refused p j)) w q o =
-      ((λ e. absurd cc), (λ h. absurd (never_both v s j p h.writable w)))
-  writes_pack (Err fault.Memory) w q o = tt
-  writes_pack (Err (fault.Pack p i)) w q o = (
+  writes_pack (Err (told.Refused p j)) w q o = ((λ e. absurd cc), (λ h. absurd (never_both v s j p h.writable w)))
+  writes_pack (Err told.Memory) w q o = tt
+  writes_pack (Err (told.Pack p i)) w q o = (
     (λ e. subst (λ r. Writes v s r) e w),
     (λ h. one_unpacked w.value p q i o w.unpacked (unpacked_of w.value w.formed q o h)),
   )
 
   -- the clauses are all
-  pub writes_by : (r : Result Tree CellFault)
-      → ((t : Tree) → UnlessMemory r ((r ≡ Ok t) ↔ HasGoodForm v s t))
-      → ((q : Reason) (k : ℕ) → UnlessMemory r ((r ≡ Err (fault.Refused q k)) ↔ IsUnwritable v s k q))
+  pub writes_by : (r : Result Tree CellFault) → ((t : Tree) → UnlessMemory r ((r ≡ Ok t) ↔ HasGoodForm v s t))
+      → ((q : Reason) (k : ℕ) → UnlessMemory r ((r ≡ Err (told.Refused q k)) ↔ IsUnwritable v s k q))
       → ((q : PackReason) (o : ℕ)
-      → UnlessMemory r ((r ≡ Err (fault.Pack q o)) ↔ HasBadForm v s q o))
-      → (r ≡ Err fault.Memory → IsWritable v s) → Writes v s r
+      → UnlessMemory r ((r ≡ Err (told.Pack q o)) ↔ HasBadForm v s q o))
+      → (r ≡ Err told.Memory → IsWritable v s) → Writes v s r
   writes_by (Ok u) value bad pack memory = (value u).0 refl
-  writes_by (Err (fault.Refused q k)) value bad pack memory = (bad q k).0 refl
-  writes_by (Err fault.Memory) value bad pack memory = memory refl
-  writes_by (Err (fault.Pack q o)) value bad pack memory = (pack q o).0 refl
+  writes_by (Err (told.Refused q k)) value bad pack memory = (bad q k).0 refl
+  writes_by (Err told.Memory) value bad pack memory = memory refl
+  writes_by (Err (told.Pack q o)) value bad pack memory = (pack q o).0 refl

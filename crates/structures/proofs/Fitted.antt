@@ -1,20 +1,70 @@
--- Cells in the form of a version, one level at a time.
-use Rattle.std.proofs.Common.{◌≡◌, ℕ, ℤ, List, [], ◌∷◌, map, Option, None, String, Vec, Box, Global, string_bytes, refl, sym, ap, ◌∙◌, rules}
-use Rattle.packstream.specs.Tree.{Tree, int, list, dict, structure, tree_then, entry_then}
-use Rattle.packstream.specs.View.{trees_of, entries_of}
+-- What is written of a cell, and a cell in the form of a version, one level at a time.
+use Rattle.std.proofs.Common.{◌≡◌, ℕ, ℤ, List, [], ◌∷◌, map, Option, Some, None, String, Global, refl, ap, rules, Vec, Box, string_bytes, sym, ◌∙◌}
+use Rattle.packstream.specs.Tree.{Tree, int, list, dict, structure, no_trees, tree_then, entry_then}
+use Rattle.packstream.specs.View.{tree, trees_of, entries_of}
+use Rattle.packstream.specs.declared.value.Value.{Int as IntCase, the_lemmas as value_lemmas}
 use Rattle.wire.specs.declared.Version.{Version}
+use Rattle.cells.specs.declared.cell.ElementIds.{ElementIds}
+use Rattle.cells.specs.Shape.{text_of, texts_of, element_of, elements_of, numbers_of, entries, shape, shapes, node_shape, unbound_shape, relationship_shape, path_shape, path_of}
+use Rattle.cells.proofs.Views.{Pair, node_parts, unbound_parts, relationship_parts, node-out, node-roll, unbound-out, unbound-roll, relationship-out, relationship-roll, path-out, path-roll, shape-List, shape-Dict}
+use Rattle.structures.specs.Form.{form, form_all, form_under}
+use Rattle.structures.specs.Steps.{form_entry}
 use Rattle.wire.specs.declared.Version.TheVariants.{V50, V51}
 use Rattle.cells.specs.declared.cell.Cell.{Cell, List as ListCase, Dict as DictCase, Node as NodeCase, Relationship as RelationshipCase, UnboundRelationship as UnboundCase, Path as PathCase, the_lemmas}
 use Rattle.cells.specs.declared.cell.Cell.TheViews.{out-roll-Path}
 use Rattle.cells.specs.declared.cell.Cell.TheOpen.{Node-F, UnboundRelationship-F, Relationship-F, Path-F}
-use Rattle.cells.specs.declared.cell.ElementIds.{ElementIds}
 use Rattle.cells.specs.declared.cell.Node.{Node, roll-Node}
 use Rattle.cells.specs.declared.cell.Path.{Path, out-Path, roll-Path}
 use Rattle.cells.specs.declared.cell.Relationship.{Relationship, roll-Relationship}
 use Rattle.cells.specs.declared.cell.UnboundRelationship.{UnboundRelationship, roll-UnboundRelationship}
-use Rattle.cells.specs.Shape.{shape, shapes, node_shape, unbound_shape, relationship_shape, path_shape, text_of, texts_of, element_of, elements_of, entries, path_of}
-use Rattle.cells.proofs.Views.{Pair, node_parts, unbound_parts, relationship_parts, node-out, node-roll, unbound-out, unbound-roll, relationship-out, relationship-roll, path-out, path-roll, shape-List, shape-Dict}
-use Rattle.structures.specs.Fitting.{fitted, fitted_all, fitted_under, fitted_entry, element_at, elements_at}
+use Rattle.wire.specs.Versions.{every_version}
+use Rattle.cells.specs.declared.table.Field.{Field}
+use Rattle.cells.specs.declared.table.Field.TheVariants.{Integer, Text, Labels, Properties}
+use Rattle.cells.specs.Table.{row, row_in, table}
+use Rattle.structures.specs.Fitting.{fitted, fitted_all, fitted_under, fitted_by, fitted_entry, element_at, elements_at}
+
+pub tree-Int : (z : ℤ) → tree (IntCase z) ≡ int z
+tree-Int z = search (rules, value_lemmas)
+
+pub form_list : (v : Version) (ts : List Tree) → form_all v (trees_of ts) ≡ trees_of (map (form v) ts)
+form_list v [] = refl
+form_list v (t ∷ ts) = ap (λ x. tree_then (form v t) x) (form_list v ts)
+
+pub form_pairs : (v : Version) (es : List (List ℕ × Tree)) → form_under v (entries_of es) ≡ entries_of (map (form_entry v) es)
+form_pairs v [] = refl
+form_pairs v (e ∷ es) = ap (λ x. entry_then e.0 (form v e.1) x) (form_pairs v es)
+
+pub form_texts : (v : Version) (ss : List (String Global)) → form_all v (trees_of (map text_of ss)) ≡ trees_of (map text_of ss)
+form_texts v [] = refl
+form_texts v (s ∷ ss) = ap (λ x. tree_then (text_of s) x) (form_texts v ss)
+
+pub form_element : (v : Version) (e : Option (String Global)) → form_all v (element_of e) ≡ element_of e
+form_element v None = refl
+form_element v (Some s) = refl
+
+pub node_written : (v : Version) (id : ℤ) (labels : List (String Global)) (ps : List Pair) (e : Option (String Global)) (a b d : Tree) → a ≡ int id → b ≡ texts_of labels → d ≡ dict (entries_of (map (form_entry v) (entries ps)))
+    → structure 0x4E (tree_then a (tree_then b (tree_then d (element_of e)))) ≡ form v (node_parts id labels ps e)
+node_written v id labels ps e a b d ea eb ed = rw (ea, eb, ed, form_texts v labels, form_pairs v (entries ps), form_element v e) refl
+
+pub unbound_written : (v : Version) (id : ℤ) (kind : String Global) (ps : List Pair) (e : Option (String Global)) (a b d : Tree) → a ≡ int id → b ≡ text_of kind → d ≡ dict (entries_of (map (form_entry v) (entries ps)))
+    → structure 0x72 (tree_then a (tree_then b (tree_then d (element_of e)))) ≡ form v (unbound_parts id kind ps e)
+unbound_written v id kind ps e a b d ea eb ed = rw (ea, eb, ed, form_pairs v (entries ps), form_element v e) refl
+
+pub form_numbers : (v : Version) (zs : List ℤ) → form_all v (trees_of (map int zs)) ≡ trees_of (map int zs)
+form_numbers v [] = refl
+form_numbers v (z ∷ zs) = ap (λ x. tree_then (int z) x) (form_numbers v zs)
+
+pub form_elements : (v : Version) (e : Option ElementIds) → form_all v (elements_of e) ≡ elements_of e
+form_elements v None = refl
+form_elements v (Some s) = refl
+
+pub relationship_written : (v : Version) (id s t : ℤ) (kind : String Global) (ps : List Pair) (e : Option ElementIds) (b d : Tree) → b ≡ text_of kind → d ≡ dict (entries_of (map (form_entry v) (entries ps)))
+    → structure 0x52 (tree_then (int id) (tree_then (int s) (tree_then (int t) (tree_then b (tree_then d (elements_of e)))))) ≡ form v (relationship_parts id s t kind ps e)
+relationship_written v id s t kind ps e b d eb ed = rw (eb, ed, form_pairs v (entries ps), form_elements v e) refl
+
+pub path_written : (v : Version) (ns ls : List Tree) (is : List ℤ) (a b d : Tree) → a ≡ list (trees_of (map (form v) ns)) → b ≡ list (trees_of (map (form v) ls)) → d ≡ numbers_of is
+    → structure 0x50 (tree_then a (tree_then b (tree_then d no_trees))) ≡ form v (structure 0x50 (tree_then (list (trees_of ns)) (tree_then (list (trees_of ls)) (tree_then (numbers_of is) no_trees))))
+path_written v ns ls is a b d ea eb ed = rw (ea, eb, ed, form_list v ns, form_list v ls, form_numbers v is) refl
 
 pub fitted_list : (v : Version) (ts : List Tree) → fitted_all v (trees_of ts) ≡ trees_of (map (fitted v) ts)
 fitted_list v [] = refl
@@ -32,17 +82,12 @@ fitted_numbers : (v : Version) (zs : List ℤ) → fitted_all v (trees_of (map i
 fitted_numbers v [] = refl
 fitted_numbers v (z ∷ zs) = ap (λ x. tree_then (int z) x) (fitted_numbers v zs)
 
-node_fitted : (v : Version) (id : ℤ) (labels : List (String Global)) (ps : List Pair) (e : Option (String Global))
-    → structure 0x4E (tree_then (int id) (tree_then (texts_of labels) (tree_then (dict (entries_of (map (fitted_entry v) (entries ps)))) (element_at v id (element_of e))))) ≡ fitted v (node_parts id labels ps e)
-node_fitted V50 id labels ps None = rw (fitted_texts V50 labels, fitted_pairs V50 (entries ps)) refl
-node_fitted V51 id labels ps None = rw (fitted_texts V51 labels, fitted_pairs V51 (entries ps)) refl
-node_fitted v id labels ps e = rw (fitted_texts v labels, fitted_pairs v (entries ps)) refl
-
-unbound_fitted : (v : Version) (id : ℤ) (kind : String Global) (ps : List Pair) (e : Option (String Global))
-    → structure 0x72 (tree_then (int id) (tree_then (text_of kind) (tree_then (dict (entries_of (map (fitted_entry v) (entries ps)))) (element_at v id (element_of e))))) ≡ fitted v (unbound_parts id kind ps e)
-unbound_fitted V50 id kind ps None = rw (fitted_pairs V50 (entries ps)) refl
-unbound_fitted V51 id kind ps None = rw (fitted_pairs V51 (entries ps)) refl
-unbound_fitted v id kind ps e = rw (fitted_pairs v (entries ps)) refl
+-- three fields, and an element id where the version has one
+named_fitted : (v : Version) (tag : ℕ) (a b d : Field) (id : ℤ) (t u : Tree) (e : Option (String Global)) → row_in tag table ≡ Some (row tag every_version (a ∷ b ∷ d ∷ []) (Text ∷ []))
+    → structure tag (tree_then (int id) (tree_then (fitted v t) (tree_then (fitted v u) (element_at v id (element_of e))))) ≡ fitted v (structure tag (tree_then (int id) (tree_then t (tree_then u (element_of e)))))
+named_fitted V50 tag a b d id t u None r = sym (ap (λ o. structure tag (fitted_by V50 o (fitted_all V50 (tree_then (int id) (tree_then t (tree_then u no_trees)))))) r)
+named_fitted V51 tag a b d id t u None r = sym (ap (λ o. structure tag (fitted_by V51 o (fitted_all V51 (tree_then (int id) (tree_then t (tree_then u no_trees)))))) r)
+named_fitted v tag a b d id t u e r = sym (ap (λ o. structure tag (fitted_by v o (fitted_all v (tree_then (int id) (tree_then t (tree_then u (element_of e))))))) r)
 
 relationship_fitted : (v : Version) (id s d : ℤ) (kind : String Global) (ps : List Pair) (e : Option ElementIds)
     → structure 0x52 (tree_then (int id) (tree_then (int s) (tree_then (int d) (tree_then (text_of kind) (tree_then (dict (entries_of (map (fitted_entry v) (entries ps)))) (elements_at v id s d (elements_of e))))))) ≡ fitted v (relationship_parts id s d kind ps e)
@@ -52,11 +97,13 @@ relationship_fitted v id s d kind ps e = rw (fitted_pairs v (entries ps)) refl
 
 pub fit_node_is : (v : Version) (x : Node-F Cell Node Path Relationship UnboundRelationship) (n : Node) → x.id ≡ n.id → map text_of x.labels.items ≡ map text_of n.labels.items → entries x.properties.items ≡ map (fitted_entry v) (entries n.properties.items) → element_of x.element_id ≡ element_at v n.id (element_of n.element_id)
     → node_shape (roll-Node x) ≡ fitted v (node_shape n)
-fit_node_is v x n i l p e = node-roll x ∙ rw (i, l, p, e) refl ∙ node_fitted v n.id n.labels.items n.properties.items n.element_id ∙ ap (fitted v) (sym (node-out n))
+fit_node_is v x n i l p e = node-roll x ∙ rw (i, l, p, e, fitted_texts v n.labels.items, fitted_pairs v (entries n.properties.items)) refl
+    ∙ named_fitted v 0x4E Integer Labels Properties n.id (texts_of n.labels.items) (dict (entries_of (entries n.properties.items))) n.element_id refl ∙ ap (fitted v) (sym (node-out n))
 
 pub fit_unbound_is : (v : Version) (x : UnboundRelationship-F Cell Node Path Relationship UnboundRelationship) (n : UnboundRelationship) → x.id ≡ n.id → string_bytes x.kind ≡ string_bytes n.kind → entries x.properties.items ≡ map (fitted_entry v) (entries n.properties.items) → element_of x.element_id ≡ element_at v n.id (element_of n.element_id)
     → unbound_shape (roll-UnboundRelationship x) ≡ fitted v (unbound_shape n)
-fit_unbound_is v x n i k p e = unbound-roll x ∙ rw (i, k, p, e) refl ∙ unbound_fitted v n.id n.kind n.properties.items n.element_id ∙ ap (fitted v) (sym (unbound-out n))
+fit_unbound_is v x n i k p e = unbound-roll x ∙ rw (i, k, p, e, fitted_pairs v (entries n.properties.items)) refl
+    ∙ named_fitted v 0x72 Integer Text Properties n.id (text_of n.kind) (dict (entries_of (entries n.properties.items))) n.element_id refl ∙ ap (fitted v) (sym (unbound-out n))
 
 pub fit_relationship_is : (v : Version) (x : Relationship-F Cell Node Path Relationship UnboundRelationship) (n : Relationship) → x.id ≡ n.id → x.start ≡ n.start → x.end ≡ n.end → string_bytes x.kind ≡ string_bytes n.kind → entries x.properties.items ≡ map (fitted_entry v) (entries n.properties.items) → elements_of x.element_ids ≡ elements_at v n.id n.start n.end (elements_of n.element_ids)
     → relationship_shape (roll-Relationship x) ≡ fitted v (relationship_shape n)
@@ -82,26 +129,17 @@ fit_path_in_turn v p ns rs n r =
     fit_path_is v (record (out-Path (roll-Path (record (out-Path p) { nodes = ns }))) { relationships = rs }) p (ap (λ f. map node_shape f.nodes.items) e ∙ n) (r ∙ ap (λ f. map (fitted v) (map unbound_shape f.relationships.items)) e) (ap (λ f. f.indices.items) e)
 
 -- a cell that stands behind a box
-shape-Node : (b : Box Node Global) → shape (NodeCase b) ≡ node_shape b.value
-shape-Node b = search (rules, the_lemmas)
-
-shape-Relationship : (b : Box Relationship Global) → shape (RelationshipCase b) ≡ relationship_shape b.value
-shape-Relationship b = search (rules, the_lemmas)
-
-shape-UnboundRelationship : (b : Box UnboundRelationship Global) → shape (UnboundCase b) ≡ unbound_shape b.value
-shape-UnboundRelationship b = search (rules, the_lemmas)
-
-shape-Path : (b : Box Path Global) → shape (PathCase b) ≡ path_shape b.value
-shape-Path b = search (rules, the_lemmas)
+fit_boxed : {A : Type 0} (case : Box A Global → Cell) (see : A → Tree) → ((b : Box A Global) → shape (case b) ≡ see b.value) → (v : Version) (a b : Box A Global) → see a.value ≡ fitted v (see b.value) → shape (case a) ≡ fitted v (shape (case b))
+fit_boxed case see is v a b h = is a ∙ h ∙ ap (fitted v) (sym (is b))
 
 pub fit_node_case : (v : Version) (a b : Box Node Global) → node_shape a.value ≡ fitted v (node_shape b.value) → shape (NodeCase a) ≡ fitted v (shape (NodeCase b))
-fit_node_case v a b h = shape-Node a ∙ h ∙ ap (fitted v) (sym (shape-Node b))
+fit_node_case = fit_boxed NodeCase node_shape (λ b. search (rules, the_lemmas))
 
 pub fit_relationship_case : (v : Version) (a b : Box Relationship Global) → relationship_shape a.value ≡ fitted v (relationship_shape b.value) → shape (RelationshipCase a) ≡ fitted v (shape (RelationshipCase b))
-fit_relationship_case v a b h = shape-Relationship a ∙ h ∙ ap (fitted v) (sym (shape-Relationship b))
+fit_relationship_case = fit_boxed RelationshipCase relationship_shape (λ b. search (rules, the_lemmas))
 
 pub fit_unbound_case : (v : Version) (a b : Box UnboundRelationship Global) → unbound_shape a.value ≡ fitted v (unbound_shape b.value) → shape (UnboundCase a) ≡ fitted v (shape (UnboundCase b))
-fit_unbound_case v a b h = shape-UnboundRelationship a ∙ h ∙ ap (fitted v) (sym (shape-UnboundRelationship b))
+fit_unbound_case = fit_boxed UnboundCase unbound_shape (λ b. search (rules, the_lemmas))
 
 pub fit_path_case : (v : Version) (a b : Box Path Global) → path_shape a.value ≡ fitted v (path_shape b.value) → shape (PathCase a) ≡ fitted v (shape (PathCase b))
-fit_path_case v a b h = shape-Path a ∙ h ∙ ap (fitted v) (sym (shape-Path b))
+fit_path_case = fit_boxed PathCase path_shape (λ b. search (rules, the_lemmas))

@@ -1,13 +1,22 @@
--- The form of a cell that can be written has no fault.
-use Rattle.std.proofs.Common.{◌≡◌, ℕ, suc, ℤ, pos, neg_ℤ, ◌+ℤ◌, ◌≤ℤ◌, int_le, List, [], ◌∷◌, ◌++◌, length, Bool, true, false, not, cond, ◌&&◌, ◌==◌, Option, Some, None, is_none, Result, Ok, Err, inl, inr, ◌⊎◌, refl, sym, ap, ◌∙◌, arith, eqb-true, subst}
+-- What is written is read back, and what is read is written back. The form of a cell that can be written has no fault, and is what is written of it.
+use Rattle.std.proofs.Common.{◌≡◌, ℕ, ℤ, ◌+ℤ◌, ◌-ℤ◌, Bool, true, false, not, cond, ◌==◌, None, refl, sym, ap, ◌∙◌, arith, eqb-true, subst, suc, pos, neg_ℤ, ◌≤ℤ◌, List, [], ◌∷◌, ◌++◌, length, ◌&&◌, Option, Some, is_none, Result, Ok, Err, eq-eqb}
 use Rattle.std.proofs.lemmas.Int.{ints}
 use Rattle.std.proofs.lemmas.Bool.{not-true}
-use Rattle.packstream.specs.Tree.{Tree, int, float, text, list, dict, structure, Trees, no_trees, tree_then, Entries, no_entries, entry_then}
-use Rattle.packstream.specs.Good.{count}
+use Rattle.packstream.specs.Tree.{Tree, int, list, dict, structure, Trees, no_trees, tree_then, Entries, no_entries, entry_then, text}
 use Rattle.wire.specs.declared.Version.{Version}
 use Rattle.wire.specs.declared.Version.TheVariants.{V44}
+use Rattle.cells.specs.Table.{row_in, table, Row, fields_of, kinds}
+use Rattle.cells.specs.Faults.{scan, to_utc, fault, structures, structures_in, structures_under, first_failed, moment_fields, is_int, is_text, has_tag, each, is_list_of, is_kind, are_kinds, in_range, are_in_range, is_path}
+use Rattle.cells.specs.Steps.{all_fine}
+use Rattle.cells.specs.Cells.{is_typed, are_typed, have_typed, is_row, has_count}
+use Rattle.cells.proofs.Both.{and_left, and_right, both_true}
+use Rattle.cells.proofs.Fine.{fine_itself, fine_within, fine_left, fine_right, scan_fine, fine_scan, fine_append}
+use Rattle.structures.specs.Form.{typed, typed_all, typed_under, form, form_all, form_under, moment, to_local, Form}
+use Rattle.structures.specs.Laying.{date_time_fields as three}
+use Rattle.structures.proofs.Got.{of_local, stood, at_both, first_none, between, of_three}
+use Rattle.packstream.specs.Good.{IsGood, count}
 use Rattle.cells.specs.declared.table.Field.{Field}
-use Rattle.cells.specs.declared.table.Field.TheVariants.{Nanosecond, DayNanosecond, Offset, UtcSecond, Float, Text, Labels, Properties, Nodes, Relationships, Indices}
+use Rattle.cells.specs.declared.table.Field.TheVariants.{Nanosecond, DayNanosecond, Offset, UtcSecond, Text, Labels, Nodes, Relationships, Indices}
 use Rattle.cells.specs.declared.fault.Reason.{Reason}
 use Rattle.cells.specs.declared.fault.Reason.TheVariants.{FieldCount, FieldKind, Range, PathShape}
 use Rattle.cells.specs.declared.cell.Cell.{Cell}
@@ -15,23 +24,87 @@ use Rattle.cells.specs.Shape.{shape}
 use Rattle.cells.proofs.Typed.{typed_shape}
 use Rattle.cells.proofs.Faulty.{fault_is, wrong_is}
 use Rattle.wire.specs.Versions.{has_element_ids}
-use Rattle.cells.specs.Table.{Row, fields_at, fields_of, kinds, row_in, table}
-use Rattle.cells.specs.Faults.{first_failed, to_utc, moment_fields, is_int, is_float, is_text, is_dict, has_tag, each, is_list_of, is_kind, are_kinds, in_range, are_in_range, is_path, fault, structures, structures_in, structures_under}
-use Rattle.cells.specs.Steps.{all_fine}
-use Rattle.cells.specs.Writing.{moment_tag, fault_of_structure, fault_of_structure_by}
-use Rattle.cells.specs.Cells.{has_count, is_row, is_typed, are_typed, have_typed}
-use Rattle.cells.proofs.Both.{and_left, and_right, both_true}
-use Rattle.cells.proofs.Fine.{scan_fine, fine_append, fine_itself, fine_within, fine_left, fine_right}
-use Rattle.structures.proofs.Standing.{stood}
-use Rattle.structures.specs.Form.{Form, form, form_all, form_under, moment}
+use Rattle.cells.specs.Writing.{moment_tag, fault_of_structure, fault_of_structure_by, IsWritable}
+use Rattle.structures.specs.declared.fault.CellFault.{CellFault}
+use Rattle.structures.specs.Answers.{Writes, Packs}
 use Rattle.structures.specs.Steps.{has_kinds}
-use Rattle.structures.specs.Laying.{date_time_fields as three}
-use Rattle.structures.proofs.Got.{le_true, at_both, first_none}
-use Rattle.structures.proofs.Back.{back, Three, three_ints, there_and_back}
+use Rattle.structures.specs.declared.fault.CellFault.TheVariants as told
 
-pub a_list : (p : Tree → Bool) (t : Tree) → is_list_of p t ≡ true → (ts : Trees) × (t ≡ list ts)
-a_list p (list ts) h = (ts, refl)
-a_list p t h = absurd cc
+pub there_and_back : (u o : ℤ) → (u +ℤ o) -ℤ o ≡ u
+there_and_back u o = omega (arith, ints)
+
+pub back_and_there : (u o : ℤ) → (u -ℤ o) +ℤ o ≡ u
+back_and_there u o = omega (arith, ints)
+
+local_back : (us : Trees) → to_utc (typed_all (to_local us)) ≡ typed_all us
+local_back (tree_then (int u) (tree_then t (tree_then (int o) no_trees))) = ap (λ z. tree_then (int z) (tree_then (typed t) (tree_then (int o) no_trees))) (there_and_back u o)
+local_back us = refl
+
+moment_back : (v : Version) (us : Trees) → typed (moment v us) ≡ structure 0x49 (typed_all us)
+moment_back V44 us = ap (λ ts. structure 0x49 ts) (local_back us)
+moment_back v us = refl
+
+written_back : (v : Version) (tag : ℕ) (us : Trees) (b : Bool) → (tag == 0x49) ≡ b → not (tag == 0x46) ≡ true → typed (cond b (moment v us) (structure tag us)) ≡ structure tag (typed_all us)
+written_back v tag us true e h = moment_back v us ∙ ap (λ n. structure n (typed_all us)) (sym (eqb-true _ _ e))
+written_back v tag us false e h = let n : (tag == 0x46) ≡ false = not-true _ h in rw n refl
+
+mutual
+  pub back : (v : Version) (t : Tree) → is_typed t ≡ true → typed (form v t) ≡ t
+  back v (list ts) h = ap list (back_all v ts h)
+  back v (dict es) h = ap dict (back_under v es h)
+  back v (structure tag ts) h = written_back v tag (form_all v ts) (tag == 0x49) refl (and_left (not (tag == 0x46)) _ h) ∙ ap (λ us. structure tag us) (back_all v ts (and_right (is_row (row_in tag table) ts) _ (and_right (not (tag == 0x46)) _ h)))
+  back v t h = refl
+
+  pub back_all : (v : Version) (ts : Trees) → are_typed ts ≡ true → typed_all (form_all v ts) ≡ ts
+  back_all v no_trees h = refl
+  back_all v (tree_then t ts) h = ap (λ x. tree_then x (typed_all (form_all v ts))) (back v t (and_left (is_typed t) _ h)) ∙ ap (λ xs. tree_then t xs) (back_all v ts (and_right (is_typed t) _ h))
+
+  pub back_under : (v : Version) (es : Entries) → have_typed es ≡ true → typed_under (form_under v es) ≡ es
+  back_under v no_entries h = refl
+  back_under v (entry_then k t es) h = ap (λ x. entry_then k x (typed_under (form_under v es))) (back v t (and_left (is_typed t) _ h)) ∙ ap (λ xs. entry_then k t xs) (back_under v es (and_right (is_typed t) _ h))
+
+local_again : (v : Version) (ts : Trees) → fault v 0x46 ts ≡ None → form v (typed (structure 0x46 ts)) ≡ structure 0x46 ts
+local_again = of_local (λ w us. form w (typed (structure 0x46 us)) ≡ structure 0x46 us) (λ a b d r. ap (λ z. structure 0x46 (three z b d)) (back_and_there a d))
+
+plain_again : (v : Version) (tag : ℕ) (ts us : Trees) (b : Bool) → (tag == 0x49) ≡ b → fault v tag ts ≡ None → us ≡ ts → cond b (moment v us) (structure tag us) ≡ structure tag ts
+plain_again V44 tag ts us true e h i = absurd (let g : fault V44 0x49 ts ≡ None = subst (λ n. fault V44 n ts ≡ None) (eqb-true _ _ e) h in cc)
+plain_again v tag ts us false e h i = ap (λ x. structure tag x) i
+plain_again v tag ts us b e h i = ap (λ x. structure 0x49 x) i ∙ ap (λ n. structure n ts) (sym (eqb-true _ _ e))
+
+structure_again : (v : Version) (tag : ℕ) (ts : Trees) (b : Bool) → (tag == 0x46) ≡ b → fault v tag ts ≡ None → form_all v (typed_all ts) ≡ ts → form v (structure (cond b 0x49 tag) (cond b (to_utc (typed_all ts)) (typed_all ts))) ≡ structure tag ts
+structure_again v tag ts true e h i = subst (λ n. fault v n ts ≡ None → form v (structure 0x49 (to_utc (typed_all ts))) ≡ structure n ts) (sym (eqb-true _ _ e)) (λ g. local_again v ts g) h
+structure_again v tag ts false e h i = plain_again v tag ts (form_all v (typed_all ts)) (tag == 0x49) refl h i
+
+mutual
+  pub again : (v : Version) (t : Tree) → all_fine (fault v) (structures t) ≡ true → form v (typed t) ≡ t
+  again v (list ts) h = ap list (again_all v ts h)
+  again v (dict es) h = ap dict (again_under v es h)
+  again v (structure tag ts) h = structure_again v tag ts (tag == 0x46) refl (fine_itself (fault v) tag ts h) (again_all v ts (fine_within (fault v) tag ts h))
+  again v t h = refl
+
+  pub again_all : (v : Version) (ts : Trees) → all_fine (fault v) (structures_in ts) ≡ true → form_all v (typed_all ts) ≡ ts
+  again_all v no_trees h = refl
+  again_all v (tree_then t ts) h = ap (λ x. tree_then x (form_all v (typed_all ts))) (again v t (fine_left (fault v) (structures t) (structures_in ts) h)) ∙ ap (λ xs. tree_then t xs) (again_all v ts (fine_right (fault v) (structures t) (structures_in ts) h))
+
+  pub again_under : (v : Version) (es : Entries) → all_fine (fault v) (structures_under es) ≡ true → form_under v (typed_under es) ≡ es
+  again_under v no_entries h = refl
+  again_under v (entry_then k t es) h = ap (λ x. entry_then k x (form_under v (typed_under es))) (again v t (fine_left (fault v) (structures t) (structures_under es) h)) ∙ ap (λ xs. entry_then k t xs) (again_under v es (fine_right (fault v) (structures t) (structures_under es) h))
+
+-- what holds of a list whose members pass holds of what passes as such a list
+of_list : (P : Tree → Type 0) (p : Tree → Bool) → ((ts : Trees) → each p ts ≡ true → P (list ts)) → (t : Tree) → is_list_of p t ≡ true → P t
+of_list P p all (list ts) h = all ts h
+of_list P p all t h = absurd cc
+
+-- what holds of three such lists holds of what passes as the fields of a path
+pub of_path : (P : Trees → Type 0) → ((a b d : Trees) → each is_int d ≡ true → P (tree_then (list a) (tree_then (list b) (tree_then (list d) no_trees)))) → (ts : Trees) → count ts ≡ 3 → are_kinds (Nodes ∷ Relationships ∷ Indices ∷ []) ts ≡ true → P ts
+of_path P all (tree_then t (tree_then u (tree_then w no_trees))) n h =
+    let r = and_right (is_kind Nodes t) _ h in
+    of_list (λ x. P (tree_then x (tree_then u (tree_then w no_trees)))) (has_tag 0x4E) (λ a p.
+    of_list (λ x. P (tree_then (list a) (tree_then x (tree_then w no_trees)))) (has_tag 0x72) (λ b q.
+    of_list (λ x. P (tree_then (list a) (tree_then (list b) (tree_then x no_trees)))) is_int (all a b)
+    w (and_left (is_kind Indices w) _ (and_right (is_kind Relationships u) _ r))) u (and_left (is_kind Relationships u) _ r)) t (and_left (is_kind Nodes t) _ h)
+of_path P all (tree_then t (tree_then u (tree_then w (tree_then x ts)))) n h = absurd (omega (arith, n))
+of_path P all ts n h = absurd cc
 
 -- What a map leaves as it is under which integers stay and the members of a list are mapped.
 pub record Maps (f : Tree → Tree) (all : Trees → Trees) : Type 0 where
@@ -66,47 +139,19 @@ module _ (f : Tree → Tree) (all : Trees → Trees) (m : Maps f all) where
   ints_same no_trees h = m.none
   ints_same (tree_then t ts) h = m.more t ts ∙ ap (λ x. tree_then x (all ts)) (int_same t (and_left _ _ h)) ∙ ap (λ x. tree_then t x) (ints_same ts (and_right (is_int t) _ h))
 
-  path_lists : (a b d : Trees) → each is_int d ≡ true → is_path (all (tree_then (list a) (tree_then (list b) (tree_then (list d) no_trees)))) ≡ is_path (tree_then (list a) (tree_then (list b) (tree_then (list d) no_trees)))
-  path_lists a b d h =
-      rw (m.more (list a) (tree_then (list b) (tree_then (list d) no_trees)), m.more (list b) (tree_then (list d) no_trees), m.more (list d) no_trees, m.none, m.on_list a, m.on_list b, m.on_list d, count_kept a, count_kept b, ints_same d h) refl
-
-  path_from : (t u w : Tree) (x : (ts : Trees) × (t ≡ list ts)) (y : (ts : Trees) × (u ≡ list ts)) (z : (ts : Trees) × (w ≡ list ts)) → is_list_of is_int w ≡ true
-      → is_path (all (tree_then t (tree_then u (tree_then w no_trees)))) ≡ is_path (tree_then t (tree_then u (tree_then w no_trees)))
-  path_from t u w x y z h =
-      let e = path_lists x.0 y.0 z.0 (ap (is_list_of is_int) (sym z.1) ∙ h) in
-      rw (x.1, y.1, z.1) e
-
   pub path_kept : (ts : Trees) → count ts ≡ 3 → are_kinds (Nodes ∷ Relationships ∷ Indices ∷ []) ts ≡ true → is_path (all ts) ≡ is_path ts
-  path_kept (tree_then t (tree_then u (tree_then w no_trees))) n h =
-      let ht = and_left (is_kind Nodes t) _ h in
-      let r = and_right (is_kind Nodes t) _ h in
-      let hu = and_left (is_kind Relationships u) _ r in
-      let hw = and_left (is_kind Indices w) _ (and_right (is_kind Relationships u) _ r) in
-      path_from t u w (a_list (has_tag 0x4E) t ht) (a_list (has_tag 0x72) u hu) (a_list is_int w hw) hw
-  path_kept (tree_then t (tree_then u (tree_then w (tree_then x ts)))) n h = absurd (omega (arith, n))
-  path_kept ts n h = absurd cc
+  path_kept = of_path (λ us. is_path (all us) ≡ is_path us) (λ a b d h.
+      rw (m.more (list a) (tree_then (list b) (tree_then (list d) no_trees)), m.more (list b) (tree_then (list d) no_trees), m.more (list d) no_trees, m.none, m.on_list a, m.on_list b, m.on_list d, count_kept a, count_kept b, ints_same d h) refl)
 
 form_maps : (v : Version) → Maps (form v) (form_all v)
 form_maps v = record { none = refl; more = λ t ts. refl; on_int = λ z. refl; on_list = λ ts. refl }
-
-float_kept : (v : Version) (t : Tree) → is_float t ≡ true → is_float (form v t) ≡ true
-float_kept v (float n) h = refl
-float_kept v t h = absurd cc
 
 text_kept : (v : Version) (t : Tree) → is_text t ≡ true → is_text (form v t) ≡ true
 text_kept v (text s) h = refl
 text_kept v t h = absurd cc
 
-dict_kept : (v : Version) (t : Tree) → is_dict t ≡ true → is_dict (form v t) ≡ true
-dict_kept v (dict es) h = refl
-dict_kept v t h = absurd cc
-
-tag_kept_by : (v : Version) (k tag : ℕ) (ts : Trees) (b : Bool) → (tag == 0x49) ≡ b → (k == 0x49) ≡ false → (tag == k) ≡ true → has_tag k (cond b (moment v ts) (structure tag ts)) ≡ true
-tag_kept_by v k tag ts true e n h = absurd (let same : (k == 0x49) ≡ true = ap (λ m. m == 0x49) (sym (eqb-true _ _ h)) ∙ e in cc)
-tag_kept_by v k tag ts false e n h = h
-
 tag_kept : (v : Version) (k : ℕ) (t : Tree) → (k == 0x49) ≡ false → has_tag k t ≡ true → has_tag k (form v t) ≡ true
-tag_kept v k (structure tag ts) n h = tag_kept_by v k tag (form_all v ts) (tag == 0x49) refl n h
+tag_kept v k (structure tag ts) n h = subst (λ m. has_tag k (form v (structure m ts)) ≡ true) (sym (eqb-true _ _ h)) (rw n (eq-eqb k k refl))
 tag_kept v k t n h = absurd cc
 
 each_kept : (v : Version) (p : Tree → Bool) (kept : (t : Tree) → p t ≡ true → p (form v t) ≡ true) (ts : Trees) → each p ts ≡ true → each p (form_all v ts) ≡ true
@@ -121,14 +166,13 @@ int_kept : (v : Version) (t : Tree) → is_int t ≡ true → is_int (form v t) 
 int_kept v t h = ap is_int (int_same (form v) (form_all v) (form_maps v) t h) ∙ h
 
 kind_kept : (v : Version) (k : Field) (t : Tree) → is_kind k t ≡ true → is_kind k (form v t) ≡ true
-kind_kept v Float t h = float_kept v t h
 kind_kept v Text t h = text_kept v t h
 kind_kept v Labels t h = list_kept v is_text (text_kept v) t h
-kind_kept v Properties t h = dict_kept v t h
 kind_kept v Nodes t h = list_kept v (has_tag 0x4E) (λ u. tag_kept v 0x4E u refl) t h
 kind_kept v Relationships t h = list_kept v (has_tag 0x72) (λ u. tag_kept v 0x72 u refl) t h
 kind_kept v Indices t h = list_kept v is_int (int_kept v) t h
-kind_kept v k t h = int_kept v t h
+kind_kept v k (structure tag ts) h = absurd cc
+kind_kept v k t h = h
 
 kinds_kept : (v : Version) (ks : List Field) (ts : Trees) → are_kinds ks ts ≡ true → are_kinds ks (form_all v ts) ≡ true
 kinds_kept v [] ts h = refl
@@ -144,12 +188,9 @@ fields_kinds : (b : Bool) (fs more : List Field) (ts : Trees) → are_kinds (fs 
 fields_kinds true fs more ts h = h
 fields_kinds false fs more ts h = prefix fs more ts h
 
-row_kinds : (v : Version) (s : Version → Bool) (fs more ks : List Field) (ts : Trees) → fields_at v s fs more ≡ Ok ks → are_kinds (fs ++ more) ts ≡ true → are_kinds ks ts ≡ true
-row_kinds v s fs more ks ts e h = subst (λ x. are_kinds x ts ≡ true) (sym (stood v s fs more ks e).1) (fields_kinds (has_element_ids v) fs more ts h)
-
 table_kinds : (v : Version) (o : Option Row) (ks : List Field) (ts : Trees) → fields_of v o ≡ Ok ks → has_kinds o ts ≡ true → are_kinds ks ts ≡ true
 table_kinds v None ks ts e h = absurd cc
-table_kinds v (Some r) ks ts e h = row_kinds v r.stands r.fields r.added ks ts e h
+table_kinds v (Some r) ks ts e h = subst (λ x. are_kinds x ts ≡ true) (sym (stood v r.stands r.fields r.added ks e).1) (fields_kinds (has_element_ids v) r.fields r.added ts h)
 
 pub record Written (ks : List Field) (tag : ℕ) (ts : Trees) : Type 0 where
   pub counted : (count ts == length ks) ≡ true
@@ -163,14 +204,13 @@ passes ks tag ts h =
     let d = first_none (cond (tag == 0x50) (is_path ts) true) _ _ b.1 in
     record { counted = a.0; ranged = b.0; shaped = d.0 }
 
-shape_kept : (v : Version) (tag : ℕ) (ts : Trees) (b : Bool) → (tag == 0x50) ≡ b → has_kinds (row_in tag table) ts ≡ true → count ts ≡ 3 ⊎ (b ≡ false) → cond b (is_path ts) true ≡ true → cond b (is_path (form_all v ts)) true ≡ true
-shape_kept v tag ts false e r n h = refl
-shape_kept v tag ts true e r (inl n) h = path_kept (form v) (form_all v) (form_maps v) ts n (subst (λ k. has_kinds (row_in k table) ts ≡ true) (eqb-true _ _ e) r) ∙ h
-shape_kept v tag ts true e r (inr n) h = absurd cc
-
-path_count : (v : Version) (tag : ℕ) (ks : List Field) (ts : Trees) (b : Bool) → (tag == 0x50) ≡ b → kinds v tag ≡ Ok ks → (count ts == length ks) ≡ true → count ts ≡ 3 ⊎ (b ≡ false)
-path_count v tag ks ts false e k n = inr refl
-path_count v tag ks ts true e k n = inl (let f : kinds v 0x50 ≡ Ok (Nodes ∷ Relationships ∷ Indices ∷ []) = at_both v 0x50 _ refl in let d : kinds v 0x50 ≡ Ok ks = subst (λ m. kinds v m ≡ Ok ks) (eqb-true _ _ e) k in let l : length ks ≡ 3 = cc in eqb-true _ _ n ∙ l)
+shape_kept : (v : Version) (tag : ℕ) (ks : List Field) (ts : Trees) (b : Bool) → (tag == 0x50) ≡ b → kinds v tag ≡ Ok ks → count ts ≡ length ks → are_kinds ks ts ≡ true → cond b (is_path ts) true ≡ true → cond b (is_path (form_all v ts)) true ≡ true
+shape_kept v tag ks ts false e k n r h = refl
+shape_kept v tag ks ts true e k n r h =
+    let f : kinds v 0x50 ≡ Ok (Nodes ∷ Relationships ∷ Indices ∷ []) = at_both v 0x50 _ refl in
+    let d : kinds v 0x50 ≡ Ok ks = subst (λ m. kinds v m ≡ Ok ks) (eqb-true _ _ e) k in
+    let same : ks ≡ (Nodes ∷ Relationships ∷ Indices ∷ []) = cc in
+    path_kept (form v) (form_all v) (form_maps v) ts (n ∙ ap length same) (subst (λ x. are_kinds x ts ≡ true) same r) ∙ h
 
 moment_three : (v : Version) (a b d : ℤ) → are_in_range moment_fields (three a b d) ≡ true → all_fine (fault v) (structures (moment v (three a b d))) ≡ true
 moment_three V44 a b d h =
@@ -182,11 +222,10 @@ moment_unwritten : (v : Version) (ts : Trees) → fault_of_structure v 0x49 ts �
 moment_unwritten V44 ts h = h
 moment_unwritten v ts h = h
 
-moment_from : (v : Version) (ts : Trees) → Three ts → are_in_range moment_fields ts ≡ true → all_fine (fault v) (structures (moment v (form_all v ts))) ≡ true
-moment_from v ts x h = subst (λ us. all_fine (fault v) (structures (moment v (form_all v us))) ≡ true) (sym x.are) (moment_three v x.first x.second x.third (ap (are_in_range moment_fields) (sym x.are) ∙ h))
-
 moment_fine : (v : Version) (ts : Trees) → are_kinds moment_fields ts ≡ true → fault_of_structure v 0x49 ts ≡ None → all_fine (fault v) (structures (moment v (form_all v ts))) ≡ true
-moment_fine v ts k u = let p = passes moment_fields 0x49 ts (moment_unwritten v ts u) in moment_from v ts (three_ints ts (eqb-true _ _ p.counted) k) p.ranged
+moment_fine v ts k u =
+    let p = passes moment_fields 0x49 ts (moment_unwritten v ts u) in
+    of_three (λ us. are_in_range moment_fields us ≡ true → all_fine (fault v) (structures (moment v (form_all v us))) ≡ true) (moment_three v) ts (eqb-true _ _ p.counted) k p.ranged
 
 plain_fine : (v : Version) (tag : ℕ) (ts : Trees) (r : Result (List Field) Reason) → kinds v tag ≡ r → fault_of_structure_by r tag ts ≡ None → (tag == 0x46) ≡ false → has_kinds (row_in tag table) ts ≡ true → is_none (fault v tag (form_all v ts)) ≡ true
 plain_fine v tag ts (Err x) e u n r = absurd cc
@@ -197,7 +236,7 @@ plain_fine v tag ts (Ok ks) e u n r =
     let a = ap (λ m. m == length ks) (count_kept (form v) (form_all v) (form_maps v) ts) ∙ p.counted in
     let b = kinds_kept v ks ts k in
     let d = ap (λ c. are_in_range ks (cond c (to_utc us) us)) n ∙ ranges_kept (form v) (form_all v) (form_maps v) ks ts k ∙ p.ranged in
-    let s = shape_kept v tag ts (tag == 0x50) refl r (path_count v tag ks ts (tag == 0x50) refl e p.counted) p.shaped in
+    let s = shape_kept v tag ks ts (tag == 0x50) refl e (eqb-true _ _ p.counted) k p.shaped in
     ap is_none (fault_is v tag us ks e ∙ wrong_is ks tag us true true true true a b d s)
 
 structure_fine : (v : Version) (tag : ℕ) (ts : Trees) (b : Bool) → (tag == 0x49) ≡ b → not (tag == 0x46) ≡ true → has_kinds (row_in tag table) ts ≡ true → fault_of_structure v tag ts ≡ None → all_fine (fault v) (structures_in (form_all v ts)) ≡ true
@@ -237,18 +276,32 @@ form_typed v s k h = (scan_fine (fault v) 0 (structures (form v s)) (formed v s 
 pub form_is : (v : Version) (c : Cell) → all_fine (fault_of_structure v) (structures (shape c)) ≡ true → Form v (shape c) (form v (shape c))
 form_is v c h = form_typed v (shape c) (typed_shape c) h
 
-pub record Sum (u o : ℤ) : Type 0 where
-  pub above : neg_ℤ (pos 100000000000064800) ≤ℤ (u +ℤ o)
-  pub below : (u +ℤ o) ≤ℤ pos 100000000000064800
+-- what is written is read back, and is the form of its cell
+pub back_is : (v : Version) (c : Cell) → typed (form v (shape c)) ≡ shape c
+back_is v c = back v (shape c) (typed_shape c)
+
+pub form_of : (v : Version) (c : Cell) → IsWritable v (shape c) → Form v (shape c) (form v (shape c))
+form_of v c w = form_is v c (fine_scan (fault_of_structure v) 0 w.0 (structures (shape c)) w.1)
+
+-- what was looked through without a fault
+pub writable_when : (v : Version) (s : Tree) (n : ℕ) → Ok n ≡ scan (fault_of_structure v) 0 (structures s) → IsWritable v s
+writable_when v s n e = (n, sym e)
 
 -- the sum of a DateTime that can be written
-pub local_sum : (v : Version) (u n o : ℤ) → fault_of_structure v 0x49 (three u n o) ≡ None → Sum u o
+pub local_sum : (v : Version) (u n o : ℤ) → fault_of_structure v 0x49 (three u n o) ≡ None
+    → (neg_ℤ (pos 100000000000064800) ≤ℤ (u +ℤ o)) × ((u +ℤ o) ≤ℤ pos 100000000000064800)
 local_sum v u n o h =
     let r = (passes moment_fields 0x49 (three u n o) (moment_unwritten v (three u n o) h)).ranged in
-    let a : (int_le (neg_ℤ (pos 100000000000000000)) u && int_le u (pos 100000000000000000)) ≡ true = and_left (in_range UtcSecond (int u)) _ r in
-    let b : (int_le (neg_ℤ (pos 64800)) o && int_le o (pos 64800)) ≡ true = and_left (in_range Offset (int o)) _ (and_right (in_range Nanosecond (int n)) _ (and_right (in_range UtcSecond (int u)) _ r)) in
-    let a0 = le_true (neg_ℤ (pos 100000000000000000)) u (and_left (int_le (neg_ℤ (pos 100000000000000000)) u) _ a) in
-    let a1 = le_true u (pos 100000000000000000) (and_right (int_le (neg_ℤ (pos 100000000000000000)) u) _ a) in
-    let b0 = le_true (neg_ℤ (pos 64800)) o (and_left (int_le (neg_ℤ (pos 64800)) o) _ b) in
-    let b1 = le_true o (pos 64800) (and_right (int_le (neg_ℤ (pos 64800)) o) _ b) in
-    record { above = omega (arith, ints, a0, b0); below = omega (arith, ints, a1, b1) }
+    let a = between (neg_ℤ (pos 100000000000000000)) (pos 100000000000000000) u (and_left (in_range UtcSecond (int u)) _ r) in
+    let b = between (neg_ℤ (pos 64800)) (pos 64800) o (and_left (in_range Offset (int o)) _ (and_right (in_range Nanosecond (int n)) _ (and_right (in_range UtcSecond (int u)) _ r))) in
+    (omega (arith, ints, a.0, b.0), omega (arith, ints, a.1, b.1))
+
+its_form : (v : Version) (s t : Tree) → is_typed s ≡ true → IsWritable v s → t ≡ form v s → Form v s t
+its_form v s t k w e = subst (λ x. Form v s x) (sym e) (form_typed v s k (fine_scan (fault_of_structure v) 0 w.0 (structures s) w.1))
+
+-- what is written of a cell
+pub packed_is : (v : Version) (s t : Tree) (r : Result Tree CellFault) → is_typed s ≡ true → IsWritable v s → t ≡ form v s → Packs t r → Writes v s r
+packed_is v s t (Ok u) k w e p = record { writable = w; formed = its_form v s u k w (p.0 ∙ e); good = subst IsGood (sym p.0) p.1 }
+packed_is v s t (Err (told.Refused r n)) k w e p = absurd p
+packed_is v s t (Err told.Memory) k w e p = absurd p
+packed_is v s t (Err (told.Pack r o)) k w e p = record { value = t; writable = w; formed = its_form v s t k w e; unpacked = p }

@@ -1,21 +1,24 @@
--- The fields of a structure.
-use Rattle.std.proofs.Common.{◌≡◌, ◌++◌, take, add-one, ℤ, pos, neg_ℤ, ◌-ℤ◌, ◌≤ℤ◌, int_le, ℕ, suc, zero, ◌+◌, ◌<◌, ◌≤◌, List, [], ◌∷◌, map, length, get_or, append-nil, Bool, true, false, ◌&&◌, ◌==◌, cond, Option, Some, None, Ok, Err, refl, sym, ap, ◌∙◌, arith, eqb-true, subst}
+-- The fields of a structure, and the row that it has where it has no fault.
+use Rattle.std.proofs.Common.{◌≡◌, ◌++◌, take, ℤ, pos, neg_ℤ, ◌-ℤ◌, ◌≤ℤ◌, int_le, ℕ, suc, zero, ◌+◌, ◌<◌, ◌≤◌, List, [], ◌∷◌, map, length, get_or, append-nil, Bool, true, false, ◌&&◌, ◌==◌, cond, Option, Some, None, Result, Ok, Err, refl, sym, ap, ◌∙◌, arith, eqb-true, subst}
 use Rattle.std.proofs.lemmas.Int.{ints}
+use Rattle.std.proofs.lemmas.List.{map_more, map_push}
 use Rattle.packstream.specs.Tree.{Tree, null, int, structure, Trees, no_trees, tree_then, entry_then}
 use Rattle.packstream.specs.Good.{count}
 use Rattle.packstream.specs.View.{tree, trees, trees_of, entries_of}
 use Rattle.packstream.specs.declared.value.Value.{Value}
 use Rattle.packstream.proofs.Putting.{len_trees}
 use Rattle.wire.specs.declared.Version.{Version}
-use Rattle.wire.specs.Versions.{has_element_ids, has_utc_times, every_version, lacks}
+use Rattle.wire.specs.declared.Version.TheVariants.{V44}
+use Rattle.wire.specs.Versions.{has_element_ids, every_version}
 use Rattle.cells.specs.declared.table.Field.{Field}
 use Rattle.cells.specs.declared.table.Field.TheVariants.{Integer, Text, Properties, Nodes, Relationships, Indices}
 use Rattle.cells.specs.declared.fault.Reason.{Reason}
 use Rattle.cells.specs.declared.fault.Reason.TheVariants.{NotInVersion}
-use Rattle.cells.specs.Table.{row, row_in, table, fields_in, fields_of, kinds}
+use Rattle.cells.specs.Table.{row, row_in, table, fields_in, fields_at, fields_of, kinds}
 use Rattle.cells.specs.Faults.{moment_fields, to_utc, each, is_kind, are_kinds, are_in_range, utc_fields, is_path, wrong, fault, fault_by}
 use Rattle.cells.proofs.Both.{and_left, and_right}
 use Rattle.structures.specs.Form.{typed, typed_all, typed_under}
+use Rattle.structures.specs.Laying.{date_time_fields as three}
 use Rattle.structures.specs.Steps.{tree_at, ReadElements, typed_entry}
 
 pub at_some : (xs : List Value) (i : ℕ) (d : Value) → i < length xs → d ≡ get_or xs i d → tree_at i (trees_of (trees xs)) ≡ tree d
@@ -67,9 +70,29 @@ passed v tag ts ks e h =
     let s = first_none (cond (tag == 0x50) (is_path ts) true) _ _ d.1 in
     record { counted = eqb-true _ _ a.0; kinded = b.0; ranged = d.0; shaped = s.0 }
 
+stood_by : (b : Bool) (fs ks : List Field) → ◌≡◌ {A = Result (List Field) Reason} (cond b (Ok fs) (Err NotInVersion)) (Ok ks) → (b ≡ true) × (ks ≡ fs)
+stood_by true fs ks e = let same : fs ≡ ks = cc in (refl, sym same)
+stood_by false fs ks e = absurd cc
+
+-- a row that has fields at a version stands there
+pub stood : (v : Version) (s : Version → Bool) (fs more ks : List Field) → fields_at v s fs more ≡ Ok ks → (s v ≡ true) × (ks ≡ fields_in v fs more)
+stood v s fs more ks e = stood_by (s v) (fields_in v fs more) ks e
+
+-- a row that stands at a version has its fields there
+pub stands_is : (v : Version) (s : Version → Bool) (fs more : List Field) → s v ≡ true → fields_at v s fs more ≡ Ok (fields_in v fs more)
+stands_is v s fs more h = ap (λ b. cond b (Ok (fields_in v fs more)) (Err NotInVersion)) h
+
+-- a structure without a fault has a row
+pub row_of : (v : Version) (tag : ℕ) (ts : Trees) → fault v tag ts ≡ None → (ks : List Field) × (kinds v tag ≡ Ok ks)
+row_of v tag ts h = go (kinds v tag) refl
+  where
+    go : (r : Result (List Field) Reason) → kinds v tag ≡ r → (ks : List Field) × (kinds v tag ≡ Ok ks)
+    go (Ok ks) e = (ks, e)
+    go (Err x) e = absurd (let g = sym (ap (λ r. fault_by r tag ts) e) ∙ h in cc)
+
 -- the fields of a row that adds none, at a version where it stands
 at_row : (v : Version) (tag : ℕ) (stands : Version → Bool) (fs : List Field) → row_in tag table ≡ Some (row tag stands fs []) → stands v ≡ true → kinds v tag ≡ Ok fs
-at_row v tag stands fs e s = ap (fields_of v) e ∙ ap (λ b. cond b (Ok (fields_in v fs [])) (Err NotInVersion)) s ∙ ap Ok (go (has_element_ids v))
+at_row v tag stands fs e s = ap (fields_of v) e ∙ stands_is v stands fs [] s ∙ ap Ok (go (has_element_ids v))
   where
     go : (b : Bool) → cond b (fs ++ []) fs ≡ fs
     go true = append-nil fs
@@ -84,58 +107,46 @@ fine_at v tag k ts is h = subst (λ m. fault v m ts ≡ None) is h
 
 -- a row stands where a structure of its tag has no fault
 pub at_fine : (v : Version) (tag : ℕ) (stands : Version → Bool) (fs : List Field) (ts : Trees) → row_in tag table ≡ Some (row tag stands fs []) → fault v tag ts ≡ None → kinds v tag ≡ Ok fs
-at_fine v tag stands fs ts e h = go (stands v) refl
-  where
-    go : (b : Bool) → stands v ≡ b → kinds v tag ≡ Ok fs
-    go true s = at_row v tag stands fs e s
-    go false s =
-        let k : kinds v tag ≡ Err NotInVersion = ap (fields_of v) e ∙ ap (λ b. cond b (Ok (fields_in v fs [])) (Err NotInVersion)) s in
-        absurd (let n : Some NotInVersion ≡ None = sym (ap (λ r. fault_by r tag ts) k) ∙ h in cc)
+at_fine v tag stands fs ts e h = let k = row_of v tag ts h in at_row v tag stands fs e (stood v stands fs [] k.0 (sym (ap (fields_of v) e) ∙ k.1)).0
 
 pub read_by : (v : Version) (tag : ℕ) (ts us : Trees) (ks : List Field) → kinds v tag ≡ Ok ks → fault v tag ts ≡ None → count us ≡ length ks → Got 0 ks us ts → us ≡ typed_all ts
 read_by v tag ts us ks e h n g = let p = passed v tag ts ks e h in fields_are ks us ts p.counted n p.kinded g
 
-pub same_dated : (ts : Trees) → count ts ≡ 3 → are_kinds moment_fields ts ≡ true → typed_all ts ≡ ts
-same_dated (tree_then (int a) (tree_then (int b) (tree_then (int d) no_trees))) n h = refl
-same_dated (tree_then (int a) (tree_then (int b) (tree_then (int d) (tree_then e ts)))) n h = absurd (omega arith)
-same_dated ts n h = absurd cc
-
-pub record Utc (s n o : ℤ) : Type 0 where
-  pub above : neg_ℤ (pos 100000000000000000) ≤ℤ (s -ℤ o)
-  pub below : (s -ℤ o) ≤ℤ pos 100000000000000000
-
 pub le_true : (x y : ℤ) → int_le x y ≡ true → x ≤ℤ y
 le_true x y h = grind (arith, ints)
 
--- local seconds in range at UTC
-pub dated_range : (s n o : ℤ) → are_in_range moment_fields (to_utc (tree_then (int s) (tree_then (int n) (tree_then (int o) no_trees)))) ≡ true → Utc s n o
-dated_range s n o h =
-    let a : (int_le (neg_ℤ (pos 100000000000000000)) (s -ℤ o) && int_le (s -ℤ o) (pos 100000000000000000)) ≡ true = and_left _ _ h in
-    record { above = le_true _ _ (and_left (int_le (neg_ℤ (pos 100000000000000000)) (s -ℤ o)) _ a); below = le_true _ _ (and_right (int_le (neg_ℤ (pos 100000000000000000)) (s -ℤ o)) _ a) }
+pub between : (low high z : ℤ) → (int_le low z && int_le z high) ≡ true → (low ≤ℤ z) × (z ≤ℤ high)
+between low high z h = (le_true low z (and_left (int_le low z) _ h), le_true z high (and_right (int_le low z) _ h))
 
--- what was read of local seconds, nanoseconds and offset
-pub dated_by : (v : Version) (ts : Trees) (s n o : ℤ) → fault v 0x46 ts ≡ None → Got 0 moment_fields (tree_then (int s) (tree_then (int n) (tree_then (int o) no_trees))) ts
-    → (typed_all ts ≡ tree_then (int s) (tree_then (int n) (tree_then (int o) no_trees))) × Utc s n o
-dated_by v ts s n o h g =
-    let e = at_fine v 0x46 (lacks has_utc_times) moment_fields ts refl h in
-    let p = passed v 0x46 ts moment_fields e h in
-    let us = read_by v 0x46 ts (tree_then (int s) (tree_then (int n) (tree_then (int o) no_trees))) moment_fields e h refl g in
-    let same = us ∙ same_dated ts p.counted p.kinded in
-    (sym us, dated_range s n o (ap (λ (x : Trees). are_in_range moment_fields (to_utc x)) same ∙ p.ranged))
+-- what holds of any three numbers holds of what passes as the fields of a DateTime
+pub of_three : (P : Trees → Type 0) → ((a b d : ℤ) → P (three a b d)) → (ts : Trees) → count ts ≡ 3 → are_kinds moment_fields ts ≡ true → P ts
+of_three P all (tree_then (int a) (tree_then (int b) (tree_then (int d) no_trees))) n h = all a b d
+of_three P all (tree_then (int a) (tree_then (int b) (tree_then (int d) (tree_then e ts)))) n h = absurd (omega arith)
+of_three P all ts n h = absurd cc
+
+-- local seconds without a fault are of version 4.4, and in range at UTC
+pub of_local : (P : Version → Trees → Type 0) → ((a b d : ℤ) → are_in_range moment_fields (to_utc (three a b d)) ≡ true → P V44 (three a b d)) → (v : Version) (ts : Trees) → fault v 0x46 ts ≡ None → P v ts
+of_local P all V44 ts h = let p = passed V44 0x46 ts moment_fields refl h in of_three (λ us. are_in_range moment_fields (to_utc us) ≡ true → P V44 us) all ts p.counted p.kinded p.ranged
+of_local P all v ts h = absurd cc
+
+-- seconds at UTC are in range
+abbrev pub IsUtc : ℤ → ℤ → Type 0
+IsUtc s o = (neg_ℤ (pos 100000000000000000) ≤ℤ (s -ℤ o)) × ((s -ℤ o) ≤ℤ pos 100000000000000000)
 
 -- a structure without local seconds, by its fields
-pub plain_is : (v : Version) (tag k : ℕ) (ts us : Trees) (ks : List Field) → tag ≡ k → kinds v k ≡ Ok ks → (k == 0x46) ≡ false → fault v tag ts ≡ None → count us ≡ length ks → Got 0 ks us ts → structure k us ≡ typed (structure tag ts)
-plain_is v tag k ts us ks is e other h n g =
+pub plain_is : (v : Version) (tag k : ℕ) (ts us : Trees) (ks : List Field) (stands : Version → Bool) → tag ≡ k → row_in k table ≡ Some (row k stands ks []) → (k == 0x46) ≡ false → fault v tag ts ≡ None → count us ≡ length ks → Got 0 ks us ts → structure k us ≡ typed (structure tag ts)
+plain_is v tag k ts us ks stands is e other h n g =
+    let f = fine_at v tag k ts is h in
     let same : structure k (typed_all ts) ≡ typed (structure k ts) = rw other refl in
-    ap (λ (x : Trees). structure k x) (read_by v k ts us ks e (fine_at v tag k ts is h) n g) ∙ same ∙ ap (λ (m : ℕ). typed (structure m ts)) (sym is)
+    ap (λ (x : Trees). structure k x) (read_by v k ts us ks (at_fine v k stands ks ts e f) f n g) ∙ same ∙ ap (λ (m : ℕ). typed (structure m ts)) (sym is)
 
 -- local seconds, nanoseconds and offset, by the fields
-pub local_is : (v : Version) (tag : ℕ) (ts : Trees) (s n o : ℤ) → tag ≡ 0x46 → fault v tag ts ≡ None → Got 0 moment_fields (tree_then (int s) (tree_then (int n) (tree_then (int o) no_trees))) ts
-    → (structure 0x49 (tree_then (int (s -ℤ o)) (tree_then (int n) (tree_then (int o) no_trees))) ≡ typed (structure tag ts)) × Utc s n o
+pub local_is : (v : Version) (tag : ℕ) (ts : Trees) (s n o : ℤ) → tag ≡ 0x46 → fault v tag ts ≡ None → Got 0 moment_fields (three s n o) ts → (structure 0x49 (three (s -ℤ o) n o) ≡ typed (structure tag ts)) × IsUtc s o
 local_is v tag ts s n o is h g =
-    let d = dated_by v ts s n o (fine_at v tag 0x46 ts is h) g in
-    let e : to_utc (tree_then (int s) (tree_then (int n) (tree_then (int o) no_trees))) ≡ to_utc (typed_all ts) = ap to_utc (sym d.0) in
-    (ap (λ (x : Trees). structure 0x49 x) e ∙ ap (λ (m : ℕ). typed (structure m ts)) (sym is), d.1)
+    let e = of_local (λ w us. Got 0 moment_fields (three s n o) us → (structure 0x49 (three (s -ℤ o) n o) ≡ typed (structure 0x46 us)) × IsUtc s o) (λ a b d r k.
+    let same : three s n o ≡ three a b d = rw (k.0 refl, k.1.0 refl, k.1.1.0 refl) refl in
+    (ap (λ (us : Trees). structure 0x49 (to_utc us)) same, between (neg_ℤ (pos 100000000000000000)) (pos 100000000000000000) (s -ℤ o) (and_left _ _ (ap (λ (us : Trees). are_in_range moment_fields (to_utc us)) same ∙ r)))) v ts (fine_at v tag 0x46 ts is h) g in
+    (e.0 ∙ ap (λ (m : ℕ). typed (structure m ts)) (sym is), e.1)
 
 pub typed_list : (ts : List Tree) → typed_all (trees_of ts) ≡ trees_of (map typed ts)
 typed_list [] = refl
@@ -151,26 +162,11 @@ each_at p [] i d h e a = absurd (omega arith)
 each_at p (x ∷ xs) zero d h e a = ap (λ v. p (tree v)) e ∙ and_left _ _ a
 each_at p (x ∷ xs) (suc i) d h e a = each_at p xs i d (omega arith) e (and_right _ _ a)
 
-go : {A B : Type 0} (f : A → B) (xs : List A) (i : ℕ) (d : A) → i < length xs → d ≡ get_or xs i d → map f (take (suc i) xs) ≡ map f (take i xs) ++ f d ∷ []
-go f [] i d h e = absurd (omega arith)
-go f (x ∷ xs) zero d h e = ap (λ v. f v ∷ []) (sym e)
-go f (x ∷ xs) (suc i) d h e = ap (λ r. f x ∷ r) (go f xs i d (omega arith) e)
-
-pub take_next : {A B : Type 0} (f : A → B) (xs : List A) (i : ℕ) (d : A) → i < length xs → d ≡ get_or xs i d → map f (take (i + 1) xs) ≡ map f (take i xs) ++ f d ∷ []
-take_next f xs i d h e = rw add-one (go f xs i d h e)
-
-pub typed_seen : (xs : List Value) → map typed (trees xs) ≡ map (λ v. typed (tree v)) xs
-typed_seen [] = refl
-typed_seen (x ∷ xs) = ap (λ r. typed (tree x) ∷ r) (typed_seen xs)
-
 -- one more member read
-pub typed_next : (out : List Tree) (t : Tree) (xs : List Value) (i : ℕ) (d : Value) → i < length xs → d ≡ get_or xs i d → t ≡ typed (tree d) → out ≡ map typed (trees (take i xs))
-    → out ++ t ∷ [] ≡ map typed (trees (take (i + 1) xs))
+pub typed_next : (out : List Tree) (t : Tree) (xs : List Value) (i : ℕ) (d : Value) → i < length xs → d ≡ get_or xs i d → t ≡ typed (tree d) → out ≡ map typed (trees (take i xs)) → out ++ t ∷ [] ≡ map typed (trees (take (i + 1) xs))
 typed_next out t xs i d h e t-is o =
-    let a = take_next (λ v. typed (tree v)) xs i d h e in
-    let b = typed_seen (take (i + 1) xs) in
-    let p = typed_seen (take i xs) in
-    ap (λ (r : List Tree). r ++ t ∷ []) (o ∙ p) ∙ ap (λ (u : Tree). map (λ v. typed (tree v)) (take i xs) ++ u ∷ []) t-is ∙ sym a ∙ sym b
+    let a : trees (take (i + 1) xs) ≡ trees (take i xs) ++ tree d ∷ [] = map_more tree xs i d h ∙ ap (λ (x : Value). trees (take i xs) ++ tree x ∷ []) (sym e) in
+    ap (λ (r : List Tree). r ++ t ∷ []) o ∙ ap (λ (u : Tree). map typed (trees (take i xs)) ++ u ∷ []) t-is ∙ sym (ap (map typed) a ∙ map_push typed (trees (take i xs)) (tree d))
 
 abbrev pub field_at : ℕ → List Field → Option Field
 field_at i [] = None

@@ -1,14 +1,6 @@
 pub mod Got
-pub mod OneReading
-pub mod Back
-pub mod Written
 pub mod Formed
-pub mod Packing
 pub mod Fitted
-pub mod Writable
-pub mod Standing
 pub mod Laid
-pub mod Related
-pub mod OneWriting
 pub mod Narrow
 pub mod Clauses

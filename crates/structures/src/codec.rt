@@ -19,6 +19,7 @@ use packstream::{PackFault, Packed, Value};
 use std::alloc::Global;
 use wire::Version;
 
+#[tactic(auto, using(cells::proofs::Fine::fine_scan))]
 fn read_cell(alloc: Global, version: Version, value: &Value) -> Result<Cell, CellFault>
     ensures { Reads version (tree value.now) result }
 {
@@ -71,6 +72,7 @@ fn pack(alloc: Global, value: Value) -> Result<Packed, CellFault>
     }
 }
 
+#[tactic(auto, using(cells::proofs::Fine::fine_scan))]
 fn write_fine(alloc: Global, version: Version, cell: &Cell) -> Result<Packed, CellFault>
     requires { IsWritable version (shape cell.now) }
     ensures { Writes version (shape cell.now) result }
@@ -79,6 +81,7 @@ fn write_fine(alloc: Global, version: Version, cell: &Cell) -> Result<Packed, Ce
     pack(alloc, value)
 }
 
+#[tactic(auto, using(crate::proofs::Formed::writable_when))]
 fn write_cell(alloc: Global, version: Version, cell: &Cell) -> Result<Packed, CellFault>
     ensures { Writes version (shape cell.now) result }
 {
@@ -110,6 +113,7 @@ pub fn write(alloc: Global, version: Version, cell: &Cell) -> Result<Packed, Cel
     write_cell(alloc, version, cell)
 }
 
+#[tactic(auto, using(cells::proofs::Fine::fine_scan))]
 fn members_fine(alloc: Global, version: Version, members: &Vec<Cell>) -> Result<Packed, CellFault>
     requires { IsWritable version (list (trees_of (shapes members.now.items))) }
     ensures { Writes version (list (trees_of (shapes members.now.items))) result }
@@ -118,6 +122,7 @@ fn members_fine(alloc: Global, version: Version, members: &Vec<Cell>) -> Result<
     pack(alloc, Value::List(values))
 }
 
+#[tactic(auto, using(crate::proofs::Formed::writable_when))]
 fn write_list(alloc: Global, version: Version, members: &Vec<Cell>) -> Result<Packed, CellFault>
     ensures { Writes version (list (trees_of (shapes members.now.items))) result }
 {
@@ -150,6 +155,7 @@ pub fn write_members(
     write_list(alloc, version, members)
 }
 
+#[tactic(auto, using(cells::proofs::Fine::fine_scan))]
 fn entries_fine(
     alloc: Global,
     version: Version,
@@ -162,6 +168,7 @@ fn entries_fine(
     pack(alloc, Value::Dict(values))
 }
 
+#[tactic(auto, using(crate::proofs::Formed::writable_when))]
 fn write_dict(
     alloc: Global,
     version: Version,

@@ -13,7 +13,7 @@ ghost use Rattle.wire.specs.declared.Version.{Version as AnyVersion};
 pub mod laying;
 
 /// A value stands for one cell, or has one first fault, and never both.
-#[tactic(auto, using(crate::proofs::OneReading::one_reading_is))]
+#[tactic(auto, using(crate::proofs::Clauses::one_reading_is))]
 pub fn one_reading()
     ensures { (v : AnyVersion) (t : Tree) → HasOneReading v t }
 {}
@@ -26,7 +26,7 @@ pub fn cells_are_typed()
 {}
 
 /// A cell has one form, or one first fault, and never both.
-#[tactic(auto, using(crate::proofs::OneWriting::one_writing_is))]
+#[tactic(auto, using(crate::proofs::Clauses::one_writing_is))]
 pub fn one_writing()
     ensures { (v : AnyVersion) (c : AnyCell) → HasOneWriting v (shape c) }
 {}
@@ -38,6 +38,7 @@ pub fn packing_faults()
 {}
 
 /// A cell without a fault has a form, which is read back as that cell.
+#[tactic(auto, using(crate::proofs::Formed::back_is))]
 pub fn written_is_read_back()
     ensures back { (v : AnyVersion) (c : AnyCell) → typed (form v (shape c)) ≡ shape c }
     ensures form { (v : AnyVersion) (c : AnyCell) → IsWritable v (shape c)

@@ -9,19 +9,19 @@ pub fn requests_arrive()
 {}
 
 /// Of every front of a version answer, no-ops and responses' runs, a client hears what lies whole in it.
-#[tactic(auto, using(crate::proofs::Hearing::says_arrive))]
+#[tactic(auto, using(crate::proofs::Arriving::says_arrive))]
 pub fn says_arrive()
     ensures { SaysArrive }
 {}
 
 /// The same of all that a server has said by a moment, which may be nothing.
-#[tactic(auto, using(crate::proofs::Hearing::so_far_arrives))]
+#[tactic(auto, using(crate::proofs::Arriving::so_far_arrives))]
 pub fn so_far_arrives()
     ensures { SoFarArrives }
 {}
 
 /// The answer of a server that takes no version is heard as that, once it is there whole.
-#[tactic(auto, using(crate::proofs::Hearing::no_version_arrives))]
+#[tactic(auto, using(crate::proofs::Arriving::no_version_arrives))]
 pub fn no_version_arrives()
     ensures { NoVersionArrives }
 {}
@@ -39,19 +39,19 @@ pub fn nothing_follows()
 {}
 
 /// What arrives after an offer of which a version is taken is the requests of the whole messages of the bytes after it.
-#[tactic(auto, using(crate::proofs::Wholes::arrives_whole))]
+#[tactic(auto, using(crate::proofs::Arriving::arrives_whole))]
 pub fn arrives_whole()
     ensures { ArrivesWhole }
 {}
 
 /// What a client hears of more bytes ends with what it heard.
-#[tactic(auto, using(crate::proofs::HeardOn::hears_go_on))]
+#[tactic(auto, using(crate::proofs::Following::hears_go_on))]
 pub fn hears_go_on()
     ensures { HearsGoOn }
 {}
 
 /// After the answer of no version, four bytes that are no answer, bytes that stand for no response, or a message past the limit, nothing is heard.
-#[tactic(auto, using(crate::proofs::HeardOn::nothing_more_heard))]
+#[tactic(auto, using(crate::proofs::Following::nothing_more_heard))]
 pub fn nothing_more_heard()
     ensures { NothingMoreHeard }
 {}

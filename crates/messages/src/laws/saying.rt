@@ -10,6 +10,7 @@ ghost use Rattle.messages.specs.Saying.{SaysMessage, IsSpelled};
 
 /// What is told of a value as a request, or as a response, is what a row of the table says of it; and bytes stand for
 /// the request, or the response, that a row says of the value that they spell.
+#[tactic(auto, using(crate::proofs::Layouts::spelled_by_rows, crate::proofs::Layouts::requests_laid, crate::proofs::Layouts::responses_laid))]
 pub fn messages_are_rows()
     ensures requests { (v : AnyVersion) (t : Tree) (s : Contents) → (contents_of_message v requests t ≡ Ok s) ↔ SaysMessage v requests t s }
     ensures responses { (v : AnyVersion) (t : Tree) (s : Contents) → (contents_of_message v responses t ≡ Ok s) ↔ SaysMessage v responses t s }

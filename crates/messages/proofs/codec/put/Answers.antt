@@ -1,8 +1,7 @@
 use Rattle.std.proofs.Common.{sym, refl}
 use Rattle.std.proofs.lemmas.Result.{on_ok_weaker}
 use Rattle.packstream.specs.View.{tree}
-use Rattle.messages.proofs.Meanings.{err_is}
-use Rattle.messages.proofs.Texts.{good_text, bad_text, nothing_appended}
+use Rattle.messages.proofs.Sent.{err_is, good_text, bad_text, nothing_appended}
 use Rattle.messages.proofs.codec.put.Goals as goal
 
 pub returns-in_err-packed-clause-text : goal.returns-in_err-packed-clause-text

@@ -3,7 +3,7 @@ use Rattle.messages.specs.Table.{responses}
 use Rattle.messages.specs.View.{response_view}
 use Rattle.messages.specs.Reading.{response_contents}
 use Rattle.messages.specs.Messages.{response_held, response_of}
-use Rattle.messages.proofs.Meanings.{gives_message, gives_fault, gives_same, answered_back}
+use Rattle.messages.proofs.Sent.{gives_message, gives_fault, gives_same, answered_back}
 use Rattle.messages.proofs.codec.read_response.Goals as goal
 
 pub returns-clause-response : goal.returns-clause-response

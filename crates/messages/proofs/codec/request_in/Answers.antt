@@ -5,7 +5,7 @@ use Rattle.messages.specs.Table.{requests}
 use Rattle.messages.specs.View.{request_view}
 use Rattle.messages.specs.Reading.{request_contents}
 use Rattle.messages.specs.Messages.{contents_by}
-use Rattle.messages.proofs.Meanings.{bad_answers, err_is, means_said}
+use Rattle.messages.proofs.Sent.{bad_answers, err_is, means_said}
 use Rattle.messages.proofs.codec.request_in.Goals as goal
 
 pub returns-in_err-packed : goal.returns-in_err-packed

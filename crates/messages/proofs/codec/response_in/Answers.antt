@@ -5,7 +5,7 @@ use Rattle.messages.specs.Table.{responses}
 use Rattle.messages.specs.View.{response_view}
 use Rattle.messages.specs.Reading.{response_contents}
 use Rattle.messages.specs.Messages.{contents_by}
-use Rattle.messages.proofs.Meanings.{bad_answers, err_is, means_said}
+use Rattle.messages.proofs.Sent.{bad_answers, err_is, means_said}
 use Rattle.messages.proofs.codec.response_in.Goals as goal
 
 pub returns-in_err-packed : goal.returns-in_err-packed

@@ -1,17 +1,15 @@
 use Rattle.packstream.proofs.Deciding.{no_proper_beginning_is}
 use Rattle.messages.specs.Table.{requests, responses}
 use Rattle.messages.specs.Reading.{request_contents, response_contents}
-use Rattle.messages.proofs.Meanings.{one_value}
-use Rattle.messages.proofs.Apart.{not_both}
+use Rattle.messages.proofs.Sent.{one_value}
+use Rattle.messages.proofs.Sayings.{not_both}
 use Rattle.messages.proofs.laws.no_proper_beginning.Goals as goal
 
 pub returns-clause-requests : goal.returns-clause-requests
-returns-clause-requests c = λ v w m n b more p q.
-    (no_proper_beginning_is p.value q.value b more p.good q.good p.spelled q.spelled).0
+returns-clause-requests c = λ v w m n b more p q. (no_proper_beginning_is p.value q.value b more p.good q.good p.spelled q.spelled).0
 
 pub returns-clause-responses : goal.returns-clause-responses
-returns-clause-responses c = λ v w m n b more p q.
-    (no_proper_beginning_is p.value q.value b more p.good q.good p.spelled q.spelled).0
+returns-clause-responses c = λ v w m n b more p q. (no_proper_beginning_is p.value q.value b more p.good q.good p.spelled q.spelled).0
 
 pub returns-clause-request_first : goal.returns-clause-request_first
 returns-clause-request_first c = λ v w m n b more p q.

@@ -2,9 +2,8 @@ use Rattle.std.proofs.Common.{Ok, refl, ap, sym, ◌∙◌}
 use Rattle.messages.specs.Table.{requests}
 use Rattle.messages.specs.Reading.{◌>>=◌, request_contents}
 use Rattle.messages.specs.Messages.{contents_in, request_held, request_of}
-use Rattle.messages.proofs.Meanings.{means_one, none_said, said_none, asked_back, kept_fault}
-use Rattle.messages.proofs.Sayings.{means_told, told_asks}
-use Rattle.messages.proofs.Sent.{request_is}
+use Rattle.messages.proofs.Sent.{means_one, none_said, said_none, asked_back, kept_fault, request_is}
+use Rattle.messages.proofs.Sayings.{means_told, asked}
 use Rattle.messages.proofs.laws.one_request.Goals as goal
 
 pub returns-clause-one : goal.returns-clause-one
@@ -23,4 +22,4 @@ returns-clause-told c = λ v b e bytes p. said_none v requests e b bytes (kept_f
 
 pub returns-clause-back : goal.returns-clause-back
 unfolding request_of
-returns-clause-back c = λ v b m bytes p. means_told request_contents request_held v requests (told_asks v) b bytes m (contents_in v requests b) refl p
+returns-clause-back c = λ v b m bytes p. means_told request_contents request_held v requests (λ t s h e. (asked v t s h e).0) b bytes m (contents_in v requests b) refl p

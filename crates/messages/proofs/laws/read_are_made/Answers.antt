@@ -1,4 +1,4 @@
-use Rattle.messages.proofs.Made.{requests_are_made, responses_are_made}
+use Rattle.messages.proofs.Sayings.{requests_are_made, responses_are_made}
 use Rattle.messages.proofs.laws.read_are_made.Goals as goal
 
 pub returns-clause-requests : goal.returns-clause-requests

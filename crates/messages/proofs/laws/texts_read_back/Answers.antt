@@ -1,4 +1,4 @@
-use Rattle.messages.proofs.Again.{request_reads_back, response_reads_back}
+use Rattle.messages.proofs.Rounds.{request_reads_back, response_reads_back}
 use Rattle.messages.proofs.laws.texts_read_back.Goals as goal
 
 pub returns-clause-requests : goal.returns-clause-requests

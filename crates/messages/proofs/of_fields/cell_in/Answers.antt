@@ -1,8 +1,8 @@
 use Rattle.std.proofs.Common.{Ok, Err}
 use Rattle.packstream.specs.View.{tree}
 use Rattle.structures.proofs.Clauses.{reads_by}
-use Rattle.messages.proofs.Meanings.{err_is}
-use Rattle.messages.proofs.Forms.{read_value_is, read_fault_is, told_fault}
+use Rattle.messages.proofs.Sent.{err_is}
+use Rattle.messages.proofs.Fields.{read_value_is, read_fault_is, told_fault}
 use Rattle.messages.proofs.of_fields.cell_in.Goals as goal
 
 pub returns-in_err-read_value : goal.returns-in_err-read_value

@@ -1,5 +1,5 @@
 use Rattle.packstream.specs.View.{trees, trees_of}
-use Rattle.messages.proofs.Rows.{run_row}
+use Rattle.messages.proofs.Fields.{run_row}
 use Rattle.messages.proofs.reader.run_of.Goals as goal
 
 pub returns : goal.returns

@@ -1,7 +1,7 @@
 use Rattle.std.proofs.Common.{string_bytes, sym}
 use Rattle.packstream.proofs.Ranges.{bytes_from_each}
 use Rattle.cells.specs.Shape.{entries}
-use Rattle.messages.proofs.Scanned.{run_scanned}
+use Rattle.messages.proofs.Added.{run_scanned}
 use Rattle.messages.proofs.scan.run_of.Goals as goal
 
 pub returns : goal.returns

@@ -1,4 +1,4 @@
-use Rattle.messages.proofs.Scanned.{request_scanned}
+use Rattle.messages.proofs.Added.{request_scanned}
 use Rattle.messages.proofs.scan.scan_request.Goals as goal
 
 pub returns : goal.returns

@@ -1,4 +1,4 @@
-use Rattle.messages.proofs.Scanned.{response_scanned}
+use Rattle.messages.proofs.Added.{response_scanned}
 use Rattle.messages.proofs.scan.scan_response.Goals as goal
 
 pub returns : goal.returns

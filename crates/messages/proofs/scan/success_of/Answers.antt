@@ -2,7 +2,7 @@ use Rattle.std.proofs.Common.{arith, refl}
 use Rattle.packstream.specs.Tree.{dict}
 use Rattle.packstream.specs.View.{entries_of}
 use Rattle.cells.specs.Shape.{entries}
-use Rattle.messages.proofs.Scanned.{cells_scanned}
+use Rattle.messages.proofs.Added.{cells_scanned}
 use Rattle.messages.proofs.scan.success_of.Goals as goal
 
 pub returns : goal.returns

@@ -3,8 +3,8 @@ use Rattle.packstream.specs.Tree.{dict}
 use Rattle.packstream.specs.View.{entries_of}
 use Rattle.cells.specs.Shape.{entries}
 use Rattle.structures.proofs.Clauses.{writes_by}
-use Rattle.messages.proofs.Meanings.{err_is}
-use Rattle.messages.proofs.Forms.{put_value, put_fault, told_fault}
+use Rattle.messages.proofs.Sent.{err_is}
+use Rattle.messages.proofs.Fields.{put_value, put_fault, told_fault}
 use Rattle.messages.proofs.values.cells_value.Goals as goal
 
 pub returns-in_err-packed : goal.returns-in_err-packed

@@ -1,18 +1,12 @@
 use Rattle.std.proofs.Common.{ap, sym, ◌∙◌}
 use Rattle.packstream.specs.Tree.{dict}
 use Rattle.packstream.specs.View.{entries_of}
-use Rattle.cells.specs.Faults.{structures}
 use Rattle.cells.specs.Shape.{entries}
-use Rattle.cells.specs.Writing.{fault_of_structure}
 use Rattle.packstream.proofs.Views.{tree-Dict}
-use Rattle.cells.proofs.Fine.{fine_scan}
 use Rattle.cells.proofs.Typed.{pairs_typed}
-use Rattle.structures.proofs.Packing.{packed_is}
-use Rattle.structures.proofs.Written.{form_pairs}
+use Rattle.structures.proofs.Formed.{packed_is}
+use Rattle.structures.proofs.Fitted.{form_pairs}
 use Rattle.structures.proofs.codec.entries_fine.Goals as goal
-
-pub pair_values-requires : goal.pair_values-requires
-pair_values-requires c = fine_scan (fault_of_structure c.args.version) 0 c.requires.0 (structures (dict (entries_of (entries c.args.pairs.now.items)))) c.requires.1
 
 pub returns : goal.returns
 returns c =

@@ -1,4 +1,4 @@
-use Rattle.structures.proofs.OneWriting.{same_form}
+use Rattle.structures.proofs.Clauses.{same_form}
 use Rattle.structures.proofs.laws.one_form.Goals as goal
 
 pub returns : goal.returns

@@ -67,24 +67,18 @@ pub node_of-returns : goal.node_of-returns
 node_of-returns t c =
     let xs = c.args.fields.now.items in
     let z : to_z w64 (of_z w64 c.int_at-id.result) ≡ c.int_at-id.result = search rules in
-    let a0 = rw c.deref.ensures.value at c.int_at-id.ensures in
-    let a1 = rw c.deref-2.ensures.value at c.in_ok-labels.ensures in
-    let a3 = rw c.deref-3.ensures.value at c.in_ok-element_id.ensures.absent in
-    let a4 = rw c.deref-3.ensures.value at c.in_ok-element_id.ensures.there in
-    let e = named_by c.args.version 0x4E (trees_of (trees xs)) Integer Labels Properties (int c.int_at-id.result) (texts_of c.in_ok-labels.labels.items) (dict (entries_of (entries c.in_ok-properties.properties.items))) (element_of c.in_ok-element_id.element_id) refl c.requires.fine (a0, (a1, (c.in_ok-properties.ensures, tt)))
-    (λ n. a3 (sym (len_trees xs) ∙ n)) (λ n. a4 (omega (arith, len_trees xs))) in
+    let e = named_by c.args.version 0x4E (trees_of (trees xs)) Integer Labels Properties (int c.int_at-id.result) (texts_of c.in_ok-labels.labels.items) (dict (entries_of (entries c.in_ok-properties.properties.items))) (element_of c.in_ok-element_id.element_id) refl c.requires.fine
+    (rw c.deref.ensures.value at c.int_at-id.ensures, (rw c.deref-2.ensures.value at c.in_ok-labels.ensures, (c.in_ok-properties.ensures, tt)))
+    (λ n. (rw c.deref-3.ensures.value at c.in_ok-element_id.ensures.absent) (sym (len_trees xs) ∙ n)) (λ n. (rw c.deref-3.ensures.value at c.in_ok-element_id.ensures.there) (omega (arith, len_trees xs))) in
     node-roll _ ∙ ap (λ (n : ℤ). structure 0x4E (tree_then (int n) (tree_then (texts_of c.in_ok-labels.labels.items) (tree_then (dict (entries_of (entries c.in_ok-properties.properties.items))) (element_of c.in_ok-element_id.element_id))))) z ∙ ap (λ (x : Trees). structure 0x4E x) e
 
 pub unbound_of-returns : goal.unbound_of-returns
 unbound_of-returns t c =
     let xs = c.args.fields.now.items in
     let z : to_z w64 (of_z w64 c.int_at-id.result) ≡ c.int_at-id.result = search rules in
-    let a0 = rw c.deref.ensures.value at c.int_at-id.ensures in
-    let a1 = rw c.deref-2.ensures.value at c.in_ok-kind.ensures in
-    let a3 = rw c.deref-3.ensures.value at c.in_ok-element_id.ensures.absent in
-    let a4 = rw c.deref-3.ensures.value at c.in_ok-element_id.ensures.there in
-    let e = named_by c.args.version 0x72 (trees_of (trees xs)) Integer Text Properties (int c.int_at-id.result) (text_of c.in_ok-kind.kind) (dict (entries_of (entries c.in_ok-properties.properties.items))) (element_of c.in_ok-element_id.element_id) refl c.requires.fine (a0, (a1, (c.in_ok-properties.ensures, tt)))
-    (λ n. a3 (sym (len_trees xs) ∙ n)) (λ n. a4 (omega (arith, len_trees xs))) in
+    let e = named_by c.args.version 0x72 (trees_of (trees xs)) Integer Text Properties (int c.int_at-id.result) (text_of c.in_ok-kind.kind) (dict (entries_of (entries c.in_ok-properties.properties.items))) (element_of c.in_ok-element_id.element_id) refl c.requires.fine
+    (rw c.deref.ensures.value at c.int_at-id.ensures, (rw c.deref-2.ensures.value at c.in_ok-kind.ensures, (c.in_ok-properties.ensures, tt)))
+    (λ n. (rw c.deref-3.ensures.value at c.in_ok-element_id.ensures.absent) (sym (len_trees xs) ∙ n)) (λ n. (rw c.deref-3.ensures.value at c.in_ok-element_id.ensures.there) (omega (arith, len_trees xs))) in
     unbound-roll _ ∙ ap (λ (n : ℤ). structure 0x72 (tree_then (int n) (tree_then (text_of c.in_ok-kind.kind) (tree_then (dict (entries_of (entries c.in_ok-properties.properties.items))) (element_of c.in_ok-element_id.element_id))))) z ∙ ap (λ (x : Trees). structure 0x72 x) e
 
 pub nodes_of-nodes_in-requires : goal.nodes_of-nodes_in-requires
@@ -159,13 +153,8 @@ relationship_of-returns t c =
     let z0 : to_z w64 (of_z w64 c.int_at-id.result) ≡ c.int_at-id.result = search rules in
     let z1 : to_z w64 (of_z w64 c.int_at-start.result) ≡ c.int_at-start.result = search rules in
     let z2 : to_z w64 (of_z w64 c.int_at-end.result) ≡ c.int_at-end.result = search rules in
-    let a0 = rw c.deref.ensures.value at c.int_at-id.ensures in
-    let a1 = rw c.deref-2.ensures.value at c.int_at-start.ensures in
-    let a2 = rw c.deref-3.ensures.value at c.int_at-end.ensures in
-    let a3 = rw c.deref-4.ensures.value at c.in_ok-kind.ensures in
-    let a5 = rw c.deref-5.ensures.value at c.in_ok-element_ids.ensures.absent in
-    let a6 = rw c.deref-5.ensures.value at c.in_ok-element_ids.ensures.there in
     let e = bound_by c.args.version (trees_of (trees xs)) (int c.int_at-id.result) (int c.int_at-start.result) (int c.int_at-end.result) (text_of c.in_ok-kind.kind) (dict (entries_of (entries c.in_ok-properties.properties.items))) (elements_of c.in_ok-element_ids.element_ids) c.requires.fine
-    (a0, (a1, (a2, (a3, (c.in_ok-properties.ensures, tt))))) (λ n. a5 (sym (len_trees xs) ∙ n)) (λ n. a6 (omega (arith, len_trees xs))) in
+    (rw c.deref.ensures.value at c.int_at-id.ensures, (rw c.deref-2.ensures.value at c.int_at-start.ensures, (rw c.deref-3.ensures.value at c.int_at-end.ensures, (rw c.deref-4.ensures.value at c.in_ok-kind.ensures, (c.in_ok-properties.ensures, tt)))))
+    (λ n. (rw c.deref-5.ensures.value at c.in_ok-element_ids.ensures.absent) (sym (len_trees xs) ∙ n)) (λ n. (rw c.deref-5.ensures.value at c.in_ok-element_ids.ensures.there) (omega (arith, len_trees xs))) in
     let m : relationship_parts (to_z w64 (of_z w64 c.int_at-id.result)) (to_z w64 (of_z w64 c.int_at-start.result)) (to_z w64 (of_z w64 c.int_at-end.result)) c.in_ok-kind.kind c.in_ok-properties.properties.items c.in_ok-element_ids.element_ids ≡ relationship_parts c.int_at-id.result c.int_at-start.result c.int_at-end.result c.in_ok-kind.kind c.in_ok-properties.properties.items c.in_ok-element_ids.element_ids = rw (z0, z1, z2) refl in
     relationship-roll _ ∙ m ∙ ap (λ (x : Trees). structure 0x52 x) e

@@ -14,7 +14,7 @@ use Rattle.cells.specs.declared.cell.Cell.{the_lemmas}
 use Rattle.cells.specs.declared.cell.Path.{out-Path}
 use Rattle.cells.proofs.Views.{shape-List, shape-Dict, node-out, unbound-out, relationship-out, path-out}
 use Rattle.structures.specs.Form.{form}
-use Rattle.structures.proofs.Written.{tree-Int, form_list, form_pairs, node_written, unbound_written, relationship_written, path_written}
+use Rattle.structures.proofs.Fitted.{tree-Int, form_list, form_pairs, node_written, unbound_written, relationship_written, path_written}
 use Rattle.structures.proofs.writer.+write.Goals as goal
 
 pub value_of-returns-in_ok-clone-in-Bytes : goal.value_of-returns-in_ok-clone-in-Bytes

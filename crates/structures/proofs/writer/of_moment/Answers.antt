@@ -11,7 +11,7 @@ use Rattle.structures.proofs.writer.of_moment.Goals as goal
 pub returns-else-has_utc_times : goal.returns-else-has_utc_times
 returns-else-has_utc_times c =
     let s = local_sum c.args.version c.args.utc c.args.nanos c.args.offset c.requires in
-    let z0 : to_z w64 (of_z w64 (c.args.utc +ℤ c.args.offset)) ≡ c.args.utc +ℤ c.args.offset = omega (arith, ints, s.above, s.below) in
+    let z0 : to_z w64 (of_z w64 (c.args.utc +ℤ c.args.offset)) ≡ c.args.utc +ℤ c.args.offset = omega (arith, ints, s.0, s.1) in
     let z1 : to_z w64 (of_z w64 c.args.nanos) ≡ c.args.nanos = search rules in
     let z2 : to_z w64 (of_z w64 c.args.offset) ≡ c.args.offset = search rules in
     let zu : to_z w64 (of_z w64 c.args.utc) ≡ c.args.utc = search rules in

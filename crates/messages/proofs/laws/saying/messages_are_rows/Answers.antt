@@ -1,6 +1,5 @@
 use Rattle.messages.specs.Table.{requests, responses}
-use Rattle.messages.specs.Reading.{request_contents, response_contents}
-use Rattle.messages.proofs.Layouts.{told_by_rows, spelled_by_rows, requests_laid, responses_laid}
+use Rattle.messages.proofs.Layouts.{told_by_rows, requests_laid, responses_laid}
 use Rattle.messages.proofs.laws.saying.messages_are_rows.Goals as goal
 
 pub returns-clause-requests : goal.returns-clause-requests
@@ -8,9 +7,3 @@ returns-clause-requests c = λ v t s. told_by_rows v requests t s requests_laid
 
 pub returns-clause-responses : goal.returns-clause-responses
 returns-clause-responses c = λ v t s. told_by_rows v responses t s responses_laid
-
-pub returns-clause-request : goal.returns-clause-request
-returns-clause-request c = λ v m b. spelled_by_rows v requests (request_contents m) b requests_laid
-
-pub returns-clause-response : goal.returns-clause-response
-returns-clause-response c = λ v m b. spelled_by_rows v responses (response_contents m) b responses_laid
