@@ -1,7 +1,8 @@
 -- What a client makes of an item: a bad answer, or that no version is taken, or one; nothing, a row, or a summary.
-use Rattle.std.proofs.Common.{◌≡◌, refl, ◌∙◌, ap, Bool, true, false, if◌then◌else◌, Option, Some, None, List, ◌∷◌}
+use Rattle.std.proofs.Common.{◌≡◌, refl, ◌∙◌, ap, Bool, true, false, Option, Some, None, List, ◌∷◌}
 use Rattle.std.specs.Prelude.{option_map}
 use Rattle.packstream.specs.Tree.{Tree}
+use Rattle.std.proofs.lemmas.Bool.{cond_both}
 use Rattle.wire.specs.declared.Version.{Version}
 use Rattle.wire.specs.declared.Wish.{Wish}
 use Rattle.messages.specs.declared.Count.{Count}
@@ -43,11 +44,8 @@ pub data Makes (wish : Wish) (k : Knows) : Heard → Hearing → Type 0 where
 
 module _ (wish : Wish) (k : Knows) where
   by_version : (o w : Option Version) → k.version ≡ w → Makes wish k (Heard.Chosen o) (hears_version wish k w o)
-  by_version (Some v) None e = pick (is_wished wish v) refl
-    where
-      pick : (b : Bool) → is_wished wish v ≡ b → Makes wish k (Heard.Chosen (Some v)) (if b then versed k v else after_bad_answer k)
-      pick true i = takes_version v e i
-      pick false i = spoils (Heard.Chosen (Some v))
+  by_version (Some v) None e =
+      cond_both (is_wished wish v) (versed k v) (after_bad_answer k) (λ h. Makes wish k (Heard.Chosen (Some v)) h) (takes_version v e) (λ i. spoils (Heard.Chosen (Some v)))
   by_version None None e = turns_away e
   by_version o (Some w) e = spoils (Heard.Chosen o)
 

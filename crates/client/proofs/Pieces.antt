@@ -57,13 +57,9 @@ pub quiet_feeds : (r : Rest) (m : Took Opened Item) (Now : Rest → Type 0) (use
 quiet_feeds r m Now used came there u =
     heard_feeds r m AnyHeard.Quiet came Now r.knows (λ k e. subst (λ (z : Knows). Now (record r { item = m.rest; knows = z })) e there) used Nothing u (refl, refl)
 
--- for want of memory
-pub memory_feeds : (r : Rest) (m : Took Opened Item) (Now : Rest → Type 0) (result : Result (ℕ × Heard) ClientFault) → result ≡ Err client_fault.Memory → Now r → Feeds Now r (fed_open r m) result
-memory_feeds r m Now result is there = subst (Feeds Now r (fed_open r m)) (sym is) there
-
--- by what was told
-pub told_feeds : (r : Rest) (m : Took Opened Item) (Now : Rest → Type 0) (result : Result (ℕ × Heard) ClientFault) (told : ℕ × Heard) → result ≡ Ok told → Feeds Now r (fed_open r m) (Ok told) → Feeds Now r (fed_open r m) result
-told_feeds r m Now result told is there = subst (Feeds Now r (fed_open r m)) (sym is) there
+-- by what was told, or the fault
+pub result_feeds : (r : Rest) (m : Took Opened Item) (Now : Rest → Type 0) (result other : Result (ℕ × Heard) ClientFault) → result ≡ other → Feeds Now r (fed_open r m) other → Feeds Now r (fed_open r m) result
+result_feeds r m Now result other is there = subst (Feeds Now r (fed_open r m)) (sym is) there
 
 -- what is heard, by what a rest has of the client
 pub hears_by : (wish other : Wish) (k l : Knows) (x : AnyHeard) (result : Result Heard ClientFault) (knows : Knows) → wish ≡ other → k ≡ l → Hears (hears_item wish k x) x result knows → Hears (hears_item other l x) x result knows

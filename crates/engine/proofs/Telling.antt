@@ -56,31 +56,24 @@ told_with q es e (Some p) own other true alike i a o b f = ap (λ x. told_by (es
     last false h = refl
 told_with q es e _ own other _ _ i a o b f = told_other q es e own other i
 
+-- equal tokens have one fingerprint, and those of one fingerprint one first
+alike : (t q : List ℕ) → bytes_eq t q ≡ true → (fingerprint t == fingerprint q) ≡ true
+alike t q s = eq-eqb (fingerprint t) (fingerprint q) (ap fingerprint ((bytes_eq-Decides t q).0 s))
+
+first_is : (places : Places) (t q : List ℕ) → (fingerprint t == fingerprint q) ≡ true → first_of places (fingerprint q) ≡ first_of places (fingerprint t)
+first_is places t q a = ap (first_of places) (sym (eqb-true (fingerprint t) (fingerprint q) a))
+
 -- An entry whose token was free, with its place.
 pub told_on : (old new : Places) (es : List EntryView) (e : EntryView) → IsWith old new e.token (length es) → AreBehindFirsts old → ((t : List ℕ) → e.token ≡ Some t → place_in old es t ≡ None)
     → (q : List ℕ) → place_in new (es ++ e ∷ []) q ≡ kept_at e.token (length es) q (place_in old es q)
 told_on old new es e with behind free q = go e.token refl with free
   where
-    more : List EntryView
-    more = es ++ e ∷ []
-
-    two : (a b c d : Option ℕ) → a ≡ c → b ≡ d → told_by more q a b ≡ told_by more q c d
-    two a b c d h k = ap (λ x. told_by more q x b) h ∙ ap (told_by more q c) k
-
-    go : (o : Token) → e.token ≡ o → IsWith old new o (length es) → ((t : List ℕ) → o ≡ Some t → place_in old es t ≡ None) → place_in new more q ≡ kept_at o (length es) q (place_in old es q)
-    go None h w f =
-        two (first_of new (fingerprint q)) (other_of new q) (first_of old (fingerprint q)) (other_of old q) (w.0 (fingerprint q)) (w.1 q)
-        ∙ told_other q es e (first_of old (fingerprint q)) (other_of old q) (ap (is_token q) h)
+    go : (o : Token) → e.token ≡ o → IsWith old new o (length es) → ((t : List ℕ) → o ≡ Some t → place_in old es t ≡ None) → place_in new (es ++ e ∷ []) q ≡ kept_at o (length es) q (place_in old es q)
+    go None h w f = rw (w.0 (fingerprint q), w.1 q) (told_other q es e (first_of old (fingerprint q)) (other_of old q) (ap (is_token q) h))
     go (Some t) h w f =
-        two (first_of new (fingerprint q)) (other_of new q)
-        (where_none (first_of old (fingerprint t)) (if fingerprint t == fingerprint q then Some (length es) else first_of old (fingerprint q)) (first_of old (fingerprint q)))
-        (where_none (first_of old (fingerprint t)) (other_of old q) (if bytes_eq t q then Some (length es) else other_of old q)) (w.0 (fingerprint q)) (w.1 q)
-        ∙ told_with q es e (first_of old (fingerprint t)) (first_of old (fingerprint q)) (other_of old q) (bytes_eq t q) (fingerprint t == fingerprint q)
-        (ap (is_token q) h)
-        (λ s. eq-eqb (fingerprint t) (fingerprint q) (ap fingerprint ((bytes_eq-Decides t q).0 s)))
-        (λ a. ap (first_of old) (sym (eqb-true (fingerprint t) (fingerprint q) a)))
-        (behind q)
-        (λ s. ap (place_in old es) (sym ((bytes_eq-Decides t q).0 s)) ∙ f t refl)
+        rw (w.0 (fingerprint q), w.1 q)
+        (told_with q es e (first_of old (fingerprint t)) (first_of old (fingerprint q)) (other_of old q) (bytes_eq t q) (fingerprint t == fingerprint q)
+        (ap (is_token q) h) (alike t q) (first_is old t q) (behind q) (λ s. ap (place_in old es) (sym ((bytes_eq-Decides t q).0 s)) ∙ f t refl))
 
 behind_step : (first own other : Option ℕ) (place : ℕ) (same alike : Bool) → (same ≡ true → alike ≡ true) → (alike ≡ true → own ≡ first) → (own ≡ None → other ≡ None)
     → where_none first (if alike then Some place else own) own ≡ None → where_none first other (if same then Some place else other) ≡ None
@@ -94,9 +87,7 @@ behind_on old new None place with behind q h = with.1 q ∙ behind q (sym (with.
 behind_on old new (Some t) place with behind q h =
     with.1 q
     ∙ behind_step (first_of old (fingerprint t)) (first_of old (fingerprint q)) (other_of old q) place (bytes_eq t q) (fingerprint t == fingerprint q)
-    (λ s. eq-eqb (fingerprint t) (fingerprint q) (ap fingerprint ((bytes_eq-Decides t q).0 s)))
-    (λ a. ap (first_of old) (sym (eqb-true (fingerprint t) (fingerprint q) a)))
-    (behind q) (sym (with.0 (fingerprint q)) ∙ h)
+    (alike t q) (first_is old t q) (behind q) (sym (with.0 (fingerprint q)) ∙ h)
 
 -- whether the entry that a place names has the token
 pub token_there : (es : List Entry) (p : ℕ) (t : List ℕ) (e : Entry) → p < length es → e ≡ get_or es p e → is_token t (token_view e.token) ≡ has_token_at (entries_view es) p t

@@ -44,7 +44,7 @@ pub(crate) fn known_at(place: usize, held: &[Write], writes: &[Write]) -> Commit
 }
 
 /// Whether the two have the same keys and cells, in this order. Takes no memory.
-#[tactic(auto, using(crate::proofs::Equal::same_apart))]
+#[tactic(auto, using(crate::proofs::Once::same_apart))]
 fn same_writes(some: &[Write], others: &[Write]) -> bool
     ensures { result ≡ same_writes (writes_view some.now) (writes_view others.now) }
 {

@@ -44,3 +44,6 @@ possible-append v ps (a ∷ rest) second = possible-append v (follow v ps a) res
 
 pub commits_marked : (v : Version) (s : State) (k : Kind) → commits (phase_of s) k ≡ marked_in v s k
 commits_marked v s k = same_bool-true _ _ (at_rows (λ v s k. same_bool (commits (phase_of s) k) (marked_in v s k)) refl v s k)
+
+-- how more follows more, and in turn
+pub ruleset grows = (possible-within, could-within, possible-append)

@@ -19,14 +19,7 @@ same_states _ _ = false
 
 pub same_state-true : (s t : State) → same_state s t ≡ true → s ≡ t
 same_state-true State.Fresh State.Fresh h = refl
-same_state-true State.Unauth State.Unauth h = refl
-same_state-true State.Ready State.Ready h = refl
-same_state-true State.Streaming State.Streaming h = refl
-same_state-true State.TxReady State.TxReady h = refl
-same_state-true State.TxStreaming State.TxStreaming h = refl
-same_state-true State.Failed State.Failed h = refl
-same_state-true State.Interrupted State.Interrupted h = refl
-same_state-true State.Defunct State.Defunct h = refl
+same_state-true _ State.Fresh h = cc
 same_state-true _ _ h = cc
 
 same_states-true : (ss ts : List State) → same_states ss ts ≡ true → ss ≡ ts
@@ -47,7 +40,7 @@ abbrev pub leads : Option State → (State → Bool) → Bool
 leads None t = true
 leads (Some s) t = t s
 
-leads_at : (o : Option State) (t : State → Bool) (s : State) → leads o t ≡ true → o ≡ Some s → t s ≡ true
+pub leads_at : (o : Option State) (t : State → Bool) (s : State) → leads o t ≡ true → o ≡ Some s → t s ≡ true
 leads_at None t s h e = cc
 leads_at (Some x) t s h e = let same : x ≡ s = cc in subst (λ y. t y ≡ true) same h
 
@@ -59,7 +52,7 @@ not_more : (d : Verdict) (part : Bool) → (d ≡ Verdict.More → part ≡ true
 not_more Verdict.More part h = h refl
 not_more _ part h = refl
 
-at_answers : (t : Version → State → Kind → Verdict → Bool → Bool)
+pub at_answers : (t : Version → State → Kind → Verdict → Bool → Bool)
     → list_all (λ v. list_all (λ s. list_all (λ k. list_all (λ d. list_all (λ b. t v s k d b) every_bool) every_verdict) every_kind) every_state) versions ≡ true
     → (v : Version) (s : State) (k : Kind) (d : Verdict) (b : Bool) → t v s k d b ≡ true
 at_answers t h v s k d b =

@@ -4,4 +4,3 @@ pub mod Sets
 pub mod Gathered
 pub mod Growing
 pub mod Leading
-pub mod Ways

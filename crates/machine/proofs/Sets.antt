@@ -62,3 +62,6 @@ row-joined r u o t h p s success more e1 e2 e3 e4 e5 e6 e7 =
     ∙ ap (λ z. union (union (phase_of s ∷ []) (phases_of more)) z) e6
     ∙ union-union (phase_of s ∷ []) (phases_of more) (Phase.Halted ∷ [])
     ∙ ap (λ z. as_set (after_row z more)) (sym e7)
+
+-- sets that are joined
+pub ruleset joined = (members-either)

@@ -10,13 +10,13 @@ pub fn one_next()
 
 /// Each kind of the version is met in exactly one way in each state that isn't over: worked, passed over, refused, or not
 /// answered at all; in a state that is over in none, nor is a kind of the other version alone.
-#[tactic(auto, using(crate::proofs::Ways::one_way))]
+#[tactic(auto, using(crate::proofs::RowFacts::one_way))]
 pub fn one_way()
     ensures { OneWay }
 {}
 
 /// What is allowed in a set is refused as invalid in no state of the set.
-#[tactic(auto, using(crate::proofs::Ways::allowed_is_valid))]
+#[tactic(auto, using(crate::proofs::RowFacts::allowed_is_valid))]
 pub fn allowed_is_valid()
     ensures { AllowedIsValid }
 {}
@@ -50,16 +50,19 @@ pub fn after_grows()
 {}
 
 /// More may follow more phases, over a list of requests.
+#[tactic(auto, using(crate::proofs::Growing::grows))]
 pub fn possible_grows()
     ensures { PossibleGrows }
 {}
 
 /// What could have committed from fewer phases could have from more.
+#[tactic(auto, using(crate::proofs::Growing::grows))]
 pub fn could_grows()
     ensures { CouldGrows }
 {}
 
 /// What may follow two lists of requests in turn is what may follow the list of both.
+#[tactic(auto, using(crate::proofs::Growing::grows))]
 pub fn possible_in_turn()
     ensures { PossibleInTurn }
 {}

@@ -84,6 +84,7 @@ impl PhaseSet {
     }
 
     /// The phases of either set.
+    #[tactic(auto, using(crate::proofs::Sets::joined))]
     pub fn union(self, other: PhaseSet) -> PhaseSet
         ensures { result ≡ union self other }
     {

@@ -1,6 +1,7 @@
 -- What a session has placed follows its bytes: each call on it keeps that.
 use Rattle.std.proofs.Common.{◌≡◌, ◌≢◌, refl, sym, ◌∙◌, ap, subst, ℕ, ◌+◌, Bool, true, false, cond, leb, ◌⊎◌, inl, inr, Option, Some, None, List, [], ◌∷◌, ◌++◌, length, take, arith, append-nil, append_assoc, length-append}
 use Rattle.std.specs.Prelude.{option_map, option_to_list, map, is_some, unwrap_or, ◌||◌, ◌&&◌}
+use Rattle.std.proofs.lemmas.Bool.{cond_both}
 use Rattle.std.proofs.lemmas.List.{map-append}
 use Rattle.wire.specs.declared.Version.TheVariants.{V51}
 use Rattle.wire.specs.Reader.{Took as TookOf, state, takes}
@@ -215,11 +216,8 @@ turns_stepped S c ledger k xs w e = idles k (turns S c ledger k xs) refl refl
 
 work_stepped : (S : Setting) (c : ℕ) (ledger : List EntryView) (k : Kept) (ended : Option Cause) → k.ended ≡ ended → Stepped k (work_kept S c ledger k ended)
 work_stepped S c ledger k (Some cause) e = idles k (work_kept S c ledger k (Some cause)) refl refl
-work_stepped S c ledger k None e = by_room (leb 65536 (length k.unsent))
-  where
-    by_room : (b : Bool) → Stepped k (cond b (rests k Full) (turns S c ledger k k.waiting))
-    by_room true = idles k (rests k Full) refl refl
-    by_room false = turns_stepped S c ledger k k.waiting refl e
+work_stepped S c ledger k None e =
+    cond_both (leb 65536 (length k.unsent)) (rests k Full) (turns S c ledger k k.waiting) (λ d. Stepped k d) (λ b. idles k (rests k Full) refl refl) (λ b. turns_stepped S c ledger k k.waiting refl e)
 
 -- where something waits, an offer has come of which a version was taken
 waits_agrees : (xs : List Arrival) (answered : List RequestView) (k t : Kept) → map Asked answered ++ k.waiting ≡ places_of xs → t.version ≡ k.version → Ends k t → Agrees xs k → Agrees xs t

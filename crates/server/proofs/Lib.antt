@@ -1,4 +1,3 @@
-pub mod Arrived
 pub mod Feeds
 pub mod Placed
 pub mod Calls

@@ -1,5 +1,5 @@
 -- What came of the bytes of each session, over every list of calls.
-use Rattle.std.proofs.Common.{◌≡◌, ◌≢◌, refl, sym, ◌∙◌, ap, subst, ℕ, ◌≤◌, Bool, true, false, cond, eqb, ◌⊎◌, inl, inr, Option, Some, None, Result, Ok, Err, List, [], ◌∷◌, ◌++◌, take, arith, append-nil, append_assoc}
+use Rattle.std.proofs.Common.{◌≡◌, ◌≢◌, refl, sym, ◌∙◌, ap, subst, ℕ, ◌≤◌, Bool, true, false, cond, eqb, ◌⊎◌, inl, inr, Option, Some, None, Result, Ok, Err, List, [], ◌∷◌, ◌++◌, arith, append-nil, append_assoc}
 use Rattle.std.specs.Prelude.{IsSome, option_map}
 use Rattle.std.proofs.lemmas.Bool.{cond-true, cond-false}
 use Rattle.std.proofs.lemmas.Bool.Decides.{nat_tests}
@@ -11,13 +11,14 @@ use Rattle.messages.specs.View.{RequestView}
 use Rattle.messages.specs.Messages.{request_of}
 use Rattle.messages.specs.declared.fault.MsgFault.{MsgFault}
 use Rattle.messages.specs.Arrivals.{Arrival, Asked, Unread, TooLong, arrivals, requests_of, then_request, without_idle}
-use Rattle.messages.proofs.Wholes.{arrives_whole}
+use Rattle.messages.proofs.Arriving.{arrives_whole}
 use Rattle.engine.specs.declared.answer.Mode.{Mode as QueryMode}
 use Rattle.engine.specs.Views.{WriteView, ParameterView, EntryView, AnswerView, QueryFault}
-use Rattle.session.specs.Rest.{take_kept, work_kept}
+use Rattle.session.specs.Rest.{Step, take_kept, work_kept}
+use Rattle.server.specs.declared.kinds.Took.{Took}
 use Rattle.server.specs.Serving.{Live, Rest, after_step, empty, fed_live, find, fresh, is_full, noop_put, opened, replace, setting, taken_from, with_kept, with_session, without}
 use Rattle.server.specs.Running.{AreBelow, Event, opens, feeds, works, takes, noops, loses, after_call, after_event, after_events}
-use Rattle.server.specs.Past.{Asks, Follows, answers_by, bytes_taken, call_answered, places_of, requests_answered, step_answered, took_by, used_of}
+use Rattle.server.specs.Past.{Asks, Follows, bytes_taken, call_answered, places_of, requests_answered, step_answered, took_by, used_of}
 use Rattle.server.proofs.Bounds.{FewRows}
 use Rattle.server.proofs.Following.{follows_begun, follows_feed, follows_noop, follows_same, follows_unsent, follows_work}
 use Rattle.server.proofs.Runs.{Held, find-conn, find_other-replace, find_replaced, held_empty, held_event}
@@ -26,35 +27,15 @@ use Rattle.server.proofs.Runs.{Held, find-conn, find_other-replace, find_replace
 
 find_below : (n conn : ℕ) (ss : List Live) → AreBelow n ss → n ≤ conn → find conn ss ≡ None
 find_below n conn [] h l = refl
-find_below n conn (s ∷ ss) h l =
-    let other : eqb s.conn conn ≡ false = let b = h.0.below in grind (arith, nat_tests) in
-    rw other (find_below n conn ss h.1 l)
+find_below n conn (s ∷ ss) h l = grind (arith, nat_tests, find_below n conn ss)
 
 find_kept : (n c conn : ℕ) (ss : List Live) (s : Live) → AreBelow n ss → find conn (without c ss) ≡ Some s → find conn ss ≡ Some s
 find_kept n c conn [] s h f = cc
-find_kept n c conn (r ∷ ss) s h f = elim (eqb r.conn c) as (λ b. find conn (cond b ss (r ∷ without c ss)) ≡ Some s → cond (eqb r.conn conn) (Some r) (find conn ss) ≡ Some s) [
-  | true ↦ λ g. elim (eqb r.conn conn) as (λ b. eqb r.conn conn ≡ b → cond b (Some r) (find conn ss) ≡ Some s) [
-    | true ↦ λ e.
-        let same : r.conn ≡ conn = grind (arith, nat_tests, e) in
-        let none : find conn ss ≡ None = ap (λ k. find k ss) (sym same) ∙ h.0.once in
-        cc
-    | false ↦ λ e. g
-  ] refl
-  | false ↦ λ g. elim (eqb r.conn conn) as (λ b. cond b (Some r) (find conn (without c ss)) ≡ Some s → cond b (Some r) (find conn ss) ≡ Some s) [
-    | true ↦ λ e. e
-    | false ↦ λ e. find_kept n c conn ss s h.1 e
-  ] g
-] f
+find_kept n c conn (r ∷ ss) s h f = grind (arith, nat_tests, find_kept n c conn ss s)
 
 find_pushed : (conn n : ℕ) (ss : List Live) (s : Live) → find conn (ss ++ fresh n ∷ []) ≡ Some s → (find conn ss ≡ Some s) ⊎ ((conn ≡ n) × (s ≡ fresh n))
-find_pushed conn n [] s f = elim (eqb n conn) as (λ b. eqb n conn ≡ b → cond b (Some (fresh n)) None ≡ Some s → (None ≡ Some s) ⊎ ((conn ≡ n) × (s ≡ fresh n))) [
-  | true ↦ λ e g. let same : conn ≡ n = grind (arith, nat_tests, e) in let is : fresh n ≡ s = cc in inr (same, sym is)
-  | false ↦ λ e g. inl g
-] refl f
-find_pushed conn n (r ∷ ss) s f = elim (eqb r.conn conn) as (λ b. cond b (Some r) (find conn (ss ++ fresh n ∷ [])) ≡ Some s → (cond b (Some r) (find conn ss) ≡ Some s) ⊎ ((conn ≡ n) × (s ≡ fresh n))) [
-  | true ↦ λ g. inl g
-  | false ↦ λ g. find_pushed conn n ss s g
-] f
+find_pushed conn n [] s f = grind (arith, nat_tests)
+find_pushed conn n (r ∷ ss) s f = grind (arith, nat_tests, find_pushed conn n ss s)
 
 -- after a call on one session: it, or another
 record Its (c conn : ℕ) (s t : Live) : Type 0 where
@@ -100,17 +81,23 @@ module _ {G : Type 0} (answer : List EntryView → List WriteView → List ℕ �
     if_none true = refl
     if_none false = refl
 
-    -- a call on one session
-    called : (c conn : ℕ) (before t s : Live) (b : List ℕ) (a : List RequestView) → find c r.sessions ≡ Some before → t.conn ≡ c → (Follows (taken c) (answered c) before → Follows (taken c ++ b) (answered c ++ a) t)
-        → find conn (replace t.conn t r.sessions) ≡ Some s → Follows (taken conn ++ cond (eqb c conn) b []) (answered conn ++ cond (eqb c conn) a []) s
-    called c conn before t s b a f e keeps g = go (whose c conn before t s r.sessions f e g)
+    -- a call on one session, where it lives: it takes these bytes, and answers these requests
+    on_call : {A : Type 0} (c conn : ℕ) (f : Live → A × Rest G) (g : Live → Live) (took : Option Live → List ℕ) (told : Option Live → List RequestView) (s : Live) (b : List ℕ) (a : List RequestView)
+        → took None ≡ [] → told None ≡ [] → ((t : Live) → (f t).1.sessions ≡ replace (g t).conn (g t) r.sessions) → ((t : Live) → (g t).conn ≡ t.conn)
+        → ((t : Live) → Follows (taken c) (answered c) t → Follows (taken c ++ took (Some t)) (answered c ++ told (Some t)) (g t))
+        → (o : Option Live) → find c r.sessions ≡ o → b ≡ cond (eqb c conn) (took o) [] → a ≡ cond (eqb c conn) (told o) []
+        → find conn (after_call (option_map f o) r).sessions ≡ Some s → Follows (taken conn ++ b) (answered conn ++ a) s
+    on_call c conn f g took told s b a nb na same keeps follows None e p q found =
+        still conn s b a (p ∙ ap (λ z. cond (eqb c conn) z []) nb ∙ if_none (eqb c conn)) (q ∙ ap (λ z. cond (eqb c conn) z []) na ∙ if_none (eqb c conn)) found
+    on_call c conn f g took told s b a nb na same keeps follows (Some t) e p q found =
+        go (whose c conn t (g t) s r.sessions e (keeps t ∙ find-conn c r.sessions t e) (ap (λ ss. find conn ss) (sym (same t)) ∙ found))
       where
-        go : Its c conn s t ⊎ Others c conn s r.sessions → Follows (taken conn ++ cond (eqb c conn) b []) (answered conn ++ cond (eqb c conn) a []) s
-        go (inl i) = follows_same (taken c ++ b) _ (answered c ++ a) _ s
-            (ap (λ z. taken conn ++ z) (cond-true (eqb c conn) b [] i.test) ∙ ap (λ n. taken n ++ b) i.same)
-            (ap (λ z. answered conn ++ z) (cond-true (eqb c conn) a [] i.test) ∙ ap (λ n. answered n ++ a) i.same)
-            (subst (λ x. Follows (taken c ++ b) (answered c ++ a) x) (sym i.is) (keeps (h.live c before f)))
-        go (inr o) = still conn s _ _ (cond-false (eqb c conn) b [] o.test) (cond-false (eqb c conn) a [] o.test) o.found
+        go : Its c conn s (g t) ⊎ Others c conn s r.sessions → Follows (taken conn ++ b) (answered conn ++ a) s
+        go (inl i) = follows_same (taken c ++ took (Some t)) _ (answered c ++ told (Some t)) _ s
+            (ap (λ z. taken conn ++ z) (p ∙ cond-true (eqb c conn) (took (Some t)) [] i.test) ∙ ap (λ n. taken n ++ took (Some t)) i.same)
+            (ap (λ z. answered conn ++ z) (q ∙ cond-true (eqb c conn) (told (Some t)) [] i.test) ∙ ap (λ n. answered n ++ told (Some t)) i.same)
+            (subst (λ x. Follows (taken c ++ took (Some t)) (answered c ++ told (Some t)) x) (sym i.is) (follows t (h.live c t e)))
+        go (inr o) = still conn s b a (p ∙ cond-false (eqb c conn) (took (Some t)) [] o.test) (q ∙ cond-false (eqb c conn) (told (Some t)) [] o.test) o.found
 
     pushed : (conn : ℕ) (s : Live) (b : Bool) → find conn (cond b r (opened r)).sessions ≡ Some s → Follows (taken conn ++ []) (answered conn ++ []) s
     pushed conn s true f = still conn s [] [] refl refl f
@@ -122,40 +109,26 @@ module _ {G : Type 0} (answer : List EntryView → List WriteView → List ℕ �
             let none = h.none conn (omega (arith, g.0)) in
             follows_same [] (taken conn ++ []) [] (answered conn ++ []) s (ap (λ z. z ++ []) none.0) (ap (λ z. z ++ []) none.1) (subst (λ x. Follows [] [] x) (sym g.1) (follows_begun r.next))
 
-    fed : (c conn : ℕ) (piece : List ℕ) (s : Live) (o : Option Live) → find c r.sessions ≡ o → find conn (after_call (option_map (λ t. ((fed_live t piece).0, with_session (fed_live t piece).1 r)) o) r).sessions ≡ Some s
-        → Follows (taken conn ++ cond (eqb c conn) (used_of piece (option_map (λ t. ((fed_live t piece).0, with_session (fed_live t piece).1 r)) o)) []) (answered conn ++ []) s
-    fed c conn piece s None e f = still conn s _ [] (if_none (eqb c conn)) refl f
-    fed c conn piece s (Some t) e f =
-        follows_same _ _ (answered conn ++ cond (eqb c conn) [] []) (answered conn ++ []) s refl (ap (λ z. answered conn ++ z) (sym (if_none (eqb c conn))))
-        (called c conn t (fed_live t piece).1 s (take (fed_live t piece).0.used piece) [] e (find-conn c r.sessions t e)
-        (λ k. follows_same _ _ (answered c) (answered c ++ []) _ refl (append-nil (answered c)) (follows_feed (taken c) (answered c) t k piece)) f)
-
-    worked : (c conn : ℕ) (s : Live) (o : Option Live) → find c r.sessions ≡ o
-        → find conn (after_call (option_map (λ t. after_step t (work_kept (setting answer accepts r) t.conn r.ledger t.kept t.kept.ended) r) o) r).sessions ≡ Some s
-        → Follows (taken conn ++ []) (answered conn ++ cond (eqb c conn) (step_answered answer accepts o r) []) s
-    worked c conn s None e f = still conn s [] _ refl (if_none (eqb c conn)) f
-    worked c conn s (Some t) e f =
-        let d = work_kept (setting answer accepts r) t.conn r.ledger t.kept t.kept.ended in
-        follows_same (taken conn ++ cond (eqb c conn) [] []) (taken conn ++ []) _ _ s (ap (λ z. taken conn ++ z) (sym (if_none (eqb c conn)))) refl
-        (called c conn t (with_kept t d.kept) s [] (answers_by d.answer) e (find-conn c r.sessions t e)
-        (λ k. follows_same (taken c) (taken c ++ []) _ _ _ (append-nil (taken c)) refl (follows_work (setting answer accepts r) r.ledger (taken c) (answered c) t k)) f)
-
     -- a call that neither takes bytes nor answers
-    kept_call : {A : Type 0} (c conn : ℕ) (f : Live → A × Live) (s : Live) → ((t : Live) → (f t).1.conn ≡ t.conn) → ((b : List ℕ) (a : List RequestView) (t : Live) → Follows b a t → Follows b a (f t).1) → (o : Option Live) → find c r.sessions ≡ o
-        → find conn (after_call (option_map (λ t. ((f t).0, with_session (f t).1 r)) o) r).sessions ≡ Some s → Follows (taken conn ++ []) (answered conn ++ []) s
-    kept_call c conn f s keeps follows None e g = still conn s [] [] refl refl g
-    kept_call c conn f s keeps follows (Some t) e g =
-        follows_same (taken conn ++ cond (eqb c conn) [] []) (taken conn ++ []) (answered conn ++ cond (eqb c conn) [] []) (answered conn ++ []) s
-        (ap (λ z. taken conn ++ z) (sym (if_none (eqb c conn)))) (ap (λ z. answered conn ++ z) (sym (if_none (eqb c conn))))
-        (called c conn t (f t).1 s [] [] e (keeps t ∙ find-conn c r.sessions t e)
-        (λ k. follows_same (taken c) (taken c ++ []) (answered c) (answered c ++ []) _ (append-nil (taken c)) (append-nil (answered c)) (follows (taken c) (answered c) t k)) g)
+    kept_call : {A : Type 0} (c conn : ℕ) (f : Live → A × Live) (s : Live) → ((t : Live) → (f t).1.conn ≡ t.conn) → ((b : List ℕ) (a : List RequestView) (t : Live) → Follows b a t → Follows b a (f t).1)
+        → find conn (after_call (option_map (λ t. ((f t).0, with_session (f t).1 r)) (find c r.sessions)) r).sessions ≡ Some s → Follows (taken conn ++ []) (answered conn ++ []) s
+    kept_call c conn f s keeps follows g =
+        on_call c conn (λ t. ((f t).0, with_session (f t).1 r)) (λ t. (f t).1) (λ o. []) (λ o. []) s [] [] refl refl (λ t. refl) keeps
+        (λ t k. follows_same (taken c) (taken c ++ []) (answered c) (answered c ++ []) _ (append-nil (taken c)) (append-nil (answered c)) (follows (taken c) (answered c) t k))
+        (find c r.sessions) refl (sym (if_none (eqb c conn))) (sym (if_none (eqb c conn))) g
 
     traced_live : (e : Event) (conn : ℕ) (s : Live) → find conn (after_event answer accepts e r).sessions ≡ Some s → Follows (taken conn ++ took_by conn e r) (answered conn ++ call_answered answer accepts conn e r) s
     traced_live opens conn s f = pushed conn s (is_full r) f
-    traced_live (feeds c piece) conn s f = fed c conn piece s (find c r.sessions) refl f
-    traced_live (works c) conn s f = worked c conn s (find c r.sessions) refl f
-    traced_live (takes c max) conn s f = kept_call c conn (taken_from max) s (λ t. refl) (λ b a t k. follows_unsent b a t (take_kept max t.kept).unsent k) (find c r.sessions) refl f
-    traced_live (noops c) conn s f = kept_call c conn noop_put s (λ t. refl) follows_noop (find c r.sessions) refl f
+    traced_live (feeds c piece) conn s f =
+        let fed : Live → Took × Rest G = λ t. ((fed_live t piece).0, with_session (fed_live t piece).1 r) in
+        on_call c conn fed (λ t. (fed_live t piece).1) (λ o. used_of piece (option_map fed o)) (λ o. []) s _ [] refl refl (λ t. refl) (λ t. refl)
+        (λ t k. follows_same _ _ (answered c) (answered c ++ []) _ refl (append-nil (answered c)) (follows_feed (taken c) (answered c) t k piece)) (find c r.sessions) refl refl (sym (if_none (eqb c conn))) f
+    traced_live (works c) conn s f =
+        let step : Live → Step = λ t. work_kept (setting answer accepts r) t.conn r.ledger t.kept t.kept.ended in
+        on_call c conn (λ t. after_step t (step t) r) (λ t. with_kept t (step t).kept) (λ o. []) (λ o. step_answered answer accepts o r) s [] _ refl refl (λ t. refl) (λ t. refl)
+        (λ t k. follows_same (taken c) (taken c ++ []) _ _ _ (append-nil (taken c)) refl (follows_work (setting answer accepts r) r.ledger (taken c) (answered c) t k)) (find c r.sessions) refl (sym (if_none (eqb c conn))) refl f
+    traced_live (takes c max) conn s f = kept_call c conn (taken_from max) s (λ t. refl) (λ b a t k. follows_unsent b a t (take_kept max t.kept).unsent k) f
+    traced_live (noops c) conn s f = kept_call c conn noop_put s (λ t. refl) follows_noop f
     traced_live (loses c) conn s f = still conn s [] [] refl refl (find_kept r.next c conn r.sessions s numbers f)
 
     next_call : {A : Type 0} (f : Live → A × Rest G) → ((t : Live) → (f t).1.next ≡ r.next) → (o : Option Live) → (after_call (option_map f o) r).next ≡ r.next
@@ -176,10 +149,7 @@ module _ {G : Type 0} (answer : List EntryView → List WriteView → List ℕ �
 
     -- nothing comes of a number that isn't given
     if_found : {A : Type 0} (c conn : ℕ) (f : Option Live → List A) → f None ≡ [] → find conn r.sessions ≡ None → cond (eqb c conn) (f (find c r.sessions)) [] ≡ []
-    if_found c conn f e none = elim (eqb c conn) as (λ b. eqb c conn ≡ b → cond b (f (find c r.sessions)) [] ≡ []) [
-      | true ↦ λ t. let same : c ≡ conn = grind (arith, nat_tests, t) in ap (λ n. f (find n r.sessions)) same ∙ ap f none ∙ e
-      | false ↦ λ t. refl
-    ] refl
+    if_found c conn f e none = grind (arith, nat_tests)
 
     nothing : (e : Event) (conn : ℕ) → find conn r.sessions ≡ None → (took_by conn e r ≡ []) × (call_answered answer accepts conn e r ≡ [])
     nothing (feeds c piece) conn f = (if_found c conn (λ o. used_of piece (option_map (λ t. ((fed_live t piece).0, with_session (fed_live t piece).1 r)) o)) refl f, refl)

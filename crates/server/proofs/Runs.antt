@@ -1,5 +1,5 @@
 -- What is kept over every list of calls.
-use Rattle.std.proofs.Common.{◌≡◌, ◌≢◌, ℕ, suc, ◌+◌, ◌^◌, ◌<◌, ◌≤◌, List, [], ◌∷◌, ◌++◌, length, Bool, cond, true, false, eqb, leb, Option, Some, None, Result, refl, sym, ap, subst, ◌∙◌, length-append, lit≤, arith}
+use Rattle.std.proofs.Common.{◌≡◌, ◌≢◌, ℕ, ◌+◌, ◌^◌, ◌<◌, ◌≤◌, List, [], ◌∷◌, ◌++◌, length, Bool, cond, true, false, leb, Option, Some, None, Result, refl, ap, ◌∙◌, length-append, lit≤, arith}
 use Rattle.std.specs.Prelude.{IsSome, option_map}
 use Rattle.std.proofs.lemmas.Bool.{or_parts, leb-false}
 use Rattle.std.proofs.lemmas.Bool.Decides.{nat_tests}
@@ -12,40 +12,25 @@ use Rattle.server.specs.Running.{AllBounded, AreBelow, IsKept, after_events, Eve
 
 pub find-conn : (conn : ℕ) (ss : List Live) (s : Live) → find conn ss ≡ Some s → s.conn ≡ conn
 find-conn conn [] s e = cc
-find-conn conn (r ∷ ss) s e = elim (eqb r.conn conn) as (λ c. eqb r.conn conn ≡ c → cond c (Some r) (find conn ss) ≡ Some s → s.conn ≡ conn) [
-  | true ↦ λ t f. let same : r ≡ s = cc in let here : r.conn ≡ conn = grind (arith, nat_tests, t) in ap (λ (q : Live). q.conn) (sym same) ∙ here
-  | false ↦ λ t f. find-conn conn ss s f
-] refl e
+find-conn conn (r ∷ ss) s e = grind (arith, nat_tests, find-conn conn ss s)
 
 -- what was put in a session's place is found there
 pub find_replaced : (conn : ℕ) (t : Live) (ss : List Live) → IsSome (find conn ss) → t.conn ≡ conn → find conn (replace conn t ss) ≡ Some t
 find_replaced conn t [] f e = cc
-find_replaced conn t (r ∷ ss) f e = elim (eqb r.conn conn) as (λ c. eqb r.conn conn ≡ c → IsSome (cond c (Some r) (find conn ss)) → find conn (cond c (t ∷ ss) (r ∷ replace conn t ss)) ≡ Some t) [
-  | true ↦ λ h g. let same : eqb t.conn conn ≡ true = grind (arith, nat_tests) in rw same refl
-  | false ↦ λ h g. rw h (find_replaced conn t ss g e)
-] refl f
+find_replaced conn t (r ∷ ss) f e = grind (arith, nat_tests, find_replaced conn t ss)
 
 -- another number finds what it found
 pub find_other-replace : (other conn : ℕ) (t : Live) (ss : List Live) → conn ≢ other → t.conn ≡ conn → find other (replace conn t ss) ≡ find other ss
 find_other-replace other conn t [] differ e = refl
-find_other-replace other conn t (s ∷ ss) differ e = elim (eqb s.conn conn) as (λ c. eqb s.conn conn ≡ c → find other (cond c (t ∷ ss) (s ∷ replace conn t ss)) ≡ cond (eqb s.conn other) (Some s) (find other ss)) [
-  | true ↦ λ h.
-      let not_t : eqb t.conn other ≡ false = grind (arith, nat_tests) in
-      let not_s : eqb s.conn other ≡ false = grind (arith, nat_tests) in
-      rw (not_t, not_s) refl
-  | false ↦ λ h. ap (cond (eqb s.conn other) (Some s)) (find_other-replace other conn t ss differ e)
-] refl
+find_other-replace other conn t (s ∷ ss) differ e = grind (arith, nat_tests, find_other-replace other conn t ss differ e)
 
 pub find_other-without : (other conn : ℕ) (ss : List Live) → conn ≢ other → find other (without conn ss) ≡ find other ss
 find_other-without other conn [] differ = refl
-find_other-without other conn (s ∷ ss) differ = elim (eqb s.conn conn) as (λ c. eqb s.conn conn ≡ c → find other (cond c ss (s ∷ without conn ss)) ≡ cond (eqb s.conn other) (Some s) (find other ss)) [
-  | true ↦ λ h. let not_s : eqb s.conn other ≡ false = grind (arith, nat_tests) in rw not_s refl
-  | false ↦ λ h. ap (cond (eqb s.conn other) (Some s)) (find_other-without other conn ss differ)
-] refl
+find_other-without other conn (s ∷ ss) differ = grind (arith, nat_tests, find_other-without other conn ss differ)
 
 pub find_other-push : (other n : ℕ) (ss : List Live) → n ≢ other → find other (ss ++ fresh n ∷ []) ≡ find other ss
-find_other-push other n [] differ = let no : eqb n other ≡ false = grind (arith, nat_tests) in rw no refl
-find_other-push other n (s ∷ ss) differ = ap (cond (eqb s.conn other) (Some s)) (find_other-push other n ss differ)
+find_other-push other n [] differ = grind (arith, nat_tests)
+find_other-push other n (s ∷ ss) differ = grind (arith, nat_tests, find_other-push other n ss differ)
 
 -- A call on one session leaves every other as it was.
 module _ {G : Type 0} (answer : List EntryView → List WriteView → List ℕ → List ParameterView → QueryMode → Result AnswerView QueryFault) (accepts : G → List ℕ → List ℕ → Bool) (other : ℕ) where
@@ -84,18 +69,12 @@ all_bounded (s ∷ ss) h = (fine_bounded s h.0, all_bounded ss h.1)
 replace-fine : (conn : ℕ) (t : Live) (ss : List Live) → AllFine ss → Fine t.kept t.unfinished → AllFine (replace conn t ss)
 unfolding AllFine
 replace-fine conn t [] h b = tt
-replace-fine conn t (s ∷ ss) h b = elim (eqb s.conn conn) as (λ c. AllFine (cond c (t ∷ ss) (s ∷ replace conn t ss))) [
-  | true ↦ (b, h.1)
-  | false ↦ (h.0, replace-fine conn t ss h.1 b)
-]
+replace-fine conn t (s ∷ ss) h b = grind (arith, replace-fine conn t ss)
 
 without-fine : (conn : ℕ) (ss : List Live) → AllFine ss → AllFine (without conn ss)
 unfolding AllFine
 without-fine conn [] h = tt
-without-fine conn (s ∷ ss) h = elim (eqb s.conn conn) as (λ c. AllFine (cond c ss (s ∷ without conn ss))) [
-  | true ↦ h.1
-  | false ↦ (h.0, without-fine conn ss h.1)
-]
+without-fine conn (s ∷ ss) h = grind (arith, without-fine conn ss)
 
 push-fine : (ss : List Live) (t : Live) → AllFine ss → Fine t.kept t.unfinished → AllFine (ss ++ t ∷ [])
 unfolding AllFine
@@ -105,44 +84,23 @@ push-fine (s ∷ ss) t h b = (h.0, push-fine ss t h.1 b)
 find-fine : (conn : ℕ) (ss : List Live) (s : Live) → AllFine ss → find conn ss ≡ Some s → Fine s.kept s.unfinished
 unfolding AllFine
 find-fine conn [] s h e = cc
-find-fine conn (r ∷ ss) s h e = elim (eqb r.conn conn) as (λ c. cond c (Some r) (find conn ss) ≡ Some s → Fine s.kept s.unfinished) [
-  | true ↦ λ f. let same : r ≡ s = cc in subst (λ (l : Live). Fine l.kept l.unfinished) same h.0
-  | false ↦ λ f. find-fine conn ss s h.1 f
-] e
+find-fine conn (r ∷ ss) s h e = grind (arith, find-fine conn ss s)
 
 length-replace : (conn : ℕ) (t : Live) (ss : List Live) → length (replace conn t ss) ≡ length ss
 length-replace conn t [] = refl
-length-replace conn t (s ∷ ss) = elim (eqb s.conn conn) as (λ c. length (cond c (t ∷ ss) (s ∷ replace conn t ss)) ≡ suc (length ss)) [
-  | true ↦ refl
-  | false ↦ ap suc (length-replace conn t ss)
-]
+length-replace conn t (s ∷ ss) = grind (arith, length-replace conn t ss)
 
 length-without : (conn : ℕ) (ss : List Live) → length (without conn ss) ≤ length ss
 length-without conn [] = omega arith
-length-without conn (s ∷ ss) = elim (eqb s.conn conn) as (λ c. length (cond c ss (s ∷ without conn ss)) ≤ suc (length ss)) [
-  | true ↦ omega arith
-  | false ↦ let h : length (without conn ss) ≤ length ss = length-without conn ss in omega arith
-]
+length-without conn (s ∷ ss) = grind (arith, length-without conn ss)
 
 replace-below : (n conn : ℕ) (t : Live) (ss : List Live) → t.conn ≡ conn → AreBelow n ss → AreBelow n (replace conn t ss)
 replace-below n conn t [] e h = tt
-replace-below n conn t (s ∷ ss) e h = elim (eqb s.conn conn) as (λ c. eqb s.conn conn ≡ c → AreBelow n (cond c (t ∷ ss) (s ∷ replace conn t ss))) [
-  | true ↦ λ q.
-      let here : t.conn ≡ s.conn = grind (arith, nat_tests) in
-      (record { below = omega arith; once = ap (λ k. find k ss) here ∙ h.0.once }, h.1)
-  | false ↦ λ q.
-      let differ : conn ≢ s.conn = grind (arith, nat_tests) in
-      (record { below = h.0.below; once = find_other-replace s.conn conn t ss differ e ∙ h.0.once }, replace-below n conn t ss e h.1)
-] refl
+replace-below n conn t (s ∷ ss) e h = grind (arith, nat_tests, replace-below n conn t ss e, find_other-replace)
 
 without-below : (n conn : ℕ) (ss : List Live) → AreBelow n ss → AreBelow n (without conn ss)
 without-below n conn [] h = tt
-without-below n conn (s ∷ ss) h = elim (eqb s.conn conn) as (λ c. eqb s.conn conn ≡ c → AreBelow n (cond c ss (s ∷ without conn ss))) [
-  | true ↦ λ q. h.1
-  | false ↦ λ q.
-      let differ : conn ≢ s.conn = grind (arith, nat_tests) in
-      (record { below = h.0.below; once = find_other-without s.conn conn ss differ ∙ h.0.once }, without-below n conn ss h.1)
-] refl
+without-below n conn (s ∷ ss) h = grind (arith, nat_tests, without-below n conn ss, find_other-without)
 
 push-below : (n : ℕ) (ss : List Live) → AreBelow n ss → AreBelow (n + 1) (ss ++ fresh n ∷ [])
 push-below n [] h = (record { below = omega arith; once = refl }, tt)

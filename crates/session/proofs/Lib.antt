@@ -1,5 +1,4 @@
 pub mod Queues
-pub mod Saids
 pub mod Writes
 pub mod Replies
 pub mod Turns

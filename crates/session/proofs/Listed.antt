@@ -22,3 +22,5 @@ list_same xs ys h = let e : trees_of xs ≡ trees_of ys = cc in same_trees xs ys
 
 pub row_is : (v : Version) (cells : Vec Cell Global) (r : List Tree) → list (trees_of r) ≡ fitted v (shape (ListCell cells)) → r ≡ map (fitted v) (shapes cells.items)
 row_is v cells r h = list_same r (map (fitted v) (shapes cells.items)) (h ∙ ap (fitted v) (shape-List cells) ∙ ap list (fitted_list v (shapes cells.items)))
+
+pub ruleset list_shapes = (shape-List)

@@ -44,3 +44,6 @@ summary_body v s b h e = subst (IsBody v (response_of_summary s)) (sym e) (recor
   some = canon_some (form_of s);
   few = omega (arith, form_le s h, room_le s h);
 })
+
+-- parts that were added one after another are one text
+pub ruleset added = (append_assoc, append-nil)

@@ -1,8 +1,7 @@
 -- What a step does, as the model's step.
-use Rattle.std.proofs.Common.{◌≡◌, ◌∙◌, sym, ap, subst, refl, ℕ, true, false, cond, List, ◌∷◌, length, None, Result, Ok}
+use Rattle.std.proofs.Common.{◌≡◌, subst, refl, ℕ, true, false, List, ◌∷◌, length, None, Result, Ok}
 use Rattle.std.specs.Prelude.{IfOk, if◌then◌else◌, ◌&&◌, is_some, nat_le}
 use Rattle.std.specs.declared.alloc.AllocError.{AllocError}
-use Rattle.std.proofs.lemmas.Bool.{cond-true, cond-false}
 use Rattle.wire.specs.declared.Version.{Version}
 use Rattle.messages.specs.View.{RequestView}
 use Rattle.messages.specs.Summaries.{response_of_summary, Passed}
@@ -17,10 +16,9 @@ use Rattle.session.specs.declared.acts.Turn.TheVariants as turn
 use Rattle.session.specs.declared.acts.Leaves.{Leaves}
 use Rattle.session.specs.declared.kinds.Worked.{Worked}
 use Rattle.session.specs.declared.fault.Fault.{Fault}
-use Rattle.session.specs.declared.fault.Fault.TheVariants as fault
 use Rattle.session.specs.Said.{fits}
 use Rattle.messages.specs.Writing.{response_spelling}
-use Rattle.session.specs.Session.{Setting, Open, no_result, Tx, no_tx, Reply, Summary, serve, reply_to_run, fails, unwritable, in_transaction, with_write, result_of_answer, fields_said}
+use Rattle.session.specs.Session.{Setting, Open, no_result, Tx, no_tx, Summary, serve, reply_to_run, fails, unwritable, in_transaction, with_write, result_of_answer, fields_said}
 use Rattle.session.specs.Rest.{Kept, Step, replies, after_interrupt, turns, reset_among, version_of}
 use Rattle.session.specs.Acts.{Steps, served_interrupted, turn_in, left_result, left_tx, left_entry}
 
@@ -40,16 +38,14 @@ interrupted_passed k bye reset = rw (bye, reset) refl
 pub turns_interrupted : (S : Setting) (c : ℕ) (ledger : List EntryView) (k : Kept) (xs : List Arrival) (q : RequestView) (later : List Arrival) → xs ≡ Asked q ∷ later → (reset_among xs && interruptible k.state) ≡ true
     → replies ledger (after_interrupt k) q later (served_interrupted (kind_of q)) ≡ turns S c ledger k xs
 turns_interrupted S c ledger k xs q later e h =
-    let interrupts_so : (reset_among (Asked q ∷ later) && interruptible k.state) ≡ true = ap (λ ys. reset_among ys && interruptible k.state) (sym e) ∙ h in
-    let at : Kept → Step = λ s. replies ledger s q later (serve S (version_of s) c ledger s.state s.result s.tx q) in
-    ap at (sym (cond-true (reset_among (Asked q ∷ later) && interruptible k.state) (after_interrupt k) k interrupts_so)) ∙ ap (turns S c ledger k) (sym e)
+    let interrupts_so : (reset_among (Asked q ∷ later) && interruptible k.state) ≡ true = rw e at h in
+    rw (e, interrupts_so) refl
 
 pub turns_served : (S : Setting) (c : ℕ) (ledger : List EntryView) (k : Kept) (xs : List Arrival) (q : RequestView) (later : List Arrival) → xs ≡ Asked q ∷ later → (reset_among xs && interruptible k.state) ≡ false
     → replies ledger k q later (serve S (version_of k) c ledger k.state k.result k.tx q) ≡ turns S c ledger k xs
 turns_served S c ledger k xs q later e h =
-    let none : (reset_among (Asked q ∷ later) && interruptible k.state) ≡ false = ap (λ ys. reset_among ys && interruptible k.state) (sym e) ∙ h in
-    let at : Kept → Step = λ s. replies ledger s q later (serve S (version_of s) c ledger s.state s.result s.tx q) in
-    ap at (sym (cond-false (reset_among (Asked q ∷ later) && interruptible k.state) (after_interrupt k) k none)) ∙ ap (turns S c ledger k) (sym e)
+    let none : (reset_among (Asked q ∷ later) && interruptible k.state) ≡ false = rw e at h in
+    rw (e, none) refl
 
 -- of a step that has another name
 pub steps_at : (d e : Step) (conn first : ℕ) (r : Result Worked AllocError) (new : Kept) (before after : List EntryView) → d ≡ e
@@ -60,21 +56,9 @@ steps_at d e conn first r new before after same h = subst (λ (x : Step). IfOk r
 pub opens_as : (v : Version) (s : State) (left : Open) (tx : Tx) (token : Token) (a : AnswerView) (l : Leaves) → (in_transaction s && (is_some a.write && nat_le 1024 (length tx.writes))) ≡ false → fits v (fields_said a.fields) ≡ true
     → left_result l left ≡ result_of_answer v s token a → left_tx l tx ≡ (if in_transaction s then with_write tx a.write else no_tx) → left_entry l left tx ≡ None
     → reply_to_run v s tx token (Ok a) ≡ Summary Verdict.Success (fields_said a.fields) (left_result l left) (left_tx l tx) (left_entry l left tx)
-opens_as v s left tx token a l few fit o t e =
-    let m = fields_said a.fields in
-    let after : Tx = if in_transaction s then with_write tx a.write else no_tx in
-    let done : Reply = Summary Verdict.Success m (result_of_answer v s token a) after None in
-    cond-false (in_transaction s && (is_some a.write && nat_le 1024 (length tx.writes))) (fails fault.TooManyWrites) (cond (fits v m) done (fails (unwritable (response_spelling v m)))) few
-    ∙ cond-true (fits v m) done (fails (unwritable (response_spelling v m))) fit
-    ∙ sym (ap (λ x. Summary Verdict.Success m x (left_tx l tx) (left_entry l left tx)) o ∙ ap (λ x. Summary Verdict.Success m (result_of_answer v s token a) x (left_entry l left tx)) t ∙ ap (λ x. Summary Verdict.Success m (result_of_answer v s token a) after x) e)
+opens_as v s left tx token a l few fit o t e = rw (few, fit, o, t, e) refl
 
 -- what an answer is refused for, where its fields can't be said
 pub refused_as : (v : Version) (s : State) (tx : Tx) (token : Token) (a : AnswerView) (f : Fault) → (in_transaction s && (is_some a.write && nat_le 1024 (length tx.writes))) ≡ false → fits v (fields_said a.fields) ≡ false
     → unwritable (response_spelling v (fields_said a.fields)) ≡ f → fails f ≡ reply_to_run v s tx token (Ok a)
-refused_as v s tx token a f few misfit why =
-    let m = fields_said a.fields in
-    let after : Tx = if in_transaction s then with_write tx a.write else no_tx in
-    let done : Reply = Summary Verdict.Success m (result_of_answer v s token a) after None in
-    let else_fails : Reply = fails (unwritable (response_spelling v m)) in
-    sym (cond-false (in_transaction s && (is_some a.write && nat_le 1024 (length tx.writes))) (fails fault.TooManyWrites) (cond (fits v m) done else_fails) few
-    ∙ cond-false (fits v m) done else_fails misfit ∙ ap fails why)
+refused_as v s tx token a f few misfit why = rw (few, misfit, why) refl

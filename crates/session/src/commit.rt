@@ -123,6 +123,7 @@ fn drop_front(rows: &mut VecDeque<Row>, count: usize)
 }
 
 /// Commits the write of an open result, or none, under its token, and closes it.
+#[tactic(auto, using(crate::proofs::Writes::one_write))]
 fn commit_result<E: Engine>(
     alloc: Global,
     open: &mut OpenResult,

@@ -65,6 +65,7 @@ impl Row {
     ghost use Rattle.messages.specs.View.{response_view, Record};
 
     /// The row of these cells in the form of a version.
+    #[tactic(auto, using(crate::proofs::Listed::row_is))]
     pub(crate) fn fitted(
         alloc: Global,
         version: Version,
@@ -79,6 +80,7 @@ impl Row {
     }
 
     /// The row of a list of cells.
+    #[tactic(auto, using(crate::proofs::Listed::list_shapes))]
     fn of(cell: Cell) -> Result<Row, AllocError>
         ensures { IfOk result (λ r. list (trees_of r) ≡ shape cell) }
     {

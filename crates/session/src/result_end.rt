@@ -24,6 +24,7 @@ use std::alloc::AllocError;
 
 /// What the engine would answer to a commit of these writes under this token. A ledger that would be as long as it may not be is refused
 /// as want of memory, but only where an entry would be added.
+#[tactic(auto, using(crate::proofs::Commits::known_told, crate::proofs::Commits::added_told))]
 pub(crate) fn commit_of<E: Engine>(
     engine: &E,
     token: &Option<String>,

@@ -127,6 +127,7 @@ fn word_of(mode: Mode) -> &'static str
 }
 
 /// The entries of the last SUCCESS of a result.
+#[tactic(auto, using(crate::proofs::Summed::added), unfolding(packstream::specs::Canon::head))]
 fn put_ending(out: &mut Adding, mode: Mode) -> Result<(), AllocError>
     ensures before { out.new.before ≡ out.old.before }
     ensures ok { OnOk result (out.new.more
@@ -139,6 +140,7 @@ fn put_ending(out: &mut Adding, mode: Mode) -> Result<(), AllocError>
     Ok(())
 }
 
+#[tactic(auto, using(crate::proofs::Summed::added), unfolding(packstream::specs::Canon::head))]
 fn put_last(out: &mut Adding, mode: Mode) -> Result<(), AllocError>
     ensures before { out.new.before ≡ out.old.before }
     ensures spelled { OnOk result (out.new.more
@@ -186,6 +188,7 @@ fn put_committed(alloc: Global, out: &mut Adding, place: u64) -> Result<(), Allo
     Ok(())
 }
 
+#[tactic(auto, using(crate::proofs::Summed::added), unfolding(packstream::specs::Canon::head))]
 fn put_failure(out: &mut Adding, fault: Fault) -> Result<(), AllocError>
     ensures before { out.new.before ≡ out.old.before }
     ensures spelled { OnOk result (out.new.more ≡ out.old.more ++ canon (form_of (failure fault))) }

@@ -1,17 +1,14 @@
-use Rattle.std.proofs.Common.{◌≡◌, refl, sym, ◌∙◌, ap, subst, ⊎_elim, ℕ, List, Option, Some, None, Ok, Err}
+use Rattle.std.proofs.Common.{◌≡◌, refl, sym, ◌∙◌, ap, subst, inl, inr, ℕ, List, Option, Some, None, Ok, Err}
 use Rattle.std.specs.Prelude.{unwrap_or}
 use Rattle.wire.specs.declared.Version.{Version}
 use Rattle.wire.specs.declared.Version.TheVariants.{V51}
 use Rattle.wire.specs.Framing.{Noop, TooBig}
 use Rattle.messages.specs.declared.MsgFault.{MsgFault}
-use Rattle.messages.specs.declared.Response.{Response}
 use Rattle.messages.specs.View.{response_view}
 use Rattle.messages.specs.Messages.{response_of}
 use Rattle.messages.specs.Arrivals.{Strange}
-use Rattle.inbox.specs.declared.Brought.{Brought}
 use Rattle.client.specs.Rest.{heard_response, heard_message}
 use Rattle.client.specs.Hearings.{plain, came_in}
-use Rattle.client.proofs.Versions.{BringsAt}
 use Rattle.client.proofs.data.came_of.Goals as goal
 
 -- what can't be read is strange, as is all before a version
@@ -21,28 +18,28 @@ unread_is (Some v) b e h = sym (ap (λ r. plain (heard_response r)) h)
 
 pub returns-in-Nothing : goal.returns-in-Nothing
 returns-in-Nothing c = λ item is.
-    let o = c.args.version in
-    ⊎_elim
-    (λ e. let none : item ≡ None = subst (λ (x : Brought Response). BringsAt item x (unwrap_or o V51)) e is in sym (ap (came_in o) none))
-    (λ e. let noop : item ≡ Some Noop = subst (λ (x : Brought Response). BringsAt item x (unwrap_or o V51)) e is in sym (ap (came_in o) noop)) c.in-Nothing.is
+    elim c.in-Nothing.is [
+      | inl e ↦ let none : item ≡ None = rw e at is in sym (ap (came_in c.args.version) none)
+      | inr e ↦ let noop : item ≡ Some Noop = rw e at is in sym (ap (came_in c.args.version) noop)
+    ]
 
 pub returns-in-Some : goal.returns-in-Some
 returns-in-Some c = λ item is.
-    let h = subst (λ (x : Brought Response). BringsAt item x (unwrap_or c.args.version V51)) c.in-Message.is is in
+    let h = rw c.in-Message.is at is in
     sym (ap (came_in c.args.version) h.1 ∙ ap (λ o. plain (heard_message o h.0)) c.in-Some.is
     ∙ ap (λ r. plain (heard_response r)) (subst (λ o. response_of (unwrap_or o V51) h.0 ≡ Ok (response_view c.in-Message.response)) c.in-Some.is h.2))
 
 pub returns-in-None : goal.returns-in-None
 returns-in-None c = λ item is.
-    let h = subst (λ (x : Brought Response). BringsAt item x (unwrap_or c.args.version V51)) c.in-Message.is is in
+    let h = rw c.in-Message.is at is in
     sym (ap (came_in c.args.version) h.1 ∙ ap (λ o. plain (heard_message o h.0)) c.in-None.is)
 
 pub returns-in-Bad : goal.returns-in-Bad
 returns-in-Bad c = λ item is.
-    let h = subst (λ (x : Brought Response). BringsAt item x (unwrap_or c.args.version V51)) c.in-Bad.is is in
+    let h = rw c.in-Bad.is at is in
     unread_is c.args.version h.0 c.in-Bad.field-0 (h.2 h.3) ∙ sym (ap (came_in c.args.version) h.1)
 
 pub returns-in-TooBig : goal.returns-in-TooBig
 returns-in-TooBig c = λ item is.
-    let big : item ≡ Some TooBig = subst (λ (x : Brought Response). BringsAt item x (unwrap_or c.args.version V51)) c.in-TooBig.is is in
+    let big : item ≡ Some TooBig = rw c.in-TooBig.is at is in
     sym (ap (came_in c.args.version) big)

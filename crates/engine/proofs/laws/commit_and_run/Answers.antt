@@ -3,7 +3,7 @@ use Rattle.std.proofs.lemmas.List.Elements.{All-nil, All-push}
 use Rattle.engine.specs.Cells.{IsCellPair, AreCellPairs, AreCellEntries, IsOfCells}
 use Rattle.engine.specs.Tokens.{Found, Free, There, Other, found_in, added_by}
 use Rattle.engine.specs.Views.{EntryView, entry_of, parameters_view}
-use Rattle.engine.proofs.FitsBy.{holds_by}
+use Rattle.engine.proofs.Reading.{holds_by}
 use Rattle.engine.proofs.laws.commit_and_run.Goals as goal
 
 longer : (es : List EntryView) (e : EntryView) (f : Found) → AreCellEntries es → AreCellPairs e.writes → AreCellEntries (es ++ added_by e f)

@@ -1,5 +1,5 @@
 use Rattle.messages.specs.View.{response_view}
-use Rattle.session.proofs.Saids.{written, refused}
+use Rattle.session.proofs.Fitting.{written, refused}
 use Rattle.std.proofs.Common.{sym, subst}
 use Rattle.session.specs.Acts.{Refuses}
 use Rattle.session.proofs.spelling.spell_response.Goals as goal

@@ -6,14 +6,14 @@ use Rattle.client.specs.Rest.{Knows, hears_item, note_of}
 use Rattle.client.specs.Hearings.{came_as, came_in}
 use Rattle.client.specs.Held.{IsItem}
 use Rattle.client.specs.Fits.{Fits, knowledge_of}
-use Rattle.client.proofs.Pieces.{err_note, heard_feeds, refused_feeds, memory_feeds, hears_by}
+use Rattle.client.proofs.Pieces.{err_note, heard_feeds, refused_feeds, result_feeds, hears_by}
 use Rattle.client.proofs.client.Client.feed_item.Goals as goal
 
 pub returns-in_err-taken-clause-feeds : goal.returns-in_err-taken-clause-feeds
 returns-in_err-taken-clause-feeds c = λ r f.
     let e = c.in_err-taken.ensures in
     let is : c.from_residual.result ≡ Err c.in_err-taken.field-0.0 = search rules in
-    memory_feeds r (takes at_client r.item c.args.piece.now) (Fits _) c.from_residual.result (is ∙ ap (λ (z : ClientFault). Err z) e.fault)
+    result_feeds r (takes at_client r.item c.args.piece.now) (Fits _) c.from_residual.result _ (is ∙ ap (λ (z : ClientFault). Err z) e.fault)
     (record { wish = f.wish; knows = f.knows; item = (e.err r.item f.item).0; unsent = f.unsent })
 
 pub returns-in-Ok-clause-feeds : goal.returns-in-Ok-clause-feeds

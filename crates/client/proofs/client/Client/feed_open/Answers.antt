@@ -4,7 +4,7 @@ use Rattle.wire.specs.Reader.{takes}
 use Rattle.client.specs.declared.faults.ClientFault.{ClientFault}
 use Rattle.client.specs.Held.{IsItem}
 use Rattle.client.specs.Fits.{Fits}
-use Rattle.client.proofs.Pieces.{quiet_feeds, told_feeds, memory_feeds}
+use Rattle.client.proofs.Pieces.{quiet_feeds, result_feeds}
 use Rattle.client.proofs.client.Client.feed_open.Goals as goal
 
 pub returns-in-Ok-true-clause-feeds : goal.returns-in-Ok-true-clause-feeds
@@ -12,7 +12,7 @@ unfolding IsItem
 returns-in-Ok-true-clause-feeds c = λ r f.
     let m = takes at_client r.item c.args.piece.now in
     let took = c.in-Ok-true.ensures.data r.knows.version r.item f.item (ap (λ (b : Bool). Ok b) c.in-Ok-true.field-0-test) in
-    told_feeds r m (Fits _) _ _ c.used_up.ensures
+    result_feeds r m (Fits _) _ _ c.used_up.ensures
     (quiet_feeds r m (Fits _) _ took.came (record { wish = f.wish; knows = f.knows; item = took.rest; unsent = f.unsent }) took.used)
 
 pub returns-in-Ok-false-clause-feeds : goal.returns-in-Ok-false-clause-feeds
@@ -23,7 +23,7 @@ returns-in-Ok-false-clause-feeds c = λ r f.
 pub returns-in-Err-clause-feeds : goal.returns-in-Err-clause-feeds
 returns-in-Err-clause-feeds c = λ r f.
     let e = c.in-Err.ensures in
-    memory_feeds r (takes at_client r.item c.args.piece.now) (Fits _) (Err c.in-Err.fault) (ap (λ (z : ClientFault). Err z) e.fault)
+    result_feeds r (takes at_client r.item c.args.piece.now) (Fits _) (Err c.in-Err.fault) _ (ap (λ (z : ClientFault). Err z) e.fault)
     (record { wish = f.wish; knows = f.knows; item = (e.err r.item f.item).0; unsent = f.unsent })
 
 pub returns-in-Ok-true-clause-room : goal.returns-in-Ok-true-clause-room

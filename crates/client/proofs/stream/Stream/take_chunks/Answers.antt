@@ -1,6 +1,5 @@
-use Rattle.std.proofs.Common.{◌≡◌, ◌≤◌, subst, length, rules, arith}
+use Rattle.std.proofs.Common.{◌≡◌, ◌≤◌, length, rules, arith}
 use Rattle.std.specs.Prelude.{unwrap_or}
-use Rattle.wire.specs.declared.Version.{Version}
 use Rattle.wire.specs.declared.Version.TheVariants.{V51}
 use Rattle.wire.specs.Reader.{takes}
 use Rattle.wire.specs.Framing.{chunks}
@@ -8,7 +7,7 @@ use Rattle.inbox.proofs.Opening.{by_chunks}
 use Rattle.client.specs.Answers.{held_bytes}
 use Rattle.client.specs.Held.{IsItem}
 use Rattle.client.specs.Taking.{Comes}
-use Rattle.client.proofs.Versions.{held-length, chunks_stay, BringsAt}
+use Rattle.client.proofs.Versions.{held-length, chunks_stay}
 use Rattle.client.proofs.stream.Stream.take_chunks.Goals as goal
 
 pub returns-clause-ok : goal.returns-clause-ok
@@ -21,7 +20,7 @@ returns-clause-ok c = λ item is.
     let whole : 4 ≤ length (held_bytes s.opening) = omega (arith, held-length s.opening four s.answering, c.requires) in
     let at_version : c.unwrap_or-at.result ≡ unwrap_or version V51 = search rules in
     by_chunks 4 (held_bytes s.opening) s.inbox piece (λ u m. Comes version m (record { used = c.in-Ok.used; came = c.came_of.result }) s.opening c.take.new.self) whole
-    (λ v at. let t = c.in-Ok.ensures.ok v at in let item = (takes chunks v piece).item in record { used = t.used_is; rest = (whole, t.rest); came = c.came_of.ensures item (subst (λ (w : Version). BringsAt item c.in-Ok.brought w) at_version t.item) }) item is
+    (λ v at. let t = c.in-Ok.ensures.ok v at in let item = (takes chunks v piece).item in record { used = t.used_is; rest = (whole, t.rest); came = c.came_of.ensures item (rw at_version at t.item) }) item is
 
 pub returns-in_default-clause-err : goal.returns-in_default-clause-err
 unfolding IsItem

@@ -1,5 +1,4 @@
-use Rattle.std.proofs.Common.{◌≤◌, refl, sym, ap, ap₂, subst, length, Ok, Bool, arith}
-use Rattle.wire.specs.declared.Version.{Version}
+use Rattle.std.proofs.Common.{◌≤◌, refl, sym, ap, ap₂, length, Ok, Bool, arith}
 use Rattle.wire.specs.Reader.{takes}
 use Rattle.wire.specs.Framing.{chunks}
 use Rattle.inbox.proofs.Opening.{by_chunks}
@@ -9,7 +8,6 @@ use Rattle.session.specs.Rest.{what_of, after_item}
 use Rattle.session.specs.Views.{kept_of}
 use Rattle.server.specs.Feeding.{arrival, takes_item}
 use Rattle.server.specs.Incoming.{offered, IsFedBy}
-use Rattle.server.proofs.Arrived.{BringsAt}
 use Rattle.server.proofs.Feeds.{took_of, offered-length, chunks_stay}
 use Rattle.server.proofs.input.Incoming.take_chunks.Goals as goal
 
@@ -43,7 +41,7 @@ returns-in_err-what-clause-err c = λ u is.
     (λ v at.
     let t = c.in_ok-used.ensures.ok v (c.in_ok-take_data.ensures.other v at (ap (λ (b : Bool). Ok b) c.if-branch.false)) in
     let item = (takes chunks v c.args.piece.now).item in
-    c.in_err-what.ensures item (subst (λ (w : Version). BringsAt item c.in_ok-used.brought w) c.version-version.ensures t.item)) in
+    c.in_err-what.ensures item (rw c.version-version.ensures at t.item)) in
     absurd (never u is)
 
 pub returns-clause-ok : goal.returns-clause-ok
@@ -59,5 +57,5 @@ returns-clause-ok c =
     (λ v at.
     let t = c.in_ok-used.ensures.ok v (c.in_ok-take_data.ensures.other v at (ap (λ (b : Bool). Ok b) c.if-branch.false)) in
     let item = (takes chunks v piece).item in
-    let r = c.in_ok-what.ensures item (subst (λ (w : Version). BringsAt item c.in_ok-used.brought w) c.version-version.ensures t.item) in
+    let r = c.in_ok-what.ensures item (rw c.version-version.ensures at t.item) in
     record { told = ap₂ took_of (sym t.used_is) (sym r.0); kept = sym r.1; come = (whole, t.rest) })

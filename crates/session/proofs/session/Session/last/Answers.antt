@@ -1,16 +1,15 @@
-use Rattle.std.proofs.Common.{ℕ, ◌∙◌, sym, ap, List, length, None, Some}
+use Rattle.std.proofs.Common.{ℕ, ◌∙◌, sym, ap, List, length, Some}
 use Rattle.messages.specs.View.{ResponseView}
 use Rattle.messages.specs.Summaries.{response_of_summary, Closing}
 use Rattle.engine.specs.Tokens.{found_in, commit_by}
 use Rattle.engine.specs.declared.ledger.Commit.{Commit}
 use Rattle.engine.specs.Views.{WriteView, token_view, writes_view}
-use Rattle.machine.specs.declared.rows.Verdict.{Verdict}
-use Rattle.session.specs.Session.{Change, Summary, no_result, change_alone, close_last}
+use Rattle.session.specs.Session.{Change, change_alone, close_last}
 use Rattle.session.specs.Rest.{version_of}
 use Rattle.session.specs.Views.{kept_of}
 use Rattle.session.specs.Acts.{commits_by}
 use Rattle.session.proofs.Commits.{commits_told}
-use Rattle.session.proofs.Replies.{acts_at, acts_same, close_inside}
+use Rattle.session.proofs.Replies.{acts_same, close_inside}
 use Rattle.session.proofs.Writes.{one_write}
 use Rattle.session.proofs.session.Session.last.Goals as goal
 
@@ -30,6 +29,4 @@ returns-in_ok-commit-in-Streaming g c =
 pub returns-in_default : goal.returns-in_default
 returns-in_default g c =
     let k = kept_of c.args.self.now in
-    let ledger = g.E.Engine.entries c.args.engine.now in
-    acts_at c.version-version.result (version_of k) k.result k.tx c.says.new.body.items c.says.result (Summary Verdict.Success (response_of_summary (Closing None k.result.mode)) no_result k.tx None) (close_last k.state ledger k.result k.tx)
-    c.version-version.ensures (close_inside k.state ledger k.result k.tx c.in_default.not-Streaming) (c.says.ensures.acts k.result k.tx)
+    rw (← close_inside k.state (g.E.Engine.entries c.args.engine.now) k.result k.tx c.in_default.not-Streaming, ← c.version-version.ensures) (c.says.ensures.acts k.result k.tx)
