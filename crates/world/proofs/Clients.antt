@@ -1,5 +1,5 @@
 -- What a client of a connection is asked and tells, over every list of steps.
-use Rattle.std.proofs.Common.{◌≡◌, refl, sym, ◌∙◌, ap, subst, ℕ, Bool, false, ◌||◌, Option, Some, None, unwrap_or, Result, Ok, Err, List, [], ◌∷◌, ◌++◌, length, take, drop, slice_get, ◌⊎◌, inl, inr, ⊎_elim, ap₂, ◌≤◌, if◌then◌else◌, zero, suc, ◌-◌, ◌==◌, slice_set}
+use Rattle.std.proofs.Common.{◌≡◌, refl, sym, ◌∙◌, ap, subst, ℕ, Bool, false, ◌||◌, Option, Some, None, unwrap_or, Result, Ok, Err, List, [], ◌∷◌, ◌++◌, length, take, drop, slice_get, true, ◌⊎◌, inl, inr, ⊎_elim, ap₂, ◌≤◌, if◌then◌else◌, zero, suc, ◌-◌, ◌==◌, slice_set}
 use Rattle.std.proofs.lemmas.Bool.{or_parts, eqb-true, eqb-false, cond_both}
 use Rattle.wire.specs.declared.Version.{Version}
 use Rattle.wire.specs.declared.Wish.{Wish}
@@ -10,15 +10,15 @@ use Rattle.messages.specs.View.{RequestView}
 use Rattle.messages.specs.Writing.{request_spelling}
 use Rattle.messages.specs.Arrivals.{IsWritten, AreWritten, hears}
 use Rattle.messages.specs.Sound.{IsRequest}
-use Rattle.messages.proofs.Again.{request_reads_back}
-use Rattle.messages.proofs.Made.{requests_are_made}
+use Rattle.messages.proofs.Rounds.{request_reads_back}
+use Rattle.messages.proofs.Sayings.{requests_are_made}
 use Rattle.engine.specs.Views.{EntryView}
 use Rattle.session.specs.Session.{Setting}
 use Rattle.client.specs.Rest.{writing_fault, writing_fault_by, Knows, refuses, Note, feed_of}
 use Rattle.client.specs.Client.{Reading, knows_of, refusal_of, reading_of}
 use Rattle.client.proofs.Refusing.{accepted_facts, accepted_written, knows_version}
 use Rattle.world.specs.Connections.{Ours, input, Connection, wish_of, said_version, client, Foreign, output, bytes_delivered, Peer, fresh}
-use Rattle.world.specs.World.{World, Event, Submit, Seen, Effect, place, step, IsMade, give, taken_for, Reached, Opens, effect_at_peer, taken_out}
+use Rattle.world.specs.World.{World, Event, Submit, Seen, Effect, place, IsMade, give, taken_for, Reached, Opens, effect_at_peer, taken_out}
 use Rattle.world.proofs.Deeds as deed
 use Rattle.world.proofs.Deeds.{Deed, Did, opens, acts, step_did, along, set_same, set_other}
 use Rattle.world.proofs.Sound.{Sound, Speaks, says, feed_speaks, work_speaks, noop_speaks, reached_sound, Alike, client_alike, Does, stays, asks, loses, gives, strange, deed_does}
@@ -26,12 +26,12 @@ use Rattle.world.proofs.Kept.{Talk}
 use Rattle.world.proofs.Trace.{Trace}
 use Rattle.wire.specs.Reader.{reach, takes, state}
 use Rattle.client.specs.Moments.{Call, Submits, Feeds as FeedsCall, Loses, Run, starts, submits, used_of, call, calls, opened_bytes, tellings_in}
-use Rattle.client.proofs.Runs.{tells_by_bytes}
+use Rattle.client.proofs.Runs.{tells_by_bytes, calls_hold, starts_hold}
 use Rattle.client.proofs.Few.{keeps_few}
 use Rattle.client.proofs.Later.{reading_later}
 use Rattle.world.specs.Rests.{client_rest}
 use Rattle.world.specs.Limits.{IsFew}
-use Rattle.world.proofs.Giving.{used_same, given_more, version_stays, seen_as, give_same, give_told}
+use Rattle.world.proofs.Giving.{used_same, given_more, seen_as, give_same, give_told}
 use Rattle.client.specs.declared.ClientFault.{ClientFault}
 use Rattle.client.specs.Verdicts.{Told}
 use Rattle.world.specs.World as world
@@ -40,7 +40,6 @@ use Rattle.world.specs.Reports.{by_peer}
 
 -- Each request that was accepted has a text that stands for it: a step keeps that, where the request that it accepts is made of texts,
 -- numbers and cells.
-
 -- the client's answer to a submit, of the connection that it was for
 abbrev pub TellsWritten : World → Event → Type 0
 TellsWritten w (Submit c q) =
@@ -56,8 +55,7 @@ knows_if S all wish k (inl s) (inr e) = let bad : Trace S (said_version k) all k
 -- what a client that accepts is known to be
 pub accepting : (r : Reading) (lost : Bool) (sent : List RequestView) (q : RequestView) → refusal_of r lost sent q ≡ None → (lost ≡ false) × (r.bad ≡ false) × (r.version ≡ None → ⊥)
 accepting r lost sent q h =
-    let a = accepted_facts (knows_of r sent lost) q h in
-    let o = or_parts lost (r.ended || r.bad) a.0 in
+    let a = accepted_facts (knows_of r sent lost) q h in let o = or_parts lost (r.ended || r.bad) a.0 in
     (o.0, (or_parts r.ended r.bad o.1).1, knows_version (knows_of r sent lost) q r.version a.1)
 
 -- and the text of a request that it accepts
@@ -99,17 +97,13 @@ module _ {S : Setting} {c : ℕ} {all : List EntryView} (w : World) (k : Connect
   -- And the other way round: what has a text that stands for it is so made.
   deed_made : {e : Event} {x : Effect} → slice_get w.conns (place e) ≡ Some k → Deed S c all k e x → TellsWritten w e → IsMade w e x.seen
   deed_made here (deed.submits i q wish p none) f = λ k2 here2.
-      let t = f k here wish p none in
-      let same : k ≡ k2 = cc in
+      let t = f k here wish p none in let same : k ≡ k2 = cc in
       subst (λ z. IsRequest (wish_version (wish_of z.peer)) q) same (subst (λ y. IsRequest (wish_version (wish_of y)) q) (sym p) (requests_are_made (wish_version wish) q t.0 t.2))
   deed_made here _ f = tt
 
-pub tells_made : (S : Setting) (w : World) (e : Event) (seen : Seen) (w2 : World) → TellsWritten w e → step S w e ≡ Ok (w2, seen) → IsMade w e seen
-tells_made S w e seen w2 f h = go e seen w2 f (step_did S w e seen w2 h)
-  where
-    go : (e : Event) (seen : Seen) (w2 : World) → TellsWritten w e → Did S w e seen w2 → IsMade w e seen
-    go e seen w2 f (opens peer room) = tt
-    go e seen w2 f (acts event k x here d) = deed_made w k here d f
+pub did_made : {S : Setting} {w : World} {e : Event} {seen : Seen} {w2 : World} → TellsWritten w e → Did S w e seen w2 → IsMade w e seen
+did_made f (opens peer room) = tt
+did_made {w = w} f (acts event k x here d) = deed_made w k here d f
 
 -- How much a client keeps, over every list of steps: the requests that its connection sent and the bytes that it was given are those of
 -- a list of calls.
@@ -117,20 +111,25 @@ calls_more : (cs : List Call) (c : Call) (x : Run) → calls x (cs ++ c ∷ []) 
 calls_more [] c x = refl
 calls_more (d ∷ cs) c x = calls_more cs c (call x d)
 
+-- what of a run its connection tells
+abbrev Past : Type 0
+Past = List RequestView × (List ℕ × Bool)
+
+abbrev past_of : Run → Past
+past_of x = (x.sent, (x.took, x.lost))
+
 -- the calls that a connection of ours follows
 pub record Follows (wish : Wish) (k : Connection) : Type 0 where
   pub made : List Call
-  pub sent : (calls (starts wish) made).sent ≡ k.sent
-  pub took : (calls (starts wish) made).took ≡ bytes_delivered k
-  pub lost : (calls (starts wish) made).lost ≡ k.client_lost
-  -- before a version is known nothing was sent
-  pub before : (client k).version ≡ None → k.sent ≡ []
+  pub same : past_of (calls (starts wish) made) ≡ (k.sent, (bytes_delivered k, k.client_lost))
 
 abbrev pub Follow : Connection → Type 0
 Follow k = (wish : Wish) → k.peer ≡ Ours wish → Follows wish k
 
 alike_follows : (k k2 : Connection) → Alike k k2 → Follow k → Follow k2
-alike_follows k k2 a f wish p = let h = f wish (sym a.peer ∙ p) in record { made = h.made; sent = h.sent ∙ sym a.sent; took = h.took ∙ sym a.given; lost = h.lost ∙ sym a.lost; before = λ e. a.sent ∙ h.before (sym (ap (λ z. z.version) (client_alike k k2 a)) ∙ e) }
+alike_follows k k2 a f wish p =
+    let h = f wish (sym a.peer ∙ p) in
+    record { made = h.made; same = h.same ∙ ap₂ (λ (qs : List RequestView) (z : List ℕ × Bool). (qs, z)) (sym a.sent) (ap₂ (λ (bs : List ℕ) (b : Bool). (bs, b)) (sym a.given) (sym a.lost)) }
 
 -- what a client knows by then, and its unfinished item
 module _ (wish : Wish) (k : Connection) (ours : k.peer ≡ Ours wish) (h : Follows wish k) where
@@ -139,73 +138,59 @@ module _ (wish : Wish) (k : Connection) (ours : k.peer ≡ Ours wish) (h : Follo
 
   knows_is : run.rest.knows ≡ knows_of (client k) k.sent k.client_lost
   knows_is =
-      (tells_by_bytes wish h.made).knows
-      ∙ ap (λ b. knows_of (reading_of wish run.sent run.took) run.sent b) h.lost
-      ∙ ap₂ (λ (qs : List RequestView) (bs : List ℕ). knows_of (reading_of wish qs bs) qs k.client_lost) h.sent h.took
+      (tells_by_bytes wish h.made).knows ∙ ap (λ (z : Past). knows_of (reading_of wish z.0 z.1.0) z.0 z.1.1) h.same
       ∙ ap (λ x. knows_of (reading_of (wish_of x) k.sent (bytes_delivered k)) k.sent k.client_lost) (sym ours)
 
   item_is : run.rest.item ≡ state at_client at_client.start (bytes_delivered k)
-  item_is = (tells_by_bytes wish h.made).item ∙ ap (state at_client at_client.start) h.took
+  item_is = (tells_by_bytes wish h.made).item ∙ ap (λ (z : Past). state at_client at_client.start z.1.0) h.same
+
+  -- before a version is known nothing was sent
+  pub sent_none : (client k).version ≡ None → k.sent ≡ []
+  sent_none e =
+      let known = ap (λ (z : Past). (reading_of wish z.0 z.1.0).version) h.same ∙ ap (λ x. (reading_of (wish_of x) k.sent (bytes_delivered k)).version) (sym ours) in
+      sym (ap (λ (z : Past). z.0) h.same) ∙ (calls_hold wish h.made (starts wish) (starts_hold wish)).before (known ∙ e)
 
   pub few : (out : ℕ) → IsFew (client_rest out k)
   few out =
       let l = keeps_few wish h.made in
       record { waiting = subst (λ (y : Knows). length y.waiting ≤ 32) knows_is l.0; unfinished = subst (λ (o : Opened). opened_bytes o ≤ 65537) item_is l.1 }
 
+  -- one more call
+  follows_more : (c : Call) (k2 : Connection) → past_of (call run c) ≡ (k2.sent, (bytes_delivered k2, k2.client_lost)) → Follows wish k2
+  follows_more c k2 e = record { made = h.made ++ c ∷ []; same = ap past_of (calls_more h.made c (starts wish)) ∙ e }
+
   accepts : (q : RequestView) → refusal_of (client k) k.client_lost k.sent q ≡ None → Follows wish (record k { sent = k.sent ++ q ∷ [] })
   accepts q none =
-      let e : refuses run.rest.knows q ≡ None = ap (λ y. refuses y q) knows_is ∙ none in
-      let is : calls (starts wish) (h.made ++ Submits q ∷ []) ≡ submits run q None = calls_more h.made (Submits q) (starts wish) ∙ ap (submits run q) e in
-      record {
-        made = h.made ++ Submits q ∷ [];
-        sent = ap (λ (x : Run). x.sent) is ∙ ap (λ qs. qs ++ q ∷ []) h.sent;
-        took = ap (λ (x : Run). x.took) is ∙ h.took;
-        lost = ap (λ (x : Run). x.lost) is ∙ h.lost;
-        before = λ n. let a = accepting (client k) k.client_lost k.sent q none in absurd (a.2 (ap (λ z. z.version) (sym (reading_later (wish_of k.peer) k.sent (q ∷ []) (hears (bytes_delivered k)) a.1)) ∙ n));
-      }
+      follows_more (Submits q) (record k { sent = k.sent ++ q ∷ [] })
+      (ap (λ o. past_of (submits run q o)) (ap (λ y. refuses y q) knows_is ∙ none) ∙ ap (λ (z : Past). let y : Past = (z.0 ++ q ∷ [], z.1) in y) h.same)
 
   hears_more : (n : ℕ) → k.client_lost ≡ false → ((client k).ended ≡ false) × ((client k).bad ≡ false) → Follows wish (give n k).conn
   hears_more n lives on =
-      let is = calls_more h.made (FeedsCall piece) (starts wish) in
-      record {
-        made = h.made ++ FeedsCall piece ∷ [];
-        sent = ap (λ (x : Run). x.sent) is ∙ h.sent;
-        took = ap (λ (x : Run). x.took) is ∙ ap₂ (λ (bs : List ℕ) m. bs ++ take m piece) h.took used ∙ sym (given_more k 0 n lives on);
-        lost = ap (λ (x : Run). x.lost) is ∙ h.lost;
-        before = λ e. h.before (unknown (client k).version refl e);
-      }
+      follows_more (FeedsCall piece) (give n k).conn
+      (ap₂ (λ (z : Past) (m : ℕ). let y : Past = (z.0, (z.1.0 ++ take m piece, z.1.1)) in y) h.same used ∙ ap (λ (bs : List ℕ). let y : Past = (k.sent, (bs, k.client_lost)) in y) (sym (given_more k 0 n lives on)))
     where
-      unknown : (o : Option Version) → (client k).version ≡ o → (client (give n k).conn).version ≡ None → o ≡ None
-      unknown None e none = refl
-      unknown (Some v) e none = let known : (client (give n k).conn).version ≡ Some v = version_stays k 0 n lives on v e in cc
-
       piece : List ℕ
       piece = take n (drop k.down (output k))
 
       used : used_of run.rest piece ≡ reach hears (bytes_delivered k) piece
       used =
           ap (λ b. if b then 0 else (takes at_client run.rest.item piece).used) (ap (λ (y : Knows). y.over) knows_is ∙ ap₂ (λ a b. a || b) lives (ap₂ (λ a b. a || b) on.0 on.1))
-          ∙ ap (λ (o : Opened). (takes at_client o piece).used) item_is
-          ∙ sym (used_same (wish_of k.peer) k.sent (bytes_delivered k) on piece)
+          ∙ ap (λ (o : Opened). (takes at_client o piece).used) item_is ∙ sym (used_same (wish_of k.peer) k.sent (bytes_delivered k) on piece)
 
 -- each event
 does_follow : (k : Connection) (x : Effect) → Does k x → Follow k → Follow x.conn
 does_follow k x (stays y a e) f = alike_follows k y.conn a f
 does_follow k x (asks q none) f = λ wish p. accepts wish k p (f wish p) q none
-does_follow k x loses f = λ wish p.
-    let h = f wish p in
-    let is = calls_more h.made Loses (starts wish) in
-    record { made = h.made ++ Loses ∷ []; sent = ap (λ (x : Run). x.sent) is ∙ h.sent; took = ap (λ (x : Run). x.took) is ∙ h.took; lost = ap (λ (x : Run). x.lost) is; before = h.before }
+does_follow k x loses f = λ wish p. follows_more wish k p (f wish p) Loses (record k { client_lost = true }) (ap (λ (z : Past). let y : Past = (z.0, (z.1.0, true)) in y) (f wish p).same)
 does_follow k x (gives wish n p lives on) f = λ wish2 p2. hears_more wish2 k p2 (f wish2 p2) n lives on
-does_follow k x (strange n p) f = λ wish p2. let bad : Foreign ≡ Ours wish = sym p ∙ p2 in absurd (cc)
+does_follow k x (strange n p) f = λ wish2 p2. let bad : Foreign ≡ Ours wish2 = sym p ∙ p2 in absurd cc
 
 pub reached_follow : (S : Setting) (brought : List EntryView) {w : World} → Reached S brought w → (c : ℕ) (k : Connection) → slice_get w.conns c ≡ Some k → Follow k
 reached_follow S brought r =
-    along S brought (λ _ _ _ k. Follow k) (λ w peer _ _ wish p. record { made = []; sent = refl; took = refl; lost = refl; before = λ e. refl }) (λ w e k x reached here f d _ _. does_follow k x (deed_does k (reached_sound S brought reached (place e) k here) d) f)
+    along S brought (λ _ _ _ k. Follow k) (λ w peer _ _ wish p. record { made = []; same = refl }) (λ w e k x reached here f d _ _. does_follow k x (deed_does k (reached_sound S brought reached (place e) k here) d) f)
     (λ _ _ _ _ _ _ _ _ f. f) (λ _ _ _ n k f. alike_follows k (record k { taken = taken_for n k }) (record { peer = refl; sent = refl; lost = refl; given = refl }) f) r
 
 -- What was seen of each client over a list of steps is what its reading of the bytes tells.
-
 -- a run without what was seen of it
 pub ran_reached : {S : Setting} {brought : List EntryView} {past : List (Event × Seen)} {w : World} → Ran S brought past w → Reached S brought w
 ran_reached (begins l) = world.begins l
@@ -228,12 +213,10 @@ does_tell k x (asks q none) =
     sym (ap (λ r. by_peer k.peer r.told) (reading_later (wish_of k.peer) k.sent (q ∷ []) (hears (bytes_delivered k)) a.1))
 does_tell k x loses = refl
 does_tell k x (gives wish n p lives on) =
-    let same = give_same k 0 n lives on in
-    let piece = take n (drop k.down (output k)) in
+    let same = give_same k 0 n lives on in let piece = take n (drop k.down (output k)) in
     ap (λ s. told_in s ++ told_of (Some k)) (sym same.1)
     ∙ ap (λ ts. ts ++ told_of (Some k)) (sym (answer_told ((give n k).conn.down - k.down) (feed_of (client_rest 0 k) piece).answer))
-    ∙ ap (λ q. tellings_in (feed_of (client_rest 0 k) piece).answer ++ by_peer q (client k).told) p
-    ∙ sym (give_told k 0 n lives on)
+    ∙ ap (λ q. tellings_in (feed_of (client_rest 0 k) piece).answer ++ by_peer q (client k).told) p ∙ sym (give_told k 0 n lives on)
     ∙ sym (ap (λ q. by_peer q (client (give n k).conn).told) p)
 does_tell k x (strange n p) = ap (λ q. by_peer q (client k).told) p ∙ sym (ap (λ q. by_peer q (client (record k { taken = taken_for n k; down = taken_for n k })).told) p)
 

@@ -89,8 +89,7 @@ unseen_link l m k z f down flags =
 -- `lost` of the server, of which the rest was taken out first
 pub gone_link : (l : Link) (k : Connection) → FitsLink l k → Sound k → k.server_lost ≡ false → FitsLink (record l { down = l.down ++ drop k.taken (output k); gone = Some (cause_or k.ended) }) (server_gone k).conn
 gone_link l k f s lives =
-    let a = s.counts in let b = s.below in
-    let e : k.down + (k.taken - k.down) ≡ k.taken = omega arith in
+    let a = s.counts in let b = s.below in let e : k.down + (k.taken - k.down) ≡ k.taken = omega arith in
     unseen_link l (record l { down = l.down ++ drop k.taken (output k); gone = Some (cause_or k.ended) }) k (server_gone k).conn f
     (ap (λ z. z ++ drop k.taken (output k)) f.down
     ∙ ap (λ z. take (k.taken - k.down) (drop k.down (output k)) ++ z) (ap (λ n. drop n (output k)) (sym e) ∙ sym (drop-drop (k.taken - k.down) k.down (output k)))
@@ -154,8 +153,7 @@ opened_fits Foreign = record { peer = refl; client = (refl, refl); down = refl; 
 read-append : (ts : List Told) (later more : List ReadSummary) → read_after ts (later ++ more) ≡ read_after ts later ++ more
 read-append [] later more = refl
 read-append (GotRow row ∷ ts) later more = read-append ts later more
-read-append (Got i p o a ∷ ts) later more =
-    read-append ts (record { ordinal = i; phase = p; outcome = o } ∷ later) more
+read-append (Got i p o a ∷ ts) later more = read-append ts (record { ordinal = i; phase = p; outcome = o } ∷ later) more
 
 read_more : (new ts : List Told) → read_after (new ++ ts) [] ≡ read_after ts [] ++ read_after new []
 read_more new ts = go new [] ∙ read-append ts [] (read_after new [])
@@ -185,8 +183,7 @@ module _ (l : Link) (k : Connection) (f : FitsLink l k) (s : Sound k) (n : ℕ) 
 
   pub held_all : held ≡ take (taken_for n k - k.down) bytes
   held_all =
-      let a = s.counts in let b = s.below in
-      let m = length-drop k.down (output k) in
+      let a = s.counts in let b = s.below in let m = length-drop k.down (output k) in
       let d : drop k.taken (output k) ≡ drop h bytes = ap (λ i. drop i (output k)) (parts k.taken k.down b) ∙ sym (drop-drop h k.down (output k)) in
       ap₂ (λ x (y : List ℕ × ℕ). x ++ take (n - y.1) y.0) f.down (ap₂ (λ (x : List ℕ) (y : ℕ). (x, y)) d held_long) ∙ sym (take-add h (n - h) bytes) ∙ sym (take_min (h + (n - h)) bytes)
       ∙ ap (λ i. take i bytes) (same k.taken k.down (length (output k)) n (length bytes) m a b)
@@ -214,61 +211,52 @@ module _ (l : Link) (k : Connection) (f : FitsLink l k) (s : Sound k) (n : ℕ) 
       unknown Foreign e xs ys = refl
       unknown (Ours wish) e xs ys = cc
 
--- and `feed` of a client that goes on
-module _ (l : Link) (k : Connection) (f : FitsLink l k) (s : Sound k) (n : ℕ) (wish : Wish) (ours : k.peer ≡ Ours wish) (lives : k.client_lost ≡ false) (on : ((client k).ended ≡ false) × ((client k).bad ≡ false)) (r : asking.Rest) (here : l.client ≡ Some r) where
-  abbrev coming : List ℕ
-  coming = drop k.down (output k)
+  -- and `feed` of a client that goes on
+  module _ (wish : Wish) (ours : k.peer ≡ Ours wish) (lives : k.client_lost ≡ false) (on : ((client k).ended ≡ false) × ((client k).bad ≡ false)) (r : asking.Rest) (here : l.client ≡ Some r) where
+    abbrev used : ℕ
+    used = reach hears (bytes_delivered k) (take n bytes)
 
-  abbrev holding : List ℕ
-  holding = l.down ++ take (n - length l.down) (drop k.taken (output k))
+    abbrev k3 : Connection
+    k3 = (give n k).conn
 
-  abbrev used : ℕ
-  used = reach hears (bytes_delivered k) (take n coming)
+    down_is : drop used held ≡ take (k3.taken - k3.down) (drop k3.down (output k3))
+    down_is =
+        let a = s.counts in let b = s.below in let m = length-drop k.down (output k) in
+        let u = reach_within hears (bytes_delivered k) (take n bytes) in let t = length-take n bytes in
+        ap (drop used) held_all ∙ drop_within used (taken_for n k - k.down) bytes (omega arith)
+        ∙ ap₂ (λ i z. take i z) (rest_of (taken_for n k) k.down used) (drop-drop used k.down (output k))
 
-  abbrev k3 : Connection
-  k3 = (give n k).conn
+    pub give_link : FitsLink (record l { client = Some (asking.feed_of r (take n held)).rest; down = drop used held; read = l.read ++ read_after (tellings_in (asking.feed_of r (take n held)).answer) [] }) k3
+    give_link =
+        record {
+          peer = f.peer;
+          client = subst (λ p. FitsClient p (Some (asking.feed_of r (take n held)).rest) l.up k3) (sym ours) fits;
+          down = down_is;
+          flags = f.flags;
+          report = (f.report.0, ap₂ (λ x (y : asking.Rest × List ℕ). x ++ read_after (tellings_in (asking.feed_of y.0 y.1).answer) []) f.report.1 (ap₂ (λ (x : asking.Rest) (y : List ℕ). (x, y)) is front_is) ∙ told, f.report.2 ∙ ap (by_peer k.peer) (cond-false k.client_lost _ _ lives) ∙ sym (ap (by_peer k3.peer) (cond-false k3.client_lost _ _ lives)));
+        }
+      where
+        old : FitsClient (Ours wish) l.client l.up k
+        old = subst (λ p. FitsClient p l.client l.up k) ours f.client
 
-  down_is : drop used holding ≡ take (k3.taken - k3.down) (drop k3.down (output k3))
-  down_is =
-      let a = s.counts in let b = s.below in
-      let m = length-drop k.down (output k) in
-      let u = reach_within hears (bytes_delivered k) (take n coming) in
-      let t = length-take n coming in
-      ap (drop used) (held_all l k f s n) ∙ drop_within used (taken_for n k - k.down) coming (omega arith)
-      ∙ ap₂ (λ i z. take i z) (rest_of (taken_for n k) k.down used) (drop-drop used k.down (output k))
+        is : r ≡ client_rest old.out k
+        is = same_Some r (client_rest old.out k) (sym here ∙ old.client_is)
 
-  pub give_link : FitsLink (record l { client = Some (asking.feed_of r (take n holding)).rest; down = drop used holding; read = l.read ++ read_after (tellings_in (asking.feed_of r (take n holding)).answer) [] }) k3
-  give_link =
-      record {
-        peer = f.peer;
-        client = subst (λ p. FitsClient p (Some (asking.feed_of r (take n holding)).rest) l.up k3) (sym ours) fits;
-        down = down_is;
-        flags = f.flags;
-        report = (f.report.0, ap₂ (λ x (y : asking.Rest × List ℕ). x ++ read_after (tellings_in (asking.feed_of y.0 y.1).answer) []) f.report.1 (ap₂ (λ (x : asking.Rest) (y : List ℕ). (x, y)) is (front_is l k f s n)) ∙ told, f.report.2 ∙ ap (by_peer k.peer) (cond-false k.client_lost _ _ lives) ∙ sym (ap (by_peer k3.peer) (cond-false k3.client_lost _ _ lives)));
-      }
-    where
-      old : FitsClient (Ours wish) l.client l.up k
-      old = subst (λ p. FitsClient p l.client l.up k) ours f.client
+        fits : FitsClient (Ours wish) (Some (asking.feed_of r (take n held)).rest) l.up k3
+        fits =
+            record {
+              out = old.out;
+              least = old.least;
+              most = old.most;
+              client_is = ap₂ (λ (x : asking.Rest) (y : List ℕ). Some (asking.feed_of x y).rest) is front_is ∙ ap (λ z. Some z) (give_same k old.out n lives on).0;
+              up_is = old.up_is;
+            }
 
-      is : r ≡ client_rest old.out k
-      is = same_Some r (client_rest old.out k) (sym here ∙ old.client_is)
-
-      fits : FitsClient (Ours wish) (Some (asking.feed_of r (take n holding)).rest) l.up k3
-      fits =
-          record {
-            out = old.out;
-            least = old.least;
-            most = old.most;
-            client_is = ap₂ (λ (x : asking.Rest) (y : List ℕ). Some (asking.feed_of x y).rest) is (front_is l k f s n) ∙ ap (λ z. Some z) (give_same k old.out n lives on).0;
-            up_is = old.up_is;
-          }
-
-      told : summaries_told k ++ read_after (tellings_in (asking.feed_of (client_rest old.out k) (take n coming)).answer) [] ≡ summaries_told k3
-      told =
-          ap (λ p. by_peer p (read_after (client k).told []) ++ read_after (tellings_in (asking.feed_of (client_rest old.out k) (take n coming)).answer) []) ours
-          ∙ sym (read_more (tellings_in (asking.feed_of (client_rest old.out k) (take n coming)).answer) (client k).told)
-          ∙ ap (λ ts. read_after ts []) (sym (give_told k old.out n lives on))
-          ∙ sym (ap (λ p. by_peer p (read_after (client k3).told [])) ours)
+        told : summaries_told k ++ read_after (tellings_in (asking.feed_of (client_rest old.out k) (take n bytes)).answer) [] ≡ summaries_told k3
+        told =
+            ap (λ p. by_peer p (read_after (client k).told []) ++ read_after (tellings_in (asking.feed_of (client_rest old.out k) (take n bytes)).answer) []) ours
+            ∙ sym (read_more (tellings_in (asking.feed_of (client_rest old.out k) (take n bytes)).answer) (client k).told)
+            ∙ ap (λ ts. read_after ts []) (sym (give_told k old.out n lives on)) ∙ sym (ap (λ p. by_peer p (read_after (client k3).told [])) ours)
 
 -- The links of a world: bytes that go to the server.
 abbrev pub used_seen : Seen → ℕ
@@ -298,23 +286,17 @@ module _ (l : Link) (k : Connection) (f : FitsLink l k) (wish : Wish) (ours : k.
   abbrev a : ℕ
   a = length k.up
 
-  abbrev ups : List ℕ
-  ups = drop a all
-
-  abbrev held_up : ℕ
-  held_up = old.out - a
-
   abbrev out : ℕ
   out = min (old.out + j) (length all)
 
   is : r ≡ client_rest old.out k
   is = same_Some r (client_rest old.out k) (sym here ∙ old.client_is)
 
-  pub up_is : l.up ++ take j r.unsent ≡ take (out - a) ups
+  pub up_is : l.up ++ take j r.unsent ≡ take (out - a) (drop a all)
   up_is =
       let m = length-drop a all in
-      ap₂ (λ x y. x ++ take j y) old.up_is (ap (λ (z : asking.Rest). z.unsent) is ∙ ap (λ p. drop old.out (input (wish_of p) k.sent)) ours ∙ ap (λ i. drop i all) (parts old.out a old.least) ∙ sym (drop-drop held_up a all)) ∙ sym (take-add held_up j ups) ∙ sym (take_min (held_up + j) ups)
-      ∙ ap (λ i. take i ups) (same old.out a (length all) j (length ups) m old.least old.most)
+      ap₂ (λ x y. x ++ take j y) old.up_is (ap (λ (z : asking.Rest). z.unsent) is ∙ ap (λ p. drop old.out (input (wish_of p) k.sent)) ours ∙ ap (λ i. drop i all) (parts old.out a old.least) ∙ sym (drop-drop (old.out - a) a all)) ∙ sym (take-add (old.out - a) j (drop a all)) ∙ sym (take_min ((old.out - a) + j) (drop a all))
+      ∙ ap (λ i. take i (drop a all)) (same old.out a (length all) j (length (drop a all)) m old.least old.most)
     where
       same : (o a i j m : ℕ) → m ≡ i - a → a ≤ o → o ≤ i → min ((o - a) + j) m ≡ min (o + j) i - a
       same o a i j m e x y = omega arith

@@ -23,19 +23,19 @@ use Rattle.client.specs.Rest as asking
 use Rattle.world.specs.declared.kinds.Refused.TheVariants.{Memory, WrongPeer}
 use Rattle.world.specs.declared.link.Link.{Link as LinkHeld}
 use Rattle.world.specs.Connections.{Peer, Ours, Foreign, Connection, client, output, bytes_delivered, wish_of}
-use Rattle.world.specs.World.{World, Effect, ToClient, Event, place, Seen, Gave, SawNothing, Refusal, quiet, at_peer, ledger, after_effect, effect_at_peer, taken_for, give, to_client, drain, taken_out, Submit, ClientLost, Submitted, effect_of_submit}
+use Rattle.world.specs.World.{World, Effect, ToClient, Seen, Gave, SawNothing, Refusal, quiet, at_peer, ledger, after_effect, effect_at_peer, taken_for, give, to_client, drain, taken_out, Submit, ClientLost, Submitted, effect_of_submit}
 use Rattle.world.specs.Reports.{read_after, by_peer}
 use Rattle.world.specs.Rests.{client_rest, live_of, server_rest}
 use Rattle.world.specs.Fits.{Link, Rest, FitsClient, FitsLink}
 use Rattle.world.specs.Contract.{Answers}
 use Rattle.world.specs.Views.{FitsEnd, link_of, end_peer, event_of}
-use Rattle.world.specs.Turns.{Definition, Now, Before, Holds, Submits, LosesClient, after_loss, Turns}
+use Rattle.world.specs.Turns.{Definition, Before, Holds, Submits, LosesClient, after_loss, Turns}
 use Rattle.world.proofs.Served.{unseen, alike, take_served}
 use Rattle.world.proofs.Fitting.{held_long, held_all, front_is, drained_link, give_link, unseen_link, submit_link, lost_link, lost_again}
 use Rattle.world.proofs.Giving.{seen_as, give_same}
 use Rattle.world.proofs.Headline.{gives_said, reached_inv}
 use Rattle.std.proofs.lemmas.Option.{same_Some, some_pair_parts}
-use Rattle.world.proofs.Turning.{found, sound, lives, given_up, may, acts, holds_then, rests, lacks, either, still, wrong, acts_unseen}
+use Rattle.world.proofs.Turning.{setting_at, link_at, found, conn_at, sound, lives, given_up, HeldIn, TurnsTo, DoesAt, may, acts, holds_then, rests, lacks, either, still, wrong, acts_unseen}
 use Rattle.messages.specs.View.{RequestView}
 use Rattle.client.specs.declared.SubmitFault.{SubmitFault}
 use Rattle.wire.specs.Offers.{wish_version}
@@ -57,14 +57,7 @@ module _ {G : Type 0} (c n missing : ℕ) (r : serving.Rest G) (old new more : L
   drawn_of (Some cause) e t result = cc
 
   pub drawn : (gone : Option Cause) → gone ≡ None → missing ≡ n → answered.Answers (Ok more) (serving.take_out_at c missing r) r P → new ≡ old ++ more → (result : Result (Unit {0}) AllocError) → Draws gone c n r old result new P
-  drawn gone e is a held result =
-      drawn_of gone e (record {
-        taken = more;
-        after = a.0;
-        out = ap (λ i. serving.take_out_at c i r) (sym is) ∙ a.1;
-        held = held;
-        now = a.2;
-      }) result
+  drawn gone e is a held result = drawn_of gone e (record { taken = more; after = a.0; out = ap (λ i. serving.take_out_at c i r) (sym is) ∙ a.1; held = held; now = a.2 }) result
 
 moved_by : (a b : ℕ) → (a + b) - a ≡ b
 moved_by a b = omega arith
@@ -87,43 +80,35 @@ client_here m k y f is = go k.peer refl f.client
     go (Ours wish) e h = (wish, e, (h.out, same_Some y (client_rest h.out k) (sym is ∙ h.client_is)))
     go Foreign e h = let no : None ≡ Some y = sym h.0 ∙ is in cc
 
-module _ {E G : Type 0} (entries : E → List EntryView) (answer : Definition) (accepts : G → List ℕ → List ℕ → Bool)
-    (c : ℕ) (l : LinkHeld) (s : Server E G) (r : Rest G) (w : World) where
-  abbrev T : Setting
-  T = serving.setting answer accepts r.server
-
-  abbrev Now_ : LinkHeld → Server E G → World → Type 0
-  Now_ = Now entries answer accepts r c
-
-  -- the connection of an event
-  abbrev met : (e : Event) (b : Before entries answer accepts e l s r w) → (k : Connection) × (slice_get w.conns (place e) ≡ Some k) × FitsLink (link_of l b.client) k
-  met e b = found entries answer accepts e l s r w b
-
+module _ {E G : Type 0} {entries : E → List EntryView} {answer : Definition} {accepts : G → List ℕ → List ℕ → Bool} {c : ℕ} {l : LinkHeld} {s : Server E G} {r : Rest G} {w : World} where
   -- bytes for the peer
-  module _ (n : ℕ) (b : Before entries answer accepts (ToClient c n) l s r w) where
+  module _ {n : ℕ} (b : Before entries answer accepts (ToClient c n) l s r w) where
     abbrev m : Link
-    m = link_of l b.client
+    m = link_at b
 
     abbrev k : Connection
-    k = (met (ToClient c n) b).0
+    k = conn_at b
+
+    abbrev fits : FitsLink m k
+    fits = (found b).2
 
     so : Sound k
-    so = sound entries answer accepts (ToClient c n) l s r w b
+    so = sound b
 
     abbrev at : Peer → Result Effect Refusal
-    at p = at_peer T c (ledger w) (ToClient c n) p k
+    at p = at_peer (setting_at b) c (ledger w) (ToClient c n) p k
 
     abbrev done : Effect → Result Effect Refusal
     done x = Ok x
 
     -- nothing is given
-    nothing : at k.peer ≡ done (quiet k (Gave 0 (Ok asking.Nothing))) → Answers T w (ToClient c n) (Ok (Gave 0 (Ok asking.Nothing))) (Now_ l s)
-    nothing h = rests entries answer accepts (ToClient c n) l s r w b refl (Gave 0 (Ok asking.Nothing)) h tt tt
+    nothing : at k.peer ≡ done (quiet k (Gave 0 (Ok asking.Nothing))) → TurnsTo b (Ok (Gave 0 (Ok asking.Nothing))) l s
+    nothing h = rests b refl (Gave 0 (Ok asking.Nothing)) h tt tt
 
     -- after a cut, whoever the peer is
-    pub given_cut : l.is_cut ≡ true → Answers T w (ToClient c n) (Ok (Gave 0 (Ok asking.Nothing))) (Now_ l s)
+    pub given_cut : l.is_cut ≡ true → TurnsTo b (Ok (Gave 0 (Ok asking.Nothing))) l s
     given_cut cut =
-        let is : k.cut ≡ true = sym (met (ToClient c n) b).2.flags.0 ∙ cut in
+        let is : k.cut ≡ true = sym fits.flags.0 ∙ cut in
         nothing (either at (done (quiet k (Gave 0 (Ok asking.Nothing)))) (λ wish. ap done (cond-true (k.cut || (k.client_lost || ((client k).ended || (client k).bad))) _ _ (or_left _ _ is))) (ap done (cond-true k.cut _ _ is)) k.peer)
 
     -- the server's part, where this was taken out of a session that lives: the bytes that are missing to n
@@ -133,21 +118,20 @@ module _ {E G : Type 0} (entries : E → List EntryView) (answer : Definition) (
     out_of : l.gone ≡ None → (taken : List ℕ) (server2 : serving.Rest G) → serving.take_out_at c missing r.server ≡ Some (taken, server2) → (k2 : Connection) (seen : Seen) → k2.server_lost ≡ k.server_lost → live_of c (record k { taken = taken_for n k }) ≡ live_of c k2
         → (taken ≡ take missing (drop k.taken (output k))) × (server2 ≡ server_rest r.server.gate (after_effect w c k (quiet k2 seen)))
     out_of gone taken server2 h k2 seen g e =
-        let alive = lives entries answer accepts (ToClient c n) l s r w b gone in
-        let t = min (k.taken + missing) (length (output k)) in
-        let one = some_pair_parts taken (take missing (drop k.taken (output k))) server2 _ (sym h ∙ ap (serving.take_out_at c missing) b.fits.server ∙ take_served G r.server.gate w c k (met (ToClient c n) b).1 alive so missing) in (
+        let alive = lives b gone in let t = min (k.taken + missing) (length (output k)) in
+        let one = some_pair_parts taken (take missing (drop k.taken (output k))) server2 _ (sym h ∙ ap (serving.take_out_at c missing) b.fits.server ∙ take_served G r.server.gate w c k (found b).1 alive so missing) in (
           one.0,
-          one.1 ∙ alike r.server.gate w c k (met (ToClient c n) b).1 (record k { taken = t }) k2 SawNothing seen alive alive (g ∙ alive)
-              (ap (λ i. live_of c (record k { taken = i })) (counts_of k.taken k.down (length (output k)) n (length m.down) so.counts so.below (held_long m k (met (ToClient c n) b).2 so n)) ∙ e),
+          one.1 ∙ alike r.server.gate w c k (found b).1 (record k { taken = t }) k2 SawNothing seen alive alive (g ∙ alive)
+              (ap (λ i. live_of c (record k { taken = i })) (counts_of k.taken k.down (length (output k)) n (length m.down) so.counts so.below (held_long m k fits so n)) ∙ e),
         )
 
     unseen_then : k.server_lost ≡ true → (k2 : Connection) (seen : Seen) → k2.server_lost ≡ k.server_lost → r.server ≡ server_rest r.server.gate (after_effect w c k (quiet k2 seen))
-    unseen_then gone k2 seen g = b.fits.server ∙ unseen r.server.gate w c k (met (ToClient c n) b).1 k2 seen g (λ alive j. absurd (true≢false (sym gone ∙ alive)))
+    unseen_then gone k2 seen g = b.fits.server ∙ unseen r.server.gate w c k (found b).1 k2 seen g (λ alive j. absurd (true≢false (sym gone ∙ alive)))
 
     -- a client of ours
-    module _ (y : asking.Rest) (client_is : b.client ≡ Some y) where
+    module _ {y : asking.Rest} (client_is : b.client ≡ Some y) where
       abbrev of_ours : (wish : Wish) × (k.peer ≡ Ours wish) × ((out : ℕ) × (y ≡ client_rest out k))
-      of_ours = client_here m k y (met (ToClient c n) b).2 client_is
+      of_ours = client_here m k y fits client_is
 
       over_is : y.knows.over ≡ (k.client_lost || ((client k).ended || (client k).bad))
       over_is = ap (λ (z : asking.Rest). z.knows.over) of_ours.2.1
@@ -155,48 +139,47 @@ module _ {E G : Type 0} (entries : E → List EntryView) (answer : Definition) (
       takes : at k.peer ≡ done (to_client n k)
       takes = ap at of_ours.1
 
-      pub given_over : y.knows.over ≡ true → Answers T w (ToClient c n) (Ok (Gave 0 (Ok asking.Nothing))) (Now_ l s)
+      pub given_over : y.knows.over ≡ true → TurnsTo b (Ok (Gave 0 (Ok asking.Nothing))) l s
       given_over over = nothing (takes ∙ ap done (cond-true (k.cut || (k.client_lost || ((client k).ended || (client k).bad))) _ _ (or_right k.cut _ (sym over_is ∙ over))))
 
       -- where nothing came out
-      pub given_lacks : (l2 : LinkHeld) (s2 : Server E G) → link_of l2 b.client ≡ m → FitsEnd l2.end b.client → server.Fits entries s2 r.server → Answers T w (ToClient c n) (Err Memory) (Now_ l2 s2)
-      given_lacks = lacks entries answer accepts (ToClient c n) l s r w b refl _ takes (λ h. h) (inl refl)
+      pub given_lacks : (l2 : LinkHeld) (s2 : Server E G) → link_of l2 b.client ≡ m → FitsEnd l2.end b.client → server.Fits entries s2 r.server → TurnsTo b (Err Memory) l2 s2
+      given_lacks = lacks b refl _ takes (λ h. h) (inl refl)
 
       module _ (on : y.knows.over ≡ false) (joined : l.is_cut ≡ false) where
         open_is : (k.client_lost ≡ false) × (((client k).ended ≡ false) × ((client k).bad ≡ false))
         open_is = let o = none_of false k.client_lost (client k).ended (client k).bad (sym over_is ∙ on) in (o.0, (o.1, o.2))
 
         goes : to_client n k ≡ give n k
-        goes = cond-false (k.cut || (k.client_lost || ((client k).ended || (client k).bad))) _ _ (ap₂ (λ x z. x || z) (sym (met (ToClient c n) b).2.flags.0 ∙ joined) (ap₂ (λ x z. x || z) open_is.0 (ap₂ (λ x z. x || z) open_is.1.0 open_is.1.1)))
+        goes = cond-false (k.cut || (k.client_lost || ((client k).ended || (client k).bad))) _ _ (ap₂ (λ x z. x || z) (sym fits.flags.0 ∙ joined) (ap₂ (λ x z. x || z) open_is.0 (ap₂ (λ x z. x || z) open_is.1.0 open_is.1.1)))
 
         -- where bytes came out of a session that lives
-        came_out : (l2 : LinkHeld) (s2 : Server E G) → l.gone ≡ None → (taken : List ℕ) (server2 : serving.Rest G) → serving.take_out_at c missing r.server ≡ Some (taken, server2)
-            → link_of l2 b.client ≡ record m { down = m.down ++ taken } → FitsEnd l2.end b.client → server.Fits entries s2 server2 → Answers T w (ToClient c n) (Err Memory) (Now_ l2 s2)
-        came_out l2 s2 gone taken server2 h same ends serves =
-            let k2 = record k { taken = taken_for n k } in
-            let d = out_of gone taken server2 h k2 SawNothing refl refl in
+        came_out : (l2 : LinkHeld) (s2 : Server E G) → l.gone ≡ None → (bytes : List ℕ) → Takes c missing r.server m.down bytes (server.Fits entries s2) → link_of l2 b.client ≡ record m { down = bytes } → FitsEnd l2.end b.client → TurnsTo b (Err Memory) l2 s2
+        came_out l2 s2 gone bytes d same ends =
+            let k2 = record k { taken = taken_for n k } in let o = out_of gone d.taken d.after d.out k2 SawNothing refl refl in
+            let down = m.down ++ take missing (drop k.taken (output k)) in
             let out_is : taken_out w c n (slice_get w.conns c) ≡ after_effect w c k (quiet k2 SawNothing) =
-            ap (taken_out w c n) (met (ToClient c n) b).1
+            ap (taken_out w c n) (found b).1
             ∙ ap₂ (λ t es. record { conns = slice_set w.conns c (record k { taken = t }); brought = w.brought; since = es }) (ap (λ p. (effect_at_peer p n k).conn.taken) of_ours.1 ∙ ap (λ (x : Effect). x.conn.taken) goes) (sym (append-nil w.since)) in
-            let link = subst (λ z. FitsLink z k2) (sym (same ∙ ap (λ x. let z : Link = record m { down = m.down ++ x } in z) d.0)) (unseen_link m (record m { down = m.down ++ take missing (drop k.taken (output k)) }) k k2 (met (ToClient c n) b).2 (held_all m k (met (ToClient c n) b).2 so n) (met (ToClient c n) b).2.flags) in
+            let link = subst (λ z. FitsLink z k2) (sym (same ∙ ap (λ x. let z : Link = record m { down = x } in z) (d.held ∙ ap (λ x. m.down ++ x) o.0))) (unseen_link m (record m { down = down }) k k2 fits (held_all m k fits so n) fits.flags) in
             record {
-              may = may entries answer accepts (ToClient c n) l s r w b refl _ takes;
+              may = may b refl _ takes;
               after = taken_out w c n (slice_get w.conns c);
               leaves = inr refl;
-              now = subst (Now_ l2 s2) (sym out_is) (holds_then entries answer accepts (ToClient c n) l s r w b (quiet k2 SawNothing) l2 s2 b.client server2 ends serves d.1 link);
+              now = subst (HeldIn b l2 s2) (sym out_is) (holds_then b (quiet k2 SawNothing) l2 s2 b.client d.after ends d.now o.1 link);
             }
 
         pub given_draws : (gone : Option Cause) → l.gone ≡ gone → (res : Result (Unit {0}) AllocError) (bytes : List ℕ) (l2 : LinkHeld) (s2 : Server E G)
-            → Draws gone c missing r.server m.down res bytes (server.Fits entries s2) → link_of l2 b.client ≡ record m { down = bytes } → FitsEnd l2.end b.client
-            → Answers T w (ToClient c n) (Err Memory) (Now_ l2 s2)
-        given_draws (Some cause) e res bytes l2 s2 d same ends =
-            given_lacks l2 s2 (same ∙ ap (λ x. let z : Link = record m { down = x } in z) d.0) ends d.1
-        given_draws None e (Ok u) bytes l2 s2 d same ends =
-            came_out l2 s2 e d.taken d.after d.out (same ∙ ap (λ x. let z : Link = record m { down = x } in z) d.held) ends d.now
-        given_draws None e (Err f) bytes l2 s2 (inl d) same ends =
-            given_lacks l2 s2 (same ∙ ap (λ x. let z : Link = record m { down = x } in z) d.0) ends d.1
-        given_draws None e (Err f) bytes l2 s2 (inr d) same ends =
-            came_out l2 s2 e d.taken d.after d.out (same ∙ ap (λ x. let z : Link = record m { down = x } in z) d.held) ends d.now
+            → Draws gone c missing r.server m.down res bytes (server.Fits entries s2) → link_of l2 b.client ≡ record m { down = bytes } → FitsEnd l2.end b.client → TurnsTo b (Err Memory) l2 s2
+        given_draws gone e res bytes l2 s2 d same ends = go gone e res d
+          where
+            kept : (bytes ≡ m.down) × server.Fits entries s2 r.server → TurnsTo b (Err Memory) l2 s2
+            kept d = given_lacks l2 s2 (same ∙ ap (λ x. let z : Link = record m { down = x } in z) d.0) ends d.1
+
+            go : (gone : Option Cause) → l.gone ≡ gone → (res : Result (Unit {0}) AllocError) → Draws gone c missing r.server m.down res bytes (server.Fits entries s2) → TurnsTo b (Err Memory) l2 s2
+            go (Some cause) e res d = kept d
+            go None e (Ok u) d = came_out l2 s2 e bytes d same ends
+            go None e (Err f) d = ⊎_elim kept (λ d. came_out l2 s2 e bytes d same ends) d
 
         -- what the server keeps after the draw, and what is held
         abbrev held : List ℕ
@@ -205,11 +188,9 @@ module _ {E G : Type 0} (entries : E → List EntryView) (answer : Definition) (
         drew : (gone : Option Cause) → l.gone ≡ gone → (bytes : List ℕ) (s2 : Server E G) → Draws gone c missing r.server m.down (Ok tt) bytes (server.Fits entries s2)
             → (server2 : serving.Rest G) × server.Fits entries s2 server2 × (server2 ≡ server_rest r.server.gate (after_effect w c k (give n k))) × (bytes ≡ held)
         drew (Some cause) is bytes s2 d =
-            let gone = (given_up entries answer accepts (ToClient c n) l s r w b cause is).0 in
+            let gone = (given_up b cause is).0 in
             (r.server, d.1, unseen_then gone (give n k).conn (give n k).seen refl, d.0 ∙ sym (ap (λ z. m.down ++ take missing z) (ap (λ i. drop i (output k)) (so.gone gone).1 ∙ drop-length (output k)) ∙ ap (λ z. m.down ++ z) (take-nil missing) ∙ append-nil m.down))
-        drew None is bytes s2 d =
-            let o = out_of is d.taken d.after d.out (give n k).conn (give n k).seen refl refl in
-            (d.after, d.now, o.1, d.held ∙ ap (λ z. m.down ++ z) o.0)
+        drew None is bytes s2 d = let o = out_of is d.taken d.after d.out (give n k).conn (give n k).seen refl refl in (d.after, d.now, o.1, d.held ∙ ap (λ z. m.down ++ z) o.0)
 
         abbrev u : ℕ
         u = reach hears (bytes_delivered k) (take n (drop k.down (output k)))
@@ -219,109 +200,105 @@ module _ {E G : Type 0} (entries : E → List EntryView) (answer : Definition) (
         told bytes e =
             sym (give_same k of_ours.2.0 n open_is.0 open_is.1).1
             ∙ ap (λ i. seen_as i (asking.feed_of (client_rest of_ours.2.0 k) (take n (drop k.down (output k)))).answer) (moved_by k.down u)
-            ∙ ap₂ (λ (x : asking.Rest) (z : List ℕ). seen_as u (asking.feed_of x z).answer) (sym of_ours.2.1) (sym (ap (take n) e ∙ front_is m k (met (ToClient c n) b).2 so n))
+            ∙ ap₂ (λ (x : asking.Rest) (z : List ℕ). seen_as u (asking.feed_of x z).answer) (sym of_ours.2.1) (sym (ap (take n) e ∙ front_is m k fits so n))
 
         pub given_done : (gone : Option Cause) (is : l.gone ≡ gone) (bytes : List ℕ) (s2 : Server E G) → Draws gone c missing r.server m.down (Ok tt) bytes (server.Fits entries s2)
             → (used : ℕ) (note : asking.Note) (l2 : LinkHeld) → let f = asking.feed_of y (take n bytes) in Ok (used, note) ≡ f.answer
             → link_of l2 (Some f.rest) ≡ record m { client = Some f.rest; down = drop used bytes; read = m.read ++ read_after (tellings_in (Ok (used, note))) [] } → FitsEnd l2.end (Some f.rest)
-            → Answers T w (ToClient c n) (Ok (Gave used (Ok note))) (Now_ l2 s2)
+            → TurnsTo b (Ok (Gave used (Ok note))) l2 s2
         given_done gone is bytes s2 d used note l2 answered same ends =
-            let f = asking.feed_of y (take n bytes) in
-            let x = drew gone is bytes s2 d in
+            let f = asking.feed_of y (take n bytes) in let x = drew gone is bytes s2 d in
             let seen : (give n k).seen ≡ Gave used (Ok note) = told bytes x.3 ∙ ap (seen_as u) (sym answered) in
             let at_end : u ≡ used = sym (moved_by k.down u) ∙ ap (λ z. used_in z used) seen in
-            let link = give_link m k (met (ToClient c n) b).2 so n of_ours.0 of_ours.1 open_is.0 open_is.1 y client_is in
+            let link = give_link m k fits so n of_ours.0 of_ours.1 open_is.0 open_is.1 y client_is in
             let link_is : ◌≡◌ {A = Link} (record m { client = Some f.rest; down = drop u bytes; read = m.read ++ read_after (tellings_in f.answer) [] }) (link_of l2 (Some f.rest)) =
             ap₂ (λ (i : ℕ) (a : Result (ℕ × asking.Note) ClientFault). let z : Link = record m { client = Some f.rest; down = drop i bytes; read = m.read ++ read_after (tellings_in a) [] } in z) at_end (sym answered) ∙ sym same in
-            acts entries answer accepts (ToClient c n) l s r w b refl (give n k) (takes ∙ ap done goes) (Gave used (Ok note)) seen l2 s2 (Some f.rest) x.0 ends x.1 x.2
+            acts b refl (give n k) (takes ∙ ap done goes) (Gave used (Ok note)) seen l2 s2 (Some f.rest) x.0 ends x.1 x.2
             (subst (λ z. FitsLink z (give n k).conn) link_is
             (subst (λ z. FitsLink (record m { client = Some (asking.feed_of y (take n z)).rest; down = drop u z; read = m.read ++ read_after (tellings_in (asking.feed_of y (take n z)).answer) [] }) (give n k).conn) (sym x.3) link)) tt tt
 
         -- the client wants memory, and nothing else: none of ours meets a bad answer
         pub given_fails : (gone : Option Cause) (is : l.gone ≡ gone) (bytes : List ℕ) (s2 : Server E G) → Draws gone c missing r.server m.down (Ok tt) bytes (server.Fits entries s2)
             → (fault : ClientFault) (l2 : LinkHeld) → ((fault ≡ client_fault.Memory → ⊥) → (asking.feed_of y (take n bytes)).answer ≡ Err fault)
-            → link_of l2 b.client ≡ record m { down = bytes } → (fault ≡ client_fault.Memory → FitsEnd l2.end b.client) → Answers T w (ToClient c n) (Err Memory) (Now_ l2 s2)
+            → link_of l2 b.client ≡ record m { down = bytes } → (fault ≡ client_fault.Memory → FitsEnd l2.end b.client) → TurnsTo b (Err Memory) l2 s2
         given_fails gone is bytes s2 d fault l2 answered same ends = go fault answered ends
           where
             well : (f : ClientFault) → (asking.feed_of y (take n bytes)).answer ≡ Err f → ⊥
             well f e =
-                let said = gives_said T b.brought w c n k of_ours.0 b.reached (met (ToClient c n) b).1 of_ours.1 in
+                let said = gives_said (setting_at b) b.brought w c n k of_ours.0 b.reached (found b).1 of_ours.1 in
                 no_fault u _ _ f (sym (told bytes (drew gone is bytes s2 d).3 ∙ ap (seen_as u) e) ∙ sym (ap (λ (x : Effect). x.seen) goes) ∙ said.0)
 
-            go : (f : ClientFault) → ((f ≡ client_fault.Memory → ⊥) → (asking.feed_of y (take n bytes)).answer ≡ Err f) → (f ≡ client_fault.Memory → FitsEnd l2.end b.client) → Answers T w (ToClient c n) (Err Memory) (Now_ l2 s2)
+            go : (f : ClientFault) → ((f ≡ client_fault.Memory → ⊥) → (asking.feed_of y (take n bytes)).answer ≡ Err f) → (f ≡ client_fault.Memory → FitsEnd l2.end b.client) → TurnsTo b (Err Memory) l2 s2
             go client_fault.Memory a ends = given_draws gone is (Ok tt) bytes l2 s2 d same (ends refl)
-            go client_fault.Closed a ends = absurd (well client_fault.Closed (a (λ e. cc)))
-            go client_fault.BadPeer a ends = absurd (well client_fault.BadPeer (a (λ e. cc)))
+            go f a ends = absurd (well f (a (λ e. cc)))
 
     -- a foreign peer
     module _ (foreign : end_peer l.end ≡ Foreign) (joined : l.is_cut ≡ false) where
       peer_foreign : k.peer ≡ Foreign
-      peer_foreign = sym (met (ToClient c n) b).2.peer ∙ foreign
+      peer_foreign = sym fits.peer ∙ foreign
 
       abbrev k2 : Connection
       k2 = record k { taken = taken_for n k; down = taken_for n k }
 
+      abbrev dropped : Seen
+      dropped = Gave (taken_for n k - k.down) (Ok asking.Nothing)
+
       drains : at k.peer ≡ done (drain n k)
       drains = ap at peer_foreign
 
-      pub drains_lacks : (l2 : LinkHeld) (s2 : Server E G) → link_of l2 b.client ≡ m → FitsEnd l2.end b.client → server.Fits entries s2 r.server → Answers T w (ToClient c n) (Err Memory) (Now_ l2 s2)
-      drains_lacks = lacks entries answer accepts (ToClient c n) l s r w b refl _ drains (λ h. h) (inl refl)
+      pub drains_lacks : (l2 : LinkHeld) (s2 : Server E G) → link_of l2 b.client ≡ m → FitsEnd l2.end b.client → server.Fits entries s2 r.server → TurnsTo b (Err Memory) l2 s2
+      drains_lacks = lacks b refl _ drains (λ h. h) (inl refl)
 
       -- all that is held is dropped
-      drained : (l2 : LinkHeld) (s2 : Server E G) (used : ℕ) → used ≡ taken_for n k - k.down → (server2 : serving.Rest G) → server.Fits entries s2 server2 → server2 ≡ server_rest r.server.gate (after_effect w c k (quiet k2 (Gave (taken_for n k - k.down) (Ok asking.Nothing))))
-          → link_of l2 b.client ≡ record m { down = [] } → FitsEnd l2.end b.client → Answers T w (ToClient c n) (Ok (Gave used (Ok asking.Nothing))) (Now_ l2 s2)
+      drained : (l2 : LinkHeld) (s2 : Server E G) (used : ℕ) → used ≡ taken_for n k - k.down → (server2 : serving.Rest G) → server.Fits entries s2 server2 → server2 ≡ server_rest r.server.gate (after_effect w c k (quiet k2 dropped))
+          → link_of l2 b.client ≡ record m { down = [] } → FitsEnd l2.end b.client → TurnsTo b (Ok (Gave used (Ok asking.Nothing))) l2 s2
       drained l2 s2 used is server2 serves rest same ends =
-          acts entries answer accepts (ToClient c n) l s r w b refl (quiet k2 (Gave (taken_for n k - k.down) (Ok asking.Nothing))) (drains ∙ ap done (cond-false k.cut _ _ (sym (met (ToClient c n) b).2.flags.0 ∙ joined)))
-          (Gave used (Ok asking.Nothing)) (ap (λ i. Gave i (Ok asking.Nothing)) (sym is)) l2 s2 b.client server2 ends serves rest (subst (λ z. FitsLink z k2) (sym same) (drained_link m k (met (ToClient c n) b).2 so n peer_foreign)) tt tt
+          acts b refl (quiet k2 dropped) (drains ∙ ap done (cond-false k.cut _ _ (sym fits.flags.0 ∙ joined))) (Gave used (Ok asking.Nothing)) (ap (λ i. Gave i (Ok asking.Nothing)) (sym is)) l2 s2 b.client server2 ends serves rest
+          (subst (λ z. FitsLink z k2) (sym same) (drained_link m k fits so n peer_foreign)) tt tt
 
-      pub drains_gone : (cause : Cause) → l.gone ≡ Some cause → (l2 : LinkHeld) (used : ℕ) → used ≡ length m.down → link_of l2 b.client ≡ record m { down = [] } → FitsEnd l2.end b.client
-          → Answers T w (ToClient c n) (Ok (Gave used (Ok asking.Nothing))) (Now_ l2 s)
+      pub drains_gone : (cause : Cause) → l.gone ≡ Some cause → (l2 : LinkHeld) (used : ℕ) → used ≡ length m.down → link_of l2 b.client ≡ record m { down = [] } → FitsEnd l2.end b.client → TurnsTo b (Ok (Gave used (Ok asking.Nothing))) l2 s
       drains_gone cause gone l2 used is same ends =
-          let lost = (given_up entries answer accepts (ToClient c n) l s r w b cause gone).0 in
-          let full = (so.gone lost).1 in
+          let lost = (given_up b cause gone).0 in let full = (so.gone lost).1 in
           let level : k.taken - k.down ≡ taken_for n k - k.down = omega arith in
-          drained l2 s used (is ∙ held_long m k (met (ToClient c n) b).2 so n ∙ level) r.server b.server (unseen_then lost k2 (Gave (taken_for n k - k.down) (Ok asking.Nothing)) refl) same ends
+          drained l2 s used (is ∙ held_long m k fits so n ∙ level) r.server b.server (unseen_then lost k2 dropped refl) same ends
 
       pub drains_done : l.gone ≡ None → (l2 : LinkHeld) (s2 : Server E G) (taken : List ℕ) (used : ℕ) → answered.Answers (Ok taken) (serving.take_out_at c missing r.server) r.server (server.Fits entries s2)
-          → used ≡ length (m.down ++ taken) → link_of l2 b.client ≡ record m { down = [] } → FitsEnd l2.end b.client → Answers T w (ToClient c n) (Ok (Gave used (Ok asking.Nothing))) (Now_ l2 s2)
+          → used ≡ length (m.down ++ taken) → link_of l2 b.client ≡ record m { down = [] } → FitsEnd l2.end b.client → TurnsTo b (Ok (Gave used (Ok asking.Nothing))) l2 s2
       drains_done gone l2 s2 taken used a is same ends =
-          let o = out_of gone taken a.0 a.1 k2 (Gave (taken_for n k - k.down) (Ok asking.Nothing)) refl refl in
-          drained l2 s2 used (is ∙ ap (λ z. length (m.down ++ z)) o.0 ∙ ap length (held_all m k (met (ToClient c n) b).2 so n)
+          let o = out_of gone taken a.0 a.1 k2 dropped refl refl in
+          drained l2 s2 used (is ∙ ap (λ z. length (m.down ++ z)) o.0 ∙ ap length (held_all m k fits so n)
           ∙ (let x = so.counts in let y = so.below in length-take-le (taken_for n k - k.down) (drop k.down (output k)) (omega (arith, length-drop k.down (output k))))) a.0 a.2 o.1 same ends
 
   -- a request
-  module _ (q : RequestView) (b : Before entries answer accepts (Submit c q) l s r w) where
+  module _ {q : RequestView} (b : Before entries answer accepts (Submit c q) l s r w) where
     abbrev m_asked : Link
-    m_asked = link_of l b.client
+    m_asked = link_at b
 
     abbrev k_asked : Connection
-    k_asked = (met (Submit c q) b).0
-
-    unchanged : (l2 : LinkHeld) → Holds l2 m_asked → Now_ l2 s w
-    unchanged l2 h = still entries answer accepts (Submit c q) l s r w b l2 s h.client (sym h.link_is) h.ends b.server
+    k_asked = conn_at b
 
     -- what is held of its client, and what is asked of it
     module _ (y : asking.Rest) (is_there : m_asked.client ≡ Some y) where
       abbrev its : (wish : Wish) × (k_asked.peer ≡ Ours wish) × ((out : ℕ) × (y ≡ client_rest out k_asked))
-      its = client_here m_asked k_asked y (met (Submit c q) b).2 is_there
+      its = client_here m_asked k_asked y (found b).2 is_there
 
-      asked : (o : Option SubmitFault) → asking.refuses y.knows q ≡ o → at_peer T c (ledger w) (Submit c q) k_asked.peer k_asked ≡ Ok (effect_of_submit q k_asked o)
-      asked o h = ap (λ p. at_peer T c (ledger w) (Submit c q) p k_asked) its.1 ∙ ap (λ z. let x : Result Effect Refusal = Ok (effect_of_submit q k_asked z) in x) (ap (λ (z : asking.Rest). asking.refuses z.knows q) (sym its.2.1) ∙ h)
+      asked : (o : Option SubmitFault) → asking.refuses y.knows q ≡ o → DoesAt b (effect_of_submit q k_asked o)
+      asked o h = ap (λ p. at_peer (setting_at b) c (ledger w) (Submit c q) p k_asked) its.1 ∙ ap (λ z. let x : Result Effect Refusal = Ok (effect_of_submit q k_asked z) in x) (ap (λ (z : asking.Rest). asking.refuses z.knows q) (sym its.2.1) ∙ h)
 
-      refuses_turn : (fault : SubmitFault) (l2 : LinkHeld) → asking.refuses y.knows q ≡ Some fault → Holds l2 m_asked → Answers T w (Submit c q) (Ok (Submitted (Err fault))) (Now_ l2 s)
+      refuses_turn : (fault : SubmitFault) (l2 : LinkHeld) → asking.refuses y.knows q ≡ Some fault → Holds l2 m_asked → TurnsTo b (Ok (Submitted (Err fault))) l2 s
       refuses_turn fault l2 refused h =
-          acts_unseen entries answer accepts (Submit c q) l s r w b refl k_asked (Submitted (Err fault)) (asked (Some fault) refused) refl (λ _ j. refl) l2 h.client h.ends (subst (λ z. FitsLink z k_asked) h.link_is (met (Submit c q) b).2)
-          (λ k2 g wish2 p none. let no : Some fault ≡ None = sym refused ∙ ap (λ z. asking.refuses z.knows q) its.2.1 ∙ subst (λ z. refusal_of (client z) z.client_lost z.sent q ≡ None) (same_Some k2 k_asked (sym g ∙ (met (Submit c q) b).1)) none in absurd cc) tt
+          acts_unseen b refl k_asked (Submitted (Err fault)) (asked (Some fault) refused) refl (λ _ j. refl) l2 h.client h.ends (subst (λ z. FitsLink z k_asked) h.link_is (found b).2)
+          (λ k2 g wish2 p none. let no : Some fault ≡ None = sym refused ∙ ap (λ z. asking.refuses z.knows q) its.2.1 ∙ subst (λ z. refusal_of (client z) z.client_lost z.sent q ≡ None) (same_Some k2 k_asked (sym g ∙ (found b).1)) none in absurd cc) tt
 
-      accepts_turn : (n : ℕ) (l2 : LinkHeld) → IsAccepted y q n → Holds l2 (record m_asked { client = Some (asking.after_submit y q) }) → Answers T w (Submit c q) (Ok (Submitted (Ok n))) (Now_ l2 s)
+      accepts_turn : (n : ℕ) (l2 : LinkHeld) → IsAccepted y q n → Holds l2 (record m_asked { client = Some (asking.after_submit y q) }) → TurnsTo b (Ok (Submitted (Ok n))) l2 s
       accepts_turn n l2 accepted h =
-          subst (λ i. Answers T w (Submit c q) (Ok (Submitted (Ok i))) (Now_ l2 s)) (sym (accepted.next ∙ ordinal_is))
-          (acts_unseen entries answer accepts (Submit c q) l s r w b refl (record k_asked { sent = k_asked.sent ++ q ∷ [] }) (Submitted (Ok (length k_asked.sent))) (asked None accepted.allowed) refl (λ _ j. refl) l2 h.client h.ends
-          (subst (λ z. FitsLink z (record k_asked { sent = k_asked.sent ++ q ∷ [] })) (ap (λ z. let m2 : Link = record m_asked { client = option_map (λ v. asking.after_submit v q) z } in m2) is_there ∙ h.link_is) (submit_link m_asked k_asked q (met (Submit c q) b).2 open_now.1 open_now.0
+          subst (λ i. TurnsTo b (Ok (Submitted (Ok i))) l2 s) (sym (accepted.next ∙ ordinal_is))
+          (acts_unseen b refl (record k_asked { sent = k_asked.sent ++ q ∷ [] }) (Submitted (Ok (length k_asked.sent))) (asked None accepted.allowed) refl (λ _ j. refl) l2 h.client h.ends
+          (subst (λ z. FitsLink z (record k_asked { sent = k_asked.sent ++ q ∷ [] })) (ap (λ z. let m2 : Link = record m_asked { client = option_map (λ v. asking.after_submit v q) z } in m2) is_there ∙ h.link_is) (submit_link m_asked k_asked q (found b).2 open_now.1 open_now.0
           (⊎_elim (λ e. absurd (open_now.2 e)) (λ e. e ∙ ap (λ p. Some (wish_version (wish_of p))) (sym its.1)) knows)))
           (λ k2 g wish2 p no.
           let text : IsWrittenBy (client k_asked).version q = subst (λ z. IsWrittenBy z.knows.version q) its.2.1 accepted.written in
-          subst (λ wi. IsWritten (wish_version wi) q) (ap wish_of (sym its.1 ∙ ap (λ (y : Connection). y.peer) (same_Some k_asked k2 (sym (met (Submit c q) b).1 ∙ g)) ∙ p))
+          subst (λ wi. IsWritten (wish_version wi) q) (ap wish_of (sym its.1 ∙ ap (λ (y : Connection). y.peer) (same_Some k_asked k2 (sym (found b).1 ∙ g)) ∙ p))
           (⊎_elim (λ e. let n : ⊥ = subst (λ z. IsWrittenBy z q) e text in absurd n) (λ e. subst (λ z. IsWrittenBy z q) e text) knows)) tt)
         where
           open_now : (k_asked.client_lost ≡ false) × ((client k_asked).bad ≡ false) × ((client k_asked).version ≡ None → ⊥)
@@ -329,8 +306,8 @@ module _ {E G : Type 0} (entries : E → List EntryView) (answer : Definition) (
 
           knows : ((client k_asked).version ≡ None) ⊎ ((client k_asked).version ≡ Some (wish_version its.0))
           knows =
-              let inv = reached_inv T b.brought b.reached c k_asked (met (Submit c q) b).1 its.0 its.1 in
-              knows_if T (ledger w) its.0 k_asked inv.talk (tells T w.brought w.since c its.0 k_asked its.1 inv.talk).version
+              let inv = reached_inv (setting_at b) b.brought b.reached c k_asked (found b).1 its.0 its.1 in
+              knows_if (setting_at b) (ledger w) its.0 k_asked inv.talk (tells (setting_at b) w.brought w.since c its.0 k_asked its.1 inv.talk).version
 
           ordinal_is : asking.next_ordinal y ≡ length k_asked.sent
           ordinal_is =
@@ -338,47 +315,46 @@ module _ {E G : Type 0} (entries : E → List EntryView) (answer : Definition) (
               let counted : (client k_asked).count + length (drop (client k_asked).count k_asked.sent) ≡ length k_asked.sent = omega (arith, length-drop (client k_asked).count k_asked.sent) in
               ap asking.next_ordinal its.2.1 ∙ ap (λ b. (client k_asked).count + length (if b then [] else drop (client k_asked).count k_asked.sent)) open_now.0 ∙ counted
 
-    pub submit_turns : (res : Result Seen Refused) (l2 : LinkHeld) → Submits m_asked q res (Holds l2) → Answers T w (Submit c q) res (Now_ l2 s)
+    pub submit_turns : (res : Result Seen Refused) (l2 : LinkHeld) → Submits m_asked q res (Holds l2) → TurnsTo b res l2 s
     submit_turns (Ok (Submitted (Ok n))) l2 x = accepts_turn x.client x.here n l2 x.accepted x.now
     submit_turns (Ok (Submitted (Err fault))) l2 x = refuses_turn x.client x.here fault l2 x.refused x.now
-    submit_turns (Err WrongPeer) l2 x = wrong entries answer accepts (Submit c q) l s r w b (λ h. h) (subst (IsWrong (Submit c q)) (sym x.0) tt) l2 x.1.client (sym x.1.link_is) x.1.ends
-    submit_turns (Err Memory) l2 x =
-        record {
-          may = may entries answer accepts (Submit c q) l s r w b refl _ (ap (λ p. at_peer T c (ledger w) (Submit c q) p k_asked) (its x.client x.here).1);
-          after = w;
-          leaves = refl;
-          now = unchanged l2 x.now;
-        }
+    submit_turns (Err WrongPeer) l2 x = wrong b (λ h. h) (subst (IsWrong (Submit c q)) (sym x.0) tt) l2 x.1.client (sym x.1.link_is) x.1.ends
+    submit_turns (Err Memory) l2 x = record { may = may b refl _ (asked x.client x.here _ refl); after = w; leaves = refl; now = still b l2 s x.now.client (sym x.now.link_is) x.now.ends b.server }
     submit_turns _ l2 x = absurd x
 
   -- the loss of the client
   module _ (b : Before entries answer accepts (ClientLost c) l s r w) where
+    abbrev T : Setting
+    T = setting_at b
+
+    abbrev Now_ : LinkHeld → Server E G → World → Type 0
+    Now_ = HeldIn b
+
     abbrev m_lost : Link
-    m_lost = link_of l b.client
+    m_lost = link_at b
 
     loses_turn : (z : Bool) → m_lost.client_lost ≡ z → (l2 : LinkHeld) (y : asking.Rest) → m_lost.client ≡ Some y → Holds l2 (after_loss z m_lost y) → Answers T w (ClientLost c) (Ok SawNothing) (Now_ l2 s)
     loses_turn z was l2 y is h =
-        acts_unseen entries answer accepts (ClientLost c) l s r w b refl (record k { client_lost = true }) SawNothing (ap (λ p. at_peer T c (ledger w) (ClientLost c) p k) its_lost.1) refl (λ _ j. refl) l2 h.client h.ends
+        acts_unseen b refl (record k { client_lost = true }) SawNothing (ap (λ p. at_peer T c (ledger w) (ClientLost c) p k) its_lost.1) refl (λ _ j. refl) l2 h.client h.ends
         (subst (λ z. FitsLink z (record k { client_lost = true })) h.link_is (link z was)) tt tt
       where
         k : Connection
-        k = (met (ClientLost c) b).0
+        k = conn_at b
 
         its_lost : (wish : Wish) × (k.peer ≡ Ours wish) × ((out : ℕ) × (y ≡ client_rest out k))
-        its_lost = client_here m_lost k y (met (ClientLost c) b).2 is
+        its_lost = client_here m_lost k y (found b).2 is
 
         link : (z : Bool) → m_lost.client_lost ≡ z → FitsLink (after_loss z m_lost y) (record k { client_lost = true })
-        link true was = lost_again m_lost k (met (ClientLost c) b).2 (sym (met (ClientLost c) b).2.flags.1 ∙ was)
+        link true was = lost_again m_lost k (found b).2 (sym (found b).2.flags.1 ∙ was)
         link false was =
             subst (λ o. FitsLink (record m_lost { client = option_map asking.after_drop o; client_lost = true; lost = asking.losses y.knows }) (record k { client_lost = true })) is
-            (lost_link m_lost k (asking.losses y.knows) (met (ClientLost c) b).2
-            (ap (λ z. asking.losses z.knows) its_lost.2.1
-            ∙ ap (λ b. asking.losses (knows_of (client k) k.sent b)) (sym (met (ClientLost c) b).2.flags.1 ∙ was)
+            (lost_link m_lost k (asking.losses y.knows) (found b).2
+            (ap (λ z. asking.losses z.knows) its_lost.2.1 ∙ ap (λ b. asking.losses (knows_of (client k) k.sent b)) (sym (found b).2.flags.1 ∙ was)
             ∙ ap (λ p. by_peer p (asking.losses (knows_of (client k) k.sent false))) (sym its_lost.1)))
 
     pub loses_turns : (res : Result Seen Refused) (l2 : LinkHeld) → LosesClient m_lost res (Holds l2) → Answers T w (ClientLost c) res (Now_ l2 s)
     loses_turns (Ok SawNothing) l2 x = loses_turn m_lost.client_lost refl l2 x.client x.here x.now
-    loses_turns (Err WrongPeer) l2 x = wrong entries answer accepts (ClientLost c) l s r w b (λ h. h) (subst (IsWrong (ClientLost c)) (sym x.0) tt) l2 x.1.client (sym x.1.link_is) x.1.ends
+    loses_turns (Err WrongPeer) l2 x = wrong b (λ h. h) (subst (IsWrong (ClientLost c)) (sym x.0) tt) l2 x.1.client (sym x.1.link_is) x.1.ends
     loses_turns _ l2 x = absurd x
 
 -- of an event that is known by an equation

@@ -12,20 +12,17 @@ use Rattle.client.specs.Rest.{heard_as, Note, Nothing, hears_item, note_of}
 use Rattle.client.specs.Client.{reading_of, Reading, knows_of, after_item, hear, reading}
 use Rattle.client.proofs.Hears.{one_heard, more_heard}
 use Rattle.std.proofs.Math.Seq.{take-add}
-use Rattle.wire.specs.declared.Version.{Version}
 use Rattle.wire.specs.Offers.{wish_version}
 use Rattle.client.specs.declared.ClientFault.{ClientFault}
 use Rattle.client.specs.Rest as asking
 use Rattle.client.specs.Moments.{tellings_in}
 use Rattle.client.proofs.Makes.{Makes, spoils, makes}
 use Rattle.client.proofs.Later.{reading_later, reading_count}
-use Rattle.client.proofs.Fed.{rest_at, version_then, fed_rest, fed_told}
+use Rattle.client.proofs.Fed.{rest_at, fed_rest, fed_told}
 use Rattle.world.specs.Connections.{Connection, output, bytes_delivered, client, wish_of, input}
 use Rattle.world.specs.World.{Seen, Gave, give, taken_for, note_now, note_given, tells_of}
 use Rattle.world.specs.Rests.{client_rest}
 use Rattle.world.proofs.Trace.{input_more}
-
--- Fronts of lists, and what is left behind them.
 
 -- a front of a longer one
 pub take_within : {A : Type 0} (n m : ℕ) (xs : List A) → min n (length xs) ≤ m → take n (take m xs) ≡ take n xs
@@ -69,8 +66,7 @@ module _ (R X Y : Type 0) (p : Reader R X) (f : List X → List Y) (means : X �
 
   next_items : (up : List ℕ) (b : ℕ) → items up ≡ base → items (up ++ b ∷ []) ≡ base ++ option_to_list (p.item (state p p.start up) b)
   next_items up b e =
-      (reads_pieces R X p).items p.start up (b ∷ [])
-      ∙ ap (λ z. items up ++ z) (append-nil (option_to_list (p.item (state p p.start up) b)))
+      (reads_pieces R X p).items p.start up (b ∷ []) ∙ ap (λ z. items up ++ z) (append-nil (option_to_list (p.item (state p p.start up) b)))
       ∙ ap (λ z. z ++ option_to_list (p.item (state p p.start up) b)) e
 
   pub reach_used : (up piece : List ℕ) → items up ≡ base → Adds (takes p (state p p.start up) piece).item → reach meanings up piece ≡ (takes p (state p p.start up) piece).used
@@ -104,8 +100,6 @@ module _ (wish : Wish) (sent : List RequestView) (bytes : List ℕ) (on : ((read
       reach_lengths hears hearings (λ bs. length-reverse (hearings bs)) bytes piece
       ∙ reach_used Opened Item Heard at_client heard_of (heard_as (reading_of wish sent bytes).version) (outputs at_client at_client.start bytes) bytes piece refl (one_heard wish sent bytes on piece)
 
--- What the ends of a connection keep is enough for what a client is given, and for what it submits.
-
 -- what is seen of a client's answer; used, where it tells none
 abbrev pub seen_as : ℕ → Result (ℕ × Note) ClientFault → Seen
 seen_as used (Ok told) = Gave told.0 (Ok told.1)
@@ -138,8 +132,7 @@ module _ (wish : Wish) (sent : List RequestView) (xs : List Heard) (on : ((readi
   item_seen (Some x) =
       let y = heard_as r1.version x in
       let e : reading wish sent (y ∷ xs) ≡ hear wish sent r1 y = cond-false (r1.ended || r1.bad) r1 (hear wish sent r1 y) (ap₂ (λ a b. a || b) on.0 on.1) in
-      by_bad y (hears_item wish knows y).bad refl
-      ∙ ap (λ (z : Reading). Gave used (note_given z.bad (tells_of y z))) (sym e)
+      by_bad y (hears_item wish knows y).bad refl ∙ ap (λ (z : Reading). Gave used (note_given z.bad (tells_of y z))) (sym e)
       ∙ ap (λ n. Gave used (note_given (reading wish sent (y ∷ xs)).bad n)) (sym (told_item xs (Some y) (reading wish sent (y ∷ xs))))
     where
       by_bad : (y : Heard) (b : Bool) → (hears_item wish knows y).bad ≡ b
@@ -171,16 +164,13 @@ module _ (k : Connection) (out n : ℕ) (lives : k.client_lost ≡ false) (on : 
   heard_more : hears (bytes_delivered k2) ≡ option_to_list (option_map (heard_as (client k).version) t.item) ++ hears (bytes_delivered k)
   heard_more = ap hears taken_more ∙ more_heard (wish_of k.peer) k.sent (bytes_delivered k) on piece
 
-  -- one item at most, and a version that is known stays
+  -- one item at most
   pub one_more : length (hears (bytes_delivered k2)) ≤ suc (length (hears (bytes_delivered k)))
   one_more = at (option_map (heard_as (client k).version) t.item) (ap length heard_more)
     where
       at : (o : Option Heard) → length (hears (bytes_delivered k2)) ≡ length (option_to_list o ++ hears (bytes_delivered k)) → length (hears (bytes_delivered k2)) ≤ suc (length (hears (bytes_delivered k)))
       at None e = omega arith
       at (Some x) e = omega arith
-
-  pub version_stays : (v : Version) → (client k).version ≡ Some v → (client k2).version ≡ Some v
-  version_stays v e = ap (λ bytes. (reading_of (wish_of k.peer) k.sent bytes).version) taken_more ∙ version_then (wish_of k.peer) k.sent [] (bytes_delivered k) on piece v e
 
   abbrev unsent : List ℕ
   unsent = drop out (input (wish_of k.peer) k.sent)
@@ -207,8 +197,7 @@ module _ (k : Connection) (out n : ℕ) (lives : k.client_lost ≡ false) (on : 
 
   pub give_told : (client k2).told ≡ tellings_in (asking.feed_of (client_rest out k) piece).answer ++ (client k).told
   give_told =
-      ap (λ bytes. (reading_of (wish_of k.peer) k.sent bytes).told) taken_more
-      ∙ fed_told (wish_of k.peer) k.sent unsent (bytes_delivered k) on piece
+      ap (λ bytes. (reading_of (wish_of k.peer) k.sent bytes).told) taken_more ∙ fed_told (wish_of k.peer) k.sent unsent (bytes_delivered k) on piece
       ∙ ap (λ r. tellings_in (asking.feed_of r piece).answer ++ (client k).told) (sym (held_is (bytes_delivered k)))
 
 -- what it keeps is enough for a submit: the rest after one that isn't refused

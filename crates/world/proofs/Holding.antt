@@ -27,12 +27,12 @@ use Rattle.world.specs.Turns.{Holds, Submits, refusal_seen, LosesClient, after_l
 abbrev pub with_end : LinkHeld → End → LinkHeld
 with_end l e = record l { end = e }
 
-module _ (wish : Wish) (c : Client) (lost : Option (List (ℕ × Outcome))) where
-  -- the rest of the client of an end
-  pub held_client : (l : LinkHeld) → l.end ≡ end.Ours wish c lost → (x : Option asking.Rest) → FitsEnd l.end x → (y : asking.Rest) × (x ≡ Some y) × client.Fits c y
-  held_client l is None f = absurd (subst (λ e. FitsEnd e None) is f)
-  held_client l is (Some y) f = (y, refl, subst (λ e. FitsEnd e (Some y)) is f)
+-- the rest of the client of an end
+pub held_client : {wish : Wish} {c : Client} {lost : Option (List (ℕ × Outcome))} (l : LinkHeld) → l.end ≡ end.Ours wish c lost → (x : Option asking.Rest) → FitsEnd l.end x → (y : asking.Rest) × (x ≡ Some y) × client.Fits c y
+held_client l is None f = absurd (subst (λ e. FitsEnd e None) is f)
+held_client l is (Some y) f = (y, refl, subst (λ e. FitsEnd e (Some y)) is f)
 
+module _ (wish : Wish) (c : Client) (lost : Option (List (ℕ × Outcome))) where
   pub holds_client : (l : LinkHeld) → l.end ≡ end.Ours wish c lost → (m : Link) → Holds l m
       → (y : asking.Rest) × (m.client ≡ Some y) × client.Fits c y × (m ≡ link_of (with_end l (end.Ours wish c lost)) (Some y))
   holds_client l is m h =
@@ -42,11 +42,7 @@ module _ (wish : Wish) (c : Client) (lost : Option (List (ℕ × Outcome))) wher
   -- what is held once the client has changed
   pub holds_then : (l : LinkHeld) (m : Link) (y y2 : asking.Rest) (c2 : Client) → m ≡ link_of (with_end l (end.Ours wish c lost)) (Some y) → client.Fits c2 y2
       → Holds (with_end l (end.Ours wish c2 lost)) (record m { client = Some y2 })
-  holds_then l m y y2 c2 e f = record {
-    client = Some y2;
-    link_is = ap (λ (z : Link). let z2 : Link = record z { client = Some y2 } in z2) e;
-    ends = f;
-  }
+  holds_then l m y y2 c2 e f = record { client = Some y2; link_is = ap (λ (z : Link). let z2 : Link = record z { client = Some y2 } in z2) e; ends = f }
 
   pub holds_still : (l : LinkHeld) (m : Link) (y : asking.Rest) (c2 : Client) → m ≡ link_of (with_end l (end.Ours wish c lost)) (Some y) → client.Fits c2 y
       → Holds (with_end l (end.Ours wish c2 lost)) m
@@ -62,8 +58,7 @@ module _ (m : Link) (q : RequestView) (Now : Link → Type 0) (y : asking.Rest) 
 module _ (wish : Wish) (c : Client) (lost : Option (List (ℕ × Outcome))) (l : LinkHeld) (is : l.end ≡ end.Ours wish c lost) (m : Link) (h : Holds l m) where
   pub loses_again : is_some lost ≡ true → LosesClient m (Ok SawNothing) (Holds (with_end l (end.Ours wish c lost)))
   loses_again b =
-      let r = holds_client wish c lost l is m h in
-      let was : m.client_lost ≡ true = ap (λ z. z.client_lost) r.3 ∙ b in
+      let r = holds_client wish c lost l is m h in let was : m.client_lost ≡ true = ap (λ z. z.client_lost) r.3 ∙ b in
       record {
         client = r.0;
         here = r.1;
@@ -74,8 +69,7 @@ module _ (wish : Wish) (c : Client) (lost : Option (List (ℕ × Outcome))) (l :
   pub loses_now : is_some lost ≡ false → (c2 : Client) (told : List (ℕ × Outcome)) → ((y : asking.Rest) → client.Fits c y → (told ≡ asking.losses y.knows) × client.Fits c2 (asking.after_drop y))
       → LosesClient m (Ok SawNothing) (Holds (with_end l (end.Ours wish c2 (Some told))))
   loses_now b c2 told a =
-      let r = holds_client wish c lost l is m h in
-      let d = a r.0 r.2 in
+      let r = holds_client wish c lost l is m h in let d = a r.0 r.2 in
       let was : m.client_lost ≡ false = ap (λ z. z.client_lost) r.3 ∙ b in
       let P : Link → Type 0 = Holds (with_end l (end.Ours wish c2 (Some told))) in
       record {
@@ -90,7 +84,7 @@ module _ (wish : Wish) (c : Client) (lost : Option (List (ℕ × Outcome))) (l :
       }
 
 -- the link with other bytes on their way
-module _ (wish : Wish) (c : Client) (lost : Option (List (ℕ × Outcome))) (l : LinkHeld) (is : l.end ≡ end.Ours wish c lost) (x z : Option asking.Rest) (c2 : Client) where
+module _ {wish : Wish} {c : Client} {lost : Option (List (ℕ × Outcome))} (l : LinkHeld) (is : l.end ≡ end.Ours wish c lost) (x z : Option asking.Rest) (c2 : Client) where
   pub up_changed : (up : Flow) (bytes : List ℕ) → flow_of up ≡ bytes → link_of (record l { end = end.Ours wish c2 lost; up = up }) z ≡ record (link_of l x) { client = z; up = bytes }
   up_changed up bytes e = ap₂ (λ (q : End) (u : List ℕ). let m : Link = record (link_of (with_end l q) x) { client = z; up = u } in m) (sym is) e
 

@@ -34,8 +34,6 @@ use Rattle.machine.specs.Asks.{kind_of}
 use Rattle.machine.specs.Following.{commits}
 use Rattle.server.proofs.Ledgers.{grows}
 
--- A step adds to the ledger only what was free there.
-
 -- what an effect adds was free, and where it is counted leaves a ledger shorter than 2^63
 pub record AddsFree (all : List EntryView) (e : Effect) : Type 0 where
   pub free : IsFree all e.commit
@@ -50,8 +48,6 @@ module _ (all : List EntryView) where
   work_adds S c k =
       step_case (λ d. AddsFree all (effect_of_step k d)) S c all k (λ d _. record { free = tt; counted = λ _. tt }) (λ _ cause. record { free = tt; counted = λ _. tt })
       (λ _ st re t q later _. reply_adds k st re t q later _ (serve_free S (said_version k) c all st re t q))
-
--- What a step leaves as it was, and how the ledger grows.
 
 -- no event but Work commits
 abbrev pub CommitsAtWork : List EntryView → Event → Effect → Type 0
@@ -87,14 +83,7 @@ module _ (S : Setting) (w : World) where
       → (w2.since ≡ w.since) ⊎ Enters w e w2
   entry_of e k w2 None is h f = inl (is ∙ append-nil w.since)
   entry_of e k w2 (Some u) is (inl h) f = cc
-  entry_of e k w2 (Some u) is (inr h) f = inr (record {
-    conn = place e;
-    ordinal = answer_count k.says;
-    change = u;
-    works = h;
-    free = f;
-    entry = is;
-  })
+  entry_of e k w2 (Some u) is (inr h) f = inr (record { conn = place e; ordinal = answer_count k.says; change = u; works = h; free = f; entry = is })
 
   is_after : (c : ℕ) (k k2 : Connection) (o : Option Change) → slice_get w.conns c ≡ Some k → IsFree (ledger w) o → Counted (ledger w) o → LedgerOf w
       → LedgerOf (record { conns = slice_set w.conns c k2; brought = w.brought; since = w.since ++ commit_entries c (answer_count k.says) o })
@@ -142,7 +131,6 @@ pub grows_by_work : GrowsByWork
 grows_by_work S w e seen w2 h = (step_keeps S w e seen w2 h).grows
 
 -- How much is kept of each connection: what a step does to a world is one call on the server, and one on the client, or none.
-
 -- what a list of sessions keeps, each of them keeps
 bounded_at : (ss : List Live) (j : ℕ) (l : Live) → AllBounded ss → find j ss ≡ Some l → Bounded l
 bounded_at [] j l b h = cc
@@ -205,8 +193,7 @@ module _ {G : Type 0} (answer : Definition) (accepts : G → List ℕ → List �
 
         lives : k.server_lost ≡ false → P (quiet k2 seen)
         lives e =
-            let m = (k.down + n) - k.taken in
-            let k3 = record k { taken = min (k.taken + m) (length (output k)) } in
+            let m = (k.down + n) - k.taken in let k3 = record k { taken = min (k.taken + m) (length (output k)) } in
             let same : min (k.taken + ((k.down + n) - k.taken)) (length (output k)) ≡ taken_for n k = let a = s.counts in omega arith in
             subst (MovesTo w) (alike gate w c k here k3 k2 SawNothing seen e e e (ap (λ t. live_of c (record k { taken = t })) same))
             (called (running.takes c m) _ _ _ refl (take_served G gate w c k here e s m))

@@ -1,5 +1,5 @@
 -- What one answer of the session keeps, for a request that its phase allows: what it commits, and that it can be written.
-use Rattle.std.proofs.Common.{◌≡◌, ◌≤◌, sym, ◌∙◌, ap, ℕ, Some, None, List, [], ◌∷◌, ◌++◌, length, append_assoc, arith, refl, ap₂, true, ◌&&◌, Result, Ok, Err, lit≤, nat_lt, Bool, Option, codes, false, if◌then◌else◌, is_some, nat_le, not, slice_get, subst, true≢false, ◌+◌, ◌<◌, ◌^◌}
+use Rattle.std.proofs.Common.{◌≡◌, ◌≤◌, sym, ◌∙◌, ap, ℕ, suc, Some, None, List, [], ◌∷◌, ◌++◌, length, append_assoc, arith, refl, ap₂, true, ◌&&◌, Result, Ok, Err, lit≤, nat_lt, Bool, Option, codes, false, if◌then◌else◌, is_some, nat_le, not, slice_get, subst, true≢false, ◌+◌, ◌<◌, ◌^◌}
 use Rattle.std.proofs.lemmas.Option.{slice_get_within}
 use Rattle.engine.proofs.Once.{Has, found_at, under-append}
 use Rattle.engine.specs.Tokens.{There, found_in, under_token, Found, Free, Other}
@@ -18,9 +18,8 @@ use Rattle.messages.specs.Writing.{response_spelling}
 use Rattle.messages.specs.Arrivals.{IsSaid}
 use Rattle.messages.specs.Summaries as summaries
 use Rattle.messages.specs.Summaries.{response_of_summary, IsShort, HasTexts}
-use Rattle.messages.proofs.Sayings.{means_told, told_says}
+use Rattle.messages.proofs.Sayings.{means_told, told_says, responses_are_made}
 use Rattle.messages.proofs.Fitting.{reads_back}
-use Rattle.messages.proofs.Made.{responses_are_made}
 use Rattle.cells.specs.Same.{same_tree}
 use Rattle.cells.proofs.Equality.{bytes_are, trees_are}
 use Rattle.session.specs.Said.{same_cells, same_metadata, same_say, is_reading, are_bytes, is_text, fits}
@@ -48,23 +47,17 @@ use Rattle.session.specs.Session.{Bye, Change, OneRow, Open, Reply, Setting, Sum
 use Rattle.world.proofs.Trace.{Pays}
 use Rattle.machine.proofs.Leading.{same_state-true}
 
--- What stands under a token in a part of a ledger, and where.
-
--- in a front or in what is behind it
+-- what stands under a token in a front of a ledger, or behind one
 pub has_left : (t : List ℕ) (xs ys : List EntryView) (w : List WriteView) → Has (under_token t xs) w → Has (under_token t (xs ++ ys)) w
-has_left t xs ys w h =
-    (h.0, h.1 ++ under_token t ys, under-append t xs ys ∙ ap (λ z. z ++ under_token t ys) h.2 ∙ append_assoc h.0 (w ∷ h.1) (under_token t ys))
+has_left t xs ys w h = (h.0, h.1 ++ under_token t ys, under-append t xs ys ∙ ap (λ z. z ++ under_token t ys) h.2 ∙ append_assoc h.0 (w ∷ h.1) (under_token t ys))
 
 pub has_right : (t : List ℕ) (xs ys : List EntryView) (w : List WriteView) → Has (under_token t ys) w → Has (under_token t (xs ++ ys)) w
-has_right t xs ys w h =
-    (under_token t xs ++ h.0, h.1, under-append t xs ys ∙ ap (λ z. under_token t xs ++ z) h.2 ∙ sym (append_assoc (under_token t xs) h.0 (w ∷ h.1)))
+has_right t xs ys w h = (under_token t xs ++ h.0, h.1, under-append t xs ys ∙ ap (λ z. under_token t xs ++ z) h.2 ∙ sym (append_assoc (under_token t xs) h.0 (w ∷ h.1)))
 
 -- a place that a ledger has for a change is one of its places, from 1
 pub place_within : (token : Token) (w : List WriteView) (es : List EntryView) (n : ℕ) → found_in token w es ≡ There n → n ≤ length es
 place_within None w es n h = cc
 place_within (Some t) w es n h = let r = found_at t w es n h in let l = slice_get_within es r.0 r.1 r.3 in omega (arith, r.2, l)
-
--- What can be written has a text that stands for it; and the short answers of a session can be written.
 
 -- What has one name is one.
 cells_are : (ts us : List Tree) → same_cells ts us ≡ true → ts ≡ us
@@ -185,8 +178,7 @@ after_hello b = if b then State.Ready else State.Unauth
 hello_row : (v : Version) (b : Bool) → hello_has_login v ≡ b → row_at v State.Fresh Kind.Hello Verdict.Success ≡ Some (after_hello b)
 hello_row v b e =
     option_is-true same_state same_state-true (row_at v State.Fresh Kind.Hello Verdict.Success) (after_hello (hello_has_login v))
-    (at_version (λ v. option_is same_state (row_at v State.Fresh Kind.Hello Verdict.Success) (after_hello (hello_has_login v))) refl v)
-    ∙ ap (λ b. Some (after_hello b)) e
+    (at_version (λ v. option_is same_state (row_at v State.Fresh Kind.Hello Verdict.Success) (after_hello (hello_has_login v))) refl v) ∙ ap (λ b. Some (after_hello b)) e
 
 module _ (S : Setting) (c : ℕ) (numbered : c < 2 ^ 64) (front : List EntryView) (few : length front < 2 ^ 64) where
   keeps_fails : (v : Version) (s s2 : State) (q : RequestView) (t : Tx) (w : Change) (tx : Tx) (f : Fault) → is_invalid (response_of_summary (failure f)) ≡ false
@@ -243,21 +235,14 @@ module _ (S : Setting) (c : ℕ) (numbered : c < 2 ^ 64) (front : List EntryView
   used_part Count.All k h = cc
   used_part (Count.Of m) k h = refl
 
-  pull_alone : (v : Version) (n : Count) (rows : List (List Tree)) (left : Open) (tx t : Tx) (w : Change) → change_alone left ≡ w
-      → Keeps S v front State.Streaming (RequestView.Pull n) t w tx (pull v State.Streaming front n rows left tx)
-  pull_alone v n [] left tx t w h = (close_alone v n [] left tx t w h (λ e. cc)).0
-  pull_alone v n (r ∷ rs) left tx t w h =
-      cond_both (used_up n left.written) _ _ (Keeps S v front State.Streaming (RequestView.Pull n) t w tx)
-      (λ used. (close_alone v n (r ∷ rs) left tx t w h (λ e. used_part n left.written used)).0)
-      (λ on. keeps_fits v State.Streaming State.Failed _ t w tx (ResponseView.Record r) _ refl tt (λ f. ((n, refl), f, h)))
-
-  pull_inside : (v : Version) (n : Count) (rows : List (List Tree)) (left : Open) (tx t : Tx) (w : Change) → tx ≡ t
-      → Keeps S v front State.TxStreaming (RequestView.Pull n) t w tx (pull v State.TxStreaming front n rows left tx)
-  pull_inside v n [] left tx t w h = (close_inside v n [] left tx t w h (λ e. cc)).0
-  pull_inside v n (r ∷ rs) left tx t w h =
-      cond_both (used_up n left.written) _ _ (Keeps S v front State.TxStreaming (RequestView.Pull n) t w tx)
-      (λ used. (close_inside v n (r ∷ rs) left tx t w h (λ e. used_part n left.written used)).0)
-      (λ on. keeps_fits v State.TxStreaming State.Failed _ t w tx (ResponseView.Record r) _ refl tt (λ f. ((n, refl), f, h)))
+  -- a row, or the close where none is left or so many were asked for
+  pulls : (v : Version) (s : State) (n : Count) (rows : List (List Tree)) (left : Open) (tx t : Tx) (w : Change) → row_at v s Kind.Pull Verdict.Failure ≡ Some State.Failed
+      → ((rs : List (List Tree)) (i : ℕ) → Held s (record left { rows = rs; written = i }) tx t w) → ((is_some (slice_get rows 0) ≡ true → is_part n ≡ true) → Keeps S v front s (RequestView.Pull n) t w tx (close s front rows left tx))
+      → Keeps S v front s (RequestView.Pull n) t w tx (pull v s front n rows left tx)
+  pulls v s n [] left tx t w f h closes = closes (λ e. cc)
+  pulls v s n (r ∷ rs) left tx t w f h closes =
+      cond_both (used_up n left.written) _ _ (Keeps S v front s (RequestView.Pull n) t w tx) (λ used. closes (λ e. used_part n left.written used))
+      (λ on. keeps_fits v s State.Failed _ t w tx (ResponseView.Record r) _ f tt (λ f. ((n, refl), f, h rs (suc left.written))))
 
   discard_part : (n : Count) (rows : List (List Tree)) → is_some (slice_get (left_after n rows) 0) ≡ true → is_part n ≡ true
   discard_part Count.All rows h = cc
@@ -311,13 +296,13 @@ module _ (S : Setting) (c : ℕ) (numbered : c < 2 ^ 64) (front : List EntryView
       keeps_succeeds v State.Ready State.Unauth RequestView.Logoff t w tx summaries.Plain tt tt refl refl (row_beside State.Ready Kind.Logoff Verdict.Success State.Unauth refl v r) tt refl
   performs v State.Ready left tx t w (RequestView.Run query params mode token) h r = ran_alone v query params mode token tx t w _ refl
   performs v State.Ready left tx t w (RequestView.Begin mode token) h r = record { told = refl; written = λ _. short_fits v (summaries.Plain) tt tt; valid = refl; state = State.TxReady; rows = refl; holds = refl; paid = λ p. cc; commit = λ p. cc }
-  performs v State.Streaming left tx t w (RequestView.Pull n) h r = pull_alone v n left.rows left tx t w h
+  performs v State.Streaming left tx t w (RequestView.Pull n) h r = pulls v State.Streaming n left.rows left tx t w refl (λ _ _. h) (λ p. (close_alone v n left.rows left tx t w h p).0)
   performs v State.Streaming left tx t w (RequestView.Discard n) h r = (close_alone v n (left_after n left.rows) left tx t w h (discard_part n left.rows)).1
   performs v State.TxReady left tx t w (RequestView.Run query params mode token) h r = subst (λ (u : Tx). Keeps S v front State.TxReady (RequestView.Run query params mode token) u w tx (reply_to_run v State.TxReady tx token (S.run front tx.writes query params (query_mode tx.mode)))) h (ran_inside v query params mode token tx w _ refl)
   performs v State.TxReady left tx t w RequestView.Commit h r =
       keeps_commit v State.TxReady RequestView.Commit t w tx (change_inside tx) (λ n. response_of_summary (summaries.Committed n)) (ap (λ (u : Tx). change_inside u) h) (λ n. refl) (λ n. refl) (λ n l. short_fits v (summaries.Committed n) l tt) refl refl refl
   performs v State.TxReady left tx t w RequestView.Rollback h r = keeps_succeeds v State.TxReady State.Ready _ t w tx summaries.Plain tt tt refl refl refl tt refl
-  performs v State.TxStreaming left tx t w (RequestView.Pull n) h r = pull_inside v n left.rows left tx t w h
+  performs v State.TxStreaming left tx t w (RequestView.Pull n) h r = pulls v State.TxStreaming n left.rows left tx t w refl (λ _ _. h) (λ p. (close_inside v n left.rows left tx t w h p).0)
   performs v State.TxStreaming left tx t w (RequestView.Discard n) h r = (close_inside v n (left_after n left.rows) left tx t w h (discard_part n left.rows)).1
   performs v s left tx t w RequestView.Reset h r = keeps_succeeds v s State.Ready _ t w tx summaries.Plain tt tt refl refl (row_beside s Kind.Reset Verdict.Success State.Ready refl v r) tt refl
   performs v s left tx t w (RequestView.Logon a) h r = absurd (true≢false (no_row s Kind.Logon refl v r))
@@ -327,14 +312,12 @@ module _ (S : Setting) (c : ℕ) (numbered : c < 2 ^ 64) (front : List EntryView
   -- a request that its phase allows has a row
   has_row : (v : Version) (s : State) (k : Kind) → allows v (phase_of s) k ≡ true → is_goodbye k ≡ false → is_halted s ≡ false → is_some (row_at v s k Verdict.Success) ≡ true
   has_row v s k a g h =
-      let g2 : not (is_goodbye k) ≡ true = ap not g in
-      let h2 : not (is_halted s) ≡ true = ap not h in
+      let g2 : not (is_goodbye k) ≡ true = ap not g in let h2 : not (is_halted s) ≡ true = ap not h in
       implies_at (not (is_halted s)) _ (implies_at (not (is_goodbye k)) _ (implies_at (allows v (phase_of s) k) _ (at_rows (λ v s k. implies (allows v (phase_of s) k) (implies (not (is_goodbye k)) (implies (not (is_halted s)) (is_some (row_at v s k Verdict.Success))))) refl v s k) a) g2) h2
 
   ignored_row : (v : Version) (s : State) (k : Kind) → allows v (phase_of s) k ≡ true → is_goodbye k ≡ false → is_halted s ≡ true → is_reset k ≡ false → row_at v s k Verdict.Ignored ≡ Some s
   ignored_row v s k a g h r =
-      let g2 : not (is_goodbye k) ≡ true = ap not g in
-      let r2 : not (is_reset k) ≡ true = ap not r in
+      let g2 : not (is_goodbye k) ≡ true = ap not g in let r2 : not (is_reset k) ≡ true = ap not r in
       option_is-true same_state same_state-true (row_at v s k Verdict.Ignored) s
       (implies_at (not (is_reset k)) _ (implies_at (is_halted s) _ (implies_at (not (is_goodbye k)) _ (implies_at (allows v (phase_of s) k) _ (at_rows (λ v s k. implies (allows v (phase_of s) k) (implies (not (is_goodbye k)) (implies (is_halted s) (implies (not (is_reset k)) (option_is same_state (row_at v s k Verdict.Ignored) s))))) refl v s k) a) g2) h) r2)
 

@@ -16,7 +16,8 @@ use Rattle.world.specs.Connections.{Connection, SaysNoop, heard_as, said_version
 use Rattle.world.specs.World.{said_by, take_item, noop, live, World, Effect, Seen, quiet, Fed, SawNothing, takes, feed, server_gone, ledger, work, after_effect}
 use Rattle.client.proofs.Steps.{drop_next}
 use Rattle.world.proofs.Deeds.{replied, step_case, interrupt_case}
-use Rattle.world.proofs.Sound.{asked-append, more_arrives, unsaid, Sound, spoken, last_same, used_same, rest_same, reads_on}
+use Rattle.server.proofs.Arriving.{placed-append}
+use Rattle.world.proofs.Sound.{more_arrives, unsaid, Sound, spoken, last_same, used_same, rest_same, reads_on}
 use Rattle.std.proofs.lemmas.Bool.{eq-eqb, ne_eqb, cond-true, cond-false, cond_both}
 use Rattle.std.proofs.lemmas.List.Recursion.{is_count_by}
 use Rattle.engine.specs.declared.Mode.{Mode as QueryMode}
@@ -64,7 +65,7 @@ module _ (k : Connection) (s : Sound k) where
     waits : (o : Option Arrival) → a ≡ o → drop (answer_count k.says) (requests_among (arrivals up2)) ≡ waiting k ++ requests_among (option_to_list o)
     waits o e =
         ap (λ z. drop (answer_count k.says) (requests_among z)) (more_arrives k.up k.version k.says (s.stage going) good piece ∙ ap (λ x. arrivals k.up ++ option_to_list x) e)
-        ∙ ap (drop (answer_count k.says)) (asked-append (arrivals k.up) (option_to_list o))
+        ∙ ap (drop (answer_count k.says)) (placed-append (arrivals k.up) (option_to_list o))
         ∙ drop-append-le (answer_count k.says) (arrivals_at k) (requests_among (option_to_list o)) s.past
 
     none_waits : (o : Option Arrival) → a ≡ o → requests_among (option_to_list o) ≡ [] → drop (answer_count k.says) (requests_among (arrivals up2)) ≡ waiting k
@@ -93,8 +94,7 @@ same_choice R false x y z w p q = q refl
 pub find_at : (ks : List Connection) (c i j : ℕ) (k : Connection) → j ≡ c + i → slice_get ks i ≡ Some k → k.server_lost ≡ false → find j (sessions_from c ks) ≡ Some (live_of j k)
 find_at [] c i j k e h l = cc
 find_at (x ∷ ks) c zero j k e h l =
-    let same : x ≡ k = cc in
-    let here : c ≡ j = omega arith in
+    let same : x ≡ k = cc in let here : c ≡ j = omega arith in
     ap (find j) (cond-false x.server_lost _ _ (ap (λ z. z.server_lost) same ∙ l)) ∙ cond-true (c == j) _ _ (eq-eqb c j here) ∙ ap₂ (λ a z. Some (live_of a z)) here same
 find_at (x ∷ ks) c (suc i) j k e h l =
     let r = find_at ks (suc c) i j k (omega arith) h l in
@@ -105,12 +105,9 @@ pub replace_at : (ks : List Connection) (c i j : ℕ) (k k2 : Connection) (s : L
     → replace j s (sessions_from c ks) ≡ sessions_from c (slice_set ks i k2)
 replace_at [] c i j k k2 s e h l l2 m = cc
 replace_at (x ∷ ks) c zero j k k2 s e h l l2 m =
-    let same : x ≡ k = cc in
-    let here : c ≡ j = omega arith in
-    ap (replace j s) (cond-false x.server_lost _ _ (ap (λ z. z.server_lost) same ∙ l))
-    ∙ cond-true (c == j) _ _ (eq-eqb c j (omega arith))
-    ∙ ap (λ z. z ∷ sessions_from (suc c) ks) (m ∙ ap (λ a. live_of a k2) (sym here))
-    ∙ sym (cond-false k2.server_lost _ _ l2)
+    let same : x ≡ k = cc in let here : c ≡ j = omega arith in
+    ap (replace j s) (cond-false x.server_lost _ _ (ap (λ z. z.server_lost) same ∙ l)) ∙ cond-true (c == j) _ _ (eq-eqb c j (omega arith))
+    ∙ ap (λ z. z ∷ sessions_from (suc c) ks) (m ∙ ap (λ a. live_of a k2) (sym here)) ∙ sym (cond-false k2.server_lost _ _ l2)
 replace_at (x ∷ ks) c (suc i) j k k2 s e h l l2 m =
     let r = replace_at ks (suc c) i j k k2 s (omega arith) h l l2 m in
     same_choice (λ (ss : List Live) (zs : List Live). replace j s ss ≡ zs) x.server_lost _ _ _ _ r (λ _. cond-false (c == j) _ _ (ne_eqb c j (λ q. absurd (omega arith))) ∙ ap (λ z. live_of c x ∷ z) r)
@@ -175,42 +172,37 @@ module _ (G : Type 0) (gate : G) (w : World) (c : ℕ) (k : Connection) (here : 
   found : find c r.sessions ≡ Some (live_of c k)
   found = find_at w.conns 0 c c k (omega arith) here lives
 
-  abbrev effect : Effect → World
-  effect e = after_effect w c k e
-
   -- what a call leaves of the server that commits this, with what it keeps in the place of the connection
   after_call : (e : Effect) (l : Live) → e.conn.server_lost ≡ false → l ≡ live_of c e.conn
-      → ◌≡◌ {A = serving.Rest G} (record { sessions = replace c l r.sessions; next = length w.conns; ledger = ledger w ++ commit_entries c (answer_count k.says) e.commit; gate = gate }) (server_rest gate (effect e))
+      → ◌≡◌ {A = serving.Rest G} (record { sessions = replace c l r.sessions; next = length w.conns; ledger = ledger w ++ commit_entries c (answer_count k.says) e.commit; gate = gate }) (server_rest gate (after_effect w c k e))
   after_call e l gone same =
       ap₂ (λ (ss : List Live) (x : ℕ × List EntryView). record { sessions = ss; next = x.0; ledger = x.1; gate = gate }) (replace_at w.conns 0 c c k e.conn l (omega arith) here lives gone same)
       (ap₂ (λ (n : ℕ) (es : List EntryView). (n, es)) (sym (length-set w.conns c e.conn)) (append_assoc w.brought w.since (commit_entries c (answer_count k.says) e.commit)))
 
   -- one that commits nothing
   call_served : {A : Type 0} (f : Live → A × Live) (e : Effect) → (f (live_of c k)).1.conn ≡ c → e.commit ≡ None → e.conn.server_lost ≡ false → (f (live_of c k)).1 ≡ live_of c e.conn
-      → serving.on_live f c r ≡ Some ((f (live_of c k)).0, server_rest gate (effect e))
+      → serving.on_live f c r ≡ Some ((f (live_of c k)).0, server_rest gate (after_effect w c k e))
   call_served f e conn none gone same =
       let l = (f (live_of c k)).1 in
-      ap (option_map (λ z. ((f z).0, serving.with_session (f z).1 r))) found
-      ∙ ap (λ x. Some ((f (live_of c k)).0, x))
+      ap (option_map (λ z. ((f z).0, serving.with_session (f z).1 r))) found ∙ ap (λ x. Some ((f (live_of c k)).0, x))
       (ap₂ (λ (n : ℕ) (es : List EntryView). record { sessions = replace n l r.sessions; next = length w.conns; ledger = es; gate = gate }) conn (sym (append-nil (ledger w)) ∙ ap (λ o. ledger w ++ commit_entries c (answer_count k.says) o) (sym none))
       ∙ after_call e l gone same)
 
   -- `work`
   pub work_served : (answer : List EntryView → List WriteView → List ℕ → List ParameterView → QueryMode → Result AnswerView QueryFault) (accepts : G → List ℕ → List ℕ → Bool) → let S = serving.setting answer accepts r in
-      serving.work_at answer accepts c r ≡ Some (worked_of (work_kept S c (ledger w) (kept_of k) k.ended).answer, server_rest gate (effect (work S c (ledger w) k)))
+      serving.work_at answer accepts c r ≡ Some (worked_of (work_kept S c (ledger w) (kept_of k) k.ended).answer, server_rest gate (after_effect w c k (work S c (ledger w) k)))
   work_served answer accepts =
-      let S = serving.setting answer accepts r in
-      let d = work_kept S c (ledger w) (kept_of k) k.ended in
+      let S = serving.setting answer accepts r in let d = work_kept S c (ledger w) (kept_of k) k.ended in
       ap (option_map (λ (l : Live). serving.after_step l (work_kept S l.conn r.ledger l.kept l.kept.ended) r)) found
       ∙ ap (λ x. Some (worked_of d.answer, x)) (after_call (work S c (ledger w) k) _ lives (ap (λ (x : Kept). let l : Live = record { conn = c; kept = x; unfinished = state at_server at_server.start k.up } in l) (sym (step_keeps k s S c (ledger w)))))
 
   -- `noop`
-  pub noop_served : serving.noop_at c r ≡ Some (puts_noop (kept_of k), server_rest gate (effect (noop k)))
+  pub noop_served : serving.noop_at c r ≡ Some (puts_noop (kept_of k), server_rest gate (after_effect w c k (noop k)))
   noop_served = call_served serving.noop_put (noop k) refl refl lives (ap (λ (x : Kept). let l : Live = record { conn = c; kept = x; unfinished = state at_server at_server.start k.up } in l) (sym (noop_keeps k s)))
 
   -- `take_out` of so many bytes
   pub take_served : (n : ℕ) → let t = min (k.taken + n) (length (output k)) in
-      serving.take_out_at c n r ≡ Some (take n (drop k.taken (output k)), server_rest gate (effect (quiet (record k { taken = t }) SawNothing)))
+      serving.take_out_at c n r ≡ Some (take n (drop k.taken (output k)), server_rest gate (after_effect w c k (quiet (record k { taken = t }) SawNothing)))
   take_served n =
       call_served (serving.taken_from n) (quiet (record k { taken = min (k.taken + n) (length (output k)) }) SawNothing) refl refl lives
       (ap (λ (z : List ℕ). let l : Live = record { conn = c; kept = record (kept_of k) { unsent = z }; unfinished = state at_server at_server.start k.up } in l) (drop-drop n k.taken (output k) ∙ sym (drop_min (k.taken + n) (output k))))
@@ -228,10 +220,8 @@ module _ (G : Type 0) (gate : G) (w : World) (c : ℕ) (k : Connection) (here : 
       taken : (going : k.ended ≡ None) (good : unread_among (arrivals_at k) ≡ false)
           → SameFeed (takes k piece (reach arrivals k.up piece)) (takes_item (kept_of k) (reads at_server (state at_server at_server.start k.up) piece))
       taken going good =
-          let st = s.stage going in
-          let n = reach arrivals k.up piece in
-          let up2 = k.up ++ take n piece in
-          let a = arrival (kept_of k) (reads at_server (state at_server at_server.start k.up) piece).item in
+          let st = s.stage going in let n = reach arrivals k.up piece in
+          let up2 = k.up ++ take n piece in let a = arrival (kept_of k) (reads at_server (state at_server at_server.start k.up) piece).item in
           subst (λ o. SameFeed (take_item k up2 n o) (takes_item (kept_of k) (reads at_server (state at_server at_server.start k.up) piece))) (sym (last_same k.up k.version k.says st good piece)) (
             refl,
             lives,
@@ -240,14 +230,13 @@ module _ (G : Type 0) (gate : G) (w : World) (c : ℕ) (k : Connection) (here : 
           )
 
   pub feed_served : k.cut ≡ false → (piece : List ℕ) → let e = feed piece k in
-      (took : Took) × (serving.feed_at c piece r ≡ Some (took, server_rest gate (effect e))) × (e.seen ≡ Fed took.used took.what)
+      (took : Took) × (serving.feed_at c piece r ≡ Some (took, server_rest gate (after_effect w c k e))) × (e.seen ≡ Fed took.used took.what)
   feed_served joined piece =
-      let f = feeding (state at_server at_server.start k.up) piece (kept_of k) in
-      let same = feed_same joined piece in
+      let f = feeding (state at_server at_server.start k.up) piece (kept_of k) in let same = feed_same joined piece in
       (f.took, call_served (λ z. serving.fed_live z piece) (feed piece k) refl same.0 same.1 same.2, same.3)
 
   -- `lost`
-  pub lost_served : serving.lost_at c r ≡ (Some (serving.cause_or k.ended), server_rest gate (effect (server_gone k)))
+  pub lost_served : serving.lost_at c r ≡ (Some (serving.cause_or k.ended), server_rest gate (after_effect w c k (server_gone k)))
   lost_served =
       ap₂ (λ (o : Option Cause) (x : serving.Rest G). (o, x)) (ap (option_map (λ (z : Live). serving.cause_or z.kept.ended)) found)
       (ap₂ (λ (ss : List Live) (x : ℕ × List EntryView). record { sessions = ss; next = x.0; ledger = w.brought ++ x.1; gate = gate }) (without_at w.conns 0 c c k (server_gone k).conn (omega arith) here lives refl)

@@ -8,13 +8,13 @@ use Rattle.world.specs.declared.link.Link.{Link as LinkHeld}
 use Rattle.world.specs.declared.report.Standing.{Standing as StandingTold}
 use Rattle.world.specs.declared.world.World.{World as WorldHeld}
 use Rattle.world.specs.Connections.{Peer, Ours, Foreign, Connection, Said, SaysSummary, answer_count, client}
-use Rattle.world.specs.World.{World, Reached, Event, Seen, Refusal, V1, V2, V3, step, goes_on}
+use Rattle.world.specs.World.{World, Reached, Event, Refusal, V1, V2, V3, step, goes_on}
 use Rattle.machine.specs.States.{phase_of}
 use Rattle.world.specs.Good.{tellings_of, delivered_whole, server_outcome, Good}
 use Rattle.world.specs.Reports.{ReadSummary, by_peer, read_after, summaries_told, waits, ordinals, standing, standing_of}
 use Rattle.world.specs.Rests.{client_rest, live_of}
 use Rattle.world.specs.Fits.{Link, FitsClient, FitsLink}
-use Rattle.world.specs.Views.{link_of, waiting_at}
+use Rattle.world.specs.Views.{link_of, waiting_at, seen_of}
 use Rattle.world.specs.Turns.{Definition, setting_of, Holds, IsWorld, Goes, GoesBy, FitsWorld, seen_in}
 use Rattle.world.specs.Reported.{standing_seen, StandsBy}
 use Rattle.world.proofs.Sound.{reached_sound}
@@ -36,8 +36,8 @@ read_long (SaysSummary x ∷ xs) later =
     let h = read_long xs (y ∷ later) in omega (arith, h)
 read_long (_ ∷ xs) later = read_long xs later
 
-module _ {E G : Type 0} (entries : E → List EntryView) (answer : Definition) (accepts : G → List ℕ → List ℕ → Bool)
-    (s : WorldHeld E G) (gate : G) (w : World) (f : IsWorld entries s gate w) (brought : List EntryView) (reached : Reached (setting_of answer accepts gate) brought w)
+module _ {E G : Type 0} {entries : E → List EntryView} (answer : Definition) (accepts : G → List ℕ → List ℕ → Bool)
+    {s : WorldHeld E G} {gate : G} {w : World} (f : IsWorld entries s gate w) {brought : List EntryView} (reached : Reached (setting_of answer accepts gate) brought w)
     (c : ℕ) where
   module _ (few : c < length s.links.items) (l : LinkHeld) (is : l ≡ slice_index_or s.links.items c l) where
     abbrev pub held : (m : Link) × (slice_get f.rest.links c ≡ Some m) × Holds l m
@@ -66,8 +66,7 @@ module _ {E G : Type 0} (entries : E → List EntryView) (answer : Definition) (
       where
         go : (p : Peer) → k.peer ≡ p → FitsClient k.peer m.client m.up k → waits k ≡ ordinals count (waiting_at held.2.client)
         go (Ours wish) p g =
-            let old : FitsClient (Ours wish) m.client m.up k = subst (λ q. FitsClient q m.client m.up k) p g in
-            let y = client_rest old.out k in
+            let old : FitsClient (Ours wish) m.client m.up k = subst (λ q. FitsClient q m.client m.up k) p g in let y = client_rest old.out k in
             let good : Good (setting_of answer accepts gate) w c k = all_good (setting_of answer accepts gate) brought w reached c k wish there.1 p in
             let n : length (summaries_told k) ≡ (client k).count =
             ap (λ q. length (by_peer q (read_after (client k).told []))) p ∙ ap (λ ts. length (read_after ts [])) good.told ∙ read_long (delivered_whole k) [] ∙ sym (good.count_told ∙ (let same : answer_count (delivered_whole k) ≡ answer_count (delivered_whole k) + 0 = omega arith in same)) in
@@ -81,38 +80,19 @@ pub replays_more : (S : Setting) (w w2 w3 : World) (es : List Event) (e : Event)
 replays_more S w w2 w3 [] e h f = (w3, subst (λ z. Follows S z e w3) h f, refl)
 replays_more S w w2 w3 (x ∷ es) e h f = (h.0, h.1, replays_more S h.0 w2 w3 es e h.2 f)
 
--- an answer that isn't want of memory isn't seen as one
-pub seen_lacks : (res : Result SeenTold Refused) → (res ≡ Err Memory → ⊥) → seen_in res ≡ Err Memory → ⊥
-seen_lacks (Ok seen) h e = cc
-seen_lacks (Err refused) h e = let same : refused ≡ Memory = cc in h (ap (λ x. Err x) same)
-
 module _ {E G : Type 0} (entries : E → List EntryView) (S : Setting) (gate : G) (brought : List EntryView) (w : World) where
   -- one more event
   pub goes_more : (es : List Event) (e : Event) (s t : WorldHeld E G) (h : Goes entries S gate brought w es s)
       → GoesBy entries S gate brought h.after e t → Goes entries S gate brought w (es ++ e ∷ []) t
-  goes_more es e s t h f = record {
-    after = f.after;
-    replays = replays_more S w h.after f.after es e h.replays f.follows;
-    reached = f.reached;
-    fits = f.fits;
-  }
+  goes_more es e s t h f = record { after = f.after; replays = replays_more S w h.after f.after es e h.replays f.follows; reached = f.reached; fits = f.fits }
 
--- what an answer means for the event
-module _ {E G : Type 0} (entries : E → List EntryView) (S : Setting) (gate : G) (brought : List EntryView) (w : World) where
-  left_out : (e : Event) (t : WorldHeld E G) (v : Refusal) → Reached S brought w → step S w e ≡ Err v
-      → FitsWorld entries t gate w → GoesBy entries S gate brought w e t
-  left_out e t v r h f =
-      record { after = w; follows = inr (subst IsErr (sym h) refl, refl); reached = r; fits = f }
+  -- what an answer means for the event
+  left_out : (e : Event) (t : WorldHeld E G) (v : Refusal) → Reached S brought w → step S w e ≡ Err v → FitsWorld entries t gate w → GoesBy entries S gate brought w e t
+  left_out e t v r h f = record { after = w; follows = inr (subst IsErr (sym h) refl, refl); reached = r; fits = f }
 
-  follows : (e : Event) (t : WorldHeld E G) → Reached S brought w → (res : Result Seen Refused)
-      → (res ≡ Err Memory → ⊥) → Answers S w e res (FitsWorld entries t gate)
+  follows : (e : Event) (t : WorldHeld E G) → Reached S brought w → (res : Result SeenTold Refused) → (res ≡ Err Memory → ⊥) → Answers S w e (seen_in res) (FitsWorld entries t gate)
       → GoesBy entries S gate brought w e t
-  follows e t r (Ok seen) lacks a = record {
-    after = a.after;
-    follows = inl (seen, a.steps);
-    reached = goes_on w a.after e seen r a.steps;
-    fits = a.now;
-  }
+  follows e t r (Ok seen) lacks a = record { after = a.after; follows = inl (seen_of seen, a.steps); reached = goes_on w a.after e (seen_of seen) r a.steps; fits = a.now }
   follows e t r (Err NoSuchConnection) lacks a = left_out e t V1 r a.0 a.1
   follows e t r (Err WrongPeer) lacks a = left_out e t V2 r a.0 a.1
   follows e t r (Err SessionsFull) lacks a = left_out e t V3 r a.0 a.1
@@ -122,6 +102,4 @@ module _ {E G : Type 0} (entries : E → List EntryView) (S : Setting) (gate : G
   pub settled_follows : (e e2 : Event) → Reached S brought w → e2 ≡ e → (res : Result SeenTold Refused) (t : WorldHeld E G) (settled : Result (Unit {0}) AllocError) → OnOk settled (res ≡ Err Memory → ⊥)
       → Answers S w e2 (seen_in res) (FitsWorld entries t gate) → OnOk settled (GoesBy entries S gate brought w e t)
   settled_follows e e2 r is res t (Err f) h a = tt
-  settled_follows e e2 r is res t (Ok u) h a =
-      let P : Event → Type 0 = λ z. Answers S w z (seen_in res) (FitsWorld entries t gate) in
-      follows e t r (seen_in res) (seen_lacks res h) (subst P is a)
+  settled_follows e e2 r is res t (Ok u) h a = let P : Event → Type 0 = λ z. Answers S w z (seen_in res) (FitsWorld entries t gate) in follows e t r res h (subst P is a)

@@ -3,28 +3,21 @@ use Rattle.world.specs.World.{Feeds}
 use Rattle.world.specs.Seeing.{IsWrong}
 use Rattle.world.specs.Views.{end_peer}
 use Rattle.world.proofs.Turning.{lacks, wrong}
-use Rattle.world.proofs.Turned.{foreign_over, foreign_cut, comes, foreign_done}
+use Rattle.world.proofs.Turned.{fed_over, fed_cut, comes, foreign_done}
 use Rattle.world.proofs.inflow.foreign.Goals as goal
 
 pub returns-in_default : goal.returns-in_default
-returns-in_default g c = λ r w b.
-    let e = Feeds c.args.conn c.args.bytes.now in
-    wrong g.E.Engine.entries g.E.Engine.answer g.G.Gate.accepts e c.args.link.now c.args.server.now r w b (λ h. h) (subst (λ z. IsWrong (Feeds c.args.conn c.args.bytes.now) (end_peer z)) (sym c.in_default.is) tt) c.args.link.now b.client refl b.ends
+returns-in_default g c = λ r w b. wrong b (λ h. h) (subst (λ z. IsWrong (Feeds c.args.conn c.args.bytes.now) (end_peer z)) (sym c.in_default.is) tt) c.args.link.now b.client refl b.ends
 
 pub returns-in-Some : goal.returns-in-Some
-returns-in-Some g c = λ r w b.
-    foreign_over g.E.Engine.entries g.E.Engine.answer g.G.Gate.accepts c.args.conn c.args.link.now c.args.server.now r w c.args.bytes.now b (ap end_peer c.in-Foreign.is) c.in-Some.field-0 c.in-Some.is
+returns-in-Some g c = λ r w b. fed_over b refl tt c.args.bytes.now (comes b (ap end_peer c.in-Foreign.is)) c.in-Some.field-0 c.in-Some.is
 
 pub returns-then-link : goal.returns-then-link
-returns-then-link g c = λ r w b.
-    foreign_cut g.E.Engine.entries g.E.Engine.answer g.G.Gate.accepts c.args.conn c.args.link.now c.args.server.now r w c.args.bytes.now b (ap end_peer c.in-Foreign.is) c.in_default-gone.is c.if-link.true
+returns-then-link g c = λ r w b. fed_cut b refl tt c.args.bytes.now (comes b (ap end_peer c.in-Foreign.is)) c.in_default-gone.is c.if-link.true
 
 pub returns-in_default-feed : goal.returns-in_default-feed
 returns-in_default-feed g c = λ r w b.
-    lacks g.E.Engine.entries g.E.Engine.answer g.G.Gate.accepts (Feeds c.args.conn c.args.bytes.now) c.args.link.now c.args.server.now r w b refl _ (comes g.E.Engine.entries g.E.Engine.answer g.G.Gate.accepts c.args.conn c.args.link.now c.args.server.now r w c.args.bytes.now b (ap end_peer c.in-Foreign.is)) (λ h. h) refl c.args.link.now c.feed.new.self refl b.ends
-    (c.in_default-feed.ensures.refused r.server b.server)
+    lacks b refl _ (comes b (ap end_peer c.in-Foreign.is)) (λ h. h) refl c.args.link.now c.feed.new.self refl b.ends (c.in_default-feed.ensures.refused r.server b.server)
 
 pub returns : goal.returns
-returns g c = λ r w b.
-    foreign_done g.E.Engine.entries g.E.Engine.answer g.G.Gate.accepts c.args.conn c.args.link.now c.args.server.now r w c.args.bytes.now b (ap end_peer c.in-Foreign.is) c.feed.new.self c.in-Ok.took c.in_default-gone.is c.if-link.false
-    (c.in-Ok.ensures.done r.server b.server)
+returns g c = λ r w b. foreign_done b (ap end_peer c.in-Foreign.is) c.feed.new.self c.in-Ok.took c.in_default-gone.is c.if-link.false (c.in-Ok.ensures.done r.server b.server)

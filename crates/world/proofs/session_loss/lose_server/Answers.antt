@@ -1,25 +1,21 @@
 use Rattle.std.proofs.Common.{refl, ◌∙◌, ◌++◌, ap, arith}
-use Rattle.world.specs.World.{ServerLost}
-use Rattle.world.specs.Views.{link_of}
-use Rattle.world.proofs.Turning.{lacks}
+use Rattle.world.proofs.Turning.{link_at, lacks}
 use Rattle.world.proofs.Turned.{lost_before, goes, lost_done}
 use Rattle.world.proofs.session_loss.lose_server.Goals as goal
 
 pub returns-in-Some : goal.returns-in-Some
-returns-in-Some g c = λ r w b. lost_before g.E.Engine.entries g.E.Engine.answer g.G.Gate.accepts c.args.conn c.args.link.now c.args.server.now r w b c.in-Some.field-0 c.in-Some.is
+returns-in-Some g c = λ r w b. lost_before b c.in-Some.field-0 c.in-Some.is
 
 pub returns-then-is_err : goal.returns-then-is_err
 returns-then-is_err g c = λ r w b.
-    lacks g.E.Engine.entries g.E.Engine.answer g.G.Gate.accepts (ServerLost c.args.conn) c.args.link.now c.args.server.now r w b refl _ (goes g.E.Engine.entries g.E.Engine.answer g.G.Gate.accepts c.args.conn c.args.link.now c.args.server.now r w b) (λ h. h) refl (record c.args.link.now { down = c.join.new.self }) c.args.server.now
-    (ap (λ d. record (link_of c.args.link.now b.client) { down = d }) c.join.ensures.same) b.ends b.server
+    lacks b refl _ (goes b) (λ h. h) refl (record c.args.link.now { down = c.join.new.self }) c.args.server.now (ap (λ d. record (link_at b) { down = d }) c.join.ensures.same) b.ends b.server
 
 pub returns-in_default-take_out : goal.returns-in_default-take_out
 returns-in_default-take_out g c = λ r w b.
-    lacks g.E.Engine.entries g.E.Engine.answer g.G.Gate.accepts (ServerLost c.args.conn) c.args.link.now c.args.server.now r w b refl _ (goes g.E.Engine.entries g.E.Engine.answer g.G.Gate.accepts c.args.conn c.args.link.now c.args.server.now r w b) (λ h. h) refl (record c.args.link.now { down = c.join.new.self }) c.take_out.new.self
-    (ap (λ d. record (link_of c.args.link.now b.client) { down = d }) c.join.ensures.same) b.ends (c.in_default-take_out.ensures.refused r.server b.server)
+    lacks b refl _ (goes b) (λ h. h) refl (record c.args.link.now { down = c.join.new.self }) c.take_out.new.self (ap (λ d. record (link_at b) { down = d }) c.join.ensures.same) b.ends
+    (c.in_default-take_out.ensures.refused r.server b.server)
 
 pub returns : goal.returns
 returns g c = λ r w b.
-    lost_done g.E.Engine.entries g.E.Engine.answer g.G.Gate.accepts c.args.conn c.args.link.now c.args.server.now r w b c.put.new.self c.give_up-link.result c.take_out.new.self c.give_up-link.new.server c.in-Ok.said 18446744073709551615
-    c.in_default.is (omega (arith, c.put.ensures.few)) (c.in-Ok.ensures.done r.server b.server) (λ x f. c.give_up-link.ensures x f)
-    (c.put.ensures.held ∙ ap (λ z. z ++ c.in-Ok.said) c.join.ensures.same)
+    lost_done b c.put.new.self c.give_up-link.result c.take_out.new.self c.give_up-link.new.server c.in-Ok.said 18446744073709551615
+    c.in_default.is (omega (arith, c.put.ensures.few)) (c.in-Ok.ensures.done r.server b.server) (λ x f. c.give_up-link.ensures x f) (c.put.ensures.held ∙ ap (λ z. z ++ c.in-Ok.said) c.join.ensures.same)

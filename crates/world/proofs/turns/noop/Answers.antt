@@ -1,16 +1,13 @@
 use Rattle.std.proofs.Common.{refl}
-use Rattle.world.specs.World.{PutsNoop}
 use Rattle.world.proofs.Turning.{lacks, none_of}
 use Rattle.world.proofs.Turned.{noop_over, puts, noop_done}
 use Rattle.world.proofs.turns.noop.Goals as goal
 
 pub returns-in-Some : goal.returns-in-Some
-returns-in-Some g c = λ r w b. noop_over g.E.Engine.entries g.E.Engine.answer g.G.Gate.accepts c.args.conn c.args.link.now c.args.server.now r w b c.in-Some.field-0 c.in-Some.is
+returns-in-Some g c = λ r w b. noop_over b c.in-Some.field-0 c.in-Some.is
 
 pub returns-in_default-noop : goal.returns-in_default-noop
-returns-in_default-noop g c = λ r w b. lacks g.E.Engine.entries g.E.Engine.answer g.G.Gate.accepts (PutsNoop c.args.conn) c.args.link.now c.args.server.now r w b refl _ (puts g.E.Engine.entries g.E.Engine.answer g.G.Gate.accepts c.args.conn c.args.link.now c.args.server.now r w b) (λ h. h) refl c.args.link.now c.noop.new.self refl b.ends
-    (c.in_default-noop.ensures.refused r.server b.server)
+returns-in_default-noop g c = λ r w b. lacks b refl _ (puts b) (λ h. h) refl c.args.link.now c.noop.new.self refl b.ends (c.in_default-noop.ensures.refused r.server b.server)
 
 pub returns : goal.returns
-returns g c = λ r w b. noop_done g.E.Engine.entries g.E.Engine.answer g.G.Gate.accepts c.args.conn c.args.link.now c.args.server.now r w b c.noop.new.self c.in-Ok.put
-    (none_of c.args.link.now.gone c.in_default.not-Some) (c.in-Ok.ensures.done r.server b.server)
+returns g c = λ r w b. noop_done b c.noop.new.self c.in-Ok.put (none_of c.args.link.now.gone c.in_default.not-Some) (c.in-Ok.ensures.done r.server b.server)

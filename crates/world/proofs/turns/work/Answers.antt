@@ -1,28 +1,23 @@
 use Rattle.std.proofs.Common.{refl, ap, ◌∙◌, ◌++◌, map}
 use Rattle.world.specs.Reports.{wrote_by}
-use Rattle.world.specs.Views.{link_of, wrote_of}
-use Rattle.world.specs.World.{Work}
-use Rattle.world.proofs.Turning.{lacks, none_of}
+use Rattle.world.specs.Views.{wrote_of}
+use Rattle.world.proofs.Turning.{link_at, lacks, none_of}
 use Rattle.world.proofs.Turned.{work_over, works, work_done}
 use Rattle.world.proofs.turns.work.Goals as goal
 
 pub returns-in-Some : goal.returns-in-Some
-returns-in-Some g c = λ r w b. work_over g.E.Engine.entries g.E.Engine.answer g.G.Gate.accepts c.args.conn c.args.link.now c.args.server.now r w b c.in-Some.cause c.in-Some.is
+returns-in-Some g c = λ r w b. work_over b c.in-Some.cause c.in-Some.is
 
 pub returns-then-is_err : goal.returns-then-is_err
-returns-then-is_err g c =
-    λ r w b. lacks g.E.Engine.entries g.E.Engine.answer g.G.Gate.accepts (Work c.args.conn) c.args.link.now c.args.server.now r w b refl _ (works g.E.Engine.entries g.E.Engine.answer g.G.Gate.accepts c.args.conn c.args.link.now c.args.server.now r w b) (λ h. h) refl (record c.args.link.now { wrote = c.reserve.new.self }) c.args.server.now
-    (ap (λ ws. record (link_of c.args.link.now b.client) { wrote = map wrote_of ws }) c.reserve.ensures.items) b.ends b.server
+returns-then-is_err g c = λ r w b.
+    lacks b refl _ (works b) (λ h. h) refl (record c.args.link.now { wrote = c.reserve.new.self }) c.args.server.now (ap (λ ws. record (link_at b) { wrote = map wrote_of ws }) c.reserve.ensures.items) b.ends b.server
 
 pub returns-in_default-work : goal.returns-in_default-work
-returns-in_default-work g c =
-    λ r w b. lacks g.E.Engine.entries g.E.Engine.answer g.G.Gate.accepts (Work c.args.conn) c.args.link.now c.args.server.now r w b refl _ (works g.E.Engine.entries g.E.Engine.answer g.G.Gate.accepts c.args.conn c.args.link.now c.args.server.now r w b) (λ h. h) refl (record c.args.link.now { wrote = c.reserve.new.self }) c.work.new.self
-    (ap (λ ws. record (link_of c.args.link.now b.client) { wrote = map wrote_of ws }) c.reserve.ensures.items) b.ends
+returns-in_default-work g c = λ r w b.
+    lacks b refl _ (works b) (λ h. h) refl (record c.args.link.now { wrote = c.reserve.new.self }) c.work.new.self (ap (λ ws. record (link_at b) { wrote = map wrote_of ws }) c.reserve.ensures.items) b.ends
     (c.in_default-work.ensures.refused r.server b.server)
 
 pub returns : goal.returns
-returns g c =
-    λ r w b. work_done g.E.Engine.entries g.E.Engine.answer g.G.Gate.accepts c.args.conn c.args.link.now c.args.server.now r w b (record c.args.link.now { wrote = c.note_work.new.wrote }) c.work.new.self c.in-Ok.worked
-    (none_of c.args.link.now.gone c.in_default.not-Some) c.in-Ok.ensures.counted
-    (ap (λ ws. record (link_of c.args.link.now b.client) { wrote = ws }) (c.note_work.ensures ∙ ap (λ ws. map wrote_of ws ++ wrote_by c.in-Ok.worked) c.reserve.ensures.items)) b.ends
-    (c.in-Ok.ensures.done r.server b.server)
+returns g c = λ r w b.
+    work_done b (record c.args.link.now { wrote = c.note_work.new.wrote }) c.work.new.self c.in-Ok.worked (none_of c.args.link.now.gone c.in_default.not-Some) c.in-Ok.ensures.counted
+    (ap (λ ws. record (link_at b) { wrote = ws }) (c.note_work.ensures ∙ ap (λ ws. map wrote_of ws ++ wrote_by c.in-Ok.worked) c.reserve.ensures.items)) b.ends (c.in-Ok.ensures.done r.server b.server)
