@@ -1,43 +1,37 @@
--- What is said of bytes that were read, or refused.
-use Rattle.std.proofs.Common.{◌≡◌, inl, inr, ℕ, false, ◌<◌, List, length, Result, Err, refl, sym, ap, subst, ◌∙◌}
-use Rattle.std.specs.Prelude.{◌↔◌, Ok, IfOk}
+-- What is said of bytes that were read, or refused, and that it is one thing.
+use Rattle.std.proofs.Common.{◌≡◌, inl, inr, ℕ, false, List, Result, Err, refl, sym, ap, subst, ◌∙◌, arith}
+use Rattle.std.specs.Prelude.{◌↔◌}
 use Rattle.packstream.specs.declared.fault.Reason.{Reason}
-use Rattle.packstream.specs.declared.fault.Reason.TheVariants as reason
 use Rattle.packstream.specs.declared.fault.PackFault.{PackFault}
 use Rattle.packstream.specs.declared.fault.PackFault.TheVariants as pack
 use Rattle.packstream.specs.Tree.{Tree}
 use Rattle.packstream.specs.Good.{IsGood}
 use Rattle.packstream.specs.Spelling.{Spells}
-use Rattle.packstream.specs.Canon.{canon}
 use Rattle.packstream.specs.Making.{first_fault, faults_in}
 use Rattle.packstream.specs.Faults.{Bad}
-use Rattle.packstream.specs.Answers.{UnlessMemory}
+use Rattle.packstream.specs.Answers.{UnlessMemory, SpellsOnly, IsBadOnly, HasOneAnswer}
 use Rattle.packstream.proofs.Checking.{bad_when}
 use Rattle.wire.specs.declared.Version.{Version}
-use Rattle.cells.specs.Faults.{fault, structures}
+use Rattle.cells.specs.Faults.{fault, structures, IsBad}
 use Rattle.cells.proofs.Fine.{fine_scan}
 use Rattle.structures.specs.declared.fault.CellFault.{CellFault}
 use Rattle.structures.specs.declared.fault.CellFault.TheVariants as cell_fault
-use Rattle.structures.specs.Answers.{Reads, Writes}
+use Rattle.structures.specs.Answers.{Reads, HasOneReading}
 use Rattle.structures.specs.Form.{Form, form}
-use Rattle.structures.proofs.Back.{again}
-use Rattle.structures.proofs.Writable.{never_unwritable}
+use Rattle.structures.proofs.Formed.{again}
+use Rattle.structures.proofs.Clauses.{never_unwritable}
 use Rattle.commands.specs.declared.checks.Checked.{Checked}
 use Rattle.commands.specs.declared.checks.Checked.TheVariants.{Fine, Refused, Unfit}
-use Rattle.commands.specs.Checks.{Checks, ChecksFault, IsSpelled, IsUnfit, IsWrittenBack}
+use Rattle.commands.specs.Checks.{Checks, ChecksFault, IsSpelled, IsUnfit, IsWrittenBack, IsCell, IsTooLong}
+use Rattle.packstream.proofs.Deciding.{one_answer_is}
+use Rattle.cells.specs.declared.fault.Reason.{Reason as CellReason}
+use Rattle.structures.proofs.Clauses.{one_reading_is}
+use Rattle.commands.specs.Laws.{IsSameCheck, HasOneCheck}
 
 -- what the decoder refused
 pub refused_checks : (b : List ℕ) (f : PackFault) (r : Result Tree PackFault) → r ≡ Err f → ((q : Reason) (o : ℕ) → UnlessMemory r ((r ≡ Err (pack.Refused q o)) ↔ Bad b o q)) → ChecksFault b f
 refused_checks b (pack.Refused q o) r e h = let g = rw e at h in (g q o).0 refl
 refused_checks b pack.Memory r e h = tt
-
--- what can't be spelled is too long
-pub long_spelled : (t : Tree) (q : Reason) (o : ℕ) (r : Result (Unit {0}) PackFault) → r ≡ Err (pack.Refused q o) → UnlessMemory r ((r ≡ Err (pack.Refused reason.Size 0)) ↔ (65536 < length (canon t))) → ((p : Reason) (n : ℕ) → r ≡ Err (pack.Refused p n) → (p ≡ reason.Size) × (n ≡ 0)) → IsSpelled t (Refused q o)
-long_spelled t q o r e size other =
-    let p = other q o e in
-    let full : r ≡ Err (pack.Refused reason.Size 0) = e ∙ ap (λ x. Err (pack.Refused x o)) p.0 ∙ ap (λ x. Err (pack.Refused reason.Size x)) p.1 in
-    let s = rw full at size in
-    record { reason = p.0; place = p.1; long = s.0 refl }
 
 -- a cell has one form
 one_form : (v : Version) (s t u : Tree) → Form v s t → Form v s u → u ≡ t
@@ -59,21 +53,61 @@ written_checks v b t s c good spells f (inr (cell_fault.Pack r o, w, is)) =
     (subst (λ x. Err (r, o) ≡ first_fault (faults_in 0 false x) 0) same (sym w.unpacked)) good)
 written_checks v b t s c good spells f (inr (cell_fault.Memory, w, is)) = absurd is
 
-pub written_ok : {E : Type 0} (v : Version) (b : List ℕ) (t s : Tree) (r : Result Checked E) → IsGood t → Spells t b → Form v s t → IfOk r (λ c. IsWrittenBack v s c) → IfOk r (λ c. Checks v b c)
-written_ok v b t s (Ok c) good spells f h = written_checks v b t s c good spells f h
-written_ok v b t s (Err e) good spells f h = tt
-
--- a cell that can't be written is told by its fault
-pub unfit_written : {E : Type 0} (v : Version) (s : Tree) (e : CellFault) (r : Result Checked E) → Writes v s (Err e) → IfOk r (λ c. IsUnfit e c) → IfOk r (λ c. IsWrittenBack v s c)
-unfit_written v s e (Ok c) w h = inr (e, w, h)
-unfit_written v s e (Err x) w h = tt
-
-unfit_is : (v : Version) (b : List ℕ) (t : Tree) (e : CellFault) (c : Checked) → IsGood t → Spells t b → Reads v t (Err e) → IsUnfit e c → Checks v b c
+-- a value that is no cell is told by its fault
+pub unfit_is : (v : Version) (b : List ℕ) (t : Tree) (e : CellFault) (c : Checked) → IsGood t → Spells t b → Reads v t (Err e) → IsUnfit e c → Checks v b c
 unfit_is v b t (cell_fault.Refused r k) c good spells w h = subst (λ x. Checks v b x) (sym h) (record { tree = t; good = good; spelled = spells; bad = w })
 unfit_is v b t (cell_fault.Pack r o) c good spells w h = absurd w
 unfit_is v b t cell_fault.Memory c good spells w h = absurd h
 
--- a value that is no cell is told by its fault
-pub unfit_checks : {E : Type 0} (v : Version) (b : List ℕ) (t : Tree) (e : CellFault) (r : Result Checked E) → IsGood t → Spells t b → Reads v t (Err e) → IfOk r (λ c. IsUnfit e c) → IfOk r (λ c. Checks v b c)
-unfit_checks v b t e (Ok c) good spells w h = unfit_is v b t e c good spells w h
-unfit_checks v b t e (Err x) good spells w h = tt
+-- what is said of the one value that the bytes spell
+abbrev ChecksTree : Version → Tree → Checked → Type 0
+ChecksTree v t (Fine hex) = IsCell v t × IsSpelled t (Fine hex)
+ChecksTree v t (Refused r o) = IsCell v t × IsTooLong t r o
+ChecksTree v t (Unfit r k) = IsBad v t k r
+
+checks_tree : (v : Version) (b : List ℕ) (c : Checked) (s : SpellsOnly b) → Checks v b c → ChecksTree v s.tree c
+checks_tree v b (Fine hex) s h = subst (λ t. ChecksTree v t (Fine hex)) (sym (s.only h.tree h.good h.spelled)) (h.cell, h.again)
+checks_tree v b (Refused r o) s (inl h) = absurd (s.never_bad o r h)
+checks_tree v b (Refused r o) s (inr h) = subst (λ t. ChecksTree v t (Refused r o)) (sym (s.only h.tree h.good h.spelled)) (h.cell, h.again)
+checks_tree v b (Unfit r k) s h = subst (λ t. IsBad v t k r) (sym (s.only h.tree h.good h.spelled)) h.bad
+
+cell_or_bad : (v : Version) (t : Tree) (k : ℕ) (r : CellReason) → HasOneReading v t → IsCell v t → IsBad v t k r → ⊥
+cell_or_bad v t k r (inl x) g h = x.never_bad k r h
+cell_or_bad v t k r (inr x) g h = x.forms_none g.0 g.1
+
+bad_once : (v : Version) (t : Tree) (k j : ℕ) (r q : CellReason) → HasOneReading v t → IsBad v t k r → IsBad v t j q → (r ≡ q) × (k ≡ j)
+bad_once v t k j r q (inl x) g h = absurd (x.never_bad k r g)
+bad_once v t k j r q (inr x) g h =
+    let a = x.only k r g in
+    let d = x.only j q h in
+    (sym a.1 ∙ d.1, sym a.0 ∙ d.0)
+
+tree_once : (v : Version) (t : Tree) (c d : Checked) → HasOneReading v t → ChecksTree v t c → ChecksTree v t d → IsSameCheck c d
+tree_once v t (Fine x) (Fine y) one g h = g.1.1 ∙ sym h.1.1
+tree_once v t (Fine x) (Refused r o) one g h = absurd (omega (arith, g.1.0, h.1.long))
+tree_once v t (Fine x) (Unfit r k) one g h = absurd (cell_or_bad v t k r one g.0 h)
+tree_once v t (Refused r o) (Fine y) one g h = absurd (omega (arith, g.1.long, h.1.0))
+tree_once v t (Refused r o) (Refused q p) one g h = (g.1.reason ∙ sym h.1.reason, g.1.place ∙ sym h.1.place)
+tree_once v t (Refused r o) (Unfit q k) one g h = absurd (cell_or_bad v t k q one g.0 h)
+tree_once v t (Unfit r k) (Fine y) one g h = absurd (cell_or_bad v t k r one h.0 g)
+tree_once v t (Unfit r k) (Refused q o) one g h = absurd (cell_or_bad v t k r one h.0 g)
+tree_once v t (Unfit r k) (Unfit q j) one g h = bad_once v t k j r q one g h
+
+-- bytes that spell no value are refused for their one fault
+refused_once : (v : Version) (b : List ℕ) (c : Checked) (x : IsBadOnly b) → Checks v b c → IsSameCheck (Refused x.why x.place) c
+refused_once v b (Fine hex) x h = absurd (x.spells_none h.tree h.good h.spelled)
+refused_once v b (Refused r o) x (inl h) = let e = x.only o r h in (e.1, e.0)
+refused_once v b (Refused r o) x (inr h) = absurd (x.spells_none h.tree h.good h.spelled)
+refused_once v b (Unfit r k) x h = absurd (x.spells_none h.tree h.good h.spelled)
+
+same_two : (r : Reason) (o : ℕ) (c d : Checked) → IsSameCheck (Refused r o) c → IsSameCheck (Refused r o) d → IsSameCheck c d
+same_two r o (Refused q p) (Refused s n) g h = (sym g.0 ∙ h.0, sym g.1 ∙ h.1)
+same_two r o (Refused q p) _ g h = absurd h
+same_two r o _ d g h = absurd g
+
+checked_once : (v : Version) (b : List ℕ) (c d : Checked) → HasOneAnswer b → Checks v b c → Checks v b d → IsSameCheck c d
+checked_once v b c d (inl s) g h = tree_once v s.tree c d (one_reading_is v s.tree) (checks_tree v b c s g) (checks_tree v b d s h)
+checked_once v b c d (inr x) g h = same_two x.why x.place c d (refused_once v b c x g) (refused_once v b d x h)
+
+pub one_check : HasOneCheck
+one_check v b c d bytes g h = checked_once v b c d (one_answer_is b bytes) g h

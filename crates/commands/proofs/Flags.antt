@@ -7,7 +7,7 @@ use Rattle.std.proofs.lemmas.Bool.{or_cases, eqb-true, false≢true}
 use Rattle.scripts.specs.Words.{number_of}
 use Rattle.commands.specs.declared.arguments.Wanted.{Wanted}
 use Rattle.commands.specs.declared.arguments.Wanted.TheVariants as want
-use Rattle.commands.specs.Asked.{Text, Ask, ToAnswer, ToReplay, ToLoop, WrongWord, is_flag, has_flag, plain_at, port_at, count_at, version_at, said_at, word_at, plain_word, port_word, count_word, version_word, ends_at, ◌>>=◌, asked_answer, asked_check, asked_replay, asked_loop, asked_serve, asked_vectors, asked_shell, asked_by, asked_words}
+use Rattle.commands.specs.Asked.{Text, Ask, ToAnswer, ToReplay, ToLoop, WrongWord, is_flag, has_flag, plain_at, port_at, count_at, version_at, said_at, word_at, plain_word, port_word, count_word, version_word, ends_at, ◌>>=◌, asked_check, asked_serve, asked_shell, asked_by, asked_words}
 
 -- one of the words is a flag
 abbrev HasFlag : List Text → Type 0

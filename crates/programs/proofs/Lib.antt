@@ -1,5 +1,4 @@
 pub mod Escapings
-pub mod Lines
 pub mod Stops
 pub mod Moved
 pub mod Printed

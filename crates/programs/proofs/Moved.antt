@@ -1,24 +1,16 @@
 -- What streams get, one thing after another.
-use Rattle.std.proofs.Common.{◌≡◌, refl, sym, ap, subst, ◌∙◌, ℕ, Bool, true, false, List, [], ◌∷◌, ◌++◌, append_assoc, append-nil, true≢false, Option, Some, None}
+use Rattle.std.proofs.Common.{◌≡◌, refl, sym, subst, ◌∙◌, ℕ, Bool, true, false, List, [], ◌∷◌, ◌++◌, true≢false, Option, Some, None}
 use Rattle.std.specs.Io.KnownBytes.{Appends, Consumes, IsAtEnd}
 use Rattle.std.proofs.KnownBytes.{Appends-nil, Appends-trans, Consumes-trans}
 use Rattle.streams.specs.declared.fault.StreamFault.{StreamFault}
 use Rattle.streams.specs.Fronts.{AppendsFront}
+use Rattle.streams.proofs.Stepping.{front_after, front_whole}
 use Rattle.programs.specs.Stopping.{Gets}
 use Rattle.programs.specs.Talking.{Log, and_then, told_more, printed_more, is_printed, IsUsedUp, Streams, Puts, Moves}
 
 -- a beginning
-pub front_whole : (a b : Option (List ℕ)) (xs : List ℕ) → Appends a b xs → AppendsFront a b xs
-front_whole a b xs h = (xs, [], append-nil xs, h)
-
 pub front_same : (a b : Option (List ℕ)) (xs : List ℕ) → b ≡ a → AppendsFront a b xs
 front_same a b xs e = ([], xs, refl, subst (λ (z : Option (List ℕ)). Appends a z []) (sym e) (Appends-nil a))
-
-pub front_more : (a b : Option (List ℕ)) (xs ys : List ℕ) → AppendsFront a b xs → AppendsFront a b (xs ++ ys)
-front_more a b xs ys h = (h.0, h.1 ++ ys, sym (append_assoc h.0 h.1 ys) ∙ ap (λ (z : List ℕ). z ++ ys) h.2, h.3)
-
-pub front_then : (a b c : Option (List ℕ)) (xs ys : List ℕ) → Appends a b xs → AppendsFront b c ys → AppendsFront a c (xs ++ ys)
-front_then a b c xs ys h k = (xs ++ k.0, k.1, append_assoc xs k.0 k.1 ∙ ap (λ (z : List ℕ). xs ++ z) k.2, Appends-trans a b c xs k.0 h k.3)
 
 -- all of it, or a beginning
 pub puts_whole : (w : Bool) (a b : Option (List ℕ)) (xs : List ℕ) → Appends a b xs → Puts w a b xs
@@ -31,7 +23,7 @@ puts_front false a b xs e h = h
 
 pub puts_then : (w : Bool) (a b c : Option (List ℕ)) (xs ys : List ℕ) → Appends a b xs → Puts w b c ys → Puts w a c (xs ++ ys)
 puts_then true a b c xs ys h k = Appends-trans a b c xs ys h k
-puts_then false a b c xs ys h k = front_then a b c xs ys h k
+puts_then false a b c xs ys h k = front_after a b c xs ys h k
 
 -- what standard error gets
 pub gets_none : (d : Bool) (a : Option (List ℕ)) → Gets d d a a []

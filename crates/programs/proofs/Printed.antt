@@ -1,5 +1,5 @@
 -- Notes that are printed, one piece after another.
-use Rattle.std.proofs.Common.{◌≡◌, refl, sym, ap, subst, ◌∙◌, ℕ, Bool, true, false, List, [], ◌∷◌, ◌++◌, map, append_assoc, append-nil, true≢false, Option, ◌⊎◌, inl, inr}
+use Rattle.std.proofs.Common.{◌≡◌, refl, sym, ap, subst, ◌∙◌, ℕ, Bool, false, List, [], ◌∷◌, ◌++◌, map, append_assoc, append-nil, true≢false, Option, ◌⊎◌, inl, inr}
 use Rattle.std.proofs.lemmas.List.{map-append}
 use Rattle.std.specs.Io.KnownBytes.{Appends}
 use Rattle.std.proofs.KnownBytes.{Appends-trans}
@@ -8,7 +8,8 @@ use Rattle.client.specs.Rest.{Note}
 use Rattle.programs.specs.Telling.{AreTold, IsExplained, version_after, versions_after}
 use Rattle.programs.specs.Shelling.{HasPrinted, Prints, PrintsPart}
 use Rattle.programs.specs.declared.caller.Caller.{Caller}
-use Rattle.programs.proofs.Moved.{front_whole, front_same, front_then}
+use Rattle.streams.proofs.Stepping.{front_after, front_whole}
+use Rattle.programs.proofs.Moved.{front_same}
 
 pub versions_more : (v : Version) (ns ms : List Note) → versions_after v (ns ++ ms) ≡ versions_after (versions_after v ns) ms
 versions_more v [] ms = refl
@@ -29,9 +30,6 @@ prints_whole v ns t w a b h k = record { shown = ns; unshown = []; text = t; par
 pub prints_none : (v : Version) (ns : List Note) (a b : Option (List ℕ)) → b ≡ a → Prints v ns false a b
 prints_none v ns a b e = record { shown = []; unshown = ns; text = []; parts = refl; told = refl; printed = front_same a b [] e; all = λ z. absurd (true≢false (sym z)) }
 
-pub prints_weak : (v : Version) (ns : List Note) (w : Bool) (a b : Option (List ℕ)) → Prints v ns true a b → Prints v ns w a b
-prints_weak v ns w a b h = record { shown = h.shown; unshown = h.unshown; text = h.text; parts = h.parts; told = h.told; printed = h.printed; all = λ _. h.all refl }
-
 -- a beginning of one
 pub prints_part : (v : Version) (n : Note) (more : List Note) (a b : Option (List ℕ)) → (b ≡ a) ⊎ PrintsPart (version_after v n) n a b → Prints v (n ∷ more) false a b
 prints_part v n more a b (inl e) = prints_none v (n ∷ more) a b e
@@ -45,16 +43,9 @@ prints_then v ns ms t w a b c h k p = record {
   text = t ++ p.text;
   parts = ap (λ (z : List Note). ns ++ z) p.parts ∙ sym (append_assoc ns p.shown p.unshown);
   told = told_then v ns p.shown t p.text h p.told;
-  printed = front_then a b c t p.text k p.printed;
+  printed = front_after a b c t p.text k p.printed;
   all = λ e. let q = p.all e in (q.0, Appends-trans a b c t p.text k q.1);
 }
-
--- what all was printed is all of the notes
-pub prints_all : (v : Version) (ns : List Note) (a b : Option (List ℕ)) → Prints v ns true a b → (t : List ℕ) × AreTold v ns t × Appends a b t
-prints_all v ns a b p =
-    let q = p.all refl in
-    let same : p.shown ≡ ns = sym (append-nil p.shown) ∙ ap (λ (z : List Note). p.shown ++ z) (sym q.0) ∙ sym p.parts in
-    (p.text, subst (λ (z : List Note). AreTold v z p.text) same p.told, q.1)
 
 -- one more is printed
 pub printed_next : {X : Type 0} (v : Version) (see : X → Note) (xs : List X) (x : X) (b c : Caller) (o m n : Option (List ℕ)) → HasPrinted v (map see xs) b o m

@@ -1,13 +1,12 @@
 -- How a program ends, by why it stops.
 use Rattle.std.proofs.Common.{◌≡◌, refl, sym, ap, ◌∙◌, subst, ℕ, Bool, List, Option, Some, None, Result, Ok, Err, ◌⊎◌, ⊎_elim, arith}
-use Rattle.std.specs.Prelude.{OnOk, OnErr, IsErr, IsSome, option_map}
-use Rattle.std.proofs.KnownBytes.{Appends-nil}
+use Rattle.std.specs.Prelude.{IsErr, IsSome, option_map}
 use Rattle.streams.specs.declared.fault.StreamFault.{StreamFault}
 use Rattle.streams.specs.declared.fault.StreamFault.TheVariants.{ReadFailed, WriteFailed, Memory}
 use Rattle.streams.specs.Failing.{UnlessTold}
 use Rattle.programs.specs.declared.stop.Stop.{Stop}
 use Rattle.programs.specs.declared.stop.Stop.TheVariants.{Unreadable, Broken}
-use Rattle.programs.specs.Stopping.{IsStopOf, stop_status, Ends, TellsStop}
+use Rattle.programs.specs.Stopping.{IsStopOf, stop_status, TellsStop}
 
 stop_of : (stop : Stop) (A B : Type 0) → (stop ≡ Broken ReadFailed → A) → (stop ≡ Broken WriteFailed → B) → IsStopOf stop A B
 stop_of (Unreadable n) A B a b = tt
@@ -17,25 +16,6 @@ stop_of (Broken Memory) A B a b = tt
 
 pub told_of : (told stop : Stop) (A B : Type 0) → (stop ≡ Broken ReadFailed → A) → (stop ≡ Broken WriteFailed → B) → (told ≡ stop) ⊎ ((told ≡ Broken Memory) × (stop_status stop ≡ 2)) → IsStopOf told A B
 told_of told stop A B a b h = ⊎_elim (λ e. stop_of told A B (λ q. a (sym e ∙ q)) (λ q. b (sym e ∙ q))) (λ e. subst (λ (s : Stop). IsStopOf s A B) (sym e.0) tt) h
-
--- it stops, and why is told, or want of memory in its place
-pub ends_told : (stop : Stop) (status : ℕ) (A B : Type 0) (had failed : Bool) (before after : Option (List ℕ)) → (stop ≡ Broken ReadFailed → A) → (stop ≡ Broken WriteFailed → B)
-    → TellsStop stop status had failed before after → Ends status A B failed before after
-ends_told stop status A B had failed before after a b p = record { stop = Some p.told; ends = p.ends; cause = told_of p.told stop A B a b p.which; text = λ e. (p.text e).1 }
-
--- it ends well
-pub ends_well : (A B : Type 0) (failed : Bool) (before : Option (List ℕ)) → Ends 0 A B failed before before
-ends_well A B failed before = record { stop = None; ends = refl; cause = tt; text = λ e. Appends-nil before }
-
--- what follows of a good result
-pub on_ok_then : {T E : Type 0} (x : Result T E) (P Q : Type 0) → (P → Q) → OnOk x P → OnOk x Q
-on_ok_then (Ok t) P Q f h = f h
-on_ok_then (Err e) P Q f h = h
-
--- the same of a fault
-pub on_err_then : {T E : Type 0} (x : Result T E) (P Q : Type 0) → (P → Q) → OnErr x P → OnErr x Q
-on_err_then (Ok t) P Q f h = h
-on_err_then (Err e) P Q f h = f h
 
 -- a status of 0 is that of no stop
 pub never_well : (stop : Stop) → stop_status stop ≡ 0 → ⊥
@@ -50,21 +30,15 @@ broken_stops ReadFailed e = absurd cc
 broken_stops WriteFailed e = absurd cc
 broken_stops Memory e = absurd cc
 
-pub was_unreadable : (told stop : Stop) → (told ≡ stop) ⊎ ((told ≡ Broken Memory) × (stop_status stop ≡ 2)) → stop_status told ≡ 2 → stop_status stop ≡ 2
-was_unreadable told stop h e = ⊎_elim (λ q. subst (λ (s : Stop). stop_status s ≡ 2) q e) (λ q. q.1) h
-
 pub some_of : {A : Type 0} (f : A → ℕ) (o : Option A) (n : ℕ) → option_map f o ≡ Some n → IsSome o
 some_of f None n e = absurd cc
 some_of f (Some a) n e = refl
 
-two_one : (n : ℕ) → n ≡ 2 → n ≡ 1 → ⊥
-two_one n e f = absurd (omega (arith, e, f))
-
 -- a fault of a stream is told with status 1
-pub never_failed : (fault : StreamFault) (stop : Stop) (status : ℕ) (had failed : Bool) (before after : Option (List ℕ)) → stop_status (Broken fault) ≡ 1 → TellsStop stop status had failed before after → (status ≡ 1 → ⊥) → stop ≡ Broken fault → ⊥
-never_failed fault stop status had failed before after one p n e =
+pub never_failed : {stop : Stop} {status : ℕ} {had failed : Bool} {before after : Option (List ℕ)} (fault : StreamFault) → stop_status (Broken fault) ≡ 1 → TellsStop stop status had failed before after → (status ≡ 1 → ⊥) → stop ≡ Broken fault → ⊥
+never_failed {stop = stop} fault one p n e =
     let is : stop_status stop ≡ 1 = ap stop_status e ∙ one in
-    ⊎_elim (λ q. n (p.ends ∙ ap stop_status q ∙ is)) (λ q. two_one (stop_status stop) q.1 is) p.which
+    ⊎_elim (λ q. n (p.ends ∙ ap stop_status q ∙ is)) (λ (q : (p.told ≡ Broken Memory) × (stop_status stop ≡ 2)). omega (arith, q.1, is)) p.which
 
 -- what holds unless a fault is told, and what follows of it
 pub unless_then : {T E : Type 0} (x : Result T E) (f : E) (A B : Type 0) → (A → B) → UnlessTold x f A → UnlessTold x f B
@@ -74,10 +48,6 @@ unless_then (Err e) f A B g h = λ n. g (h n)
 pub unless_so : {T E : Type 0} (x : Result T E) (f : E) (A : Type 0) → A → UnlessTold x f A
 unless_so (Ok t) f A a = a
 unless_so (Err e) f A a = λ n. a
-
-pub unless_not : {T E : Type 0} (x : Result T E) (f : E) (A : Type 0) → (x ≡ Err f → ⊥) → UnlessTold x f A → A
-unless_not (Ok t) f A n h = h
-unless_not (Err e) f A n h = h (λ q. n (ap Err q))
 
 -- a fault of a conversation is told as its stop
 pub unless_stops : (f fault : StreamFault) (So : Type 0) → ((f ≡ fault → ⊥) → So) → (Broken f ≡ Broken fault → ⊥) → So

@@ -8,23 +8,21 @@ use Rattle.packstream.specs.Canon.{canon}
 use Rattle.packstream.specs.Tree.{list}
 use Rattle.packstream.specs.View.{trees_of}
 use Rattle.hex.specs.Hex.{encode_lower}
-use Rattle.structures.proofs.OneWriting.{same_form}
+use Rattle.structures.proofs.Clauses.{same_form}
 use Rattle.wire.specs.declared.Version.{Version}
-use Rattle.wire.specs.declared.Wish.{Wish}
 use Rattle.wire.specs.Framing.{Item, Opened, at_client, at_server, items_received}
 use Rattle.wire.specs.Reader.{outputs, state}
 use Rattle.wire.proofs.Readers.{outputs-append}
 use Rattle.engine.specs.Views.{EntryView}
 use Rattle.session.specs.Session.{Setting}
 use Rattle.session.specs.Rest.{begun}
-use Rattle.client.specs.Rest.{Knows, Note, Nothing, Chose, Row, Summary, Rest}
+use Rattle.client.specs.Rest.{Note, Nothing, Chose, Row, Summary, Rest}
 use Rattle.client.specs.Fits.{Fits}
-use Rattle.streams.specs.Asking.{Tale, after_notes, tale_of, hears_all, after_all, FeedsPiece}
+use Rattle.streams.specs.Asking.{Tale, after_notes, hears_all, after_all, FeedsPiece}
 use Rattle.streams.specs.Conversing.{Talk}
 use Rattle.streams.specs.Settling.{item_talk}
-use Rattle.streams.proofs.Arriving.{talk_by_items}
-use Rattle.streams.proofs.Tales.{hears_all-append, after_all-append}
-use Rattle.streams.proofs.Telling.{item_talk-append}
+use Rattle.streams.proofs.Talks.{item_talk-append, talk_by_items}
+use Rattle.streams.proofs.Tales.{hears_all-append, after_all-append, over_tale}
 use Rattle.scripts.specs.Views.{ScriptRequestView}
 use Rattle.programs.specs.declared.caller.Caller.{Caller}
 use Rattle.programs.specs.Looping.{Prints, StandsAt}
@@ -87,10 +85,6 @@ version_next v see xs x w u e f =
     f ∙ ap (λ (z : Version). version_after z (see x)) e ∙ sym (versions_more v (map see xs) (see x ∷ [])) ∙ ap (versions_after v) (sym (map-append see xs (x ∷ [])))
 
 -- nothing is heard after the end
-over_tale : (wish : Wish) (k : Knows) (xs : List Item) → k.over ≡ true → tale_of wish k xs ≡ record { knows = k; notes = [] }
-over_tale wish k [] e = refl
-over_tale wish k (x ∷ xs) e = rw e refl
-
 stays_over : (r : Rest) (bytes : List ℕ) → r.knows.over ≡ true → (hears_all r bytes).knows.over ≡ true
 stays_over r bytes e = ap (λ (t : Tale). t.knows.over) (over_tale r.wish r.knows (outputs at_client r.item bytes) e) ∙ e
 
@@ -111,12 +105,9 @@ all_heard r piece fed unheard parts (inl none) = ap (hears_all r) (sym (parts �
 all_heard r piece fed unheard parts (inr over) =
     let t = hears_all r fed in
     let rest = over_tale r.wish t.knows (outputs at_client (state at_client r.item fed) unheard) over in
-    sym (ap (hears_all r) parts ∙ hears_all-append r fed unheard ∙ ap (after_notes t.notes) rest ∙ ap (λ (z : List Note). told t.knows z) (append-nil t.notes))
-  where
-    told : Knows → List Note → Tale
-    told k z = record { knows = k; notes = z }
+    sym (ap (hears_all r) parts ∙ hears_all-append r fed unheard ∙ ap (after_notes t.notes) rest ∙ ap (λ z. record { knows = t.knows; notes = z }) (append-nil t.notes))
 
-module _ (b c : Caller) (p : Place) (piece : List ℕ) (notes : List Note) (s : StandsAt b p) (h : FeedsPiece (with_item p.rest s.item) piece [] notes true (Fits c.client)) where
+module _ {b : Caller} {p : Place} {piece : List ℕ} {notes : List Note} {Now : Rest → Type 0} (s : StandsAt b p) (h : FeedsPiece (with_item p.rest s.item) piece [] notes true Now) where
   same_tale : hears_all (with_item p.rest s.item) h.fed ≡ hears_all p.rest piece
   same_tale = all_heard (with_item p.rest s.item) piece h.fed h.unheard h.parts (h.ends refl) ∙ hears_alike p.rest s.item piece s.same
 
@@ -135,11 +126,11 @@ module _ (b c : Caller) (p : Place) (piece : List ℕ) (notes : List Note) (s : 
       go (inl none) = ap (λ (z : Opened). state at_client z h.fed) (s.same (open_before p.rest.knows.over refl)) ∙ ap (state at_client p.rest.item) (sym (h.parts ∙ ap (λ z. h.fed ++ z) none ∙ append-nil h.fed))
       go (inr over) = absurd (true≢false (sym over ∙ ap (λ (t : Tale). t.knows.over) same_tale ∙ e))
 
-  pub stands_heard : c.version ≡ versions_after b.version notes → StandsAt c (place_after p piece)
-  stands_heard v = record {
+  pub stands_heard : {c : Caller} → Fits c.client (after_all (with_item p.rest s.item) h.fed) → c.version ≡ versions_after b.version notes → StandsAt c (place_after p piece)
+  stands_heard {c = c} fits v = record {
     item = state at_client s.item h.fed;
     at = record {
-      fits = subst (λ (t : Tale). Fits c.client (record { wish = p.rest.wish; knows = t.knows; item = state at_client s.item h.fed; unsent = p.rest.unsent })) same_tale h.now;
+      fits = subst (λ (t : Tale). Fits c.client (record { wish = p.rest.wish; knows = t.knows; item = state at_client s.item h.fed; unsent = p.rest.unsent })) same_tale fits;
       version = v ∙ ap (λ (w : Version). versions_after w notes) s.at.version ∙ ap (versions_after p.version) same_notes;
     };
     same = same_item;
@@ -148,19 +139,16 @@ module _ (b c : Caller) (p : Place) (piece : List ℕ) (notes : List Note) (s : 
 -- one piece after another
 place_more : (p : Place) (a b : List ℕ) → place_after p (a ++ b) ≡ place_after (place_after p a) b
 place_more p a b =
-    ap (at (after_all p.rest (a ++ b))) (ap (λ (t : Tale). versions_after p.version t.notes) (hears_all-append p.rest a b) ∙ versions_more p.version (hears_all p.rest a).notes (hears_all (after_all p.rest a) b).notes)
-    ∙ ap (λ (r : Rest). at r (versions_after (versions_after p.version (hears_all p.rest a).notes) (hears_all (after_all p.rest a) b).notes)) (after_all-append p.rest a b)
-  where
-    at : Rest → Version → Place
-    at r v = record { rest = r; version = v }
+    ap (λ (v : Version). record p { rest = after_all p.rest (a ++ b); version = v }) (ap (λ (t : Tale). versions_after p.version t.notes) (hears_all-append p.rest a b) ∙ versions_more p.version (hears_all p.rest a).notes (hears_all (after_all p.rest a) b).notes)
+    ∙ ap (λ (r : Rest). record p { rest = r; version = versions_after (versions_after p.version (hears_all p.rest a).notes) (hears_all (after_all p.rest a) b).notes }) (after_all-append p.rest a b)
 
 shown_more : (p : Place) (a b : List ℕ) → shown_of p (a ++ b) ≡ shown_of p a ++ shown_of (place_after p a) b
 shown_more p a b =
     ap (λ (t : Tale). notes_shown p.version t.notes) (hears_all-append p.rest a b) ∙ notes_more p.version (hears_all p.rest a).notes (hears_all (after_all p.rest a) b).notes
 
 -- of a piece some was heard and printed, and then some more
-pub heard_more : (b c : Caller) (p : Place) (done part : List ℕ) (x y z : Option (List ℕ)) → Prints (shown_of p done) x y → StandsAt c (place_after (place_after p done) part) × Prints (shown_of (place_after p done) part) y z → StandsAt c (place_after p (done ++ part)) × Prints (shown_of p (done ++ part)) x z
-heard_more b c p done part x y z h k = (
+pub heard_more : {c : Caller} (p : Place) (done part : List ℕ) (x y z : Option (List ℕ)) → Prints (shown_of p done) x y → StandsAt c (place_after (place_after p done) part) × Prints (shown_of (place_after p done) part) y z → StandsAt c (place_after p (done ++ part)) × Prints (shown_of p (done ++ part)) x z
+heard_more {c = c} p done part x y z h k = (
   subst (StandsAt c) (sym (place_more p done part)) k.0,
   subst (λ (s : List Shown). Prints s x z) (sym (shown_more p done part)) (prints_then (shown_of p done) (shown_of (place_after p done) part) x y z h k.1),
 )

@@ -101,11 +101,8 @@ runs_one S (l ∷ ls) w t u x y h k =
 
 pub one_said : (b : List ℕ) (r s : Replayed) → SaysScript b r → SaysScript b s → Says (string_bytes s.out) (string_bytes s.err) s.status r
 one_said b r s (inl h) (inl k) =
-    let n : h.0 ≡ k.0 = some_is h.0 k.0 (sym h.1 ∙ k.1) in
+    let n : h.0 ≡ k.0 = let s : ◌≡◌ {A = Option ℕ} (Some h.0) (Some k.0) = sym h.1 ∙ k.1 in cc in
     record { out = h.2.out ∙ sym k.2.out; err = h.2.err ∙ ap unreadable_line n ∙ sym k.2.err; status = h.2.status ∙ sym k.2.status }
-  where
-    some_is : (n m : ℕ) → ◌≡◌ {A = Option ℕ} (Some n) (Some m) → n ≡ m
-    some_is n m e = cc
 one_said b r s (inl h) (inr k) =
     let bad : ◌≡◌ {A = Option ℕ} None (Some h.0) = ap (option_map (λ l. l.0)) (sym k.readable) ∙ h.1 in absurd cc
 one_said b r s (inr h) (inl k) =

@@ -24,12 +24,9 @@ pub connections_more : (c : ℕ) (ks : List Connection) (i : ℕ) (k : Connectio
 unfolding connections_text
 connections_more c [] i k h = absurd cc
 connections_more c (x ∷ ks) zero k h =
-    let e : x ≡ k = some_is x k h in
+    let e : x ≡ k = let s : ◌≡◌ {A = Option Connection} (Some x) (Some k) = h in cc in
     let z : c + 0 ≡ c = omega arith in
     append-nil (connection_text c x) ∙ ap (connection_text c) e ∙ ap (λ n. connection_text n k) (sym z)
-  where
-    some_is : (x y : Connection) → ◌≡◌ {A = Option Connection} (Some x) (Some y) → x ≡ y
-    some_is x y h = cc
 connections_more c (x ∷ ks) (suc i) k h =
     let n : suc c + i ≡ c + suc i = omega arith in
     ap (λ z. connection_text c x ++ z) (connections_more (suc c) ks i k h ∙ ap (λ m. connections_text (suc c) (take i ks) ++ connection_text m k) n)

@@ -1,5 +1,5 @@
--- What a world's answer means for an event, and events again and again.
-use Rattle.std.proofs.Common.{◌≡◌, refl, sym, ◌∙◌, subst, true, false, Result, Ok, Err, List, inl, inr}
+-- What a world's answer means for an event, what is done for a line, and what is said of the lines that a server for one user runs.
+use Rattle.std.proofs.Common.{◌≡◌, refl, sym, ◌∙◌, subst, Result, Ok, Err, List, inl, inr, ap, Bool, [], ◌++◌, ℕ, string_bytes}
 use Rattle.std.specs.declared.alloc.AllocError.{AllocError}
 use Rattle.engine.specs.Views.{EntryView}
 use Rattle.session.specs.Session.{Setting}
@@ -7,12 +7,24 @@ use Rattle.world.specs.declared.kinds.Refused.{Refused}
 use Rattle.world.specs.declared.kinds.Refused.TheVariants.{NoSuchConnection, WrongPeer, SessionsFull, Memory}
 use Rattle.world.specs.declared.kinds.Seen.{Seen as SeenTold}
 use Rattle.world.specs.declared.world.World.{World as WorldHeld}
-use Rattle.world.specs.World.{World, Event, Opens, Submit, ToServer, ToClient, Work, PutsNoop, Cut, ClientLost, ServerLost, Feeds, V1, V2, V3, Reached, goes_on, takes_out}
+use Rattle.world.specs.World.{World, Event, ToClient, V1, V2, V3, Reached, goes_on, takes_out, empty}
 use Rattle.world.specs.Contract.{Answers, Leaves}
 use Rattle.world.specs.Views.{seen_of}
-use Rattle.world.specs.Turns.{FitsWorld, seen_in}
+use Rattle.world.specs.Turns.{FitsWorld, seen_in, setting_of}
 use Rattle.replays.specs.declared.steps.Step.{Step}
-use Rattle.replays.specs.Running.{Leads, LeadsBy, Moves, moves_on, Once, Repeats, Settles, SettlesBy, Stepped, code_in}
+use Rattle.replays.specs.Running.{Leads, LeadsBy, Settles, SettlesBy, Stepped, Does, Done, Runs, serving}
+use Rattle.std.specs.declared.option.Option.{Option}
+use Rattle.scripts.specs.Views.{LineView}
+use Rattle.replays.specs.Events.{repeats, event_at}
+use Rattle.std.specs.Prelude.{◌&&◌, codes}
+use Rattle.std.specs.Str.{bytes_eq}
+use Rattle.engine.specs.declared.fixed_table.FixedTable.{FixedTable}
+use Rattle.engine.specs.declared.one_user.OneUser.{OneUser}
+use Rattle.engine.specs.Kept.{ledger_of, is_user, principal_of, credentials_of}
+use Rattle.engine.specs.Queries.{fixed_answer}
+use Rattle.replays.specs.declared.script.Replayed.{Replayed}
+use Rattle.replays.specs.Scripts.{Says}
+use Rattle.replays.specs.Texts.{report_text}
 
 pub stepped : (S : Setting) (brought : List EntryView) (w : World) (e : Event) (P : World → Type 0) → Reached S brought w → (res : Result SeenTold Refused) (s : Step) → Settles res s → Answers S w e (seen_in res) P
     → (w2 : World) × Stepped S w e s w2 × Reached S brought w2 × P w2
@@ -25,23 +37,15 @@ stepped S brought w e P r (Err Memory) s h a = absurd h
 
 -- what want of memory leaves was reached
 left_reached : (S : Setting) (brought : List EntryView) (w : World) (e : Event) (w2 : World) → Reached S brought w → Leaves w e w2 → Reached S brought w2
-left_reached S brought w (Opens p) w2 r h = subst (Reached S brought) (sym h) r
-left_reached S brought w (Submit c q) w2 r h = subst (Reached S brought) (sym h) r
-left_reached S brought w (ToServer c n) w2 r h = subst (Reached S brought) (sym h) r
 left_reached S brought w (ToClient c n) w2 r (inl h) = subst (Reached S brought) (sym h) r
 left_reached S brought w (ToClient c n) w2 r (inr h) = subst (Reached S brought) (sym h) (takes_out w c n r)
-left_reached S brought w (Work c) w2 r h = subst (Reached S brought) (sym h) r
-left_reached S brought w (PutsNoop c) w2 r h = subst (Reached S brought) (sym h) r
-left_reached S brought w (Cut c) w2 r h = subst (Reached S brought) (sym h) r
-left_reached S brought w (ClientLost c) w2 r h = subst (Reached S brought) (sym h) r
-left_reached S brought w (ServerLost c) w2 r h = subst (Reached S brought) (sym h) r
-left_reached S brought w (Feeds c b) w2 r h = subst (Reached S brought) (sym h) r
+left_reached S brought w _ w2 r h = subst (Reached S brought) (sym h) r
+
+-- the way seen otherwise
+pub leads_as : {E G : Type 0} {entries : E → List EntryView} {S : Setting} {gate : G} {brought : List EntryView} {P Q : World → Type 0} {t : WorldHeld E G} → ((w : World) → P w → Q w) → Leads entries S gate brought P t → Leads entries S gate brought Q t
+leads_as f h = record { after = h.after; way = f h.after h.way; reached = h.reached; fits = h.fits }
 
 module _ {E G : Type 0} (entries : E → List EntryView) (S : Setting) (gate : G) (brought : List EntryView) where
-  -- the way seen otherwise
-  pub leads_as : (P Q : World → Type 0) (t : WorldHeld E G) → ((w : World) → P w → Q w) → Leads entries S gate brought P t → Leads entries S gate brought Q t
-  leads_as P Q t f h = record { after = h.after; way = f h.after h.way; reached = h.reached; fits = h.fits }
-
   pub step_leads : (w : World) (e : Event) → Reached S brought w → (res : Result SeenTold Refused) (t : WorldHeld E G) (r : Result Step AllocError) → SettlesBy res r
       → Answers S w e (seen_in res) (FitsWorld entries t gate) → LeadsBy entries S gate brought (λ s. Stepped S w e s) r t
   step_leads w e reached res t (Ok s) h a =
@@ -56,18 +60,34 @@ module _ {E G : Type 0} (entries : E → List EntryView) (S : Setting) (gate : G
         fits = x.now;
       }
 
-  pub once_leads : (w : World) (e : Event) (s : Step) (t : WorldHeld E G) → Leads entries S gate brought (Stepped S w e s) t → Leads entries S gate brought (Once S w e (code_in s)) t
-  once_leads w e s t h = leads_as (Stepped S w e s) (Once S w e (code_in s)) t (λ w2 x. (x.0, x.1, x.2.0)) h
+-- whatever the line is, by the two ways that it is done
+does : (S : Setting) (w : World) (l : LineView) (b : Bool) (e : Event) (code : Option (List ℕ)) (w2 : World) → repeats l ≡ b → e ≡ event_at w l
+    → Done b S w e code w2 → Does S w l code w2
+does S w l b e code w2 is same h =
+    let P : Event → Type 0 = λ z. Done b S w z code w2 in
+    let Q : Bool → Type 0 = λ z. Done z S w (event_at w l) code w2 in
+    subst Q (sym is) (subst P same h)
 
-  -- once more, by an event that is the same
-  pub moves_more : (w : World) (e e2 : Event) (x t : WorldHeld E G) (s : Step) → e2 ≡ e → s.goes_on ≡ true → (h : Leads entries S gate brought (Moves S e w) x) → Leads entries S gate brought (Stepped S h.after e2 s) t
-      → Leads entries S gate brought (Moves S e w) t
-  moves_more w e e2 x t s same on h l =
-      let P : Event → Type 0 = λ z. Leads entries S gate brought (Stepped S h.after z s) t in
-      leads_as (Stepped S h.after e s) (Moves S e w) t (λ w2 y. moves_on h.after w2 y.0 h.way y.1 (sym y.2.1 ∙ on)) (subst P same l)
+pub line_done : {A E G : Type 0} (entries : E → List EntryView) (S : Setting) (gate : G) (brought : List EntryView) (t : WorldHeld E G) (view : A → Option (List ℕ)) (w : World) (l : LineView) (b : Bool) (e : Event) (r : Result A AllocError) → repeats l ≡ b → e ≡ event_at w l
+    → LeadsBy entries S gate brought (λ code. Done b S w e (view code)) r t → LeadsBy entries S gate brought (λ code. Does S w l (view code)) r t
+line_done entries S gate brought t view w l b e (Ok code) is same h = leads_as (λ w2 x. does S w l b e (view code) w2 is same x) h
+line_done entries S gate brought t view w l b e (Err f) is same h = h
 
-  pub moves_end : (w : World) (e e2 : Event) (x t : WorldHeld E G) (s : Step) → e2 ≡ e → s.goes_on ≡ false → (h : Leads entries S gate brought (Moves S e w) x) → Leads entries S gate brought (Stepped S h.after e2 s) t
-      → Leads entries S gate brought (Repeats S w e (code_in s)) t
-  moves_end w e e2 x t s same off h l =
-      let P : Event → Type 0 = λ z. Leads entries S gate brought (Stepped S h.after z s) t in
-      leads_as (Stepped S h.after e s) (Repeats S w e (code_in s)) t (λ w2 y. record { before = h.after; came = y.0; moved = h.way; took = y.1; still = sym y.2.1 ∙ off; noted = y.2.0 }) (subst P same l)
+-- a server that lets in one user
+abbrev setting_by : List ℕ → List ℕ → Setting
+setting_by principal credentials = record { run = fixed_answer; check = λ p c. bytes_eq p principal && bytes_eq c credentials }
+
+pub serving_is : (gate : OneUser) → principal_of gate ≡ codes "user" → credentials_of gate ≡ codes "pass" → setting_of fixed_answer is_user gate ≡ serving
+serving_is gate p c = ap (λ x. setting_by x (credentials_of gate)) p ∙ ap (λ x. setting_by (codes "user") x) c
+
+pub lines_said : (gate : OneUser) → principal_of gate ≡ codes "user" → credentials_of gate ≡ codes "pass" → (ls : List (ℕ × LineView)) (text told : List ℕ) (t : WorldHeld FixedTable OneUser)
+    → Leads ledger_of (setting_of fixed_answer is_user gate) gate [] (Runs (setting_of fixed_answer is_user gate) (empty []) ls text) t
+    → ((w : World) → Reached (setting_of fixed_answer is_user gate) [] w → FitsWorld ledger_of t gate w → told ≡ report_text w)
+    → (r : Replayed) → string_bytes r.out ≡ text ++ told → string_bytes r.err ≡ [] → r.status ≡ 0
+    → (text : List ℕ) × (w : World) × Runs serving (empty []) ls text w × Says (text ++ report_text w) [] 0 r
+lines_said gate p c ls text told t h reports r out err status = (
+  text,
+  h.after,
+  subst (λ S. Runs S (empty []) ls text h.after) (serving_is gate p c) h.way,
+  record { out = out ∙ ap (λ z. text ++ z) (reports h.after h.reached h.fits); err = err; status = status },
+)

@@ -1,5 +1,5 @@
 -- The lines of a script, one after the other.
-use Rattle.std.proofs.Common.{◌≡◌, ℕ, ◌+◌, ◌<◌, ◌==◌, length, drop, map, get_or, Bor, true, false, List, [], ◌∷◌, ◌++◌, append_assoc, Option, Some, None, refl, sym, ap, ◌∙◌, arith}
+use Rattle.std.proofs.Common.{◌≡◌, ℕ, ◌+◌, ◌<◌, ◌==◌, length, drop, map, get_or, Bor, true, false, List, [], ◌∷◌, ◌++◌, append_assoc, Option, Some, refl, sym, ap, ◌∙◌, arith}
 use Rattle.std.specs.Option.{option_map}
 use Rattle.std.proofs.lemmas.List.{drop-map, drop_more, map-append}
 use Rattle.scripts.specs.declared.fault.LineFault.{LineFault}
@@ -15,25 +15,6 @@ pub record HasRead {V : Type 0} (read : Text → Option V) (b : List ℕ) (out :
   pub told : lines_read read (filled_lines b) ≡ out ++ lines_read read (filled_from n ls)
   pub left : unreadable read (filled_lines b) ≡ unreadable read (filled_from n ls)
 
--- an empty line is passed over, another stands first
-pub skips : {V : Type 0} (read : Text → Option V) (b : List ℕ) (out : List (ℕ × V)) (n : ℕ) (l : Text) (ls : List Text)
-    → HasRead read b out n (l ∷ ls) → is_empty l ≡ true → HasRead read b out (n + 1) ls
-skips read b out n l ls h e = record {
-  told = rw e at h.told;
-  left = rw e at h.left;
-}
-
-pub reads : {V : Type 0} (read : Text → Option V) (b : List ℕ) (out : List (ℕ × V)) (n : ℕ) (l : Text) (ls : List Text) (v : V)
-    → HasRead read b out n (l ∷ ls) → is_empty l ≡ false → read l ≡ Some v → HasRead read b (out ++ (n, v) ∷ []) (n + 1) ls
-reads read b out n l ls v h e k = record {
-  told = (rw (e, k) at h.told) ∙ sym (append_assoc out ((n, v) ∷ []) (lines_read read (filled_from (n + 1) ls)));
-  left = rw (e, k) at h.left;
-}
-
-pub stops : {V : Type 0} (read : Text → Option V) (b : List ℕ) (out : List (ℕ × V)) (n : ℕ) (l : Text) (ls : List Text)
-    → HasRead read b out n (l ∷ ls) → is_empty l ≡ false → read l ≡ None → option_map (λ x. x.0) (unreadable read (filled_lines b)) ≡ Some n
-stops read b out n l ls h e k = ap (option_map (λ x. x.0)) (rw (e, k) at h.left)
-
 -- The same of lines that are lent.
 abbrev pub texts : List (Bor (List ℕ)) → List Text
 texts ls = map (λ l. l.now) ls
@@ -45,20 +26,25 @@ empty_is : (l : Text) → is_empty l ≡ (length l == 0)
 empty_is [] = refl
 empty_is (x ∷ xs) = grind arith
 
--- the next line is empty, or it is read, or it can't be
-pub skips_line : {V : Type 0} (read : Text → Option V) (b : List ℕ) (out : List (ℕ × V)) (ls : List (Bor (List ℕ))) (i : ℕ) (d : Bor (List ℕ)) → i < length ls
-    → HasRead read b out (i + 1) (drop i (texts ls)) → (length (get_or ls i d).now == 0) ≡ true → HasRead read b out (i + 1 + 1) (drop (i + 1) (texts ls))
-skips_line read b out ls i d h k e = skips read b out (i + 1) (get_or ls i d).now (drop (i + 1) (texts ls)) (rw (first_of ls i d h) at k) (empty_is (get_or ls i d).now ∙ e)
+-- the next line is passed over where it is empty, or it is read, or it can't be
+module _ {V : Type 0} (read : Text → Option V) (b : List ℕ) (out : List (ℕ × V)) (ls : List (Bor (List ℕ))) (i : ℕ) (d : Bor (List ℕ)) (h : i < length ls) (k : HasRead read b out (i + 1) (drop i (texts ls))) where
+  abbrev rest : List Text
+  rest = drop (i + 1) (texts ls)
 
-pub reads_line : {V : Type 0} (read : Text → Option V) (b : List ℕ) (out : List (ℕ × V)) (ls : List (Bor (List ℕ))) (i : ℕ) (d : Bor (List ℕ)) (v : V) → i < length ls
-    → HasRead read b out (i + 1) (drop i (texts ls)) → (length (get_or ls i d).now == 0) ≡ false → read (get_or ls i d).now ≡ Some v
-    → HasRead read b (out ++ (i + 1, v) ∷ []) (i + 1 + 1) (drop (i + 1) (texts ls))
-reads_line read b out ls i d v h k e r = reads read b out (i + 1) (get_or ls i d).now (drop (i + 1) (texts ls)) v (rw (first_of ls i d h) at k) (empty_is (get_or ls i d).now ∙ e) r
+  here : HasRead read b out (i + 1) ((get_or ls i d).now ∷ rest)
+  here = rw (first_of ls i d h) at k
 
-pub stops_line : {V : Type 0} (read : Text → Option V) (b : List ℕ) (out : List (ℕ × V)) (ls : List (Bor (List ℕ))) (i : ℕ) (d : Bor (List ℕ)) (f : LineFault) (s : ScriptFault) → i < length ls
-    → HasRead read b out (i + 1) (drop i (texts ls)) → (length (get_or ls i d).now == 0) ≡ false → Refused f (read (get_or ls i d).now) → s ≡ fault_at (i + 1) f → IsRefused read b s
-stops_line read b out ls i d Unreadable s h k e r same = rw same (stops read b out (i + 1) (get_or ls i d).now (drop (i + 1) (texts ls)) (rw (first_of ls i d h) at k) (empty_is (get_or ls i d).now ∙ e) r)
-stops_line read b out ls i d Memory s h k e r same = rw same tt
+  pub skips_line : (length (get_or ls i d).now == 0) ≡ true → HasRead read b out (i + 1 + 1) rest
+  skips_line e = let empty = empty_is (get_or ls i d).now ∙ e in record { told = rw empty at here.told; left = rw empty at here.left }
+
+  pub reads_line : (v : V) → (length (get_or ls i d).now == 0) ≡ false → read (get_or ls i d).now ≡ Some v → HasRead read b (out ++ (i + 1, v) ∷ []) (i + 1 + 1) rest
+  reads_line v e r =
+      let filled = empty_is (get_or ls i d).now ∙ e in
+      record { told = (rw (filled, r) at here.told) ∙ sym (append_assoc out ((i + 1, v) ∷ []) (lines_read read (filled_from (i + 1 + 1) rest))); left = rw (filled, r) at here.left }
+
+  pub stops_line : (f : LineFault) (s : ScriptFault) → (length (get_or ls i d).now == 0) ≡ false → Refused f (read (get_or ls i d).now) → s ≡ fault_at (i + 1) f → IsRefused read b s
+  stops_line Unreadable s e r same = rw same (ap (option_map (λ x. x.0)) (rw (empty_is (get_or ls i d).now ∙ e, r) at here.left))
+  stops_line Memory s e r same = rw same tt
 
 -- what was pushed stands at the end
 pub pushed : {A B : Type 0} (f : A → B) (old new : List A) (x : A) → new ≡ old ++ x ∷ [] → map f old ++ f x ∷ [] ≡ map f new

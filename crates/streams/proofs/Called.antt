@@ -1,18 +1,65 @@
--- What a call on the one session makes of a server.
-use Rattle.std.proofs.Common.{◌≡◌, refl, sym, ap, subst, ◌∙◌, ℕ, List, ◌++◌, Option, Some, None, Result, Ok, Err}
-use Rattle.std.specs.Prelude.{IsSome, Bool, option_map, unwrap_or}
-use Rattle.wire.specs.Framing.{Opened}
-use Rattle.engine.specs.declared.answer.Mode.{Mode as QueryMode}
+-- What a call on the one session makes of a server: its place there, what each call does to it, and that it lives on while the ledger grows.
+use Rattle.std.proofs.Common.{◌≡◌, refl, ap, ℕ, List, [], ◌∷◌, eqb, cond, true, false, Bool, Some, sym, subst, ◌∙◌, ◌++◌, Option, None, Result, Ok, Err, ◌<◌, length, ◌≤◌, arith, append_assoc, append-nil}
+use Rattle.std.specs.Prelude.{IsSome, option_map, unwrap_or, if◌then◌else◌}
+use Rattle.std.proofs.lemmas.Bool.{eq-eqb}
+use Rattle.server.specs.Serving.{Live, Rest, find, replace, without, with_session, on_live, after_step, setting, work_at, taken_from, take_out_at, fed_live, feed_at, cause_or, lost_at}
+use Rattle.server.proofs.Runs.{find_replaced, find-conn}
 use Rattle.engine.specs.Views.{EntryView, WriteView, ParameterView, AnswerView, QueryFault}
+use Rattle.wire.specs.Framing.{Opened, Item, at_server}
+use Rattle.session.specs.Rest.{Kept, worked_of, work_kept, commit_entries, take_kept, shut, full, after_item}
+use Rattle.streams.specs.Conversing.{with_talk, heard_out, without_talk}
+use Rattle.engine.specs.declared.answer.Mode.{Mode as QueryMode}
 use Rattle.server.specs.declared.kinds.Refused.{Refused}
 use Rattle.server.specs.declared.kinds.Refused.TheVariants.{SessionsFull}
 use Rattle.session.specs.declared.kinds.Worked.{Worked}
-use Rattle.session.specs.Rest.{Kept, worked_of, work_kept, commit_entries}
-use Rattle.server.specs.Serving.{Live, Rest, find, replace, with_kept, with_session, on_live, after_step, setting, work_at}
 use Rattle.server.proofs.Answered.{Answers}
-use Rattle.server.proofs.Runs.{find-conn, find_replaced}
-use Rattle.streams.specs.Conversing.{with_talk}
-use Rattle.streams.proofs.Seats.{here, talk-found, talk-replaced}
+use Rattle.streams.proofs.Parts.{take_short}
+use Rattle.wire.specs.Reader.{Took as TookOf, takes}
+use Rattle.wire.proofs.Readers.{reads_pieces}
+use Rattle.server.specs.declared.kinds.Took.{Took}
+use Rattle.session.specs.declared.kinds.What.{What}
+use Rattle.server.specs.Feeding.{Feeding, feeding, takes_none, takes_item, arrival}
+use Rattle.session.specs.declared.kinds.Cause.{Cause}
+use Rattle.streams.specs.Serving.{LeavesOthers}
+use Rattle.streams.specs.Settling.{Grows, LivesOn}
+
+pub replace-replace : (conn : ℕ) (s t : Live) (ss : List Live) → s.conn ≡ conn → replace conn t (replace conn s ss) ≡ replace conn t ss
+replace-replace conn s t [] e = refl
+replace-replace conn s t (x ∷ ss) e = go (eqb x.conn conn) refl (replace-replace conn s t ss e)
+  where
+    go : (b : Bool) → eqb x.conn conn ≡ b → replace conn t (replace conn s ss) ≡ replace conn t ss → replace conn t (cond b (s ∷ ss) (x ∷ replace conn s ss)) ≡ cond b (t ∷ ss) (x ∷ replace conn t ss)
+    go true q more = let same : eqb s.conn conn ≡ true = rw e (eq-eqb conn conn refl) in rw same refl
+    go false q more = rw q (ap (λ z. x ∷ z) more)
+
+pub without-replace : (conn : ℕ) (s : Live) (ss : List Live) → s.conn ≡ conn → without conn (replace conn s ss) ≡ without conn ss
+without-replace conn s [] e = refl
+without-replace conn s (x ∷ ss) e = go (eqb x.conn conn) refl (without-replace conn s ss e)
+  where
+    go : (b : Bool) → eqb x.conn conn ≡ b → without conn (replace conn s ss) ≡ without conn ss → without conn (cond b (s ∷ ss) (x ∷ replace conn s ss)) ≡ cond b ss (x ∷ without conn ss)
+    go true q more = let same : eqb s.conn conn ≡ true = rw e (eq-eqb conn conn refl) in rw same refl
+    go false q more = rw q (ap (λ z. x ∷ z) more)
+
+-- a session in its own place
+pub replace-itself : (conn : ℕ) (s : Live) (ss : List Live) → find conn ss ≡ Some s → replace conn s ss ≡ ss
+replace-itself conn s [] e = refl
+replace-itself conn s (x ∷ ss) e = go (eqb x.conn conn) e (replace-itself conn s ss)
+  where
+    go : (b : Bool) → cond b (Some x) (find conn ss) ≡ Some s → (find conn ss ≡ Some s → replace conn s ss ≡ ss) → cond b (s ∷ ss) (x ∷ replace conn s ss) ≡ x ∷ ss
+    go true q more = let same : s ≡ x = cc in ap (λ z. z ∷ ss) same
+    go false q more = ap (λ z. x ∷ z) (more q)
+
+module _ {G : Type 0} (r : Rest G) (conn : ℕ) (lives : IsSome (find conn r.sessions)) (u : Opened) (ledger : List EntryView) (k : Kept) where
+  abbrev pub here : Live
+  here = record { conn = conn; kept = k; unfinished = u }
+
+  pub talk-found : find conn (with_talk r conn u ledger k).sessions ≡ Some here
+  talk-found = find_replaced conn here r.sessions lives refl
+
+  pub talk-replaced : (v : Opened) (after : List EntryView) (l : Kept) → replace conn (record { conn = conn; kept = l; unfinished = v }) (with_talk r conn u ledger k).sessions ≡ (with_talk r conn v after l).sessions
+  talk-replaced v after l = replace-replace conn here (record { conn = conn; kept = l; unfinished = v }) r.sessions refl
+
+  pub talk-without : without conn (with_talk r conn u ledger k).sessions ≡ without conn r.sessions
+  talk-without = without-replace conn here r.sessions refl
 
 abbrev pub pair : {A B : Type 0} → A → B → A × B
 pair a b = (a, b)
@@ -27,27 +74,6 @@ some_second a x b y e = ap (λ o. (unwrap_or o (pair a b)).1) e
 refused : {A G : Type 0} (e : Refused) (p : A × Rest G) (r : Rest G) (Now : Rest G → Type 0) → Answers (Err e) (Some p) r Now → Now r
 refused SessionsFull p r Now h = absurd h
 refused _ p r Now h = h.1
-
--- A session that lives does so after every call on it.
-module _ {A G : Type 0} (f : Live → A × Rest G) (conn : ℕ) (r : Rest G) (keeps : (s : Live) → find conn r.sessions ≡ Some s → IsSome (find conn (f s).1.sessions)) where
-  abbrev Lives : (Rest G → Type 0) → Type 0
-  Lives Now = (x : Rest G) × Now x × IsSome (find conn x.sessions)
-
-  after_found : (s : Live) → find conn r.sessions ≡ Some s → (o : Result A Refused) (Now : Rest G → Type 0) → IsSome (find conn r.sessions) → Answers o (Some (f s)) r Now → Lives Now
-  after_found s e (Ok a) Now i h = (h.0, h.2, subst (λ (x : Rest G). IsSome (find conn x.sessions)) (some_second (f s).0 a (f s).1 h.0 h.1) (keeps s e))
-  after_found s e (Err x) Now i h = (r, refused x (f s) r Now h, i)
-
-  pub lives_on : (o : Result A Refused) (Now : Rest G → Type 0) → IsSome (find conn r.sessions) → Answers o (option_map f (find conn r.sessions)) r Now → Lives Now
-  lives_on o Now i h = go (find conn r.sessions) refl i h
-    where
-      go : (s : Option Live) → find conn r.sessions ≡ s → IsSome s → Answers o (option_map f s) r Now → Lives Now
-      go None e i h = cc
-      go (Some s) e i h = after_found s e o Now (subst IsSome (sym e) refl) h
-
-pub found_again : (conn : ℕ) (s t : Live) (ss : List Live) → t.conn ≡ s.conn → find conn ss ≡ Some s → IsSome (find conn (replace t.conn t ss))
-found_again conn s t ss e f =
-    let same : t.conn ≡ conn = e ∙ find-conn conn ss s f in
-    subst (λ (n : ℕ). IsSome (find conn (replace n t ss))) (sym same) (subst IsSome (sym (find_replaced conn t ss (subst IsSome (sym f) refl) same)) refl)
 
 module _ {G : Type 0} (r : Rest G) (conn : ℕ) (lives : IsSome (find conn r.sessions)) (u : Opened) (ledger : List EntryView) (k : Kept) where
   abbrev W : Rest G
@@ -84,9 +110,128 @@ module _ {G : Type 0} (r : Rest G) (conn : ℕ) (lives : IsSome (find conn r.ses
       ∙ ap (λ x. Some (pair (worked_of d.answer) x)) (seated u after d.kept) in
       by_answer (worked_of d.answer) u after d.kept o Now (subst (λ m. Answers o m W Now) model h)
 
--- a session that lives does so after a step
-pub work_lives : {G : Type 0} (conn : ℕ) (r : Rest G) (answer : List EntryView → List WriteView → List ℕ → List ParameterView → QueryMode → Result AnswerView QueryFault) (accepts : G → List ℕ → List ℕ → Bool) (o : Result Worked Refused) (Now : Rest G → Type 0)
-    → IsSome (find conn r.sessions) → Answers o (work_at answer accepts conn r) r Now → (x : Rest G) × Now x × IsSome (find conn x.sessions)
-work_lives conn r answer accepts o Now i h =
-    lives_on (λ (s : Live). after_step s (work_kept (setting answer accepts r) s.conn r.ledger s.kept s.kept.ended) r) conn r
-    (λ s e. found_again conn s (with_kept s (work_kept (setting answer accepts r) s.conn r.ledger s.kept s.kept.ended).kept) r.sessions refl e) o Now i h
+module _ {G : Type 0} (max conn : ℕ) (r : Rest G) (i : IsSome (find conn r.sessions)) (u : Opened) (ledger : List EntryView) (k : Kept) (Now : Rest G → Type 0) where
+  -- fewer than were asked for are all
+  pub out_whole : (x : List ℕ) → length x < max → Answers (Ok x) (take_out_at conn max (with_talk r conn u ledger k)) (with_talk r conn u ledger k) Now → (x ≡ k.unsent) × Now (with_talk r conn u ledger (heard_out k))
+  out_whole x l h =
+      let p = called r conn i u ledger k (taken_from max) u (take_kept max k) refl (Ok x) Now h in
+      let t = take_short max k.unsent (subst (λ (z : List ℕ). length z < max) p.0 l) in
+      (p.0 ∙ t.0, subst (λ (z : List ℕ). Now (with_talk r conn u ledger (record k { unsent = z }))) t.1 p.1)
+
+abbrev pub by_room : Bool → Bool → Opened → Kept → TookOf Opened Item → Feeding
+by_room shut full u k t = if shut then takes_none What.Closed k u else (if full then takes_none What.Full k u else takes_item k t)
+
+room_within : (a b : Bool) (u : Opened) (k : Kept) (t : TookOf Opened Item) (n : ℕ) → t.used ≤ n → (by_room a b u k t).took.used ≤ n
+room_within false false u k t n h = h
+room_within _ _ u k t n h = omega arith
+
+-- no more bytes are used than there are
+pub feed_within : {G : Type 0} (piece : List ℕ) (conn : ℕ) (r : Rest G) (took : Took) (Now : Rest G → Type 0) → IsSome (find conn r.sessions) → Answers (Ok took) (feed_at conn piece r) r Now → took.used ≤ length piece
+feed_within {G = G} piece conn r took Now i h = go (find conn r.sessions) i h
+  where
+    go : (o : Option Live) → IsSome o → Answers (Ok took) (option_map (λ (s : Live). ((fed_live s piece).0, with_session (fed_live s piece).1 r)) o) r Now → took.used ≤ length piece
+    go None i h = cc
+    go (Some s) i h =
+        let same : (fed_live s piece).0 ≡ took = some_first (fed_live s piece).0 took (with_session (fed_live s piece).1 r) h.0 h.1 in
+        let t = takes at_server s.unfinished piece in
+        let few = (reads_pieces Opened Item at_server).within s.unfinished piece in
+        subst (λ (x : Took). x.used ≤ length piece) same (room_within (shut s.kept) (full s.kept) s.unfinished s.kept t (length piece) few)
+
+module _ {G : Type 0} (r : Rest G) (conn : ℕ) (i : IsSome (find conn r.sessions)) (u : Opened) (ledger : List EntryView) (k : Kept) (piece : List ℕ) (took : Took) (Now : Rest G → Type 0) where
+  abbrev t : TookOf Opened Item
+  t = takes at_server u piece
+
+  pub fed_there : Answers (Ok took) (feed_at conn piece (with_talk r conn u ledger k)) (with_talk r conn u ledger k) Now → (took ≡ (feeding u piece k).took) × Now (with_talk r conn (feeding u piece k).unfinished ledger (feeding u piece k).kept)
+  fed_there h = called r conn i u ledger k (λ s. fed_live s piece) (feeding u piece k).unfinished (feeding u piece k).kept refl (Ok took) Now h
+
+  by_full : (a b : Bool) → a ≡ false → 0 < took.used → (took ≡ (by_room a b u k t).took) × Now (with_talk r conn (by_room a b u k t).unfinished ledger (by_room a b u k t).kept) → (took.used ≡ t.used) × Now (with_talk r conn t.rest ledger (after_item k (arrival k t.item)))
+  by_full true b e l h = cc
+  by_full false true e l h = let none : took.used ≡ 0 = ap (λ (x : Took). x.used) h.0 in absurd (omega arith)
+  by_full false false e l h = (ap (λ (x : Took). x.used) h.0, h.1)
+
+  -- and where it isn't shut and took bytes, it took an item at most
+  pub feed_takes : shut k ≡ false → 0 < took.used → Answers (Ok took) (feed_at conn piece (with_talk r conn u ledger k)) (with_talk r conn u ledger k) Now → (took.used ≡ t.used) × Now (with_talk r conn t.rest ledger (after_item k (arrival k t.item)))
+  feed_takes s l h = by_full (shut k) (full k) s l (fed_there h)
+
+module _ {G : Type 0} (r : Rest G) (conn : ℕ) (i : IsSome (find conn r.sessions)) (u : Opened) (ledger : List EntryView) (k : Kept) where
+  pub lost_cause : (lost_at conn (with_talk r conn u ledger k)).0 ≡ Some (cause_or k.ended)
+  lost_cause = ap (option_map (λ (s : Live). cause_or s.kept.ended)) (talk-found r conn i u ledger k)
+
+  pub lost_rest : (lost_at conn (with_talk r conn u ledger k)).1 ≡ without_talk r conn ledger
+  lost_rest = ap (λ (ss : List Live). record { sessions = ss; next = r.next; ledger = ledger; gate = r.gate }) (talk-without r conn i u ledger k)
+
+-- what giving a session up does to a server, and what it answers
+abbrev pub Loses : {G : Type 0} → ℕ → (Rest G → Type 0) → (Rest G → Type 0) → Option Cause → Type 0
+Loses {G = G} conn Now Then o = (x : Rest G) → Now x → (o ≡ (lost_at conn x).0) × Then (lost_at conn x).1
+
+module _ {G : Type 0} (conn : ℕ) where
+  -- a rest is itself with its session in its place
+  itself : (r : Rest G) (s : Live) → find conn r.sessions ≡ Some s → with_talk r conn s.unfinished r.ledger s.kept ≡ r
+  itself r s e =
+      let numbered : record { conn = conn; kept = s.kept; unfinished = s.unfinished } ≡ s = ap (λ (n : ℕ). record { conn = n; kept = s.kept; unfinished = s.unfinished }) (sym (find-conn conn r.sessions s e)) in
+      ap (λ (ss : List Live). record { sessions = ss; next = r.next; ledger = r.ledger; gate = r.gate }) (ap (λ (t : Live). replace conn t r.sessions) numbered ∙ replace-itself conn s r.sessions e)
+
+  -- what is so of every session that is found
+  by_found : (r : Rest G) (Then : Type 0) → IsSome (find conn r.sessions) → ((s : Live) → find conn r.sessions ≡ Some s → Then) → Then
+  by_found r Then i h = go (find conn r.sessions) refl i
+    where
+      go : (o : Option Live) → find conn r.sessions ≡ o → IsSome o → Then
+      go None e i = cc
+      go (Some s) e i = h s e
+
+  by_talk : (r : Rest G) (Old Now : Rest G → Type 0) → IsSome (find conn r.sessions) → Old r → ((u : Opened) (k : Kept) → Old (with_talk r conn u r.ledger k) → Grows r conn Now) → Grows r conn Now
+  by_talk r Old Now i old h = by_found r (Grows r conn Now) i (λ s e. h s.unfinished s.kept (subst Old (sym (itself r s e)) old))
+
+  -- the ledger as it was
+  no_more : (r : Rest G) (Now : Rest G → Type 0) (u : Opened) (k : Kept) → Now (with_talk r conn u r.ledger k) → Grows r conn Now
+  no_more r Now u k h = (u, k, [], subst (λ (l : List EntryView). Now (with_talk r conn u l k)) (sym (append-nil r.ledger)) h)
+
+  -- nothing was done
+  pub lives_kept : (Old Now : Rest G → Type 0) → ((r : Rest G) → Old r → Now r) → LivesOn conn Old Now
+  lives_kept Old Now same r old i = by_talk r Old Now i old (λ u k h. no_more r Now u k (same (with_talk r conn u r.ledger k) h))
+
+  pub lives_same : (Old : Rest G → Type 0) → LivesOn conn Old Old
+  lives_same Old = lives_kept Old Old (λ r h. h)
+
+  -- one thing after another
+  pub lives_then : (Old Mid Now : Rest G → Type 0) → LivesOn conn Old Mid → LivesOn conn Mid Now → LivesOn conn Old Now
+  lives_then Old Mid Now first second r old i =
+      let a = first r old i in
+      let ledger = r.ledger ++ a.2 in
+      let b = second (with_talk r conn a.0 ledger a.1) a.3 (subst IsSome (sym (talk-found r conn i a.0 ledger a.1)) refl) in
+      let seated = ap (λ (ss : List Live). record { sessions = ss; next = r.next; ledger = ledger ++ b.2; gate = r.gate }) (talk-replaced r conn i a.0 ledger a.1 b.0 (ledger ++ b.2) b.1) in
+      let joined = ap (λ (l : List EntryView). with_talk r conn b.0 l b.1) (append_assoc r.ledger a.2 b.2) in
+      (b.0, b.1, a.2 ++ b.2, subst Now (seated ∙ joined) b.3)
+
+  by_called : {A : Type 0} (r : Rest G) (i : IsSome (find conn r.sessions)) (Now : Rest G → Type 0) (u v : Opened) (k l : Kept) (more : List EntryView) (a : A) (o : Result A Refused)
+      → Called r conn i u r.ledger k a v (r.ledger ++ more) l Now o → Grows r conn Now
+  by_called r i Now u v k l more a (Ok x) h = (v, l, more, h.1)
+  by_called r i Now u v k l more a (Err e) h = no_more r Now u k h
+
+  -- a call on the session
+  pub lives_called : {A : Type 0} (f : Live → A × Live) → ((u : Opened) (k : Kept) → (f (record { conn = conn; kept = k; unfinished = u })).1.conn ≡ conn) → (Old Now : Rest G → Type 0) (o : Result A Refused) → ((r : Rest G) → Old r → Answers o (on_live f conn r) r Now) → LivesOn conn Old Now
+  lives_called f keeps Old Now o answers r old i = by_talk r Old Now i old (λ u k h.
+      let s = (f (here r conn i u r.ledger k)).1 in
+      let shape : s ≡ record { conn = conn; kept = s.kept; unfinished = s.unfinished } = ap (λ (n : ℕ). record { conn = n; kept = s.kept; unfinished = s.unfinished }) (keeps u k) in
+      let c = called r conn i u r.ledger k f s.unfinished s.kept shape o Now (answers (with_talk r conn u r.ledger k) h) in
+      by_called r i Now u s.unfinished k s.kept [] (f (here r conn i u r.ledger k)).0 o (subst (λ (l : List EntryView). Called r conn i u r.ledger k (f (here r conn i u r.ledger k)).0 s.unfinished l s.kept Now o) (sym (append-nil r.ledger)) c))
+
+  pub lives_worked : (answer : List EntryView → List WriteView → List ℕ → List ParameterView → QueryMode → Result AnswerView QueryFault) (accepts : G → List ℕ → List ℕ → Bool) (Old Now : Rest G → Type 0) (o : Result Worked Refused)
+      → ((r : Rest G) → Old r → Answers o (work_at answer accepts conn r) r Now) → LivesOn conn Old Now
+  lives_worked answer accepts Old Now o answers r old i = by_talk r Old Now i old (λ u k h.
+      let d = work_kept (setting answer accepts r) conn r.ledger k k.ended in
+      by_called r i Now u u k d.kept (commit_entries conn k.first d.commit) _ o (stepped_talk r conn i u r.ledger k answer accepts o Now (answers (with_talk r conn u r.ledger k) h)))
+
+  -- so it is still found there
+  pub live_then : (Old Now : Rest G → Type 0) → LivesOn conn Old Now → (r : Rest G) × Old r × IsSome (find conn r.sessions) → (r : Rest G) × Now r × IsSome (find conn r.sessions)
+  live_then Old Now lives was =
+      let g = lives was.0 was.1 was.2 in
+      let ledger = was.0.ledger ++ g.2 in
+      (with_talk was.0 conn g.0 ledger g.1, g.3, subst IsSome (sym (talk-found was.0 conn was.2 g.0 ledger g.1)) refl)
+
+  -- and then it is given up
+  pub lives_no_more : (Old Mid Now : Rest G → Type 0) (o : Option Cause) → LivesOn conn Old Mid → Loses conn Mid Now o → (r : Rest G) → Old r → IsSome (find conn r.sessions) → LeavesOthers r conn Now
+  lives_no_more Old Mid Now o lives gives_up r old i =
+      let a = lives r old i in
+      let l = gives_up (with_talk r conn a.0 (r.ledger ++ a.2) a.1) a.3 in
+      (a.2, subst Now (lost_rest r conn i a.0 (r.ledger ++ a.2) a.1) l.1)

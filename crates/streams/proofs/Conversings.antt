@@ -1,22 +1,75 @@
--- A conversation with the bytes of a source.
-use Rattle.std.proofs.Common.{◌≡◌, refl, sym, ap, subst, ◌∙◌, ℕ, Bool, false, true≢false, List, [], ◌++◌, append_assoc, append-nil, ◌⊎◌, inl, inr, Option, Some, None, Ok, Err}
-use Rattle.std.specs.Prelude.{IsSome}
-use Rattle.std.specs.Io.KnownBytes.{Appends, Consumes, IsAtEnd, Keeps}
-use Rattle.std.proofs.KnownBytes.{Appends-nil, Consumes-kept, Consumes-trans, Consumes-nil}
+-- A conversation with the bytes of a source, and what waits to go behind it.
+use Rattle.std.proofs.Common.{◌≡◌, refl, sym, ap, subst, ◌∙◌, ℕ, List, [], ◌++◌, append_assoc, append-nil, Option, Some, None, Result, Ok, Err, Bool, false, true≢false, ◌⊎◌, inl, inr}
+use Rattle.std.specs.Io.KnownBytes.{Appends, Keeps, append_known, Consumes, IsAtEnd}
+use Rattle.std.proofs.KnownBytes.{Appends-nil, Appends-trans, Appends-kept, Consumes-kept, Consumes-trans, Consumes-nil}
+use Rattle.std.proofs.lemmas.List.{append_cancel_left}
+use Rattle.session.specs.Session.{Setting}
 use Rattle.wire.specs.Reader.{state}
 use Rattle.wire.specs.Framing.{at_server, opening}
-use Rattle.session.specs.Session.{Setting}
-use Rattle.session.specs.Rest.{begun}
-use Rattle.server.specs.Serving.{Live, Rest, find, fresh}
+use Rattle.server.specs.Serving.{Rest, Live, find, fresh}
+use Rattle.streams.specs.declared.fault.Standing.{Standing}
 use Rattle.streams.specs.declared.fault.Standing.TheVariants.{Open, Over}
 use Rattle.streams.specs.declared.fault.StreamFault.{StreamFault}
+use Rattle.streams.specs.Fronts.{AppendsFront}
+use Rattle.streams.specs.Holding.{HasSent}
+use Rattle.streams.specs.Settling.{Breaks, told_by, Stands, TakesPiece, IsDueTo}
+use Rattle.streams.proofs.Stepping.{breaks_with}
+use Rattle.streams.proofs.Talks.{breaks_more, talk_by_items, told_over}
+use Rattle.std.specs.Prelude.{IsSome}
+use Rattle.session.specs.Rest.{begun}
 use Rattle.streams.specs.declared.fault.StreamFault.TheVariants as stream_fault
 use Rattle.streams.specs.Conversing.{Talk, conversation, with_talk}
-use Rattle.streams.specs.Settling.{Breaks, IsDueTo, told_by, Stands, TakesPiece}
 use Rattle.streams.specs.Serving.{IsTurn, Converses, ConversesFront}
-use Rattle.streams.proofs.Seats.{replace-itself}
-use Rattle.streams.proofs.Talks.{told_over}
-use Rattle.streams.proofs.Arriving.{talk_by_items}
+use Rattle.streams.proofs.Called.{replace-itself}
+
+pub sent_none : (a : Option (List ℕ)) → HasSent a a
+sent_none a = ([], Appends-nil a)
+
+pub sent_then : (a b c : Option (List ℕ)) → HasSent a b → HasSent b c → HasSent a c
+sent_then a b c p q = (p.0 ++ q.0, Appends-trans a b c p.0 q.0 p.1 q.1)
+
+-- behind which nothing waits
+pub none_held : (a : Option (List ℕ)) → append_known a [] ≡ a
+none_held None = refl
+none_held (Some xs) = ap (λ (z : List ℕ). Some z) (append-nil xs)
+
+pub front_kept : (a b c : Option (List ℕ)) (bytes : List ℕ) → AppendsFront a b bytes → Keeps b c → AppendsFront a c bytes
+front_kept a b c bytes h k = (h.0, h.1, h.2, Appends-kept a b c h.0 h.3 k)
+
+-- what the sink itself took is a beginning, whatever still waits
+pub gone_front : (a b c : Option (List ℕ)) (before held out : List ℕ) → Appends a b before → HasSent b c → AppendsFront a (append_known c held) out → AppendsFront a c out
+gone_front None b c before held out p s h = ([], out, refl, tt)
+gone_front (Some xs) None c before held out p s h = absurd p
+gone_front (Some xs) (Some ys) None before held out p s h = absurd s.1
+gone_front (Some xs) (Some ys) (Some zs) before held out p s h =
+    let grown : zs ≡ xs ++ (before ++ s.0) = s.1 ∙ ap (λ (z : List ℕ). z ++ s.0) p ∙ append_assoc xs before s.0 in
+    let same : xs ++ ((before ++ s.0) ++ held) ≡ xs ++ h.0 = sym (append_assoc xs (before ++ s.0) held) ∙ ap (λ (z : List ℕ). z ++ held) (sym grown) ∙ h.3 in
+    let front : (before ++ s.0) ++ held ≡ h.0 = append_cancel_left xs ((before ++ s.0) ++ held) h.0 same in
+    (before ++ s.0, held ++ h.1, sym (append_assoc (before ++ s.0) held h.1) ∙ ap (λ (z : List ℕ). z ++ h.1) front ∙ h.2, grown)
+
+-- A piece was taken, and not all of what waited behind it has gone.
+module _ {G : Type 0} (r : Rest G) (conn : ℕ) (S : Setting) (before old mid new : Option (List ℕ)) (up piece waited held left : List ℕ) (Now : Rest G → Type 0)
+    (none : waited ≡ []) (keeps : Keeps (append_known mid held) (append_known new left)) (began : Appends before old (told_by r conn S up).out) (sent : HasSent old new) where
+  held_broken : (used : List ℕ) → Breaks r conn (told_by r conn S used) Now before (append_known mid held) → Breaks r conn (told_by r conn S used) Now before new
+  held_broken used b =
+      let out = (told_by r conn S used).out in
+      breaks_with b (told_by r conn S used) before new b.more b.grown (gone_front before old new (told_by r conn S up).out left out began sent (front_kept before (append_known mid held) (append_known new left) out b.took keeps))
+
+  held_stands : (used : List ℕ) → Stands r conn S Now before (append_known mid held) used → Breaks r conn (told_by r conn S used) Now before new
+  held_stands used s =
+      let t = told_by r conn S used in
+      held_broken used (record { unfinished = state at_server at_server.start used; kept = t.kept; ledger = t.ledger; more = []; now = s.0; grown = append-nil t.ledger; took = (t.out, [], append-nil t.out, s.1) })
+
+  -- so it was broken off
+  pub piece_held : (done : Result Standing StreamFault) → (Appends before (append_known old waited) (told_by r conn S up).out → TakesPiece r conn S Now before (append_known mid held) up piece done) → Breaks r conn (told_by r conn S (up ++ piece)) Now before new
+  piece_held done takes = go done (takes (subst (λ (o : Option (List ℕ)). Appends before o (told_by r conn S up).out) (sym (ap (append_known old) none ∙ none_held old)) began))
+    where
+      go : (done : Result Standing StreamFault) → TakesPiece r conn S Now before (append_known mid held) up piece done → Breaks r conn (told_by r conn S (up ++ piece)) Now before new
+      go (Ok Open) h = held_stands (up ++ piece) h.0
+      go (Ok Over) h =
+          subst (λ (z : List ℕ). Breaks r conn (told_by r conn S z) Now before new) (append_assoc up h.front h.rest ∙ ap (λ (z : List ℕ). up ++ z) h.parts)
+          (breaks_more r conn S (up ++ h.front) h.rest Now before new (held_stands (up ++ h.front) h.stands))
+      go (Err fault) h = held_broken (up ++ piece) h
 
 module _ {G : Type 0} (r : Rest G) (conn : ℕ) (S : Setting) where
   by_read : (read : List ℕ) → told_by r conn S read ≡ conversation S conn r.ledger read
@@ -58,72 +111,65 @@ module _ {G : Type 0} (r : Rest G) (conn : ℕ) (S : Setting) where
           took = subst (λ (t : Talk). Appends before taken t.out) t s.1;
         }
 
-    -- a fault comes in what these bytes make due
-    breaks_at : (Now : Rest G → Type 0) (taken left_now : Option (List ℕ)) (read : List ℕ) (fault : StreamFault) → (fault ≡ stream_fault.ReadFailed → ⊥) → Consumes left left_now read → Breaks r conn (told_by r conn S read) Now before taken
-        → ConversesFront r conn S Now left left_now before taken fault
-    breaks_at Now taken left_now read fault never i h =
-        let b = subst (λ (t : Talk). Breaks r conn t Now before taken) (by_read read) h in
+module _ {G : Type 0} {r : Rest G} {conn : ℕ} {S : Setting} {left before taken left_now : Option (List ℕ)} {Now : Rest G → Type 0} (p : Reads r conn S left before Now taken left_now) where
+  abbrev t : Talk
+  t = conversation S conn r.ledger p.up
+
+  out : Appends before taken t.out
+  out = subst (λ (t : Talk). Appends before taken t.out) (by_read r conn S p.up) p.stands.1
+
+  -- it is the client's turn
+  pub reads_turn : IsTurn r conn S left left_now before taken
+  reads_turn = record { read = p.up; input = p.input; goes_on = subst (λ (t : Talk). t.kept.ended ≡ None) (by_read r conn S p.up) p.live; answered = out }
+
+  -- the input ends
+  pub reads_whole : (new : Option (List ℕ)) → Consumes left_now new [] → IsAtEnd new → Converses r conn S Now left new before taken (Ok tt)
+  reads_whole new h e = ends_with r conn S left before Now taken new p.up p.up (subst (Consumes left new) (append-nil p.up) (Consumes-trans left left_now new p.up [] p.input h)) refl (inl e) p.stands
+
+  -- a fault comes before more is read
+  pub reads_none : (new : Option (List ℕ)) → Keeps left_now new → (fault : StreamFault) → ConversesFront r conn S Now left new before taken fault
+  reads_none new h fault = record {
+    read = p.up;
+    unfinished = state at_server at_server.start p.up;
+    kept = t.kept;
+    ledger = t.ledger;
+    more = [];
+    input = Consumes-kept left left_now new p.up p.input h;
+    now = subst (λ (t : Talk). Now (with_talk r conn (state at_server at_server.start p.up) t.ledger t.kept)) (by_read r conn S p.up) p.stands.0;
+    grown = append-nil t.ledger;
+    took = (t.out, [], append-nil t.out, out);
+    whole = λ e. (refl, out);
+  }
+
+  -- a piece more is read
+  module _ (next : Option (List ℕ)) (piece : List ℕ) (c : Consumes left_now next piece) (Then : Rest G → Type 0) (new : Option (List ℕ)) where
+    all_of : Consumes left next (p.up ++ piece)
+    all_of = Consumes-trans left left_now next p.up piece p.input c
+
+    pub reads_more : TakesPiece r conn S Then before new p.up piece (Ok Open) → Reads r conn S left before Then new next
+    reads_more h = record { up = p.up ++ piece; input = all_of; live = h.1; stands = h.0 }
+
+    pub reads_over : TakesPiece r conn S Then before new p.up piece (Ok Over) → Converses r conn S Then left next before new (Ok tt)
+    reads_over h =
+        let same : (p.up ++ h.front) ++ h.rest ≡ p.up ++ piece = append_assoc p.up h.front h.rest ∙ ap (λ z. p.up ++ z) h.parts in
+        ends_with r conn S left before Then new next (p.up ++ piece) (p.up ++ h.front) all_of (sym (told_over r conn S (p.up ++ h.front) h.rest h.over) ∙ ap (told_by r conn S) same) (inr h.over) h.stands
+
+    -- a fault comes in what it makes due
+    pub reads_broken : (fault : StreamFault) → (fault ≡ stream_fault.ReadFailed → ⊥) → TakesPiece r conn S Then before new p.up piece (Err fault) → ConversesFront r conn S Then left next before new fault
+    reads_broken fault never h =
+        let b = subst (λ (t : Talk). Breaks r conn t Then before new) (by_read r conn S (p.up ++ piece)) h in
         record {
-          read = read;
+          read = p.up ++ piece;
           unfinished = b.unfinished;
           kept = b.kept;
           ledger = b.ledger;
           more = b.more;
-          input = i;
+          input = all_of;
           now = b.now;
           grown = b.grown;
           took = b.took;
           whole = λ e. absurd (never e);
         }
-
-    module _ (Now : Rest G → Type 0) (taken left_now : Option (List ℕ)) (p : Reads Now taken left_now) where
-      abbrev t : Talk
-      t = conversation S conn r.ledger p.up
-
-      out : Appends before taken t.out
-      out = subst (λ (t : Talk). Appends before taken t.out) (by_read p.up) p.stands.1
-
-      -- it is the client's turn
-      pub reads_turn : IsTurn r conn S left left_now before taken
-      reads_turn = record { read = p.up; input = p.input; goes_on = subst (λ (t : Talk). t.kept.ended ≡ None) (by_read p.up) p.live; answered = out }
-
-      -- nothing more is read
-      no_more : (new : Option (List ℕ)) → Consumes left_now new [] → Consumes left new p.up
-      no_more new h = subst (Consumes left new) (append-nil p.up) (Consumes-trans left left_now new p.up [] p.input h)
-
-      -- the input ends
-      pub reads_whole : (new : Option (List ℕ)) → Consumes left_now new [] → IsAtEnd new → Converses r conn S Now left new before taken (Ok tt)
-      reads_whole new h e = ends_with Now taken new p.up p.up (no_more new h) refl (inl e) p.stands
-
-      -- a fault comes before more is read
-      pub reads_none : (new : Option (List ℕ)) → Keeps left_now new → (fault : StreamFault) → ConversesFront r conn S Now left new before taken fault
-      reads_none new h fault = record {
-        read = p.up;
-        unfinished = state at_server at_server.start p.up;
-        kept = t.kept;
-        ledger = t.ledger;
-        more = [];
-        input = Consumes-kept left left_now new p.up p.input h;
-        now = subst (λ (t : Talk). Now (with_talk r conn (state at_server at_server.start p.up) t.ledger t.kept)) (by_read p.up) p.stands.0;
-        grown = append-nil t.ledger;
-        took = (t.out, [], append-nil t.out, out);
-        whole = λ e. (refl, out);
-      }
-
-      module _ (next : Option (List ℕ)) (piece : List ℕ) (c : Consumes left_now next piece) (Then : Rest G → Type 0) (new : Option (List ℕ)) where
-        all_of : Consumes left next (p.up ++ piece)
-        all_of = Consumes-trans left left_now next p.up piece p.input c
-
-        pub reads_more : TakesPiece r conn S Then before new p.up piece (Ok Open) → Reads Then new next
-        reads_more h = record { up = p.up ++ piece; input = all_of; live = h.1; stands = h.0 }
-
-        pub reads_over : TakesPiece r conn S Then before new p.up piece (Ok Over) → Converses r conn S Then left next before new (Ok tt)
-        reads_over h =
-            let same : (p.up ++ h.front) ++ h.rest ≡ p.up ++ piece = append_assoc p.up h.front h.rest ∙ ap (λ z. p.up ++ z) h.parts in
-            ends_with Then new next (p.up ++ piece) (p.up ++ h.front) all_of (sym (told_over r conn S (p.up ++ h.front) h.rest h.over) ∙ ap (told_by r conn S) same) (inr h.over) h.stands
-
-        pub reads_broken : (fault : StreamFault) → (fault ≡ stream_fault.ReadFailed → ⊥) → TakesPiece r conn S Then before new p.up piece (Err fault) → ConversesFront r conn S Then left next before new fault
-        reads_broken fault never h = breaks_at Then new next (p.up ++ piece) fault never all_of h
 
 -- a fault that is due to the sink or to memory alone isn't one of the source
 pub never_read : (fault : StreamFault) (output : Bool) → IsDueTo fault false output → fault ≡ stream_fault.ReadFailed → ⊥

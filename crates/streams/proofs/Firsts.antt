@@ -1,14 +1,14 @@
 -- The first client of a server.
-use Rattle.std.proofs.Common.{◌≡◌, refl, sym, ap, subst, ◌∙◌, ℕ, List, [], ◌++◌, Option, Some, Ok}
+use Rattle.std.proofs.Common.{◌≡◌, refl, sym, ap, subst, ◌∙◌, ℕ, List, [], ◌++◌, Option, Some}
 use Rattle.std.specs.Prelude.{IsSome}
 use Rattle.engine.specs.Views.{EntryView}
 use Rattle.session.specs.Session.{Setting}
 use Rattle.server.specs.Serving.{Live, Rest, empty, find, fresh, opened}
 use Rattle.streams.specs.declared.response.End.{End}
 use Rattle.streams.specs.Conversing.{Talk, conversation, with_talk}
-use Rattle.streams.specs.Serving.{Converses}
+use Rattle.streams.specs.Serving.{ConversesWhole}
 use Rattle.streams.specs.Responding.{end_of}
-use Rattle.streams.proofs.Seats.{here, talk-found}
+use Rattle.streams.proofs.Called.{here, talk-found}
 use Rattle.streams.proofs.Conversings.{read_all}
 
 module _ {G : Type 0} (ledger : List EntryView) (gate : G) (conn : ℕ) (first : conn ≡ 0) where
@@ -22,13 +22,13 @@ module _ {G : Type 0} (ledger : List EntryView) (gate : G) (conn : ℕ) (first :
   pub one_lives : IsSome (find conn one.sessions)
   one_lives = subst IsSome (sym one_found) refl
 
-  module _ (S : Setting) (bytes : List ℕ) (Now : Rest G → Type 0) (left_now : Option (List ℕ)) where
-    pub one_out : (old new items : List ℕ) → old ≡ [] → items ≡ new → Converses one conn S Now (Some bytes) left_now (Some old) (Some new) (Ok tt) → items ≡ (conversation S 0 ledger bytes).out
-    one_out old new items e m h =
+  module _ {S : Setting} {bytes : List ℕ} {Now : Rest G → Type 0} {left_now : Option (List ℕ)} where
+    pub one_out : {old new : List ℕ} (items : List ℕ) → old ≡ [] → items ≡ new → ConversesWhole one conn S Now (Some bytes) left_now (Some old) (Some new) → items ≡ (conversation S 0 ledger bytes).out
+    one_out items e m h =
         m ∙ h.took ∙ ap (λ z. z ++ (conversation S conn ledger h.read).out) e ∙ ap (λ (t : Talk). t.out) (read_all one conn S bytes left_now h.read h.input h.ends) ∙ ap (λ n. (conversation S n ledger bytes).out) first
 
-    pub one_last : (last : End) (old new : Option (List ℕ)) → ((x : Rest G) (s : Live) → Now x → find conn x.sessions ≡ Some s → last ≡ end_of s.kept) → Converses one conn S Now (Some bytes) left_now old new (Ok tt) → last ≡ end_of (conversation S 0 ledger bytes).kept
-    one_last last old new f h =
+    pub one_last : {old new : Option (List ℕ)} (last : End) → ((x : Rest G) (s : Live) → Now x → find conn x.sessions ≡ Some s → last ≡ end_of s.kept) → ConversesWhole one conn S Now (Some bytes) left_now old new → last ≡ end_of (conversation S 0 ledger bytes).kept
+    one_last last f h =
         let t = conversation S conn ledger h.read in
         f (with_talk one conn h.unfinished t.ledger t.kept) (here one conn one_lives h.unfinished t.ledger t.kept) h.now (talk-found one conn one_lives h.unfinished t.ledger t.kept)
         ∙ ap (λ (t : Talk). end_of t.kept) (read_all one conn S bytes left_now h.read h.input h.ends)

@@ -1,5 +1,5 @@
 -- Bytes in parts.
-use Rattle.std.proofs.Common.{◌≡◌, Bool, true, ◌==◌, arith, ℕ, ◌<◌, ◌≤◌, sym, length, length-take, List, [], ◌++◌, take, drop, ap, ◌∙◌, append_assoc, take-append-drop}
+use Rattle.std.proofs.Common.{◌≡◌, Bool, true, ◌==◌, arith, ℕ, ◌<◌, ◌≤◌, sym, length, length-take, List, [], ◌++◌, take, drop, ap, ◌∙◌, append_assoc, append-nil, take-append-drop}
 use Rattle.std.proofs.lemmas.Bool.{eqb-true}
 use Rattle.std.proofs.lemmas.List.{take_all, drop_all, nil_from_length}
 
@@ -15,3 +15,7 @@ take_short n xs h = let few : length xs ≤ n = omega (arith, length-take n xs) 
 -- an empty list by its length
 pub empty_nil : (xs : List ℕ) (b : Bool) → b ≡ (length xs == 0) → b ≡ true → xs ≡ []
 empty_nil xs b e t = nil_from_length xs (eqb-true (length xs) 0 (sym e ∙ t))
+
+-- what was done is the whole once nothing is left
+pub all_done : {A : Type 0} (done rest xs : List A) → rest ≡ [] → done ++ rest ≡ xs → done ≡ xs
+all_done done rest xs none parts = sym (append-nil done) ∙ ap (λ z. done ++ z) (sym none) ∙ parts

@@ -1,5 +1,5 @@
--- What a step of a session with one place at most makes, and what follows it.
-use Rattle.std.proofs.Common.{◌≡◌, ◌⊎◌, inl, inr, refl, sym, ap, subst, ◌∙◌, ℕ, zero, suc, ◌<◌, ◌≤◌, List, [], ◌∷◌, ◌++◌, length, append-nil, append_assoc, Bool, true, false, Option, Some, None, arith}
+-- What is due of a session with one place at most, step by step, and what goes out of it.
+use Rattle.std.proofs.Common.{◌≡◌, ◌⊎◌, inl, inr, refl, sym, ap, subst, ◌∙◌, ℕ, zero, suc, ◌<◌, ◌≤◌, List, [], ◌∷◌, ◌++◌, length, append-nil, append_assoc, Bool, true, false, Option, Some, None, arith, Ok}
 use Rattle.std.specs.Prelude.{◌&&◌, ◌||◌, if◌then◌else◌, nat_le}
 use Rattle.wire.specs.declared.Version.{Version}
 use Rattle.messages.specs.View.{RequestView}
@@ -12,9 +12,17 @@ use Rattle.session.specs.declared.kinds.Cause.{Cause}
 use Rattle.session.specs.Session.{Setting, Open, no_result, Tx, Reply, OneRow, Summary, Bye, no_tx, serve}
 use Rattle.session.proofs.Served.{Served, writes_row, serving}
 use Rattle.machine.specs.declared.kinds.Kind.{Kind}
-use Rattle.session.specs.Rest.{Kept, rests, turns, serves, Done, Idle, Full, WroteRow, Wrote, Ended, Step, work_kept, replies, after_interrupt, version_of, commit_entries}
-use Rattle.streams.specs.Conversing.{Talk, silent, after_bytes, heard_out, step_then, steps, steps_due}
-use Rattle.streams.specs.Settling.{IsPlaced, due}
+use Rattle.session.specs.Rest.{Kept, rests, turns, serves, Done, Idle, Full, WroteRow, Wrote, Ended, Step, work_kept, replies, after_interrupt, version_of, commit_entries, worked_of}
+use Rattle.streams.specs.Conversing.{Talk, silent, after_bytes, heard_out, step_then, steps, steps_due, with_talk, talk_of_due}
+use Rattle.streams.specs.Settling.{IsPlaced, due, outcome, standing_of, HasNothingDue, WorkStep, StepsOut, Breaks, SettlesWhole}
+use Rattle.wire.specs.Framing.{Opened}
+use Rattle.server.specs.Serving.{Rest}
+use Rattle.streams.specs.declared.fault.Standing.{Standing}
+use Rattle.streams.specs.declared.fault.Standing.TheVariants.{Open as Unended, Over}
+use Rattle.std.specs.Io.KnownBytes.{Appends}
+use Rattle.std.proofs.KnownBytes.{Appends-trans}
+use Rattle.streams.specs.Putting.{Puts}
+use Rattle.streams.specs.Fronts.{AppendsFront}
 
 -- A row that is written leaves fewer.
 pub Lessens : ℕ → Reply → Type 0
@@ -132,3 +140,105 @@ grown_then c first ledger d _ more f = ([], append-nil ledger)
 pub steps_grow : (S : Setting) (c n : ℕ) (ledger : List EntryView) (k : Kept) → Grown ledger (steps S c n ledger k)
 steps_grow S c zero ledger k = ([], append-nil ledger)
 steps_grow S c (suc n) ledger k = let d = after_step S c ledger k in grown_then c k.first ledger d d.answer (steps S c n) (λ after l. steps_grow S c n after l)
+
+pub outcome_put : (a : Done) → IsPut a → outcome (worked_of a) ≡ None
+outcome_put (WroteRow row) p = refl
+outcome_put (Wrote x) p = refl
+outcome_put _ p = absurd p
+
+module _ {G : Type 0} (r : Rest G) (conn : ℕ) (u : Opened) (S : Setting) (Now : Rest G → Type 0) where
+  abbrev After : List EntryView → Kept → Type 0
+  After ledger k = let d = after_step S conn ledger k in Now (with_talk r conn u (ledger ++ commit_entries conn k.first d.commit) d.kept)
+
+  pub works_by : (n : ℕ) (ledger : List EntryView) (k : Kept) → due k ≤ n → After ledger k → StepKind k (after_step S conn ledger k) → WorkStep r conn u ledger k S n Now (Ok (outcome (worked_of (after_step S conn ledger k).answer)))
+  works_by n ledger k l h (idle e o w s) =
+      let t : steps S conn n ledger k ≡ silent ledger k = steps_idle S conn n ledger k e in
+      let now : Now (with_talk r conn u (ledger ++ []) k) = subst (λ (d : Step). Now (with_talk r conn u (ledger ++ commit_entries conn k.first d.commit) d.kept)) e h in
+      let now2 : Now (with_talk r conn u ledger k) = subst (λ (x : List EntryView). Now (with_talk r conn u x k)) (append-nil ledger) now in
+      subst (λ (d : Step). WorkStep r conn u ledger k S n Now (Ok (outcome (worked_of d.answer)))) (sym e)
+      (subst (λ (t : Talk). HasNothingDue r conn u t Now Unended) (sym t) (record { now = now2; out = refl; stands = ap standing_of (sym o) }))
+  works_by n ledger k l h (over c a o m s v f) =
+      let d = after_step S conn ledger k in
+      let t : steps S conn n ledger k ≡ silent ledger d.kept = steps_over S conn n ledger k c a f l in
+      let same : ledger ++ commit_entries conn k.first d.commit ≡ ledger = ap (λ x. ledger ++ commit_entries conn k.first x) m ∙ append-nil ledger in
+      let now : Now (with_talk r conn u ledger d.kept) = subst (λ (x : List EntryView). Now (with_talk r conn u x d.kept)) same h in
+      subst (λ (x : Done). WorkStep r conn u ledger k S n Now (Ok (outcome (worked_of x)))) (sym a)
+      (subst (λ (t : Talk). HasNothingDue r conn u t Now Over) (sym t) (record { now = now; out = refl; stands = ap standing_of (sym o) }))
+  works_by zero ledger k l h (puts i q f v) = absurd (omega arith)
+  works_by (suc m) ledger k l h (puts i q f v) =
+      let d = after_step S conn ledger k in
+      subst (λ (x : Option Standing). WorkStep r conn u ledger k S (suc m) Now (Ok x)) (sym (outcome_put d.answer i))
+      (record { less = m; after = ledger ++ commit_entries conn k.first d.commit; left = d.kept; one_less = refl; follows = steps_put S conn m ledger k d i; placed = q; enough = omega arith; now = h })
+
+-- what a sink took whole
+pub front_whole : (a b : Option (List ℕ)) (bs : List ℕ) → Appends a b bs → AppendsFront a b bs
+front_whole a b bs h = (bs, [], append-nil bs, h)
+
+-- what it took before, and a beginning of what comes after
+pub front_after : (a b c : Option (List ℕ)) (bs cs : List ℕ) → Appends a b bs → AppendsFront b c cs → AppendsFront a c (bs ++ cs)
+front_after a b c bs cs p q = (bs ++ q.0, q.1, append_assoc bs q.0 q.1 ∙ ap (λ z. bs ++ z) q.2, Appends-trans a b c bs q.0 p q.3)
+
+-- and of still more
+pub front_more : (a b : Option (List ℕ)) (bs cs : List ℕ) → AppendsFront a b bs → AppendsFront a b (bs ++ cs)
+front_more a b bs cs p = (p.0, p.1 ++ cs, sym (append_assoc p.0 p.1 cs) ∙ ap (λ z. z ++ cs) p.2, p.3)
+
+-- A fault that leaves as much of another conversation.
+pub breaks_with : {G : Type 0} {r : Rest G} {conn : ℕ} {t : Talk} {Now : Rest G → Type 0} {before new : Option (List ℕ)} (b : Breaks r conn t Now before new) (whole : Talk) (old taken : Option (List ℕ)) (more : List EntryView) → b.ledger ++ more ≡ whole.ledger → AppendsFront old taken whole.out → Breaks r conn whole Now old taken
+breaks_with b whole old taken more grown took = record { unfinished = b.unfinished; kept = b.kept; ledger = b.ledger; more = more; now = b.now; grown = grown; took = took }
+
+-- A fault in what follows is one in the whole.
+pub breaks_after : {G : Type 0} (r : Rest G) (conn : ℕ) (t : Talk) (out : List ℕ) (Now : Rest G → Type 0) (before old new : Option (List ℕ)) → Appends before old out → Breaks r conn t Now old new → Breaks r conn (after_bytes out t) Now before new
+breaks_after r conn t out Now before old new a b = breaks_with b (after_bytes out t) before new b.more b.grown (front_after before old new out t.out a b.took)
+
+-- One before the steps that follow.
+pub breaks_steps : {G : Type 0} {r : Rest G} {conn : ℕ} {Now : Rest G → Type 0} {old new : Option (List ℕ)} (u : Opened) (S : Setting) (n : ℕ) (ledger : List EntryView) (next k : Kept) (out : List ℕ) → Now (with_talk r conn u ledger k) → AppendsFront old new out → Breaks r conn (after_bytes out (steps S conn n ledger next)) Now old new
+breaks_steps {conn = conn} {old = old} {new = new} u S n ledger next k out h took =
+    let g = steps_grow S conn n ledger next in
+    record { unfinished = u; kept = k; ledger = ledger; more = g.0; now = h; grown = g.1; took = front_more old new out (steps S conn n ledger next).out took }
+
+-- Some of it is out, and the rest follows from what the session keeps.
+pub record GoesOn {G : Type 0} (r : Rest G) (conn : ℕ) (u : Opened) (S : Setting) (t : Talk) (before : Option (List ℕ)) (Now : Rest G → Type 0) (taken : Option (List ℕ)) : Type 0 where
+  pub most : ℕ
+  pub ledger : List EntryView
+  pub kept : Kept
+  pub out : List ℕ
+  pub follows : t ≡ after_bytes out (steps S conn most ledger kept)
+  pub sent : kept.unsent ≡ []
+  pub placed : IsPlaced kept.waiting
+  pub enough : due kept ≤ most
+  pub now : Now (with_talk r conn u ledger kept)
+  pub took : Appends before taken out
+
+-- What waits to go is out, and the steps follow.
+pub goes_first : {G : Type 0} {r : Rest G} {conn : ℕ} {u : Opened} {S : Setting} {Now : Rest G → Type 0} {old new : Option (List ℕ)} (ledger : List EntryView) (k : Kept) → IsPlaced k.waiting → Puts r conn u ledger k Now old new (Ok tt) → GoesOn r conn u S (talk_of_due S conn ledger k) old Now new
+goes_first ledger k p h = record { most = due k; ledger = ledger; kept = heard_out k; out = k.unsent; follows = refl; sent = refl; placed = p; enough = omega arith; now = h.0; took = h.1 }
+
+module _ {G : Type 0} {r : Rest G} {conn : ℕ} {u : Opened} {S : Setting} {t : Talk} {before old new : Option (List ℕ)} {Now Then : Rest G → Type 0} (g : GoesOn r conn u S t before Now old) where
+  pub goes_further : StepsOut r conn u g.ledger g.kept S g.most Then old new → GoesOn r conn u S t before Then new
+  goes_further h =
+      let later = steps S conn h.less h.after h.left in
+      record {
+        most = h.less;
+        ledger = h.after;
+        kept = h.left;
+        out = g.out ++ h.out;
+        follows = g.follows ∙ ap (after_bytes g.out) h.follows ∙ ap (λ z. record { out = z; ledger = later.ledger; kept = later.kept }) (sym (append_assoc g.out h.out later.out));
+        sent = h.sent;
+        placed = h.placed;
+        enough = h.enough;
+        now = h.now;
+        took = Appends-trans before old new g.out h.out g.took h.took;
+      }
+
+  pub goes_whole : {standing : Standing} → SettlesWhole r conn u (steps S conn g.most g.ledger g.kept) Then old new standing → SettlesWhole r conn u t Then before new standing
+  goes_whole {standing = standing} h =
+      subst (λ (x : Talk). SettlesWhole r conn u x Then before new standing) (sym g.follows)
+      (record { now = h.now; took = Appends-trans before old new g.out (steps S conn g.most g.ledger g.kept).out g.took h.took; stands = h.stands })
+
+  pub goes_wrong : Breaks r conn (steps S conn g.most g.ledger g.kept) Then old new → Breaks r conn t Then before new
+  goes_wrong h = subst (λ (x : Talk). Breaks r conn x Then before new) (sym g.follows) (breaks_after r conn (steps S conn g.most g.ledger g.kept) g.out Then before old new g.took h)
+
+-- It is given up.
+pub goes_no_further : {G : Type 0} {r : Rest G} {conn : ℕ} {u : Opened} {S : Setting} {t : Talk} {before old : Option (List ℕ)} {Now : Rest G → Type 0} → GoesOn r conn u S t before Now old → Breaks r conn t Now before old
+goes_no_further {r = r} {conn = conn} {u = u} {S = S} {before = before} {old = old} {Now = Now} g =
+    subst (λ (x : Talk). Breaks r conn x Now before old) (sym g.follows) (breaks_steps u S g.most g.ledger g.kept g.kept g.out g.now (front_whole before old g.out g.took))

@@ -1,5 +1,5 @@
 -- What a client makes of its server's bytes, piece by piece.
-use Rattle.std.proofs.Common.{◌≡◌, refl, sym, ◌∙◌, ap, subst, ℕ, Bool, true, false, if◌then◌else◌, Option, Some, None, option_to_list, Result, Ok, Err, List, [], ◌∷◌, ◌++◌, take, drop, append_assoc, append-nil, take-append-drop, true≢false, inl, inr}
+use Rattle.std.proofs.Common.{◌≡◌, refl, sym, ◌∙◌, ap, subst, ℕ, Bool, true, false, if◌then◌else◌, Option, Some, None, option_to_list, Result, Ok, Err, List, [], ◌∷◌, ◌++◌, take, drop, append_assoc, append-nil, true≢false, inr}
 use Rattle.std.specs.Prelude.{IsErrOf}
 use Rattle.wire.specs.declared.Wish.{Wish}
 use Rattle.wire.specs.Framing.{Item, Opened, at_client}
@@ -14,6 +14,7 @@ use Rattle.client.specs.Notes.{note, note_result}
 use Rattle.client.specs.Fits.{UnlessMemory}
 use Rattle.client.proofs.Makes.{makes, spoiled_over}
 use Rattle.streams.specs.Asking.{notes_by, notes_of, Tale, after_notes, tale_of, hears_all, after_all, has_ended, FeedsPiece, PartFed}
+use Rattle.streams.proofs.Parts.{fed_more}
 
 -- nothing is heard after the end
 pub over_tale : (wish : Wish) (k : Knows) (xs : List Item) → k.over ≡ true → tale_of wish k xs ≡ record { knows = k; notes = [] }
@@ -21,10 +22,7 @@ over_tale wish k [] e = refl
 over_tale wish k (x ∷ xs) e = rw e refl
 
 more_notes : (a b : List Note) (t : Tale) → after_notes a (after_notes b t) ≡ after_notes (a ++ b) t
-more_notes a b t = ap with_notes (sym (append_assoc a b t.notes))
-  where
-    with_notes : List Note → Tale
-    with_notes l = record { knows = t.knows; notes = l }
+more_notes a b t = ap (λ l. record { knows = t.knows; notes = l }) (sym (append_assoc a b t.notes))
 
 tale-append : (wish : Wish) (k : Knows) (xs ys : List Item) → tale_of wish k (xs ++ ys) ≡ after_notes (tale_of wish k xs).notes (tale_of wish (tale_of wish k xs).knows ys)
 tale-append wish k [] ys = refl
@@ -50,10 +48,8 @@ hears_all-append r a b =
 
 pub after_all-append : (r : Rest) (a b : List ℕ) → after_all r (a ++ b) ≡ after_all (after_all r a) b
 after_all-append r a b =
-    ap (λ t. stands t.knows (state at_client r.item (a ++ b))) (hears_all-append r a b) ∙ ap (stands (hears_all (after_all r a) b).knows) (state-append Opened Item at_client r.item a b)
-  where
-    stands : Knows → Opened → Rest
-    stands k i = record r { knows = k; item = i }
+    ap (λ (t : Tale). record r { knows = t.knows; item = state at_client r.item (a ++ b) }) (hears_all-append r a b)
+    ∙ ap (λ (i : Opened). record r { knows = (hears_all (after_all r a) b).knows; item = i }) (state-append Opened Item at_client r.item a b)
 
 -- so many bytes of a piece were fed, told nothing, and ended the client
 pub record EndsSilently (s : Rest) (piece : List ℕ) (Now : Rest → Type 0) : Type 0 where
@@ -95,10 +91,7 @@ module _ (s : Rest) (piece : List ℕ) (Now : Rest → Type 0) where
 
   stands_is : (t : Tale) → hears_all s front ≡ t → after_all s front ≡ stands t
   stands_is t e =
-      ap (λ z. at z.knows (state at_client s.item front)) e ∙ ap (at t.knows) (takes_outputs Opened Item at_client s.item piece).1
-    where
-      at : Knows → Opened → Rest
-      at k i = record s { knows = k; item = i }
+      ap (λ (z : Tale). record s { knows = z.knows; item = state at_client s.item front }) e ∙ ap (λ (i : Opened). record s { knows = t.knows; item = i }) (takes_outputs Opened Item at_client s.item piece).1
 
   ok_after : (t : Tale) → hears_all s front ≡ t → (told : ℕ × Heard) → told.0 ≡ used → t.notes ≡ notes_by (note told.1) → Now (stands t) → AfterFeed s piece (Ok told) Now
   ok_after t e told u n now =
@@ -163,28 +156,23 @@ module _ (s : Rest) (piece : List ℕ) (Now : Rest → Type 0) where
       go true e k = closed result e k
       go false e k = open_after result e k
 
-pub part_kept : (r : Rest) (piece rest : List ℕ) (before mid after : List Note) (Now : Rest → Type 0) → PartFed r piece rest before mid Now → after ≡ mid → PartFed r piece rest before after Now
-part_kept r piece rest before mid after Now p e = record { fed = p.fed; parts = p.parts; told = e ∙ p.told; now = p.now }
+-- Notes that some bytes and then more tell, behind those before.
+pub notes_then : (r : Rest) (fed more : List ℕ) (before mid after : List Note) → mid ≡ before ++ (hears_all r fed).notes → after ≡ mid ++ (hears_all (after_all r fed) more).notes → after ≡ before ++ (hears_all r (fed ++ more)).notes
+notes_then r fed more before mid after told e =
+    let next = (hears_all (after_all r fed) more).notes in
+    e ∙ ap (λ l. l ++ next) told ∙ append_assoc before (hears_all r fed).notes next ∙ ap (λ t. before ++ t.notes) (sym (hears_all-append r fed more))
+
+pub part_kept : {r : Rest} {piece rest : List ℕ} {before mid after : List Note} {Now : Rest → Type 0} → PartFed r piece rest before mid Now → after ≡ mid → PartFed r piece rest before after Now
+part_kept p e = record { fed = p.fed; parts = p.parts; told = e ∙ p.told; now = p.now }
 
 -- A piece of which some was fed.
-module _ (r : Rest) (piece rest : List ℕ) (before mid : List Note) (Was Now : Rest → Type 0) (part : PartFed r piece rest before mid Was) where
-  -- so many bytes more, that tell these notes
-  more_told : (a : List ℕ) (notes after : List Note) → (hears_all (after_all r part.fed) a).notes ≡ notes → after ≡ mid ++ notes → after ≡ before ++ (hears_all r (part.fed ++ a)).notes
-  more_told a notes after n e =
-      e ∙ ap (λ l. l ++ notes) part.told ∙ append_assoc before _ notes ∙ ap (λ l. before ++ ((hears_all r part.fed).notes ++ l)) (sym n) ∙ ap (λ t. before ++ t.notes) (sym (hears_all-append r part.fed a))
-
-  more_now : (a : List ℕ) → Now (after_all (after_all r part.fed) a) → Now (after_all r (part.fed ++ a))
-  more_now a now = subst Now (sym (after_all-append r part.fed a)) now
-
-  more_parts : (n : ℕ) → piece ≡ (part.fed ++ take n rest) ++ drop n rest
-  more_parts n = part.parts ∙ ap (λ l. part.fed ++ l) (sym (take-append-drop n rest)) ∙ sym (append_assoc part.fed (take n rest) (drop n rest))
-
+module _ {r : Rest} {piece rest : List ℕ} {before mid : List Note} {Was Now : Rest → Type 0} (part : PartFed r piece rest before mid Was) where
   pub part_goes_on : (told : ℕ × Heard) (later : List ℕ) (after : List Note) → AfterFeed (after_all r part.fed) rest (Ok told) Now → later ≡ drop told.0 rest → after ≡ mid ++ notes_by (note told.1) → PartFed r piece later before after Now
   part_goes_on told later after h l e = record {
     fed = part.fed ++ take told.0 rest;
-    parts = more_parts told.0 ∙ ap (λ z. (part.fed ++ take told.0 rest) ++ z) (sym l);
-    told = more_told (take told.0 rest) (notes_by (note told.1)) after h.1 e;
-    now = more_now (take told.0 rest) h.0;
+    parts = sym (fed_more part.fed rest later piece told.0 (sym part.parts) l);
+    told = notes_then r part.fed (take told.0 rest) before mid after part.told (e ∙ ap (λ l. mid ++ l) (sym h.1));
+    now = subst Now (sym (after_all-append r part.fed (take told.0 rest))) h.0;
   }
 
   pub part_refused : (fault : ClientFault) → AfterFeed (after_all r part.fed) rest (Err fault) Now → (IsErrOf {T = ℕ × Heard} (Err fault) client_fault.Memory → Now (after_all r part.fed)) → FeedsPiece r piece before mid (has_ended fault) Now
@@ -192,15 +180,12 @@ module _ (r : Rest) (piece rest : List ℕ) (before mid : List Note) (Was Now : 
   part_refused client_fault.BadPeer h m = record {
     fed = part.fed ++ take h.count rest;
     unheard = drop h.count rest;
-    parts = more_parts h.count;
-    told = more_told (take h.count rest) [] mid h.silent (sym (append-nil mid));
-    now = more_now (take h.count rest) h.now;
+    parts = sym (fed_more part.fed rest (drop h.count rest) piece h.count (sym part.parts) refl);
+    told = notes_then r part.fed (take h.count rest) before mid mid part.told (sym (append-nil mid) ∙ ap (λ l. mid ++ l) (sym h.silent));
+    now = subst Now (sym (after_all-append r part.fed (take h.count rest))) h.now;
     ends = λ _. inr (ap (λ t. t.knows.over) (hears_all-append r part.fed (take h.count rest)) ∙ h.over);
   }
   part_refused client_fault.Memory h m = record { fed = part.fed; unheard = rest; parts = part.parts; told = part.told; now = m refl; ends = λ e. absurd (true≢false (sym e)) }
-
-  pub part_whole : rest ≡ [] → FeedsPiece r piece before mid true Was
-  part_whole e = record { fed = part.fed; unheard = rest; parts = part.parts; told = part.told; now = part.now; ends = λ _. inl e }
 
   pub part_broken : Now (after_all r part.fed) → FeedsPiece r piece before mid false Now
   part_broken now = record { fed = part.fed; unheard = rest; parts = part.parts; told = part.told; now = now; ends = λ e. absurd (true≢false (sym e)) }

@@ -1,11 +1,22 @@
-use Rattle.std.proofs.Common.{◌∙◌, ap}
+use Rattle.std.proofs.Common.{◌≡◌, ap, ◌∙◌, ℕ, List}
+use Rattle.std.specs.Prelude.{◌&&◌, codes}
+use Rattle.std.specs.Str.{bytes_eq}
 use Rattle.engine.specs.Kept.{principal_of, credentials_of, ledger_of}
-use Rattle.streams.specs.Conversing.{Talk}
-use Rattle.streams.specs.Responding.{end_of}
-use Rattle.commands.proofs.ByBytes.{talk_is}
+use Rattle.engine.specs.Queries.{fixed_answer}
+use Rattle.engine.specs.Views.{EntryView}
+use Rattle.streams.specs.Conversing.{Talk, conversation}
+use Rattle.streams.specs.Responding.{end_of, setting_of}
+use Rattle.commands.specs.Answers.{talk_of}
 use Rattle.commands.proofs.answers.answer_bytes.Goals as goal
+
+-- a conversation with a server that lets in one user
+abbrev talk_by : List ℕ → List ℕ → List EntryView → List ℕ → Talk
+talk_by principal credentials ledger bytes = conversation (setting_of fixed_answer (λ p c. bytes_eq p principal && bytes_eq c credentials)) 0 ledger bytes
 
 pub returns : goal.returns
 returns c =
-    let t = talk_is (principal_of c.in_ok-gate.gate) (credentials_of c.in_ok-gate.gate) (ledger_of c.new-2.result) c.args.bytes.now c.in_ok-gate.ensures.principal c.in_ok-gate.ensures.credentials c.new-2.ensures in
+    let bytes = c.args.bytes.now in
+    let ledger = ledger_of c.new-2.result in
+    let t : talk_by (principal_of c.in_ok-gate.gate) (credentials_of c.in_ok-gate.gate) ledger bytes ≡ talk_of bytes = ap (λ x. talk_by x (credentials_of c.in_ok-gate.gate) ledger bytes) c.in_ok-gate.ensures.principal
+    ∙ ap (λ x. talk_by (codes "user") x ledger bytes) c.in_ok-gate.ensures.credentials ∙ ap (λ x. talk_by (codes "user") (codes "pass") x bytes) c.new-2.ensures in
     (c.in-Ok.ensures.out ∙ ap (λ (x : Talk). x.out) t, c.in-Ok.ensures.last ∙ ap (λ (x : Talk). end_of x.kept) t)

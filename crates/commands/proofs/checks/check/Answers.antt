@@ -3,7 +3,8 @@ use Rattle.packstream.specs.Good.{IsGood}
 use Rattle.packstream.specs.Spelling.{Spells}
 use Rattle.cells.specs.Shape.{shape}
 use Rattle.structures.proofs.Clauses.{reads_by}
-use Rattle.commands.proofs.Checkings.{refused_checks, unfit_checks, written_ok}
+use Rattle.std.proofs.lemmas.Result.{IfOk-weaker}
+use Rattle.commands.proofs.Checkings.{refused_checks, unfit_is, written_checks}
 use Rattle.commands.proofs.checks.check.Goals as goal
 
 pub returns-in-Err : goal.returns-in-Err
@@ -12,9 +13,10 @@ returns-in-Err c = c.refused.ensures c.args.version c.args.bytes.now (refused_ch
 pub returns : goal.returns
 returns c =
     let spelled : IsGood c.in-Ok.packed × Spells c.in-Ok.packed c.args.bytes.now = (c.in-Ok.ensures.value c.in-Ok.packed).0 refl in
-    written_ok c.args.version c.args.bytes.now c.in-Ok.packed (shape c.in-Ok-read.cell) c.written_back.result spelled.0 spelled.1 ((c.in-Ok-read.ensures.cell (shape c.in-Ok-read.cell)).0 refl) c.written_back.ensures
+    IfOk-weaker c.written_back.result _ _ (λ r h. written_checks c.args.version c.args.bytes.now c.in-Ok.packed (shape c.in-Ok-read.cell) r spelled.0 spelled.1 ((c.in-Ok-read.ensures.cell (shape c.in-Ok-read.cell)).0 refl) h) c.written_back.ensures
 
 pub returns-in-Err-read : goal.returns-in-Err-read
 returns-in-Err-read c =
     let spelled : IsGood c.in-Ok.packed × Spells c.in-Ok.packed c.args.bytes.now = (c.in-Ok.ensures.value c.in-Ok.packed).0 refl in
-    unfit_checks c.args.version c.args.bytes.now c.in-Ok.packed c.in-Err-read.fault c.unfit.result spelled.0 spelled.1 (reads_by c.args.version c.in-Ok.packed (Err c.in-Err-read.fault) c.in-Err-read.ensures.cell c.in-Err-read.ensures.fault c.in-Err-read.ensures.memory) c.unfit.ensures
+    let w = reads_by c.args.version c.in-Ok.packed (Err c.in-Err-read.fault) c.in-Err-read.ensures.cell c.in-Err-read.ensures.fault c.in-Err-read.ensures.memory in
+    IfOk-weaker c.unfit.result _ _ (λ r h. unfit_is c.args.version c.args.bytes.now c.in-Ok.packed c.in-Err-read.fault r spelled.0 spelled.1 w h) c.unfit.ensures

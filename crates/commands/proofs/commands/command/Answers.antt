@@ -1,6 +1,11 @@
-use Rattle.std.proofs.Common.{inr}
-use Rattle.commands.proofs.Found.{status_said}
+use Rattle.std.proofs.Common.{◌≡◌, ◌⊎◌, inl, inr, ℕ, Bool, true, false, ◌∙◌, sym}
 use Rattle.commands.proofs.commands.command.Goals as goal
+
+-- with no failed stream the status is what was said
+status_said : (out err : Bool) (status said : ℕ) → (status ≡ said) ⊎ ((status ≡ 1) × ((out ≡ true) ⊎ (err ≡ true))) → out ≡ false → err ≡ false → status ≡ said
+status_said out err status said (inl h) o e = h
+status_said out err status said (inr (h, inl f)) o e = let bad : true ≡ false = sym f ∙ o in absurd cc
+status_said out err status said (inr (h, inr f)) o e = let bad : true ≡ false = sym f ∙ e in absurd cc
 
 pub returns-in-Ok-clause-says : goal.returns-in-Ok-clause-says
 returns-in-Ok-clause-says g c =

@@ -1,4 +1,4 @@
-use Rattle.commands.proofs.CheckedOnce.{one_check}
+use Rattle.commands.proofs.Checkings.{one_check}
 use Rattle.commands.proofs.laws.has_one_check.Goals as goal
 
 pub returns : goal.returns

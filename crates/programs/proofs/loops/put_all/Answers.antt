@@ -1,9 +1,7 @@
-use Rattle.std.proofs.Common.{◌≡◌, ◌∙◌, ◌++◌, ◌∷◌, [], append_assoc, append-nil, rules, refl, sym, ap, subst, map}
+use Rattle.std.proofs.Common.{◌∙◌, ◌++◌, ◌∷◌, [], append_assoc, rules, refl, sym, ap}
 use Rattle.std.proofs.lemmas.List.{nil_from_length}
 use Rattle.client.specs.Notes.{note}
-use Rattle.programs.specs.Looping.{Prints}
-use Rattle.programs.specs.Telling.{versions_after}
-use Rattle.programs.specs.Turns.{notes_shown}
+use Rattle.streams.proofs.Parts.{all_done}
 use Rattle.programs.proofs.Turned.{notes_next, prints_none, version_next}
 use Rattle.programs.proofs.loops.put_all.Goals as goal
 
@@ -23,12 +21,8 @@ loop-one-preserved g c =
 
 pub returns-clause-prints : goal.returns-clause-prints
 returns-clause-prints g c =
-    let so = c.loop-one.invariant in
-    let all : c.loop-one.yielded ≡ c.args.heard.items = sym (append-nil c.loop-one.yielded) ∙ ap (λ xs. c.loop-one.yielded ++ xs) (sym (nil_from_length c.loop-one.one-iterator.rest.items (search rules))) ∙ so.parts in
-    subst (λ xs. Prints (notes_shown c.args.caller.now.version (map note xs)) (g.O.Sink.taken c.args.out.now) (g.O.Sink.taken c.loop-one.out)) all so.prints
+    rw (← all_done c.loop-one.yielded c.loop-one.one-iterator.rest.items c.args.heard.items (nil_from_length c.loop-one.one-iterator.rest.items (search rules)) c.loop-one.invariant.parts) c.loop-one.invariant.prints
 
 pub returns-clause-version : goal.returns-clause-version
 returns-clause-version g c =
-    let so = c.loop-one.invariant in
-    let all : c.loop-one.yielded ≡ c.args.heard.items = sym (append-nil c.loop-one.yielded) ∙ ap (λ xs. c.loop-one.yielded ++ xs) (sym (nil_from_length c.loop-one.one-iterator.rest.items (search rules))) ∙ so.parts in
-    subst (λ xs. c.loop-one.caller.version ≡ versions_after c.args.caller.now.version (map note xs)) all so.version
+    rw (← all_done c.loop-one.yielded c.loop-one.one-iterator.rest.items c.args.heard.items (nil_from_length c.loop-one.one-iterator.rest.items (search rules)) c.loop-one.invariant.parts) c.loop-one.invariant.version

@@ -1,4 +1,5 @@
 use Rattle.std.proofs.Common.{◌≡◌, inl, ◌∙◌, [], refl, rules, sym, subst}
+use Rattle.std.proofs.lemmas.Result.{on_ok_weaker}
 use Rattle.engine.specs.Views.{entries_view}
 use Rattle.server.specs.Serving.{opened, setting}
 use Rattle.server.specs.Views.{Fits}
@@ -8,7 +9,6 @@ use Rattle.programs.specs.Looping.{ways_at}
 use Rattle.programs.specs.Turns.{no_turns}
 use Rattle.programs.proofs.Looped.{comes_begun, loops_whole}
 use Rattle.std.specs.Prelude.{IsSome}
-use Rattle.programs.proofs.Stops.{on_ok_then}
 use Rattle.programs.proofs.loops.run_opened.Goals as goal
 
 pub returns-in-Err-clause-grows : goal.returns-in-Err-clause-grows
@@ -31,8 +31,7 @@ returns-clause-loops g c = λ r f none.
     let o = c.in-Ok-open.ensures r f in
     let here = found_by r none c.in-Ok-open.conn o.number in
     let was = ways_at (g.B.Sink.taken c.args.near.now.sink) (g.C.Source.left c.args.far.now.source) (g.D.Sink.taken c.args.far.now.sink) (g.A.Source.left c.args.near.now.source) (g.O.Sink.taken c.args.out.now) in
-    let is = ways_at (g.B.Sink.taken c.run_lines.new.near.sink) (g.C.Source.left c.run_lines.new.far.source) (g.D.Sink.taken c.run_lines.new.far.sink) (g.A.Source.left c.run_lines.new.near.source) (g.O.Sink.taken c.run_lines.new.out) in
     let silent : c.new-3.result.bytes.items ≡ [] = search rules in
-    let k = c.in-Ok-run_lines.ensures.comes (opened r) was no_turns (subst IsSome (sym here) refl) (comes_begun r (setting g.E.Engine.answer g.G.Gate.accepts r) c.in-Ok-open.conn was c.in-Ok.caller (Fits g.E.Engine.entries c.open.new.self) c.new-3.result.bytes.items silent here o.now c.in-Ok.ensures.new) in
-    on_ok_then c.put_entries.result _ _ (λ p.
-    loops_whole r (setting g.E.Engine.answer g.G.Gate.accepts r) (said_requests c.args.lines.items) was is c.run_lines.new.pair.caller (Fits g.E.Engine.entries c.run_lines.new.server) c.run_lines.new.pair.said.bytes.items c.run_lines.new.pair.standing (g.O.Sink.taken c.put_entries.new.out) c.in-Ok-open.conn o.number k (entries_view c.ledger.result.now) p (λ x e. c.ledger.ensures.lends ∙ c.engine.ensures x e)) c.put_entries.ensures.told
+    let k = c.in-Ok-run_lines.ensures.comes (opened r) was no_turns (subst IsSome (sym here) refl) (comes_begun r (setting g.E.Engine.answer g.G.Gate.accepts r) c.in-Ok-open.conn silent here o.now c.in-Ok.ensures.new) in
+    on_ok_weaker c.put_entries.result (λ p.
+    loops_whole r (setting g.E.Engine.answer g.G.Gate.accepts r) (g.O.Sink.taken c.put_entries.new.out) (said_requests c.args.lines.items) c.in-Ok-open.conn o.number k (entries_view c.ledger.result.now) p (λ x e. c.ledger.ensures.lends ∙ c.engine.ensures x e)) c.put_entries.ensures.told

@@ -1,31 +1,37 @@
-use Rattle.std.proofs.Common.{◌≡◌, ◌++◌, [], List, ℕ, subst, sym, ap, ◌∙◌, take, rules, arith, ◌<◌, length}
+use Rattle.std.proofs.Common.{◌++◌, [], ◌<◌, append-nil, length, subst, take, rules}
 use Rattle.std.specs.Io.KnownBytes.{Consumes}
-use Rattle.std.proofs.KnownBytes.{Consumes-trans}
+use Rattle.std.proofs.KnownBytes.{Consumes-kept, Consumes-trans}
 use Rattle.streams.specs.declared.fault.StreamFault.TheVariants.{ReadFailed, WriteFailed}
 use Rattle.programs.specs.declared.stop.Stop.TheVariants.{Broken}
-use Rattle.programs.specs.Talking.{streams_at}
-use Rattle.programs.proofs.Followed.{nothing_done, runs_at_first, runs_failed, runs_stopped, runs_to_end}
+use Rattle.programs.proofs.Followed.{at_end, nothing_done, runs_at_first, runs_to_end, stops_behind}
 use Rattle.programs.proofs.Stops.{never_err, unless_so, unless_stops, unless_then}
 use Rattle.programs.proofs.shells.run.Goals as goal
 
 pub returns-in-Err-clause-runs : goal.returns-in-Err-clause-runs
-returns-in-Err-clause-runs g c = runs_at_first c.in-Err.fault (g.I.Source.left c.args.input.now) _ _ (nothing_done c.in-Err.fault (streams_at (g.S.Source.left c.args.source.now) (g.T.Sink.taken c.args.sink.now) (g.O.Sink.taken c.args.out.now) (g.E.Sink.taken c.args.err.now) (g.E.Sink.has_failed c.args.err.now)) c.in-Err.ensures.memory)
+returns-in-Err-clause-runs g c = runs_at_first c.in-Err.fault (nothing_done c.in-Err.fault _ c.in-Err.ensures.memory)
 
 pub returns-in-Err-begin-clause-runs : goal.returns-in-Err-begin-clause-runs
-returns-in-Err-begin-clause-runs g c = runs_at_first c.in-Err-begin.fault (g.I.Source.left c.args.input.now) _ _ (c.in-Err-begin.ensures.begins c.in-Ok.ensures.new.0)
+returns-in-Err-begin-clause-runs g c = runs_at_first c.in-Err-begin.fault (c.in-Err-begin.ensures.begins c.in-Ok.ensures.new.0)
 
 pub returns-in_default-clause-runs : goal.returns-in_default-clause-runs
 returns-in_default-clause-runs g c =
     let so = c.loop-len.invariant in
-    runs_failed (g.I.Source.left c.args.input.now) (g.I.Source.left c.loop-len.input) (g.I.Source.left c.read.new.self) _ _ so.0 c.loop-len.conversation so.1 c.in_default.ensures.bytes so.2
+    record {
+      script = so.0;
+      read = Consumes-kept (g.I.Source.left c.args.input.now) (g.I.Source.left c.loop-len.input) (g.I.Source.left c.read.new.self) so.0 so.1 c.in_default.ensures.bytes;
+      end = λ z. absurd cc;
+      does = stops_behind _ ReadFailed (at_end so.2) so.2.stands;
+    }
 
 pub returns-then-len-eq0-clause-runs : goal.returns-then-len-eq0-clause-runs
 returns-then-len-eq0-clause-runs g c =
     let so = c.loop-len.invariant in
     let some : 0 < length c.read.new.buffer = search rules in
     let bytes = c.in-Ok-read.ensures.bytes in
-    runs_to_end (g.I.Source.left c.args.input.now) (g.I.Source.left c.loop-len.input) (g.I.Source.left c.read.new.self) _ _ _ so.0 c.loop-len.conversation c.send.new.self.caller c.send.result so.1
-    (subst (λ (n : ℕ). Consumes (g.I.Source.left c.loop-len.input) (g.I.Source.left c.read.new.self) (take n c.read.new.buffer)) c.if-len-eq0.true bytes.0) (bytes.1 c.if-len-eq0.true some) so.2 (c.send.ensures.sends _ so.2.done so.2.stands)
+    let before = g.I.Source.left c.args.input.now in
+    let after = g.I.Source.left c.read.new.self in
+    let read = subst (Consumes before after) (append-nil so.0) (Consumes-trans before (g.I.Source.left c.loop-len.input) after so.0 [] so.1 (rw c.if-len-eq0.true at bytes.0)) in
+    runs_to_end c.send.new.self.caller c.send.result read (bytes.1 c.if-len-eq0.true some) so.2 (c.send.ensures.sends _ so.2.done so.2.stands)
 
 pub loop-len-preserved : goal.loop-len-preserved
 loop-len-preserved g c =
@@ -44,7 +50,12 @@ pub returns-in-Err-take-clause-runs : goal.returns-in-Err-take-clause-runs
 returns-in-Err-take-clause-runs g c =
     let so = c.loop-len.invariant in
     let piece = take c.in-Ok-read.len c.read.new.buffer in
-    runs_stopped (g.I.Source.left c.args.input.now) (g.I.Source.left c.loop-len.input) (g.I.Source.left c.read.new.self) _ _ so.0 piece c.in-Err-take.stop so.1 c.in-Ok-read.ensures.bytes.0 (c.in-Err-take.ensures.takes _ so.0 so.2)
+    record {
+      script = so.0 ++ piece;
+      read = Consumes-trans (g.I.Source.left c.args.input.now) (g.I.Source.left c.loop-len.input) (g.I.Source.left c.read.new.self) so.0 piece so.1 c.in-Ok-read.ensures.bytes.0;
+      end = λ z. absurd cc;
+      does = c.in-Err-take.ensures.takes _ so.0 so.2;
+    }
 
 pub returns-in-Err-begin-clause-source : goal.returns-in-Err-begin-clause-source
 returns-in-Err-begin-clause-source g c = unless_stops c.in-Err-begin.fault ReadFailed _ c.in-Err-begin.ensures.source

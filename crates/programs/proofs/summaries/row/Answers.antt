@@ -1,12 +1,13 @@
-use Rattle.std.proofs.Common.{string_bytes, ◌∙◌}
-use Rattle.cells.specs.Shape.{shape, shapes}
+use Rattle.std.proofs.Common.{◌∙◌}
+use Rattle.std.proofs.lemmas.Result.{IfOk-weaker}
+use Rattle.cells.specs.Shape.{shape}
 use Rattle.cells.specs.declared.cell.Cell.TheVariants.{List as ListCase}
 use Rattle.cells.proofs.Views.{shape-List}
-use Rattle.programs.proofs.Lines.{row_told}
+use Rattle.programs.specs.Telling.{IsSpelled}
 use Rattle.programs.proofs.summaries.row.Goals as goal
 
 pub returns : goal.returns
 returns c =
-    let spells = c.in_ok-hex.ensures in
-    row_told c.row_text.result string_bytes c.args.version (shapes c.args.cells.items) (shape (ListCase c.args.cells)) c.as_str.result.now (shape-List c.args.cells)
-    (spells.0, spells.1, c.as_str.ensures.value ∙ spells.2) c.row_text.ensures
+    let h = c.in_ok-hex.ensures in
+    let spells : IsSpelled c.args.version (shape (ListCase c.args.cells)) c.as_str.result.now = (h.0, h.1, c.as_str.ensures.value ∙ h.2) in
+    IfOk-weaker c.row_text.result _ _ (λ t told. (c.as_str.result.now, rw (shape-List c.args.cells) at spells, told)) c.row_text.ensures

@@ -5,7 +5,7 @@ use Rattle.engine.specs.Views.{EntryView}
 use Rattle.scripts.specs.Script.{said_lines}
 use Rattle.world.specs.World.{Reached, empty}
 use Rattle.world.specs.Turns.{FitsWorld, setting_of}
-use Rattle.replays.proofs.Serving.{lines_said}
+use Rattle.replays.proofs.Stepping.{lines_said}
 use Rattle.replays.proofs.script.say_lines.Goals as goal
 
 pub returns : goal.returns

@@ -1,8 +1,5 @@
-use Rattle.world.specs.Turns.{setting_of}
-use Rattle.world.specs.Views.{event_of}
-use Rattle.replays.proofs.Stepping.{once_leads}
+use Rattle.replays.proofs.Stepping.{leads_as}
 use Rattle.replays.proofs.script_lines.once.Goals as goal
 
 pub returns : goal.returns
-returns g c = λ gate brought w reached fits.
-    once_leads g.E.Engine.entries (setting_of g.E.Engine.answer g.G.Gate.accepts gate) gate brought w (event_of c.args.event) c.in_ok-done.done c.take_step.new.world (c.in_ok-done.ensures gate brought w reached fits)
+returns g c = λ gate brought w reached fits. leads_as (λ w2 x. (x.0, x.1, x.2.0)) (c.in_ok-done.ensures gate brought w reached fits)

@@ -1,6 +1,6 @@
 use Rattle.std.proofs.Common.{map, arith}
 use Rattle.std.proofs.lemmas.List.{length-map}
-use Rattle.scripts.proofs.Texts.{too_many}
+use Rattle.scripts.proofs.Parted.{too_many}
 use Rattle.scripts.proofs.requests.ending_of.Goals as goal
 
 pub returns-in_default : goal.returns-in_default

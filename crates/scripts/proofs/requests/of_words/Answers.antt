@@ -1,6 +1,6 @@
 use Rattle.std.proofs.Common.{map, arith}
 use Rattle.std.proofs.lemmas.List.{length-map}
-use Rattle.scripts.proofs.Texts.{too_long}
+use Rattle.scripts.proofs.Parted.{too_long}
 use Rattle.scripts.proofs.requests.of_words.Goals as goal
 
 pub returns-in_default : goal.returns-in_default

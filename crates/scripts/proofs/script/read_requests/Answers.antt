@@ -11,9 +11,9 @@ loop-before-preserved-then-is_empty c =
 
 pub returns-in-Err : goal.returns-in-Err
 returns-in-Err c =
-    stops_line request_line_of c.args.bytes.now (said_requests c.loop-before.said.items) c.deref-line-items.result.now c.loop-before.before (record { ref_ptr = (0, 0); now = [] }) c.in-Err.fault c.at.result c.loop-before-test.true c.loop-before.invariant (sym c.is_empty.ensures ∙ c.if-is_empty.false) c.in-Err.ensures c.at.ensures
+    stops_line request_line_of c.args.bytes.now (said_requests c.loop-before.said.items) c.deref-line-items.result.now c.loop-before.before (record { ref_ptr = (0, 0); now = [] }) c.loop-before-test.true c.loop-before.invariant c.in-Err.fault c.at.result (sym c.is_empty.ensures ∙ c.if-is_empty.false) c.in-Err.ensures c.at.ensures
 
 pub loop-before-preserved : goal.loop-before-preserved
 loop-before-preserved c =
     subst (λ out. HasRead request_line_of c.args.bytes.now out (c.loop-before.before + 1 + 1) (drop (c.loop-before.before + 1) (texts c.deref-line-items.result.now))) (pushed (λ l. (l.number, script_request_view l.said)) c.loop-before.said.items c.push.new.self.items _ c.in-Ok-push.ensures.items)
-    (reads_line request_line_of c.args.bytes.now (said_requests c.loop-before.said.items) c.deref-line-items.result.now c.loop-before.before (record { ref_ptr = (0, 0); now = [] }) (script_request_view c.in-Ok-read_request.here) c.loop-before-test.true c.loop-before.invariant (sym c.is_empty.ensures ∙ c.if-is_empty.false) c.in-Ok-read_request.ensures)
+    (reads_line request_line_of c.args.bytes.now (said_requests c.loop-before.said.items) c.deref-line-items.result.now c.loop-before.before (record { ref_ptr = (0, 0); now = [] }) c.loop-before-test.true c.loop-before.invariant (script_request_view c.in-Ok-read_request.here) (sym c.is_empty.ensures ∙ c.if-is_empty.false) c.in-Ok-read_request.ensures)

@@ -1,9 +1,8 @@
-use Rattle.std.proofs.Common.{refl, sym, ◌∙◌, subst, Bool, Ok}
+use Rattle.std.proofs.Common.{refl, sym, ◌∙◌}
 use Rattle.std.specs.Prelude.{map}
-use Rattle.client.specs.Rest.{Rest}
 use Rattle.client.specs.Notes.{note}
 use Rattle.client.specs.Fits.{Fits}
-use Rattle.streams.specs.Asking.{after_all, HearsPiece}
+use Rattle.streams.specs.Asking.{after_all}
 use Rattle.streams.proofs.Asked.{is_awaited, reads_none, stops_waiting, hears_more, hears_end, hears_fault}
 use Rattle.streams.proofs.client_end.read_on.Goals as goal
 
@@ -17,48 +16,30 @@ loop-client-init g c = record {
 pub hear_piece-requires : goal.hear_piece-requires
 hear_piece-requires g c = λ n few.
     c.requires c.loop-client.source (g.O.Sink.taken c.args.sink.now) n few
-    (refl, λ r f. let so = c.loop-client.invariant.reads r f in is_awaited r (g.I.Peer.left c.args.source.now) (g.I.Peer.left c.loop-client.source) (map note c.args.heard.now.items) (map note c.loop-client.heard.items) (Fits c.loop-client.client) so (sym (c.awaits.ensures (after_all r so.fed) so.now) ∙ c.loop-client-test.true))
+    (refl, λ r f. let so = c.loop-client.invariant.reads r f in is_awaited so (sym (c.awaits.ensures (after_all r so.fed) so.now) ∙ c.loop-client-test.true))
 
 pub returns-clause-reads : goal.returns-clause-reads
-returns-clause-reads g c =
-    λ r f.
+returns-clause-reads g c = λ r f.
     let so = c.loop-client.invariant.reads r f in
-    stops_waiting r _ _ _ _ (Fits c.loop-client.client) so (sym (c.awaits.ensures (after_all r so.fed) so.now) ∙ c.loop-client-test.false)
+    stops_waiting so (sym (c.awaits.ensures (after_all r so.fed) so.now) ∙ c.loop-client-test.false)
 
 pub loop-client-preserved : goal.loop-client-preserved
 loop-client-preserved g c = record {
   reads = λ r f.
       let so = c.loop-client.invariant.reads r f in
       let waits = sym (c.awaits.ensures (after_all r so.fed) so.now) ∙ c.loop-client-test.true in
-      let left = g.I.Peer.left c.args.source.now in
-      let mid = g.I.Peer.left c.loop-client.source in
-      let left_now = g.I.Peer.left c.hear_piece.new.source in
-      let notes = map note c.loop-client.heard.items in
-      let after = map note c.hear_piece.new.heard.items in
-      let Now : Rest → Type 0 = Fits c.hear_piece.new.client in
-      let h = subst (λ (b : Bool). HearsPiece (after_all r so.fed) mid left_now notes after Now (Ok b)) c.in-Ok-true.field-0-test (c.in-Ok-true.ensures.hears (after_all r so.fed) so.now) in
-      hears_more r left mid (map note c.args.heard.now.items) notes (Fits c.loop-client.client) so left_now after Now waits h;
+      hears_more so waits (rw c.in-Ok-true.field-0-test at (c.in-Ok-true.ensures.hears (after_all r so.fed) so.now));
   sound = λ h. c.loop-client.invariant.sound (c.in-Ok-true.ensures.sound h);
   stays = λ h. c.hear_piece.ensures.stays (c.loop-client.invariant.stays h);
 }
 
 pub returns-in-Ok-false-clause-reads : goal.returns-in-Ok-false-clause-reads
-returns-in-Ok-false-clause-reads g c =
-    λ r f.
+returns-in-Ok-false-clause-reads g c = λ r f.
     let so = c.loop-client.invariant.reads r f in
-    let left = g.I.Peer.left c.args.source.now in
-    let mid = g.I.Peer.left c.loop-client.source in
-    let left_now = g.I.Peer.left c.hear_piece.new.source in
-    let notes = map note c.loop-client.heard.items in
-    let after = map note c.hear_piece.new.heard.items in
-    let Now : Rest → Type 0 = Fits c.hear_piece.new.client in
-    let h = subst (λ (b : Bool). HearsPiece (after_all r so.fed) mid left_now notes after Now (Ok b)) c.in-Ok-false.field-0-test (c.in-Ok-false.ensures.hears (after_all r so.fed) so.now) in
-    hears_end r left mid (map note c.args.heard.now.items) notes (Fits c.loop-client.client) so left_now after Now h
+    hears_end so (rw c.in-Ok-false.field-0-test at (c.in-Ok-false.ensures.hears (after_all r so.fed) so.now))
 
 pub returns-in-Err-clause-reads : goal.returns-in-Err-clause-reads
-returns-in-Err-clause-reads g c =
-    λ r f.
+returns-in-Err-clause-reads g c = λ r f.
     let so = c.loop-client.invariant.reads r f in
     let waits = sym (c.awaits.ensures (after_all r so.fed) so.now) ∙ c.loop-client-test.true in
-    hears_fault r (g.I.Peer.left c.args.source.now) (g.I.Peer.left c.loop-client.source) (map note c.args.heard.now.items) (map note c.loop-client.heard.items) (Fits c.loop-client.client) so (g.I.Peer.left c.hear_piece.new.source)
-    (map note c.hear_piece.new.heard.items) (Fits c.hear_piece.new.client) c.in-Err.fault waits (c.in-Err.ensures.hears (after_all r so.fed) so.now)
+    hears_fault so (g.I.Peer.left c.hear_piece.new.source) (map note c.hear_piece.new.heard.items) (Fits c.hear_piece.new.client) c.in-Err.fault waits (c.in-Err.ensures.hears (after_all r so.fed) so.now)

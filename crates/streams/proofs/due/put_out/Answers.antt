@@ -1,12 +1,12 @@
 use Rattle.std.proofs.Common.{ℕ, List, [], ◌<◌, length, Ok, refl, subst, ◌∙◌, arith}
 use Rattle.std.specs.Io.KnownBytes.{Appends}
+use Rattle.server.specs.Serving.{taken_from}
 use Rattle.server.specs.Views.{Fits}
 use Rattle.streams.specs.Holding.{with_held}
 use Rattle.streams.specs.Conversing.{with_talk, heard_out}
-use Rattle.streams.proofs.Putting.{out_lives, out_whole}
-use Rattle.streams.proofs.Growing.{lives_kept, lives_out}
+use Rattle.streams.proofs.Called.{live_then, lives_called, lives_kept, out_whole}
 use Rattle.std.proofs.KnownBytes.{Appends-nil}
-use Rattle.streams.proofs.Holdings.{sent_none}
+use Rattle.streams.proofs.Conversings.{sent_none}
 use Rattle.streams.proofs.due.put_out.Goals as goal
 
 -- as many as there may be
@@ -23,11 +23,17 @@ returns-in_default-clause-puts g c = λ r u ledger k i f. (
 pub returns-in_default-clause-live : goal.returns-in_default-clause-live
 returns-in_default-clause-live g c = (c.requires.0, c.in_default.ensures.refused c.requires.0 c.requires.1, c.requires.2)
 
+pub returns-in_default-put-clause-grows : goal.returns-in_default-put-clause-grows
+returns-in_default-put-clause-grows g c = lives_called c.args.conn (taken_from most) (λ u k. refl) (Fits g.E.Engine.entries c.args.server.now) (Fits g.E.Engine.entries c.take_out.new.self) (Ok c.in-Ok.bytes) c.in-Ok.ensures.done
+
+pub returns-clause-grows : goal.returns-clause-grows
+returns-clause-grows g c = lives_called c.args.conn (taken_from most) (λ u k. refl) (Fits g.E.Engine.entries c.args.server.now) (Fits g.E.Engine.entries c.take_out.new.self) (Ok c.in-Ok.bytes) c.in-Ok.ensures.done
+
 pub returns-in_default-put-clause-live : goal.returns-in_default-put-clause-live
-returns-in_default-put-clause-live g c = out_lives most c.args.conn c.requires.0 (Ok c.in-Ok.bytes) (Fits g.E.Engine.entries c.take_out.new.self) c.requires.2 (c.in-Ok.ensures.done c.requires.0 c.requires.1)
+returns-in_default-put-clause-live g c = live_then c.args.conn (Fits g.E.Engine.entries c.args.server.now) (Fits g.E.Engine.entries c.take_out.new.self) (lives_called c.args.conn (taken_from most) (λ u k. refl) (Fits g.E.Engine.entries c.args.server.now) (Fits g.E.Engine.entries c.take_out.new.self) (Ok c.in-Ok.bytes) c.in-Ok.ensures.done) c.requires
 
 pub returns-clause-live : goal.returns-clause-live
-returns-clause-live g c = out_lives most c.args.conn c.requires.0 (Ok c.in-Ok.bytes) (Fits g.E.Engine.entries c.take_out.new.self) c.requires.2 (c.in-Ok.ensures.done c.requires.0 c.requires.1)
+returns-clause-live g c = live_then c.args.conn (Fits g.E.Engine.entries c.args.server.now) (Fits g.E.Engine.entries c.take_out.new.self) (lives_called c.args.conn (taken_from most) (λ u k. refl) (Fits g.E.Engine.entries c.args.server.now) (Fits g.E.Engine.entries c.take_out.new.self) (Ok c.in-Ok.bytes) c.in-Ok.ensures.done) c.requires
 
 pub returns-in_default-put-clause-puts : goal.returns-in_default-put-clause-puts
 returns-in_default-put-clause-puts g c = λ r u ledger k i f.
@@ -44,12 +50,6 @@ returns-clause-puts g c = λ r u ledger k i f.
 
 pub returns-in_default-clause-grows : goal.returns-in_default-clause-grows
 returns-in_default-clause-grows g c = lives_kept c.args.conn (Fits g.E.Engine.entries c.args.server.now) (Fits g.E.Engine.entries c.take_out.new.self) c.in_default.ensures.refused
-
-pub returns-in_default-put-clause-grows : goal.returns-in_default-put-clause-grows
-returns-in_default-put-clause-grows g c = lives_out c.args.conn most (Fits g.E.Engine.entries c.args.server.now) (Fits g.E.Engine.entries c.take_out.new.self) (Ok c.in-Ok.bytes) c.in-Ok.ensures.done
-
-pub returns-clause-grows : goal.returns-clause-grows
-returns-clause-grows g c = lives_out c.args.conn most (Fits g.E.Engine.entries c.args.server.now) (Fits g.E.Engine.entries c.take_out.new.self) (Ok c.in-Ok.bytes) c.in-Ok.ensures.done
 
 pub returns-in_default-clause-sends : goal.returns-in_default-clause-sends
 returns-in_default-clause-sends g c = sent_none (g.O.Sink.taken c.args.sink.now)

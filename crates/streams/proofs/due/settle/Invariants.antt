@@ -8,7 +8,7 @@ use Rattle.server.specs.Views.{Fits}
 use Rattle.streams.specs.Holding.{with_held, HasSent}
 use Rattle.streams.specs.Conversing.{talk_of_due, with_talk}
 use Rattle.streams.specs.Settling.{IsLive, IsPlaced, LivesOn}
-use Rattle.streams.proofs.Going.{GoesOn}
+use Rattle.streams.proofs.Stepping.{GoesOn}
 use Rattle.streams.proofs.due.settle.Given as goal
 
 abbrev pub invariant-loop : goal.invariant-loop

@@ -1,4 +1,4 @@
-use Rattle.streams.proofs.Holdings.{sent_then}
+use Rattle.streams.proofs.Conversings.{sent_then}
 use Rattle.streams.proofs.held.write_behind.Goals as goal
 
 pub returns-in-Ok-write_all-clause-sends : goal.returns-in-Ok-write_all-clause-sends

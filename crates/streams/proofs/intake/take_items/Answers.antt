@@ -1,11 +1,9 @@
 use Rattle.std.proofs.Common.{◌++◌}
-use Rattle.server.specs.Serving.{setting}
 use Rattle.server.specs.Views.{Fits}
-use Rattle.streams.specs.Holding.{with_held}
 use Rattle.streams.proofs.Parts.{empty_nil}
-use Rattle.streams.proofs.Pieces.{partly_begun, partly_more, partly_over, partly_broken, partly_whole}
-use Rattle.streams.proofs.Growing.{lives_same, lives_then}
-use Rattle.streams.proofs.Holdings.{sent_none, sent_then}
+use Rattle.streams.proofs.Talks.{partly_begun, partly_broken, partly_more, partly_over, partly_whole}
+use Rattle.streams.proofs.Called.{lives_same, lives_then}
+use Rattle.streams.proofs.Conversings.{sent_none, sent_then}
 use Rattle.streams.proofs.intake.take_items.Goals as goal
 
 pub loop-rest-init : goal.loop-rest-init
@@ -13,7 +11,7 @@ loop-rest-init g c = record {
   live = c.requires;
   grows = lives_same c.args.conn (Fits g.E.Engine.entries c.args.server.now);
   sends = sent_none (g.O.Sink.taken c.args.sink.now);
-  takes = λ r before up i e s. partly_begun r c.args.conn (setting g.E.Engine.answer g.G.Gate.accepts r) before up c.args.piece.now (Fits g.E.Engine.entries c.args.server.now) (with_held (g.O.Sink.taken c.args.sink.now) c.args.held.now) e s;
+  takes = λ r before up i e s. partly_begun e s;
 }
 
 pub take_one-requires : goal.take_one-requires
@@ -22,14 +20,12 @@ take_one-requires g c = c.loop-rest.invariant.live
 pub returns-in-Err-clause-takes : goal.returns-in-Err-clause-takes
 returns-in-Err-clause-takes g c = λ r before up i e s.
     let p = c.loop-rest.invariant.takes r before up i e s in
-    partly_broken r c.args.conn (setting g.E.Engine.answer g.G.Gate.accepts r) before up c.args.piece.now (Fits g.E.Engine.entries c.loop-rest.server) (with_held (g.O.Sink.taken c.loop-rest.sink) c.loop-rest.held) (with_held (g.O.Sink.taken c.take_one.new.sink) c.take_one.new.held) c.loop-rest.rest.now p
-    (Fits g.E.Engine.entries c.take_one.new.server) c.in-Err.fault (c.in-Err.ensures.takes r before (up ++ p.done) i p.live p.stands)
+    partly_broken p (c.in-Err.ensures.takes r before (up ++ p.done) i p.live p.stands)
 
 pub returns-in-Over-clause-takes : goal.returns-in-Over-clause-takes
 returns-in-Over-clause-takes g c = λ r before up i e s.
     let p = c.loop-rest.invariant.takes r before up i e s in
-    partly_over r c.args.conn (setting g.E.Engine.answer g.G.Gate.accepts r) before up c.args.piece.now (Fits g.E.Engine.entries c.loop-rest.server) (with_held (g.O.Sink.taken c.loop-rest.sink) c.loop-rest.held) (with_held (g.O.Sink.taken c.take_one.new.sink) c.take_one.new.held) c.loop-rest.rest.now p
-    (Fits g.E.Engine.entries c.take_one.new.server) c.in-Ok.taken c.in-Over.is (c.in-Ok.ensures.takes r before (up ++ p.done) i p.live p.stands)
+    partly_over p c.in-Ok.taken c.in-Over.is (c.in-Ok.ensures.takes r before (up ++ p.done) i p.live p.stands)
 
 pub loop-rest-preserved : goal.loop-rest-preserved
 loop-rest-preserved g c = record {
@@ -38,17 +34,14 @@ loop-rest-preserved g c = record {
   sends = sent_then (g.O.Sink.taken c.args.sink.now) (g.O.Sink.taken c.loop-rest.sink) (g.O.Sink.taken c.take_one.new.sink) c.loop-rest.invariant.sends c.take_one.ensures.sends;
   takes = λ r before up i e s.
       let p = c.loop-rest.invariant.takes r before up i e s in
-      partly_more r c.args.conn (setting g.E.Engine.answer g.G.Gate.accepts r) before up c.args.piece.now (Fits g.E.Engine.entries c.loop-rest.server) (with_held (g.O.Sink.taken c.loop-rest.sink) c.loop-rest.held) (with_held (g.O.Sink.taken c.take_one.new.sink) c.take_one.new.held) c.loop-rest.rest.now p
-      (Fits g.E.Engine.entries c.take_one.new.server) c.in-Ok.taken c.split_at.result.1.now c.split_at.ensures.back c.in-Open.is (c.in-Ok.ensures.takes r before (up ++ p.done) i p.live p.stands);
+      partly_more p c.in-Ok.taken c.split_at.result.1.now c.split_at.ensures.back c.in-Open.is (c.in-Ok.ensures.takes r before (up ++ p.done) i p.live p.stands);
 }
 
 pub returns-clause-live : goal.returns-clause-live
 returns-clause-live g c = c.loop-rest.invariant.live
 
 pub returns-clause-takes : goal.returns-clause-takes
-returns-clause-takes g c = λ r before up i e s.
-    let none = empty_nil c.loop-rest.rest.now c.is_empty.result c.is_empty.ensures c.loop-rest-test.false in
-    partly_whole r c.args.conn (setting g.E.Engine.answer g.G.Gate.accepts r) before up c.args.piece.now (Fits g.E.Engine.entries c.loop-rest.server) (with_held (g.O.Sink.taken c.loop-rest.sink) c.loop-rest.held) c.loop-rest.rest.now none (c.loop-rest.invariant.takes r before up i e s)
+returns-clause-takes g c = λ r before up i e s. partly_whole (empty_nil c.loop-rest.rest.now c.is_empty.result c.is_empty.ensures c.loop-rest-test.false) (c.loop-rest.invariant.takes r before up i e s)
 
 pub returns-in-Err-clause-grows : goal.returns-in-Err-clause-grows
 returns-in-Err-clause-grows g c = lives_then c.args.conn (Fits g.E.Engine.entries c.args.server.now) (Fits g.E.Engine.entries c.loop-rest.server) (Fits g.E.Engine.entries c.take_one.new.server) c.loop-rest.invariant.grows c.take_one.ensures.grows

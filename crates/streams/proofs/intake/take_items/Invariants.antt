@@ -4,7 +4,7 @@ use Rattle.server.specs.Serving.{Rest, find, setting}
 use Rattle.server.specs.Views.{Fits}
 use Rattle.streams.specs.Holding.{with_held, HasSent}
 use Rattle.streams.specs.Settling.{IsLive, Stands, told_by, LivesOn}
-use Rattle.streams.proofs.Pieces.{Partly}
+use Rattle.streams.proofs.Talks.{Partly}
 use Rattle.streams.proofs.intake.take_items.Given as goal
 
 abbrev pub invariant-loop-rest : goal.invariant-loop-rest

@@ -6,9 +6,9 @@ use Rattle.wire.specs.Reader.{state, takes}
 use Rattle.wire.specs.Framing.{at_server}
 use Rattle.streams.specs.Holding.{with_held}
 use Rattle.streams.specs.Settling.{told_by}
-use Rattle.streams.proofs.Talks.{open_not_shut, next_placed, none_taken, one_taken, one_broken}
-use Rattle.streams.proofs.Growing.{lives_then}
-use Rattle.streams.proofs.Holdings.{sent_none}
+use Rattle.streams.proofs.Talks.{next_placed, none_taken, one_broken, one_taken, open_not_shut}
+use Rattle.streams.proofs.Called.{lives_then}
+use Rattle.streams.proofs.Conversings.{sent_none}
 use Rattle.streams.proofs.intake.take_one.Goals as goal
 
 pub returns-in-Err-clause-takes : goal.returns-in-Err-clause-takes

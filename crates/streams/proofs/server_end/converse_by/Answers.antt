@@ -1,13 +1,9 @@
-use Rattle.std.proofs.Common.{ℕ, [], length, ◌≤◌, take, subst, Ok, refl, sym, arith}
+use Rattle.std.proofs.Common.{length, ◌≤◌, take, refl, sym, subst, arith}
 use Rattle.std.specs.Prelude.{IsSome}
-use Rattle.std.specs.Io.KnownBytes.{Consumes}
-use Rattle.server.specs.Serving.{setting}
 use Rattle.server.specs.Views.{Fits}
-use Rattle.streams.specs.Settling.{TakesPiece}
-use Rattle.streams.specs.declared.fault.Standing.{Standing}
 use Rattle.streams.specs.declared.fault.StreamFault.TheVariants.{ReadFailed}
-use Rattle.streams.proofs.Conversings.{reads_begun, reads_turn, reads_whole, reads_none, reads_more, reads_over, reads_broken, never_read}
-use Rattle.streams.proofs.Growing.{lives_same, lives_then}
+use Rattle.streams.proofs.Conversings.{never_read, reads_begun, reads_broken, reads_more, reads_none, reads_over, reads_turn, reads_whole}
+use Rattle.streams.proofs.Called.{lives_same, lives_then}
 use Rattle.streams.proofs.server_end.converse_by.Goals as goal
 
 pub loop-count-init : goal.loop-count-init
@@ -15,27 +11,21 @@ loop-count-init g c = record {
   live = c.requires.live;
   grows = lives_same c.args.conn (Fits g.E.Engine.entries c.args.server.now);
   none = c.requires.none;
-  reads = λ r f e. reads_begun r c.args.conn (setting g.E.Engine.answer g.G.Gate.accepts r) (g.I.Peer.left c.args.source.now) (g.O.Sink.taken c.args.sink.now) (Fits g.E.Engine.entries c.args.server.now) f e;
+  reads = λ r f e. reads_begun r c.args.conn _ (g.I.Peer.left c.args.source.now) (g.O.Sink.taken c.args.sink.now) (Fits g.E.Engine.entries c.args.server.now) f e;
 }
 
 pub read_after-requires : goal.read_after-requires
 read_after-requires g c =
     let few : length c.loop-count.buffer ≤ 4096 = omega (arith, c.loop-count.auto.buffer, c.requires.few) in
-    record {
-      turn = c.requires.turns c.loop-count.source (g.O.Sink.taken c.loop-count.sink) (length c.loop-count.buffer) few (λ r f e. reads_turn r c.args.conn (setting g.E.Engine.answer g.G.Gate.accepts r) (g.I.Peer.left c.args.source.now) (g.O.Sink.taken c.args.sink.now) (Fits g.E.Engine.entries c.loop-count.server) (g.O.Sink.taken c.loop-count.sink) (g.I.Peer.left c.loop-count.source) (c.loop-count.invariant.reads r f e));
-    }
+    record { turn = c.requires.turns c.loop-count.source (g.O.Sink.taken c.loop-count.sink) (length c.loop-count.buffer) few (λ r f e. reads_turn (c.loop-count.invariant.reads r f e)) }
 
 pub returns-in_default-clause-converses : goal.returns-in_default-clause-converses
-returns-in_default-clause-converses g c = λ r f e.
-    reads_none r c.args.conn (setting g.E.Engine.answer g.G.Gate.accepts r) (g.I.Peer.left c.args.source.now) (g.O.Sink.taken c.args.sink.now) (Fits g.E.Engine.entries c.loop-count.server) (g.O.Sink.taken c.loop-count.sink) (g.I.Peer.left c.loop-count.source) (c.loop-count.invariant.reads r f e)
-    (g.I.Peer.left c.read_after.new.self) c.in_default.ensures.bytes ReadFailed
+returns-in_default-clause-converses g c = λ r f e. reads_none (c.loop-count.invariant.reads r f e) (g.I.Peer.left c.read_after.new.self) c.in_default.ensures.bytes ReadFailed
 
 pub returns-then-count-eq0-clause-converses : goal.returns-then-count-eq0-clause-converses
 returns-then-count-eq0-clause-converses g c = λ r f e.
     let b = c.in-Ok.ensures.bytes in
-    let none : Consumes (g.I.Peer.left c.loop-count.source) (g.I.Peer.left c.read_after.new.self) [] = subst (λ (n : ℕ). Consumes (g.I.Peer.left c.loop-count.source) (g.I.Peer.left c.read_after.new.self) (take n c.read_after.new.buffer)) c.if-count-eq0.true b.0 in
-    reads_whole r c.args.conn (setting g.E.Engine.answer g.G.Gate.accepts r) (g.I.Peer.left c.args.source.now) (g.O.Sink.taken c.args.sink.now) (Fits g.E.Engine.entries c.loop-count.server) (g.O.Sink.taken c.loop-count.sink) (g.I.Peer.left c.loop-count.source) (c.loop-count.invariant.reads r f e)
-    (g.I.Peer.left c.read_after.new.self) none (b.1 c.if-count-eq0.true (omega (arith, c.loop-count.auto.buffer, c.read_after.auto.buffer, c.requires.room)))
+    reads_whole (c.loop-count.invariant.reads r f e) (g.I.Peer.left c.read_after.new.self) (rw c.if-count-eq0.true at b.0) (b.1 c.if-count-eq0.true (omega (arith, c.loop-count.auto.buffer, c.read_after.auto.buffer, c.requires.room)))
 
 pub loop-count-preserved : goal.loop-count-preserved
 loop-count-preserved g c = record {
@@ -43,35 +33,23 @@ loop-count-preserved g c = record {
   grows = lives_then c.args.conn (Fits g.E.Engine.entries c.args.server.now) (Fits g.E.Engine.entries c.loop-count.server) (Fits g.E.Engine.entries c.take_held.new.server) c.loop-count.invariant.grows c.take_held.ensures.grows;
   none = c.in-Ok-Open.ensures.none refl;
   reads = λ r f e.
-      let S = setting g.E.Engine.answer g.G.Gate.accepts r in
-      let before = g.O.Sink.taken c.args.sink.now in
-      let Then = Fits g.E.Engine.entries c.take_held.new.server in
-      let new = g.O.Sink.taken c.take_held.new.sink in
       let p = c.loop-count.invariant.reads r f e in
-      let h = c.in-Ok-Open.ensures.takes r before p.up (subst IsSome (sym e) refl) p.live p.stands in
-      reads_more r c.args.conn S (g.I.Peer.left c.args.source.now) before (Fits g.E.Engine.entries c.loop-count.server) (g.O.Sink.taken c.loop-count.sink) (g.I.Peer.left c.loop-count.source) p (g.I.Peer.left c.read_after.new.self) (take c.in-Ok.count c.read_after.new.buffer) c.in-Ok.ensures.bytes.0 Then new
-      (subst (λ (x : Standing). TakesPiece r c.args.conn S Then before new p.up (take c.in-Ok.count c.read_after.new.buffer) (Ok x)) c.in-Ok-Open.field-0-is h);
+      reads_more p (g.I.Peer.left c.read_after.new.self) (take c.in-Ok.count c.read_after.new.buffer) c.in-Ok.ensures.bytes.0 (Fits g.E.Engine.entries c.take_held.new.server) (g.O.Sink.taken c.take_held.new.sink)
+      (rw c.in-Ok-Open.field-0-is at (c.in-Ok-Open.ensures.takes r (g.O.Sink.taken c.args.sink.now) p.up (subst IsSome (sym e) refl) p.live p.stands));
 }
 
 pub returns-in-Ok-Over-clause-converses : goal.returns-in-Ok-Over-clause-converses
 returns-in-Ok-Over-clause-converses g c = λ r f e.
-    let S = setting g.E.Engine.answer g.G.Gate.accepts r in
-    let before = g.O.Sink.taken c.args.sink.now in
-    let Then = Fits g.E.Engine.entries c.take_held.new.server in
-    let new = g.O.Sink.taken c.take_held.new.sink in
     let p = c.loop-count.invariant.reads r f e in
-    let h = c.in-Ok-Over.ensures.takes r before p.up (subst IsSome (sym e) refl) p.live p.stands in
-    reads_over r c.args.conn S (g.I.Peer.left c.args.source.now) before (Fits g.E.Engine.entries c.loop-count.server) (g.O.Sink.taken c.loop-count.sink) (g.I.Peer.left c.loop-count.source) p (g.I.Peer.left c.read_after.new.self) (take c.in-Ok.count c.read_after.new.buffer) c.in-Ok.ensures.bytes.0 Then new
-    (subst (λ (x : Standing). TakesPiece r c.args.conn S Then before new p.up (take c.in-Ok.count c.read_after.new.buffer) (Ok x)) c.in-Ok-Over.field-0-is h)
+    reads_over p (g.I.Peer.left c.read_after.new.self) (take c.in-Ok.count c.read_after.new.buffer) c.in-Ok.ensures.bytes.0 (Fits g.E.Engine.entries c.take_held.new.server) (g.O.Sink.taken c.take_held.new.sink)
+    (rw c.in-Ok-Over.field-0-is at (c.in-Ok-Over.ensures.takes r (g.O.Sink.taken c.args.sink.now) p.up (subst IsSome (sym e) refl) p.live p.stands))
 
 pub returns-in-Err-clause-converses : goal.returns-in-Err-clause-converses
 returns-in-Err-clause-converses g c = λ r f e.
-    let S = setting g.E.Engine.answer g.G.Gate.accepts r in
-    let before = g.O.Sink.taken c.args.sink.now in
     let p = c.loop-count.invariant.reads r f e in
-    let h = c.in-Err.ensures.takes r before p.up (subst IsSome (sym e) refl) p.live p.stands in
-    reads_broken r c.args.conn S (g.I.Peer.left c.args.source.now) before (Fits g.E.Engine.entries c.loop-count.server) (g.O.Sink.taken c.loop-count.sink) (g.I.Peer.left c.loop-count.source) p (g.I.Peer.left c.read_after.new.self) (take c.in-Ok.count c.read_after.new.buffer) c.in-Ok.ensures.bytes.0
-    (Fits g.E.Engine.entries c.take_held.new.server) (g.O.Sink.taken c.take_held.new.sink) c.in-Err.fault (never_read c.in-Err.fault (g.O.Sink.has_failed c.take_held.new.sink) c.in-Err.ensures.failed) h
+    let never = never_read c.in-Err.fault (g.O.Sink.has_failed c.take_held.new.sink) c.in-Err.ensures.failed in
+    reads_broken p (g.I.Peer.left c.read_after.new.self) (take c.in-Ok.count c.read_after.new.buffer) c.in-Ok.ensures.bytes.0 (Fits g.E.Engine.entries c.take_held.new.server) (g.O.Sink.taken c.take_held.new.sink)
+    c.in-Err.fault never (c.in-Err.ensures.takes r (g.O.Sink.taken c.args.sink.now) p.up (subst IsSome (sym e) refl) p.live p.stands)
 
 pub returns-in_default-clause-grows : goal.returns-in_default-clause-grows
 returns-in_default-clause-grows g c = c.loop-count.invariant.grows

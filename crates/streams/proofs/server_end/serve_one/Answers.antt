@@ -1,20 +1,42 @@
-use Rattle.std.proofs.Common.{sym, subst, refl}
-use Rattle.std.specs.Prelude.{IsSome}
-use Rattle.server.specs.Serving.{setting}
+use Rattle.std.proofs.Common.{◌∙◌, sym, ap, subst, refl, Option}
+use Rattle.std.specs.Prelude.{IsSome, unwrap_or}
+use Rattle.session.specs.declared.kinds.Cause.{Cause}
+use Rattle.server.specs.Serving.{find, setting}
 use Rattle.server.specs.Views.{Fits}
-use Rattle.streams.proofs.Losing.{serves_whole, serves_broken}
-use Rattle.streams.proofs.Growing.{lives_no_more}
+use Rattle.streams.specs.Conversing.{conversation, with_talk}
+use Rattle.streams.proofs.Called.{lives_no_more, lost_cause, lost_rest}
 use Rattle.streams.proofs.server_end.serve_one.Goals as goal
 
 pub returns-in-Ok-clause-serves : goal.returns-in-Ok-clause-serves
 returns-in-Ok-clause-serves g c = λ r f e.
-    serves_whole r c.args.conn (setting g.E.Engine.answer g.G.Gate.accepts r) (subst IsSome (sym e) refl) (Fits g.E.Engine.entries c.converse-done.new.server) (Fits g.E.Engine.entries c.lost.new.self) (g.I.Peer.left c.args.source.now) (g.I.Peer.left c.converse-done.new.source)
-    (g.O.Sink.taken c.args.sink.now) (g.O.Sink.taken c.converse-done.new.sink) c.lost.result c.lost.ensures c.unwrap_or-cause.result c.unwrap_or-cause.ensures (c.in-Ok.ensures.converses r f e)
+    let h = c.in-Ok.ensures.converses r f e in
+    let t = conversation (setting g.E.Engine.answer g.G.Gate.accepts r) c.args.conn r.ledger h.read in
+    let i : IsSome (find c.args.conn r.sessions) = subst IsSome (sym e) refl in
+    let l = c.lost.ensures (with_talk r c.args.conn h.unfinished t.ledger t.kept) h.now in
+    record {
+      read = h.read;
+      input = h.input;
+      ends = h.ends;
+      ended = c.unwrap_or-cause.ensures ∙ ap (λ (x : Option Cause). unwrap_or x Cause.Lost) (l.0 ∙ lost_cause r c.args.conn i h.unfinished t.ledger t.kept);
+      now = subst (Fits g.E.Engine.entries c.lost.new.self) (lost_rest r c.args.conn i h.unfinished t.ledger t.kept) l.1;
+      took = h.took;
+    }
 
 pub returns-in-Err-clause-serves : goal.returns-in-Err-clause-serves
 returns-in-Err-clause-serves g c = λ r f e.
-    serves_broken r c.args.conn (setting g.E.Engine.answer g.G.Gate.accepts r) (subst IsSome (sym e) refl) (Fits g.E.Engine.entries c.converse-done.new.server) (Fits g.E.Engine.entries c.lost.new.self) (g.I.Peer.left c.args.source.now) (g.I.Peer.left c.converse-done.new.source)
-    (g.O.Sink.taken c.args.sink.now) (g.O.Sink.taken c.converse-done.new.sink) c.lost.result c.lost.ensures c.in-Err.fault (c.in-Err.ensures.converses r f e)
+    let h = c.in-Err.ensures.converses r f e in
+    let i : IsSome (find c.args.conn r.sessions) = subst IsSome (sym e) refl in
+    let l = c.lost.ensures (with_talk r c.args.conn h.unfinished h.ledger h.kept) h.now in
+    record {
+      read = h.read;
+      ledger = h.ledger;
+      more = h.more;
+      input = h.input;
+      now = subst (Fits g.E.Engine.entries c.lost.new.self) (lost_rest r c.args.conn i h.unfinished h.ledger h.kept) l.1;
+      grown = h.grown;
+      took = h.took;
+      whole = h.whole;
+    }
 
 pub returns-in-Ok-clause-leaves : goal.returns-in-Ok-clause-leaves
 returns-in-Ok-clause-leaves g c = lives_no_more c.args.conn (Fits g.E.Engine.entries c.args.server.now) (Fits g.E.Engine.entries c.converse-done.new.server) (Fits g.E.Engine.entries c.lost.new.self) c.lost.result c.converse-done.ensures.grows c.lost.ensures

@@ -1,9 +1,8 @@
-use Rattle.std.proofs.Common.{◌≡◌, ◌∙◌, sym, subst, refl, Bool, Ok, [], true}
+use Rattle.std.proofs.Common.{◌∙◌, sym, refl, []}
 use Rattle.std.proofs.KnownBytes.{Appends-nil}
 use Rattle.client.specs.Fits.{Fits}
 use Rattle.streams.specs.Asking.{after_all}
 use Rattle.streams.proofs.Asked.{reads_none}
-use Rattle.programs.specs.Shelling.{HearsSome}
 use Rattle.programs.proofs.Heard.{all_heard, heard_at, heard_end, heard_more, heard_part, stands_so}
 use Rattle.programs.proofs.caller.Caller.hear_all.Goals as goal
 
@@ -20,49 +19,31 @@ loop-self-init g c = record {
 
 pub loop-self-preserved : goal.loop-self-preserved
 loop-self-preserved g c = record {
-  heard = λ p at.
-      let so = c.loop-self.invariant.heard p at in
-      let left = g.S.Source.left c.args.source.now in
-      let mid = g.S.Source.left c.loop-self.source in
-      let before = g.O.Sink.taken c.args.out.now in
-      let printed = g.O.Sink.taken c.loop-self.out in
+  heard = λ p stands.
+      let so = c.loop-self.invariant.heard p stands in
       let here = heard_at p so.reads.fed so.notes in
       let waits = sym (c.awaits.ensures here.rest so.reads.now) ∙ c.loop-self-test.true in
-      heard_more p left mid before printed c.loop-self.self so (g.S.Source.left c.hear_some.new.source) (g.O.Sink.taken c.hear_some.new.out) c.hear_some.new.self waits
-      (subst (λ (b : Bool). HearsSome here mid (g.S.Source.left c.hear_some.new.source) printed (g.O.Sink.taken c.hear_some.new.out) c.hear_some.new.self (Ok b)) c.in-Ok-true.field-0-test (c.in-Ok-true.ensures.hears here (stands_so p left mid before printed c.loop-self.self so)));
+      heard_more so waits (rw c.in-Ok-true.field-0-test at (c.in-Ok-true.ensures.hears here (stands_so so)));
   source = λ h. c.loop-self.invariant.source (c.in-Ok-true.ensures.source h);
   out = λ h. c.loop-self.invariant.out (c.in-Ok-true.ensures.out h);
 }
 
 pub returns-in-Ok-false-clause-hears : goal.returns-in-Ok-false-clause-hears
-returns-in-Ok-false-clause-hears g c = λ p at.
-    let so = c.loop-self.invariant.heard p at in
-    let left = g.S.Source.left c.args.source.now in
-    let mid = g.S.Source.left c.loop-self.source in
-    let before = g.O.Sink.taken c.args.out.now in
-    let printed = g.O.Sink.taken c.loop-self.out in
-    let here = heard_at p so.reads.fed so.notes in
-    heard_end p left mid before printed c.loop-self.self so (g.S.Source.left c.hear_some.new.source) (g.O.Sink.taken c.hear_some.new.out) c.hear_some.new.self
-    (subst (λ (b : Bool). HearsSome here mid (g.S.Source.left c.hear_some.new.source) printed (g.O.Sink.taken c.hear_some.new.out) c.hear_some.new.self (Ok b)) c.in-Ok-false.field-0-test (c.in-Ok-false.ensures.hears here (stands_so p left mid before printed c.loop-self.self so)))
+returns-in-Ok-false-clause-hears g c = λ p stands.
+    let so = c.loop-self.invariant.heard p stands in
+    heard_end so (rw c.in-Ok-false.field-0-test at (c.in-Ok-false.ensures.hears (heard_at p so.reads.fed so.notes) (stands_so so)))
 
 pub returns-in-Err-clause-hears : goal.returns-in-Err-clause-hears
-returns-in-Err-clause-hears g c = λ p at.
-    let so = c.loop-self.invariant.heard p at in
-    let left = g.S.Source.left c.args.source.now in
-    let mid = g.S.Source.left c.loop-self.source in
-    let before = g.O.Sink.taken c.args.out.now in
-    let printed = g.O.Sink.taken c.loop-self.out in
+returns-in-Err-clause-hears g c = λ p stands.
+    let so = c.loop-self.invariant.heard p stands in
     let here = heard_at p so.reads.fed so.notes in
     let waits = sym (c.awaits.ensures here.rest so.reads.now) ∙ c.loop-self-test.true in
-    heard_part p left mid before printed c.loop-self.self so (g.S.Source.left c.hear_some.new.source) (g.O.Sink.taken c.hear_some.new.out) c.hear_some.new.self c.in-Err.fault waits
-    (c.in-Err.ensures.hears here (stands_so p left mid before printed c.loop-self.self so))
+    heard_part so c.in-Err.fault waits (c.in-Err.ensures.hears here (stands_so so))
 
 pub returns-clause-hears : goal.returns-clause-hears
-returns-clause-hears g c = λ p at.
-    let so = c.loop-self.invariant.heard p at in
-    let here = heard_at p so.reads.fed so.notes in
-    all_heard p (g.S.Source.left c.args.source.now) (g.S.Source.left c.loop-self.source) (g.O.Sink.taken c.args.out.now) (g.O.Sink.taken c.loop-self.out) c.loop-self.self so
-    (sym (c.awaits.ensures here.rest so.reads.now) ∙ c.loop-self-test.false)
+returns-clause-hears g c = λ p stands.
+    let so = c.loop-self.invariant.heard p stands in
+    all_heard so (sym (c.awaits.ensures (after_all p.rest so.reads.fed) so.reads.now) ∙ c.loop-self-test.false)
 
 pub returns-in-Ok-false-clause-source : goal.returns-in-Ok-false-clause-source
 returns-in-Ok-false-clause-source g c = λ h. c.loop-self.invariant.source (c.in-Ok-false.ensures.source h)

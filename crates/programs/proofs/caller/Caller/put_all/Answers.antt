@@ -1,9 +1,9 @@
-use Rattle.std.proofs.Common.{◌≡◌, ◌∙◌, ◌++◌, ◌∷◌, [], append_assoc, append-nil, rules, refl, sym, ap, subst, true, false, map}
+use Rattle.std.proofs.Common.{◌∙◌, ◌++◌, ◌∷◌, [], append_assoc, rules, refl, sym, ap, subst, true, false, map}
 use Rattle.std.proofs.KnownBytes.{Appends-nil}
 use Rattle.std.proofs.lemmas.List.{nil_from_length}
 use Rattle.client.specs.Notes.{note}
+use Rattle.streams.proofs.Parts.{all_done}
 use Rattle.programs.specs.Shelling.{Prints}
-use Rattle.programs.specs.Telling.{versions_after}
 use Rattle.programs.proofs.Printed.{printed_next, prints_next_part, prints_whole}
 use Rattle.programs.proofs.caller.Caller.put_all.Goals as goal
 
@@ -28,15 +28,12 @@ returns-in-Err-clause-prints g c =
 pub returns-clause-prints : goal.returns-clause-prints
 returns-clause-prints g c =
     let so = c.loop-one.invariant in
-    let all : c.loop-one.yielded ≡ c.args.heard.items = sym (append-nil c.loop-one.yielded) ∙ ap (λ xs. c.loop-one.yielded ++ xs) (sym (nil_from_length c.loop-one.one-iterator.rest.items (search rules))) ∙ so.2 in
-    subst (λ xs. Prints c.args.self.now.version (map note xs) true (g.O.Sink.taken c.args.out.now) (g.O.Sink.taken c.loop-one.out)) all
+    rw (← all_done c.loop-one.yielded c.loop-one.one-iterator.rest.items c.args.heard.items (nil_from_length c.loop-one.one-iterator.rest.items (search rules)) so.2)
     (prints_whole c.args.self.now.version (map note c.loop-one.yielded) so.1.text true (g.O.Sink.taken c.args.out.now) (g.O.Sink.taken c.loop-one.out) so.1.told so.1.printed)
 
 pub returns-clause-version : goal.returns-clause-version
 returns-clause-version g c =
-    let so = c.loop-one.invariant in
-    let all : c.loop-one.yielded ≡ c.args.heard.items = sym (append-nil c.loop-one.yielded) ∙ ap (λ xs. c.loop-one.yielded ++ xs) (sym (nil_from_length c.loop-one.one-iterator.rest.items (search rules))) ∙ so.2 in
-    subst (λ xs. c.loop-one.self.version ≡ versions_after c.args.self.now.version (map note xs)) all so.1.version
+    rw (← all_done c.loop-one.yielded c.loop-one.one-iterator.rest.items c.args.heard.items (nil_from_length c.loop-one.one-iterator.rest.items (search rules)) c.loop-one.invariant.2) c.loop-one.invariant.1.version
 
 pub returns-in-Err-clause-sound : goal.returns-in-Err-clause-sound
 returns-in-Err-clause-sound g c = λ n h. c.loop-one.invariant.3 (c.in-Err.ensures.sound n h)

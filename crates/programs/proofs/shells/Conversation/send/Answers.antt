@@ -1,9 +1,8 @@
-use Rattle.std.proofs.Common.{◌≡◌, ◌∙◌, sym, ap, rules, false}
+use Rattle.std.proofs.Common.{◌≡◌, ⊎_elim, inl, inr, ◌∙◌, sym, ap, rules, false}
 use Rattle.scripts.specs.Words.{is_empty}
 use Rattle.scripts.specs.Rows.{request_line_of}
 use Rattle.streams.specs.declared.fault.StreamFault.TheVariants.{ReadFailed, WriteFailed}
-use Rattle.programs.specs.Talking.{streams_at}
-use Rattle.programs.proofs.Followed.{breaks_line, filled_is}
+use Rattle.programs.proofs.Followed.{filled_is}
 use Rattle.programs.proofs.Stops.{unless_stops}
 use Rattle.programs.proofs.shells.Conversation.send.Goals as goal
 
@@ -11,8 +10,7 @@ pub returns-in-Err-clause-sends : goal.returns-in-Err-clause-sends
 returns-in-Err-clause-sends g c = λ start done s.
     let line = c.args.self.now.begun.items in
     let filled : is_empty line ≡ false = filled_is line (search rules) in
-    breaks_line start (streams_at (g.S.Source.left c.submit.new.source) (g.T.Sink.taken c.submit.new.sink) (g.O.Sink.taken c.submit.new.out) (g.E.Sink.taken c.submit.new.err) (g.E.Sink.has_failed c.submit.new.err)) done c.args.self.now.number line c.submit.new.self.caller c.in-Err.fault filled
-    (c.in-Err.ensures.submits start done line (ap request_line_of (sym c.as_slice.ensures.value) ∙ c.in-Ok.ensures) s)
+    ⊎_elim inl (λ h. inr (filled, h)) (c.in-Err.ensures.submits start done line (ap request_line_of (sym c.as_slice.ensures.value) ∙ c.in-Ok.ensures) s)
 
 pub returns-in-Err-clause-source : goal.returns-in-Err-clause-source
 returns-in-Err-clause-source g c = unless_stops c.in-Err.fault ReadFailed _ c.in-Err.ensures.source

@@ -1,33 +1,23 @@
-use Rattle.std.proofs.Common.{ap, subst, Bool, Ok, Err}
-use Rattle.scripts.specs.Meant.{meant}
+use Rattle.std.proofs.Common.{ap, Err}
 use Rattle.scripts.specs.Views.{script_request_view}
 use Rattle.streams.specs.declared.fault.StreamFault.TheVariants.{WriteFailed}
 use Rattle.programs.specs.Talking.{IsAt, streams_at}
-use Rattle.programs.specs.Shelling.{Submits}
 use Rattle.programs.proofs.Followed.{submit_failed, submit_refused, submit_taken}
 use Rattle.programs.proofs.Stops.{unless_then}
 use Rattle.programs.proofs.shells.Conversation.submit.Goals as goal
 
 pub returns-in-Ok-true-clause-submits : goal.returns-in-Ok-true-clause-submits
 returns-in-Ok-true-clause-submits g c = λ start done line r s.
-    let q = script_request_view c.args.request in
-    let here = streams_at (g.S.Source.left c.args.source.now) (g.T.Sink.taken c.args.sink.now) (g.O.Sink.taken c.args.out.now) (g.E.Sink.taken c.args.err.now) (g.E.Sink.has_failed c.args.err.now) in
-    submit_taken start here done c.args.self.now.caller s c.args.self.now.number line q r (g.O.Sink.taken c.submit.new.out) (IsAt c.submit.new.self)
-    (subst (λ (b : Bool). Submits s.place (meant s.place.version q) c.args.self.now.number (g.O.Sink.taken c.args.out.now) (g.O.Sink.taken c.submit.new.out) (IsAt c.submit.new.self) (Ok b)) c.in-Ok-true.field-0-test (c.in-Ok-true.ensures.submits s.place s.at))
+    submit_taken s c.args.self.now.number line (script_request_view c.args.request) r (g.O.Sink.taken c.submit.new.out) (IsAt c.submit.new.self) (rw c.in-Ok-true.field-0-test at (c.in-Ok-true.ensures.submits s.place s.at))
     (streams_at (g.S.Source.left c.ask.new.source) (g.T.Sink.taken c.ask.new.sink) (g.O.Sink.taken c.ask.new.out) (g.E.Sink.taken c.ask.new.err) (g.E.Sink.has_failed c.ask.new.err)) c.ask.new.self c.ask.result (λ p at. c.ask.ensures.asks p at)
 
 pub returns-in-Ok-false-clause-submits : goal.returns-in-Ok-false-clause-submits
 returns-in-Ok-false-clause-submits g c = λ start done line r s.
-    let q = script_request_view c.args.request in
-    let here = streams_at (g.S.Source.left c.args.source.now) (g.T.Sink.taken c.args.sink.now) (g.O.Sink.taken c.args.out.now) (g.E.Sink.taken c.args.err.now) (g.E.Sink.has_failed c.args.err.now) in
-    submit_refused start here done c.args.self.now.caller s c.args.self.now.number line q r (g.O.Sink.taken c.submit.new.out) (IsAt c.submit.new.self)
-    (subst (λ (b : Bool). Submits s.place (meant s.place.version q) c.args.self.now.number (g.O.Sink.taken c.args.out.now) (g.O.Sink.taken c.submit.new.out) (IsAt c.submit.new.self) (Ok b)) c.in-Ok-false.field-0-test (c.in-Ok-false.ensures.submits s.place s.at)) c.submit.new.self (λ p at. at)
+    submit_refused s c.args.self.now.number line (script_request_view c.args.request) r (g.O.Sink.taken c.submit.new.out) (IsAt c.submit.new.self) (rw c.in-Ok-false.field-0-test at (c.in-Ok-false.ensures.submits s.place s.at)) c.submit.new.self (λ p at. at)
 
 pub returns-in-Err-clause-submits : goal.returns-in-Err-clause-submits
 returns-in-Err-clause-submits g c = λ start done line r s.
-    let q = script_request_view c.args.request in
-    let here = streams_at (g.S.Source.left c.args.source.now) (g.T.Sink.taken c.args.sink.now) (g.O.Sink.taken c.args.out.now) (g.E.Sink.taken c.args.err.now) (g.E.Sink.has_failed c.args.err.now) in
-    submit_failed start here done c.args.self.now.caller s c.args.self.now.number line q r (g.O.Sink.taken c.submit.new.out) (IsAt c.submit.new.self) c.in-Err.fault (λ e. c.in-Err.ensures.read (ap Err e)) (c.in-Err.ensures.submits s.place s.at) c.submit.new.self
+    submit_failed s c.args.self.now.number line (script_request_view c.args.request) r (g.O.Sink.taken c.submit.new.out) (IsAt c.submit.new.self) c.in-Err.fault (λ e. c.in-Err.ensures.read (ap Err e)) (c.in-Err.ensures.submits s.place s.at) c.submit.new.self
 
 pub returns-in-Ok-true-clause-out : goal.returns-in-Ok-true-clause-out
 returns-in-Ok-true-clause-out g c = unless_then c.ask.result WriteFailed _ _ (λ h e. c.in-Ok-true.ensures.sound (h e)) c.ask.ensures.out
