@@ -1,5 +1,5 @@
 -- What a handle holds, as the library's lemmas on boxes see it; and the two cases of a handle.
-use Rattle.std.proofs.Common.{◌≡◌, ℕ, List, [], ◌∷◌, refl}
+use Rattle.std.proofs.Common.{◌≡◌, ℕ, List, [], ◌∷◌, refl, Option, Some, None, Global}
 use seplogic.Ra.Ura.{Ura}
 use mir.Syntax.{impl, tnil, dnil}
 use mir.Raw.{raw as bare}
@@ -10,9 +10,7 @@ use types.Kit.{Item, Goal, Seq, ‵, given, ◌$◌, use1, learn, drop}
 use contract.Monad.{fact_use}
 use denote.Memory.{lone}
 use denote.RawPtr.{Ptr, block_ptr, null_ptr, Testable}
-use Rattle.std.specs.Prelude.{Option, Some, None}
 use Rattle.std.specs.Box.Ownership.{box_owns}
-use Rattle.std.specs.Global.{Global}
 use Rattle.core.specs.Ptr.{points_to}
 use Rattle.std.specs.contracts.alloc.Global as heap
 use Rattle.std.proofs.alloc.Global.TheLaws as heap_laws

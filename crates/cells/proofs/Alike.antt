@@ -5,13 +5,11 @@ use Rattle.std.specs.Option.{option_eq}
 use Rattle.std.proofs.Math.Bool.{and-true}
 use Rattle.std.proofs.lemmas.Bool.{and_left, and_right}
 use Rattle.std.proofs.lemmas.Bool.Decides.{Decides-int_eq}
-use Rattle.packstream.specs.Tree.{Tree, int, structure, Trees}
+use Rattle.packstream.specs.Prelude.{Tree, int, structure, Trees}
 use denote.Enum.Declared.{tag_of}
 use Rattle.cells.specs.contracts.cell.Cell.{the_type}
 use Rattle.cells.specs.declared.cell.Cell.{Cell, the_lemmas}
-use Rattle.cells.specs.Table.{relationship_tag}
-use Rattle.cells.specs.Same.{same_tree, same_trees}
-use Rattle.cells.specs.Shape.{shape, node_shape, unbound_shape, relationship_shape, path_shape, entry, text_of, element_of, elements_of}
+use Rattle.cells.specs.Prelude.{relationship_tag, same_tree, same_trees, shape, node_shape, unbound_shape, relationship_shape, path_shape, entry, text_of, element_of, elements_of}
 use Rattle.cells.specs.declared.cell.ElementIds.{ElementIds}
 use Rattle.cells.specs.declared.cell.Node.{Node}
 use Rattle.cells.specs.declared.cell.Path.{Path, out-Path}

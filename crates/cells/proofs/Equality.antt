@@ -1,11 +1,10 @@
 -- Two trees are the same exactly where they are equal.
-use Rattle.std.proofs.Common.{◌≡◌, refl, ap, ap₂, ℕ, ◌==◌, Bool, true, false, ◌&&◌, List, Decides, subst}
-use Rattle.std.specs.Str.{bytes_eq}
+use Rattle.std.proofs.Common.{◌≡◌, refl, ap, ap₂, ℕ, ◌==◌, Bool, true, false, ◌&&◌, List, Decides, subst, bytes_eq}
 use Rattle.std.proofs.lemmas.Bool.{and_parts, and_from, eqb-true, eq-eqb}
 use Rattle.std.proofs.lemmas.Bool.Decides.{Decides-int_eq}
 use Rattle.std.proofs.lemmas.Slice.Eq.{bytes_eq-Decides}
-use Rattle.packstream.specs.Tree.{Tree, null, boolean, int, float, byte_string, text, list, dict, structure, Trees, no_trees, tree_then, Entries, no_entries, entry_then}
-use Rattle.cells.specs.Same.{same_bool, same_tree, same_trees, same_entries}
+use Rattle.packstream.specs.Prelude.{Tree, null, boolean, int, float, byte_string, text, list, dict, structure, Trees, no_trees, tree_then, Entries, no_entries, entry_then}
+use Rattle.cells.specs.Prelude.{same_bool, same_tree, same_trees, same_entries}
 
 bools_are : (a b : Bool) → same_bool a b ≡ true → a ≡ b
 bools_are true true h = refl

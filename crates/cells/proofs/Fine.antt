@@ -1,12 +1,10 @@
 -- Structures without a fault, piece by piece.
 use Rattle.std.proofs.Common.{◌≡◌, ℕ, zero, suc, ◌<◌, List, [], ◌∷◌, ◌++◌, map, length, get_or, true, ◌&&◌, Option, Some, None, is_none, Ok, refl, sym, ap, ◌∙◌, rules, arith, Vec, Global}
 use Rattle.std.proofs.Math.Bool.{and_assoc}
-use Rattle.packstream.specs.Tree.{Tree, structure, Trees}
-use Rattle.packstream.specs.View.{tree, trees, trees_of, entries_of}
+use Rattle.packstream.specs.Prelude.{Tree, structure, Trees, tree, trees, trees_of, entries_of}
 use Rattle.packstream.specs.declared.value.Value.{Value, Struct as StructCase, the_lemmas}
 use Rattle.cells.specs.declared.fault.Reason.{Reason}
-use Rattle.cells.specs.Faults.{FaultOf, scan, fault_or_rest, next, structures, structures_in, structures_under}
-use Rattle.cells.specs.Steps.{all_fine}
+use Rattle.cells.specs.Prelude.{FaultOf, scan, fault_or_rest, next, structures, structures_in, structures_under, all_fine}
 use Rattle.cells.proofs.Both.{and_left, and_right, both_true}
 use Rattle.cells.proofs.Scanning.{Found}
 

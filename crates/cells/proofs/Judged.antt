@@ -1,9 +1,7 @@
 -- The fault of a typed cell by the numbers that its fields begin with, and the structures inside it.
 use Rattle.std.proofs.Common.{◌≡◌, ℕ, ◌+◌, ℤ, pos, neg_ℤ, List, [], ◌∷◌, ◌++◌, map, length, Bool, true, false, not, ◌&&◌, ◌==◌, Option, Some, None, Result, Ok, Err, refl, sym, ap, ◌∙◌, String, Global}
 use Rattle.std.proofs.lemmas.List.{append-nil, length-map}
-use Rattle.packstream.specs.Tree.{Tree, int, list, dict, structure, Trees, no_trees, tree_then}
-use Rattle.packstream.specs.Good.{count}
-use Rattle.packstream.specs.View.{trees_of, entries_of}
+use Rattle.packstream.specs.Prelude.{Tree, int, list, dict, structure, Trees, no_trees, tree_then, count, trees_of, entries_of}
 use Rattle.packstream.proofs.Sound.{count-trees_of}
 use Rattle.wire.specs.declared.Version.{Version}
 use Rattle.wire.specs.declared.Version.TheVariants.{V44}
@@ -11,11 +9,7 @@ use Rattle.cells.specs.declared.cell.ElementIds.{ElementIds}
 use Rattle.cells.specs.declared.table.Field.{Field}
 use Rattle.cells.specs.declared.table.Field.TheVariants.{Nanosecond, DayNanosecond, Offset, UtcSecond}
 use Rattle.cells.specs.declared.fault.Reason.{Reason}
-use Rattle.cells.specs.Table.{kinds}
-use Rattle.cells.specs.Faults.{FaultOf, scan, fault_or_rest, next, structures, structures_in, structures_under, is_int, each, is_between, in_range, are_in_range}
-use Rattle.cells.specs.Shape.{text_of, texts_of, numbers_of, element_of, elements_of, entries, path_of}
-use Rattle.cells.specs.Writing.{fault_of_structure, fault_of_structure_by, tag_at}
-use Rattle.cells.specs.Steps.{range_fault, range_fault_by, numbers_in_range, walk_fault, all_fine}
+use Rattle.cells.specs.Prelude.{kinds, FaultOf, scan, fault_or_rest, next, structures, structures_in, structures_under, is_int, each, is_between, in_range, are_in_range, text_of, texts_of, numbers_of, element_of, elements_of, entries, path_of, fault_of_structure, fault_of_structure_by, tag_at, range_fault, range_fault_by, numbers_in_range, walk_fault, all_fine}
 use Rattle.cells.proofs.Both.{and_left, and_right, both_true}
 use Rattle.cells.proofs.Views.{Pair, node_parts, unbound_parts, relationship_parts}
 use Rattle.cells.proofs.Fine.{fine_within, fine_left, fine_right}

@@ -1,10 +1,9 @@
 -- Scanning structures piece by piece.
 use Rattle.std.proofs.Common.{◌≡◌, ℕ, suc, ◌+◌, ◌<◌, List, [], ◌∷◌, ◌++◌, map, length, drop, get_or, Option, Some, None, Result, Ok, Err, refl, sym, ap, ◌∙◌, add-one, drop-cons}
-use Rattle.packstream.specs.Tree.{Tree, Trees}
-use Rattle.packstream.specs.View.{trees_of, entries_of}
+use Rattle.packstream.specs.Prelude.{Tree, Trees, trees_of, entries_of}
 pub use Rattle.packstream.proofs.Views.{tree-Dict}
 use Rattle.cells.specs.declared.fault.Reason.{Reason}
-use Rattle.cells.specs.Faults.{FaultOf, scan, fault_or_rest, next, structures, structures_in, structures_under}
+use Rattle.cells.specs.Prelude.{FaultOf, scan, fault_or_rest, next, structures, structures_in, structures_under}
 
 abbrev pub Found : Type 0
 Found = Result ℕ (Reason × ℕ)

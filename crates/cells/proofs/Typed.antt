@@ -1,8 +1,6 @@
 -- The trees of cells are typed.
 use Rattle.std.proofs.Common.{◌≡◌, ℕ, List, [], ◌∷◌, map, true, ◌||◌, ◌==◌, Option, Some, None, String, Global, string_bytes, refl, ap, ◌∙◌, subst, Bool}
-use Rattle.packstream.specs.Good.{count}
-use Rattle.packstream.specs.Tree.{Tree, tree_then, int, dict}
-use Rattle.packstream.specs.View.{trees_of, entries_of}
+use Rattle.packstream.specs.Prelude.{count, Tree, tree_then, int, dict, trees_of, entries_of}
 use Rattle.cells.specs.declared.cell.Cell.{Cell}
 use Rattle.cells.specs.declared.cell.Node.{Node}
 use Rattle.cells.specs.declared.cell.Path.{Path}
@@ -12,9 +10,7 @@ use Rattle.cells.specs.declared.cell.ElementIds.{ElementIds}
 use Rattle.cells.specs.declared.cell.Cell.TheOpen.{Cell-F, Node-F, Path-F, Relationship-F, UnboundRelationship-F}
 use Rattle.cells.specs.declared.cell.Cell.TheFolds.{ind-Cell, map-Cell, map-Node, map-Path, map-Relationship, map-UnboundRelationship, fold-roll-Cell, fold-roll-Node, fold-roll-Path, fold-roll-Relationship, fold-roll-UnboundRelationship}
 use Rattle.cells.specs.declared.table.Field.TheVariants.{Text as TextField}
-use Rattle.cells.specs.Faults.{is_text, is_int, has_tag, each, are_kinds}
-use Rattle.cells.specs.Shape.{shape, shapes, entries, node_shape, unbound_shape, relationship_shape, path_shape, cell_step, node_step, path_step, relationship_step, unbound_step, text_of, texts_of, element_of, elements_of}
-use Rattle.cells.specs.Cells.{is_typed, are_typed, have_typed}
+use Rattle.cells.specs.Prelude.{is_text, is_int, has_tag, each, are_kinds, shape, shapes, entries, node_shape, unbound_shape, relationship_shape, path_shape, cell_step, node_step, path_step, relationship_step, unbound_step, text_of, texts_of, element_of, elements_of, is_typed, are_typed, have_typed}
 use Rattle.cells.proofs.Both.{both_true}
 use Rattle.cells.proofs.Views.{node-out, unbound-out}
 

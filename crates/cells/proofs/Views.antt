@@ -1,9 +1,8 @@
 -- The tree of a cell, one level at a time.
 use Rattle.std.proofs.Common.{◌≡◌, ℕ, ℤ, List, map, String, Vec, Global, string_bytes, sym, ap, ◌∙◌, rules, Option}
 use Rattle.std.proofs.lemmas.Simd.{map-map}
-use Rattle.packstream.specs.Tree.{Tree, int, float, list, dict, structure, no_trees, tree_then}
-use Rattle.packstream.specs.View.{trees_of, entries_of}
-use Rattle.cells.specs.Shape.{shape, node_shape, unbound_shape, relationship_shape, path_shape, shapes, entries, text_of, texts_of, element_of, elements_of, path_of}
+use Rattle.packstream.specs.Prelude.{Tree, int, float, list, dict, structure, no_trees, tree_then, trees_of, entries_of}
+use Rattle.cells.specs.Prelude.{shape, node_shape, unbound_shape, relationship_shape, path_shape, shapes, entries, text_of, texts_of, element_of, elements_of, path_of}
 use Rattle.cells.specs.declared.cell.ElementIds.{ElementIds}
 use Rattle.cells.specs.declared.cell.Cell.{Cell, List as ListCase, Dict as DictCase, Date, Time, LocalTime, LocalDateTime, DateTime, ZonedLocal, ZonedUtc, Duration, Point2D, Point3D, the_lemmas}
 use Rattle.cells.specs.declared.cell.Cell.TheViews.{roll-Node, roll-UnboundRelationship, roll-Relationship, roll-Path, roll-out-Path}

@@ -5,3 +5,4 @@ pub mod Faults
 pub mod Writing
 pub mod Cells
 pub mod Steps
+pub mod Prelude

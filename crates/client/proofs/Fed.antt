@@ -2,15 +2,11 @@
 use Rattle.std.proofs.Common.{◌≡◌, refl, sym, ◌∙◌, ap, ap₂, subst, ℕ, false, ◌||◌, if◌then◌else◌, Option, Some, None, option_map, option_to_list, Err, List, ◌++◌, take}
 use Rattle.wire.specs.declared.Version.{Version}
 use Rattle.wire.specs.declared.Wish.{Wish}
-use Rattle.wire.specs.Reader.{Took, state, takes}
-use Rattle.wire.specs.Framing.{Item, Opened, at_client}
-use Rattle.messages.specs.View.{RequestView}
-use Rattle.messages.specs.Arrivals.{Heard, hears}
+use Rattle.wire.specs.Prelude.{Took, state, takes, Item, Opened, at_client}
+use Rattle.messages.specs.Prelude.{RequestView, Heard, hears}
 use Rattle.inbox.proofs.Arriving.{rest_then}
 use Rattle.client.specs.declared.faults.ClientFault.TheVariants as client_fault
-use Rattle.client.specs.Rest.{Knows, Rest, Fed, heard_as, fed_item, fed_open, feed_of}
-use Rattle.client.specs.Client.{Reading, knows_of, hear, reading, reading_of}
-use Rattle.client.specs.Moments.{tellings_in}
+use Rattle.client.specs.Prelude.{Knows, Rest, Fed, heard_as, fed_item, fed_open, feed_of, Reading, knows_of, hear, reading, reading_of, tellings_in}
 use Rattle.client.proofs.Steps.{hear_knows, item_tells}
 use Rattle.client.proofs.Hears.{hear_keeps, more_heard}
 

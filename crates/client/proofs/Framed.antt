@@ -1,8 +1,8 @@
 -- The run of a text that was spelled behind the place of its header.
-use Rattle.std.proofs.Common.{◌≡◌, ℕ, ◌+◌, ◌<◌, ◌≤◌, List, [], ◌∷◌, ◌++◌, length, take, drop, refl, sym, ap, ◌∙◌, append_assoc, length-append, length-take, length-drop, arith}
+use Rattle.std.proofs.Common.{◌≡◌, ℕ, ◌+◌, ◌<◌, ◌≤◌, List, [], ◌∷◌, ◌++◌, length, take, drop, refl, sym, ap, ◌∙◌, append_assoc, length-append, length-take, length-drop, arith, w16}
 use Rattle.std.proofs.lemmas.List.{take-append-le, drop-append-le, take_at, drop_at, drop-drop}
-use Rattle.std.specs.Int.{w16, to_be_bytes}
-use Rattle.wire.specs.Texts.{written_run}
+use Rattle.std.specs.Int.{to_be_bytes}
+use Rattle.wire.specs.Prelude.{written_run}
 use Rattle.wire.proofs.Runs.{text_of-short}
 use borrow.Rule.Slice.PartMut.{put_mid}
 

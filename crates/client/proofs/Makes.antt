@@ -1,18 +1,15 @@
 -- What a client makes of an item: a bad answer, or that no version is taken, or one; nothing, a row, or a summary.
-use Rattle.std.proofs.Common.{◌≡◌, refl, ◌∙◌, ap, Bool, true, false, Option, Some, None, List, ◌∷◌}
-use Rattle.std.specs.Prelude.{option_map}
-use Rattle.packstream.specs.Tree.{Tree}
+use Rattle.std.proofs.Common.{◌≡◌, refl, ◌∙◌, ap, Bool, true, false, Option, Some, None, List, ◌∷◌, option_map}
+use Rattle.packstream.specs.Prelude.{Tree}
 use Rattle.std.proofs.lemmas.Bool.{cond_both}
 use Rattle.wire.specs.declared.Version.{Version}
 use Rattle.wire.specs.declared.Wish.{Wish}
 use Rattle.messages.specs.declared.Count.{Count}
-use Rattle.messages.specs.View.{RequestView, ResponseView}
-use Rattle.messages.specs.Arrivals.{Heard}
+use Rattle.messages.specs.Prelude.{RequestView, ResponseView, Heard}
 use Rattle.machine.specs.declared.Phase.{Phase}
 use Rattle.machine.specs.declared.Verdict.{Verdict}
-use Rattle.machine.specs.Asks.{kind_of, in_part}
-use Rattle.client.specs.Verdicts.{Told, GotRow, is_wished, verdict_of, phase_accepted, outcome_of, resets}
-use Rattle.client.specs.Rest.{Knows, Hearing, after_bad_answer, turned_away, hears_version, hears_row, judgement_by, judgement_of, hears_judged, hears_summary, hears_response, hears_item}
+use Rattle.machine.specs.Prelude.{kind_of, in_part}
+use Rattle.client.specs.Prelude.{Told, GotRow, is_wished, verdict_of, phase_accepted, outcome_of, resets, Knows, Hearing, after_bad_answer, turned_away, hears_version, hears_row, judgement_by, judgement_of, hears_judged, hears_summary, hears_response, hears_item}
 
 -- a version that is taken
 abbrev pub versed : Knows → Version → Hearing

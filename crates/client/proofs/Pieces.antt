@@ -1,18 +1,14 @@
 -- What a piece does to the rest of a client's run.
-use Rattle.std.proofs.Common.{◌≡◌, refl, sym, ◌∙◌, ap, subst, ℕ, Bool, true, false, Option, Some, None, Result, Ok, Err, List}
-use Rattle.std.specs.Prelude.{IsErrOf, if◌then◌else◌}
+use Rattle.std.proofs.Common.{◌≡◌, refl, sym, ◌∙◌, ap, subst, ℕ, Bool, true, false, Option, Some, None, Result, Ok, Err, List, IsErrOf, if◌then◌else◌}
 use Rattle.wire.specs.declared.Wish.{Wish}
-use Rattle.wire.specs.Framing.{Item, Opened, at_client}
-use Rattle.wire.specs.Reader.{Took, takes}
-use Rattle.messages.specs.Arrivals.{Heard as AnyHeard}
+use Rattle.wire.specs.Prelude.{Item, Opened, at_client, Took, takes}
+use Rattle.messages.specs.Prelude.{Heard as AnyHeard}
 use Rattle.client.specs.declared.heard.Heard.{Heard}
 use Rattle.client.specs.declared.heard.Heard.TheVariants.{Nothing}
 use Rattle.client.specs.declared.faults.ClientFault.{ClientFault}
 use Rattle.client.specs.declared.faults.ClientFault.TheVariants as client_fault
-use Rattle.client.specs.Rest.{Rest, Knows, Hearing, Note, note_of, heard_as, hears_item, Fed, fed_heard, fed_item, fed_open, feed_of}
-use Rattle.client.specs.Notes.{note, note_result}
-use Rattle.client.specs.Fits.{UnlessMemory}
-use Rattle.client.specs.Hearings.{plain, came_in, Hears, Feeds}
+use Rattle.client.specs.Prelude.{Rest, Knows, Hearing, Note, note_of, heard_as, hears_item, Fed, fed_heard, fed_item, fed_open, feed_of, note, note_result, UnlessMemory, plain, came_in, Hears}
+use Rattle.client.specs.Hearings.{Feeds}
 
 -- bytes that stand for nothing are all heard alike
 same_plain : (r : Rest) (used : ℕ) (x : AnyHeard) → fed_heard r used x (hears_item r.wish r.knows x) ≡ fed_heard r used (plain x) (hears_item r.wish r.knows (plain x))

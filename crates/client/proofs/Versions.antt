@@ -1,22 +1,16 @@
 -- What a client holds of its stream: the bytes of a version answer, and what they are heard as; and then chunks.
-use Rattle.std.proofs.Common.{◌≡◌, refl, ◌∙◌, ap, ℕ, ◌+◌, ◌<◌, ◌≤◌, false, Some, None, List, [], ◌∷◌, length, drop, slice_index_or, arith, length-take}
-use Rattle.std.specs.Str.{bytes_eq}
+use Rattle.std.proofs.Common.{◌≡◌, refl, ◌∙◌, ap, ℕ, ◌+◌, ◌<◌, ◌≤◌, false, Some, None, List, [], ◌∷◌, length, drop, slice_index_or, arith, length-take, bytes_eq}
 use Rattle.std.proofs.lemmas.Bool.{cond_both}
 use Rattle.std.proofs.lemmas.List.{drop_more}
 use Rattle.wire.specs.declared.Version.{Version}
-use Rattle.wire.specs.Versions.{versions}
-use Rattle.wire.specs.Offers.{version_answer}
-use Rattle.wire.specs.Unfinished.{Unfinished}
-use Rattle.wire.specs.Framing.{Opened}
-use Rattle.messages.specs.Arrivals.{Chosen, Strange, heard_among, heard_version}
+use Rattle.wire.specs.Prelude.{versions, version_answer, Unfinished, Opened}
+use Rattle.messages.specs.Prelude.{Chosen, Strange, heard_among, heard_version}
 use Rattle.inbox.specs.declared.Inbox.{Inbox}
 use Rattle.inbox.specs.Standing.{Stands}
 use Rattle.inbox.specs.Taking.{WantsRoom as ChunksWant}
 use Rattle.inbox.proofs.Opening.{by_chunks}
 use Rattle.client.specs.declared.version_answer.Opening.{Opening}
-use Rattle.client.specs.Answers.{held_bytes}
-use Rattle.client.specs.Held.{IsHeld, WantsRoom}
-use Rattle.client.specs.Hearings.{plain}
+use Rattle.client.specs.Prelude.{held_bytes, IsHeld, WantsRoom, plain}
 
 plain_among : (vs : List Version) (bytes : List ℕ) → plain (heard_among vs bytes) ≡ heard_among vs bytes
 plain_among [] bytes = cond_both (bytes_eq bytes (version_answer None)) (Chosen None) Strange (λ x. plain x ≡ x) (λ e. refl) (λ e. refl)

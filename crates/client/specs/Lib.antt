@@ -10,3 +10,4 @@ pub mod Fits
 pub mod Hearings
 pub mod Moments
 pub mod Refusals
+pub mod Prelude

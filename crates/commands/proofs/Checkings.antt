@@ -1,23 +1,16 @@
 -- What is said of bytes that were read, or refused, and that it is one thing.
-use Rattle.std.proofs.Common.{◌≡◌, inl, inr, ℕ, false, List, Result, Err, refl, sym, ap, subst, ◌∙◌, arith}
-use Rattle.std.specs.Prelude.{◌↔◌}
+use Rattle.std.proofs.Common.{◌≡◌, inl, inr, ℕ, false, List, Result, Err, refl, sym, ap, subst, ◌∙◌, arith, ◌↔◌}
 use Rattle.packstream.specs.declared.fault.Reason.{Reason}
 use Rattle.packstream.specs.declared.fault.PackFault.{PackFault}
 use Rattle.packstream.specs.declared.fault.PackFault.TheVariants as pack
-use Rattle.packstream.specs.Tree.{Tree}
-use Rattle.packstream.specs.Good.{IsGood}
-use Rattle.packstream.specs.Spelling.{Spells}
-use Rattle.packstream.specs.Making.{first_fault, faults_in}
-use Rattle.packstream.specs.Faults.{Bad}
-use Rattle.packstream.specs.Answers.{UnlessMemory, SpellsOnly, IsBadOnly, HasOneAnswer}
+use Rattle.packstream.specs.Prelude.{Tree, IsGood, Spells, first_fault, faults_in, Bad, UnlessMemory, SpellsOnly, IsBadOnly, HasOneAnswer}
 use Rattle.packstream.proofs.Checking.{bad_when}
 use Rattle.wire.specs.declared.Version.{Version}
-use Rattle.cells.specs.Faults.{fault, structures, IsBad}
+use Rattle.cells.specs.Prelude.{fault, structures, IsBad}
 use Rattle.cells.proofs.Fine.{fine_scan}
 use Rattle.structures.specs.declared.fault.CellFault.{CellFault}
 use Rattle.structures.specs.declared.fault.CellFault.TheVariants as cell_fault
-use Rattle.structures.specs.Answers.{Reads, HasOneReading}
-use Rattle.structures.specs.Form.{Form, form}
+use Rattle.structures.specs.Prelude.{Reads, HasOneReading, Form, form}
 use Rattle.structures.proofs.Formed.{again}
 use Rattle.structures.proofs.Clauses.{never_unwritable}
 use Rattle.commands.specs.declared.checks.Checked.{Checked}

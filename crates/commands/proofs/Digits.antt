@@ -1,6 +1,5 @@
 -- Which texts are hex of whole bytes.
-use Rattle.std.proofs.Common.{◌≡◌, ℕ, ◌%◌, List, length, Bool, cond, true, false, eqb, refl, arith}
-use Rattle.std.specs.Prelude.{IsOk, Result, Ok, Err}
+use Rattle.std.proofs.Common.{◌≡◌, ℕ, ◌%◌, List, length, Bool, cond, true, false, eqb, refl, arith, IsOk, Result, Ok, Err}
 use Rattle.std.specs.List.{AllPass}
 use Rattle.std.proofs.lemmas.Bool.Decides.{nat_tests}
 use Rattle.hex.specs.Hex.{decode_of, decode_pairs, is_hex_digit}

@@ -1,10 +1,8 @@
 -- No command has a flag.
-use Rattle.std.proofs.Common.{◌≡◌, refl, ⊎_elim, ℕ, Bool, true, false, cond, List, [], ◌∷◌}
-use Rattle.std.specs.Prelude.{IsErr, IfOk, Option, Some, None, Result, Ok, Err, codes}
+use Rattle.std.proofs.Common.{◌≡◌, refl, ⊎_elim, ℕ, Bool, true, false, cond, List, [], ◌∷◌, IsErr, IfOk, Option, Some, None, Result, Ok, Err, codes, bytes_eq}
 use Rattle.std.specs.List.{list_any}
-use Rattle.std.specs.Str.{bytes_eq}
 use Rattle.std.proofs.lemmas.Bool.{or_cases, eqb-true, false≢true}
-use Rattle.scripts.specs.Words.{number_of}
+use Rattle.scripts.specs.Prelude.{number_of}
 use Rattle.commands.specs.declared.arguments.Wanted.{Wanted}
 use Rattle.commands.specs.declared.arguments.Wanted.TheVariants as want
 use Rattle.commands.specs.Asked.{Text, Ask, ToAnswer, ToReplay, ToLoop, WrongWord, is_flag, has_flag, plain_at, port_at, count_at, version_at, said_at, word_at, plain_word, port_word, count_word, version_word, ends_at, ◌>>=◌, asked_check, asked_serve, asked_shell, asked_by, asked_words}

@@ -1,7 +1,5 @@
 -- An input of which nothing is read.
-use Rattle.std.proofs.Common.{refl, List, [], ℕ}
-use Rattle.std.specs.Prelude.{Some, None}
-use Rattle.std.specs.declared.option.Option.{Option}
+use Rattle.std.proofs.Common.{refl, List, [], ℕ, Some, None, Option}
 use Rattle.std.specs.Io.KnownBytes.{Consumes}
 
 pub reads_none : (left : Option (List ℕ)) → (front : List ℕ) × Consumes left left front

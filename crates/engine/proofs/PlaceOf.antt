@@ -1,9 +1,7 @@
 -- The place of a token tells what a ledger has of it.
 use Rattle.std.proofs.Common.{◌≡◌, ◌<◌, refl, sym, ◌∙◌, ap, ℕ, suc, ◌+◌, Bool, true, false, if◌then◌else◌, Option, Some, None, option_map, List, [], ◌∷◌, ◌++◌, length, get_or, arith}
 use Rattle.std.specs.Option.{option_or}
-use Rattle.engine.specs.Tokens.{known_by, same_writes, is_token, Found, Free, There, Other, found_from, found_in}
-use Rattle.engine.specs.Places.{place_of, kept_at}
-use Rattle.engine.specs.Views.{WriteView, Token, EntryView, writes_view, entry_view, entries_view}
+use Rattle.engine.specs.Prelude.{known_by, same_writes, is_token, Found, Free, There, Other, found_from, found_in, place_of, kept_at, WriteView, Token, EntryView, writes_view, entry_view, entries_view}
 use Rattle.engine.specs.declared.ledger.Entry.{Entry}
 use Rattle.engine.specs.declared.ledger.Commit.{Commit}
 use Rattle.engine.specs.declared.ledger.Commit.TheVariants.{Repeat, Clash}

@@ -1,11 +1,8 @@
 -- What the places that are kept tell of tokens.
-use Rattle.std.proofs.Common.{◌≡◌, refl, sym, ◌∙◌, ap, ℕ, zero, suc, ◌==◌, Bool, true, false, if◌then◌else◌, Option, Some, None, List, [], ◌∷◌, ◌++◌, length, get_or, ◌<◌, ◌≤◌, arith}
-use Rattle.std.specs.Str.{bytes_eq}
+use Rattle.std.proofs.Common.{◌≡◌, refl, sym, ◌∙◌, ap, ℕ, zero, suc, ◌==◌, Bool, true, false, if◌then◌else◌, Option, Some, None, List, [], ◌∷◌, ◌++◌, length, get_or, ◌<◌, ◌≤◌, arith, bytes_eq}
 use Rattle.std.proofs.lemmas.Bool.{eqb-true, eq-eqb}
 use Rattle.std.proofs.lemmas.Slice.Eq.{bytes_eq-Decides}
-use Rattle.engine.specs.Tokens.{is_token}
-use Rattle.engine.specs.Places.{has_token_at, fingerprint, first_of, other_of, told_by, place_in, kept_at, where_none, AreBehindFirsts, IsWith}
-use Rattle.engine.specs.Views.{Token, EntryView, entries_view, token_view}
+use Rattle.engine.specs.Prelude.{is_token, has_token_at, fingerprint, first_of, other_of, told_by, place_in, kept_at, where_none, AreBehindFirsts, IsWith, Token, EntryView, entries_view, token_view}
 use Rattle.engine.specs.declared.ledger.Entry.{Entry}
 use Rattle.engine.specs.declared.places.Places.{Places}
 

@@ -1,12 +1,11 @@
 -- What comes of a stream by the bytes that are used of a piece: what opens it, and then chunks.
 use Rattle.std.proofs.Common.{◌≡◌, refl, sym, ◌∙◌, ap, subst, ℕ, Option, Some, None, option_map, option_to_list, Result, Ok, Err, List, [], ◌∷◌, ◌++◌, take, append-nil}
 use Rattle.wire.specs.declared.Version.{Version}
-use Rattle.wire.specs.Reader.{Took, state, outputs, takes}
-use Rattle.wire.specs.Framing.{Item, Opening, Noop, Message, TooBig, Opened, opening, opening_reader}
+use Rattle.wire.specs.Prelude.{Took, state, outputs, takes, Item, Opening, Noop, Message, TooBig, Opened, opening, opening_reader}
 use Rattle.wire.proofs.Opening.{AreChunks, IsChunk, MayBeChunk, MayOpen, Came, part, whole, came, opening_taken, chunk_taken}
 use Rattle.wire.proofs.Readers.{outputs-append, state-append, takes_outputs}
 use Rattle.messages.specs.declared.fault.MsgFault.{MsgFault}
-use Rattle.messages.specs.Arrivals.{End, then_read, taken_in, taken_by, taken}
+use Rattle.messages.specs.Prelude.{End, then_read, taken_in, taken_by, taken}
 
 -- What ends with a piece, by what had come before it: what opens the stream where nothing had, and else a chunk.
 pub data Next (xs : List Item) (o : Option Item) : Type 0 where

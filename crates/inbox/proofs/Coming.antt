@@ -1,6 +1,5 @@
 -- How a scan of a piece goes on, and where it stops.
-use Rattle.std.proofs.Common.{◌≡◌, refl, sym, ◌∙◌, ap, subst, ℕ, ◌+◌, ◌-◌, ◌<◌, ◌≤◌, true, false, ◌⊎◌, inl, inr, List, [], ◌∷◌, length, drop, take, Option, Some, None, Result, Ok, Err, arith, length-append, length-drop}
-use Rattle.std.specs.Prelude.{is_err}
+use Rattle.std.proofs.Common.{◌≡◌, refl, sym, ◌∙◌, ap, subst, ℕ, ◌+◌, ◌-◌, ◌<◌, ◌≤◌, true, false, ◌⊎◌, inl, inr, List, [], ◌∷◌, length, drop, take, Option, Some, None, Result, Ok, Err, arith, length-append, length-drop, is_err}
 use Rattle.std.proofs.lemmas.List.{drop-drop, take_all, drop_all}
 use Rattle.wire.specs.declared.parts.Cut.{Cut}
 use Rattle.wire.specs.declared.parts.Part.{Part}
@@ -9,18 +8,12 @@ use Rattle.wire.specs.declared.items.Fed.{Fed}
 use Rattle.wire.specs.declared.items.Piece.TheVariants.{Nothing}
 use Rattle.wire.specs.declared.faults.WireFault.{WireFault}
 use Rattle.wire.specs.declared.faults.WireFault.TheVariants.{TooBig}
-use Rattle.wire.specs.Place.{Place}
-use Rattle.wire.specs.Parts.{cut_at}
-use Rattle.wire.specs.Unfinished.{Unfinished, fresh, unfinished_at}
-use Rattle.wire.specs.Items.{Answered, answer_from, answer_to, further, item_of, wants_room}
-use Rattle.wire.specs.Reader.{Took, takes}
-use Rattle.wire.specs.Framing.{Item, Noop, Message, chunks, took_by, item_in}
-use Rattle.wire.specs.Scanning.{Holds, Taken, After, with_data}
+use Rattle.wire.specs.Prelude.{Place, cut_at, Unfinished, fresh, unfinished_at, Answered, answer_from, answer_to, further, item_of, wants_room, Took, takes, Item, Noop, Message, chunks, took_by, item_in, Holds, Taken, After, with_data}
 use Rattle.wire.proofs.Cuts.{cuts_agree, further-further, further-zero}
 use Rattle.wire.proofs.Framed.{answers_take}
 use Rattle.wire.proofs.Limits.{tells_too_big}
 use Rattle.wire.proofs.Room.{part_wants}
-use Rattle.reader.specs.Piecewise.{Point, Reads}
+use Rattle.reader.specs.Prelude.{Point, Reads}
 use Rattle.inbox.specs.declared.stream.Stream.{Stream}
 use Rattle.inbox.specs.Standing.{IsAt}
 use Rattle.inbox.specs.Scanning.{Scans, Comes, item_ended, rest_ended}

@@ -1,23 +1,15 @@
 -- A piece that is data alone, and one that begins with a whole message.
-use Rattle.std.proofs.Common.{◌≡◌, ◌↔◌, refl, sym, ◌∙◌, ap, subst, ℕ, ◌+◌, ◌-◌, ◌<◌, ◌≤◌, true, false, inr, List, [], ◌++◌, length, drop, take, Option, Some, None, Ok, arith}
-use Rattle.std.specs.Prelude.{IfSome}
+use Rattle.std.proofs.Common.{◌≡◌, ◌↔◌, refl, sym, ◌∙◌, ap, subst, ℕ, ◌+◌, ◌-◌, ◌<◌, ◌≤◌, true, false, inr, List, [], ◌++◌, length, drop, take, Option, Some, None, Ok, arith, IfSome}
 use Rattle.std.proofs.lemmas.List.{take_all}
 use Rattle.wire.specs.declared.items.Piece.TheVariants as ended
 use Rattle.wire.specs.declared.parts.Cut.{Cut}
 use Rattle.wire.specs.declared.parts.Part.{Part}
 use Rattle.wire.specs.declared.parts.Part.TheVariants as part
-use Rattle.wire.specs.Place.{Place, start}
-use Rattle.wire.specs.Parts.{cut_at, IsData}
-use Rattle.wire.specs.Texts.{BeginsWith}
-use Rattle.wire.specs.Unfinished.{Unfinished, fresh, unfinished_at}
-use Rattle.wire.specs.Items.{answer_from, wants_room}
-use Rattle.wire.specs.Reader.{Took, takes}
-use Rattle.wire.specs.Framing.{Item, Message, chunks}
-use Rattle.wire.specs.Scanning.{Holds, with_data}
+use Rattle.wire.specs.Prelude.{Place, start, cut_at, IsData, BeginsWith, Unfinished, fresh, unfinished_at, answer_from, wants_room, Took, takes, Item, Message, chunks, Holds, with_data}
 use Rattle.wire.proofs.First.{takes_first}
 use Rattle.wire.proofs.Readers.{reads_pieces}
 use Rattle.wire.proofs.Room.{part_wants}
-use Rattle.reader.specs.Piecewise.{Point, Reads, MayGoOn}
+use Rattle.reader.specs.Prelude.{Point, Reads, MayGoOn}
 use Rattle.reader.proofs.Pieces.{nothing_goes_on}
 use Rattle.inbox.specs.declared.stream.Stream.{Stream}
 use Rattle.inbox.specs.Standing.{IsAt}

@@ -2,10 +2,8 @@
 use Rattle.std.proofs.Common.{◌≡◌, refl, sym, ◌∙◌, ap, ap₂, subst, ℕ, zero, suc, ◌+◌, ◌-◌, ◌<◌, ◌≤◌, min, true, false, eqb, Option, Some, None, List, [], ◌∷◌, ◌++◌, length, take, arith, append_assoc, append-nil, length-append, length-take}
 use Rattle.std.proofs.lemmas.Bool.Decides.{nat_tests}
 use Rattle.std.proofs.lemmas.List.{take_all}
-use Rattle.wire.specs.Unfinished.{Unfinished, fresh}
-use Rattle.wire.specs.Reader.{Took, takes, one_more, ends_at}
-use Rattle.wire.specs.Framing.{Item, Opening, chunks, Opened, opening, reading, opening_reader}
-use Rattle.reader.specs.Piecewise.{Point, Reads}
+use Rattle.wire.specs.Prelude.{Unfinished, fresh, Took, takes, one_more, ends_at, Item, Opening, chunks, Opened, opening, reading, opening_reader}
+use Rattle.reader.specs.Prelude.{Point, Reads}
 use Rattle.inbox.specs.declared.inbox.Inbox.{Inbox}
 use Rattle.inbox.specs.Standing.{Stands}
 use Rattle.inbox.specs.Opening.{HasCome, data_of}

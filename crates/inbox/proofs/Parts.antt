@@ -1,10 +1,9 @@
 -- What a part of a piece uses, and where the position goes: one that isn't past the limit goes on.
-use Rattle.std.proofs.Common.{◌≡◌, refl, sym, ◌∙◌, ap, subst, ℕ, zero, suc, ◌+◌, ◌*◌, ◌<◌, Bool, true, false, cond, eqb, ltb, Option, Some, None, List, [], ◌∷◌, length, arith, true≢false}
-use Rattle.std.specs.Prelude.{min}
+use Rattle.std.proofs.Common.{◌≡◌, refl, sym, ◌∙◌, ap, subst, ℕ, zero, suc, ◌+◌, ◌*◌, ◌<◌, Bool, true, false, cond, eqb, ltb, Option, Some, None, List, [], ◌∷◌, length, arith, true≢false, min}
 use Rattle.wire.specs.declared.parts.Cut.{Cut}
 use Rattle.wire.specs.declared.parts.Part.TheVariants as part
-use Rattle.wire.specs.Place.{Place, start}
-use Rattle.wire.specs.Parts.{Bite, bite, inside, past, on_length, on_header, on_data, cut_at}
+use Rattle.wire.specs.Prelude.{Place, start, Bite, bite, inside, past, on_data, cut_at}
+use Rattle.wire.specs.Parts.{on_length, on_header}
 
 -- some bytes are used, and the position isn't past the limit unless the part says so
 pub record Goes (b : Bite) : Type 0 where

@@ -5,8 +5,7 @@ use Rattle.std.proofs.lemmas.Bool.Decides.{nat_tests}
 use Rattle.wire.specs.declared.items.Fed.{Fed}
 use Rattle.wire.specs.declared.faults.WireFault.{WireFault}
 use Rattle.wire.specs.declared.faults.WireFault.TheVariants.{TooBig, Memory}
-use Rattle.wire.specs.Unfinished.{Unfinished, fresh}
-use Rattle.wire.specs.Items.{item_of, later, Answered, further, answer_from, hands_out, wants_room}
+use Rattle.wire.specs.Prelude.{Unfinished, fresh, item_of, later, Answered, further, answer_from, hands_out, wants_room}
 
 later_hands : (n : ℕ) (r : Result Fed WireFault) → hands_out (later n r) ≡ hands_out r
 later_hands n (Ok fed) = refl

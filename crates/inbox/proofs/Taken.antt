@@ -3,14 +3,10 @@ use Rattle.std.proofs.Common.{◌≡◌, refl, sym, ◌∙◌, ap, subst, ℕ, z
 use Rattle.wire.specs.declared.parts.Cut.{Cut}
 use Rattle.wire.specs.declared.parts.Part.{Part}
 use Rattle.wire.specs.declared.parts.Part.TheVariants as part
-use Rattle.wire.specs.Place.{Place, start}
-use Rattle.wire.specs.Unfinished.{Unfinished, fresh, unfinished_at}
-use Rattle.wire.specs.Items.{refused, after_limit, next}
-use Rattle.wire.specs.Reader.{Took, takes, one_more}
-use Rattle.wire.specs.Framing.{Item, Message, chunks, after_step as kept_after}
-use Rattle.wire.specs.Scanning.{Holds}
-use Rattle.packstream.specs.Plain.{AreBytes}
-use Rattle.reader.specs.Piecewise.{Point, Reads}
+use Rattle.wire.specs.Prelude.{Place, start, Unfinished, fresh, unfinished_at, refused, after_limit, next, Took, takes, one_more, Item, Message, chunks, Holds}
+use Rattle.wire.specs.Framing.{after_step as kept_after}
+use Rattle.packstream.specs.Prelude.{AreBytes}
+use Rattle.reader.specs.Prelude.{Point, Reads}
 use Rattle.messages.specs.declared.fault.MsgFault.{MsgFault}
 use Rattle.inbox.specs.declared.brought.Brought.{Brought}
 use Rattle.inbox.specs.declared.brought.Brought.TheVariants as brought

@@ -1,12 +1,11 @@
 -- What is told of a message that was read, and where that takes memory.
-use Rattle.std.proofs.Common.{◌≡◌, ℕ, Option, Some, None, Result, Ok, Err}
-use Rattle.std.specs.Prelude.{OnErr}
+use Rattle.std.proofs.Common.{◌≡◌, ℕ, Option, Some, None, Result, Ok, Err, OnErr}
 use Rattle.packstream.specs.declared.fault.Reason.{Reason}
 use Rattle.packstream.specs.declared.fault.PackFault.{PackFault}
 use Rattle.packstream.specs.declared.fault.PackFault.TheVariants as pack
-use Rattle.reader.specs.Piecewise.{Point, Finishes}
+use Rattle.reader.specs.Prelude.{Point, Finishes}
 use Rattle.messages.specs.declared.fault.MsgFault.TheVariants as fault
-use Rattle.messages.specs.Faults.{of_pack}
+use Rattle.messages.specs.Prelude.{of_pack}
 
 pub err_holds : {X E : Type 0} (r : Result X E) (P : Type 0) → P → OnErr r P
 err_holds (Ok x) P p = tt

@@ -7,9 +7,7 @@ use Rattle.std.proofs.Math.Bool.{and-true, and-false, or-false}
 use Rattle.wire.specs.declared.Version.{Version}
 use Rattle.machine.specs.declared.states.Phase.{Phase}
 use Rattle.machine.specs.declared.kinds.Kind.{Kind}
-use Rattle.machine.specs.States.{same_phase}
-use Rattle.machine.specs.Following.{has, set_of, as_set, union, every_phase, is_defunct, allows, allowed_in}
-use Rattle.machine.specs.Members.{has-set_of}
+use Rattle.machine.specs.Prelude.{same_phase, has, set_of, as_set, union, every_phase, is_defunct, allows, allowed_in, has-set_of}
 use Rattle.machine.proofs.Tables.{same_phase-true, same_phase-refl, at_phase, implies, implies_at}
 use Rattle.machine.proofs.Sets.{set_of-agree}
 

@@ -2,15 +2,11 @@
 use Rattle.std.proofs.Common.{◌≡◌, refl, sym, ◌∙◌, ℕ, true, Option, Some, None, List, [], ◌∷◌, ◌++◌, take, slice_get}
 use Rattle.std.specs.List.{list_any}
 use Rattle.wire.specs.declared.Version.{Version}
-use Rattle.messages.specs.View.{RequestView}
+use Rattle.messages.specs.Prelude.{RequestView}
 use Rattle.machine.specs.declared.states.State.{State}
 use Rattle.machine.specs.declared.states.Phase.{Phase}
 use Rattle.machine.specs.declared.kinds.Kind.{Kind}
-use Rattle.machine.specs.States.{phase_of}
-use Rattle.machine.specs.Asks.{kind_of, in_part}
-use Rattle.machine.specs.Following.{has, next, table, set_after, follow, possible, commits, any_commits, could}
-use Rattle.machine.specs.Members.{has-set_of}
-use Rattle.machine.specs.Laws.{IsWithin, marked_in}
+use Rattle.machine.specs.Prelude.{phase_of, kind_of, in_part, has, next, table, set_after, follow, possible, commits, any_commits, could, has-set_of, IsWithin, marked_in}
 use Rattle.machine.proofs.Gathered.{any_has, has_any, given}
 use Rattle.machine.proofs.Tables.{at_rows, same_bool, same_bool-true}
 

@@ -3,13 +3,11 @@ use Rattle.std.proofs.Common.{◌≡◌, refl, ap, subst, ◌∙◌, Bool, true,
 use Rattle.std.specs.List.{list_all}
 use Rattle.std.proofs.lemmas.Bool.{and_parts}
 use Rattle.wire.specs.declared.Version.{Version}
-use Rattle.wire.specs.Versions.{versions}
+use Rattle.wire.specs.Prelude.{versions}
 use Rattle.machine.specs.declared.states.State.{State}
 use Rattle.machine.specs.declared.kinds.Kind.{Kind}
 use Rattle.machine.specs.declared.rows.Verdict.{Verdict}
-use Rattle.machine.specs.States.{phase_of, same_state}
-use Rattle.machine.specs.Rows.{row_of, row_at, nexts_of}
-use Rattle.machine.specs.Following.{next, has, interruptible, every_state}
+use Rattle.machine.specs.Prelude.{phase_of, same_state, row_of, row_at, nexts_of, next, has, interruptible, every_state}
 use Rattle.machine.proofs.Tables.{at_rows, at_verdict, at_bool, implies, implies_at, every_bool, every_verdict, every_kind}
 
 abbrev pub same_states : List State → List State → Bool

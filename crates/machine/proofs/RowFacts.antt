@@ -3,16 +3,12 @@ use Rattle.std.proofs.Common.{◌≡◌, refl, sym, ap, Bool, true, is_some, is_
 use Rattle.std.specs.List.{list_any, list_all}
 use Rattle.std.proofs.lemmas.Bool.{and_parts}
 use Rattle.wire.specs.declared.Version.{Version}
-use Rattle.messages.specs.View.{RequestView}
+use Rattle.messages.specs.Prelude.{RequestView}
 use Rattle.machine.specs.declared.states.State.{State}
 use Rattle.machine.specs.declared.states.Phase.{Phase}
 use Rattle.machine.specs.declared.kinds.Kind.{Kind}
 use Rattle.machine.specs.declared.rows.Verdict.{Verdict}
-use Rattle.machine.specs.Rows.{row_of, row_at}
-use Rattle.machine.specs.Asks.{kind_of, in_part, is_of}
-use Rattle.machine.specs.Following.{next, table, has, set_after, follow, is_defunct, allows}
-use Rattle.machine.specs.States.{phase_of, same_state}
-use Rattle.machine.specs.Laws.{ways, OneWay, AllowedIsValid}
+use Rattle.machine.specs.Prelude.{row_of, row_at, kind_of, in_part, is_of, next, table, has, set_after, follow, is_defunct, allows, phase_of, same_state, ways, OneWay, AllowedIsValid}
 use Rattle.machine.proofs.Sets.{set_of-agree}
 use Rattle.machine.proofs.Gathered.{list_any-agree, all_has}
 use Rattle.machine.proofs.Tables.{at_rows, at_places, implies, implies_at, same_bool, same_bool-true}

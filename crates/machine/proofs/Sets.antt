@@ -5,9 +5,7 @@ use Rattle.std.proofs.lemmas.List.Folds.{list_any-append}
 use Rattle.machine.specs.declared.states.Phase.{Phase}
 use Rattle.machine.specs.declared.phase_set.PhaseSet.TheInside.{Inside}
 use Rattle.machine.specs.declared.states.State.{State}
-use Rattle.machine.specs.States.{same_phase, phase_of}
-use Rattle.machine.specs.Following.{has, set_of, as_set, union, every_phase, phases_of, after_greeting, after_row}
-use Rattle.machine.specs.Members.{holds, members, has-set_of}
+use Rattle.machine.specs.Prelude.{same_phase, phase_of, has, set_of, as_set, union, every_phase, phases_of, after_greeting, after_row, holds, members, has-set_of}
 
 -- tests that agree have one set
 pub set_of-agree : (t u : Phase → Bool) → ((p : Phase) → t p ≡ u p) → set_of t ≡ set_of u

@@ -2,13 +2,12 @@
 use Rattle.std.proofs.Common.{◌≡◌, refl, Bool, true, false, List, [], ◌∷◌, not, sym, arith}
 use Rattle.std.specs.List.{list_all}
 use Rattle.wire.specs.declared.Version.{Version}
-use Rattle.wire.specs.Versions.{versions}
+use Rattle.wire.specs.Prelude.{versions}
 use Rattle.machine.specs.declared.states.State.{State}
 use Rattle.machine.specs.declared.states.Phase.{Phase}
 use Rattle.machine.specs.declared.kinds.Kind.{Kind}
 use Rattle.machine.specs.declared.rows.Verdict.{Verdict}
-use Rattle.machine.specs.States.{same_phase}
-use Rattle.machine.specs.Following.{every_phase, every_state}
+use Rattle.machine.specs.Prelude.{same_phase, every_phase, every_state}
 pub use Rattle.machine.specs.Members.{same_phase-true}
 
 abbrev pub every_bool : List Bool

@@ -5,3 +5,4 @@ pub mod Rows
 pub mod Following
 pub mod Members
 pub mod Laws
+pub mod Prelude

@@ -1,47 +1,27 @@
 -- A message without a value between: bytes that were added one after the other are its spelling, and what was read of its parts one after the other is read of it.
-use Rattle.std.proofs.Common.{◌≡◌, ◌≤◌, ◌<◌, ◌+◌, ℕ, ℤ, pos, int_le, false, true, Bool, List, [], ◌∷◌, ◌++◌, length, Option, None, Result, Ok, Err, codes, refl, ap, sym, subst, ◌∙◌, append_assoc, arith, IfOk}
+use Rattle.std.proofs.Common.{◌≡◌, ◌≤◌, ◌<◌, ◌+◌, ℕ, ℤ, pos, int_le, false, true, Bool, List, [], ◌∷◌, ◌++◌, length, Option, None, Result, Ok, Err, codes, refl, ap, sym, subst, ◌∙◌, append_assoc, arith, IfOk, FitsSigned, w64, IsUtf8}
 use Rattle.std.proofs.lemmas.List.{append-nil, length-append}
-use Rattle.std.specs.Prelude.{FitsSigned}
-use Rattle.std.specs.Int.{w64}
-use Rattle.std.specs.Str.{IsUtf8}
 use Rattle.packstream.specs.declared.fault.Reason.{Reason as PackReason}
-use Rattle.packstream.specs.Tree.{Tree, int, text, list, dict, structure, Trees, no_trees, tree_then, Entries, no_entries, entry_then}
-use Rattle.packstream.specs.Canon.{head, text_bytes, canon}
-use Rattle.packstream.specs.Good.{IsGood, depth}
-use Rattle.packstream.specs.Making.{first_fault, faults_in}
-use Rattle.packstream.specs.View.{entries_of}
+use Rattle.packstream.specs.Prelude.{Tree, int, text, list, dict, structure, Trees, no_trees, tree_then, Entries, no_entries, entry_then, head, text_bytes, canon, IsGood, depth, first_fault, faults_in, entries_of, marker, AreBytes, Spells}
 use Rattle.packstream.proofs.Checking.{bad_when}
 use Rattle.wire.specs.declared.Version.{Version}
 use Rattle.wire.proofs.Fronts.{nil_left}
-use Rattle.cells.specs.Faults.{scan, fault as structure_fault, structures, structures_in, structures_under}
-use Rattle.cells.specs.Writing.{fault_of_structure}
-use Rattle.structures.specs.Answers.{HasGoodForm}
-use Rattle.structures.specs.Form.{typed, typed_all, typed_under}
+use Rattle.cells.specs.Prelude.{scan, fault as structure_fault, structures, structures_in, structures_under, fault_of_structure}
+use Rattle.structures.specs.Prelude.{HasGoodForm, typed, typed_all, typed_under}
 use Rattle.messages.specs.declared.request.Mode.{Mode}
 use Rattle.messages.specs.declared.request.Mode.TheVariants.{Read, Write}
 use Rattle.messages.specs.declared.request.Count.{Count}
 use Rattle.messages.specs.declared.request.Count.TheVariants.{All, Of}
 use Rattle.messages.specs.declared.fault.MsgFault.{MsgFault}
-use Rattle.messages.specs.Table.{Row}
-use Rattle.messages.specs.View.{Run, request_view, response_view, Begin}
-use Rattle.messages.specs.Reading.{◌>>=◌, request_contents, count_tree, contents_of_message, Contents, response_contents}
-use Rattle.messages.specs.Cells.{cell_put}
-use Rattle.messages.specs.Messages.{Means, Req, Resp}
-use Rattle.messages.specs.Parts.{with_dict, transaction_put, rows_put, mode_pairs, count_number}
-use Rattle.messages.specs.Writing.{packed_by, spelling_within, spelling_of_tree, form_put}
-use Rattle.messages.specs.Added.{Adds, AddsEntries}
+use Rattle.messages.specs.Prelude.{Row, Run, request_view, response_view, Begin, ◌>>=◌, request_contents, count_tree, contents_of_message, Contents, response_contents, cell_put, Means, Req, Resp, with_dict, transaction_put, rows_put, mode_pairs, count_number, packed_by, spelling_within, spelling_of_tree, form_put, Adds, AddsEntries, SpellsForm}
 use Rattle.messages.proofs.Fields.{put_value}
 use Rattle.messages.proofs.Rounds.{put_alone, asks_back, tells_back, request_back, response_back}
 use Rattle.messages.proofs.Sent.{sized_fits, means_of}
 use Rattle.packstream.specs.declared.marker.Size.TheVariants.{Here}
-use Rattle.packstream.specs.Markers.{marker}
-use Rattle.packstream.specs.Plain.{AreBytes}
-use Rattle.packstream.specs.Spelling.{Spells}
 use Rattle.packstream.proofs.Only.{canon_spells}
 use Rattle.scanner.specs.Fronts.{SpellsFront}
 use Rattle.messages.specs.declared.request.Request.{Request}
 use Rattle.messages.specs.declared.response.Response.{Response}
-use Rattle.messages.specs.Scanned.{SpellsForm}
 
 right_none : {A : Type 0} (xs ys : List A) → xs ++ ys ≡ [] → ys ≡ []
 right_none [] ys h = h

@@ -1,30 +1,21 @@
 -- Fields one at a time: by their number, what they say by the row of their structure, and how a field of cells is written.
 use Rattle.std.proofs.Common.{◌≡◌, List, [], ◌∷◌, length, false, ◌==◌, refl, sym, ◌∙◌, Err, Global, String, rules, ℕ, true, ap, codes, ◌++◌, append-nil, Result, Ok}
-use Rattle.packstream.specs.Tree.{dict, text, Trees, no_trees, tree_then, Tree, list, Entries}
-use Rattle.packstream.specs.Good.{count, IsGood}
-use Rattle.packstream.specs.View.{tree, trees, trees_of}
+use Rattle.packstream.specs.Prelude.{dict, text, Trees, no_trees, tree_then, Tree, list, Entries, count, IsGood, tree, trees, trees_of, first_fault, faults_in}
 use Rattle.packstream.specs.declared.value.Value.{Value, Text as TextCase, the_lemmas}
 use Rattle.packstream.proofs.Putting.{len_trees}
-use Rattle.cells.specs.Shape.{text_of, shape}
-use Rattle.messages.specs.Parts.{no_field, one_field, run_parts, entries_of_dict, members_of_list, only_dict, contents_of_login, contents_of_run, as_dict, as_list}
+use Rattle.cells.specs.Prelude.{text_of, shape, scan, fault as structure_fault, structures}
+use Rattle.messages.specs.Prelude.{no_field, one_field, run_parts, entries_of_dict, members_of_list, only_dict, contents_of_login, contents_of_run, as_dict, as_list, Name, Others, Named, ignored, extra, text_field, cells, cell_list, credentials, RUN, of_transaction, ◌>>=◌, contents, contents_of_named, contents_of_row, contents_of_extra, cell_of_field, contents_of_mode, contents_of_metadata, lookup, cell_by, Answers, of_cell, value_by, form_by, cell_put}
 use Rattle.wire.specs.declared.Version.{Version}
-use Rattle.wire.specs.Versions.{hello_has_login}
+use Rattle.wire.specs.Prelude.{hello_has_login}
 use Rattle.messages.specs.declared.fault.MsgFault.{MsgFault}
-use Rattle.messages.specs.Table.{Name, Others, Named, ignored, extra, text_field, cells, cell_list, credentials, RUN, of_transaction}
-use Rattle.structures.specs.Form.{typed_under, Form, form}
-use Rattle.messages.specs.Reading.{◌>>=◌, contents, contents_of_named, contents_of_row, contents_of_extra, cell_of_field, contents_of_mode, contents_of_metadata, lookup, cell_by, Answers}
+use Rattle.structures.specs.Prelude.{typed_under, Form, form, Reads, Writes}
 use Rattle.cells.specs.declared.fault.Reason.{Reason as CellReason}
-use Rattle.cells.specs.Faults.{scan, fault as structure_fault, structures}
 use Rattle.packstream.specs.declared.fault.Reason.{Reason as PackReason}
-use Rattle.packstream.specs.Making.{first_fault, faults_in}
 use Rattle.packstream.proofs.Checking.{bad_when}
 use Rattle.cells.proofs.Fine.{fine_scan}
 use Rattle.structures.specs.declared.fault.CellFault.{CellFault}
-use Rattle.structures.specs.Answers.{Reads, Writes}
 use Rattle.structures.proofs.Formed.{again}
-use Rattle.messages.specs.Faults.{of_cell}
 use Rattle.cells.specs.declared.cell.Cell.{Cell}
-use Rattle.messages.specs.Cells.{value_by, form_by, cell_put}
 use Rattle.messages.specs.declared.fault.MsgFault.TheVariants as fault
 use Rattle.structures.specs.declared.fault.CellFault.TheVariants as cell_fault
 use Rattle.messages.specs.declared.fault.MsgFault.TheVariants as fault

@@ -1,27 +1,17 @@
 -- The responses of a server that are neither rows nor the SUCCESS of a RUN: what they are written as, how long that is, and what it stands for.
-use Rattle.std.proofs.Common.{◌≡◌, ◌<◌, ◌≤◌, ◌+◌, ◌^◌, ℕ, List, ◌++◌, length, Bool, true, false, cond, nat_lt, None, Some, Result, Ok, Err, codes, refl, ap, sym, ◌∙◌, arith}
-use Rattle.std.specs.Str.{IsUtf8}
-use Rattle.std.specs.Fmt.{decimal}
+use Rattle.std.proofs.Common.{◌≡◌, ◌<◌, ◌≤◌, ◌+◌, ◌^◌, ℕ, List, ◌++◌, length, Bool, true, false, cond, nat_lt, None, Some, Result, Ok, Err, codes, refl, ap, sym, ◌∙◌, arith, IsUtf8, decimal}
 use Rattle.std.proofs.lemmas.List.{length-append}
 use Rattle.std.proofs.lemmas.Str.{IsUtf8-append, IsUtf8-from_ascii}
 use Rattle.std.proofs.lemmas.Fmt.{IsAscii-decimal, length-decimal-le}
 use Rattle.packstream.specs.declared.fault.Reason.{Reason as PackReason}
-use Rattle.packstream.specs.Tree.{Tree, text, dict, structure, Trees, no_trees, tree_then, Entries, no_entries, entry_then}
-use Rattle.packstream.specs.Good.{IsGood, entry_count}
-use Rattle.packstream.specs.Plain.{IsPlain, HavePlain}
-use Rattle.packstream.specs.View.{entries_of}
-use Rattle.packstream.specs.Canon.{long_head, head, int_bytes, text_bytes, canon, canon_all, canon_entries}
-use Rattle.packstream.specs.Making.{first_fault, faults_in}
+use Rattle.packstream.specs.Prelude.{Tree, text, dict, structure, Trees, no_trees, tree_then, Entries, no_entries, entry_then, IsGood, entry_count, IsPlain, HavePlain, entries_of, long_head, head, int_bytes, text_bytes, canon, canon_all, canon_entries, first_fault, faults_in}
 use Rattle.packstream.proofs.Checking.{good_when}
 use Rattle.packstream.proofs.Only.{canon_spells}
 use Rattle.packstream.proofs.Ranges.{fits_pos}
 use Rattle.wire.specs.declared.Version.{Version}
 use Rattle.messages.specs.declared.request.Mode.{Mode}
 use Rattle.messages.specs.declared.request.Mode.TheVariants.{Read, Write}
-use Rattle.messages.specs.Table.{responses}
-use Rattle.messages.specs.Reading.{◌>>=◌, contents_of_message, response_contents}
-use Rattle.messages.specs.Writing.{form_put, spelling_of_tree, packed_by, spelling_within, response_spelling}
-use Rattle.messages.specs.Summaries.{Summary, Greeting, RowsLeft, Closing, Committed, Plain, Refused, Passed, bookmark, greeting, ending, response_of_summary, form_of, IsShort, HasTexts, room, FitsRoom, ReadsBack}
+use Rattle.messages.specs.Prelude.{responses, ◌>>=◌, contents_of_message, response_contents, form_put, spelling_of_tree, packed_by, spelling_within, response_spelling, Summary, Greeting, RowsLeft, Closing, Committed, Plain, Refused, Passed, bookmark, greeting, ending, response_of_summary, form_of, IsShort, HasTexts, room, FitsRoom, ReadsBack}
 use Rattle.messages.proofs.Sent.{sized_fits}
 
 abbrev number_in : Result ℕ (PackReason × ℕ) → ℕ

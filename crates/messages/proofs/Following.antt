@@ -1,13 +1,10 @@
 -- What an end takes of more bytes: what it took before, and more, or nothing more.
-use Rattle.std.proofs.Common.{◌≡◌, ◌⊎◌, inl, inr, Option, Some, None, Result, Ok, Err, List, [], ◌∷◌, ◌++◌, refl, ap, ℕ, sym, subst, ◌∙◌, append_assoc}
+use Rattle.std.proofs.Common.{◌≡◌, ◌⊎◌, inl, inr, Option, Some, None, Result, Ok, Err, List, [], ◌∷◌, ◌++◌, refl, ap, ℕ, sym, subst, ◌∙◌, append_assoc, reverse}
 use Rattle.wire.specs.declared.Version.{Version}
-use Rattle.wire.specs.Framing.{Item, Opening, Noop, Message, TooBig, Opened, at_server, items_received, at_client, items_heard}
+use Rattle.wire.specs.Prelude.{Item, Opening, Noop, Message, TooBig, Opened, at_server, items_received, at_client, items_heard, state, outputs}
 use Rattle.messages.specs.declared.fault.MsgFault.{MsgFault}
-use Rattle.messages.specs.Arrivals.{End, then_read, taken_in, taken_by, taken, Arrival, Shook, version_shaken, server_end, arrivals_of, IsLast, ArrivalsGoOn, NothingFollows, Heard, Chosen, version_chosen, client_end, heard_of, hears, HearsGoOn, IsLastHeard, NothingMoreHeard}
-use Rattle.wire.specs.Reader.{state, outputs}
+use Rattle.messages.specs.Prelude.{End, then_read, taken_in, taken_by, taken, Arrival, Shook, version_shaken, server_end, arrivals_of, IsLast, ArrivalsGoOn, NothingFollows, Heard, Chosen, version_chosen, client_end, heard_of, hears, HearsGoOn, IsLastHeard, NothingMoreHeard, RequestView, ResponseView}
 use Rattle.wire.proofs.Readers.{outputs-append}
-use Rattle.messages.specs.View.{RequestView, ResponseView}
-use Rattle.std.specs.Prelude.{reverse}
 use Rattle.std.proofs.lemmas.List.{reverse-append, reverse-reverse}
 
 -- a longer list that begins with this one

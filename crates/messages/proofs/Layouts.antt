@@ -1,25 +1,18 @@
 -- What is told of a value by reading it is what the table lays out.
-use Rattle.std.proofs.Common.{◌≡◌, ◌↔◌, ℕ, zero, suc, ℤ, pos, negsuc, int_le, List, [], ◌∷◌, ◌++◌, append-nil, length, nat_le, ◌≤◌, Bool, true, false, cond, ◌||◌, ◌&&◌, ◌==◌, Option, None, Some, Result, Ok, Err, IfOk, codes, refl, ap, sym, subst, ◌∙◌, arith}
-use Rattle.std.specs.Prelude.{All, Any, Contains}
+use Rattle.std.proofs.Common.{◌≡◌, ◌↔◌, ℕ, zero, suc, ℤ, pos, negsuc, int_le, List, [], ◌∷◌, ◌++◌, append-nil, length, nat_le, ◌≤◌, Bool, true, false, cond, ◌||◌, ◌&&◌, ◌==◌, Option, None, Some, Result, Ok, Err, IfOk, codes, refl, ap, sym, subst, ◌∙◌, arith, All, Any, Contains, bytes_eq, int_eq}
 use Rattle.std.specs.List.{list_any}
 use Rattle.std.proofs.lemmas.Result.{IfOk-weaker, IfOk-at_ok}
-use Rattle.std.specs.Str.{bytes_eq}
 use Rattle.std.proofs.lemmas.Slice.Eq.{bytes_eq-Decides}
 use Rattle.std.proofs.lemmas.List.Folds.{Any-from_list_any, list_any-from_Any}
-use Rattle.std.specs.Ordering.{int_eq}
 use Rattle.std.proofs.lemmas.Bool.{le-leb, leb-true, and_parts, false_from_ne_true}
 use Rattle.std.proofs.lemmas.Bool.Decides.{Decides-eqb, Decides-int_eq}
-use Rattle.packstream.specs.Tree.{Tree, null, int, text, list, dict, structure, Trees, no_trees, tree_then, Entries, no_entries, entry_then}
-use Rattle.packstream.specs.Faults.{keys_of}
+use Rattle.packstream.specs.Prelude.{Tree, null, int, text, list, dict, structure, Trees, no_trees, tree_then, Entries, no_entries, entry_then, keys_of}
 use Rattle.wire.specs.declared.Version.{Version}
 use Rattle.cells.specs.declared.fault.Reason.{Reason as CellReason}
-use Rattle.cells.specs.Faults.{scan, fault as structure_fault, structures}
-use Rattle.structures.specs.Form.{Form}
+use Rattle.cells.specs.Prelude.{scan, fault as structure_fault, structures}
+use Rattle.structures.specs.Prelude.{Form}
 use Rattle.messages.specs.declared.fault.MsgFault.{MsgFault}
-use Rattle.messages.specs.Table.{Holds, a_text, a_mode, a_count, last_query, a_token, Named, Others, ignored, refused, Field, text_field, cells, cell_list, extra, Row, requests, responses, layout, row_in}
-use Rattle.messages.specs.Reading.{◌>>=◌, Contents, contents, are_kinds, lookup, is_token, contents_of_token, contents_of_entry, contents_of_named, is_named, all_named, contents_of_extra, contents_of_entries, cell_by, cell_of_field, contents_of_fields, contents_of_row, row_at, contents_by_row, contents_of_message}
-use Rattle.messages.specs.Saying.{IsEntry, absent, here, further, SaysEntry, the_text, reads, writes, writes_unsaid, all_rows, some_rows, of_last, of_last_unsaid, the_token, token_unsaid, metadata_unsaid, SaysNamed, no_more, passed_over, then_named, HasOnly, SaysField, of_text, of_cells, of_list, of_extra, SaysFields, no_fields, then_field, SaysRow, of_row, SaysMessage, IsSpelled}
-use Rattle.messages.specs.Messages.{SpellsWhere, Means}
+use Rattle.messages.specs.Prelude.{Holds, a_text, a_mode, a_count, last_query, a_token, Named, Others, ignored, refused, Field, text_field, cells, cell_list, extra, Row, requests, responses, layout, row_in, ◌>>=◌, Contents, contents, are_kinds, lookup, is_token, contents_of_token, contents_of_entry, contents_of_named, is_named, all_named, contents_of_extra, contents_of_entries, cell_by, cell_of_field, contents_of_fields, contents_of_row, row_at, contents_by_row, contents_of_message, IsEntry, absent, here, further, SaysEntry, the_text, reads, writes, writes_unsaid, all_rows, some_rows, of_last, of_last_unsaid, the_token, token_unsaid, metadata_unsaid, SaysNamed, no_more, passed_over, then_named, HasOnly, SaysField, of_text, of_cells, of_list, of_extra, SaysFields, no_fields, then_field, SaysRow, of_row, SaysMessage, IsSpelled, SpellsWhere, Means}
 use Rattle.messages.specs.declared.fault.MsgFault.TheVariants as fault
 
 then_ok : {A B : Type 0} (r : Result A MsgFault) (f : A → Result B MsgFault) (P : A → Type 0) (Q : B → Type 0) → IfOk r P → ((x : A) → P x → IfOk (f x) Q) → IfOk (r >>= f) Q

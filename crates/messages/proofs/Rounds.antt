@@ -1,23 +1,16 @@
 -- What is written is told again, and is plain where the message is made of texts, of numbers in their ranges and of cells; so a spelling reads back.
-use Rattle.std.proofs.Common.{◌≡◌, ℕ, ℤ, pos, negsuc, int_le, ◌++◌, Bool, true, false, cond, List, [], ◌∷◌, Option, None, Some, IfSome, Result, Ok, Err, codes, refl, ap, sym, subst, ◌∙◌, arith}
-use Rattle.std.specs.Str.{IsUtf8}
+use Rattle.std.proofs.Common.{◌≡◌, ℕ, ℤ, pos, negsuc, int_le, ◌++◌, Bool, true, false, cond, List, [], ◌∷◌, Option, None, Some, IfSome, Result, Ok, Err, codes, refl, ap, sym, subst, ◌∙◌, arith, IsUtf8, int_eq}
 use Rattle.packstream.specs.declared.fault.Reason.{Reason as PackReason, Reason}
-use Rattle.packstream.specs.Tree.{Tree, text, dict, list, structure, no_trees, tree_then, Entries, entry_then, no_entries}
-use Rattle.packstream.specs.View.{entries_of, trees_of}
-use Rattle.packstream.specs.Plain.{IsPlain, HavePlain}
-use Rattle.packstream.specs.Making.{first_fault, faults_in}
+use Rattle.packstream.specs.Prelude.{Tree, text, dict, list, structure, no_trees, tree_then, Entries, entry_then, no_entries, entries_of, trees_of, IsPlain, HavePlain, first_fault, faults_in, IsGood}
 use Rattle.packstream.proofs.Ranges.{fits_neg}
 use Rattle.wire.specs.declared.Version.{Version}
 use Rattle.wire.specs.declared.Version.TheVariants.{V44, V50, V51}
 use Rattle.cells.specs.declared.fault.Reason.{Reason as CellReason}
-use Rattle.cells.specs.Faults.{scan, structures}
-use Rattle.cells.specs.Writing.{fault_of_structure}
-use Rattle.std.specs.Ordering.{int_eq}
-use Rattle.cells.specs.Shape.{shape}
+use Rattle.cells.specs.Prelude.{scan, structures, fault_of_structure, shape}
 use Rattle.cells.specs.declared.cell.Cell.{Cell, Dict as DictCell, List as ListCell}
 use Rattle.cells.proofs.Views.{shape-Dict, shape-List}
 use Rattle.cells.proofs.Fine.{fine_scan}
-use Rattle.structures.specs.Form.{form, form_under, form_all}
+use Rattle.structures.specs.Prelude.{form, form_under, form_all}
 use Rattle.structures.proofs.Formed.{form_is as formed_is}
 use Rattle.messages.specs.declared.request.Request.{Request}
 use Rattle.messages.specs.declared.response.Response.{Response}
@@ -25,17 +18,10 @@ use Rattle.messages.specs.declared.request.Mode.{Mode}
 use Rattle.messages.specs.declared.request.Mode.TheVariants.{Read, Write}
 use Rattle.messages.specs.declared.request.Count.TheVariants.{All, Of}
 use Rattle.messages.specs.declared.fault.MsgFault.{MsgFault}
-use Rattle.messages.specs.Table.{Row, requests, responses, RUN}
-use Rattle.messages.specs.View.{request_view, response_view, AuthView, RequestView, Hello, Logon, Logoff, Goodbye, Reset, Run, Begin, Commit, Rollback, Discard, Pull, ResponseView, Success, Record, Ignored, Failure}
-use Rattle.messages.specs.Reading.{◌>>=◌, Answers, Contents, contents, contents_of_message, contents_of_mode, is_token, contents_of_metadata, lookup, mode_tree, token_tree, cell_of_field, cell_by, request_contents, response_contents}
-use Rattle.messages.specs.Cells.{value_by, form_by, cell_put}
-use Rattle.messages.specs.Sound.{IsCell, HasTexts, IsRequest, IsResponse, RequestsReadBack, ResponsesReadBack}
-use Rattle.messages.specs.Writing.{form_put, packed_by, spelling_within, spelling_of_tree, request_spelling, response_spelling}
-use Rattle.messages.specs.Parts.{transaction_put, mode_pairs, token_dict, token_pairs}
+use Rattle.messages.specs.Prelude.{Row, requests, responses, RUN, request_view, response_view, AuthView, RequestView, Hello, Logon, Logoff, Goodbye, Reset, Run, Begin, Commit, Rollback, Discard, Pull, ResponseView, Success, Record, Ignored, Failure, ◌>>=◌, Answers, Contents, contents, contents_of_message, contents_of_mode, is_token, contents_of_metadata, lookup, mode_tree, token_tree, cell_of_field, cell_by, request_contents, response_contents, value_by, form_by, cell_put, IsCell, IsRequest, IsResponse, RequestsReadBack, ResponsesReadBack, form_put, packed_by, spelling_within, spelling_of_tree, request_spelling, response_spelling, transaction_put, mode_pairs, token_dict, token_pairs, Means}
+use Rattle.messages.specs.Sound.{HasTexts}
 use Rattle.messages.proofs.Fields.{form_again}
-use Rattle.packstream.specs.Good.{IsGood}
 use Rattle.packstream.proofs.Checking.{good_when}
-use Rattle.messages.specs.Messages.{Means}
 use Rattle.messages.proofs.Sent.{request_is, response_is, means_of}
 use Rattle.messages.specs.declared.request.Request.TheVariants as request
 use Rattle.messages.specs.declared.response.Response.TheVariants as response

@@ -1,15 +1,11 @@
 -- Streams by their bytes.
 use Rattle.std.proofs.Common.{◌≡◌, [], ◌∷◌, ◌++◌, None, Some, refl}
-use Rattle.packstream.specs.Markers.{marker}
-use Rattle.packstream.specs.Reading.{items_at, struct_at, form_at, layer, inner}
-use Rattle.packstream.specs.Answers.{whole_of}
+use Rattle.packstream.specs.Prelude.{marker, items_at, struct_at, form_at, layer, inner, whole_of}
 use Rattle.wire.specs.declared.Version.TheVariants.{V51}
 use Rattle.wire.specs.declared.Wish.TheVariants.{Newest}
-use Rattle.wire.specs.Offers.{offer_of, version_answer}
+use Rattle.wire.specs.Prelude.{offer_of, version_answer}
 use Rattle.messages.specs.declared.fault.MsgFault.TheVariants as fault
-use Rattle.messages.specs.View.{Reset, Ignored}
-use Rattle.messages.specs.Messages.{request_of, response_of}
-use Rattle.messages.specs.Arrivals.{Shook, NoMagic, Idle, Asked, Unread, arrivals, Chosen, Strange, Quiet, Told, hears}
+use Rattle.messages.specs.Prelude.{Reset, Ignored, request_of, response_of, Shook, NoMagic, Idle, Asked, Unread, arrivals, Chosen, Strange, Quiet, Told, hears}
 
 -- the offer of 5.1 and 4.4, a no-op, RESET, and half of a header
 a_reset_arrives : arrivals (offer_of Newest ++ 0 ∷ 0 ∷ 0 ∷ 2 ∷ 0xB0 ∷ 0x0F ∷ 0 ∷ 0 ∷ 0 ∷ []) ≡ Shook (Some V51) ∷ Idle ∷ Asked Reset ∷ []

@@ -2,13 +2,7 @@
 use Rattle.std.proofs.Common.{◌++◌, append-nil, ◌≡◌, ◌↔◌, ℕ, List, [], ◌∷◌, Option, None, Some, Result, Ok, Err, IsErrAnd, inl, inr, sym, ap, ◌∙◌, refl, ◌<◌, ◌≤◌, length, Bool, true, false, cond, nat_lt, arith, subst}
 use Rattle.packstream.specs.declared.fault.Reason.{Reason}
 use Rattle.packstream.specs.declared.fault.PackFault.{PackFault}
-use Rattle.packstream.specs.Tree.{Tree, structure}
-use Rattle.packstream.specs.Good.{IsGood}
-use Rattle.packstream.specs.Spelling.{Spells, SpellsTree}
-use Rattle.packstream.specs.Plain.{AreBytes}
-use Rattle.packstream.specs.Faults.{Bad}
-use Rattle.packstream.specs.View.{entries_of, trees_of}
-use Rattle.packstream.specs.Answers.{whole_of, UnlessMemory as PackUnless}
+use Rattle.packstream.specs.Prelude.{Tree, structure, IsGood, Spells, SpellsTree, AreBytes, Bad, entries_of, trees_of, whole_of, UnlessMemory as PackUnless, canon, first_fault, faults_in}
 use Rattle.packstream.proofs.Deciding.{whole_value, whole_fault, no_proper_beginning_is}
 use Rattle.wire.specs.declared.Version.{Version}
 use Rattle.messages.specs.declared.request.Mode.{Mode}
@@ -16,18 +10,10 @@ use Rattle.messages.specs.declared.request.Mode.TheVariants.{Read, Write}
 use Rattle.messages.specs.declared.request.Count.{Count}
 use Rattle.messages.specs.declared.request.Count.TheVariants.{All, Of}
 use Rattle.messages.specs.declared.fault.MsgFault.{MsgFault}
-use Rattle.messages.specs.Table.{Row, requests, responses}
-use Rattle.messages.specs.View.{RequestView, Hello, Run, Begin, Discard, Pull, ResponseView, Success, Record, Ignored, Failure}
-use Rattle.messages.specs.Faults.{of_pack}
-use Rattle.messages.specs.Reading.{◌>>=◌, Contents, contents_of_message, Answers, mode_tree, token_tree, count_tree, request_contents, response_contents}
-use Rattle.messages.specs.Messages.{Means, IsNone, Gave, UnlessMemory, contents_by, contents_in, request_held, response_held, pairs_of, list_of, mode_in, token_in, count_in, Req, Resp, request_of, response_of}
+use Rattle.messages.specs.Prelude.{Row, requests, responses, RequestView, Hello, Run, Begin, Discard, Pull, ResponseView, Success, Record, Ignored, Failure, of_pack, ◌>>=◌, Contents, contents_of_message, Answers, mode_tree, token_tree, count_tree, request_contents, response_contents, Means, IsNone, Gave, UnlessMemory, contents_by, contents_in, request_held, response_held, pairs_of, list_of, mode_in, token_in, count_in, Req, Resp, request_of, response_of, packed_by, spelling_within, spelling_of_tree, Appends, form_put, request_spelling, response_spelling, run_of_result}
 use borrow.Author.Tests.{ltb-true, ltb-false}
-use Rattle.packstream.specs.Canon.{canon}
-use Rattle.packstream.specs.Making.{first_fault, faults_in}
 use Rattle.packstream.proofs.Only.{canon_spells}
-use Rattle.messages.specs.Writing.{packed_by, spelling_within, spelling_of_tree, Appends, form_put, request_spelling, response_spelling}
-use Rattle.wire.specs.Framing.{Item, Opening, Message, item_bytes}
-use Rattle.messages.specs.Arrivals.{run_of_result}
+use Rattle.wire.specs.Prelude.{Item, Opening, Message, item_bytes}
 use Rattle.packstream.specs.declared.fault.PackFault.TheVariants as pack
 use Rattle.messages.specs.declared.fault.MsgFault.TheVariants as fault
 use Rattle.packstream.specs.declared.fault.PackFault.TheVariants as pack

@@ -13,3 +13,4 @@ pub mod Arrivals
 pub mod Summaries
 pub mod Saying
 pub mod Sound
+pub mod Prelude

@@ -1,18 +1,12 @@
 -- The first key that stands before it too.
-use Rattle.std.proofs.Common.{◌≡◌, ◌<◌, ◌≤◌, ◌+◌, ℕ, List, [], ◌∷◌, ◌++◌, length, take, get_or, string_bytes, Bool, true, false, ◌==◌, Result, Ok, Err, refl, sym, ap, subst, ◌∙◌, arith, below_more, eqb-true}
+use Rattle.std.proofs.Common.{◌≡◌, ◌<◌, ◌≤◌, ◌+◌, ℕ, List, [], ◌∷◌, ◌++◌, length, take, get_or, string_bytes, Bool, true, false, ◌==◌, Result, Ok, Err, refl, sym, ap, subst, ◌∙◌, arith, below_more, eqb-true, nat_cmp, BTreeSet, Bor}
 use Rattle.std.proofs.lemmas.Bool.{eqb-false}
 use Rattle.std.proofs.lemmas.List.{map_more, get_or-map}
 use Rattle.packstream.specs.declared.fault.Reason.{Reason}
 use Rattle.packstream.specs.declared.fault.Reason.TheVariants as reason
-use Rattle.packstream.specs.Tree.{Tree}
-use Rattle.packstream.specs.Good.{is_among}
-use Rattle.packstream.specs.Making.{first_fault, faults_in}
-use Rattle.packstream.specs.Twins.{Pair, names, stands_before, IsFirstTwin}
-use Rattle.std.specs.Ordering.{nat_cmp}
+use Rattle.packstream.specs.Prelude.{Tree, is_among, first_fault, faults_in, Pair, names, stands_before, IsFirstTwin, Knows}
 use Rattle.std.specs.Cmp.Lexicographic.{slice_cmp}
-use Rattle.std.specs.BTreeSet.{BTreeSet, UpdatesBy}
-use Rattle.std.specs.Borrow.{Bor}
-use Rattle.packstream.specs.Reading.{Knows}
+use Rattle.std.specs.BTreeSet.{UpdatesBy}
 use Rattle.packstream.proofs.Checking.{fault_again}
 use Rattle.packstream.proofs.Keys.{knows_more}
 

@@ -9,8 +9,7 @@ use Rattle.packstream.specs.declared.marker.Size.{Size}
 use Rattle.packstream.specs.declared.marker.Size.TheVariants.{Here, After}
 use Rattle.packstream.specs.declared.marker.Marker.{Marker}
 use Rattle.packstream.specs.declared.marker.Marker.TheVariants as announces
-use Rattle.packstream.specs.Markers.{width, marker, size_len}
-use Rattle.packstream.specs.Faults.{Place, is_text, nests, size_in, needs, text_in, fault_of, fault_at, innermost, outside, Bad, BadFront, Trails, IsBadAlways}
+use Rattle.packstream.specs.Prelude.{width, marker, size_len, Place, is_text, nests, size_in, needs, text_in, fault_of, fault_at, innermost, outside, Bad, BadFront, Trails, IsBadAlways}
 
 pub size_in_more : (size : Size) (rest more : List ℕ) → size_len size ≤ length rest → size_in size (rest ++ more) ≡ size_in size rest
 size_in_more (Here n) rest more le = refl

@@ -1,11 +1,10 @@
 -- What is printed of a stranger's text has no control character, and is the text itself where that has none.
-use Rattle.std.proofs.Common.{◌≡◌, refl, sym, ap, ◌∙◌, ℕ, ◌<◌, ◌≤◌, ◌+◌, List, [], ◌∷◌, ◌++◌, Bool, true, false, cond, length, drop, get_or, arith, ⊎_elim, append_assoc, add-one, drop-cons}
-use Rattle.std.specs.Prelude.{◌&&◌, not}
+use Rattle.std.proofs.Common.{◌≡◌, refl, sym, ap, ◌∙◌, ℕ, ◌<◌, ◌≤◌, ◌+◌, List, [], ◌∷◌, ◌++◌, Bool, true, false, cond, length, drop, get_or, arith, ⊎_elim, append_assoc, add-one, drop-cons, ◌&&◌, not}
 use Rattle.std.specs.List.{list_all}
 use Rattle.std.proofs.lemmas.Bool.{and_parts, or_cases, ltb-true, eqb-true, agree_below_at, false≢true}
 use Rattle.std.proofs.lemmas.List.{drop_all}
 use Rattle.hex.specs.Hex.{encode_with}
-use Rattle.programs.specs.Escaping.{is_control, is_lead, is_second, number, escape, first_shown, shown, escaped_after, escaped, is_clean_after, is_clean}
+use Rattle.programs.specs.Prelude.{is_control, is_lead, is_second, number, escape, first_shown, shown, escaped_after, escaped, is_clean_after, is_clean}
 
 -- of a byte that is shown as it is
 same_step : (held lead control second : Bool) (b : ℕ) (bs rest : List ℕ) → (not control && not (held && second)) ≡ true → (lead ≡ true → b ≡ 194) → rest ≡ cond lead (194 ∷ bs) bs

@@ -6,23 +6,15 @@ use Rattle.std.proofs.lemmas.List.Splits.{slice_split_at, slice_split_none}
 use Rattle.std.specs.Result.{result_err}
 use Rattle.wire.specs.declared.Version.{Version}
 use Rattle.client.specs.declared.SubmitFault.{SubmitFault}
-use Rattle.client.specs.Rest.{refuses}
+use Rattle.client.specs.Prelude.{refuses}
 use Rattle.streams.specs.declared.fault.StreamFault.{StreamFault}
 use Rattle.streams.specs.declared.fault.StreamFault.TheVariants.{ReadFailed, WriteFailed, Memory}
-use Rattle.scripts.specs.Views.{Text, ScriptRequestView}
-use Rattle.scripts.specs.Words.{is_empty}
-use Rattle.scripts.specs.Script.{lines, filled_from, filled_lines}
-use Rattle.scripts.specs.Meant.{meant}
-use Rattle.scripts.specs.Rows.{request_line_of}
+use Rattle.scripts.specs.Prelude.{Text, ScriptRequestView, is_empty, lines, filled_from, filled_lines, meant, request_line_of}
 use Rattle.programs.specs.declared.caller.Caller.{Caller}
 use Rattle.programs.specs.declared.shells.Conversation.{Conversation}
 use Rattle.programs.specs.declared.stop.Stop.{Stop}
 use Rattle.programs.specs.declared.stop.Stop.TheVariants.{Unreadable, Broken}
-use Rattle.programs.specs.Names.{refusal_code}
-use Rattle.programs.specs.Stopping.{Gets, TellsStop, stop_status}
-use Rattle.programs.specs.Telling.{refused_line}
-use Rattle.programs.specs.Talking.{Place, IsAt, submitted, first_place, is_printed, greeting, greeting_after, greeting_of, told_more, printed_more, and_then, Log, Exchanges, Talked, opens, refuses_line, answers_line, Streams, Puts, IsUsedUp, Stands, Anywhere}
-use Rattle.programs.specs.Shelling.{Asked, Asks, Submits, DoesLine, Sends, if_filled, Progress, Does, Runs, Shells}
+use Rattle.programs.specs.Prelude.{refusal_code, Gets, TellsStop, stop_status, refused_line, Place, IsAt, submitted, first_place, is_printed, greeting, greeting_after, greeting_of, told_more, printed_more, and_then, Log, Exchanges, Talked, opens, refuses_line, answers_line, Streams, Puts, IsUsedUp, Stands, Anywhere, Asked, Asks, Submits, DoesLine, Sends, if_filled, Progress, Does, Runs, Shells}
 use Rattle.programs.proofs.Heard.{asked_by}
 use Rattle.programs.proofs.Stops.{broken_stops, told_of}
 use Rattle.programs.proofs.Moved.{moves_then, moves_weak, moves_told, moves_printed, puts_front, front_same, gets_none, used_before, used_stays}

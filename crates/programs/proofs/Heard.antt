@@ -3,18 +3,14 @@ use Rattle.std.proofs.Common.{◌≡◌, refl, sym, ap, subst, ◌∙◌, ℕ, B
 use Rattle.std.specs.Io.KnownBytes.{Appends, Consumes, IsAtEnd}
 use Rattle.std.proofs.KnownBytes.{Appends-trans}
 use Rattle.wire.specs.declared.Version.{Version}
-use Rattle.client.specs.Rest.{Note, Rest, taken_out, awaits}
-use Rattle.client.specs.Fits.{Fits}
+use Rattle.client.specs.Prelude.{Note, Rest, taken_out, awaits, Fits}
 use Rattle.streams.specs.declared.fault.StreamFault.{StreamFault}
 use Rattle.streams.specs.declared.fault.StreamFault.TheVariants.{ReadFailed, WriteFailed, Memory}
-use Rattle.streams.specs.Fronts.{AppendsFront}
-use Rattle.streams.specs.Asking.{hears_all, after_all, FeedsPiece, HearsPiece, IsNeeded, ReadsOn, ReadsAll, Writes, given_up}
+use Rattle.streams.specs.Prelude.{AppendsFront, hears_all, after_all, FeedsPiece, HearsPiece, IsNeeded, ReadsOn, ReadsAll, Writes, given_up}
 use Rattle.streams.proofs.Asked.{stops_waiting, hears_more, hears_end, hears_fault, needed_taken}
 use Rattle.programs.specs.declared.caller.Caller.{Caller}
-use Rattle.programs.specs.Stopping.{Gets}
-use Rattle.programs.specs.Telling.{AreTold, versions_after}
-use Rattle.programs.specs.Talking.{Place, IsAt, IsUsedUp, Moves, Streams, sent_out, is_printed, losses_text, lost_of, streams_at, Puts}
-use Rattle.programs.specs.Shelling.{Asked, Asks, Converses, HasPrinted, HearsAll, HearsPart, HearsSome, Prints}
+use Rattle.programs.specs.Prelude.{Gets, AreTold, versions_after, Place, IsAt, IsUsedUp, Moves, Streams, sent_out, is_printed, losses_text, lost_of, streams_at, Puts, Asked, Asks, Converses, HasPrinted, HearsAll, HearsPart, HearsSome}
+use Rattle.programs.specs.Shelling.{Prints}
 use Rattle.programs.proofs.Moved.{puts_whole, used_at_end}
 use Rattle.programs.proofs.Printed.{versions_more, told_then, prints_then}
 

@@ -1,37 +1,26 @@
 -- What two ends have come to: the streams between them, the session, and both.
-use Rattle.std.proofs.Common.{◌≡◌, refl, sym, ap, subst, ◌∙◌, ℕ, ◌+◌, Bool, List, [], ◌∷◌, ◌++◌, length, drop, append_assoc, append-nil, Option, Some, None, Result, Ok, Err, ◌⊎◌, inl, inr, ⊎_elim}
+use Rattle.std.proofs.Common.{◌≡◌, refl, sym, ap, subst, ◌∙◌, ℕ, ◌+◌, Bool, List, [], ◌∷◌, ◌++◌, length, drop, append_assoc, append-nil, Option, Some, None, Result, Ok, Err, ◌⊎◌, inl, inr, ⊎_elim, IsSome, OnOk}
 use Rattle.std.proofs.lemmas.List.{append_cancel_left}
-use Rattle.std.specs.Prelude.{IsSome, OnOk}
 use Rattle.std.specs.Io.KnownBytes.{Appends}
 use Rattle.std.proofs.KnownBytes.{Appends-nil, Appends-trans, Consumes-nil, Consumes-trans}
-use Rattle.wire.specs.Framing.{Opened, at_server}
-use Rattle.wire.specs.Reader.{state}
+use Rattle.wire.specs.Prelude.{Opened, at_server, state}
 use Rattle.session.specs.declared.kinds.Cause.{Cause}
-use Rattle.session.specs.Session.{Setting}
-use Rattle.engine.specs.Views.{EntryView}
-use Rattle.session.specs.Rest.{begun}
-use Rattle.server.specs.Serving.{Live, Rest, find, fresh, opened}
+use Rattle.session.specs.Prelude.{Setting, begun}
+use Rattle.engine.specs.Prelude.{EntryView}
+use Rattle.server.specs.Prelude.{Live, Rest, find, fresh, opened}
 use Rattle.client.specs.declared.SubmitFault.{SubmitFault}
-use Rattle.client.specs.Fits.{Fits}
-use Rattle.client.specs.Rest.{refuses, taken_out}
+use Rattle.client.specs.Prelude.{Fits, refuses, taken_out}
 use Rattle.streams.specs.declared.fault.Standing.{Standing}
 use Rattle.streams.specs.declared.fault.Standing.TheVariants.{Open, Over}
 use Rattle.streams.specs.declared.fault.StreamFault.TheVariants.{Memory}
-use Rattle.streams.specs.Conversing.{Talk, with_talk}
-use Rattle.streams.specs.Settling.{Stands, TakesPiece, standing_of, told_by}
+use Rattle.streams.specs.Prelude.{Talk, with_talk, Stands, TakesPiece, standing_of, told_by}
 use Rattle.streams.proofs.Talks.{open_goes_on, over_ended, talk_by_items, told_over}
 use Rattle.streams.proofs.Called.{replace-itself}
-use Rattle.scripts.specs.Views.{ScriptRequestView}
-use Rattle.scripts.specs.Meant.{meant}
+use Rattle.scripts.specs.Prelude.{ScriptRequestView, meant}
 use Rattle.programs.specs.declared.caller.Caller.{Caller}
 use Rattle.programs.specs.declared.stop.Stop.{Stop}
 use Rattle.programs.specs.declared.stop.Stop.TheVariants.{Unreadable, Broken}
-use Rattle.programs.specs.Looping.{Alters, Comes, Loops, entries_text, Numbers, Passes, Prints, Sits, StandsAt, TellsLine, Way, Ways}
-use Rattle.programs.specs.Stopping.{Gets, TellsStop, stop_status, stop_text}
-use Rattle.programs.specs.Names.{refusal_code}
-use Rattle.programs.specs.Talking.{IsAt, first_place}
-use Rattle.programs.specs.Telling.{refused_line}
-use Rattle.programs.specs.Turns.{OfRefusal, Turns, IsQuiet, AreQuiet, all_sent, after_line, answer_to, exchanged, given, line_by, no_turns, place_after, shown_of, talk_for, turns_of, with_request}
+use Rattle.programs.specs.Prelude.{Alters, Comes, Loops, entries_text, Numbers, Passes, Prints, Sits, StandsAt, TellsLine, Way, Ways, Gets, TellsStop, stop_status, stop_text, refusal_code, IsAt, first_place, refused_line, OfRefusal, Turns, IsQuiet, AreQuiet, all_sent, after_line, answer_to, exchanged, given, line_by, no_turns, place_after, shown_of, talk_for, turns_of, with_request}
 use Rattle.programs.proofs.Stops.{broken_stops}
 use Rattle.programs.proofs.Turned.{answer_is, given_more, given_none, prints_none, prints_one, prints_then, with_item}
 

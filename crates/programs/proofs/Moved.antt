@@ -3,10 +3,9 @@ use Rattle.std.proofs.Common.{◌≡◌, refl, sym, subst, ◌∙◌, ℕ, Bool,
 use Rattle.std.specs.Io.KnownBytes.{Appends, Consumes, IsAtEnd}
 use Rattle.std.proofs.KnownBytes.{Appends-nil, Appends-trans, Consumes-trans}
 use Rattle.streams.specs.declared.fault.StreamFault.{StreamFault}
-use Rattle.streams.specs.Fronts.{AppendsFront}
+use Rattle.streams.specs.Prelude.{AppendsFront}
 use Rattle.streams.proofs.Stepping.{front_after, front_whole}
-use Rattle.programs.specs.Stopping.{Gets}
-use Rattle.programs.specs.Talking.{Log, and_then, told_more, printed_more, is_printed, IsUsedUp, Streams, Puts, Moves}
+use Rattle.programs.specs.Prelude.{Gets, Log, and_then, told_more, printed_more, is_printed, IsUsedUp, Streams, Puts, Moves}
 
 -- a beginning
 pub front_same : (a b : Option (List ℕ)) (xs : List ℕ) → b ≡ a → AppendsFront a b xs

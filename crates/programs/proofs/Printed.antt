@@ -4,9 +4,9 @@ use Rattle.std.proofs.lemmas.List.{map-append}
 use Rattle.std.specs.Io.KnownBytes.{Appends}
 use Rattle.std.proofs.KnownBytes.{Appends-trans}
 use Rattle.wire.specs.declared.Version.{Version}
-use Rattle.client.specs.Rest.{Note}
-use Rattle.programs.specs.Telling.{AreTold, IsExplained, version_after, versions_after}
-use Rattle.programs.specs.Shelling.{HasPrinted, Prints, PrintsPart}
+use Rattle.client.specs.Prelude.{Note}
+use Rattle.programs.specs.Prelude.{AreTold, IsExplained, version_after, versions_after, HasPrinted, PrintsPart}
+use Rattle.programs.specs.Shelling.{Prints}
 use Rattle.programs.specs.declared.caller.Caller.{Caller}
 use Rattle.streams.proofs.Stepping.{front_after, front_whole}
 use Rattle.programs.proofs.Moved.{front_same}

@@ -1,14 +1,11 @@
 -- One connection after another, on a server that has no other.
-use Rattle.std.proofs.Common.{◌≡◌, refl, sym, ap, subst, ◌∙◌, ℕ, ◌+◌, List, [], ◌∷◌, ◌++◌, eqb, true, Some, Ok, Err, inr, arith}
-use Rattle.std.specs.Prelude.{IsSome}
+use Rattle.std.proofs.Common.{◌≡◌, refl, sym, ap, subst, ◌∙◌, ℕ, ◌+◌, List, [], ◌∷◌, ◌++◌, eqb, true, Some, Ok, Err, inr, arith, IsSome}
 use Rattle.std.proofs.lemmas.Bool.Decides.{nat_tests}
 use Rattle.server.specs.declared.kinds.Refused.{Refused}
 use Rattle.server.specs.declared.kinds.Refused.TheVariants.{NoSuchConnection, SessionsFull, Memory}
-use Rattle.server.specs.Serving.{Live, Rest, find, without, fresh, opened, Opens}
-use Rattle.streams.specs.Serving.{LeavesOthers}
-use Rattle.streams.specs.Settling.{Grows, LivesOn}
-use Rattle.programs.specs.Serving.{HasServed}
-use Rattle.programs.specs.Looping.{HasLooped}
+use Rattle.server.specs.Prelude.{Live, Rest, find, without, fresh, opened, Opens}
+use Rattle.streams.specs.Prelude.{LeavesOthers, Grows, LivesOn}
+use Rattle.programs.specs.Prelude.{HasServed, HasLooped}
 
 eqb-same : (n : ℕ) → eqb n n ≡ true
 eqb-same n = grind (arith, nat_tests)

@@ -1,12 +1,11 @@
 -- How a program ends, by why it stops.
-use Rattle.std.proofs.Common.{◌≡◌, refl, sym, ap, ◌∙◌, subst, ℕ, Bool, List, Option, Some, None, Result, Ok, Err, ◌⊎◌, ⊎_elim, arith}
-use Rattle.std.specs.Prelude.{IsErr, IsSome, option_map}
+use Rattle.std.proofs.Common.{◌≡◌, refl, sym, ap, ◌∙◌, subst, ℕ, Bool, List, Option, Some, None, Result, Ok, Err, ◌⊎◌, ⊎_elim, arith, IsErr, IsSome, option_map}
 use Rattle.streams.specs.declared.fault.StreamFault.{StreamFault}
 use Rattle.streams.specs.declared.fault.StreamFault.TheVariants.{ReadFailed, WriteFailed, Memory}
-use Rattle.streams.specs.Failing.{UnlessTold}
+use Rattle.streams.specs.Prelude.{UnlessTold}
 use Rattle.programs.specs.declared.stop.Stop.{Stop}
 use Rattle.programs.specs.declared.stop.Stop.TheVariants.{Unreadable, Broken}
-use Rattle.programs.specs.Stopping.{IsStopOf, stop_status, TellsStop}
+use Rattle.programs.specs.Prelude.{IsStopOf, stop_status, TellsStop}
 
 stop_of : (stop : Stop) (A B : Type 0) → (stop ≡ Broken ReadFailed → A) → (stop ≡ Broken WriteFailed → B) → IsStopOf stop A B
 stop_of (Unreadable n) A B a b = tt

@@ -1,8 +1,5 @@
 -- Bytes that were read into the rest of a buffer, and parts of bytes.
-use Rattle.std.proofs.Common.{◌≡◌, ◌∙◌, ◌++◌, ◌+◌, ◌≤◌, ℕ, Bool, true, false, true≢false, List, length, take, drop, take-append-drop, refl, sym, ap}
-use Rattle.std.specs.Prelude.{not}
-use Rattle.std.specs.Bool.{Decides}
-use Rattle.std.specs.Str.{bytes_eq}
+use Rattle.std.proofs.Common.{◌≡◌, ◌∙◌, ◌++◌, ◌+◌, ◌≤◌, ℕ, Bool, true, false, true≢false, List, length, take, drop, take-append-drop, refl, sym, ap, not, Decides, bytes_eq}
 use Rattle.std.proofs.lemmas.Slice.Eq.{bytes_eq-Decides}
 use Rattle.std.proofs.Math.Seq.{take-append-add}
 use Rattle.std.proofs.lemmas.List.{length-take-le, take-append-le}

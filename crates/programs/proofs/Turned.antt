@@ -4,31 +4,21 @@ use Rattle.std.proofs.Math.Seq.{drop-append_seam}
 use Rattle.std.proofs.lemmas.List.{map-append}
 use Rattle.std.specs.Io.KnownBytes.{Appends}
 use Rattle.std.proofs.KnownBytes.{Appends-nil, Appends-trans}
-use Rattle.packstream.specs.Canon.{canon}
-use Rattle.packstream.specs.Tree.{list}
-use Rattle.packstream.specs.View.{trees_of}
+use Rattle.packstream.specs.Prelude.{canon, list, trees_of}
 use Rattle.hex.specs.Hex.{encode_lower}
 use Rattle.structures.proofs.Clauses.{same_form}
 use Rattle.wire.specs.declared.Version.{Version}
-use Rattle.wire.specs.Framing.{Item, Opened, at_client, at_server, items_received}
-use Rattle.wire.specs.Reader.{outputs, state}
+use Rattle.wire.specs.Prelude.{Item, Opened, at_client, at_server, items_received, outputs, state}
 use Rattle.wire.proofs.Readers.{outputs-append}
-use Rattle.engine.specs.Views.{EntryView}
-use Rattle.session.specs.Session.{Setting}
-use Rattle.session.specs.Rest.{begun}
-use Rattle.client.specs.Rest.{Note, Nothing, Chose, Row, Summary, Rest}
-use Rattle.client.specs.Fits.{Fits}
-use Rattle.streams.specs.Asking.{Tale, after_notes, hears_all, after_all, FeedsPiece}
-use Rattle.streams.specs.Conversing.{Talk}
-use Rattle.streams.specs.Settling.{item_talk}
+use Rattle.engine.specs.Prelude.{EntryView}
+use Rattle.session.specs.Prelude.{Setting, begun}
+use Rattle.client.specs.Prelude.{Note, Nothing, Chose, Row, Summary, Rest, Fits}
+use Rattle.streams.specs.Prelude.{Tale, after_notes, hears_all, after_all, FeedsPiece, Talk, item_talk}
 use Rattle.streams.proofs.Talks.{item_talk-append, talk_by_items}
 use Rattle.streams.proofs.Tales.{hears_all-append, after_all-append, over_tale}
-use Rattle.scripts.specs.Views.{ScriptRequestView}
+use Rattle.scripts.specs.Prelude.{ScriptRequestView}
 use Rattle.programs.specs.declared.caller.Caller.{Caller}
-use Rattle.programs.specs.Looping.{Prints, StandsAt}
-use Rattle.programs.specs.Telling.{IsTold, refused_line, row_line, version_after, versions_after}
-use Rattle.programs.specs.Talking.{Place}
-use Rattle.programs.specs.Turns.{Shown, OfNote, OfRefusal, IsShown, AreShown, notes_shown, place_after, shown_of, Turns, IsQuiet, talk_for, answer_to, given, after_line, after_lines, AreQuiet}
+use Rattle.programs.specs.Prelude.{Prints, StandsAt, IsTold, refused_line, row_line, version_after, versions_after, Place, Shown, OfNote, OfRefusal, IsShown, AreShown, notes_shown, place_after, shown_of, Turns, IsQuiet, talk_for, answer_to, given, after_line, after_lines, AreQuiet}
 use Rattle.programs.proofs.Printed.{versions_more}
 
 -- what is shown has one text

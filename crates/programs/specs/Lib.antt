@@ -7,3 +7,4 @@ pub mod Shelling
 pub mod Serving
 pub mod Turns
 pub mod Looping
+pub mod Prelude

@@ -1,12 +1,11 @@
 -- A key that is hung on the tree.
-use Rattle.std.proofs.Common.{◌≡◌, ◌≤◌, ◌<◌, ◌+◌, ◌-◌, ℕ, zero, suc, Bool, true, false, cond, List, [], ◌∷◌, ◌++◌, length, take, drop, get_or, Option, Some, None, refl, sym, ap, subst, ◌∙◌, arith, inl, inr}
-use Rattle.std.specs.Prelude.{slice_get, slice_set}
+use Rattle.std.proofs.Common.{◌≡◌, ◌≤◌, ◌<◌, ◌+◌, ◌-◌, ℕ, zero, suc, Bool, true, false, cond, List, [], ◌∷◌, ◌++◌, length, take, drop, get_or, Option, Some, None, refl, sym, ap, subst, ◌∙◌, arith, inl, inr, slice_get, slice_set}
 use Rattle.std.proofs.lemmas.Option.{slice_get_within, slice_get-get_or}
 use Rattle.std.proofs.lemmas.List.{length-drop, map_push}
 use Rattle.std.proofs.Math.Seq.{take-length}
 use Rattle.reader.specs.declared.texts.Key.{Key}
 use Rattle.reader.specs.declared.texts.Link.{Link}
-use Rattle.reader.specs.Naming.{Name, name, names_of, text_of, digest_of, HangsOn, IsInPlace, IsTree, IsFree, IsFreeAt, with_below, hung_at, hung, HasLink}
+use Rattle.reader.specs.Prelude.{Name, name, names_of, text_of, digest_of, HangsOn, IsInPlace, IsTree, IsFree, IsFreeAt, with_below, hung_at, hung, HasLink}
 use Rattle.reader.proofs.Treeing.{get_front, get_last, get_pushed, one_element, IsSameKey, same_key, in_place, stays_in_place, still_hangs, still_leads, leads_on, leads_up, tree_extends}
 
 length_hung_at : (at : ℕ) (side : Bool) (n : ℕ) (keys : List Key) → length (hung_at at side n keys) ≡ length keys

@@ -8,13 +8,10 @@ use Rattle.packstream.specs.declared.marker.Size.{Size}
 use Rattle.packstream.specs.declared.marker.Size.TheVariants.{Here, After}
 use Rattle.packstream.specs.declared.marker.Marker.{Marker}
 use Rattle.packstream.specs.declared.marker.Marker.TheVariants as announces
-use Rattle.packstream.specs.Plain.{AreBytes}
-use Rattle.packstream.specs.Markers.{width, size_len}
-use Rattle.packstream.specs.Spelling.{IsNumber, IsSize}
-use Rattle.packstream.specs.Faults.{needs, text_in}
+use Rattle.packstream.specs.Prelude.{AreBytes, width, size_len, IsNumber, IsSize, needs, text_in}
 use Rattle.packstream.proofs.Shortest.{number_of}
 use Rattle.std.specs.Int.{byte_at}
-use Rattle.reader.specs.Heads.{field, size_with, body, number_from, IsTiny, AreTiny}
+use Rattle.reader.specs.Prelude.{field, size_with, body, number_from, IsTiny, AreTiny}
 
 -- ---- a byte more behind a number
 

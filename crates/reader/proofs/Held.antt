@@ -1,15 +1,10 @@
 -- Points that a reader leaves and returns to.
-use Rattle.std.proofs.Common.{◌≡◌, ◌≤◌, Bool, ℕ, List, [], ◌++◌, length, take, None, refl, sym, ap, subst, ◌∙◌, append_assoc, arith, inl, inr}
+use Rattle.std.proofs.Common.{◌≡◌, ◌≤◌, Bool, ℕ, List, [], ◌++◌, length, take, None, refl, sym, ap, subst, ◌∙◌, append_assoc, arith, inl, inr, true, false}
 use Rattle.std.proofs.lemmas.List.{take-take, take_at, length-take-le, append-nil, length-append}
 use Rattle.std.proofs.Math.Seq.{take-length}
-use Rattle.std.specs.Prelude.{true, false}
 use Rattle.packstream.specs.declared.fault.Reason.{Reason}
 use Rattle.packstream.specs.declared.fault.Reason.TheVariants as reason
-use Rattle.packstream.specs.Tree.{Tree}
-use Rattle.packstream.specs.Good.{IsGood}
-use Rattle.packstream.specs.Plain.{AreBytes}
-use Rattle.packstream.specs.Spelling.{Spells}
-use Rattle.packstream.specs.Faults.{Bad}
+use Rattle.packstream.specs.Prelude.{Tree, IsGood, AreBytes, Spells, Bad}
 use Rattle.packstream.proofs.Bounds.{good_spelled}
 use Rattle.packstream.proofs.Ranges.{both_bytes}
 use Rattle.packstream.proofs.Staying.{stays}
@@ -19,10 +14,7 @@ use Rattle.reader.specs.declared.progress.Part.TheVariants as part
 use Rattle.reader.specs.declared.progress.Mark.{Mark}
 use Rattle.reader.specs.declared.progress.Standing.{Standing}
 use Rattle.reader.specs.declared.stop.Stop.TheVariants as stop
-use Rattle.reader.specs.Frames.{Frame, AreLevels}
-use Rattle.reader.specs.Heads.{part_head}
-use Rattle.reader.specs.Piecewise.{Point, IsBeginning, Takes, MayGoOn}
-use Rattle.reader.specs.Holding.{Holds, point, mark_of, at_mark, with_fault, points_at, IsKeptAt, Goes, IsLacking, IsDone, IsStanding, IsKeeping, HasGrown, IsKept, IsMark, HoldsOn, IsFaultOf}
+use Rattle.reader.specs.Prelude.{Frame, AreLevels, part_head, Point, IsBeginning, Takes, MayGoOn, Holds, point, mark_of, at_mark, with_fault, points_at, IsKeptAt, Goes, IsLacking, IsDone, IsStanding, IsKeeping, HasGrown, IsKept, IsMark, HoldsOn, IsFaultOf}
 use Rattle.reader.proofs.Opening.{bad_behind, part_is_short}
 
 pub cut_cut : (m k : Mark) (h : Holds) → m.store ≤ k.store → m.keys ≤ k.keys → at_mark m (at_mark k h) ≡ at_mark m h

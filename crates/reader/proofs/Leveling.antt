@@ -1,15 +1,13 @@
 -- The levels of an array as what is open.
-use Rattle.std.proofs.Common.{◌≡◌, ◌≤◌, ◌<◌, ◌+◌, ◌-◌, ℕ, nat_lt, true, false, List, [], ◌∷◌, length, get_or, Some, refl, sym, ap, subst, ◌∙◌, arith}
-use Rattle.std.specs.Prelude.{slice_get, slice_set}
+use Rattle.std.proofs.Common.{◌≡◌, ◌≤◌, ◌<◌, ◌+◌, ◌-◌, ℕ, nat_lt, true, false, List, [], ◌∷◌, length, get_or, Some, refl, sym, ap, subst, ◌∙◌, arith, slice_get, slice_set}
 use Rattle.std.proofs.lemmas.Bool.{lt-ltb, le-ltb}
 use Rattle.std.proofs.lemmas.List.{get_or-set_same, get_or-set_other, length-set}
 use Rattle.std.proofs.lemmas.Option.{slice_get_within, slice_get-get_or, get_or_from_slice_get}
-use Rattle.packstream.specs.Tree.{Tree, Entries}
+use Rattle.packstream.specs.Prelude.{Tree, Entries, Opened, in_list, at_key, at_value}
 use Rattle.reader.specs.declared.open.Inside.{Inside}
 use Rattle.reader.specs.declared.open.Inside.TheVariants as inside
 use Rattle.reader.specs.declared.open.Level.{Level}
-use Rattle.packstream.specs.Faults.{Opened, in_list, at_key, at_value}
-use Rattle.reader.specs.Frames.{Frame, level, next_of, after_value, AreLevels, waits, with_member, tree_so_far, whole, still, ends}
+use Rattle.reader.specs.Prelude.{Frame, level, next_of, after_value, AreLevels, waits, with_member, tree_so_far, whole, still, ends}
 
 next_put : (f : Opened) (t : Tree) → next_of (with_member f t) ≡ after_value (next_of f)
 next_put (in_list ts) t = refl

@@ -2,9 +2,8 @@
 use Rattle.std.proofs.Common.{◌≡◌, ◌<◌, ◌+◌, ℕ, List, [], ◌∷◌, ◌++◌, length, Some, None, refl, sym, ap, subst, ◌∙◌, append_assoc, add-one, arith, inl, ◌^◌, ◌&&◌, Bool, true, false, not, cond, nat_lt, nat_le, Option, is_some}
 use Rattle.std.proofs.lemmas.List.{append-nil, length-append}
 use Rattle.packstream.specs.declared.fault.Reason.{Reason}
-use Rattle.packstream.specs.Good.{count, entry_count, is_among}
-use Rattle.packstream.specs.Faults.{Place, Opened, in_list, in_struct, at_key, at_value, key_there, within, innermost, outside, IsOpened, AreOpened, fault_at, Bad, is_text, nests, needs, text_in, is_repeated, fault_of}
-use Rattle.reader.specs.Frames.{Frame, IsFrame, place, AreFrames, head_fault}
+use Rattle.packstream.specs.Prelude.{count, entry_count, is_among, Place, Opened, in_list, in_struct, at_key, at_value, key_there, within, innermost, outside, IsOpened, AreOpened, fault_at, Bad, is_text, nests, needs, text_in, is_repeated, fault_of, marker, size_len}
+use Rattle.reader.specs.Prelude.{Frame, IsFrame, place, AreFrames, head_fault, field, body, size_with, head_bytes, part_head, IsPart, IsLacking}
 use Rattle.std.proofs.lemmas.Bool.{lt-ltb, le-ltb}
 use Rattle.std.specs.Str.{is_utf8}
 use Rattle.byteorder.specs.Endian.{big_bytes}
@@ -13,11 +12,8 @@ use Rattle.packstream.specs.declared.fault.Reason.TheVariants as reason
 use Rattle.packstream.specs.declared.marker.Size.{Size}
 use Rattle.packstream.specs.declared.marker.Marker.{Marker}
 use Rattle.packstream.specs.declared.marker.Marker.TheVariants as announces
-use Rattle.packstream.specs.Markers.{marker, size_len}
-use Rattle.reader.specs.Heads.{field, body, size_with, head_bytes, part_head}
 use Rattle.reader.specs.declared.progress.Part.{Part}
 use Rattle.reader.specs.declared.progress.Part.TheVariants as part
-use Rattle.reader.specs.Holding.{IsPart, IsLacking}
 use Rattle.reader.proofs.Heads.{needs_are, needs_more, text_there}
 
 -- the outermost first

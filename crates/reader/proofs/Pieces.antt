@@ -1,20 +1,14 @@
 -- Of which bytes a reader tells.
-use Rattle.std.proofs.Common.{◌≡◌, ℕ, List, [], ◌∷◌, ◌++◌, length, Option, Some, None, Result, Ok, Err, refl, sym, ap, subst, ◌∙◌, append_assoc, arith, inl, inr}
-use Rattle.std.specs.Prelude.{◌⊎◌, ◌↔◌, MatchOption}
+use Rattle.std.proofs.Common.{◌≡◌, ℕ, List, [], ◌∷◌, ◌++◌, length, Option, Some, None, Result, Ok, Err, refl, sym, ap, subst, ◌∙◌, append_assoc, arith, inl, inr, ◌⊎◌, ◌↔◌, MatchOption}
 use Rattle.std.proofs.lemmas.List.{append-nil}
 use Rattle.packstream.specs.declared.fault.Reason.{Reason}
 use Rattle.packstream.specs.declared.fault.Reason.TheVariants as reason
 use Rattle.packstream.specs.declared.fault.PackFault.{PackFault}
 use Rattle.packstream.specs.declared.fault.PackFault.TheVariants as fault
-use Rattle.packstream.specs.Tree.{Tree}
-use Rattle.packstream.specs.Good.{IsGood}
-use Rattle.packstream.specs.Plain.{AreBytes}
-use Rattle.packstream.specs.Spelling.{Spells}
-use Rattle.packstream.specs.Faults.{Place, Bad, IsBadAlways, fault_at, innermost, outside}
-use Rattle.packstream.specs.Answers.{UnlessMemory, Tells, whole_of}
+use Rattle.packstream.specs.Prelude.{Tree, IsGood, AreBytes, Spells, Place, Bad, IsBadAlways, fault_at, innermost, outside, UnlessMemory, Tells, whole_of}
 use Rattle.packstream.proofs.Ranges.{both_bytes}
 use Rattle.packstream.proofs.Deciding.{whole_value, whole_fault, err_parts}
-use Rattle.reader.specs.Piecewise.{Point, Joins, TurnsBad, Takes, Reads, MayGoOn, TellsValue, TellsFault, Finishes}
+use Rattle.reader.specs.Prelude.{Point, Joins, TurnsBad, Takes, Reads, MayGoOn, TellsValue, TellsFault, Finishes}
 
 abbrev Told : Type 0
 Told = Result Tree PackFault

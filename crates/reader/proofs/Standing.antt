@@ -1,22 +1,16 @@
 -- Where an item ends, something is open behind it, or the value is whole.
-use Rattle.std.proofs.Common.{◌≡◌, ◌↔◌, ◌⊎◌, ◌≤◌, ◌<◌, nat_lt, ℕ, suc, Bool, true, false, ◌||◌, List, [], ◌∷◌, ◌++◌, length, None, refl, sym, ap, subst, ◌∙◌, arith, inl, inr}
+use Rattle.std.proofs.Common.{◌≡◌, ◌↔◌, ◌⊎◌, ◌≤◌, ◌<◌, nat_lt, ℕ, suc, Bool, true, false, ◌||◌, List, [], ◌∷◌, ◌++◌, length, None, refl, sym, ap, subst, ◌∙◌, arith, inl, inr, bytes_eq}
 use Rattle.std.proofs.lemmas.Bool.{lt-ltb, le-ltb, cases_lt, or_left, or_right, or_cases}
 use Rattle.std.proofs.lemmas.List.{append-nil, length-append}
 use Rattle.std.proofs.lemmas.Option.{slice_get_within}
-use Rattle.std.specs.Str.{bytes_eq}
 use Rattle.std.specs.List.{list_any}
 use Rattle.std.proofs.lemmas.List.Folds.{list_any-append}
 use Rattle.std.proofs.lemmas.Slice.Eq.{bytes_eq-Decides}
-use Rattle.packstream.specs.Tree.{Tree, Entries, no_entries, entry_then}
-use Rattle.packstream.specs.Good.{depth, is_among}
-use Rattle.packstream.specs.Faults.{Opened, at_key, at_value, keys_of, key_there}
+use Rattle.packstream.specs.Prelude.{Tree, Entries, no_entries, entry_then, depth, is_among, Opened, at_key, at_value, keys_of, key_there}
 use Rattle.reader.specs.declared.open.Open.{Open}
 use Rattle.reader.specs.declared.open.Level.{Level}
 use Rattle.reader.specs.declared.progress.Part.TheVariants as part
-use Rattle.reader.specs.Heads.{head_bytes}
-use Rattle.reader.specs.Naming.{Name, IsNamed, ArePlaced, IsRoot, text_of}
-use Rattle.reader.specs.Frames.{Frame, place, AreFrames, AreLevels, AreNames, HasNames, IsApart, BeginBefore, BeginsBefore, HaveNames, with_member, tree_so_far, push_entry, Left, whole, still, ends, Stands, IsLeft}
-use Rattle.reader.specs.Holding.{Holds, with_item, Goes, IsStanding, IsValue, HasTaken}
+use Rattle.reader.specs.Prelude.{head_bytes, Name, IsNamed, ArePlaced, IsRoot, text_of, Frame, place, AreFrames, AreLevels, AreNames, HasNames, IsApart, BeginBefore, BeginsBefore, HaveNames, with_member, tree_so_far, push_entry, Left, whole, still, ends, Stands, IsLeft, Holds, with_item, Goes, IsStanding, IsValue, HasTaken}
 use Rattle.reader.proofs.Pushing.{ends_stand}
 use Rattle.reader.proofs.Treeing.{get_front, get_last, get_pushed, text_more}
 

@@ -1,5 +1,5 @@
 -- What a piece does to a part, and integers of one byte each that are members of what is open.
-use Rattle.std.proofs.Common.{◌≡◌, ◌≤◌, ◌<◌, ◌+◌, ◌-◌, ◌^◌, ℕ, true, false, List, [], ◌∷◌, ◌++◌, length, take, drop, Option, Some, None, is_some, nat_le, refl, sym, ap, subst, ◌∙◌, append_assoc, arith, inl, inr}
+use Rattle.std.proofs.Common.{◌≡◌, ◌≤◌, ◌<◌, ◌+◌, ◌-◌, ◌^◌, ℕ, true, false, List, [], ◌∷◌, ◌++◌, length, take, drop, Option, Some, None, is_some, nat_le, refl, sym, ap, subst, ◌∙◌, append_assoc, arith, inl, inr, IsUtf8}
 use Rattle.std.proofs.lemmas.List.{append-nil, length-append, drop_at}
 use Rattle.byteorder.specs.Endian.{big_bytes}
 use Rattle.packstream.specs.declared.fault.Reason.{Reason}
@@ -7,28 +7,21 @@ use Rattle.packstream.specs.declared.fault.Reason.TheVariants as reason
 use Rattle.packstream.specs.declared.marker.Size.{Size}
 use Rattle.packstream.specs.declared.marker.Marker.{Marker}
 use Rattle.packstream.specs.declared.marker.Marker.TheVariants as announces
-use Rattle.packstream.specs.Plain.{AreBytes}
-use Rattle.packstream.specs.Markers.{marker, size_len}
-use Rattle.std.specs.Str.{IsUtf8, is_utf8}
+use Rattle.packstream.specs.Prelude.{AreBytes, marker, size_len, is_among, fault_at, is_text, nests, keys_of, Bad, Opened, in_list, in_struct, key_there, int}
+use Rattle.std.specs.Str.{is_utf8}
 use Rattle.std.proofs.lemmas.Str.{is_utf8-from_IsUtf8}
 use Rattle.std.proofs.lemmas.Bool.{le-leb, lt-leb}
-use Rattle.packstream.specs.Good.{is_among}
-use Rattle.packstream.specs.Faults.{fault_at, is_text, nests, keys_of, Bad, Opened, in_list, in_struct, key_there}
 use Rattle.packstream.proofs.Bounds.{good_spelled}
 use Rattle.packstream.proofs.Ranges.{front_bytes}
 use Rattle.reader.specs.declared.progress.Part.{Part}
 use Rattle.reader.specs.declared.progress.Part.TheVariants as part
-use Rattle.reader.specs.Heads.{field, body, size_with, number_from, head_bytes, part_head, IsTiny, AreTiny}
+use Rattle.reader.specs.Prelude.{field, body, size_with, number_from, head_bytes, part_head, IsTiny, AreTiny, Name, IsNamed, Frame, place, AreLevels, HaveNames, head_fault, waits, next_of, AreFrames, HasOwnNames, with_member, Passes, Holds, IsAdmitted, IsPart, IsLacking, Goes, IsDone, IsStanding, HasTaken, with_item}
 use Rattle.reader.specs.declared.open.Level.{Level}
-use Rattle.reader.specs.Naming.{Name, IsNamed}
-use Rattle.reader.specs.Frames.{Frame, place, AreLevels, HaveNames, head_fault, waits, next_of, AreFrames, HasOwnNames, with_member, Passes}
-use Rattle.reader.specs.Holding.{Holds, IsAdmitted, IsPart, IsLacking, Goes, IsDone, IsStanding, HasTaken, with_item}
 use Rattle.reader.proofs.Heads.{joined_bytes, joined_fits}
 use Rattle.reader.proofs.Opening.{bad_behind, heads_are, not_text, twice}
 use Rattle.reader.proofs.Hanging.{text_from}
 use Rattle.reader.proofs.Values.{IsKeyFrame}
 use Rattle.reader.proofs.Standing.{levels_depth, names_more, placed_more, few_frames, after, goes_on}
-use Rattle.packstream.specs.Tree.{int}
 use Rattle.reader.specs.declared.open.Open.{Open}
 use Rattle.reader.specs.declared.open.Inside.TheVariants as inside
 use Rattle.reader.proofs.Pushing.{stays_open}

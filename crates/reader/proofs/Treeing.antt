@@ -1,13 +1,11 @@
 -- The tree of a dictionary's keys: it stays where bytes come, where it is cut, and where a key is hung on it.
-use Rattle.std.proofs.Common.{◌≡◌, ◌≤◌, ◌<◌, ◌+◌, ◌-◌, ℕ, zero, suc, Bool, false, cond, List, [], ◌∷◌, ◌++◌, length, take, drop, Option, Some, None, refl, sym, ap, subst, ◌∙◌, arith, inl, inr}
-use Rattle.std.specs.Prelude.{slice_get, ◌⊎◌, ◌==◌, ◌/◌, ◌%◌, ◌^◌, nat_lt, bit_and}
+use Rattle.std.proofs.Common.{◌≡◌, ◌≤◌, ◌<◌, ◌+◌, ◌-◌, ℕ, zero, suc, Bool, false, cond, List, [], ◌∷◌, ◌++◌, length, take, drop, Option, Some, None, refl, sym, ap, subst, ◌∙◌, arith, inl, inr, slice_get, ◌⊎◌, ◌==◌, ◌/◌, ◌%◌, ◌^◌, nat_lt, bit_and, option_map}
 use Rattle.std.proofs.lemmas.Bool.{le-ltb}
 use Rattle.std.proofs.lemmas.Nat.Bits.{shr_and_one}
 use Rattle.std.proofs.lemmas.List.{length-map, take-append-le, drop-append-le, length-drop, length-append, take-append-drop}
-use Rattle.std.specs.Option.{option_map}
 use Rattle.std.proofs.lemmas.Option.{slice_get_within, slice_get-map}
 use Rattle.reader.specs.declared.texts.Key.{Key}
-use Rattle.reader.specs.Naming.{Name, name, names_of, text_of, IsNamed, ArePlaced, IsRoot, digest_of, side_of, HangsOn, Leads, IsInPlace, IsTree, HangsNone, IsFree}
+use Rattle.reader.specs.Prelude.{Name, name, names_of, text_of, IsNamed, ArePlaced, IsRoot, digest_of, side_of, HangsOn, Leads, IsInPlace, IsTree, HangsNone, IsFree}
 
 -- ---- elements of lists
 

@@ -1,28 +1,20 @@
 -- An item as a value, as the head of what opens, and as a key.
-use Rattle.std.proofs.Common.{◌≡◌, ◌≤◌, ◌<◌, ◌+◌, ◌-◌, ◌%◌, ◌^◌, ◌&&◌, cond, nat_le, ℕ, Bool, true, false, List, [], ◌∷◌, ◌++◌, length, take, drop, Option, Some, None, is_some, refl, sym, ap, subst, ◌∙◌, arith, inl, inr}
+use Rattle.std.proofs.Common.{◌≡◌, ◌≤◌, ◌<◌, ◌+◌, ◌-◌, ◌%◌, ◌^◌, ◌&&◌, cond, nat_le, ℕ, Bool, true, false, List, [], ◌∷◌, ◌++◌, length, take, drop, Option, Some, None, is_some, refl, sym, ap, subst, ◌∙◌, arith, inl, inr, IsUtf8}
 use Rattle.std.proofs.lemmas.Bool.{leb-false, false_from_ne_true}
 use Rattle.std.proofs.lemmas.List.{append-nil}
 use Rattle.std.proofs.Math.Seq.{take-length}
 use Rattle.std.proofs.lemmas.Option.{slice_get_within}
-use Rattle.std.specs.Str.{IsUtf8}
 use Rattle.byteorder.specs.Endian.{big_bytes, twos_complement}
 use Rattle.packstream.specs.declared.fault.Reason.TheVariants as reason
 use Rattle.packstream.specs.declared.marker.Size.{Size}
 use Rattle.packstream.specs.declared.marker.Marker.{Marker}
 use Rattle.packstream.specs.declared.marker.Marker.TheVariants as announces
-use Rattle.packstream.specs.Tree.{Tree, null, boolean, int, float, byte_string, text, list, dict, structure, no_trees, Entries, no_entries}
-use Rattle.packstream.specs.Good.{depth, IsSound, is_among}
-use Rattle.packstream.specs.Markers.{width, marker, size_len}
-use Rattle.packstream.specs.Spelling.{SpellsText, SpellsTree}
-use Rattle.packstream.specs.Faults.{Opened, in_list, in_struct, at_key, at_value, keys_of, key_there, is_text, nests}
+use Rattle.packstream.specs.Prelude.{Tree, null, boolean, int, float, byte_string, text, list, dict, structure, no_trees, Entries, no_entries, depth, IsSound, is_among, width, marker, size_len, SpellsText, SpellsTree, Opened, in_list, in_struct, at_key, at_value, keys_of, key_there, is_text, nests}
 use Rattle.packstream.proofs.Shortest.{number_of}
 use Rattle.reader.specs.declared.open.Open.{Open}
 use Rattle.reader.specs.declared.open.Inside.TheVariants as inside
 use Rattle.reader.specs.declared.progress.Part.TheVariants as part
-use Rattle.reader.specs.Heads.{field, body, size_with, head_bytes}
-use Rattle.reader.specs.Naming.{Name, IsNamed, ArePlaced, IsRoot, text_of}
-use Rattle.reader.specs.Frames.{Frame, waits, next_of, place, IsFrame, AreFrames, AreLevels, HasOwnNames, HaveNames, head_fault}
-use Rattle.reader.specs.Holding.{Holds, with_item, Goes, IsStanding, IsValue, IsListOf}
+use Rattle.reader.specs.Prelude.{field, body, size_with, head_bytes, Name, IsNamed, ArePlaced, IsRoot, text_of, Frame, waits, next_of, place, IsFrame, AreFrames, AreLevels, HasOwnNames, HaveNames, head_fault, Holds, with_item, Goes, IsStanding, IsValue, IsListOf}
 use Rattle.reader.proofs.Heads.{sized_by}
 use Rattle.reader.proofs.Opening.{heads_are}
 use Rattle.reader.proofs.Pushing.{IsWhole, list_closes, dict_closes, struct_closes, list_frame, dict_frame, struct_frame, key_waits}

@@ -3,3 +3,4 @@ pub mod Heads
 pub mod Naming
 pub mod Frames
 pub mod Holding
+pub mod Prelude

@@ -1,17 +1,11 @@
 -- Of bytes one thing is said: a world's steps are a function, and so is what the lines of a script do.
-use Rattle.std.proofs.Common.{◌≡◌, refl, sym, ap, ◌∙◌, subst, true, false, Bool, Result, Ok, Err, Option, Some, None, List, [], ◌∷◌, ◌++◌, ℕ, append_assoc, inl, inr, string_bytes}
+use Rattle.std.proofs.Common.{◌≡◌, refl, sym, ap, ◌∙◌, subst, true, false, Bool, Result, Ok, Err, Option, Some, None, List, [], ◌∷◌, ◌++◌, ℕ, append_assoc, inl, inr, string_bytes, option_map}
 use Rattle.std.proofs.lemmas.List.{append-nil}
-use Rattle.std.specs.Option.{option_map}
-use Rattle.session.specs.Session.{Setting}
-use Rattle.scripts.specs.Rows.{line_of}
-use Rattle.scripts.specs.Script.{filled_lines, lines_read}
-use Rattle.scripts.specs.Views.{LineView}
-use Rattle.world.specs.World.{World, Event, Seen, Refusal, empty}
+use Rattle.session.specs.Prelude.{Setting}
+use Rattle.scripts.specs.Prelude.{line_of, filled_lines, lines_read, LineView}
+use Rattle.world.specs.Prelude.{World, Event, Seen, Refusal, empty}
 use Rattle.replays.specs.declared.script.Replayed.{Replayed}
-use Rattle.replays.specs.Events.{Came, moves, code_of, repeats, event_at}
-use Rattle.replays.specs.Running.{serving, Takes, Moves, stays, moves_on, Done, Does, line_of_note, Runs, starts, runs_on}
-use Rattle.replays.specs.Scripts.{Says, SaysScript, unreadable_line}
-use Rattle.replays.specs.Texts.{report_text}
+use Rattle.replays.specs.Prelude.{Came, moves, code_of, repeats, event_at, serving, Takes, Moves, stays, moves_on, Done, Does, line_of_note, Runs, starts, runs_on, Says, SaysScript, unreadable_line, report_text}
 
 abbrev Step : Type 0
 Step = Result (World × Seen) Refusal

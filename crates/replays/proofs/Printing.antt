@@ -1,16 +1,10 @@
 -- Texts of several things, one after the other.
-use Rattle.std.proofs.Common.{◌≡◌, refl, sym, ap, ◌∙◌, List, [], ◌∷◌, ◌++◌, ℕ, ◌+◌, zero, suc, length, take, map, append_assoc, add-one, ◌≤◌, ◌-◌, arith}
+use Rattle.std.proofs.Common.{◌≡◌, refl, sym, ap, ◌∙◌, List, [], ◌∷◌, ◌++◌, ℕ, ◌+◌, zero, suc, length, take, map, append_assoc, add-one, ◌≤◌, ◌-◌, arith, flat_map, Option, Some, None, slice_get}
 use Rattle.std.proofs.lemmas.List.{append-nil, flat_map_more}
-use Rattle.std.specs.List.{flat_map}
-use Rattle.std.specs.declared.option.Option.{Option}
-use Rattle.std.specs.Prelude.{Some, None, slice_get}
-use Rattle.world.specs.Connections.{Connection}
-use Rattle.world.specs.Reports.{ordinals, summaries_told, outcomes_at_loss, waits, standing}
-use Rattle.world.specs.Reported.{IsReport, standing_seen}
-use Rattle.world.specs.Views.{read_of}
+use Rattle.world.specs.Prelude.{Connection, ordinals, summaries_told, outcomes_at_loss, waits, standing, IsReport, standing_seen, read_of}
 use Rattle.world.specs.declared.report.Connection.{Connection as ConnectionTold}
-use Rattle.programs.specs.Telling.{lost_line}
-use Rattle.replays.specs.Texts.{conn_line, read_line, waits_line, standing_line, connection_text, connections_text}
+use Rattle.programs.specs.Prelude.{lost_line}
+use Rattle.replays.specs.Prelude.{conn_line, read_line, waits_line, standing_line, connection_text, connections_text}
 
 -- one more ordinal
 pub ordinals_more : (first count : ℕ) → ordinals first (suc count) ≡ ordinals first count ++ (first + count) ∷ []

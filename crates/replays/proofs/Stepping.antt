@@ -1,30 +1,19 @@
 -- What a world's answer means for an event, what is done for a line, and what is said of the lines that a server for one user runs.
-use Rattle.std.proofs.Common.{◌≡◌, refl, sym, ◌∙◌, subst, Result, Ok, Err, List, inl, inr, ap, Bool, [], ◌++◌, ℕ, string_bytes}
+use Rattle.std.proofs.Common.{◌≡◌, refl, sym, ◌∙◌, subst, Result, Ok, Err, List, inl, inr, ap, Bool, [], ◌++◌, ℕ, string_bytes, Option, ◌&&◌, codes, bytes_eq}
 use Rattle.std.specs.declared.alloc.AllocError.{AllocError}
-use Rattle.engine.specs.Views.{EntryView}
-use Rattle.session.specs.Session.{Setting}
+use Rattle.engine.specs.Prelude.{EntryView, ledger_of, is_user, principal_of, credentials_of, fixed_answer}
+use Rattle.session.specs.Prelude.{Setting}
 use Rattle.world.specs.declared.kinds.Refused.{Refused}
 use Rattle.world.specs.declared.kinds.Refused.TheVariants.{NoSuchConnection, WrongPeer, SessionsFull, Memory}
 use Rattle.world.specs.declared.kinds.Seen.{Seen as SeenTold}
 use Rattle.world.specs.declared.world.World.{World as WorldHeld}
-use Rattle.world.specs.World.{World, Event, ToClient, V1, V2, V3, Reached, goes_on, takes_out, empty}
-use Rattle.world.specs.Contract.{Answers, Leaves}
-use Rattle.world.specs.Views.{seen_of}
-use Rattle.world.specs.Turns.{FitsWorld, seen_in, setting_of}
+use Rattle.world.specs.Prelude.{World, Event, ToClient, V1, V2, V3, Reached, goes_on, takes_out, empty, Answers, Leaves, seen_of, FitsWorld, seen_in, setting_of}
 use Rattle.replays.specs.declared.steps.Step.{Step}
-use Rattle.replays.specs.Running.{Leads, LeadsBy, Settles, SettlesBy, Stepped, Does, Done, Runs, serving}
-use Rattle.std.specs.declared.option.Option.{Option}
-use Rattle.scripts.specs.Views.{LineView}
-use Rattle.replays.specs.Events.{repeats, event_at}
-use Rattle.std.specs.Prelude.{◌&&◌, codes}
-use Rattle.std.specs.Str.{bytes_eq}
+use Rattle.replays.specs.Prelude.{Leads, LeadsBy, Settles, SettlesBy, Stepped, Does, Done, Runs, serving, repeats, event_at, Says, report_text}
+use Rattle.scripts.specs.Prelude.{LineView}
 use Rattle.engine.specs.declared.fixed_table.FixedTable.{FixedTable}
 use Rattle.engine.specs.declared.one_user.OneUser.{OneUser}
-use Rattle.engine.specs.Kept.{ledger_of, is_user, principal_of, credentials_of}
-use Rattle.engine.specs.Queries.{fixed_answer}
 use Rattle.replays.specs.declared.script.Replayed.{Replayed}
-use Rattle.replays.specs.Scripts.{Says}
-use Rattle.replays.specs.Texts.{report_text}
 
 pub stepped : (S : Setting) (brought : List EntryView) (w : World) (e : Event) (P : World → Type 0) → Reached S brought w → (res : Result SeenTold Refused) (s : Step) → Settles res s → Answers S w e (seen_in res) P
     → (w2 : World) × Stepped S w e s w2 × Reached S brought w2 × P w2

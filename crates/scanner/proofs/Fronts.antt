@@ -1,10 +1,6 @@
 -- What was read from the front of bytes: a good tree, which that front spells.
-use Rattle.std.proofs.Common.{◌≡◌, ℕ, ◌≤◌, List, Result, Ok, Err, subst, arith}
-use Rattle.std.specs.Prelude.{IfOk}
-use Rattle.packstream.specs.Tree.{Tree}
-use Rattle.packstream.specs.Good.{IsGood, depth}
-use Rattle.packstream.specs.Plain.{AreBytes}
-use Rattle.packstream.specs.Reading.{layer, inner}
+use Rattle.std.proofs.Common.{◌≡◌, ℕ, ◌≤◌, List, Result, Ok, Err, subst, arith, IfOk}
+use Rattle.packstream.specs.Prelude.{Tree, IsGood, depth, AreBytes, layer, inner}
 use Rattle.packstream.proofs.Bounds.{good_spelled}
 use Rattle.packstream.proofs.Ranges.{front_bytes}
 use Rattle.packstream.proofs.Sound.{sound}

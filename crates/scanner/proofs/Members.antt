@@ -2,13 +2,10 @@
 use Rattle.std.proofs.Common.{◌≡◌, ℕ, suc, ℤ, Ok, rules, List, [], ◌∷◌, ◌++◌, map, string_bytes, refl, sym, ◌∙◌, append_assoc}
 use Rattle.std.proofs.lemmas.List.{append-nil}
 use Rattle.std.proofs.lemmas.Simd.{map-map}
-use Rattle.packstream.specs.Tree.{Tree, int}
-use Rattle.packstream.specs.View.{trees_of, entries_of}
-use Rattle.packstream.specs.Reading.{Read, keys, key_at, items_at, entries_at}
+use Rattle.packstream.specs.Prelude.{Tree, int, trees_of, entries_of, Read, keys, key_at, items_at, entries_at}
 use Rattle.packstream.proofs.Complete.{Pairs}
 use Rattle.cells.specs.declared.cell.Cell.{Int as IntCase, the_lemmas}
-use Rattle.cells.specs.Faults.{structures, structures_in, structures_under}
-use Rattle.cells.specs.Shape.{shape, entry, entries}
+use Rattle.cells.specs.Prelude.{structures, structures_in, structures_under, shape, entry, entries}
 use Rattle.cells.proofs.Views.{Pair, shape-Dict}
 
 abbrev pub names : List Pair → List (List ℕ)

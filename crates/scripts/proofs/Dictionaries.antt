@@ -1,28 +1,20 @@
 -- The cell of a value at a version, and parameters: the entries of a dictionary that is a cell.
-use Rattle.std.proofs.Common.{◌≡◌, ℕ, Ok, Err, Some, None, ap, sym, ◌∙◌, ◌↔◌, List, [], ◌∷◌, Option, Result, refl}
-use Rattle.packstream.specs.Tree.{Tree, dict, Entries, no_entries, entry_then}
+use Rattle.std.proofs.Common.{◌≡◌, ℕ, Ok, Err, Some, None, ap, sym, ◌∙◌, ◌↔◌, List, [], ◌∷◌, Option, Result, refl, option_and_then}
+use Rattle.packstream.specs.Prelude.{Tree, dict, Entries, no_entries, entry_then, whole_of, IsGood, AreBytes, Spells, entries_of}
 use Rattle.wire.specs.declared.Version.{Version}
 use Rattle.cells.specs.declared.cell.Cell.{Cell}
 use Rattle.cells.specs.declared.fault.Reason.{Reason}
-use Rattle.cells.specs.Shape.{shape}
+use Rattle.cells.specs.Prelude.{shape, fault, scan, structures}
 use Rattle.structures.specs.declared.fault.CellFault.TheVariants as cell_fault
-use Rattle.structures.specs.Answers.{Reads}
-use Rattle.scripts.specs.Params.{cell_by, cell_at, cell_among, cell_of, entries_in, params_of, IsParams}
-use Rattle.std.specs.Option.{option_and_then, option_or}
+use Rattle.structures.specs.Prelude.{Reads, Form, typed}
+use Rattle.scripts.specs.Prelude.{cell_by, cell_at, cell_among, cell_of, entries_in, params_of, IsParams, Params}
+use Rattle.std.specs.Option.{option_or}
 use Rattle.std.specs.Result.{result_ok}
 use Rattle.packstream.proofs.Deciding.{whole_value}
-use Rattle.packstream.specs.Answers.{whole_of}
-use Rattle.packstream.specs.Good.{IsGood}
-use Rattle.packstream.specs.Plain.{AreBytes}
-use Rattle.packstream.specs.Spelling.{Spells}
-use Rattle.packstream.specs.View.{entries_of}
 use Rattle.packstream.specs.declared.fault.Reason.{Reason as PackReason}
-use Rattle.cells.specs.Faults.{fault, scan, structures}
-use Rattle.structures.specs.Form.{Form, typed}
 use Rattle.wire.specs.declared.Version.TheVariants.{V44, V50, V51}
-use Rattle.wire.specs.Versions.{versions}
-use Rattle.messages.specs.Messages.{pairs_of}
-use Rattle.scripts.specs.Views.{Params}
+use Rattle.wire.specs.Prelude.{versions}
+use Rattle.messages.specs.Prelude.{pairs_of}
 
 pub cell_is : (v : Version) (t : Tree) (c : Cell) → Reads v t (Ok c) → cell_at v t ≡ Some (shape c)
 cell_is v t c h = ap (λ r. cell_by r t) h.0.1 ∙ ap (λ s. Some s) (sym h.1)

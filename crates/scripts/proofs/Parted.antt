@@ -1,14 +1,11 @@
 -- The words of a line, joined, and of bytes that are none.
-use Rattle.std.proofs.Common.{◌≡◌, ℕ, ◌≤◌, false, List, ◌∷◌, length, Some, None, refl, arith, ◌↔◌, ◌<◌, ◌==◌, ◌&&◌, not, Bool, true, cond, [], ◌++◌, sym, ap, ◌∙◌, subst}
+use Rattle.std.proofs.Common.{◌≡◌, ℕ, ◌≤◌, false, List, ◌∷◌, length, Some, None, refl, arith, ◌↔◌, ◌<◌, ◌==◌, ◌&&◌, not, Bool, true, cond, [], ◌++◌, sym, ap, ◌∙◌, subst, IsUtf8}
 use Rattle.std.specs.List.{list_any, list_all, join_with_byte, onto_first}
-use Rattle.std.specs.Str.{IsUtf8, is_utf8}
+use Rattle.std.specs.Str.{is_utf8}
 use Rattle.std.proofs.lemmas.Str.{IsUtf8-from_is_utf8, is_utf8-from_IsUtf8}
 use Rattle.std.proofs.lemmas.Bool.{false_from_ne_true, and_parts, not-true, or_parts}
-use Rattle.scripts.specs.Words.{parts_of, is_empty, words_of}
-use Rattle.scripts.specs.Rows.{of_words, ending_of}
+use Rattle.scripts.specs.Prelude.{parts_of, is_empty, words_of, of_words, ending_of, Text, is_word, AreWords}
 use Rattle.std.proofs.lemmas.List.Splits.{length-slice_split, join_with_byte-slice_split}
-use Rattle.scripts.specs.Views.{Text}
-use Rattle.scripts.specs.Laws.{is_word, AreWords}
 
 pub no_words : (line : List ℕ) → ¬ (IsUtf8 line) → words_of line ≡ None
 no_words line h = let e : is_utf8 line ≡ false = false_from_ne_true _ (λ t. h (IsUtf8-from_is_utf8 line t)) in rw e refl

@@ -6,3 +6,4 @@ pub mod Meant
 pub mod Answers
 pub mod Script
 pub mod Laws
+pub mod Prelude

@@ -1,9 +1,8 @@
 -- What the clauses of a call on one session say together.
-use Rattle.std.proofs.Common.{◌≡◌, Option, Some, None, Result, Ok, Err}
-use Rattle.std.specs.Prelude.{IsSome}
+use Rattle.std.proofs.Common.{◌≡◌, Option, Some, None, Result, Ok, Err, IsSome}
 use Rattle.server.specs.declared.kinds.Refused.{Refused}
 use Rattle.server.specs.declared.kinds.Refused.TheVariants.{NoSuchConnection, SessionsFull, Memory}
-use Rattle.server.specs.Serving.{Rest}
+use Rattle.server.specs.Prelude.{Rest}
 
 module _ {G : Type 0} where
   -- The answer of a call on one session, where the server had this rest: what the model answers; a refusal where no session with the

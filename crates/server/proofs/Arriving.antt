@@ -1,16 +1,11 @@
 -- What arrives by the bytes that a feed takes: one more arrival where an item ends, and none else.
-use Rattle.std.proofs.Common.{◌≡◌, refl, sym, ◌∙◌, ap, subst, ℕ, Bool, true, false, ◌⊎◌, inl, inr, Option, Some, None, Result, Ok, Err, List, [], ◌∷◌, ◌++◌, take}
-use Rattle.std.specs.Prelude.{option_map, option_to_list, if◌then◌else◌}
+use Rattle.std.proofs.Common.{◌≡◌, refl, sym, ◌∙◌, ap, subst, ℕ, Bool, true, false, ◌⊎◌, inl, inr, Option, Some, None, Result, Ok, Err, List, [], ◌∷◌, ◌++◌, take, option_map, option_to_list, if◌then◌else◌}
 use Rattle.wire.specs.declared.Version.{Version}
-use Rattle.wire.specs.Reader.{Took, state, takes}
-use Rattle.wire.specs.Framing.{Item, Opening, Message, Opened, at_server, items_received}
+use Rattle.wire.specs.Prelude.{Took, state, takes, Item, Opening, Message, Opened, at_server, items_received}
 use Rattle.messages.specs.declared.fault.MsgFault.{MsgFault}
-use Rattle.messages.specs.View.{RequestView}
-use Rattle.messages.specs.Messages.{request_of}
-use Rattle.messages.specs.Arrivals.{Arrival, Shook, NoMagic, Asked, Unread, TooLong, version_shaken, server_end, arrival_of_offer, then_request, requests_in, after_shake, arrivals_of, arrivals}
-use Rattle.server.specs.Feeding.{arrives}
-use Rattle.session.specs.Rest.{arrival_by, unread_among}
-use Rattle.server.specs.Past.{places_of}
+use Rattle.messages.specs.Prelude.{RequestView, request_of, Arrival, Shook, NoMagic, Asked, Unread, TooLong, version_shaken, server_end, arrival_of_offer, then_request, requests_in, after_shake, arrivals_of, arrivals}
+use Rattle.server.specs.Prelude.{arrives, places_of}
+use Rattle.session.specs.Prelude.{arrival_by, unread_among}
 use Rattle.wire.proofs.Opening.{IsChunk}
 use Rattle.inbox.proofs.Arriving.{Next, opens, follows, items_then, next_item, item_adds}
 

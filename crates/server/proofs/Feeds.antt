@@ -1,13 +1,10 @@
 -- What a session's bytes make of a piece: of the handshake, and of chunks.
-use Rattle.std.proofs.Common.{◌≡◌, refl, sym, ◌∙◌, ap, subst, ℕ, ◌+◌, ◌-◌, ◌≤◌, ◌<◌, ◌++◌, List, length, take, arith, length-append, length-take}
-use Rattle.std.specs.Prelude.{min}
+use Rattle.std.proofs.Common.{◌≡◌, refl, sym, ◌∙◌, ap, subst, ℕ, ◌+◌, ◌-◌, ◌≤◌, ◌<◌, ◌++◌, List, length, take, arith, length-append, length-take, min}
 use Rattle.std.proofs.lemmas.Bool.Decides.{nat_tests}
 use Rattle.std.proofs.lemmas.List.{take_all}
-use Rattle.wire.specs.Unfinished.{Unfinished}
-use Rattle.wire.specs.Reader.{takes}
-use Rattle.wire.specs.Framing.{Opened, at_server}
+use Rattle.wire.specs.Prelude.{Unfinished, takes, Opened, at_server}
 use Rattle.reader.proofs.Pieces.{nothing_goes_on}
-use Rattle.messages.specs.Arrivals.{arrival_of_offer}
+use Rattle.messages.specs.Prelude.{arrival_of_offer}
 use Rattle.inbox.specs.declared.inbox.Inbox.{Inbox}
 use Rattle.inbox.specs.Standing.{Stands}
 use Rattle.inbox.specs.Taking.{WantsRoom as ChunksWant}
@@ -16,9 +13,8 @@ use Rattle.inbox.proofs.Opening.{by_part, by_whole, by_chunks}
 use Rattle.server.specs.declared.input.Offer.{Offer}
 use Rattle.server.specs.declared.kinds.Took.{Took}
 use Rattle.session.specs.declared.kinds.What.{What}
-use Rattle.session.specs.Rest.{Kept, Receives}
-use Rattle.server.specs.Feeding.{takes_item, WantsRoom}
-use Rattle.server.specs.Incoming.{offered, IsFedBy}
+use Rattle.session.specs.Prelude.{Kept, Receives}
+use Rattle.server.specs.Prelude.{takes_item, WantsRoom, offered, IsFedBy}
 
 -- what is told, by how many bytes were used and what ended with them
 abbrev pub took_of : ℕ → What → Took

@@ -1,27 +1,20 @@
 -- What a session has placed follows its bytes: each call on it keeps that.
-use Rattle.std.proofs.Common.{◌≡◌, ◌≢◌, refl, sym, ◌∙◌, ap, subst, ℕ, ◌+◌, Bool, true, false, cond, leb, ◌⊎◌, inl, inr, Option, Some, None, List, [], ◌∷◌, ◌++◌, length, take, arith, append-nil, append_assoc, length-append}
-use Rattle.std.specs.Prelude.{option_map, option_to_list, map, is_some, unwrap_or, ◌||◌, ◌&&◌}
+use Rattle.std.proofs.Common.{◌≡◌, ◌≢◌, refl, sym, ◌∙◌, ap, subst, ℕ, ◌+◌, Bool, true, false, cond, leb, ◌⊎◌, inl, inr, Option, Some, None, List, [], ◌∷◌, ◌++◌, length, take, arith, append-nil, append_assoc, length-append, option_map, option_to_list, map, is_some, unwrap_or, ◌||◌, ◌&&◌}
 use Rattle.std.proofs.lemmas.Bool.{cond_both}
 use Rattle.std.proofs.lemmas.List.{map-append}
 use Rattle.wire.specs.declared.Version.TheVariants.{V51}
-use Rattle.wire.specs.Reader.{Took as TookOf, state, takes}
-use Rattle.wire.specs.Framing.{Item, Opened, at_server}
-use Rattle.messages.specs.View.{RequestView}
-use Rattle.messages.specs.Arrivals.{Arrival, Shook, NoMagic, Asked, Unread, TooLong, Quiet, arrivals}
+use Rattle.wire.specs.Prelude.{Took as TookOf, state, takes, Item, Opened, at_server}
+use Rattle.messages.specs.Prelude.{RequestView, Arrival, Shook, NoMagic, Asked, Unread, TooLong, Quiet, arrivals}
 use Rattle.machine.specs.declared.states.State.{State}
 use Rattle.machine.specs.declared.rows.Verdict.{Verdict}
-use Rattle.machine.specs.Asks.{kind_of, is_reset}
-use Rattle.machine.specs.Following.{interruptible}
-use Rattle.engine.specs.Views.{EntryView}
+use Rattle.machine.specs.Prelude.{kind_of, is_reset, interruptible}
+use Rattle.engine.specs.Prelude.{EntryView}
 use Rattle.session.specs.declared.kinds.Cause.{Cause}
 use Rattle.server.specs.declared.kinds.Took.{Took}
 use Rattle.session.specs.declared.kinds.What.{What}
-use Rattle.session.specs.Session.{Setting, Reply, OneRow, Summary, Bye}
-use Rattle.session.specs.Rest.{Kept, Step, Ended, Full, puts, cause_of, ends, after_item, full, noop_kept, puts_noop, replies, rests, reset_among, shut, after_interrupt, turns, unread_among, version_of, work_kept}
+use Rattle.session.specs.Prelude.{Setting, Reply, OneRow, Summary, Bye, Kept, Step, Ended, Full, puts, cause_of, ends, after_item, full, noop_kept, puts_noop, replies, rests, reset_among, shut, after_interrupt, turns, unread_among, version_of, work_kept}
 use Rattle.inbox.proofs.Arriving.{rest_then}
-use Rattle.server.specs.Feeding.{arrival, takes_item, takes_none}
-use Rattle.server.specs.Serving.{Live, after_feeding, fresh, fed_live, with_kept}
-use Rattle.server.specs.Past.{Agrees, Follows, IsLater, answers_by, places_of}
+use Rattle.server.specs.Prelude.{arrival, takes_item, takes_none, Live, after_feeding, fresh, fed_live, with_kept, Agrees, Follows, IsLater, answers_by, places_of}
 use Rattle.server.proofs.Arriving.{is_shake, IsNext, unread_placed, more_arrives, next_arrival, placed-append}
 
 unread_after : (answered : List RequestView) (xs : List Arrival) → unread_among (map Asked answered ++ xs) ≡ unread_among xs

@@ -1,24 +1,17 @@
 -- What came of the bytes of each session, over every list of calls.
-use Rattle.std.proofs.Common.{◌≡◌, ◌≢◌, refl, sym, ◌∙◌, ap, subst, ℕ, ◌≤◌, Bool, true, false, cond, eqb, ◌⊎◌, inl, inr, Option, Some, None, Result, Ok, Err, List, [], ◌∷◌, ◌++◌, arith, append-nil, append_assoc}
-use Rattle.std.specs.Prelude.{IsSome, option_map}
+use Rattle.std.proofs.Common.{◌≡◌, ◌≢◌, refl, sym, ◌∙◌, ap, subst, ℕ, ◌≤◌, Bool, true, false, cond, eqb, ◌⊎◌, inl, inr, Option, Some, None, Result, Ok, Err, List, [], ◌∷◌, ◌++◌, arith, append-nil, append_assoc, IsSome, option_map}
 use Rattle.std.proofs.lemmas.Bool.{cond-true, cond-false}
 use Rattle.std.proofs.lemmas.Bool.Decides.{nat_tests}
 use Rattle.wire.specs.declared.Version.{Version}
-use Rattle.wire.specs.Unfinished.{fresh as unread}
-use Rattle.wire.specs.Stream.{items_of}
-use Rattle.wire.specs.Whole.{whole}
-use Rattle.messages.specs.View.{RequestView}
-use Rattle.messages.specs.Messages.{request_of}
+use Rattle.wire.specs.Prelude.{fresh as unread, items_of, whole}
+use Rattle.messages.specs.Prelude.{RequestView, request_of, Arrival, Asked, Unread, TooLong, arrivals, requests_of, then_request, without_idle}
 use Rattle.messages.specs.declared.fault.MsgFault.{MsgFault}
-use Rattle.messages.specs.Arrivals.{Arrival, Asked, Unread, TooLong, arrivals, requests_of, then_request, without_idle}
 use Rattle.messages.proofs.Arriving.{arrives_whole}
 use Rattle.engine.specs.declared.answer.Mode.{Mode as QueryMode}
-use Rattle.engine.specs.Views.{WriteView, ParameterView, EntryView, AnswerView, QueryFault}
-use Rattle.session.specs.Rest.{Step, take_kept, work_kept}
+use Rattle.engine.specs.Prelude.{WriteView, ParameterView, EntryView, AnswerView, QueryFault}
+use Rattle.session.specs.Prelude.{Step, take_kept, work_kept}
 use Rattle.server.specs.declared.kinds.Took.{Took}
-use Rattle.server.specs.Serving.{Live, Rest, after_step, empty, fed_live, find, fresh, is_full, noop_put, opened, replace, setting, taken_from, with_kept, with_session, without}
-use Rattle.server.specs.Running.{AreBelow, Event, opens, feeds, works, takes, noops, loses, after_call, after_event, after_events}
-use Rattle.server.specs.Past.{Asks, Follows, bytes_taken, call_answered, places_of, requests_answered, step_answered, took_by, used_of}
+use Rattle.server.specs.Prelude.{Live, Rest, after_step, empty, fed_live, find, fresh, is_full, noop_put, opened, replace, setting, taken_from, with_kept, with_session, without, AreBelow, Event, opens, feeds, works, takes, noops, loses, after_call, after_event, after_events, Asks, Follows, bytes_taken, call_answered, places_of, requests_answered, step_answered, took_by, used_of}
 use Rattle.server.proofs.Bounds.{FewRows}
 use Rattle.server.proofs.Following.{follows_begun, follows_feed, follows_noop, follows_same, follows_unsent, follows_work}
 use Rattle.server.proofs.Runs.{Held, find-conn, find_other-replace, find_replaced, held_empty, held_event}

@@ -1,14 +1,12 @@
 -- What is kept over every list of calls.
-use Rattle.std.proofs.Common.{◌≡◌, ◌≢◌, ℕ, ◌+◌, ◌^◌, ◌<◌, ◌≤◌, List, [], ◌∷◌, ◌++◌, length, Bool, cond, true, false, leb, Option, Some, None, Result, refl, ap, ◌∙◌, length-append, lit≤, arith}
-use Rattle.std.specs.Prelude.{IsSome, option_map}
+use Rattle.std.proofs.Common.{◌≡◌, ◌≢◌, ℕ, ◌+◌, ◌^◌, ◌<◌, ◌≤◌, List, [], ◌∷◌, ◌++◌, length, Bool, cond, true, false, leb, Option, Some, None, Result, refl, ap, ◌∙◌, length-append, lit≤, arith, IsSome, option_map}
 use Rattle.std.proofs.lemmas.Bool.{or_parts, leb-false}
 use Rattle.std.proofs.lemmas.Bool.Decides.{nat_tests}
 use Rattle.engine.specs.declared.answer.Mode.{Mode as QueryMode}
-use Rattle.engine.specs.Views.{WriteView, ParameterView, EntryView, AnswerView, QueryFault}
-use Rattle.server.specs.Serving.{empty, with_sessions, Live, Rest, fresh, find, replace, without, is_full, opened, fed_live, taken_from, noop_put, on_live, with_kept, with_session, after_step, setting}
-use Rattle.session.specs.Rest.{commit_entries, work_kept}
+use Rattle.engine.specs.Prelude.{WriteView, ParameterView, EntryView, AnswerView, QueryFault}
+use Rattle.server.specs.Prelude.{empty, with_sessions, Live, Rest, fresh, find, replace, without, is_full, opened, fed_live, taken_from, noop_put, on_live, with_kept, with_session, after_step, setting, AllBounded, AreBelow, IsKept, after_events, Event, opens, feeds, works, takes, noops, loses, after_call, after_event, conn_of}
+use Rattle.session.specs.Prelude.{commit_entries, work_kept}
 use Rattle.server.proofs.Bounds.{Fine, fine_bounded, FewRows, few_answers, begun_fine, feed_fine, work_fine, taken_fine, noop_fine}
-use Rattle.server.specs.Running.{AllBounded, AreBelow, IsKept, after_events, Event, opens, feeds, works, takes, noops, loses, after_call, after_event, conn_of}
 
 pub find-conn : (conn : ℕ) (ss : List Live) (s : Live) → find conn ss ≡ Some s → s.conn ≡ conn
 find-conn conn [] s e = cc

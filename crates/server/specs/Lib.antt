@@ -6,3 +6,4 @@ pub mod Views
 pub mod Places
 pub mod Running
 pub mod Past
+pub mod Prelude

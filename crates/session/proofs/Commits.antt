@@ -1,12 +1,10 @@
 -- How a commit is answered, by what its engine would answer to it.
 use Rattle.std.proofs.Common.{◌≡◌, ◌∙◌, ap, refl, ℕ, ◌+◌, List, length, Some, None}
-use Rattle.messages.specs.View.{ResponseView}
+use Rattle.messages.specs.Prelude.{ResponseView}
 use Rattle.engine.specs.declared.ledger.Commit.{Commit}
 use Rattle.engine.specs.declared.ledger.Commit.TheVariants.{Added}
-use Rattle.engine.specs.Tokens.{Found, Free, found_in, commit_by, known_by}
-use Rattle.engine.specs.Views.{EntryView}
-use Rattle.session.specs.Session.{Change, commits_as, commits_over}
-use Rattle.session.specs.Acts.{commits_by}
+use Rattle.engine.specs.Prelude.{Found, Free, found_in, commit_by, known_by, EntryView}
+use Rattle.session.specs.Prelude.{Change, commits_as, commits_over, commits_by}
 
 by_found : (len : ℕ) (change : Change) (said : ℕ → ResponseView) (f : Found) → commits_by change said (commit_by len f) ≡ commits_as len change said f
 by_found len change said Free = refl

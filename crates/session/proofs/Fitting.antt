@@ -1,29 +1,20 @@
 -- What is written of a response can be written, and what has a text can be said.
-use Rattle.std.proofs.Common.{◌≡◌, refl, sym, ◌∙◌, ap, subst, ℕ, true, List, [], ◌∷◌, ◌++◌, Ok, Err, arith, Result}
-use Rattle.std.specs.Prelude.{◌&&◌, nat_lt, ◌↔◌}
-use Rattle.std.specs.Str.{bytes_eq}
+use Rattle.std.proofs.Common.{◌≡◌, refl, sym, ◌∙◌, ap, subst, ℕ, true, List, [], ◌∷◌, ◌++◌, Ok, Err, arith, Result, ◌&&◌, nat_lt, ◌↔◌, bytes_eq}
 use Rattle.std.proofs.lemmas.Bool.{and_from}
 use Rattle.std.proofs.lemmas.Bool.Decides.{nat_tests}
-use Rattle.packstream.specs.Tree.{Tree}
-use Rattle.packstream.specs.Plain.{AreBytes}
+use Rattle.packstream.specs.Prelude.{Tree, AreBytes}
 use Rattle.wire.specs.declared.Version.{Version}
-use Rattle.cells.specs.Same.{same_tree}
+use Rattle.cells.specs.Prelude.{same_tree}
 use Rattle.cells.proofs.Equality.{tree_is, bytes_is}
 use Rattle.messages.specs.declared.fault.MsgFault.{MsgFault}
 use Rattle.messages.specs.declared.fault.MsgFault.TheVariants as writer
-use Rattle.messages.specs.View.{ResponseView, Success, Record, Ignored, Failure}
-use Rattle.messages.specs.Messages.{Resp, response_of}
-use Rattle.messages.specs.Writing.{response_spelling}
-use Rattle.messages.specs.Sound.{IsResponse}
+use Rattle.messages.specs.Prelude.{ResponseView, Success, Record, Ignored, Failure, Resp, response_of, response_spelling, IsResponse}
 use Rattle.messages.proofs.Sent.{response_fits, response_is}
 use Rattle.messages.proofs.Rounds.{response_reads_back}
-use Rattle.session.specs.Said.{same_cells, same_metadata, same_say, is_reading, are_bytes, is_text, fits}
+use Rattle.session.specs.Prelude.{same_cells, same_metadata, same_say, is_reading, are_bytes, is_text, fits, of_writer, unwritable, IsBody, Refuses, unwritten_of}
 use Rattle.session.specs.declared.fault.Fault.{Fault}
 use Rattle.session.specs.declared.spelling.Unwritten.{Unwritten}
 use Rattle.session.specs.declared.spelling.Unwritten.TheVariants as unwritten
-use Rattle.session.specs.Faults.{of_writer}
-use Rattle.session.specs.Session.{unwritable}
-use Rattle.session.specs.Acts.{IsBody, Refuses, unwritten_of}
 
 -- Each is the same as itself.
 same_cells-refl : (ts : List Tree) → same_cells ts ts ≡ true

@@ -1,15 +1,14 @@
 -- What a reply adds to the ledger is free there.
 use Rattle.std.proofs.Common.{subst, ℕ, List, Option, None}
 use Rattle.wire.specs.declared.Version.{Version}
-use Rattle.messages.specs.View.{RequestView}
+use Rattle.messages.specs.Prelude.{RequestView}
 use Rattle.machine.specs.declared.states.State.{State}
 use Rattle.machine.specs.declared.kinds.Kind.{Kind}
-use Rattle.machine.specs.Asks.{kind_of}
-use Rattle.engine.specs.Views.{EntryView}
+use Rattle.machine.specs.Prelude.{kind_of}
+use Rattle.engine.specs.Prelude.{EntryView}
 use Rattle.session.specs.declared.acts.Act.{Act}
 use Rattle.session.specs.declared.acts.Act.TheVariants as acts
-use Rattle.session.specs.Session.{Setting, Open, Tx, Change, Reply, Summary, serve}
-use Rattle.session.specs.Acts.{ActsAs, AddsFree, IsFree}
+use Rattle.session.specs.Prelude.{Setting, Open, Tx, Change, Reply, Summary, serve, ActsAs, AddsFree, IsFree}
 use Rattle.session.proofs.Served.{Served, adds, serving}
 
 -- what a reply adds to the ledger, where it does

@@ -1,12 +1,11 @@
 -- A row that was fitted as a list of cells.
 use Rattle.std.proofs.Common.{◌≡◌, List, [], ◌∷◌, map, Vec, Global, refl, ap, ◌∙◌}
-use Rattle.packstream.specs.Tree.{Tree, list}
-use Rattle.packstream.specs.View.{trees_of}
+use Rattle.packstream.specs.Prelude.{Tree, list, trees_of}
 use Rattle.wire.specs.declared.Version.{Version}
 use Rattle.cells.specs.declared.cell.Cell.{Cell, List as ListCell}
-use Rattle.cells.specs.Shape.{shape, shapes}
+use Rattle.cells.specs.Prelude.{shape, shapes}
 use Rattle.cells.proofs.Views.{shape-List}
-use Rattle.structures.specs.Fitting.{fitted}
+use Rattle.structures.specs.Prelude.{fitted}
 use Rattle.structures.proofs.Fitted.{fitted_list}
 
 same_trees : (xs ys : List Tree) → trees_of xs ≡ trees_of ys → xs ≡ ys

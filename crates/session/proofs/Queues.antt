@@ -1,14 +1,11 @@
 -- What waits, as the list of what arrived.
-use Rattle.std.proofs.Common.{◌≡◌, refl, ap, List, [], ◌∷◌}
+use Rattle.std.proofs.Common.{◌≡◌, refl, ap, List, [], ◌∷◌, ◌||◌}
 use Rattle.std.specs.List.{list_any}
 use Rattle.session.specs.declared.session.Waiting.{Waiting}
 use Rattle.session.specs.declared.session.Waiting.TheVariants as waiting
-use Rattle.std.specs.Prelude.{◌||◌}
-use Rattle.messages.specs.View.{request_view}
-use Rattle.machine.specs.Asks.{kind_of, is_reset}
-use Rattle.session.specs.Rest.{unread_among, reset_among}
-use Rattle.session.specs.Views.{waiting_in, is_unread, is_reset_in, first_of}
-use Rattle.session.specs.Acts.{turn_in, turn_by}
+use Rattle.messages.specs.Prelude.{request_view}
+use Rattle.machine.specs.Prelude.{kind_of, is_reset}
+use Rattle.session.specs.Prelude.{unread_among, reset_among, waiting_in, is_unread, is_reset_in, first_of, turn_in, turn_by}
 
 pub any_unread : (ws : List Waiting) → list_any is_unread ws ≡ unread_among (waiting_in ws)
 any_unread (waiting.Asked q ∷ ws) = any_unread ws

@@ -1,21 +1,19 @@
 -- What a decision is, as the model's reply.
-use Rattle.std.proofs.Common.{◌≡◌, ◌∙◌, ap, subst, refl, ℕ, ◌<◌, ◌≤◌, true, List, [], ◌∷◌, length, drop, None, Result, Ok, Err, arith, length-drop}
-use Rattle.std.specs.Prelude.{IfOk}
+use Rattle.std.proofs.Common.{◌≡◌, ◌∙◌, ap, subst, refl, ℕ, ◌<◌, ◌≤◌, true, List, [], ◌∷◌, length, drop, None, Result, Ok, Err, arith, length-drop, IfOk}
 use Rattle.std.specs.declared.alloc.AllocError.{AllocError}
 use Rattle.std.proofs.lemmas.List.{drop_all}
-use Rattle.packstream.specs.Tree.{Tree}
+use Rattle.packstream.specs.Prelude.{Tree}
 use Rattle.wire.specs.declared.Version.{Version}
 use Rattle.messages.specs.declared.request.Count.{Count}
 use Rattle.messages.specs.declared.request.Count.TheVariants as counts
-use Rattle.messages.specs.Summaries.{response_of_summary, RowsLeft, Closing}
+use Rattle.messages.specs.Prelude.{response_of_summary, RowsLeft, Closing}
 use Rattle.machine.specs.declared.states.State.{State}
 use Rattle.machine.specs.declared.states.State.TheVariants as states
 use Rattle.machine.specs.declared.rows.Verdict.{Verdict}
-use Rattle.engine.specs.Views.{EntryView}
+use Rattle.engine.specs.Prelude.{EntryView}
 use Rattle.session.specs.declared.acts.Act.{Act}
-use Rattle.session.specs.Session.{Open, no_result, Tx, Reply, Summary, close, close_last, used_up, count_at, left_after, pull}
+use Rattle.session.specs.Prelude.{Open, no_result, Tx, Reply, Summary, close, close_last, used_up, count_at, left_after, pull, ActsAs, IsWritable}
 use Rattle.session.specs.declared.acts.Act.TheVariants as acts
-use Rattle.session.specs.Acts.{ActsAs, IsWritable}
 
 -- of an act whose reply is another name of the same
 pub acts_same : (v : Version) (left : Open) (tx : Tx) (b : List ℕ) (r : Result Act AllocError) (x y : Reply) → x ≡ y → IfOk r (λ act. ActsAs v left tx b act x) → IfOk r (λ act. ActsAs v left tx b act y)

@@ -1,29 +1,21 @@
 -- What a request is answered with, by what is open then and what is committed.
-use Rattle.std.proofs.Common.{◌≡◌, refl, ap, ℕ, suc, ◌≤◌, false, true, cond, List, [], ◌∷◌, length, length-drop, Option, Some, None, Result, Ok, Err, arith}
-use Rattle.std.specs.Prelude.{is_some, nat_le, ◌&&◌}
+use Rattle.std.proofs.Common.{◌≡◌, refl, ap, ℕ, suc, ◌≤◌, false, true, cond, List, [], ◌∷◌, length, length-drop, Option, Some, None, Result, Ok, Err, arith, is_some, nat_le, ◌&&◌}
 use Rattle.std.proofs.lemmas.Bool.{cond_both}
-use Rattle.packstream.specs.Tree.{Tree}
+use Rattle.packstream.specs.Prelude.{Tree}
 use Rattle.wire.specs.declared.Version.{Version}
-use Rattle.wire.specs.Versions.{hello_has_login}
+use Rattle.wire.specs.Prelude.{hello_has_login}
 use Rattle.messages.specs.declared.request.Count.{Count}
 use Rattle.messages.specs.declared.request.Count.TheVariants as counts
-use Rattle.messages.specs.View.{RequestView, AuthView, ResponseView}
-use Rattle.messages.specs.Summaries.{response_of_summary, Closing, Committed}
-use Rattle.messages.specs.Writing.{response_spelling}
+use Rattle.messages.specs.Prelude.{RequestView, AuthView, ResponseView, response_of_summary, Closing, Committed, response_spelling}
 use Rattle.machine.specs.declared.states.State.{State}
 use Rattle.machine.specs.declared.states.Phase.{Phase}
 use Rattle.machine.specs.declared.kinds.Kind.{Kind}
 use Rattle.machine.specs.declared.rows.Verdict.{Verdict}
-use Rattle.machine.specs.States.{phase_of}
-use Rattle.machine.specs.Asks.{kind_of, is_goodbye, is_reset}
-use Rattle.machine.specs.Rows.{row_at}
-use Rattle.machine.specs.Following.{commits}
+use Rattle.machine.specs.Prelude.{phase_of, kind_of, is_goodbye, is_reset, row_at, commits}
 use Rattle.engine.specs.declared.answer.Mode.{Mode as QueryMode}
-use Rattle.engine.specs.Tokens.{Found, Free, There, Other, found_in}
-use Rattle.engine.specs.Views.{WriteView, ParameterView, Token, EntryView, AnswerView, QueryFault}
+use Rattle.engine.specs.Prelude.{Found, Free, There, Other, found_in, WriteView, ParameterView, Token, EntryView, AnswerView, QueryFault}
 use Rattle.session.specs.declared.fault.Fault.TheVariants as fault
-use Rattle.session.specs.Said.{fits}
-use Rattle.session.specs.Session.{Setting, Open, no_result, Tx, no_tx, Change, Reply, OneRow, Summary, Bye, fails, succeeds, commits_as, commits_over, change_alone, change_inside, close, left_after, rows_of, if_fits, unwritable, pull, used_up, greets, reply_to_hello, reply_to_login, reply_to_run, result_of_answer, with_write, in_transaction, fields_said, perform, serve, passed_over, is_halted}
+use Rattle.session.specs.Prelude.{fits, Setting, Open, no_result, Tx, no_tx, Change, Reply, OneRow, Summary, Bye, fails, succeeds, commits_as, commits_over, change_alone, change_inside, close, left_after, rows_of, if_fits, unwritable, pull, used_up, greets, reply_to_hello, reply_to_login, reply_to_run, result_of_answer, with_write, in_transaction, fields_said, perform, serve, passed_over, is_halted}
 
 pub data Served (S : Setting) (ledger : List EntryView) (s : State) (left : Open) (tx : Tx) (k : Kind) : Reply → Type 0 where
   leaves : Served S ledger s left tx k Bye

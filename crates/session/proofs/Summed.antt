@@ -1,16 +1,13 @@
 -- The text of a summary, added an entry after the other.
-use Rattle.std.proofs.Common.{◌≡◌, ◌≤◌, ◌<◌, ◌^◌, ℕ, List, [], ◌∷◌, ◌++◌, length, ap, sym, subst, ◌∙◌, append_assoc, arith}
-use Rattle.std.specs.Fmt.{decimal}
+use Rattle.std.proofs.Common.{◌≡◌, ◌≤◌, ◌<◌, ◌^◌, ℕ, List, [], ◌∷◌, ◌++◌, length, ap, sym, subst, ◌∙◌, append_assoc, arith, decimal}
 use Rattle.std.proofs.lemmas.List.{append-nil, length-append}
 use Rattle.std.proofs.lemmas.Fmt.{length-decimal-le}
-use Rattle.packstream.specs.Tree.{Tree, text, dict, structure, no_trees, tree_then, Entries, no_entries, entry_then}
-use Rattle.packstream.specs.Good.{entry_count}
-use Rattle.packstream.specs.Canon.{head, text_bytes, canon, canon_entries}
+use Rattle.packstream.specs.Prelude.{Tree, text, dict, structure, no_trees, tree_then, Entries, no_entries, entry_then, entry_count, head, text_bytes, canon, canon_entries}
 use Rattle.packstream.proofs.Putting.{canon_some}
 use Rattle.wire.specs.declared.Version.{Version}
-use Rattle.messages.specs.Summaries.{Summary, response_of_summary, form_of, IsShort}
+use Rattle.messages.specs.Prelude.{Summary, response_of_summary, form_of, IsShort}
 use Rattle.messages.proofs.Fitting.{text_is, form_le, room_le}
-use Rattle.session.specs.Acts.{IsBody}
+use Rattle.session.specs.Prelude.{IsBody}
 
 -- the head of a structure of one dictionary, then its entries
 pub headed : (tag n : ℕ) (es : Entries) (old a new : List ℕ) → head 0xA0 0xD8 (entry_count es) ≡ n ∷ [] → a ≡ old ++ 0xB1 ∷ tag ∷ n ∷ [] → new ≡ a ++ canon_entries es → new ≡ old ++ canon (structure tag (tree_then (dict es) no_trees))

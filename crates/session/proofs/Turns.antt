@@ -1,26 +1,18 @@
 -- What a step does, as the model's step.
-use Rattle.std.proofs.Common.{◌≡◌, subst, refl, ℕ, true, false, List, ◌∷◌, length, None, Result, Ok}
-use Rattle.std.specs.Prelude.{IfOk, if◌then◌else◌, ◌&&◌, is_some, nat_le}
+use Rattle.std.proofs.Common.{◌≡◌, subst, refl, ℕ, true, false, List, ◌∷◌, length, None, Result, Ok, IfOk, if◌then◌else◌, ◌&&◌, is_some, nat_le}
 use Rattle.std.specs.declared.alloc.AllocError.{AllocError}
 use Rattle.wire.specs.declared.Version.{Version}
-use Rattle.messages.specs.View.{RequestView}
-use Rattle.messages.specs.Summaries.{response_of_summary, Passed}
-use Rattle.messages.specs.Arrivals.{Arrival, Asked}
+use Rattle.messages.specs.Prelude.{RequestView, response_of_summary, Passed, Arrival, Asked, response_spelling}
 use Rattle.machine.specs.declared.kinds.Kind.{Kind}
 use Rattle.machine.specs.declared.states.State.{State}
 use Rattle.machine.specs.declared.rows.Verdict.{Verdict}
-use Rattle.machine.specs.Asks.{kind_of, is_goodbye, is_reset}
-use Rattle.machine.specs.Following.{interruptible}
-use Rattle.engine.specs.Views.{Token, EntryView, AnswerView}
+use Rattle.machine.specs.Prelude.{kind_of, is_goodbye, is_reset, interruptible}
+use Rattle.engine.specs.Prelude.{Token, EntryView, AnswerView}
 use Rattle.session.specs.declared.acts.Turn.TheVariants as turn
 use Rattle.session.specs.declared.acts.Leaves.{Leaves}
 use Rattle.session.specs.declared.kinds.Worked.{Worked}
 use Rattle.session.specs.declared.fault.Fault.{Fault}
-use Rattle.session.specs.Said.{fits}
-use Rattle.messages.specs.Writing.{response_spelling}
-use Rattle.session.specs.Session.{Setting, Open, no_result, Tx, no_tx, Summary, serve, reply_to_run, fails, unwritable, in_transaction, with_write, result_of_answer, fields_said}
-use Rattle.session.specs.Rest.{Kept, Step, replies, after_interrupt, turns, reset_among, version_of}
-use Rattle.session.specs.Acts.{Steps, served_interrupted, turn_in, left_result, left_tx, left_entry}
+use Rattle.session.specs.Prelude.{fits, Setting, Open, no_result, Tx, no_tx, Summary, serve, reply_to_run, fails, unwritable, in_transaction, with_write, result_of_answer, fields_said, Kept, Step, replies, after_interrupt, turns, reset_among, version_of, Steps, served_interrupted, turn_in, left_result, left_tx, left_entry}
 
 pub asked_head : (a b : RequestView) (xs ys : List Arrival) → (Asked a ∷ xs) ≡ (Asked b ∷ ys) → a ≡ b
 asked_head a b xs ys e = cc

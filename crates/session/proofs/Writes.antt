@@ -1,9 +1,8 @@
 -- The write of an open result.
-use Rattle.std.proofs.Common.{◌≡◌, ◌≤◌, ◌++◌, suc, refl, ap, List, [], ◌∷◌, length, length-append, Some, arith}
-use Rattle.std.specs.Prelude.{option_to_list}
+use Rattle.std.proofs.Common.{◌≡◌, ◌≤◌, ◌++◌, suc, refl, ap, List, [], ◌∷◌, length, length-append, Some, arith, option_to_list}
 use Rattle.engine.specs.declared.ledger.Write.{Write}
-use Rattle.engine.specs.Views.{write_view, writes_view}
-use Rattle.session.specs.Views.{first_of}
+use Rattle.engine.specs.Prelude.{write_view, writes_view}
+use Rattle.session.specs.Prelude.{first_of}
 
 -- a list of one write, or of none
 pub one_write : (ws : List Write) → length ws ≤ 1 → option_to_list (first_of (writes_view ws)) ≡ writes_view ws

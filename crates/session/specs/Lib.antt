@@ -6,3 +6,4 @@ pub mod Rest
 pub mod Rows
 pub mod Views
 pub mod Acts
+pub mod Prelude

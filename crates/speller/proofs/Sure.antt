@@ -1,9 +1,7 @@
 -- What is ready is good, nests within its room, and has no structure.
 use Rattle.std.proofs.Common.{◌≡◌, ℕ, ◌-◌, ◌≤◌, List, [], refl, arith}
-use Rattle.packstream.specs.Tree.{Tree, null, boolean, list, dict, structure, Trees, no_trees, tree_then, Entries, no_entries, entry_then}
-use Rattle.packstream.specs.Plain.{IsPlain, ArePlain, HavePlain}
-use Rattle.packstream.specs.Good.{depth, trees_depth, entries_depth, IsSound, AreSound, HaveSoundValues, IsGood}
-use Rattle.cells.specs.Faults.{structures, structures_in, structures_under}
+use Rattle.packstream.specs.Prelude.{Tree, null, boolean, list, dict, structure, Trees, no_trees, tree_then, Entries, no_entries, entry_then, IsPlain, ArePlain, HavePlain, depth, trees_depth, entries_depth, IsSound, AreSound, HaveSoundValues, IsGood}
+use Rattle.cells.specs.Prelude.{structures, structures_in, structures_under}
 use Rattle.speller.specs.Ready.{IsReady, AreReady, HaveReady}
 
 -- what nests no deeper than the room, is sound and plain, and has no structures

@@ -1,17 +1,15 @@
 -- What comes of asking: the output that is written, the bytes that are read, and the end.
-use Rattle.std.proofs.Common.{◌≡◌, refl, sym, ◌∙◌, ap, subst, ℕ, ◌<◌, ◌≤◌, Bool, true, false, Option, Some, None, Result, Ok, Err, List, [], ◌++◌, length, take, drop, append_assoc, append-nil, true≢false, ◌⊎◌, inl, inr, ⊎_elim, arith}
-use Rattle.std.specs.Prelude.{not, ◌&&◌, ◌==◌, is_err, OnErr, IfErr}
+use Rattle.std.proofs.Common.{◌≡◌, refl, sym, ◌∙◌, ap, subst, ℕ, ◌<◌, ◌≤◌, Bool, true, false, Option, Some, None, Result, Ok, Err, List, [], ◌++◌, length, take, drop, append_assoc, append-nil, true≢false, ◌⊎◌, inl, inr, ⊎_elim, arith, not, ◌&&◌, ◌==◌, is_err, OnErr, IfErr}
 use Rattle.std.specs.Result.{result_err}
 use Rattle.std.specs.Io.KnownBytes.{Appends, Consumes, IsAtEnd}
 use Rattle.std.proofs.KnownBytes.{Consumes-kept, Consumes-nil, Consumes-trans}
 use Rattle.std.proofs.lemmas.Bool.Decides.{nat_tests}
 use Rattle.std.proofs.Math.Bool.{and-false}
 use Rattle.client.specs.declared.Outcome.{Outcome}
-use Rattle.client.specs.Rest.{Knows, Note, Rest, losses, after_drop, taken_out, awaits}
+use Rattle.client.specs.Prelude.{Knows, Note, Rest, losses, after_drop, taken_out, awaits}
 use Rattle.streams.specs.declared.fault.StreamFault.{StreamFault}
 use Rattle.streams.specs.declared.fault.StreamFault.TheVariants as stream_fault
-use Rattle.streams.specs.Failing.{UnlessTold}
-use Rattle.streams.specs.Asking.{hears_all, after_all, FeedsPiece, HearsPiece, IsAwaited, IsNeeded, ReadsEnd, ReadsOn, ReadsPiece, ReadsAll, Writes, all_answered, GivesUp}
+use Rattle.streams.specs.Prelude.{UnlessTold, hears_all, after_all, FeedsPiece, HearsPiece, IsAwaited, IsNeeded, ReadsEnd, ReadsOn, ReadsPiece, ReadsAll, Writes, all_answered, GivesUp}
 use Rattle.streams.proofs.Parts.{take_short}
 use Rattle.streams.proofs.Tales.{hears_all-append, after_all-append, notes_then}
 

@@ -1,27 +1,22 @@
 -- What a call on the one session makes of a server: its place there, what each call does to it, and that it lives on while the ledger grows.
-use Rattle.std.proofs.Common.{◌≡◌, refl, ap, ℕ, List, [], ◌∷◌, eqb, cond, true, false, Bool, Some, sym, subst, ◌∙◌, ◌++◌, Option, None, Result, Ok, Err, ◌<◌, length, ◌≤◌, arith, append_assoc, append-nil}
-use Rattle.std.specs.Prelude.{IsSome, option_map, unwrap_or, if◌then◌else◌}
+use Rattle.std.proofs.Common.{◌≡◌, refl, ap, ℕ, List, [], ◌∷◌, eqb, cond, true, false, Bool, Some, sym, subst, ◌∙◌, ◌++◌, Option, None, Result, Ok, Err, ◌<◌, length, ◌≤◌, arith, append_assoc, append-nil, IsSome, option_map, unwrap_or, if◌then◌else◌}
 use Rattle.std.proofs.lemmas.Bool.{eq-eqb}
-use Rattle.server.specs.Serving.{Live, Rest, find, replace, without, with_session, on_live, after_step, setting, work_at, taken_from, take_out_at, fed_live, feed_at, cause_or, lost_at}
+use Rattle.server.specs.Prelude.{Live, Rest, find, replace, without, with_session, on_live, after_step, setting, work_at, taken_from, take_out_at, fed_live, feed_at, cause_or, lost_at, Feeding, feeding, takes_none, takes_item, arrival}
 use Rattle.server.proofs.Runs.{find_replaced, find-conn}
-use Rattle.engine.specs.Views.{EntryView, WriteView, ParameterView, AnswerView, QueryFault}
-use Rattle.wire.specs.Framing.{Opened, Item, at_server}
-use Rattle.session.specs.Rest.{Kept, worked_of, work_kept, commit_entries, take_kept, shut, full, after_item}
-use Rattle.streams.specs.Conversing.{with_talk, heard_out, without_talk}
+use Rattle.engine.specs.Prelude.{EntryView, WriteView, ParameterView, AnswerView, QueryFault}
+use Rattle.wire.specs.Prelude.{Opened, Item, at_server, Took as TookOf, takes}
+use Rattle.session.specs.Prelude.{Kept, worked_of, work_kept, commit_entries, take_kept, shut, full, after_item}
+use Rattle.streams.specs.Prelude.{with_talk, heard_out, without_talk, LeavesOthers, Grows, LivesOn}
 use Rattle.engine.specs.declared.answer.Mode.{Mode as QueryMode}
 use Rattle.server.specs.declared.kinds.Refused.{Refused}
 use Rattle.server.specs.declared.kinds.Refused.TheVariants.{SessionsFull}
 use Rattle.session.specs.declared.kinds.Worked.{Worked}
 use Rattle.server.proofs.Answered.{Answers}
 use Rattle.streams.proofs.Parts.{take_short}
-use Rattle.wire.specs.Reader.{Took as TookOf, takes}
 use Rattle.wire.proofs.Readers.{reads_pieces}
 use Rattle.server.specs.declared.kinds.Took.{Took}
 use Rattle.session.specs.declared.kinds.What.{What}
-use Rattle.server.specs.Feeding.{Feeding, feeding, takes_none, takes_item, arrival}
 use Rattle.session.specs.declared.kinds.Cause.{Cause}
-use Rattle.streams.specs.Serving.{LeavesOthers}
-use Rattle.streams.specs.Settling.{Grows, LivesOn}
 
 pub replace-replace : (conn : ℕ) (s t : Live) (ss : List Live) → s.conn ≡ conn → replace conn t (replace conn s ss) ≡ replace conn t ss
 replace-replace conn s t [] e = refl

@@ -1,25 +1,18 @@
 -- A conversation with the bytes of a source, and what waits to go behind it.
-use Rattle.std.proofs.Common.{◌≡◌, refl, sym, ap, subst, ◌∙◌, ℕ, List, [], ◌++◌, append_assoc, append-nil, Option, Some, None, Result, Ok, Err, Bool, false, true≢false, ◌⊎◌, inl, inr}
+use Rattle.std.proofs.Common.{◌≡◌, refl, sym, ap, subst, ◌∙◌, ℕ, List, [], ◌++◌, append_assoc, append-nil, Option, Some, None, Result, Ok, Err, Bool, false, true≢false, ◌⊎◌, inl, inr, IsSome}
 use Rattle.std.specs.Io.KnownBytes.{Appends, Keeps, append_known, Consumes, IsAtEnd}
 use Rattle.std.proofs.KnownBytes.{Appends-nil, Appends-trans, Appends-kept, Consumes-kept, Consumes-trans, Consumes-nil}
 use Rattle.std.proofs.lemmas.List.{append_cancel_left}
-use Rattle.session.specs.Session.{Setting}
-use Rattle.wire.specs.Reader.{state}
-use Rattle.wire.specs.Framing.{at_server, opening}
-use Rattle.server.specs.Serving.{Rest, Live, find, fresh}
+use Rattle.session.specs.Prelude.{Setting, begun}
+use Rattle.wire.specs.Prelude.{state, at_server, opening}
+use Rattle.server.specs.Prelude.{Rest, Live, find, fresh}
 use Rattle.streams.specs.declared.fault.Standing.{Standing}
 use Rattle.streams.specs.declared.fault.Standing.TheVariants.{Open, Over}
 use Rattle.streams.specs.declared.fault.StreamFault.{StreamFault}
-use Rattle.streams.specs.Fronts.{AppendsFront}
-use Rattle.streams.specs.Holding.{HasSent}
-use Rattle.streams.specs.Settling.{Breaks, told_by, Stands, TakesPiece, IsDueTo}
+use Rattle.streams.specs.Prelude.{AppendsFront, HasSent, Breaks, told_by, Stands, TakesPiece, IsDueTo, Talk, conversation, with_talk, IsTurn, Converses, ConversesFront}
 use Rattle.streams.proofs.Stepping.{breaks_with}
 use Rattle.streams.proofs.Talks.{breaks_more, talk_by_items, told_over}
-use Rattle.std.specs.Prelude.{IsSome}
-use Rattle.session.specs.Rest.{begun}
 use Rattle.streams.specs.declared.fault.StreamFault.TheVariants as stream_fault
-use Rattle.streams.specs.Conversing.{Talk, conversation, with_talk}
-use Rattle.streams.specs.Serving.{IsTurn, Converses, ConversesFront}
 use Rattle.streams.proofs.Called.{replace-itself}
 
 pub sent_none : (a : Option (List ℕ)) → HasSent a a

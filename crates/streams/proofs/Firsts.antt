@@ -1,13 +1,10 @@
 -- The first client of a server.
-use Rattle.std.proofs.Common.{◌≡◌, refl, sym, ap, subst, ◌∙◌, ℕ, List, [], ◌++◌, Option, Some}
-use Rattle.std.specs.Prelude.{IsSome}
-use Rattle.engine.specs.Views.{EntryView}
-use Rattle.session.specs.Session.{Setting}
-use Rattle.server.specs.Serving.{Live, Rest, empty, find, fresh, opened}
+use Rattle.std.proofs.Common.{◌≡◌, refl, sym, ap, subst, ◌∙◌, ℕ, List, [], ◌++◌, Option, Some, IsSome}
+use Rattle.engine.specs.Prelude.{EntryView}
+use Rattle.session.specs.Prelude.{Setting}
+use Rattle.server.specs.Prelude.{Live, Rest, empty, find, fresh, opened}
 use Rattle.streams.specs.declared.response.End.{End}
-use Rattle.streams.specs.Conversing.{Talk, conversation, with_talk}
-use Rattle.streams.specs.Serving.{ConversesWhole}
-use Rattle.streams.specs.Responding.{end_of}
+use Rattle.streams.specs.Prelude.{Talk, conversation, with_talk, ConversesWhole, end_of}
 use Rattle.streams.proofs.Called.{here, talk-found}
 use Rattle.streams.proofs.Conversings.{read_all}
 

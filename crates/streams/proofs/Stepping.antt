@@ -1,28 +1,21 @@
 -- What is due of a session with one place at most, step by step, and what goes out of it.
-use Rattle.std.proofs.Common.{◌≡◌, ◌⊎◌, inl, inr, refl, sym, ap, subst, ◌∙◌, ℕ, zero, suc, ◌<◌, ◌≤◌, List, [], ◌∷◌, ◌++◌, length, append-nil, append_assoc, Bool, true, false, Option, Some, None, arith, Ok}
-use Rattle.std.specs.Prelude.{◌&&◌, ◌||◌, if◌then◌else◌, nat_le}
+use Rattle.std.proofs.Common.{◌≡◌, ◌⊎◌, inl, inr, refl, sym, ap, subst, ◌∙◌, ℕ, zero, suc, ◌<◌, ◌≤◌, List, [], ◌∷◌, ◌++◌, length, append-nil, append_assoc, Bool, true, false, Option, Some, None, arith, Ok, ◌&&◌, ◌||◌, if◌then◌else◌, nat_le}
 use Rattle.wire.specs.declared.Version.{Version}
-use Rattle.messages.specs.View.{RequestView}
-use Rattle.messages.specs.Arrivals.{Arrival, Asked, Unread, TooLong}
+use Rattle.messages.specs.Prelude.{RequestView, Arrival, Asked, Unread, TooLong}
 use Rattle.machine.specs.declared.states.State.{State}
-use Rattle.machine.specs.Asks.{kind_of, is_reset}
-use Rattle.machine.specs.Following.{interruptible}
-use Rattle.engine.specs.Views.{EntryView}
+use Rattle.machine.specs.Prelude.{kind_of, is_reset, interruptible}
+use Rattle.engine.specs.Prelude.{EntryView}
 use Rattle.session.specs.declared.kinds.Cause.{Cause}
-use Rattle.session.specs.Session.{Setting, Open, no_result, Tx, Reply, OneRow, Summary, Bye, no_tx, serve}
+use Rattle.session.specs.Prelude.{Setting, Open, no_result, Tx, Reply, OneRow, Summary, Bye, no_tx, serve, Kept, rests, turns, serves, Done, Idle, Full, WroteRow, Wrote, Ended, Step, work_kept, replies, after_interrupt, version_of, commit_entries, worked_of}
 use Rattle.session.proofs.Served.{Served, writes_row, serving}
 use Rattle.machine.specs.declared.kinds.Kind.{Kind}
-use Rattle.session.specs.Rest.{Kept, rests, turns, serves, Done, Idle, Full, WroteRow, Wrote, Ended, Step, work_kept, replies, after_interrupt, version_of, commit_entries, worked_of}
-use Rattle.streams.specs.Conversing.{Talk, silent, after_bytes, heard_out, step_then, steps, steps_due, with_talk, talk_of_due}
-use Rattle.streams.specs.Settling.{IsPlaced, due, outcome, standing_of, HasNothingDue, WorkStep, StepsOut, Breaks, SettlesWhole}
-use Rattle.wire.specs.Framing.{Opened}
-use Rattle.server.specs.Serving.{Rest}
+use Rattle.streams.specs.Prelude.{Talk, silent, after_bytes, heard_out, step_then, steps, steps_due, with_talk, talk_of_due, IsPlaced, due, outcome, standing_of, HasNothingDue, WorkStep, StepsOut, Breaks, SettlesWhole, Puts, AppendsFront}
+use Rattle.wire.specs.Prelude.{Opened}
+use Rattle.server.specs.Prelude.{Rest}
 use Rattle.streams.specs.declared.fault.Standing.{Standing}
 use Rattle.streams.specs.declared.fault.Standing.TheVariants.{Open as Unended, Over}
 use Rattle.std.specs.Io.KnownBytes.{Appends}
 use Rattle.std.proofs.KnownBytes.{Appends-trans}
-use Rattle.streams.specs.Putting.{Puts}
-use Rattle.streams.specs.Fronts.{AppendsFront}
 
 -- A row that is written leaves fewer.
 pub Lessens : ℕ → Reply → Type 0

@@ -1,19 +1,15 @@
 -- What a client makes of its server's bytes, piece by piece.
-use Rattle.std.proofs.Common.{◌≡◌, refl, sym, ◌∙◌, ap, subst, ℕ, Bool, true, false, if◌then◌else◌, Option, Some, None, option_to_list, Result, Ok, Err, List, [], ◌∷◌, ◌++◌, take, drop, append_assoc, append-nil, true≢false, inr}
-use Rattle.std.specs.Prelude.{IsErrOf}
+use Rattle.std.proofs.Common.{◌≡◌, refl, sym, ◌∙◌, ap, subst, ℕ, Bool, true, false, if◌then◌else◌, Option, Some, None, option_to_list, Result, Ok, Err, List, [], ◌∷◌, ◌++◌, take, drop, append_assoc, append-nil, true≢false, inr, IsErrOf}
 use Rattle.wire.specs.declared.Wish.{Wish}
-use Rattle.wire.specs.Framing.{Item, Opened, at_client}
-use Rattle.wire.specs.Reader.{outputs, state, takes}
+use Rattle.wire.specs.Prelude.{Item, Opened, at_client, outputs, state, takes}
 use Rattle.wire.proofs.Readers.{outputs-append, state-append, takes_outputs}
-use Rattle.messages.specs.Arrivals.{Heard as AnyHeard}
+use Rattle.messages.specs.Prelude.{Heard as AnyHeard}
 use Rattle.client.specs.declared.Heard.{Heard}
 use Rattle.client.specs.declared.ClientFault.{ClientFault}
 use Rattle.client.specs.declared.ClientFault.TheVariants as client_fault
-use Rattle.client.specs.Rest.{Knows, Hearing, hears_item, heard_as, Note, Nothing, note_of, Rest, Fed, feed_of, fed_item, fed_open}
-use Rattle.client.specs.Notes.{note, note_result}
-use Rattle.client.specs.Fits.{UnlessMemory}
+use Rattle.client.specs.Prelude.{Knows, Hearing, hears_item, heard_as, Note, Nothing, note_of, Rest, Fed, feed_of, fed_item, fed_open, note, note_result, UnlessMemory}
 use Rattle.client.proofs.Makes.{makes, spoiled_over}
-use Rattle.streams.specs.Asking.{notes_by, notes_of, Tale, after_notes, tale_of, hears_all, after_all, has_ended, FeedsPiece, PartFed}
+use Rattle.streams.specs.Prelude.{notes_by, notes_of, Tale, after_notes, tale_of, hears_all, after_all, has_ended, FeedsPiece, PartFed}
 use Rattle.streams.proofs.Parts.{fed_more}
 
 -- nothing is heard after the end

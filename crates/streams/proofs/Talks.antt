@@ -1,34 +1,24 @@
 -- What a conversation has come to after some bytes of the client: by its items, by what arrives, and by the pieces that are taken.
-use Rattle.std.proofs.Common.{◌≡◌, refl, sym, ap, subst, ◌∙◌, ℕ, Bool, true, false, List, [], ◌∷◌, ◌++◌, append-nil, append_assoc, Option, Some, None, option_to_list, arith, take, drop, take-append-drop, Ok, Err, Result}
-use Rattle.std.specs.Prelude.{◌&&◌, if◌then◌else◌, IsSome, is_some, ◌||◌}
-use Rattle.wire.specs.Framing.{Item, Opened, at_server, items_received, Opening, Noop, Message, TooBig}
-use Rattle.messages.specs.Arrivals.{Arrival, Asked, Unread, TooLong, Shook, NoMagic, then_request, requests_in, after_shake, arrivals_of}
-use Rattle.machine.specs.Asks.{kind_of, is_reset}
-use Rattle.machine.specs.Following.{interruptible}
-use Rattle.engine.specs.Views.{EntryView}
+use Rattle.std.proofs.Common.{◌≡◌, refl, sym, ap, subst, ◌∙◌, ℕ, Bool, true, false, List, [], ◌∷◌, ◌++◌, append-nil, append_assoc, Option, Some, None, option_to_list, arith, take, drop, take-append-drop, Ok, Err, Result, ◌&&◌, if◌then◌else◌, IsSome, is_some, ◌||◌, bytes_eq}
+use Rattle.wire.specs.Prelude.{Item, Opened, at_server, items_received, Opening, Noop, Message, TooBig, Took, state, outputs, takes, magic, choice_of as version_taken}
+use Rattle.messages.specs.Prelude.{Arrival, Asked, Unread, TooLong, Shook, NoMagic, then_request, requests_in, after_shake, arrivals_of, RequestView, request_of}
+use Rattle.machine.specs.Prelude.{kind_of, is_reset, interruptible}
+use Rattle.engine.specs.Prelude.{EntryView}
 use Rattle.session.specs.declared.kinds.Cause.{Cause}
-use Rattle.session.specs.Session.{Setting}
-use Rattle.session.specs.Rest.{Kept, after_item, after_interrupt, version_of, begun, shut, unread_among, arrival_by}
-use Rattle.server.specs.Feeding.{arrives, arrival as arrival_of}
-use Rattle.streams.specs.Conversing.{Talk, silent, after_bytes, heard_out, steps, talk_of_due, unless_ended, talk_then, with_talk, talk_of_arrivals, conversation}
-use Rattle.streams.specs.Settling.{IsPlaced, due, item_talk, standing_of, Breaks, Settles, Feeds, told_by, TakesOne, Stands, TakesFront, TakesPiece}
+use Rattle.session.specs.Prelude.{Setting, Kept, after_item, after_interrupt, version_of, begun, shut, unread_among, arrival_by}
+use Rattle.server.specs.Prelude.{arrives, arrival as arrival_of, Rest}
+use Rattle.streams.specs.Prelude.{Talk, silent, after_bytes, heard_out, steps, talk_of_due, unless_ended, talk_then, with_talk, talk_of_arrivals, conversation, IsPlaced, due, item_talk, standing_of, Breaks, Settles, Feeds, told_by, TakesOne, Stands, TakesFront, TakesPiece}
 use Rattle.streams.proofs.Stepping.{Grown, Rested, RestsAs, steps_grow, steps_rest, breaks_after, breaks_with, front_more}
 use Rattle.std.specs.Io.KnownBytes.{Appends}
 use Rattle.std.proofs.KnownBytes.{Appends-trans}
-use Rattle.wire.specs.Reader.{Took, state, outputs, takes}
 use Rattle.wire.proofs.Readers.{outputs-append, state-append, takes_outputs}
-use Rattle.server.specs.Serving.{Rest}
 use Rattle.streams.specs.declared.fault.Standing.{Standing}
 use Rattle.streams.specs.declared.fault.StreamFault.{StreamFault}
 use Rattle.streams.specs.declared.fault.Standing.TheVariants.{Open, Over}
 use Rattle.streams.specs.declared.intake.Taken.{Taken}
 use Rattle.streams.proofs.Parts.{fed_more}
-use Rattle.std.specs.Str.{bytes_eq}
 use Rattle.wire.specs.declared.Version.{Version}
-use Rattle.wire.specs.Offers.{magic, choice_of as version_taken}
 use Rattle.messages.specs.declared.MsgFault.{MsgFault}
-use Rattle.messages.specs.View.{RequestView}
-use Rattle.messages.specs.Messages.{request_of}
 use Rattle.messages.specs.Arrivals as arrival
 use Rattle.wire.proofs.Opening.{AreChunks, Came, part, whole, came}
 

@@ -8,3 +8,4 @@ pub mod Putting
 pub mod Settling
 pub mod Serving
 pub mod Responding
+pub mod Prelude

@@ -1,26 +1,20 @@
 -- What was read can be written. A value is read and a cell is written in one way, or refused for one fault; so what is answered, clause by clause, is one.
 use Rattle.std.proofs.Common.{◌≡◌, ℕ, List, [], ◌∷◌, length, Bool, true, false, cond, ◌&&◌, ◌==◌, None, is_none, Ok, Err, refl, sym, ap, ◌∙◌, eqb-true, eq-eqb, subst, inl, inr, ◌↔◌, Result}
-use Rattle.packstream.specs.Tree.{Tree, list, dict, structure, Trees, no_trees, tree_then, Entries, no_entries, entry_then}
-use Rattle.packstream.specs.Good.{count, IsGood}
+use Rattle.packstream.specs.Prelude.{Tree, list, dict, structure, Trees, no_trees, tree_then, Entries, no_entries, entry_then, count, IsGood}
 use Rattle.wire.specs.declared.Version.{Version}
 use Rattle.wire.specs.declared.Version.TheVariants.{V44}
 use Rattle.cells.specs.declared.table.Field.{Field}
 use Rattle.cells.specs.declared.table.Field.TheVariants.{Nodes, Relationships, Indices}
 use Rattle.cells.specs.declared.fault.Reason.{Reason}
 use Rattle.cells.specs.declared.fault.Reason.TheVariants.{NotInVersion, Range, PathShape}
-use Rattle.cells.specs.Table.{kinds}
-use Rattle.cells.specs.Faults.{first_failed, to_utc, are_in_range, is_path, fault, structures, structures_in, structures_under, scan, IsBad, IsFine}
-use Rattle.cells.specs.Steps.{all_fine}
-use Rattle.cells.specs.Writing.{moment_tag, fault_of_structure, fault_of_structure_by, IsWritable, IsUnwritable}
+use Rattle.cells.specs.Prelude.{kinds, first_failed, to_utc, are_in_range, is_path, fault, structures, structures_in, structures_under, scan, IsBad, IsFine, all_fine, moment_tag, fault_of_structure, fault_of_structure_by, IsWritable, IsUnwritable, shape}
 use Rattle.cells.proofs.Scanning.{Found}
 use Rattle.cells.proofs.Both.{both_true}
 use Rattle.cells.proofs.Fine.{scan_fine, fine_scan, fine_append, fine_itself, fine_within, fine_left, fine_right}
-use Rattle.structures.specs.Form.{Form, typed, typed_all, typed_under, form}
+use Rattle.structures.specs.Prelude.{Form, typed, typed_all, typed_under, form, HasOneReading, HasOneWriting, Reads, Writes, HasGoodForm, HasBadForm, Gave, UnlessMemory, IsUnpacked}
 use Rattle.structures.proofs.Got.{passed, at_both, fine_at, row_of, of_local}
 use Rattle.structures.proofs.Formed.{Maps, ranges_kept, count_kept, path_kept, again, form_is}
-use Rattle.structures.specs.Answers.{HasOneReading, HasOneWriting, Reads, Writes, HasGoodForm, HasBadForm, Gave, UnlessMemory, IsUnpacked}
 use Rattle.cells.specs.declared.cell.Cell.{Cell}
-use Rattle.cells.specs.Shape.{shape}
 use Rattle.packstream.specs.declared.fault.Reason.{Reason as PackReason}
 use Rattle.packstream.proofs.Checking.{bad_when}
 use Rattle.structures.specs.declared.fault.CellFault.{CellFault}

@@ -2,32 +2,23 @@
 use Rattle.std.proofs.Common.{◌≡◌, ℕ, ℤ, ◌+ℤ◌, ◌-ℤ◌, Bool, true, false, not, cond, ◌==◌, None, refl, sym, ap, ◌∙◌, arith, eqb-true, subst, suc, pos, neg_ℤ, ◌≤ℤ◌, List, [], ◌∷◌, ◌++◌, length, ◌&&◌, Option, Some, is_none, Result, Ok, Err, eq-eqb}
 use Rattle.std.proofs.lemmas.Int.{ints}
 use Rattle.std.proofs.lemmas.Bool.{not-true}
-use Rattle.packstream.specs.Tree.{Tree, int, list, dict, structure, Trees, no_trees, tree_then, Entries, no_entries, entry_then, text}
+use Rattle.packstream.specs.Prelude.{Tree, int, list, dict, structure, Trees, no_trees, tree_then, Entries, no_entries, entry_then, text, IsGood, count}
 use Rattle.wire.specs.declared.Version.{Version}
 use Rattle.wire.specs.declared.Version.TheVariants.{V44}
-use Rattle.cells.specs.Table.{row_in, table, Row, fields_of, kinds}
-use Rattle.cells.specs.Faults.{scan, to_utc, fault, structures, structures_in, structures_under, first_failed, moment_fields, is_int, is_text, has_tag, each, is_list_of, is_kind, are_kinds, in_range, are_in_range, is_path}
-use Rattle.cells.specs.Steps.{all_fine}
-use Rattle.cells.specs.Cells.{is_typed, are_typed, have_typed, is_row, has_count}
+use Rattle.cells.specs.Prelude.{row_in, table, Row, fields_of, kinds, scan, to_utc, fault, structures, structures_in, structures_under, first_failed, moment_fields, is_int, is_text, has_tag, each, is_list_of, is_kind, are_kinds, in_range, are_in_range, is_path, all_fine, is_typed, are_typed, have_typed, is_row, has_count, shape, moment_tag, fault_of_structure, fault_of_structure_by, IsWritable}
 use Rattle.cells.proofs.Both.{and_left, and_right, both_true}
 use Rattle.cells.proofs.Fine.{fine_itself, fine_within, fine_left, fine_right, scan_fine, fine_scan, fine_append}
-use Rattle.structures.specs.Form.{typed, typed_all, typed_under, form, form_all, form_under, moment, to_local, Form}
-use Rattle.structures.specs.Laying.{date_time_fields as three}
+use Rattle.structures.specs.Prelude.{typed, typed_all, typed_under, form, form_all, form_under, moment, to_local, Form, date_time_fields as three, Writes, Packs, has_kinds}
 use Rattle.structures.proofs.Got.{of_local, stood, at_both, first_none, between, of_three}
-use Rattle.packstream.specs.Good.{IsGood, count}
 use Rattle.cells.specs.declared.table.Field.{Field}
 use Rattle.cells.specs.declared.table.Field.TheVariants.{Nanosecond, DayNanosecond, Offset, UtcSecond, Text, Labels, Nodes, Relationships, Indices}
 use Rattle.cells.specs.declared.fault.Reason.{Reason}
 use Rattle.cells.specs.declared.fault.Reason.TheVariants.{FieldCount, FieldKind, Range, PathShape}
 use Rattle.cells.specs.declared.cell.Cell.{Cell}
-use Rattle.cells.specs.Shape.{shape}
 use Rattle.cells.proofs.Typed.{typed_shape}
 use Rattle.cells.proofs.Faulty.{fault_is, wrong_is}
-use Rattle.wire.specs.Versions.{has_element_ids}
-use Rattle.cells.specs.Writing.{moment_tag, fault_of_structure, fault_of_structure_by, IsWritable}
+use Rattle.wire.specs.Prelude.{has_element_ids}
 use Rattle.structures.specs.declared.fault.CellFault.{CellFault}
-use Rattle.structures.specs.Answers.{Writes, Packs}
-use Rattle.structures.specs.Steps.{has_kinds}
 use Rattle.structures.specs.declared.fault.CellFault.TheVariants as told
 
 pub there_and_back : (u o : ℤ) → (u +ℤ o) -ℤ o ≡ u

@@ -2,24 +2,19 @@
 use Rattle.std.proofs.Common.{◌≡◌, ◌++◌, take, ℤ, pos, neg_ℤ, ◌-ℤ◌, ◌≤ℤ◌, int_le, ℕ, suc, zero, ◌+◌, ◌<◌, ◌≤◌, List, [], ◌∷◌, map, length, get_or, append-nil, Bool, true, false, ◌&&◌, ◌==◌, cond, Option, Some, None, Result, Ok, Err, refl, sym, ap, ◌∙◌, arith, eqb-true, subst}
 use Rattle.std.proofs.lemmas.Int.{ints}
 use Rattle.std.proofs.lemmas.List.{map_more, map_push}
-use Rattle.packstream.specs.Tree.{Tree, null, int, structure, Trees, no_trees, tree_then, entry_then}
-use Rattle.packstream.specs.Good.{count}
-use Rattle.packstream.specs.View.{tree, trees, trees_of, entries_of}
+use Rattle.packstream.specs.Prelude.{Tree, null, int, structure, Trees, no_trees, tree_then, entry_then, count, tree, trees, trees_of, entries_of}
 use Rattle.packstream.specs.declared.value.Value.{Value}
 use Rattle.packstream.proofs.Putting.{len_trees}
 use Rattle.wire.specs.declared.Version.{Version}
 use Rattle.wire.specs.declared.Version.TheVariants.{V44}
-use Rattle.wire.specs.Versions.{has_element_ids, every_version}
+use Rattle.wire.specs.Prelude.{has_element_ids, every_version}
 use Rattle.cells.specs.declared.table.Field.{Field}
 use Rattle.cells.specs.declared.table.Field.TheVariants.{Integer, Text, Properties, Nodes, Relationships, Indices}
 use Rattle.cells.specs.declared.fault.Reason.{Reason}
 use Rattle.cells.specs.declared.fault.Reason.TheVariants.{NotInVersion}
-use Rattle.cells.specs.Table.{row, row_in, table, fields_in, fields_at, fields_of, kinds}
-use Rattle.cells.specs.Faults.{moment_fields, to_utc, each, is_kind, are_kinds, are_in_range, utc_fields, is_path, wrong, fault, fault_by}
+use Rattle.cells.specs.Prelude.{row, row_in, table, fields_in, fields_at, fields_of, kinds, moment_fields, to_utc, each, is_kind, are_kinds, are_in_range, utc_fields, is_path, wrong, fault, fault_by}
 use Rattle.cells.proofs.Both.{and_left, and_right}
-use Rattle.structures.specs.Form.{typed, typed_all, typed_under}
-use Rattle.structures.specs.Laying.{date_time_fields as three}
-use Rattle.structures.specs.Steps.{tree_at, ReadElements, typed_entry}
+use Rattle.structures.specs.Prelude.{typed, typed_all, typed_under, date_time_fields as three, tree_at, ReadElements, typed_entry}
 
 pub at_some : (xs : List Value) (i : ℕ) (d : Value) → i < length xs → d ≡ get_or xs i d → tree_at i (trees_of (trees xs)) ≡ tree d
 at_some [] i d h e = absurd (omega arith)

@@ -3,3 +3,4 @@ pub mod Answers
 pub mod Fitting
 pub mod Laying
 pub mod Steps
+pub mod Prelude

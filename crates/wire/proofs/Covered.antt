@@ -1,11 +1,9 @@
 -- The version that is chosen, by the rule of the handshake.
-use Rattle.std.proofs.Common.{◌≡◌, ◌-◌, ◌↔◌, ◌==◌, ℕ, List, [], ◌∷◌, Bool, true, false, if◌then◌else◌, ◌&&◌, nat_le, Option, Some, None, inl, inr, refl, sym, ap, ◌∙◌, ◌+◌, ◌<◌, length, get_or, drop, drop-cons, add-one, eqb-true, eq-eqb, leb-true}
-use Rattle.std.specs.Prelude.{find}
+use Rattle.std.proofs.Common.{◌≡◌, ◌-◌, ◌↔◌, ◌==◌, ℕ, List, [], ◌∷◌, Bool, true, false, if◌then◌else◌, ◌&&◌, nat_le, Option, Some, None, inl, inr, refl, sym, ap, ◌∙◌, ◌+◌, ◌<◌, length, get_or, drop, drop-cons, add-one, eqb-true, eq-eqb, leb-true, find}
 use Rattle.std.specs.Option.{option_or}
 use Rattle.std.proofs.lemmas.Bool.{and_from, and_parts, le-leb}
 use Rattle.wire.specs.declared.versions.Version.{Version}
-use Rattle.wire.specs.Versions.{versions, major_of, minor_of}
-use Rattle.wire.specs.Offers.{is_covered, covered_by, choice_of, Covers, IsFirstCovered, CoversNone, Chooses, ProposalsChoose}
+use Rattle.wire.specs.Prelude.{versions, major_of, minor_of, is_covered, covered_by, choice_of, Covers, IsFirstCovered, CoversNone, Chooses, ProposalsChoose}
 
 -- the test is the rule
 covers_is : (a b c d : ℕ) (v : Version) → is_covered a b c d v ≡ true → Covers a b c d v

@@ -3,11 +3,7 @@ use Rattle.std.proofs.Common.{◌≡◌, ◌↔◌, ℕ, ◌+◌, ◌-◌, ◌*�
 use Rattle.std.proofs.lemmas.List.{take_at, drop_at, take_all}
 use Rattle.std.proofs.lemmas.Bool.Decides.{nat_tests}
 use Rattle.wire.specs.declared.items.Piece.TheVariants.{Message}
-use Rattle.wire.specs.Place.{Place, start}
-use Rattle.wire.specs.Unfinished.{fresh}
-use Rattle.wire.specs.Items.{open_at, item_of, Answered, answer_from, further}
-use Rattle.wire.specs.Texts.{chunk_of, run_of, BeginsWith}
-use Rattle.wire.specs.Stream.{TakesFirst}
+use Rattle.wire.specs.Prelude.{Place, start, fresh, open_at, item_of, Answered, answer_from, further, chunk_of, run_of, BeginsWith, TakesFirst}
 use Rattle.wire.proofs.Cuts.{answer_from-grown, further-further}
 use Rattle.wire.proofs.Grammar.{header-number, item_of-some}
 

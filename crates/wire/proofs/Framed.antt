@@ -1,20 +1,14 @@
 -- The items of the real bytes.
-use Rattle.std.proofs.Common.{◌≡◌, refl, sym, ◌∙◌, ap, ℕ, zero, suc, ◌+◌, ◌-◌, ◌<◌, ◌≤◌, Bool, cond, true, false, leb, Option, Some, None, option_to_list, Result, Ok, Err, List, [], ◌∷◌, ◌++◌, length, take, drop, arith, append_assoc, length-append, length-drop}
+use Rattle.std.proofs.Common.{◌≡◌, refl, sym, ◌∙◌, ap, ℕ, zero, suc, ◌+◌, ◌-◌, ◌<◌, ◌≤◌, Bool, cond, true, false, leb, Option, Some, None, option_to_list, Result, Ok, Err, List, [], ◌∷◌, ◌++◌, length, take, drop, arith, append_assoc, length-append, length-drop, if◌then◌else◌}
 use Rattle.std.proofs.lemmas.List.{take-append-drop, take-append-le}
 use Rattle.std.proofs.Math.Seq.{take-append-add}
 use Rattle.std.proofs.lemmas.Bool.Decides.{nat_tests}
 use Rattle.wire.specs.declared.items.Fed.{Fed}
 use Rattle.wire.specs.declared.faults.WireFault.{WireFault}
 use Rattle.wire.specs.declared.faults.WireFault.TheVariants as fault
-use Rattle.wire.specs.Unfinished.{Unfinished, fresh}
-use Rattle.wire.specs.Items.{Step, goes, ends, refused, after_limit, next, item_of, Answered, answer_from, later}
+use Rattle.wire.specs.Prelude.{Unfinished, fresh, Step, goes, ends, refused, after_limit, next, item_of, Answered, answer_from, later, Seen, on_next, items_of, IsTold, header_bytes, written_run, Took, state, outputs, one_more, ends_at, takes, Item, Opening, Noop, Message, TooBig, item_at_end, item_at, chunks, item_bytes, bytes_in_order, within, CanCome, AllCome, item_in, took_by, arrivals, refusal, AnswersTake, ReadsItems}
 use Rattle.wire.specs.Items as items
-use Rattle.wire.specs.Stream.{Seen, on_next, items_of, IsTold}
-use Rattle.wire.specs.Whole.{header_bytes}
-use Rattle.std.specs.Prelude.{if◌then◌else◌}
-use Rattle.wire.specs.Texts.{written_run}
-use Rattle.wire.specs.Reader.{Took, state, outputs, one_more, ends_at, takes}
-use Rattle.wire.specs.Framing.{Item, Opening, Noop, Message, TooBig, item_at_end, after_step, item_at, chunks, item_bytes, bytes_in_order, within, CanCome, AllCome, item_in, took_by, arrivals, refusal, AnswersTake, ReadsItems}
+use Rattle.wire.specs.Framing.{after_step}
 use Rattle.wire.proofs.Limits.{next_case, IsOpen, next-open}
 use Rattle.wire.proofs.Streams.{answer_from-facts}
 use Rattle.wire.proofs.Grammar.{reads_back}

@@ -1,20 +1,12 @@
 -- The whole messages of bytes are those of the longest front that no-ops and runs cover.
-use Rattle.std.proofs.Common.{◌≡◌, ℕ, ◌+◌, ◌-◌, ◌*◌, ◌<◌, ◌≤◌, List, [], ◌∷◌, ◌++◌, length, take, drop, true, false, eqb, ltb, None, inl, inr, refl, sym, ap, subst, ◌∙◌, append_assoc, append-nil, length-append, length-take, arith}
+use Rattle.std.proofs.Common.{◌≡◌, ℕ, ◌+◌, ◌-◌, ◌*◌, ◌<◌, ◌≤◌, List, [], ◌∷◌, ◌++◌, length, take, drop, true, false, eqb, ltb, None, inl, inr, refl, sym, ap, subst, ◌∙◌, append_assoc, append-nil, length-append, length-take, arith, map, flat_map}
 use Rattle.std.proofs.lemmas.List.{nil_from_length, take-append-drop, append_cancel_left}
 use Rattle.std.proofs.Math.Seq.{take-append_seam, take-append-add}
-use Rattle.std.specs.Prelude.{map}
-use Rattle.std.specs.List.{flat_map}
 use Rattle.std.proofs.lemmas.Bool.{cases_lt}
 use Rattle.std.proofs.lemmas.Bool.Decides.{nat_tests}
 use Rattle.wire.specs.declared.items.Piece.{Piece}
 use Rattle.wire.specs.declared.items.Piece.TheVariants.{Message}
-use Rattle.wire.specs.Unfinished.{fresh}
-use Rattle.wire.specs.Items.{open_at, item_of}
-use Rattle.wire.specs.Texts.{chunk_of, run_of, written_run}
-use Rattle.wire.specs.Runs.{AreChunks, body_of, AreRuns, messages_of, Texts, IsWhole}
-use Rattle.wire.specs.Stream.{Seen, before, items_of, Splits}
-use Rattle.wire.specs.Whole.{messages, whole, ReadsMessages, ReadsWhole, OneWhole, RefusesPast, BeginsNone}
-use Rattle.wire.specs.Framing.{arrivals, refusal}
+use Rattle.wire.specs.Prelude.{fresh, open_at, item_of, chunk_of, run_of, written_run, AreChunks, body_of, AreRuns, messages_of, Texts, IsWhole, Seen, before, items_of, Splits, messages, whole, ReadsMessages, ReadsWhole, OneWhole, RefusesPast, BeginsNone, arrivals, refusal}
 use Rattle.wire.proofs.Streams.{items_of_append}
 use Rattle.wire.proofs.Framed.{only_last, reads_items}
 use Rattle.wire.proofs.Grammar.{reads_texts, reads_back, items_of-chunk}

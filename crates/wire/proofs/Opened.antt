@@ -1,17 +1,12 @@
 -- Streams that begin with a fixed number of bytes, and the items of their fronts.
-use Rattle.std.proofs.Common.{◌≡◌, refl, sym, ◌∙◌, ap, ℕ, ◌+◌, ◌-◌, ◌<◌, ◌≤◌, Bool, cond, true, false, eqb, leb, inl, inr, option_to_list, List, [], ◌∷◌, ◌++◌, length, take, arith, append_assoc, append-nil, length-append, length-take}
-use Rattle.std.specs.Prelude.{if◌then◌else◌, map, reverse, nat_le}
+use Rattle.std.proofs.Common.{◌≡◌, refl, sym, ◌∙◌, ap, ℕ, ◌+◌, ◌-◌, ◌<◌, ◌≤◌, Bool, cond, true, false, eqb, leb, inl, inr, option_to_list, List, [], ◌∷◌, ◌++◌, length, take, arith, append_assoc, append-nil, length-append, length-take, if◌then◌else◌, map, reverse, nat_le}
 use Rattle.std.proofs.lemmas.List.{take-append-le, reverse-append, reverse-reverse}
 use Rattle.std.proofs.Math.Seq.{take-append-add}
 use Rattle.std.proofs.lemmas.Bool.{cases_lt, le-leb, lt-leb, cond_both}
 use Rattle.std.proofs.lemmas.Bool.Decides.{nat_tests}
 use Rattle.wire.specs.declared.offers.Wish.{Wish}
 use Rattle.wire.specs.declared.offers.Wish.TheVariants.{Newest, Only}
-use Rattle.wire.specs.Unfinished.{Unfinished, fresh}
-use Rattle.wire.specs.Offers.{offer_of}
-use Rattle.wire.specs.Texts.{written_run}
-use Rattle.wire.specs.Reader.{state, outputs}
-use Rattle.wire.specs.Framing.{Item, Opening, Noop, Message, TooBig, chunks, Opened, opening, reading, opening_reader, items_received, items_heard, item_bytes, bytes_in_order, within, bytes_newest_first, within_newest_first, CanCome, AllCome, Spoken, FramesFronts, AreMessages, OursArrives, SaidArrives, ReadersRead}
+use Rattle.wire.specs.Prelude.{Unfinished, fresh, offer_of, written_run, state, outputs, Item, Opening, Noop, Message, TooBig, chunks, Opened, opening, reading, opening_reader, items_received, items_heard, item_bytes, bytes_in_order, within, bytes_newest_first, within_newest_first, CanCome, AllCome, Spoken, FramesFronts, AreMessages, OursArrives, SaidArrives, ReadersRead}
 use Rattle.wire.proofs.Readers.{outputs-append, reads_pieces}
 use Rattle.wire.proofs.Framed.{fronts_within}
 

@@ -1,13 +1,13 @@
 -- The proposals one by one.
-use Rattle.std.proofs.Common.{◌≡◌, ℕ, zero, suc, ◌+◌, ◌≤◌, List, ◌∷◌, length, get_or, drop, Option, Some, None, false, refl, sym, ap, ◌∙◌, arith}
+use Rattle.std.proofs.Common.{◌≡◌, ℕ, zero, suc, ◌+◌, ◌≤◌, List, ◌∷◌, length, get_or, drop, Option, Some, None, false, refl, sym, ap, ◌∙◌, arith, is_some}
 use Rattle.std.proofs.Math.Nat.{suc-add}
-use Rattle.std.specs.Prelude.{is_some}
 use Rattle.std.specs.Option.{option_or}
 use Rattle.wire.specs.declared.versions.Version.{Version}
 use Rattle.wire.specs.declared.versions.Version.TheVariants.{V44, V50, V51}
 use Rattle.wire.specs.declared.offers.Wish.{Wish}
 use Rattle.wire.specs.declared.offers.Wish.TheVariants.{Newest, Only}
-use Rattle.wire.specs.Offers.{choice_of, covered_by, version_answer, Taken, OffersTaken}
+use Rattle.wire.specs.Prelude.{choice_of, covered_by, version_answer, OffersTaken}
+use Rattle.wire.specs.Offers.{Taken}
 
 -- the proposal at a place comes before those after it
 pub chosen-at : (xs : List ℕ) (k : ℕ) → k + 4 ≤ length xs → choice_of (drop k xs) ≡ option_or (covered_by (get_or xs k 0) (get_or xs (k + 1) 0) (get_or xs (k + 2) 0) (get_or xs (k + 3) 0)) (choice_of (drop (k + 4) xs))

@@ -1,7 +1,7 @@
 -- The bytes that are taken of a piece, told by the items of the bytes so far.
 use Rattle.std.proofs.Common.{◌≡◌, refl, ◌∙◌, ap, ℕ, suc, ◌+◌, if◌then◌else◌, nat_lt, Option, Some, None, option_to_list, List, [], ◌∷◌, ◌++◌, length, take, slice_get, arith, append-nil, length-append}
 use Rattle.std.proofs.lemmas.Bool.{lt-ltb, le-ltb, cond-true, cond-false}
-use Rattle.wire.specs.Reader.{Reader, state, outputs, ends_at, takes, items_so_far, reach, ReachesItems}
+use Rattle.wire.specs.Prelude.{Reader, state, outputs, ends_at, takes, items_so_far, reach, ReachesItems}
 use Rattle.wire.proofs.Readers.{outputs-append, state-append, takes_outputs}
 
 module _ (R X : Type 0) (p : Reader R X) where

@@ -1,7 +1,6 @@
 -- What every reader does with pieces depends on what it keeps alone.
-use Rattle.std.proofs.Common.{◌≡◌, refl, sym, ◌∙◌, ap, ℕ, zero, suc, ◌+◌, ◌<◌, ◌≤◌, Option, Some, None, option_to_list, List, [], ◌∷◌, ◌++◌, length, take, zero-add, arith, append_assoc}
-use Rattle.std.specs.Prelude.{map}
-use Rattle.wire.specs.Reader.{Reader, Took, state, outputs, one_more, ends_at, takes, or_more, then_takes, ReadsPieces, meaning_reader}
+use Rattle.std.proofs.Common.{◌≡◌, refl, sym, ◌∙◌, ap, ℕ, zero, suc, ◌+◌, ◌<◌, ◌≤◌, Option, Some, None, option_to_list, List, [], ◌∷◌, ◌++◌, length, take, zero-add, arith, append_assoc, map}
+use Rattle.wire.specs.Prelude.{Reader, Took, state, outputs, one_more, ends_at, takes, or_more, then_takes, ReadsPieces, meaning_reader}
 
 module _ (R X : Type 0) (p : Reader R X) where
   pub outputs-append : (r : R) (a b : List ℕ) → outputs p r (a ++ b) ≡ outputs p r a ++ outputs p (state p r a) b

@@ -7,12 +7,9 @@ use Rattle.wire.specs.declared.faults.WireFault.{WireFault}
 use Rattle.wire.specs.declared.faults.WireFault.TheVariants.{TooBig, Memory}
 use Rattle.wire.specs.declared.parts.Part.TheVariants as part
 use Rattle.wire.specs.declared.parts.Cut.{Cut}
-use Rattle.wire.specs.Place.{Place}
-use Rattle.wire.specs.Parts.{cut_at}
+use Rattle.wire.specs.Prelude.{Place, cut_at, Unfinished, fresh, unfinished_at, Step, goes, ends, refused, open_at, next, item_of, later, Answered, further, after_step, answer_from, hands_out, wants_room}
 use Rattle.wire.specs.Parts as parts
-use Rattle.wire.specs.Unfinished.{Unfinished, fresh, unfinished_at}
 use Rattle.wire.proofs.Limits.{next_case}
-use Rattle.wire.specs.Items.{Step, goes, ends, refused, open_at, next, item_of, later, Answered, further, after_step, answer_from, hands_out, wants_room}
 
 pub later_hands : (n : ℕ) (r : Result Fed WireFault) → hands_out (later n r) ≡ hands_out r
 later_hands n (Ok fed) = refl

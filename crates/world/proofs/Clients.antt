@@ -3,40 +3,28 @@ use Rattle.std.proofs.Common.{◌≡◌, refl, sym, ◌∙◌, ap, subst, ℕ, B
 use Rattle.std.proofs.lemmas.Bool.{or_parts, eqb-true, eqb-false, cond_both}
 use Rattle.wire.specs.declared.Version.{Version}
 use Rattle.wire.specs.declared.Wish.{Wish}
-use Rattle.wire.specs.Offers.{wish_version}
-use Rattle.wire.specs.Framing.{Opened, at_client}
+use Rattle.wire.specs.Prelude.{wish_version, Opened, at_client, reach, takes, state}
 use Rattle.messages.specs.declared.MsgFault.{MsgFault}
-use Rattle.messages.specs.View.{RequestView}
-use Rattle.messages.specs.Writing.{request_spelling}
-use Rattle.messages.specs.Arrivals.{IsWritten, AreWritten, hears}
-use Rattle.messages.specs.Sound.{IsRequest}
+use Rattle.messages.specs.Prelude.{RequestView, request_spelling, IsWritten, AreWritten, hears, IsRequest}
 use Rattle.messages.proofs.Rounds.{request_reads_back}
 use Rattle.messages.proofs.Sayings.{requests_are_made}
-use Rattle.engine.specs.Views.{EntryView}
-use Rattle.session.specs.Session.{Setting}
-use Rattle.client.specs.Rest.{writing_fault, writing_fault_by, Knows, refuses, Note, feed_of}
-use Rattle.client.specs.Client.{Reading, knows_of, refusal_of, reading_of}
+use Rattle.engine.specs.Prelude.{EntryView}
+use Rattle.session.specs.Prelude.{Setting}
+use Rattle.client.specs.Prelude.{writing_fault, writing_fault_by, Knows, refuses, Note, feed_of, Reading, knows_of, refusal_of, reading_of, Call, Submits, Feeds as FeedsCall, Loses, Run, starts, submits, used_of, call, calls, opened_bytes, tellings_in, Told}
 use Rattle.client.proofs.Refusing.{accepted_facts, accepted_written, knows_version}
-use Rattle.world.specs.Connections.{Ours, input, Connection, wish_of, said_version, client, Foreign, output, bytes_delivered, Peer, fresh}
-use Rattle.world.specs.World.{World, Event, Submit, Seen, Effect, place, IsMade, give, taken_for, Reached, Opens, effect_at_peer, taken_out}
+use Rattle.world.specs.Prelude.{Ours, input, Connection, wish_of, said_version, client, Foreign, output, bytes_delivered, Peer, fresh, World, Event, Submit, Seen, Effect, place, IsMade, give, taken_for, Reached, Opens, effect_at_peer, taken_out, client_rest, IsFew, Ran, told_in, told_at, by_peer}
 use Rattle.world.proofs.Deeds as deed
 use Rattle.world.proofs.Deeds.{Deed, Did, opens, acts, step_did, along, set_same, set_other}
 use Rattle.world.proofs.Sound.{Sound, Speaks, says, feed_speaks, work_speaks, noop_speaks, reached_sound, Alike, client_alike, Does, stays, asks, loses, gives, strange, deed_does}
 use Rattle.world.proofs.Kept.{Talk}
 use Rattle.world.proofs.Trace.{Trace}
-use Rattle.wire.specs.Reader.{reach, takes, state}
-use Rattle.client.specs.Moments.{Call, Submits, Feeds as FeedsCall, Loses, Run, starts, submits, used_of, call, calls, opened_bytes, tellings_in}
 use Rattle.client.proofs.Runs.{tells_by_bytes, calls_hold, starts_hold}
 use Rattle.client.proofs.Few.{keeps_few}
 use Rattle.client.proofs.Later.{reading_later}
-use Rattle.world.specs.Rests.{client_rest}
-use Rattle.world.specs.Limits.{IsFew}
 use Rattle.world.proofs.Giving.{used_same, given_more, seen_as, give_same, give_told}
 use Rattle.client.specs.declared.ClientFault.{ClientFault}
-use Rattle.client.specs.Verdicts.{Told}
 use Rattle.world.specs.World as world
-use Rattle.world.specs.Runs.{Ran, begins, goes_on, takes_out, told_in, told_at}
-use Rattle.world.specs.Reports.{by_peer}
+use Rattle.world.specs.Runs.{begins, goes_on, takes_out}
 
 -- Each request that was accepted has a text that stands for it: a step keeps that, where the request that it accepts is made of texts,
 -- numbers and cells.

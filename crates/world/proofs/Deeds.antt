@@ -3,23 +3,18 @@ use Rattle.std.proofs.Common.{◌≡◌, refl, sym, ◌∙◌, ap, subst, ℕ, z
 use Rattle.std.proofs.lemmas.Bool.{cases_eq, cond_both, or_parts}
 use Rattle.std.proofs.lemmas.Option.{same_Some}
 use Rattle.wire.specs.declared.Wish.{Wish}
-use Rattle.wire.specs.Reader.{reach}
-use Rattle.messages.specs.View.{RequestView}
-use Rattle.messages.specs.Arrivals.{Arrival, Asked, Unread, TooLong, arrivals}
+use Rattle.wire.specs.Prelude.{reach}
+use Rattle.messages.specs.Prelude.{RequestView, Arrival, Asked, Unread, TooLong, arrivals}
 use Rattle.machine.specs.declared.State.{State}
-use Rattle.machine.specs.Following.{interruptible}
-use Rattle.engine.specs.Views.{EntryView}
+use Rattle.machine.specs.Prelude.{interruptible}
+use Rattle.engine.specs.Prelude.{EntryView}
 use Rattle.session.specs.declared.Cause.{Cause}
 use Rattle.session.specs.declared.What.{What}
 use Rattle.session.specs.Rest as serving
-use Rattle.session.specs.Rest.{Kept, Done, Ended, Step, worked_of, rests, replies, serves, turns, work_kept, after_interrupt, interrupts, reset_among, shut, full, commit_entries}
-use Rattle.session.specs.Session.{Setting, Change, Open, no_result, Tx, no_tx, Reply, serve}
+use Rattle.session.specs.Prelude.{Kept, Done, Ended, Step, worked_of, rests, replies, serves, turns, work_kept, after_interrupt, interrupts, reset_among, shut, full, commit_entries, Setting, Change, Open, no_result, Tx, no_tx, Reply, serve}
 use Rattle.client.specs.declared.SubmitFault.{SubmitFault}
-use Rattle.client.specs.Client.{refusal_of}
-use Rattle.client.specs.Rest.{Nothing}
-use Rattle.world.specs.Connections.{Peer, Ours, Foreign, Connection, SaysNoop, fresh, answer_count, waiting, said_version, client, kept_of, keeping}
-use Rattle.world.specs.World.{World, Event, Opens, Submit, ToServer, ToClient, Work, PutsNoop, Cut, ClientLost, ServerLost, Feeds, Seen, Opened, Submitted, Fed, Gave, SawWork, SawNoop, SawNothing, Refusal, V3, Effect, quiet, effect_of_submit, feed, to_server, takes, give, taken_for, effect_at_peer, said_by, effect_of_step, work, noop, server_gone, at_peer, after_effect, with_effect, at_conn, live, ledger, place, step, IsMade, IsCountedIn, taken_out, Reached, begins, goes_on, takes_out}
-use Rattle.world.specs.Runs.{told_in}
+use Rattle.client.specs.Prelude.{refusal_of, Nothing}
+use Rattle.world.specs.Prelude.{Peer, Ours, Foreign, Connection, SaysNoop, fresh, answer_count, waiting, said_version, client, kept_of, keeping, World, Event, Opens, Submit, ToServer, ToClient, Work, PutsNoop, Cut, ClientLost, ServerLost, Feeds, Seen, Opened, Submitted, Fed, Gave, SawWork, SawNoop, SawNothing, Refusal, V3, Effect, quiet, effect_of_submit, feed, to_server, takes, give, taken_for, effect_at_peer, said_by, effect_of_step, work, noop, server_gone, at_peer, after_effect, with_effect, at_conn, live, ledger, place, step, IsMade, IsCountedIn, taken_out, Reached, begins, goes_on, takes_out, told_in}
 
 -- lists of connections
 pub get_more : {A : Type 0} (xs : List A) (j : ℕ) (y z : A) → slice_get (xs ++ y ∷ []) j ≡ Some z → (slice_get xs j ≡ Some z) ⊎ ((j ≡ length xs) × (y ≡ z))

@@ -5,27 +5,16 @@ use Rattle.std.proofs.lemmas.Bool.{cond-false}
 use Rattle.std.proofs.Math.Seq.{take-add}
 use Rattle.world.proofs.Giving.{parts, rest_of, take_within, drop_within, submitted_same, give_same, give_told, reach_within}
 use Rattle.wire.specs.declared.Wish.{Wish}
-use Rattle.wire.specs.Offers.{offer_of, wish_version}
-use Rattle.wire.specs.Reader.{state, reach}
-use Rattle.wire.specs.Framing.{at_client}
-use Rattle.messages.specs.View.{RequestView}
-use Rattle.messages.specs.Arrivals.{request_bytes, hears, arrivals}
+use Rattle.wire.specs.Prelude.{offer_of, wish_version, state, reach, at_client}
+use Rattle.messages.specs.Prelude.{RequestView, request_bytes, hears, arrivals}
 use Rattle.machine.specs.declared.Phase.{Phase}
-use Rattle.machine.specs.States.{phase_of}
-use Rattle.server.specs.Serving.{cause_or}
+use Rattle.machine.specs.Prelude.{phase_of}
+use Rattle.server.specs.Prelude.{cause_or}
 use Rattle.client.specs.declared.Outcome.{Outcome}
-use Rattle.client.specs.Verdicts.{Told, GotRow, Got}
-use Rattle.client.specs.Client.{knows_of}
-use Rattle.client.specs.Moments.{tellings_in}
+use Rattle.client.specs.Prelude.{Told, GotRow, Got, knows_of, tellings_in, losses}
 use Rattle.client.specs.Rest as asking
-use Rattle.client.specs.Rest.{losses}
 use Rattle.client.proofs.Later.{reading_later}
-use Rattle.world.specs.Connections.{Peer, Ours, Foreign, Connection, fresh, Said, SaysSummary, output, bytes_delivered, client, wish_of, input}
-use Rattle.world.specs.World.{Effect, give, taken_for, server_gone, Seen, Fed, feed}
-use Rattle.world.specs.Rests.{client_rest}
-use Rattle.world.specs.Reports.{ReadSummary, wrote_after, summaries_told, read_after, by_peer}
-use Rattle.world.specs.Views.{opened_link}
-use Rattle.world.specs.Fits.{Link, FitsClient, FitsLink, cause_seen, FitsFlags, FitsOurs}
+use Rattle.world.specs.Prelude.{Peer, Ours, Foreign, Connection, fresh, Said, SaysSummary, output, bytes_delivered, client, wish_of, input, Effect, give, taken_for, server_gone, Seen, Fed, feed, client_rest, ReadSummary, wrote_after, summaries_told, read_after, by_peer, opened_link, Link, FitsClient, FitsLink, cause_seen, FitsFlags, FitsOurs}
 use Rattle.std.proofs.lemmas.Option.{same_Some}
 use Rattle.world.proofs.Sound.{Sound, spoken, falling_same, client_alike, rest_alike, Speaks, says, wrote_seen, speaks_alike, Alike, feed_speaks}
 use Rattle.world.proofs.Trace.{input_more}

@@ -4,46 +4,33 @@ use Rattle.std.specs.declared.alloc.AllocError.{AllocError}
 use Rattle.session.specs.declared.Cause.{Cause}
 use Rattle.server.specs.Serving as serving
 use Rattle.server.proofs.Answered as answered
-use Rattle.world.specs.Drawing.{Takes, Draws}
+use Rattle.world.specs.Prelude.{Takes, Draws, Peer, Ours, Foreign, Connection, client, output, bytes_delivered, wish_of, World, Effect, ToClient, Seen, Gave, SawNothing, Refusal, quiet, at_peer, ledger, after_effect, effect_at_peer, taken_for, give, to_client, drain, taken_out, Submit, ClientLost, Submitted, effect_of_submit, read_after, by_peer, client_rest, live_of, server_rest, Link, Rest, FitsClient, FitsLink, Answers, FitsEnd, link_of, end_peer, event_of, Definition, Before, Holds, Submits, LosesClient, after_loss, Turns, IsWrong}
 use Rattle.std.proofs.Math.Seq.{take-nil, drop-length}
 use Rattle.std.proofs.lemmas.Bool.{or_left, or_right, cond-true, cond-false}
 use Rattle.std.proofs.lemmas.List.{length-take-le}
 use Rattle.world.proofs.Sound.{none_of, Sound}
 use Rattle.wire.specs.declared.Wish.{Wish}
-use Rattle.wire.specs.Reader.{reach}
-use Rattle.messages.specs.Arrivals.{hears, IsWritten}
-use Rattle.engine.specs.Views.{EntryView}
+use Rattle.wire.specs.Prelude.{reach, wish_version}
+use Rattle.messages.specs.Prelude.{hears, IsWritten, RequestView}
+use Rattle.engine.specs.Prelude.{EntryView}
 use Rattle.server.specs.declared.Server.{Server}
-use Rattle.session.specs.Session.{Setting}
+use Rattle.session.specs.Prelude.{Setting}
 use Rattle.server.specs.Views as server
 use Rattle.client.specs.declared.ClientFault.{ClientFault}
 use Rattle.client.specs.declared.ClientFault.TheVariants as client_fault
-use Rattle.client.specs.Moments.{tellings_in}
+use Rattle.client.specs.Prelude.{tellings_in, knows_of, refusal_of, IsWrittenBy, IsAccepted}
 use Rattle.client.specs.Rest as asking
 use Rattle.world.specs.declared.kinds.Refused.TheVariants.{Memory, WrongPeer}
 use Rattle.world.specs.declared.link.Link.{Link as LinkHeld}
-use Rattle.world.specs.Connections.{Peer, Ours, Foreign, Connection, client, output, bytes_delivered, wish_of}
-use Rattle.world.specs.World.{World, Effect, ToClient, Seen, Gave, SawNothing, Refusal, quiet, at_peer, ledger, after_effect, effect_at_peer, taken_for, give, to_client, drain, taken_out, Submit, ClientLost, Submitted, effect_of_submit}
-use Rattle.world.specs.Reports.{read_after, by_peer}
-use Rattle.world.specs.Rests.{client_rest, live_of, server_rest}
-use Rattle.world.specs.Fits.{Link, Rest, FitsClient, FitsLink}
-use Rattle.world.specs.Contract.{Answers}
-use Rattle.world.specs.Views.{FitsEnd, link_of, end_peer, event_of}
-use Rattle.world.specs.Turns.{Definition, Before, Holds, Submits, LosesClient, after_loss, Turns}
 use Rattle.world.proofs.Served.{unseen, alike, take_served}
 use Rattle.world.proofs.Fitting.{held_long, held_all, front_is, drained_link, give_link, unseen_link, submit_link, lost_link, lost_again}
 use Rattle.world.proofs.Giving.{seen_as, give_same}
 use Rattle.world.proofs.Headline.{gives_said, reached_inv}
 use Rattle.std.proofs.lemmas.Option.{same_Some, some_pair_parts}
 use Rattle.world.proofs.Turning.{setting_at, link_at, found, conn_at, sound, lives, given_up, HeldIn, TurnsTo, DoesAt, may, acts, holds_then, rests, lacks, either, still, wrong, acts_unseen}
-use Rattle.messages.specs.View.{RequestView}
 use Rattle.client.specs.declared.SubmitFault.{SubmitFault}
-use Rattle.wire.specs.Offers.{wish_version}
-use Rattle.client.specs.Client.{knows_of, refusal_of}
-use Rattle.client.specs.Fits.{IsWrittenBy, IsAccepted}
 use Rattle.client.proofs.Later.{reading_count}
 use Rattle.world.specs.declared.kinds.Refused.{Refused}
-use Rattle.world.specs.Seeing.{IsWrong}
 use Rattle.world.specs.declared.kinds.Event.{Event as EventTold}
 use Rattle.world.specs.declared.kinds.Seen.{Seen as SeenTold}
 use Rattle.world.proofs.Kept.{tells}

@@ -2,26 +2,19 @@
 use Rattle.std.proofs.Common.{◌≡◌, refl, ◌∙◌, ap, ℕ, zero, suc, ◌+◌, ◌-◌, ◌≤◌, min, List, ◌∷◌, length, take, drop, arith, sym, subst, if◌then◌else◌, nat_lt, Option, Some, None, option_map, option_to_list, [], ◌++◌, append-nil, length-append, false, ap₂, Bool, true, ◌||◌, unwrap_or, Result, Ok, Err, true≢false, length-take}
 use Rattle.std.proofs.lemmas.List.{drop-take, length-reverse, drop-append-le}
 use Rattle.std.proofs.lemmas.Bool.{lt-ltb, le-ltb, cond-true, cond-false, cond_both}
-use Rattle.wire.specs.Reader.{Reader, state, outputs, ends_at, takes, reach, Took}
+use Rattle.wire.specs.Prelude.{Reader, state, outputs, ends_at, takes, reach, Took, Item, Opened, at_client, wish_version}
 use Rattle.wire.proofs.Readers.{reads_pieces}
 use Rattle.wire.specs.declared.Wish.{Wish}
-use Rattle.wire.specs.Framing.{Item, Opened, at_client}
-use Rattle.messages.specs.View.{RequestView}
-use Rattle.messages.specs.Arrivals.{Heard, hears, heard_of, request_bytes}
-use Rattle.client.specs.Rest.{heard_as, Note, Nothing, hears_item, note_of}
-use Rattle.client.specs.Client.{reading_of, Reading, knows_of, after_item, hear, reading}
+use Rattle.messages.specs.Prelude.{RequestView, Heard, hears, heard_of, request_bytes}
+use Rattle.client.specs.Prelude.{heard_as, Note, Nothing, hears_item, note_of, reading_of, Reading, knows_of, after_item, hear, reading, tellings_in}
 use Rattle.client.proofs.Hears.{one_heard, more_heard}
 use Rattle.std.proofs.Math.Seq.{take-add}
-use Rattle.wire.specs.Offers.{wish_version}
 use Rattle.client.specs.declared.ClientFault.{ClientFault}
 use Rattle.client.specs.Rest as asking
-use Rattle.client.specs.Moments.{tellings_in}
 use Rattle.client.proofs.Makes.{Makes, spoils, makes}
 use Rattle.client.proofs.Later.{reading_later, reading_count}
 use Rattle.client.proofs.Fed.{rest_at, fed_rest, fed_told}
-use Rattle.world.specs.Connections.{Connection, output, bytes_delivered, client, wish_of, input}
-use Rattle.world.specs.World.{Seen, Gave, give, taken_for, note_now, note_given, tells_of}
-use Rattle.world.specs.Rests.{client_rest}
+use Rattle.world.specs.Prelude.{Connection, output, bytes_delivered, client, wish_of, input, Seen, Gave, give, taken_for, note_now, note_given, tells_of, client_rest}
 use Rattle.world.proofs.Trace.{input_more}
 
 -- a front of a longer one

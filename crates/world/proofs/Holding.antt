@@ -1,5 +1,5 @@
 -- The client of a link, and what is held once it has changed.
-use Rattle.std.proofs.Common.{ap₂, map, Err, ◌≡◌, refl, sym, ◌∙◌, ap, subst, Option, Some, None, is_some, true, false, Ok, List, ℕ}
+use Rattle.std.proofs.Common.{ap₂, map, Err, ◌≡◌, refl, sym, ◌∙◌, ap, subst, Option, Some, None, is_some, true, false, Ok, List, ℕ, Vec, Global}
 use Rattle.wire.specs.declared.Wish.{Wish}
 use Rattle.client.specs.declared.Client.{Client}
 use Rattle.client.specs.declared.Outcome.{Outcome}
@@ -10,18 +10,12 @@ use Rattle.world.specs.declared.link.End.{End}
 use Rattle.world.specs.declared.link.End.TheVariants as end
 use Rattle.world.specs.declared.link.Link.{Link as LinkHeld}
 use Rattle.world.specs.declared.link.Read.{Read}
-use Rattle.std.specs.declared.vec.Vec.{Vec}
-use Rattle.std.specs.declared.alloc.Global.{Global}
 use Rattle.client.specs.declared.ClientFault.{ClientFault}
 use Rattle.client.specs.declared.ClientFault.TheVariants as client_fault
-use Rattle.world.specs.World.{SawNothing}
-use Rattle.world.specs.Fits.{Link}
-use Rattle.world.specs.Reports.{ReadSummary}
-use Rattle.world.specs.Views.{FitsEnd, link_of, flow_of, read_of}
-use Rattle.messages.specs.View.{RequestView}
+use Rattle.world.specs.Prelude.{SawNothing, Link, ReadSummary, FitsEnd, link_of, flow_of, read_of, Holds, Submits, refusal_seen, LosesClient, after_loss}
+use Rattle.messages.specs.Prelude.{RequestView}
 use Rattle.client.specs.declared.SubmitFault.{SubmitFault}
 use Rattle.client.specs.declared.SubmitFault.TheVariants as submit_fault
-use Rattle.world.specs.Turns.{Holds, Submits, refusal_seen, LosesClient, after_loss}
 
 -- a link whose end is replaced
 abbrev pub with_end : LinkHeld → End → LinkHeld

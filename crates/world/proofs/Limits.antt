@@ -1,37 +1,25 @@
 -- What a step leaves as it was, how the ledger grows, and how much is kept.
 use Rattle.std.proofs.Common.{◌==◌, ◌≡◌, ℕ, Some, List, refl, sym, ◌∙◌, subst, Option, Ok, None, [], ◌∷◌, ◌++◌, length, take, drop, slice_get, slice_set, append-nil, append_assoc, length-append, length-set, ◌<◌, arith, ◌⊎◌, inl, inr, ap, ◌+◌, ◌-◌, ◌≤◌, Bool, true, false, min, true≢false, is_some, ⊎_elim}
-use Rattle.messages.specs.View.{RequestView}
-use Rattle.messages.specs.Arrivals.{Arrival, Asked}
+use Rattle.messages.specs.Prelude.{RequestView, Arrival, Asked}
 use Rattle.machine.specs.declared.State.{State}
-use Rattle.engine.specs.Views.{EntryView}
+use Rattle.engine.specs.Prelude.{EntryView, TokensOnce, added_by}
 use Rattle.session.proofs.Free.{entry_in, serve_free}
-use Rattle.session.specs.Acts.{IsFree}
-use Rattle.session.specs.Session.{Open, Reply, Setting, Summary, Tx, Change}
-use Rattle.world.specs.Connections.{Connection, said_version, fresh, answer_count, input, output, kept_of, arrivals_at}
-use Rattle.world.specs.World.{Effect, IsCountedIn, effect_of_step, work, World, Event, Work, Seen, IsLedger, after_effect, effect_at_peer, ledger, place, step, taken_out, Reached, begins, goes_on, takes_out, Fed, SawWork, SawNoop, SawNothing, quiet, Gave, feed, give, taken_for, noop, server_gone, live}
+use Rattle.session.specs.Prelude.{IsFree, Open, Reply, Setting, Summary, Tx, Change, commit_entries, Step, work_kept, worked_of}
+use Rattle.world.specs.Prelude.{Connection, said_version, fresh, answer_count, input, output, kept_of, arrivals_at, Effect, IsCountedIn, effect_of_step, work, World, Event, Work, Seen, IsLedger, after_effect, effect_at_peer, ledger, place, step, taken_out, Reached, begins, goes_on, takes_out, Fed, SawWork, SawNoop, SawNothing, quiet, Gave, feed, give, taken_for, noop, server_gone, live, CommitsOnce, Each, IsAt, Enters, LeavesOthers, GrowsByWork, Commits, GrowsByCommits, server_rest, live_of, Definition, setting_of}
 use Rattle.world.proofs.Deeds.{replied, step_case, Deed, Did, opens, acts, step_did, set_other, feed_hushed, taken_case, feed_case, silent_step, noop_case}
 use Rattle.world.proofs.Serve.{Counted}
 use Rattle.std.proofs.lemmas.Option.{slice_get_within, same_Some}
-use Rattle.session.specs.Rest.{commit_entries, Step, work_kept, worked_of}
-use Rattle.world.specs.Good.{CommitsOnce, Each}
-use Rattle.world.specs.Others.{IsAt, Enters, LeavesOthers, GrowsByWork, Commits, GrowsByCommits}
 use Rattle.world.proofs.Deeds as deed
 use Rattle.world.proofs.Trace.{each_append, each_map, get_append}
-use Rattle.engine.specs.Tokens.{TokensOnce, added_by}
 use Rattle.engine.proofs.Once.{once_after}
 use Rattle.std.proofs.lemmas.Bool.{cases_Bool, cond-false, cond_both}
-use Rattle.client.specs.Rest.{Nothing}
+use Rattle.client.specs.Prelude.{Nothing}
 use Rattle.server.specs.Serving as serving
-use Rattle.server.specs.Serving.{is_full, Live, find}
+use Rattle.server.specs.Prelude.{is_full, Live, find, after_call, after_event, after_events, Bounded, AllBounded, IsKept, Adds, Grows, nothing, one}
 use Rattle.server.specs.Running as running
-use Rattle.server.specs.Running.{after_call, after_event, after_events, Bounded, AllBounded, IsKept, Adds, Grows, nothing, one}
-use Rattle.world.specs.Rests.{server_rest, live_of}
-use Rattle.world.specs.Turns.{Definition, setting_of}
 use Rattle.world.proofs.Sound.{Sound, AllSound, still_lives, reached_sound, first_of}
 use Rattle.world.proofs.Served.{unseen, alike, sessions-length, work_served, feed_served, noop_served, take_served, lost_served, open_served, find_at}
-use Rattle.machine.specs.States.{phase_of}
-use Rattle.machine.specs.Asks.{kind_of}
-use Rattle.machine.specs.Following.{commits}
+use Rattle.machine.specs.Prelude.{phase_of, kind_of, commits}
 use Rattle.server.proofs.Ledgers.{grows}
 
 -- what an effect adds was free, and where it is counted leaves a ledger shorter than 2^63

@@ -1,49 +1,34 @@
 -- What one answer of the session keeps, for a request that its phase allows: what it commits, and that it can be written.
-use Rattle.std.proofs.Common.{◌≡◌, ◌≤◌, sym, ◌∙◌, ap, ℕ, suc, Some, None, List, [], ◌∷◌, ◌++◌, length, append_assoc, arith, refl, ap₂, true, ◌&&◌, Result, Ok, Err, lit≤, nat_lt, Bool, Option, codes, false, if◌then◌else◌, is_some, nat_le, not, slice_get, subst, true≢false, ◌+◌, ◌<◌, ◌^◌}
+use Rattle.std.proofs.Common.{◌≡◌, ◌≤◌, sym, ◌∙◌, ap, ℕ, suc, Some, None, List, [], ◌∷◌, ◌++◌, length, append_assoc, arith, refl, ap₂, true, ◌&&◌, Result, Ok, Err, lit≤, nat_lt, Bool, Option, codes, false, if◌then◌else◌, is_some, nat_le, not, slice_get, subst, true≢false, ◌+◌, ◌<◌, ◌^◌, bytes_eq}
 use Rattle.std.proofs.lemmas.Option.{slice_get_within}
 use Rattle.engine.proofs.Once.{Has, found_at, under-append}
-use Rattle.engine.specs.Tokens.{There, found_in, under_token, Found, Free, Other}
-use Rattle.engine.specs.Views.{EntryView, Token, WriteView, AnswerView, ParameterView, QueryFault, unknown_text}
-use Rattle.std.specs.Str.{bytes_eq}
+use Rattle.engine.specs.Prelude.{There, found_in, under_token, Found, Free, Other, EntryView, Token, WriteView, AnswerView, ParameterView, QueryFault, unknown_text}
 use Rattle.std.proofs.lemmas.Bool.{and_parts, ltb-true, cond_both}
-use Rattle.packstream.specs.Tree.{Tree}
-use Rattle.packstream.specs.Plain.{AreBytes}
+use Rattle.packstream.specs.Prelude.{Tree, AreBytes}
 use Rattle.wire.specs.declared.Version.{Version}
 use Rattle.messages.specs.declared.MsgFault.{MsgFault}
-use Rattle.messages.specs.Table.{responses}
-use Rattle.messages.specs.View.{ResponseView, AuthView, RequestView}
-use Rattle.messages.specs.Reading.{response_contents}
-use Rattle.messages.specs.Messages.{contents_in, response_held, response_of}
-use Rattle.messages.specs.Writing.{response_spelling}
-use Rattle.messages.specs.Arrivals.{IsSaid}
+use Rattle.messages.specs.Prelude.{responses, ResponseView, AuthView, RequestView, response_contents, contents_in, response_held, response_of, response_spelling, IsSaid, response_of_summary, IsShort, HasTexts}
 use Rattle.messages.specs.Summaries as summaries
-use Rattle.messages.specs.Summaries.{response_of_summary, IsShort, HasTexts}
 use Rattle.messages.proofs.Sayings.{means_told, told_says, responses_are_made}
 use Rattle.messages.proofs.Fitting.{reads_back}
-use Rattle.cells.specs.Same.{same_tree}
+use Rattle.cells.specs.Prelude.{same_tree}
 use Rattle.cells.proofs.Equality.{bytes_are, trees_are}
-use Rattle.session.specs.Said.{same_cells, same_metadata, same_say, is_reading, are_bytes, is_text, fits}
+use Rattle.session.specs.Prelude.{same_cells, same_metadata, same_say, is_reading, are_bytes, is_text, fits, code_of, message_of, failure, of_query, Bye, Change, OneRow, Open, Reply, Setting, Summary, Tx, change_alone, change_inside, close, commits_as, commits_over, no_result, fails, fields_said, is_halted, if_fits, left_after, no_tx, perform, pull, query_mode, reply_to_hello, reply_to_login, reply_to_run, serve, succeeds, unwritable, used_up}
 use Rattle.session.proofs.Fitting.{fits_with_text}
 use Rattle.session.specs.declared.fault.Fault.{Fault}
-use Rattle.session.specs.Faults.{code_of, message_of, failure, of_query}
 use Rattle.std.specs.List.{list_all}
-use Rattle.wire.specs.Framing.{bytes_in_order}
-use Rattle.wire.specs.Versions.{versions, hello_has_login}
+use Rattle.wire.specs.Prelude.{bytes_in_order, versions, hello_has_login}
 use Rattle.messages.specs.declared.MsgFault.TheVariants as msg_fault
 use Rattle.messages.specs.declared.Count.{Count}
 use Rattle.messages.specs.declared.Mode.{Mode}
 use Rattle.machine.proofs.Tables.{at_rows, at_version, implies, implies_at}
-use Rattle.machine.specs.Asks.{in_part, is_part, kind_of, is_goodbye, is_reset}
-use Rattle.machine.specs.Following.{allows, commits}
-use Rattle.machine.specs.Rows.{row_at}
-use Rattle.machine.specs.States.{phase_of, same_state}
+use Rattle.machine.specs.Prelude.{in_part, is_part, kind_of, is_goodbye, is_reset, allows, commits, row_at, phase_of, same_state}
 use Rattle.machine.specs.declared.Kind.{Kind}
 use Rattle.machine.specs.declared.State.{State}
 use Rattle.machine.specs.declared.Verdict.{Verdict}
-use Rattle.world.specs.Good.{alone_after, commit_of, is_invalid, is_success, tx_after}
-use Rattle.client.specs.Verdicts.{outcome_of, verdict_of}
+use Rattle.world.specs.Prelude.{alone_after, commit_of, is_invalid, is_success, tx_after}
+use Rattle.client.specs.Prelude.{outcome_of, verdict_of}
 use Rattle.client.specs.declared.Outcome.{Outcome}
-use Rattle.session.specs.Session.{Bye, Change, OneRow, Open, Reply, Setting, Summary, Tx, change_alone, change_inside, close, commits_as, commits_over, no_result, fails, fields_said, is_halted, if_fits, left_after, no_tx, perform, pull, query_mode, reply_to_hello, reply_to_login, reply_to_run, serve, succeeds, unwritable, used_up}
 use Rattle.world.proofs.Trace.{Pays}
 use Rattle.machine.proofs.Leading.{same_state-true}
 

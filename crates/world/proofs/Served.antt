@@ -1,19 +1,15 @@
 -- The server's rest of a world, call by call.
 use Rattle.std.proofs.Common.{◌≡◌, refl, sym, ◌∙◌, ap, ℕ, Bool, true, false, if◌then◌else◌, Option, Some, None, option_to_list, List, [], ◌∷◌, ◌++◌, take, drop, map, append-nil, ap₂, subst, zero, suc, ◌+◌, ◌^◌, ◌==◌, not, ◌||◌, nat_le, min, option_map, Result, length, slice_get, slice_set, count_by, arith, append_assoc, length-append, length-set, cond}
 use Rattle.std.proofs.lemmas.List.{drop-append-le, drop-drop, drop_min}
-use Rattle.wire.specs.Reader.{state, takes as reads, reach}
-use Rattle.wire.specs.Framing.{at_server, bytes_newest_first, Opened}
-use Rattle.messages.specs.View.{RequestView, ResponseView}
-use Rattle.messages.specs.Arrivals.{Arrival, Shook, NoMagic, Asked, Unread, TooLong, arrivals, Heard, Chosen, heard_bytes}
+use Rattle.wire.specs.Prelude.{state, takes as reads, reach, at_server, bytes_newest_first, Opened}
+use Rattle.messages.specs.Prelude.{RequestView, ResponseView, Arrival, Shook, NoMagic, Asked, Unread, TooLong, arrivals, Heard, Chosen, heard_bytes}
 use Rattle.machine.specs.declared.State.{State}
-use Rattle.machine.specs.Asks.{kind_of, is_reset}
-use Rattle.engine.specs.Views.{EntryView, WriteView, ParameterView, AnswerView, QueryFault}
+use Rattle.machine.specs.Prelude.{kind_of, is_reset}
+use Rattle.engine.specs.Prelude.{EntryView, WriteView, ParameterView, AnswerView, QueryFault}
 use Rattle.session.specs.declared.Cause.{Cause}
-use Rattle.session.specs.Session.{Setting, Open, Tx, Reply, OneRow, Summary, Bye}
-use Rattle.session.specs.Rest.{Step, after_item, after_interrupt, ends, puts, puts_noop, noop_kept, unread_among, work_kept, Kept, worked_of, what_of, shut, full, commit_entries}
-use Rattle.server.specs.Feeding.{arrival, Feeding, feeding, takes_item}
-use Rattle.world.specs.Connections.{Connection, SaysNoop, heard_as, said_version, output, requests_among, arrivals_at, waiting, answer_count, kept_of, keeping, Peer, fresh}
-use Rattle.world.specs.World.{said_by, take_item, noop, live, World, Effect, Seen, quiet, Fed, SawNothing, takes, feed, server_gone, ledger, work, after_effect}
+use Rattle.session.specs.Prelude.{Setting, Open, Tx, Reply, OneRow, Summary, Bye, Step, after_item, after_interrupt, ends, puts, puts_noop, noop_kept, unread_among, work_kept, Kept, worked_of, what_of, shut, full, commit_entries}
+use Rattle.server.specs.Prelude.{arrival, Feeding, feeding, takes_item, Live, find, replace, without}
+use Rattle.world.specs.Prelude.{Connection, SaysNoop, heard_as, said_version, output, requests_among, arrivals_at, waiting, answer_count, kept_of, keeping, Peer, fresh, said_by, take_item, noop, live, World, Effect, Seen, quiet, Fed, SawNothing, takes, feed, server_gone, ledger, work, after_effect, live_of, sessions_from, server_rest}
 use Rattle.client.proofs.Steps.{drop_next}
 use Rattle.world.proofs.Deeds.{replied, step_case, interrupt_case}
 use Rattle.server.proofs.Arriving.{placed-append}
@@ -23,8 +19,6 @@ use Rattle.std.proofs.lemmas.List.Recursion.{is_count_by}
 use Rattle.engine.specs.declared.Mode.{Mode as QueryMode}
 use Rattle.server.specs.declared.Took.{Took}
 use Rattle.server.specs.Serving as serving
-use Rattle.server.specs.Serving.{Live, find, replace, without}
-use Rattle.world.specs.Rests.{live_of, sessions_from, server_rest}
 
 -- What a session keeps after a call is what its connection then says that it keeps.
 module _ (k : Connection) (s : Sound k) where

@@ -1,31 +1,22 @@
 -- What a report tells, and events one after the other.
 use Rattle.std.proofs.Common.{◌≡◌, refl, sym, ◌∙◌, ap, ap₂, subst, ℕ, ◌+◌, ◌<◌, Bool, Option, Some, None, List, [], ◌∷◌, length, slice_get, slice_index_or, arith, option_and_then, option_map, inl, inr, Result, Ok, Err, IsErr, OnOk, ◌++◌}
 use Rattle.world.proofs.Turning.{along_at, held_at, cause_is, still_there}
-use Rattle.engine.specs.Views.{EntryView}
+use Rattle.engine.specs.Prelude.{EntryView}
 use Rattle.session.specs.declared.Cause.{Cause}
-use Rattle.client.specs.Client.{knows_of}
+use Rattle.client.specs.Prelude.{knows_of}
 use Rattle.world.specs.declared.link.Link.{Link as LinkHeld}
 use Rattle.world.specs.declared.report.Standing.{Standing as StandingTold}
 use Rattle.world.specs.declared.world.World.{World as WorldHeld}
-use Rattle.world.specs.Connections.{Peer, Ours, Foreign, Connection, Said, SaysSummary, answer_count, client}
-use Rattle.world.specs.World.{World, Reached, Event, Refusal, V1, V2, V3, step, goes_on}
-use Rattle.machine.specs.States.{phase_of}
-use Rattle.world.specs.Good.{tellings_of, delivered_whole, server_outcome, Good}
-use Rattle.world.specs.Reports.{ReadSummary, by_peer, read_after, summaries_told, waits, ordinals, standing, standing_of}
-use Rattle.world.specs.Rests.{client_rest, live_of}
-use Rattle.world.specs.Fits.{Link, FitsClient, FitsLink}
-use Rattle.world.specs.Views.{link_of, waiting_at, seen_of}
-use Rattle.world.specs.Turns.{Definition, setting_of, Holds, IsWorld, Goes, GoesBy, FitsWorld, seen_in}
-use Rattle.world.specs.Reported.{standing_seen, StandsBy}
+use Rattle.world.specs.Prelude.{Peer, Ours, Foreign, Connection, Said, SaysSummary, answer_count, client, World, Reached, Event, Refusal, V1, V2, V3, step, goes_on, tellings_of, delivered_whole, server_outcome, Good, ReadSummary, by_peer, read_after, summaries_told, waits, ordinals, standing, standing_of, client_rest, live_of, Link, FitsClient, FitsLink, link_of, waiting_at, seen_of, Definition, setting_of, Holds, IsWorld, Goes, GoesBy, FitsWorld, seen_in, standing_seen, StandsBy, Answers, Follows, Replays}
+use Rattle.machine.specs.Prelude.{phase_of}
 use Rattle.world.proofs.Sound.{reached_sound}
 use Rattle.world.proofs.Headline.{all_good}
-use Rattle.server.specs.Serving.{Live, find}
+use Rattle.server.specs.Prelude.{Live, find}
 use Rattle.world.proofs.Served.{find_at}
 use Rattle.std.specs.declared.alloc.AllocError.{AllocError}
-use Rattle.session.specs.Session.{Setting}
+use Rattle.session.specs.Prelude.{Setting}
 use Rattle.world.specs.declared.kinds.Refused.{Refused}
 use Rattle.world.specs.declared.kinds.Refused.TheVariants.{NoSuchConnection, WrongPeer, SessionsFull, Memory}
-use Rattle.world.specs.Contract.{Answers, Follows, Replays}
 use Rattle.world.specs.declared.kinds.Seen.{Seen as SeenTold}
 
 -- A report tells what the model has.

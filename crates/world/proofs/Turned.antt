@@ -3,11 +3,11 @@ use Rattle.std.proofs.Common.{◌≡◌, refl, sym, ◌∙◌, ap, ap₂, subst,
 use Rattle.std.proofs.lemmas.Option.{some_pair_parts}
 use Rattle.std.proofs.lemmas.Bool.{cond-true, cond-false}
 use Rattle.wire.specs.declared.Wish.{Wish}
-use Rattle.engine.specs.Views.{EntryView}
+use Rattle.engine.specs.Prelude.{EntryView}
 use Rattle.session.specs.declared.Cause.{Cause}
 use Rattle.session.specs.declared.What.{What}
 use Rattle.session.specs.declared.Worked.{Worked}
-use Rattle.session.specs.Rest.{work_kept, IsCounted}
+use Rattle.session.specs.Prelude.{work_kept, IsCounted}
 use Rattle.server.specs.declared.Server.{Server}
 use Rattle.server.specs.declared.Took.{Took}
 use Rattle.server.specs.Serving as serving
@@ -16,19 +16,13 @@ use Rattle.server.specs.Views as server
 use Rattle.client.specs.Rest as asking
 use Rattle.world.specs.declared.kinds.Refused.TheVariants.{Memory}
 use Rattle.world.specs.declared.link.Link.{Link as LinkHeld}
-use Rattle.world.specs.Connections.{Ours, Foreign, SaysNoop, input, kept_of, output}
-use Rattle.world.specs.World.{World, Event, place, step, at_conn, Effect, ToServer, Work, PutsNoop, Cut, Feeds, Refusal, quiet, at_peer, ledger, effect_of_step, work, noop, feed, SawWork, SawNoop, SawNothing, Fed, ServerLost, after_effect, server_gone}
-use Rattle.world.specs.Reports.{wrote_by}
-use Rattle.world.specs.Fits.{Link, Rest, FitsLink, FitsClient}
-use Rattle.world.specs.Views.{FitsEnd, link_of, end_peer, flow_of}
-use Rattle.world.specs.Turns.{Definition, Before}
+use Rattle.world.specs.Prelude.{Ours, Foreign, SaysNoop, input, kept_of, output, World, Event, place, step, at_conn, Effect, ToServer, Work, PutsNoop, Cut, Feeds, Refusal, quiet, at_peer, ledger, effect_of_step, work, noop, feed, SawWork, SawNoop, SawNothing, Fed, ServerLost, after_effect, server_gone, wrote_by, Link, Rest, FitsLink, FitsClient, FitsEnd, link_of, end_peer, flow_of, Definition, Before, server_rest}
 use Rattle.world.proofs.Fitting.{held_link, used_seen, server_link, piece_is, feed_link, alone_link, unseen_link, gone_link}
 use Rattle.world.proofs.Served.{work_served, noop_served, feed_served, take_served, lost_served}
 use Rattle.world.proofs.Turning.{setting_at, link_at, found, conn_at, sound, lives, given_up, TurnsTo, DoesAt, held_as, may, acts, acts_unseen, rests, either}
 use Rattle.world.proofs.Sound.{work_speaks, noop_speaks, counted_sound}
 use Rattle.std.proofs.lemmas.List.{set-set, take_all}
 use Rattle.world.specs.declared.flow.Flow.{Flow}
-use Rattle.world.specs.Rests.{server_rest}
 use Rattle.world.proofs.Clients.{TellsWritten}
 use Rattle.world.proofs.Deeds.{set_same}
 

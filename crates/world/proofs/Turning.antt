@@ -1,15 +1,11 @@
 -- What an event does at the link of its connection, and from there in the world: from what the calls of the ends answered to the whole answer.
 use Rattle.std.proofs.Common.{◌≡◌, refl, ap, subst, ℕ, zero, suc, Some, None, List, [], ◌∷◌, ◌++◌, length, slice_get, slice_set, sym, ◌∙◌, ◌^◌, Bool, true, false, ◌||◌, nat_le, is_some, Ok, Err, true≢false, Option, ⊎_elim, Result, IsOk, ◌<◌, ◌≤◌, slice_index_or, append-nil}
-use Rattle.world.specs.Fits.{Alongside, Link, Rest, FitsLink, Fits, cause_seen}
+use Rattle.world.specs.Prelude.{Alongside, Link, Rest, FitsLink, Fits, cause_seen, Peer, Connection, fresh, Ours, Foreign, World, Event, Opens, Seen, Opened, V3, step, live, place, IsCountedIn, WStep, Reached, goes_on, Effect, quiet, at_peer, with_effect, at_conn, after_effect, ledger, empty, Answers, MayLack, Leaves, opened_link, FitsEnd, link_of, end_peer, seen_of, peer_of, client_of, IsOpened, live_of, server_rest, IsOpens, IsWrong, ComesWrong, Definition, Now, Before, setting_of, seen_in, Holds, IsWorld, Turns}
 use Rattle.std.proofs.lemmas.Bool.{cond-true, cond-false, cases_Bool}
-use Rattle.engine.specs.Views.{EntryView}
-use Rattle.session.specs.Session.{Setting}
+use Rattle.engine.specs.Prelude.{EntryView}
+use Rattle.session.specs.Prelude.{Setting}
 use Rattle.session.specs.declared.Cause.{Cause}
 use Rattle.server.specs.Serving as serving
-use Rattle.world.specs.Connections.{Peer, Connection, fresh, Ours, Foreign}
-use Rattle.world.specs.World.{World, Event, Opens, Seen, Opened, V3, step, live, place, IsCountedIn, WStep, Reached, goes_on, Effect, quiet, at_peer, with_effect, at_conn, after_effect, ledger, empty}
-use Rattle.world.specs.Contract.{Answers, MayLack, Leaves}
-use Rattle.world.specs.Views.{opened_link, FitsEnd, link_of, end_peer, seen_of, peer_of, client_of, IsOpened}
 use Rattle.world.proofs.Headline.{all_good, refuses_exactly}
 use Rattle.world.proofs.Sound.{Sound, reached_sound}
 use Rattle.world.proofs.Served.{open_served, unseen}
@@ -25,9 +21,6 @@ use Rattle.world.specs.declared.kinds.Refused.TheVariants.{WrongPeer, Memory, No
 use Rattle.world.specs.declared.kinds.Seen.{Seen as SeenTold}
 use Rattle.world.specs.declared.link.End.{End}
 use Rattle.world.specs.declared.link.Link.{Link as LinkHeld}
-use Rattle.world.specs.Rests.{live_of, server_rest}
-use Rattle.world.specs.Seeing.{IsOpens, IsWrong, ComesWrong}
-use Rattle.world.specs.Turns.{Definition, Now, Before, setting_of, seen_in, Holds, IsWorld, Turns}
 use Rattle.std.proofs.lemmas.Option.{slice_get-get_or, slice_get_past}
 use Rattle.server.specs.declared.Refused.{Refused as ServerRefused}
 use Rattle.server.specs.declared.Refused.TheVariants as server_refused

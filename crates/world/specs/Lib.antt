@@ -14,3 +14,4 @@ pub mod Replayed
 pub mod Drawing
 pub mod Reported
 pub mod Limits
+pub mod Prelude

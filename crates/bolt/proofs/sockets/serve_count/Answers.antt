@@ -1,8 +1,8 @@
 use Rattle.std.proofs.Common.{refl, ap, subst, ◌≡◌, ◌+◌, ℕ}
 use Rattle.std.specs.Io.KnownBytes.{Appends}
-use Rattle.engine.specs.Kept.{ledger_of}
-use Rattle.server.specs.Views.{Fits}
-use Rattle.programs.specs.Serving.{HasServed, conn_line}
+use Rattle.engine.specs.Prelude.{ledger_of}
+use Rattle.server.specs.Prelude.{Fits}
+use Rattle.programs.specs.Prelude.{HasServed, conn_line}
 use Rattle.bolt.proofs.Served.{served_none, served_one}
 use Rattle.bolt.proofs.sockets.serve_count.Goals as goal
 

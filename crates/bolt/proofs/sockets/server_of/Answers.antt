@@ -1,6 +1,6 @@
 use Rattle.std.proofs.Common.{refl}
-use Rattle.engine.specs.Kept.{ledger_of}
-use Rattle.server.specs.Serving.{empty}
+use Rattle.engine.specs.Prelude.{ledger_of}
+use Rattle.server.specs.Prelude.{empty}
 use Rattle.bolt.proofs.sockets.server_of.Goals as goal
 
 pub returns-clause-new : goal.returns-clause-new

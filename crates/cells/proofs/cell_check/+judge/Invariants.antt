@@ -1,8 +1,6 @@
 use Rattle.std.proofs.Common.{◌≡◌, drop, map}
-use Rattle.packstream.specs.View.{trees_of, entries_of}
-use Rattle.cells.specs.Faults.{scan, structures_in, structures_under}
-use Rattle.cells.specs.Shape.{shapes, entries, node_shape, unbound_shape}
-use Rattle.cells.specs.Writing.{fault_of_structure}
+use Rattle.packstream.specs.Prelude.{trees_of, entries_of}
+use Rattle.cells.specs.Prelude.{scan, structures_in, structures_under, shapes, entries, node_shape, unbound_shape, fault_of_structure}
 use Rattle.cells.proofs.cell_check.+judge.Given as goal
 
 abbrev pub invariant-check_cells-loop-member : goal.invariant-check_cells-loop-member

@@ -1,5 +1,5 @@
 use Rattle.std.proofs.Common.{◌≡◌, drop}
-use Rattle.cells.specs.Steps.{numbers_in_range}
+use Rattle.cells.specs.Prelude.{numbers_in_range}
 use Rattle.cells.proofs.cell_check.are_within.Given as goal
 
 abbrev pub invariant-loop-i : goal.invariant-loop-i

@@ -1,5 +1,5 @@
 use Rattle.std.proofs.Common.{◌≡◌, take, map}
-use Rattle.cells.specs.Shape.{shapes, entries, node_shape, unbound_shape}
+use Rattle.cells.specs.Prelude.{shapes, entries, node_shape, unbound_shape}
 use Rattle.cells.proofs.clone.+copy.Given as goal
 
 abbrev pub invariant-copy_members-loop-member : goal.invariant-copy_members-loop-member

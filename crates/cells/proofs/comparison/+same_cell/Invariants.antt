@@ -1,5 +1,5 @@
 use Rattle.std.proofs.Common.{◌≡◌, drop}
-use Rattle.cells.specs.Shape.{shape, entry, node_shape, unbound_shape}
+use Rattle.cells.specs.Prelude.{shape, entry, node_shape, unbound_shape}
 use Rattle.cells.proofs.Walking.{SameMembers, SamePairs}
 use Rattle.cells.proofs.comparison.+same_cell.Given as goal
 

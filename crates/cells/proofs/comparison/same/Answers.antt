@@ -1,5 +1,5 @@
 use Rattle.std.proofs.Common.{sym, ◌∙◌}
-use Rattle.cells.specs.Shape.{shape}
+use Rattle.cells.specs.Prelude.{shape}
 use Rattle.cells.proofs.Equality.{same_tree-Decides}
 use Rattle.cells.proofs.comparison.same.Goals as goal
 

@@ -1,6 +1,6 @@
 use Rattle.std.proofs.Common.{◌≡◌, drop}
-use Rattle.packstream.specs.View.{trees, trees_of}
-use Rattle.cells.specs.Faults.{are_kinds}
+use Rattle.packstream.specs.Prelude.{trees, trees_of}
+use Rattle.cells.specs.Prelude.{are_kinds}
 use Rattle.cells.proofs.kinds.all_hold.Given as goal
 
 abbrev pub invariant-loop-i : goal.invariant-loop-i

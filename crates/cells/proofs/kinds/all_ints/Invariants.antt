@@ -1,6 +1,6 @@
 use Rattle.std.proofs.Common.{◌≡◌, drop}
-use Rattle.packstream.specs.View.{trees, trees_of}
-use Rattle.cells.specs.Faults.{each, is_int}
+use Rattle.packstream.specs.Prelude.{trees, trees_of}
+use Rattle.cells.specs.Prelude.{each, is_int}
 use Rattle.cells.proofs.kinds.all_ints.Given as goal
 
 abbrev pub invariant-loop-member : goal.invariant-loop-member

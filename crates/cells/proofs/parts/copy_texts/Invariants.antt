@@ -1,5 +1,5 @@
 use Rattle.std.proofs.Common.{◌≡◌, take, map}
-use Rattle.cells.specs.Shape.{text_of}
+use Rattle.cells.specs.Prelude.{text_of}
 use Rattle.cells.proofs.parts.copy_texts.Given as goal
 
 abbrev pub invariant-loop-text : goal.invariant-loop-text

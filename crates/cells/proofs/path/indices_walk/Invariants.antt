@@ -1,7 +1,6 @@
 use Rattle.std.proofs.Common.{◌≡◌, drop, map, true}
-use Rattle.packstream.specs.Tree.{int}
-use Rattle.packstream.specs.View.{trees_of}
-use Rattle.cells.specs.Faults.{is_walk}
+use Rattle.packstream.specs.Prelude.{int, trees_of}
+use Rattle.cells.specs.Prelude.{is_walk}
 use Rattle.cells.proofs.path.indices_walk.Given as goal
 
 abbrev pub invariant-loop-index : goal.invariant-loop-index

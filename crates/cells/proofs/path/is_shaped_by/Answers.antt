@@ -1,5 +1,5 @@
 use Rattle.std.proofs.Common.{refl, ap, rules}
-use Rattle.packstream.specs.View.{tree}
+use Rattle.packstream.specs.Prelude.{tree}
 use Rattle.cells.proofs.Faulty.{path_of}
 use Rattle.cells.proofs.path.is_shaped_by.Goals as goal
 

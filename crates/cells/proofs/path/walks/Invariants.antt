@@ -1,6 +1,6 @@
 use Rattle.std.proofs.Common.{◌≡◌, drop, true}
-use Rattle.packstream.specs.View.{trees, trees_of}
-use Rattle.cells.specs.Faults.{is_walk}
+use Rattle.packstream.specs.Prelude.{trees, trees_of}
+use Rattle.cells.specs.Prelude.{is_walk}
 use Rattle.cells.proofs.path.walks.Given as goal
 
 abbrev pub invariant-loop-step : goal.invariant-loop-step

@@ -1,8 +1,7 @@
 use Rattle.std.proofs.Common.{ap, sym, ◌∙◌, rules, Ok, Err}
 use Rattle.std.proofs.lemmas.Result.{err_from_is_err_and}
-use Rattle.packstream.specs.Tree.{Tree}
-use Rattle.packstream.specs.View.{tree, entry}
-use Rattle.cells.specs.Faults.{fault, scan, structures}
+use Rattle.packstream.specs.Prelude.{Tree, tree, entry}
+use Rattle.cells.specs.Prelude.{fault, scan, structures}
 use Rattle.cells.proofs.Scanning.{members_step, pairs_step, tree-Dict}
 use Rattle.cells.proofs.value_check.+check.Goals as goal
 

@@ -1,6 +1,6 @@
 use Rattle.std.proofs.Common.{◌≡◌, drop}
-use Rattle.packstream.specs.View.{trees, trees_of, entries, entries_of}
-use Rattle.cells.specs.Faults.{fault, scan, structures_in, structures_under}
+use Rattle.packstream.specs.Prelude.{trees, trees_of, entries, entries_of}
+use Rattle.cells.specs.Prelude.{fault, scan, structures_in, structures_under}
 use Rattle.cells.proofs.value_check.+check.Given as goal
 
 abbrev pub invariant-check_members-loop-member : goal.invariant-check_members-loop-member

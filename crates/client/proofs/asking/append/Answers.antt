@@ -1,15 +1,11 @@
-use Rattle.std.proofs.Common.{◌≡◌, ◌++◌, ◌∷◌, [], ◌+◌, ℕ, List, take, drop, sym, ◌∙◌, ap, subst}
+use Rattle.std.proofs.Common.{◌≡◌, ◌++◌, ◌∷◌, [], ◌+◌, ℕ, List, take, drop, sym, ◌∙◌, ap, subst, Some, OnOk, OnErr}
 use Rattle.std.proofs.lemmas.Result.{on_ok_weaker, IfErr-weaker}
 use Rattle.std.proofs.lemmas.List.{take_at}
-use Rattle.std.specs.Prelude.{Some}
-use Rattle.std.specs.Result.{OnOk, OnErr}
-use Rattle.wire.specs.Texts.{written_run}
-use Rattle.messages.specs.View.{request_view}
-use Rattle.messages.specs.Arrivals.{run_of_result}
-use Rattle.messages.specs.Writing.{request_spelling}
+use Rattle.wire.specs.Prelude.{written_run}
+use Rattle.messages.specs.Prelude.{request_view, run_of_result, request_spelling}
 use Rattle.messages.proofs.Sent.{Fits, request_fits}
 use Rattle.client.specs.declared.faults.SubmitFault.TheVariants as submit_fault
-use Rattle.client.specs.Rest.{writing_fault_by}
+use Rattle.client.specs.Prelude.{writing_fault_by}
 use Rattle.client.proofs.Framed.{placed, some_behind, few_behind}
 use Rattle.client.proofs.Refusing.{refused_by_writer}
 use Rattle.client.proofs.asking.append.Goals as goal

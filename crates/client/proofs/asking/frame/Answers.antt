@@ -1,5 +1,5 @@
-use Rattle.std.proofs.Common.{◌≡◌, ◌≤◌, ◌+◌, ◌-◌, ◌++◌, ◌∷◌, [], length, drop, length-drop, rules, arith}
-use Rattle.std.specs.Int.{w16, to_be_bytes}
+use Rattle.std.proofs.Common.{◌≡◌, ◌≤◌, ◌+◌, ◌-◌, ◌++◌, ◌∷◌, [], length, drop, length-drop, rules, arith, w16}
+use Rattle.std.specs.Int.{to_be_bytes}
 use Rattle.client.proofs.Framed.{framed}
 use Rattle.client.proofs.asking.frame.Goals as goal
 

@@ -1,14 +1,10 @@
-use Rattle.std.proofs.Common.{◌≡◌, refl, sym, ◌∙◌, ap, subst, inl, inr, ℕ, List, Option, Some, None, Ok, Err}
-use Rattle.std.specs.Prelude.{unwrap_or}
+use Rattle.std.proofs.Common.{◌≡◌, refl, sym, ◌∙◌, ap, subst, inl, inr, ℕ, List, Option, Some, None, Ok, Err, unwrap_or}
 use Rattle.wire.specs.declared.Version.{Version}
 use Rattle.wire.specs.declared.Version.TheVariants.{V51}
-use Rattle.wire.specs.Framing.{Noop, TooBig}
+use Rattle.wire.specs.Prelude.{Noop, TooBig}
 use Rattle.messages.specs.declared.MsgFault.{MsgFault}
-use Rattle.messages.specs.View.{response_view}
-use Rattle.messages.specs.Messages.{response_of}
-use Rattle.messages.specs.Arrivals.{Strange}
-use Rattle.client.specs.Rest.{heard_response, heard_message}
-use Rattle.client.specs.Hearings.{plain, came_in}
+use Rattle.messages.specs.Prelude.{response_view, response_of, Strange}
+use Rattle.client.specs.Prelude.{heard_response, heard_message, plain, came_in}
 use Rattle.client.proofs.data.came_of.Goals as goal
 
 -- what can't be read is strange, as is all before a version

@@ -1,11 +1,6 @@
-use Rattle.std.proofs.Common.{◌≡◌, ap, ◌∙◌, ℕ, List}
-use Rattle.std.specs.Prelude.{◌&&◌, codes}
-use Rattle.std.specs.Str.{bytes_eq}
-use Rattle.engine.specs.Kept.{principal_of, credentials_of, ledger_of}
-use Rattle.engine.specs.Queries.{fixed_answer}
-use Rattle.engine.specs.Views.{EntryView}
-use Rattle.streams.specs.Conversing.{Talk, conversation}
-use Rattle.streams.specs.Responding.{end_of, setting_of}
+use Rattle.std.proofs.Common.{◌≡◌, ap, ◌∙◌, ℕ, List, ◌&&◌, codes, bytes_eq}
+use Rattle.engine.specs.Prelude.{principal_of, credentials_of, ledger_of, fixed_answer, EntryView}
+use Rattle.streams.specs.Prelude.{Talk, conversation, end_of, setting_of}
 use Rattle.commands.specs.Answers.{talk_of}
 use Rattle.commands.proofs.answers.answer_bytes.Goals as goal
 

@@ -1,7 +1,6 @@
 use Rattle.std.proofs.Common.{Err, refl}
-use Rattle.packstream.specs.Good.{IsGood}
-use Rattle.packstream.specs.Spelling.{Spells}
-use Rattle.cells.specs.Shape.{shape}
+use Rattle.packstream.specs.Prelude.{IsGood, Spells}
+use Rattle.cells.specs.Prelude.{shape}
 use Rattle.structures.proofs.Clauses.{reads_by}
 use Rattle.std.proofs.lemmas.Result.{IfOk-weaker}
 use Rattle.commands.proofs.Checkings.{refused_checks, unfit_is, written_checks}

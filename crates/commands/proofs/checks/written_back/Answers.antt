@@ -1,5 +1,5 @@
 use Rattle.std.proofs.Common.{Err, inr}
-use Rattle.cells.specs.Shape.{shape}
+use Rattle.cells.specs.Prelude.{shape}
 use Rattle.structures.proofs.Clauses.{writes_by}
 use Rattle.std.proofs.lemmas.Result.{IfOk-weaker}
 use Rattle.commands.proofs.checks.written_back.Goals as goal

@@ -1,5 +1,4 @@
-use Rattle.std.proofs.Common.{◌≡◌, take, map}
-use Rattle.std.specs.List.{flat_map}
+use Rattle.std.proofs.Common.{◌≡◌, take, map, flat_map}
 use Rattle.commands.specs.Refusals.{guess}
 use Rattle.commands.proofs.refusal.guesses_of.Given as goal
 

@@ -1,8 +1,6 @@
 use Rattle.std.proofs.Common.{◌≡◌, ◌+◌, None, Some, length, get_or, if◌then◌else◌, string_bytes, sym, ap, ◌∙◌, arith, rules}
 use Rattle.std.proofs.lemmas.List.{length-map}
-use Rattle.engine.specs.Places.{place_in}
-use Rattle.engine.specs.Tokens.{Free, same_writes, known_by, found_in}
-use Rattle.engine.specs.Views.{entry_view, entries_view, token_view, writes_view}
+use Rattle.engine.specs.Prelude.{place_in, Free, same_writes, known_by, found_in, entry_view, entries_view, token_view, writes_view}
 use Rattle.engine.specs.declared.ledger.Commit.TheVariants.{Repeat, Clash}
 use Rattle.engine.proofs.PlaceOf.{none_found, place_within, known_at}
 use Rattle.engine.proofs.fixed_table.known_or_kept.Goals as goal

@@ -1,8 +1,6 @@
 use Rattle.std.proofs.Common.{List, [], ◌++◌, append-nil, sym, subst}
 use Rattle.std.proofs.lemmas.List.Elements.{All-nil, All-push}
-use Rattle.engine.specs.Cells.{IsCellPair, AreCellPairs, AreCellEntries, IsOfCells}
-use Rattle.engine.specs.Tokens.{Found, Free, There, Other, found_in, added_by}
-use Rattle.engine.specs.Views.{EntryView, entry_of, parameters_view}
+use Rattle.engine.specs.Prelude.{IsCellPair, AreCellPairs, AreCellEntries, IsOfCells, Found, Free, There, Other, found_in, added_by, EntryView, entry_of, parameters_view}
 use Rattle.engine.proofs.Reading.{holds_by}
 use Rattle.engine.proofs.laws.commit_and_run.Goals as goal
 

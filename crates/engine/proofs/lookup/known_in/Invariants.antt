@@ -1,6 +1,5 @@
 use Rattle.std.proofs.Common.{◌≡◌, drop}
-use Rattle.engine.specs.Tokens.{found_from}
-use Rattle.engine.specs.Views.{entries_view, writes_view}
+use Rattle.engine.specs.Prelude.{found_from, entries_view, writes_view}
 use Rattle.engine.proofs.lookup.known_in.Given as goal
 
 abbrev pub invariant-loop-i : goal.invariant-loop-i

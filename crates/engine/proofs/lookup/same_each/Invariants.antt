@@ -1,6 +1,5 @@
 use Rattle.std.proofs.Common.{◌≡◌, drop}
-use Rattle.engine.specs.Tokens.{same_writes}
-use Rattle.engine.specs.Views.{writes_view}
+use Rattle.engine.specs.Prelude.{same_writes, writes_view}
 use Rattle.engine.proofs.lookup.same_each.Given as goal
 
 abbrev pub invariant-loop-i : goal.invariant-loop-i

@@ -1,7 +1,6 @@
 use Rattle.std.proofs.Common.{◌≡◌, ◌∙◌, ap, arith}
 use Rattle.std.proofs.lemmas.Result.{on_ok_weaker}
-use Rattle.engine.specs.Table.{with_writes}
-use Rattle.engine.specs.Views.{pairs_view, writes_view}
+use Rattle.engine.specs.Prelude.{with_writes, pairs_view, writes_view}
 use Rattle.engine.proofs.Placing.{view-copies}
 use Rattle.engine.proofs.next.take_next.Goals as goal
 

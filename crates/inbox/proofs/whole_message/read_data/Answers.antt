@@ -1,5 +1,5 @@
 use Rattle.std.proofs.Common.{List, ℕ, Some, Err, IfOk, refl, sym, subst, ◌∙◌}
-use Rattle.wire.specs.Framing.{Message}
+use Rattle.wire.specs.Prelude.{Message}
 use Rattle.messages.specs.declared.fault.MsgFault.{MsgFault}
 use Rattle.inbox.specs.Taking.{Brings}
 use Rattle.inbox.proofs.Told.{err_holds, bad_tells}

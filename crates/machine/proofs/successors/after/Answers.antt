@@ -1,8 +1,7 @@
 use Rattle.std.proofs.Common.{refl, sym, ap, ◌∙◌, ◌≡◌, arith, get_or}
-use Rattle.messages.specs.View.{request_view}
+use Rattle.messages.specs.Prelude.{request_view}
 use Rattle.machine.specs.declared.states.Phase.{Phase}
-use Rattle.machine.specs.Asks.{kind_of, in_part}
-use Rattle.machine.specs.Following.{table, every_phase}
+use Rattle.machine.specs.Prelude.{kind_of, in_part, table, every_phase}
 use Rattle.machine.proofs.Gathered.{gathered, gathered-some, gathered-none, gathered-all}
 use Rattle.machine.proofs.RowFacts.{joined_follow}
 use Rattle.machine.proofs.successors.after.Goals as goal

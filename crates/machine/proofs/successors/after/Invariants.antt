@@ -1,7 +1,6 @@
 use Rattle.std.proofs.Common.{◌≡◌}
-use Rattle.messages.specs.View.{request_view}
-use Rattle.machine.specs.Asks.{kind_of, in_part}
-use Rattle.machine.specs.Following.{table}
+use Rattle.messages.specs.Prelude.{request_view}
+use Rattle.machine.specs.Prelude.{kind_of, in_part, table}
 use Rattle.machine.proofs.Gathered.{gathered}
 use Rattle.machine.proofs.successors.after.Given as goal
 

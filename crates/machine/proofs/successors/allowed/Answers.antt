@@ -1,6 +1,6 @@
 use Rattle.std.proofs.Common.{◌+◌, sym, subst, ◌∙◌, ◌≡◌, arith, get_or, refl, true}
 use Rattle.machine.specs.declared.states.Phase.{Phase}
-use Rattle.machine.specs.Following.{allows}
+use Rattle.machine.specs.Prelude.{allows}
 use Rattle.machine.proofs.Gathered.{Checked, checked-some, checked-none, checked-all, checked-refused, live, live-defunct}
 use Rattle.machine.proofs.successors.allowed.Goals as goal
 use Rattle.machine.proofs.successors.allowed.Goals.{then-has+else-not-is_allowed, else-has}

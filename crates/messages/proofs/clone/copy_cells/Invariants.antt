@@ -1,5 +1,5 @@
 use Rattle.std.proofs.Common.{◌≡◌, take}
-use Rattle.cells.specs.Shape.{entries}
+use Rattle.cells.specs.Prelude.{entries}
 use Rattle.messages.proofs.clone.copy_cells.Given as goal
 
 abbrev pub invariant-loop-name : goal.invariant-loop-name

@@ -1,8 +1,5 @@
 use Rattle.packstream.proofs.Ranges.{bytes_from_each}
-use Rattle.messages.specs.Table.{requests}
-use Rattle.messages.specs.View.{request_view}
-use Rattle.messages.specs.Reading.{request_contents}
-use Rattle.messages.specs.Messages.{request_held, request_of}
+use Rattle.messages.specs.Prelude.{requests, request_view, request_contents, request_held, request_of}
 use Rattle.messages.proofs.Sent.{gives_message, gives_fault, gives_same, asked_back}
 use Rattle.messages.proofs.codec.read_request.Goals as goal
 

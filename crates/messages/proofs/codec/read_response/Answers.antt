@@ -1,8 +1,5 @@
 use Rattle.packstream.proofs.Ranges.{bytes_from_each}
-use Rattle.messages.specs.Table.{responses}
-use Rattle.messages.specs.View.{response_view}
-use Rattle.messages.specs.Reading.{response_contents}
-use Rattle.messages.specs.Messages.{response_held, response_of}
+use Rattle.messages.specs.Prelude.{responses, response_view, response_contents, response_held, response_of}
 use Rattle.messages.proofs.Sent.{gives_message, gives_fault, gives_same, answered_back}
 use Rattle.messages.proofs.codec.read_response.Goals as goal
 

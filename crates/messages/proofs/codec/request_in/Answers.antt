@@ -1,10 +1,7 @@
 use Rattle.packstream.proofs.Ranges.{bytes_from_each}
 use Rattle.std.proofs.Common.{refl, ap, sym}
 use Rattle.packstream.proofs.Deciding.{whole_value}
-use Rattle.messages.specs.Table.{requests}
-use Rattle.messages.specs.View.{request_view}
-use Rattle.messages.specs.Reading.{request_contents}
-use Rattle.messages.specs.Messages.{contents_by}
+use Rattle.messages.specs.Prelude.{requests, request_view, request_contents, contents_by}
 use Rattle.messages.proofs.Sent.{bad_answers, err_is, means_said}
 use Rattle.messages.proofs.codec.request_in.Goals as goal
 

@@ -1,9 +1,6 @@
 use Rattle.std.proofs.lemmas.Result.{on_ok_weaker}
-use Rattle.packstream.specs.View.{tree}
-use Rattle.messages.specs.View.{request_view}
-use Rattle.messages.specs.Table.{requests}
-use Rattle.messages.specs.Reading.{request_contents}
-use Rattle.messages.specs.Writing.{request_spelling, form_put}
+use Rattle.packstream.specs.Prelude.{tree}
+use Rattle.messages.specs.Prelude.{request_view, requests, request_contents, request_spelling, form_put}
 use Rattle.messages.proofs.Added.{appended, means}
 use Rattle.messages.proofs.Sent.{means_of}
 use Rattle.messages.proofs.Rounds.{asks_back, request_back}

@@ -1,9 +1,6 @@
 use Rattle.std.proofs.lemmas.Result.{on_ok_weaker}
-use Rattle.packstream.specs.View.{tree}
-use Rattle.messages.specs.View.{response_view}
-use Rattle.messages.specs.Table.{responses}
-use Rattle.messages.specs.Reading.{response_contents}
-use Rattle.messages.specs.Writing.{response_spelling, form_put}
+use Rattle.packstream.specs.Prelude.{tree}
+use Rattle.messages.specs.Prelude.{response_view, responses, response_contents, response_spelling, form_put}
 use Rattle.messages.proofs.Added.{appended, means}
 use Rattle.messages.proofs.Sent.{means_of}
 use Rattle.messages.proofs.Rounds.{tells_back, response_back}

@@ -1,6 +1,6 @@
 use Rattle.std.proofs.Common.{◌≡◌, drop}
-use Rattle.packstream.specs.View.{entries, entries_of}
-use Rattle.messages.specs.Reading.{lookup}
+use Rattle.packstream.specs.Prelude.{entries, entries_of}
+use Rattle.messages.specs.Prelude.{lookup}
 use Rattle.messages.proofs.entries.entry.Given as goal
 
 abbrev pub invariant-loop-pair : goal.invariant-loop-pair

@@ -1,7 +1,6 @@
 use Rattle.std.proofs.Common.{◌≡◌, drop}
-use Rattle.packstream.specs.View.{entries, entries_of}
-use Rattle.messages.specs.Table.{how_many}
-use Rattle.messages.specs.Reading.{all_named}
+use Rattle.packstream.specs.Prelude.{entries, entries_of}
+use Rattle.messages.specs.Prelude.{how_many, all_named}
 use Rattle.messages.proofs.entries.say_how_many_alone.Given as goal
 
 abbrev pub invariant-loop-pair : goal.invariant-loop-pair

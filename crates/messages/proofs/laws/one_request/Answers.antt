@@ -1,7 +1,5 @@
 use Rattle.std.proofs.Common.{Ok, refl, ap, sym, ◌∙◌}
-use Rattle.messages.specs.Table.{requests}
-use Rattle.messages.specs.Reading.{◌>>=◌, request_contents}
-use Rattle.messages.specs.Messages.{contents_in, request_held, request_of}
+use Rattle.messages.specs.Prelude.{requests, ◌>>=◌, request_contents, contents_in, request_held, request_of}
 use Rattle.messages.proofs.Sent.{means_one, none_said, said_none, asked_back, kept_fault, request_is}
 use Rattle.messages.proofs.Sayings.{means_told, asked}
 use Rattle.messages.proofs.laws.one_request.Goals as goal

@@ -1,7 +1,5 @@
 use Rattle.std.proofs.Common.{Ok, refl, ap, sym, ◌∙◌}
-use Rattle.messages.specs.Table.{responses}
-use Rattle.messages.specs.Reading.{◌>>=◌, response_contents}
-use Rattle.messages.specs.Messages.{contents_in, response_held, response_of}
+use Rattle.messages.specs.Prelude.{responses, ◌>>=◌, response_contents, contents_in, response_held, response_of}
 use Rattle.messages.proofs.Sent.{means_one, none_said, said_none, answered_back, kept_fault, response_is}
 use Rattle.messages.proofs.Sayings.{means_told, told_says}
 use Rattle.messages.proofs.laws.one_response.Goals as goal

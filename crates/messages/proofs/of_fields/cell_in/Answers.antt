@@ -1,5 +1,5 @@
 use Rattle.std.proofs.Common.{Ok, Err}
-use Rattle.packstream.specs.View.{tree}
+use Rattle.packstream.specs.Prelude.{tree}
 use Rattle.structures.proofs.Clauses.{reads_by}
 use Rattle.messages.proofs.Sent.{err_is}
 use Rattle.messages.proofs.Fields.{read_value_is, read_fault_is, told_fault}

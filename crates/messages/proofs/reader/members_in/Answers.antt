@@ -1,5 +1,5 @@
 use Rattle.std.proofs.Common.{refl, ap, ◌∙◌}
-use Rattle.packstream.specs.View.{tree}
+use Rattle.packstream.specs.Prelude.{tree}
 use Rattle.packstream.proofs.Views.{tree-List}
 use Rattle.messages.proofs.reader.members_in.Goals as goal
 

@@ -1,4 +1,4 @@
-use Rattle.packstream.specs.View.{trees, trees_of}
+use Rattle.packstream.specs.Prelude.{trees, trees_of}
 use Rattle.messages.proofs.Fields.{run_row}
 use Rattle.messages.proofs.reader.run_of.Goals as goal
 

@@ -1,7 +1,6 @@
 use Rattle.std.proofs.Common.{arith, refl}
-use Rattle.packstream.specs.Tree.{list}
-use Rattle.packstream.specs.View.{trees_of}
-use Rattle.cells.specs.Shape.{shapes}
+use Rattle.packstream.specs.Prelude.{list, trees_of}
+use Rattle.cells.specs.Prelude.{shapes}
 use Rattle.messages.proofs.Added.{cells_scanned}
 use Rattle.messages.proofs.scan.record_of.Goals as goal
 

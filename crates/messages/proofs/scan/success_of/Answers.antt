@@ -1,7 +1,6 @@
 use Rattle.std.proofs.Common.{arith, refl}
-use Rattle.packstream.specs.Tree.{dict}
-use Rattle.packstream.specs.View.{entries_of}
-use Rattle.cells.specs.Shape.{entries}
+use Rattle.packstream.specs.Prelude.{dict, entries_of}
+use Rattle.cells.specs.Prelude.{entries}
 use Rattle.messages.proofs.Added.{cells_scanned}
 use Rattle.messages.proofs.scan.success_of.Goals as goal
 

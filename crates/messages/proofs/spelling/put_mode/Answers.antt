@@ -1,5 +1,5 @@
 use Rattle.std.proofs.Common.{codes}
-use Rattle.packstream.specs.Tree.{text}
+use Rattle.packstream.specs.Prelude.{text}
 use Rattle.messages.proofs.Added.{one_entry}
 use Rattle.messages.proofs.spelling.put_mode.Goals as goal
 

@@ -1,9 +1,7 @@
 use Rattle.std.proofs.Common.{[], ◌∷◌, ap, arith, refl}
-use Rattle.packstream.specs.Tree.{list}
-use Rattle.packstream.specs.View.{trees_of}
-use Rattle.cells.specs.Shape.{shapes}
-use Rattle.messages.specs.Table.{RECORD}
-use Rattle.messages.specs.Reading.{contents}
+use Rattle.packstream.specs.Prelude.{list, trees_of}
+use Rattle.cells.specs.Prelude.{shapes}
+use Rattle.messages.specs.Prelude.{RECORD, contents}
 use Rattle.messages.proofs.Added.{cells_added}
 use Rattle.messages.proofs.spelling.put_record.Goals as goal
 

@@ -1,5 +1,5 @@
 use Rattle.std.proofs.Common.{◌≡◌, codes, rules, to_z, of_z, w64}
-use Rattle.packstream.specs.Tree.{int}
+use Rattle.packstream.specs.Prelude.{int}
 use Rattle.messages.proofs.Added.{one_entry, rows_good}
 use Rattle.messages.proofs.spelling.put_rows.Goals as goal
 

@@ -1,7 +1,7 @@
 use Rattle.std.proofs.Common.{ap, string_bytes}
 use Rattle.std.proofs.lemmas.Str.{IsUtf8-string_bytes}
-use Rattle.cells.specs.Shape.{entries}
-use Rattle.messages.specs.View.{token_view}
+use Rattle.cells.specs.Prelude.{entries}
+use Rattle.messages.specs.Prelude.{token_view}
 use Rattle.messages.proofs.Added.{run_added}
 use Rattle.messages.proofs.spelling.put_run.Goals as goal
 

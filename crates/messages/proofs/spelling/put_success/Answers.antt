@@ -1,9 +1,7 @@
 use Rattle.std.proofs.Common.{[], ◌∷◌, ap, arith, refl}
-use Rattle.packstream.specs.Tree.{dict}
-use Rattle.packstream.specs.View.{entries_of}
-use Rattle.cells.specs.Shape.{entries}
-use Rattle.messages.specs.Table.{SUCCESS}
-use Rattle.messages.specs.Reading.{contents}
+use Rattle.packstream.specs.Prelude.{dict, entries_of}
+use Rattle.cells.specs.Prelude.{entries}
+use Rattle.messages.specs.Prelude.{SUCCESS, contents}
 use Rattle.messages.proofs.Added.{cells_added}
 use Rattle.messages.proofs.spelling.put_success.Goals as goal
 

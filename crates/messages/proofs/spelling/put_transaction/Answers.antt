@@ -1,5 +1,5 @@
 use Rattle.std.proofs.Common.{ap}
-use Rattle.messages.specs.View.{token_view}
+use Rattle.messages.specs.Prelude.{token_view}
 use Rattle.messages.proofs.Added.{alone_added}
 use Rattle.messages.proofs.spelling.put_transaction.Goals as goal
 

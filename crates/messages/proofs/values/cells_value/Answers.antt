@@ -1,7 +1,6 @@
 use Rattle.std.proofs.Common.{◌∙◌, Ok, Err, ap, sym}
-use Rattle.packstream.specs.Tree.{dict}
-use Rattle.packstream.specs.View.{entries_of}
-use Rattle.cells.specs.Shape.{entries}
+use Rattle.packstream.specs.Prelude.{dict, entries_of}
+use Rattle.cells.specs.Prelude.{entries}
 use Rattle.structures.proofs.Clauses.{writes_by}
 use Rattle.messages.proofs.Sent.{err_is}
 use Rattle.messages.proofs.Fields.{put_value, put_fault, told_fault}

@@ -1,5 +1,5 @@
 use Rattle.std.proofs.Common.{◌≡◌, ◌∙◌, rules}
-use Rattle.cells.specs.Shape.{text_of}
+use Rattle.cells.specs.Prelude.{text_of}
 use Rattle.packstream.proofs.Putting.{tree_of_dict}
 use Rattle.messages.proofs.Fields.{tree_of_text}
 use Rattle.messages.proofs.values.of_run.Goals as goal

@@ -1,7 +1,6 @@
 use Rattle.std.proofs.Common.{◌∙◌, Ok, Err, ap, sym}
-use Rattle.packstream.specs.Tree.{list}
-use Rattle.packstream.specs.View.{trees_of}
-use Rattle.cells.specs.Shape.{shapes}
+use Rattle.packstream.specs.Prelude.{list, trees_of}
+use Rattle.cells.specs.Prelude.{shapes}
 use Rattle.structures.proofs.Clauses.{writes_by}
 use Rattle.messages.proofs.Sent.{err_is}
 use Rattle.messages.proofs.Fields.{put_value, put_fault, told_fault}

@@ -1,6 +1,6 @@
 use Rattle.std.proofs.Common.{Some, string_bytes}
-use Rattle.packstream.specs.View.{entries}
-use Rattle.messages.specs.Parts.{transaction_put, token_pairs}
+use Rattle.packstream.specs.Prelude.{entries}
+use Rattle.messages.specs.Prelude.{transaction_put, token_pairs}
 use Rattle.messages.proofs.Rounds.{put_with, answered_entries}
 use Rattle.messages.proofs.values.transaction_entries.Goals as goal
 

@@ -1,11 +1,6 @@
 use Rattle.std.proofs.Common.{◌≡◌, ◌-◌, take, string_bytes, Bool, ◌==◌, Ok, Err, refl, ap, sym, subst, ◌∙◌}
 use Rattle.std.proofs.lemmas.Str.{IsUtf8-string_bytes}
-use Rattle.packstream.specs.Good.{is_among}
-use Rattle.packstream.specs.Plain.{IsPlain}
-use Rattle.packstream.specs.Tree.{Tree}
-use Rattle.packstream.specs.View.{tree}
-use Rattle.packstream.specs.Making.{faults_in, first_fault}
-use Rattle.packstream.specs.Twins.{names}
+use Rattle.packstream.specs.Prelude.{is_among, IsPlain, Tree, tree, faults_in, first_fault, names}
 use Rattle.packstream.proofs.Views.{tree-Text}
 use Rattle.packstream.proofs.Putting.{plain_more, plains_more}
 use Rattle.packstream.proofs.Checking.{members_step, pairs_step, pairs_done}

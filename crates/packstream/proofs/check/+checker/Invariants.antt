@@ -1,8 +1,5 @@
 use Rattle.std.proofs.Common.{◌≡◌, ◌+◌, ◌-◌, ◌*◌, ◌≤◌, [], take, drop}
-use Rattle.packstream.specs.View.{trees, trees_of, entries, entries_of}
-use Rattle.packstream.specs.Making.{first_fault, faults_in_all, faults_in_entries}
-use Rattle.packstream.specs.Plain.{ArePlain, HavePlain}
-use Rattle.packstream.specs.Twins.{names}
+use Rattle.packstream.specs.Prelude.{trees, trees_of, entries, entries_of, first_fault, faults_in_all, faults_in_entries, ArePlain, HavePlain, names}
 use Rattle.packstream.proofs.check.+checker.Given as goal
 
 abbrev pub decreases-check : goal.decreases-check

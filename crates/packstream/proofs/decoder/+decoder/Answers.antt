@@ -1,8 +1,7 @@
 use Rattle.std.proofs.Common.{◌≡◌, ◌++◌, ◌∷◌, [], ap, ◌∙◌, List, ℕ}
 use Rattle.std.proofs.lemmas.Result.{err_from_is_err_and}
 use Rattle.std.proofs.lemmas.List.{map_push}
-use Rattle.packstream.specs.View.{tree, trees, entry, entries}
-use Rattle.packstream.specs.Reading.{layer, inner, items_at, entries_at, keys}
+use Rattle.packstream.specs.Prelude.{tree, trees, entry, entries, layer, inner, items_at, entries_at, keys}
 use Rattle.packstream.proofs.Views.{keys-entries}
 use Rattle.packstream.proofs.Steps.{items_on, items_end, entries_on, entries_end_key, entries_end_value}
 use Rattle.packstream.proofs.Complete.{keys_push}

@@ -1,6 +1,5 @@
 use Rattle.std.proofs.Common.{◌≡◌, ◌-◌, ◌*◌, ◌+◌, []}
-use Rattle.packstream.specs.View.{trees, entries}
-use Rattle.packstream.specs.Reading.{layer, inner, items_at, entries_at, keys, Knows}
+use Rattle.packstream.specs.Prelude.{trees, entries, layer, inner, items_at, entries_at, keys, Knows}
 use Rattle.packstream.proofs.decoder.+decoder.Given as goal
 
 abbrev pub decreases-value_of : goal.decreases-value_of

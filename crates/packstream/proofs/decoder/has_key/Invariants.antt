@@ -1,6 +1,5 @@
 use Rattle.std.proofs.Common.{◌≡◌, drop}
-use Rattle.packstream.specs.Good.{is_among}
-use Rattle.packstream.specs.Twins.{names}
+use Rattle.packstream.specs.Prelude.{is_among, names}
 use Rattle.packstream.proofs.decoder.has_key.Given as goal
 
 abbrev pub invariant-loop-pair : goal.invariant-loop-pair

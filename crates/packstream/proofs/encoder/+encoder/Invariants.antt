@@ -1,7 +1,5 @@
 use Rattle.std.proofs.Common.{◌≡◌, ◌+◌, ◌++◌, ◌*◌, length, take}
-use Rattle.packstream.specs.Tree.{list, dict, structure}
-use Rattle.packstream.specs.Canon.{canon}
-use Rattle.packstream.specs.View.{tree, trees, trees_of, entries, entries_of}
+use Rattle.packstream.specs.Prelude.{list, dict, structure, canon, tree, trees, trees_of, entries, entries_of}
 use Rattle.packstream.proofs.Putting.{flat, flats, pair_bytes}
 use Rattle.packstream.proofs.encoder.+encoder.Given as goal
 

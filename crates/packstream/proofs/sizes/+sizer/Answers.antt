@@ -1,5 +1,5 @@
 use Rattle.std.proofs.Common.{length, List, ℕ, ap, arith}
-use Rattle.packstream.specs.Canon.{text_bytes}
+use Rattle.packstream.specs.Prelude.{text_bytes}
 use Rattle.packstream.proofs.Putting.{flats_size}
 use Rattle.packstream.proofs.sizes.+sizer.Goals as goal
 

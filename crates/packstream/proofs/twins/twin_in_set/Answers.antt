@@ -1,6 +1,5 @@
 use Rattle.std.proofs.Common.{◌≡◌, take, string_bytes, false, not, ap, sym, ◌∙◌}
-use Rattle.packstream.specs.Good.{is_among}
-use Rattle.packstream.specs.Twins.{names}
+use Rattle.packstream.specs.Prelude.{is_among, names}
 use Rattle.packstream.proofs.Keys.{was}
 use Rattle.packstream.proofs.FirstTwin.{new_more, knows_one_more}
 use Rattle.packstream.proofs.twins.twin_in_set.Goals as goal

@@ -1,6 +1,5 @@
 use Rattle.std.proofs.Common.{take}
-use Rattle.packstream.specs.Twins.{names}
-use Rattle.packstream.specs.Reading.{Knows}
+use Rattle.packstream.specs.Prelude.{names, Knows}
 use Rattle.packstream.proofs.FirstTwin.{AllNew}
 use Rattle.packstream.proofs.twins.twin_in_set.Given as goal
 

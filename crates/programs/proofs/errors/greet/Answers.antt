@@ -1,6 +1,5 @@
 use Rattle.std.proofs.Common.{List, ℕ, Bool, ◌++◌, codes, sym, ◌∙◌, subst}
-use Rattle.programs.specs.Stopping.{Gets}
-use Rattle.programs.specs.Talking.{greeting_of}
+use Rattle.programs.specs.Prelude.{Gets, greeting_of}
 use Rattle.programs.proofs.Moved.{gets_then}
 use Rattle.programs.proofs.errors.greet.Goals as goal
 

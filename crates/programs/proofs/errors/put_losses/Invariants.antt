@@ -1,6 +1,5 @@
 use Rattle.std.proofs.Common.{take}
-use Rattle.programs.specs.Stopping.{Gets}
-use Rattle.programs.specs.Talking.{losses_text}
+use Rattle.programs.specs.Prelude.{Gets, losses_text}
 use Rattle.programs.proofs.errors.put_losses.Given as goal
 
 -- those before it are told

@@ -1,5 +1,5 @@
 use Rattle.std.proofs.Common.{◌≡◌, ◌++◌, [], ◌∷◌, cond, get_or, append-nil, arith, rules, sym, ap, ◌∙◌}
-use Rattle.programs.specs.Escaping.{shown, is_lead, escaped}
+use Rattle.programs.specs.Prelude.{shown, is_lead, escaped}
 use Rattle.programs.proofs.Escapings.{escaped_step, escaped_end}
 use Rattle.programs.proofs.escapes.push_escaped.Goals as goal
 

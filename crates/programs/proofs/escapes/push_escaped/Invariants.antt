@@ -1,5 +1,5 @@
 use Rattle.std.proofs.Common.{◌≡◌, ◌++◌, drop}
-use Rattle.programs.specs.Escaping.{escaped_after, escaped}
+use Rattle.programs.specs.Prelude.{escaped_after, escaped}
 use Rattle.programs.proofs.escapes.push_escaped.Given as goal
 
 -- what is added, with what is still to be printed of the text, is the whole

@@ -1,12 +1,11 @@
 use Rattle.std.proofs.Common.{◌∙◌, refl, sym, arith}
-use Rattle.server.specs.Serving.{setting}
-use Rattle.server.specs.Views.{Fits}
+use Rattle.server.specs.Prelude.{setting, Fits}
 use Rattle.streams.proofs.Asked.{all_taken}
 use Rattle.streams.proofs.Called.{lives_same, lives_then}
 use Rattle.streams.proofs.Parts.{empty_nil}
 use Rattle.programs.proofs.Taken.{split_whole}
 use Rattle.programs.proofs.Looped.{all_out, part_begun, part_more, part_whole, went_none, passed_then, fails_after}
-use Rattle.programs.specs.Turns.{given}
+use Rattle.programs.specs.Prelude.{given}
 use Rattle.programs.proofs.Turned.{with_item}
 use Rattle.programs.proofs.loops.exchange.Goals as goal
 

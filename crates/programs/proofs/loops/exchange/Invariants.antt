@@ -1,10 +1,7 @@
-use Rattle.std.proofs.Common.{length}
-use Rattle.std.specs.Prelude.{IsSome}
-use Rattle.server.specs.Serving.{Rest, find, setting}
-use Rattle.server.specs.Views.{Fits}
-use Rattle.streams.specs.Settling.{IsLive, LivesOn}
-use Rattle.programs.specs.Looping.{Comes, Passed, Ways, ways_at}
-use Rattle.programs.specs.Turns.{Turns}
+use Rattle.std.proofs.Common.{length, IsSome}
+use Rattle.server.specs.Prelude.{Rest, find, setting, Fits}
+use Rattle.streams.specs.Prelude.{IsLive, LivesOn}
+use Rattle.programs.specs.Prelude.{Comes, Passed, Ways, ways_at, Turns}
 use Rattle.programs.proofs.Looped.{PartGiven}
 use Rattle.programs.proofs.loops.exchange.Given as goal
 

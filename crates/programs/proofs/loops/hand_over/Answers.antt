@@ -1,5 +1,5 @@
 use Rattle.std.proofs.Common.{◌++◌, ◌∙◌, [], append_assoc, refl, ap, ⊎_elim, inl, inr, List, ℕ}
-use Rattle.programs.specs.Turns.{place_after}
+use Rattle.programs.specs.Prelude.{place_after}
 use Rattle.programs.proofs.Looped.{alters_after, passes_none, passes_then}
 use Rattle.programs.proofs.Turned.{heard_more, prints_none}
 use Rattle.programs.proofs.Taken.{split_whole}

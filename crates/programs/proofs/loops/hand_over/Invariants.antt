@@ -1,7 +1,5 @@
 use Rattle.std.proofs.Common.{◌≡◌, ◌++◌, ℕ, List, length}
-use Rattle.programs.specs.Looping.{Passes, Prints, StandsAt, way_at}
-use Rattle.programs.specs.Talking.{Place}
-use Rattle.programs.specs.Turns.{place_after, shown_of}
+use Rattle.programs.specs.Prelude.{Passes, Prints, StandsAt, way_at, Place, place_after, shown_of}
 use Rattle.programs.proofs.loops.hand_over.Given as goal
 
 -- some of it passed, was heard and is printed

@@ -1,5 +1,5 @@
 use Rattle.std.proofs.Common.{◌≡◌, [], ap, map}
-use Rattle.client.specs.Notes.{note}
+use Rattle.client.specs.Prelude.{note}
 use Rattle.programs.proofs.Looped.{on_ok_both}
 use Rattle.programs.proofs.Turned.{same_notes, stands_heard, with_item}
 use Rattle.programs.proofs.loops.hear.Goals as goal

@@ -1,6 +1,6 @@
 use Rattle.std.proofs.Common.{◌∙◌, ◌++◌, ◌∷◌, [], append_assoc, rules, refl, sym, ap}
 use Rattle.std.proofs.lemmas.List.{nil_from_length}
-use Rattle.client.specs.Notes.{note}
+use Rattle.client.specs.Prelude.{note}
 use Rattle.streams.proofs.Parts.{all_done}
 use Rattle.programs.proofs.Turned.{notes_next, prints_none, version_next}
 use Rattle.programs.proofs.loops.put_all.Goals as goal

@@ -1,8 +1,6 @@
 use Rattle.std.proofs.Common.{◌≡◌, ◌++◌, map}
-use Rattle.client.specs.Notes.{note}
-use Rattle.programs.specs.Looping.{Prints}
-use Rattle.programs.specs.Telling.{versions_after}
-use Rattle.programs.specs.Turns.{notes_shown}
+use Rattle.client.specs.Prelude.{note}
+use Rattle.programs.specs.Prelude.{Prints, versions_after, notes_shown}
 use Rattle.programs.proofs.loops.put_all.Given as goal
 
 -- those that were yielded are printed

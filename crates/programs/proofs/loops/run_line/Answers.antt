@@ -1,13 +1,9 @@
 use Rattle.std.proofs.Common.{refl, sym, subst, Option, List, ℕ}
 use Rattle.std.proofs.lemmas.Result.{on_ok_weaker}
-use Rattle.server.specs.Serving.{setting}
-use Rattle.server.specs.Views.{Fits}
-use Rattle.scripts.specs.Meant.{meant}
-use Rattle.scripts.specs.Views.{script_request_view}
+use Rattle.server.specs.Prelude.{setting, Fits}
+use Rattle.scripts.specs.Prelude.{meant, script_request_view}
 use Rattle.streams.proofs.Called.{lives_same}
-use Rattle.programs.specs.Looping.{Prints, ways_at}
-use Rattle.programs.specs.Talking.{Place}
-use Rattle.programs.specs.Turns.{with_request}
+use Rattle.programs.specs.Prelude.{Prints, ways_at, Place, with_request}
 use Rattle.programs.proofs.Looped.{comes_at, line_refused, line_sent, went_none}
 use Rattle.programs.proofs.Turned.{with_item}
 use Rattle.programs.proofs.loops.run_line.Goals as goal

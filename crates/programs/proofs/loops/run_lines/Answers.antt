@@ -1,13 +1,10 @@
 use Rattle.std.proofs.Common.{◌∙◌, ◌++◌, ◌∷◌, [], append_assoc, rules, sym, ap, subst, List, ℕ}
 use Rattle.std.proofs.lemmas.List.{map-append, nil_from_length}
-use Rattle.server.specs.Serving.{setting}
-use Rattle.server.specs.Views.{Fits}
-use Rattle.scripts.specs.Script.{said_requests}
-use Rattle.scripts.specs.Views.{ScriptRequestView, script_request_view}
+use Rattle.server.specs.Prelude.{setting, Fits}
+use Rattle.scripts.specs.Prelude.{said_requests, ScriptRequestView, script_request_view}
 use Rattle.streams.proofs.Called.{lives_then}
 use Rattle.streams.proofs.Parts.{all_done}
-use Rattle.programs.specs.Looping.{Comes, ways_at}
-use Rattle.programs.specs.Turns.{AreQuiet, Turns, after_lines, exchanged}
+use Rattle.programs.specs.Prelude.{Comes, ways_at, AreQuiet, Turns, after_lines, exchanged}
 use Rattle.programs.proofs.Looped.{fails_after, passed_then}
 use Rattle.programs.proofs.Turned.{lines_more, quiet_last, quiet_more}
 use Rattle.programs.proofs.loops.run_lines.Goals as goal

@@ -1,11 +1,8 @@
-use Rattle.std.proofs.Common.{◌≡◌, ◌++◌}
-use Rattle.std.specs.Prelude.{IsSome}
-use Rattle.server.specs.Serving.{Rest, find, setting}
-use Rattle.server.specs.Views.{Fits}
-use Rattle.scripts.specs.Script.{said_requests}
-use Rattle.streams.specs.Settling.{IsLive, LivesOn}
-use Rattle.programs.specs.Looping.{Comes, Passed, Ways, ways_at}
-use Rattle.programs.specs.Turns.{Turns, AreQuiet, after_lines, exchanged}
+use Rattle.std.proofs.Common.{◌≡◌, ◌++◌, IsSome}
+use Rattle.server.specs.Prelude.{Rest, find, setting, Fits}
+use Rattle.scripts.specs.Prelude.{said_requests}
+use Rattle.streams.specs.Prelude.{IsLive, LivesOn}
+use Rattle.programs.specs.Prelude.{Comes, Passed, Ways, ways_at, Turns, AreQuiet, after_lines, exchanged}
 use Rattle.programs.proofs.loops.run_lines.Given as goal
 
 -- those that were yielded are done

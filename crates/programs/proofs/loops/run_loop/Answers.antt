@@ -1,6 +1,6 @@
 use Rattle.std.proofs.Common.{sym, ◌∙◌, ap, refl, ⊎_elim, Some, None, Err}
 use Rattle.std.proofs.KnownBytes.{Appends-nil}
-use Rattle.programs.specs.Stopping.{stop_status}
+use Rattle.programs.specs.Prelude.{stop_status}
 use Rattle.programs.proofs.Stops.{never_well, told_of}
 use Rattle.programs.proofs.Looped.{tells_line}
 use Rattle.programs.proofs.loops.run_loop.Goals as goal

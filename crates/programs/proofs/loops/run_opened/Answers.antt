@@ -1,14 +1,11 @@
-use Rattle.std.proofs.Common.{◌≡◌, inl, ◌∙◌, [], refl, rules, sym, subst}
+use Rattle.std.proofs.Common.{◌≡◌, inl, ◌∙◌, [], refl, rules, sym, subst, IsSome}
 use Rattle.std.proofs.lemmas.Result.{on_ok_weaker}
-use Rattle.engine.specs.Views.{entries_view}
-use Rattle.server.specs.Serving.{opened, setting}
-use Rattle.server.specs.Views.{Fits}
-use Rattle.scripts.specs.Script.{said_requests}
+use Rattle.engine.specs.Prelude.{entries_view}
+use Rattle.server.specs.Prelude.{opened, setting, Fits}
+use Rattle.scripts.specs.Prelude.{said_requests}
 use Rattle.programs.proofs.Served.{found_by, not_opened, opened_lives, looped}
-use Rattle.programs.specs.Looping.{ways_at}
-use Rattle.programs.specs.Turns.{no_turns}
+use Rattle.programs.specs.Prelude.{ways_at, no_turns}
 use Rattle.programs.proofs.Looped.{comes_begun, loops_whole}
-use Rattle.std.specs.Prelude.{IsSome}
 use Rattle.programs.proofs.loops.run_opened.Goals as goal
 
 pub returns-in-Err-clause-grows : goal.returns-in-Err-clause-grows

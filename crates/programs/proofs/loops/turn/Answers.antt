@@ -1,9 +1,9 @@
 use Rattle.std.proofs.Common.{◌≡◌, ⊎_elim, inl, inr, ◌∙◌, ℕ, List, length, drop, min, sym, ap}
 use Rattle.std.proofs.lemmas.Result.{on_ok_weaker}
 use Rattle.std.proofs.lemmas.List.{drop_min}
-use Rattle.server.specs.Views.{Fits}
+use Rattle.server.specs.Prelude.{Fits}
 use Rattle.streams.proofs.Called.{lives_same}
-use Rattle.programs.specs.Looping.{ways_at}
+use Rattle.programs.specs.Prelude.{ways_at}
 use Rattle.programs.proofs.Looped.{comes_given, on_ok_both}
 use Rattle.programs.proofs.loops.turn.Goals as goal
 

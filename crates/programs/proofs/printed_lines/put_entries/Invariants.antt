@@ -1,7 +1,7 @@
 use Rattle.std.proofs.Common.{take}
 use Rattle.std.specs.Io.KnownBytes.{Appends}
-use Rattle.engine.specs.Views.{entries_view}
-use Rattle.programs.specs.Looping.{entries_text}
+use Rattle.engine.specs.Prelude.{entries_view}
+use Rattle.programs.specs.Prelude.{entries_text}
 use Rattle.programs.proofs.printed_lines.put_entries.Given as goal
 
 -- those before it are printed

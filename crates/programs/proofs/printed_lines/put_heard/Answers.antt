@@ -1,7 +1,7 @@
 use Rattle.std.proofs.Common.{sym, subst, ℕ, List}
 use Rattle.std.proofs.lemmas.Result.{on_ok_weaker}
-use Rattle.client.specs.Notes.{note}
-use Rattle.programs.specs.Telling.{IsTold}
+use Rattle.client.specs.Prelude.{note}
+use Rattle.programs.specs.Prelude.{IsTold}
 use Rattle.programs.proofs.printed_lines.put_heard.Goals as goal
 
 pub returns-clause-told : goal.returns-clause-told

@@ -1,7 +1,6 @@
 use Rattle.std.proofs.Common.{refl, inl, inr, subst, ℕ}
-use Rattle.server.specs.Serving.{opened, setting}
-use Rattle.programs.specs.Serving.{ServesSo}
-use Rattle.server.specs.Views.{Fits}
+use Rattle.server.specs.Prelude.{opened, setting, Fits}
+use Rattle.programs.specs.Prelude.{ServesSo}
 use Rattle.programs.proofs.Served.{not_opened, opened_lives, served, found_by}
 use Rattle.programs.proofs.serves.serve_next.Goals as goal
 

@@ -1,8 +1,7 @@
 use Rattle.std.proofs.Common.{List, ℕ}
 use Rattle.std.specs.Io.KnownBytes.{Consumes}
-use Rattle.streams.specs.Failing.{StaysSound}
-use Rattle.programs.specs.Talking.{streams_at}
-use Rattle.programs.specs.Shelling.{Progress}
+use Rattle.streams.specs.Prelude.{StaysSound}
+use Rattle.programs.specs.Prelude.{streams_at, Progress}
 use Rattle.programs.proofs.shells.run.Given as goal
 
 -- what was read of the input is done, and no stream fails

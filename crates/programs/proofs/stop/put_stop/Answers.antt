@@ -1,6 +1,6 @@
 use Rattle.std.proofs.Common.{sym, ap, ◌∙◌, inl, inr, ⊎_elim}
 use Rattle.programs.specs.declared.stop.Stop.TheVariants.{Broken}
-use Rattle.programs.specs.Stopping.{stop_status}
+use Rattle.programs.specs.Prelude.{stop_status}
 use Rattle.programs.proofs.stop.put_stop.Goals as goal
 
 pub returns-in-Unreadable : goal.returns-in-Unreadable

@@ -1,6 +1,6 @@
 use Rattle.std.proofs.Common.{refl, subst, ◌∙◌, ℕ, List, inl, inr}
 use Rattle.streams.specs.declared.fault.StreamFault.TheVariants.{Memory}
-use Rattle.programs.specs.Stopping.{Gets}
+use Rattle.programs.specs.Prelude.{Gets}
 use Rattle.programs.specs.declared.stop.Stop.TheVariants.{Unreadable, Broken}
 use Rattle.programs.proofs.stop.put_unreadable.Goals as goal
 

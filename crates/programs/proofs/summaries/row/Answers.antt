@@ -1,9 +1,9 @@
 use Rattle.std.proofs.Common.{◌∙◌}
 use Rattle.std.proofs.lemmas.Result.{IfOk-weaker}
-use Rattle.cells.specs.Shape.{shape}
+use Rattle.cells.specs.Prelude.{shape}
 use Rattle.cells.specs.declared.cell.Cell.TheVariants.{List as ListCase}
 use Rattle.cells.proofs.Views.{shape-List}
-use Rattle.programs.specs.Telling.{IsSpelled}
+use Rattle.programs.specs.Prelude.{IsSpelled}
 use Rattle.programs.proofs.summaries.row.Goals as goal
 
 pub returns : goal.returns

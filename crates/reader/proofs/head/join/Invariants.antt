@@ -1,5 +1,5 @@
 use Rattle.std.proofs.Common.{◌≡◌, drop}
-use Rattle.reader.specs.Heads.{number_from}
+use Rattle.reader.specs.Prelude.{number_from}
 use Rattle.reader.proofs.head.join.Given as goal
 
 abbrev pub invariant-loop-byte : goal.invariant-loop-byte

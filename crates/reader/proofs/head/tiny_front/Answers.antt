@@ -1,6 +1,6 @@
 use Rattle.std.proofs.Common.{Some, ap, sym, subst, ◌∙◌, arith}
 use Rattle.std.proofs.lemmas.List.{take_more}
-use Rattle.reader.specs.Heads.{AreTiny}
+use Rattle.reader.specs.Prelude.{AreTiny}
 use Rattle.reader.proofs.Heads.{tiny_more}
 use Rattle.reader.proofs.head.tiny_front.Goals as goal
 

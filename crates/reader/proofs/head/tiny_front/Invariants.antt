@@ -1,5 +1,5 @@
 use Rattle.std.proofs.Common.{◌-◌, ◌≤◌, ◌<◌, length, take}
-use Rattle.reader.specs.Heads.{AreTiny}
+use Rattle.reader.specs.Prelude.{AreTiny}
 use Rattle.reader.proofs.head.tiny_front.Given as goal
 
 abbrev pub invariant-loop-count : goal.invariant-loop-count

@@ -1,6 +1,6 @@
 use Rattle.std.proofs.Common.{[], refl, subst}
 use Rattle.packstream.proofs.Ranges.{bytes_from_each}
-use Rattle.reader.specs.Piecewise.{Points, Point, Takes, Finishes, nothing_read}
+use Rattle.reader.specs.Prelude.{Points, Point, Takes, Finishes, nothing_read}
 use Rattle.reader.proofs.Pieces.{more_read, value_read, fault_read}
 use Rattle.reader.proofs.piece.read_piece.Goals as goal
 

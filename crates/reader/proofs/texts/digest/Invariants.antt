@@ -1,5 +1,5 @@
 use Rattle.std.proofs.Common.{◌≡◌, drop}
-use Rattle.reader.specs.Naming.{digest_from}
+use Rattle.reader.specs.Prelude.{digest_from}
 use Rattle.reader.proofs.texts.digest.Given as goal
 
 abbrev pub invariant-loop-byte : goal.invariant-loop-byte

@@ -1,9 +1,8 @@
-use Rattle.std.proofs.Common.{◌≡◌, ◌<◌, ◌↔◌, ℕ, Bool, List, length, Option, Some, None, true, false, sym, ap, subst, ◌∙◌, arith, get_or}
-use Rattle.std.specs.Prelude.{slice_get, IsTrue}
+use Rattle.std.proofs.Common.{◌≡◌, ◌<◌, ◌↔◌, ℕ, Bool, List, length, Option, Some, None, true, false, sym, ap, subst, ◌∙◌, arith, get_or, slice_get, IsTrue}
 use Rattle.std.proofs.lemmas.Option.{slice_get-get_or, slice_get_within, get_or_from_slice_get}
 use Rattle.reader.specs.declared.texts.Key.{Key}
 use Rattle.reader.specs.declared.texts.Link.{Link}
-use Rattle.reader.specs.Naming.{name, names_of, text_of, IsNamed, IsFree, HangsOn, HangsNone, side_of}
+use Rattle.reader.specs.Prelude.{name, names_of, text_of, IsNamed, IsFree, HangsOn, HangsNone, side_of}
 use Rattle.reader.proofs.Treeing.{search_starts, search_finds, search_goes_on, search_ends, search_is_over}
 use Rattle.reader.proofs.texts.find.Goals as goal
 

@@ -1,5 +1,5 @@
 use Rattle.std.proofs.Common.{arith, ◌≡◌, ℕ, ◌++◌, ◌∷◌, [], ap, ◌∙◌, length, true, false}
-use Rattle.reader.specs.Naming.{hung}
+use Rattle.reader.specs.Prelude.{hung}
 use Rattle.reader.proofs.Hanging.{hang_writes}
 use Rattle.reader.proofs.texts.hang.Goals as goal
 

@@ -1,8 +1,7 @@
 use Rattle.std.proofs.Common.{◌≡◌, ◌++◌, List, take, string_bytes}
-use Rattle.engine.specs.Views.{EntryView}
-use Rattle.world.specs.World.{World, Reached}
-use Rattle.world.specs.Turns.{FitsWorld, setting_of}
-use Rattle.replays.specs.Texts.{connections_text}
+use Rattle.engine.specs.Prelude.{EntryView}
+use Rattle.world.specs.Prelude.{World, Reached, FitsWorld, setting_of}
+use Rattle.replays.specs.Prelude.{connections_text}
 use Rattle.replays.proofs.reports.push_connections.Given as goal
 
 abbrev pub invariant-loop-conn : goal.invariant-loop-conn

@@ -1,7 +1,6 @@
-use Rattle.std.proofs.Common.{◌≡◌, ◌++◌, ◌-◌, take, string_bytes}
-use Rattle.std.specs.List.{flat_map}
-use Rattle.engine.specs.Views.{entries_view}
-use Rattle.programs.specs.Looping.{entry_line}
+use Rattle.std.proofs.Common.{◌≡◌, ◌++◌, ◌-◌, take, string_bytes, flat_map}
+use Rattle.engine.specs.Prelude.{entries_view}
+use Rattle.programs.specs.Prelude.{entry_line}
 use Rattle.replays.proofs.reports.push_entries.Given as goal
 
 abbrev pub invariant-loop-entry : goal.invariant-loop-entry

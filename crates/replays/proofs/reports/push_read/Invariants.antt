@@ -1,7 +1,6 @@
-use Rattle.std.proofs.Common.{◌≡◌, ◌++◌, ◌-◌, take, map, string_bytes}
-use Rattle.std.specs.List.{flat_map}
-use Rattle.world.specs.Views.{read_of}
-use Rattle.replays.specs.Texts.{read_line}
+use Rattle.std.proofs.Common.{◌≡◌, ◌++◌, ◌-◌, take, map, string_bytes, flat_map}
+use Rattle.world.specs.Prelude.{read_of}
+use Rattle.replays.specs.Prelude.{read_line}
 use Rattle.replays.proofs.reports.push_read.Given as goal
 
 abbrev pub invariant-loop-read : goal.invariant-loop-read

@@ -1,7 +1,6 @@
-use Rattle.std.proofs.Common.{◌≡◌, ◌++◌, ◌-◌, string_bytes}
-use Rattle.std.specs.List.{flat_map}
-use Rattle.world.specs.Reports.{ordinals}
-use Rattle.replays.specs.Texts.{waits_line}
+use Rattle.std.proofs.Common.{◌≡◌, ◌++◌, ◌-◌, string_bytes, flat_map}
+use Rattle.world.specs.Prelude.{ordinals}
+use Rattle.replays.specs.Prelude.{waits_line}
 use Rattle.replays.proofs.reports.push_waits.Given as goal
 
 abbrev pub invariant-loop-ordinal : goal.invariant-loop-ordinal

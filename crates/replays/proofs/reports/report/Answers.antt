@@ -1,8 +1,7 @@
-use Rattle.std.proofs.Common.{ap, ◌∙◌, ◌++◌}
-use Rattle.std.specs.List.{flat_map}
-use Rattle.engine.specs.Views.{entries_view}
-use Rattle.programs.specs.Looping.{entry_line}
-use Rattle.replays.specs.Texts.{connections_text}
+use Rattle.std.proofs.Common.{ap, ◌∙◌, ◌++◌, flat_map}
+use Rattle.engine.specs.Prelude.{entries_view}
+use Rattle.programs.specs.Prelude.{entry_line}
+use Rattle.replays.specs.Prelude.{connections_text}
 use Rattle.replays.proofs.reports.report.Goals as goal
 
 pub returns : goal.returns

@@ -1,10 +1,7 @@
 use Rattle.std.proofs.Common.{refl, rules, subst, List, []}
-use Rattle.engine.specs.Kept.{is_user, ledger_of}
-use Rattle.engine.specs.Queries.{fixed_answer}
-use Rattle.engine.specs.Views.{EntryView}
-use Rattle.scripts.specs.Script.{said_lines}
-use Rattle.world.specs.World.{Reached, empty}
-use Rattle.world.specs.Turns.{FitsWorld, setting_of}
+use Rattle.engine.specs.Prelude.{is_user, ledger_of, fixed_answer, EntryView}
+use Rattle.scripts.specs.Prelude.{said_lines}
+use Rattle.world.specs.Prelude.{Reached, empty, FitsWorld, setting_of}
 use Rattle.replays.proofs.Stepping.{lines_said}
 use Rattle.replays.proofs.script.say_lines.Goals as goal
 

@@ -1,9 +1,7 @@
-use Rattle.std.proofs.Common.{sym, ap, ◌∙◌, true, false}
-use Rattle.std.specs.Option.{option_map}
-use Rattle.scripts.specs.Views.{line_view}
-use Rattle.world.specs.Turns.{setting_of}
-use Rattle.world.specs.Views.{event_of}
-use Rattle.replays.specs.Events.{event_by, version_at}
+use Rattle.std.proofs.Common.{sym, ap, ◌∙◌, true, false, option_map}
+use Rattle.scripts.specs.Prelude.{line_view}
+use Rattle.world.specs.Prelude.{setting_of, event_of}
+use Rattle.replays.specs.Prelude.{event_by, version_at}
 use Rattle.replays.proofs.Stepping.{line_done}
 use Rattle.replays.proofs.script_lines.do_line.Goals as goal
 

@@ -1,5 +1,5 @@
 use Rattle.std.proofs.Common.{sym, ◌∙◌}
-use Rattle.replays.specs.Running.{stays, moves_on}
+use Rattle.replays.specs.Prelude.{stays, moves_on}
 use Rattle.replays.proofs.Stepping.{leads_as}
 use Rattle.replays.proofs.script_lines.repeat.Goals as goal
 

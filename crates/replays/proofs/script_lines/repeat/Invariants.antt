@@ -1,9 +1,7 @@
 use Rattle.std.proofs.Common.{List}
-use Rattle.engine.specs.Views.{EntryView}
-use Rattle.world.specs.World.{World, Reached}
-use Rattle.world.specs.Views.{event_of}
-use Rattle.world.specs.Turns.{FitsWorld, setting_of}
-use Rattle.replays.specs.Running.{Leads, Moves}
+use Rattle.engine.specs.Prelude.{EntryView}
+use Rattle.world.specs.Prelude.{World, Reached, event_of, FitsWorld, setting_of}
+use Rattle.replays.specs.Prelude.{Leads, Moves}
 use Rattle.replays.proofs.script_lines.repeat.Given as goal
 
 abbrev pub invariant-loop-time : goal.invariant-loop-time

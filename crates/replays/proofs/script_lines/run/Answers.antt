@@ -1,10 +1,8 @@
-use Rattle.std.proofs.Common.{string_bytes, sym, subst, [], ◌∷◌}
+use Rattle.std.proofs.Common.{string_bytes, sym, subst, [], ◌∷◌, option_map}
 use Rattle.std.proofs.lemmas.List.{map-append}
-use Rattle.std.specs.Option.{option_map}
-use Rattle.world.specs.Turns.{setting_of}
-use Rattle.scripts.specs.Script.{said_lines}
-use Rattle.scripts.specs.Views.{line_view}
-use Rattle.replays.specs.Running.{Runs, runs_on, starts}
+use Rattle.world.specs.Prelude.{setting_of}
+use Rattle.scripts.specs.Prelude.{said_lines, line_view}
+use Rattle.replays.specs.Prelude.{Runs, runs_on, starts}
 use Rattle.replays.proofs.Stepping.{leads_as}
 use Rattle.replays.proofs.script_lines.run.Goals as goal
 

@@ -1,9 +1,8 @@
 use Rattle.std.proofs.Common.{List, string_bytes}
-use Rattle.engine.specs.Views.{EntryView}
-use Rattle.scripts.specs.Script.{said_lines}
-use Rattle.world.specs.World.{World, Reached}
-use Rattle.world.specs.Turns.{FitsWorld, setting_of}
-use Rattle.replays.specs.Running.{Leads, Runs}
+use Rattle.engine.specs.Prelude.{EntryView}
+use Rattle.scripts.specs.Prelude.{said_lines}
+use Rattle.world.specs.Prelude.{World, Reached, FitsWorld, setting_of}
+use Rattle.replays.specs.Prelude.{Leads, Runs}
 use Rattle.replays.proofs.script_lines.run.Given as goal
 
 abbrev pub invariant-loop-line : goal.invariant-loop-line

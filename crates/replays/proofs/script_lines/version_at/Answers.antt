@@ -1,7 +1,7 @@
 use Rattle.std.proofs.Common.{sym, ap, ◌∙◌}
-use Rattle.wire.specs.Offers.{wish_version}
-use Rattle.world.specs.Connections.{wish_of}
-use Rattle.replays.specs.Events.{version_of}
+use Rattle.wire.specs.Prelude.{wish_version}
+use Rattle.world.specs.Prelude.{wish_of}
+use Rattle.replays.specs.Prelude.{version_of}
 use Rattle.replays.proofs.script_lines.version_at.Goals as goal
 
 pub returns-in-None : goal.returns-in-None

@@ -1,5 +1,4 @@
-use Rattle.world.specs.Turns.{setting_of}
-use Rattle.world.specs.Views.{event_of}
+use Rattle.world.specs.Prelude.{setting_of, event_of}
 use Rattle.replays.proofs.Stepping.{step_leads}
 use Rattle.replays.proofs.steps.take_step.Goals as goal
 

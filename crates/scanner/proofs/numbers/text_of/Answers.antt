@@ -1,7 +1,7 @@
 use Rattle.std.proofs.Common.{◌≡◌, true, Ok, ap, sym, List, ℕ}
 use Rattle.std.proofs.lemmas.Str.{is_utf8-from_IsUtf8}
 use Rattle.std.specs.Str.{is_utf8}
-use Rattle.packstream.specs.Reading.{text_at}
+use Rattle.packstream.specs.Prelude.{text_at}
 use Rattle.scanner.proofs.numbers.text_of.Goals as goal
 
 pub returns-in-Some : goal.returns-in-Some

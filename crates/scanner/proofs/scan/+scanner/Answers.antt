@@ -1,9 +1,8 @@
 use Rattle.std.proofs.Common.{◌≡◌, ◌++◌, ◌∷◌, [], Ok, sym, ap, ◌∙◌, List, ℕ, ℤ, refl, rules, string_bytes, to_z, of_z, w64}
 use Rattle.std.proofs.lemmas.List.{map_push}
-use Rattle.packstream.specs.Tree.{Tree, int, text}
-use Rattle.packstream.specs.Reading.{dict_at, layer, inner, items_at, entries_at}
+use Rattle.packstream.specs.Prelude.{Tree, int, text, dict_at, layer, inner, items_at, entries_at}
 use Rattle.packstream.proofs.Steps.{inner_more, items_done, entries_done}
-use Rattle.cells.specs.Shape.{shape, shapes, entry, entries}
+use Rattle.cells.specs.Prelude.{shape, shapes, entry, entries}
 use Rattle.scanner.proofs.Members.{shape_of_int, keys_are, member_on, entry_on, plain_member, plain_entry}
 use Rattle.scanner.proofs.scan.+scanner.Goals as goal
 

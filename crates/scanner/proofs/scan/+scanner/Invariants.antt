@@ -1,8 +1,6 @@
 use Rattle.std.proofs.Common.{◌≡◌, ◌-◌, ◌*◌, ◌+◌, []}
-use Rattle.packstream.specs.Reading.{layer, inner, items_at, entries_at}
-use Rattle.packstream.specs.View.{trees_of, entries_of}
-use Rattle.cells.specs.Faults.{structures_in, structures_under}
-use Rattle.cells.specs.Shape.{shapes, entries}
+use Rattle.packstream.specs.Prelude.{layer, inner, items_at, entries_at, trees_of, entries_of}
+use Rattle.cells.specs.Prelude.{structures_in, structures_under, shapes, entries}
 use Rattle.scanner.proofs.scan.+scanner.Given as goal
 
 abbrev pub decreases-list_of : goal.decreases-list_of

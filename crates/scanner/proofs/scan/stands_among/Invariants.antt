@@ -1,5 +1,5 @@
 use Rattle.std.proofs.Common.{◌≡◌, drop}
-use Rattle.packstream.specs.Good.{is_among}
+use Rattle.packstream.specs.Prelude.{is_among}
 use Rattle.scanner.proofs.Members.{names}
 use Rattle.scanner.proofs.scan.stands_among.Given as goal
 

@@ -1,5 +1,5 @@
 use Rattle.packstream.proofs.Ranges.{bytes_from_each}
-use Rattle.cells.specs.Shape.{shape}
+use Rattle.cells.specs.Prelude.{shape}
 use Rattle.scanner.proofs.Fronts.{fronts}
 use Rattle.scanner.proofs.whole.scan_cell.Goals as goal
 

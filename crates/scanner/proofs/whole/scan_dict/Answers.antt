@@ -1,7 +1,6 @@
 use Rattle.packstream.proofs.Ranges.{bytes_from_each}
-use Rattle.packstream.specs.Tree.{dict}
-use Rattle.packstream.specs.View.{entries_of}
-use Rattle.cells.specs.Shape.{entries}
+use Rattle.packstream.specs.Prelude.{dict, entries_of}
+use Rattle.cells.specs.Prelude.{entries}
 use Rattle.scanner.proofs.Fronts.{fronts}
 use Rattle.scanner.proofs.whole.scan_dict.Goals as goal
 

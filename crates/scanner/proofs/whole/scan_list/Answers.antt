@@ -1,7 +1,6 @@
 use Rattle.packstream.proofs.Ranges.{bytes_from_each}
-use Rattle.packstream.specs.Tree.{list}
-use Rattle.packstream.specs.View.{trees_of}
-use Rattle.cells.specs.Shape.{shapes}
+use Rattle.packstream.specs.Prelude.{list, trees_of}
+use Rattle.cells.specs.Prelude.{shapes}
 use Rattle.scanner.proofs.Fronts.{fronts}
 use Rattle.scanner.proofs.whole.scan_list.Goals as goal
 

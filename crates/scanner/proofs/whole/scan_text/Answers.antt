@@ -1,6 +1,6 @@
 use Rattle.std.proofs.Common.{arith}
 use Rattle.packstream.proofs.Ranges.{bytes_from_each}
-use Rattle.packstream.specs.Tree.{text}
+use Rattle.packstream.specs.Prelude.{text}
 use Rattle.scanner.proofs.Fronts.{fronts}
 use Rattle.scanner.proofs.whole.scan_text.Goals as goal
 

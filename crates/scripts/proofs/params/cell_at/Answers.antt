@@ -1,5 +1,5 @@
 use Rattle.std.proofs.Common.{Ok, Err, subst}
-use Rattle.structures.specs.Answers.{Reads}
+use Rattle.structures.specs.Prelude.{Reads}
 use Rattle.structures.proofs.Clauses.{reads_by}
 use Rattle.scripts.proofs.Dictionaries.{cell_is, no_cell}
 use Rattle.scripts.proofs.params.cell_at.Goals as goal

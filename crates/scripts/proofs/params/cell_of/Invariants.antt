@@ -1,6 +1,6 @@
 use Rattle.std.proofs.Common.{◌≡◌, drop}
-use Rattle.wire.specs.Versions.{versions}
-use Rattle.scripts.specs.Params.{cell_among, cell_of}
+use Rattle.wire.specs.Prelude.{versions}
+use Rattle.scripts.specs.Prelude.{cell_among, cell_of}
 use Rattle.scripts.proofs.params.cell_of.Given as goal
 
 abbrev pub invariant-loop-version : goal.invariant-loop-version

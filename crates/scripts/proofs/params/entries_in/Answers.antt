@@ -1,7 +1,7 @@
 use Rattle.std.proofs.Common.{ap, ◌∙◌, Some}
-use Rattle.cells.specs.Shape.{shape, entries}
+use Rattle.cells.specs.Prelude.{shape, entries}
 use Rattle.cells.proofs.Views.{shape-Dict}
-use Rattle.scripts.specs.Params.{entries_in}
+use Rattle.scripts.specs.Prelude.{entries_in}
 use Rattle.scripts.proofs.Dictionaries.{pairs_back}
 use Rattle.scripts.proofs.params.entries_in.Goals as goal
 

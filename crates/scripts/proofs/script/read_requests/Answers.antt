@@ -1,7 +1,5 @@
 use Rattle.std.proofs.Common.{[], sym, ◌∙◌, ◌+◌, subst, drop}
-use Rattle.scripts.specs.Rows.{request_line_of}
-use Rattle.scripts.specs.Views.{script_request_view}
-use Rattle.scripts.specs.Script.{said_requests}
+use Rattle.scripts.specs.Prelude.{request_line_of, script_request_view, said_requests}
 use Rattle.scripts.proofs.Lines.{HasRead, texts, skips_line, reads_line, stops_line, pushed}
 use Rattle.scripts.proofs.script.read_requests.Goals as goal
 

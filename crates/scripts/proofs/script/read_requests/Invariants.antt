@@ -1,6 +1,5 @@
 use Rattle.std.proofs.Common.{◌+◌, drop, map}
-use Rattle.scripts.specs.Rows.{request_line_of}
-use Rattle.scripts.specs.Script.{said_requests}
+use Rattle.scripts.specs.Prelude.{request_line_of, said_requests}
 use Rattle.scripts.proofs.Lines.{HasRead}
 use Rattle.scripts.proofs.script.read_requests.Given as goal
 

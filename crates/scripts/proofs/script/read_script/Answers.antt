@@ -1,7 +1,5 @@
 use Rattle.std.proofs.Common.{[], sym, ◌∙◌, ◌+◌, subst, drop}
-use Rattle.scripts.specs.Rows.{line_of}
-use Rattle.scripts.specs.Views.{line_view}
-use Rattle.scripts.specs.Script.{said_lines}
+use Rattle.scripts.specs.Prelude.{line_of, line_view, said_lines}
 use Rattle.scripts.proofs.Lines.{HasRead, texts, skips_line, reads_line, stops_line, pushed}
 use Rattle.scripts.proofs.script.read_script.Goals as goal
 

@@ -1,6 +1,5 @@
 use Rattle.std.proofs.Common.{◌+◌, drop, map}
-use Rattle.scripts.specs.Rows.{line_of}
-use Rattle.scripts.specs.Script.{said_lines}
+use Rattle.scripts.specs.Prelude.{line_of, said_lines}
 use Rattle.scripts.proofs.Lines.{HasRead}
 use Rattle.scripts.proofs.script.read_script.Given as goal
 

@@ -1,6 +1,6 @@
 use Rattle.std.proofs.Common.{◌≡◌, drop, map}
 use Rattle.std.specs.List.{list_any}
-use Rattle.scripts.specs.Words.{is_empty}
+use Rattle.scripts.specs.Prelude.{is_empty}
 use Rattle.scripts.proofs.words.has_empty.Given as goal
 
 -- no word before it is empty

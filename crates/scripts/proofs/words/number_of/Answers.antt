@@ -1,5 +1,5 @@
 use Rattle.std.proofs.Common.{◌≡◌, true, sym, ap, ◌∙◌}
-use Rattle.scripts.specs.Words.{is_decimal}
+use Rattle.scripts.specs.Prelude.{is_decimal}
 use Rattle.scripts.proofs.Numbers.{parsed_number}
 use Rattle.scripts.proofs.words.number_of.Goals as goal
 

@@ -1,5 +1,5 @@
 use Rattle.std.proofs.Common.{◌≡◌, true, sym, ap, ◌∙◌}
-use Rattle.scripts.specs.Words.{is_decimal, without_minus}
+use Rattle.scripts.specs.Prelude.{is_decimal, without_minus}
 use Rattle.scripts.proofs.Numbers.{parsed_whole}
 use Rattle.scripts.proofs.words.whole_of.Goals as goal
 

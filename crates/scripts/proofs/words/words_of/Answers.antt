@@ -1,6 +1,6 @@
 use Rattle.std.proofs.Common.{◌≡◌, map, false, sym, ap, ◌∙◌, Some}
 use Rattle.std.specs.List.{list_any}
-use Rattle.scripts.specs.Words.{parts_of, is_empty}
+use Rattle.scripts.specs.Prelude.{parts_of, is_empty}
 use Rattle.scripts.proofs.Parted.{no_words, whole_words}
 use Rattle.scripts.proofs.words.words_of.Goals as goal
 

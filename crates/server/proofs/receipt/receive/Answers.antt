@@ -1,15 +1,11 @@
-use Rattle.std.proofs.Common.{◌≡◌, ◌∙◌, refl, ap, Option, Some, None, Result, Ok, Err}
-use Rattle.std.specs.Prelude.{IfOk, OnErr}
+use Rattle.std.proofs.Common.{◌≡◌, ◌∙◌, refl, ap, Option, Some, None, Result, Ok, Err, IfOk, OnErr}
 use Rattle.std.specs.declared.alloc.AllocError.{AllocError}
 use Rattle.std.proofs.lemmas.Result.{on_err_weaker}
-use Rattle.wire.specs.Framing.{Item, Noop, TooBig}
-use Rattle.messages.specs.View.{request_view}
-use Rattle.messages.specs.Arrivals.{Arrival, Asked, Unread}
+use Rattle.wire.specs.Prelude.{Item, Noop, TooBig}
+use Rattle.messages.specs.Prelude.{request_view, Arrival, Asked, Unread}
 use Rattle.session.specs.declared.kinds.What.{What}
-use Rattle.session.specs.Rest.{Kept, Receives, arrival_by}
-use Rattle.session.specs.Views.{kept_of}
-use Rattle.server.specs.Feeding.{arrival}
-use Rattle.server.specs.Incoming.{IsReceived}
+use Rattle.session.specs.Prelude.{Kept, Receives, arrival_by, kept_of}
+use Rattle.server.specs.Prelude.{arrival, IsReceived}
 use Rattle.server.proofs.receipt.receive.Goals as goal
 
 -- this arrival was received, and the item is it

@@ -1,5 +1,5 @@
 use Rattle.std.proofs.Common.{◌≡◌, true, false, sym}
-use Rattle.wire.specs.Versions.{hello_has_login}
+use Rattle.wire.specs.Prelude.{hello_has_login}
 use Rattle.session.proofs.decision.greet.Goals as goal
 
 pub returns-else-hello_has_login : goal.returns-else-hello_has_login

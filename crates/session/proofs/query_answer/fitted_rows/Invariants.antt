@@ -1,6 +1,6 @@
 use Rattle.std.proofs.Common.{◌≡◌, length}
-use Rattle.engine.specs.Views.{rows_view}
-use Rattle.session.specs.Session.{rows_fitted}
+use Rattle.engine.specs.Prelude.{rows_view}
+use Rattle.session.specs.Prelude.{rows_fitted}
 use Rattle.session.proofs.query_answer.fitted_rows.Given as goal
 
 abbrev pub invariant-loop-row : goal.invariant-loop-row

@@ -1,7 +1,6 @@
-use Rattle.std.proofs.Common.{◌≡◌}
-use Rattle.std.specs.Prelude.{map, string_bytes}
-use Rattle.packstream.specs.Tree.{text}
-use Rattle.cells.specs.Shape.{shapes}
+use Rattle.std.proofs.Common.{◌≡◌, map, string_bytes}
+use Rattle.packstream.specs.Prelude.{text}
+use Rattle.cells.specs.Prelude.{shapes}
 use Rattle.session.proofs.query_answer.texts.Given as goal
 
 abbrev pub invariant-loop-name : goal.invariant-loop-name

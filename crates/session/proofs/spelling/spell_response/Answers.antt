@@ -1,7 +1,7 @@
-use Rattle.messages.specs.View.{response_view}
+use Rattle.messages.specs.Prelude.{response_view}
 use Rattle.session.proofs.Fitting.{written, refused}
 use Rattle.std.proofs.Common.{sym, subst}
-use Rattle.session.specs.Acts.{Refuses}
+use Rattle.session.specs.Prelude.{Refuses}
 use Rattle.session.proofs.spelling.spell_response.Goals as goal
 
 pub returns-in-Ok : goal.returns-in-Ok

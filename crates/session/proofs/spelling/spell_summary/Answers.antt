@@ -1,7 +1,7 @@
 use Rattle.std.proofs.Common.{◌++◌, ap, ◌∙◌}
-use Rattle.packstream.specs.Canon.{canon}
-use Rattle.messages.specs.Summaries.{form_of}
-use Rattle.session.specs.Acts.{summary_of}
+use Rattle.packstream.specs.Prelude.{canon}
+use Rattle.messages.specs.Prelude.{form_of}
+use Rattle.session.specs.Prelude.{summary_of}
 use Rattle.session.proofs.Summed.{summary_body}
 use Rattle.session.proofs.spelling.spell_summary.Goals as goal
 

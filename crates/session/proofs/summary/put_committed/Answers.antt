@@ -1,9 +1,6 @@
-use Rattle.std.proofs.Common.{◌++◌, codes, refl}
-use Rattle.std.specs.Fmt.{decimal}
-use Rattle.packstream.specs.Tree.{text}
-use Rattle.packstream.specs.Canon.{head}
-use Rattle.packstream.specs.View.{entries_of}
-use Rattle.messages.specs.Summaries.{bookmark}
+use Rattle.std.proofs.Common.{◌++◌, codes, refl, decimal}
+use Rattle.packstream.specs.Prelude.{text, head, entries_of}
+use Rattle.messages.specs.Prelude.{bookmark}
 use Rattle.session.proofs.Summed.{headed, entry_last}
 use Rattle.session.proofs.summary.put_committed.Goals as goal
 

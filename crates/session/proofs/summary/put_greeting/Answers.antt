@@ -1,9 +1,6 @@
-use Rattle.std.proofs.Common.{◌++◌, codes, refl}
-use Rattle.std.specs.Fmt.{decimal}
-use Rattle.packstream.specs.Tree.{text, entry_then, no_entries}
-use Rattle.packstream.specs.Canon.{head}
-use Rattle.packstream.specs.View.{entries_of}
-use Rattle.messages.specs.Summaries.{greeting}
+use Rattle.std.proofs.Common.{◌++◌, codes, refl, decimal}
+use Rattle.packstream.specs.Prelude.{text, entry_then, no_entries, head, entries_of}
+use Rattle.messages.specs.Prelude.{greeting}
 use Rattle.session.proofs.Summed.{headed, entry_first, entry_last}
 use Rattle.session.proofs.summary.put_greeting.Goals as goal
 

@@ -1,8 +1,6 @@
-use Rattle.std.proofs.Common.{◌++◌, codes, refl, Some}
-use Rattle.std.specs.Fmt.{decimal}
-use Rattle.packstream.specs.Canon.{head}
-use Rattle.packstream.specs.View.{entries_of}
-use Rattle.messages.specs.Summaries.{bookmark_of, ending}
+use Rattle.std.proofs.Common.{◌++◌, codes, refl, Some, decimal}
+use Rattle.packstream.specs.Prelude.{head, entries_of}
+use Rattle.messages.specs.Prelude.{bookmark_of, ending}
 use Rattle.session.proofs.Summed.{headed, entry_first}
 use Rattle.session.proofs.summary.put_last_at.Goals as goal
 

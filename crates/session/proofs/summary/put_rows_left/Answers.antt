@@ -1,6 +1,5 @@
 use Rattle.std.proofs.Common.{true, codes, refl}
-use Rattle.packstream.specs.Tree.{boolean, entry_then, no_entries}
-use Rattle.packstream.specs.Canon.{head}
+use Rattle.packstream.specs.Prelude.{boolean, entry_then, no_entries, head}
 use Rattle.session.proofs.Summed.{headed, key_then}
 use Rattle.session.proofs.summary.put_rows_left.Goals as goal
 

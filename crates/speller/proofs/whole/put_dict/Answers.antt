@@ -1,6 +1,5 @@
-use Rattle.packstream.specs.Tree.{dict}
-use Rattle.packstream.specs.View.{entries_of}
-use Rattle.cells.specs.Shape.{entries}
+use Rattle.packstream.specs.Prelude.{dict, entries_of}
+use Rattle.cells.specs.Prelude.{entries}
 use Rattle.speller.proofs.Sure.{good_by, sure}
 use Rattle.speller.proofs.whole.put_dict.Goals as goal
 

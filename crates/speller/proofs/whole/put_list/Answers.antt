@@ -1,6 +1,5 @@
-use Rattle.packstream.specs.Tree.{list}
-use Rattle.packstream.specs.View.{trees_of}
-use Rattle.cells.specs.Shape.{shapes}
+use Rattle.packstream.specs.Prelude.{list, trees_of}
+use Rattle.cells.specs.Prelude.{shapes}
 use Rattle.speller.proofs.Sure.{good_by, sure}
 use Rattle.speller.proofs.whole.put_list.Goals as goal
 

@@ -1,11 +1,8 @@
-use Rattle.std.proofs.Common.{◌∙◌, ◌++◌, sym, ap, subst, Option, List, []}
-use Rattle.std.specs.Prelude.{map}
-use Rattle.client.specs.Rest.{Note}
-use Rattle.client.specs.Notes.{note}
-use Rattle.client.specs.Fits.{Fits}
+use Rattle.std.proofs.Common.{◌∙◌, ◌++◌, sym, ap, subst, Option, List, [], map}
+use Rattle.client.specs.Prelude.{Note, note, Fits}
 use Rattle.streams.specs.declared.fault.StreamFault.{StreamFault}
 use Rattle.streams.specs.declared.fault.StreamFault.TheVariants.{ReadFailed, WriteFailed}
-use Rattle.streams.specs.Asking.{Asks, GivesUp, hears_all}
+use Rattle.streams.specs.Prelude.{Asks, GivesUp, hears_all}
 use Rattle.streams.proofs.Asked.{unless_err}
 use Rattle.streams.proofs.client_end.ask_all.Goals as goal
 

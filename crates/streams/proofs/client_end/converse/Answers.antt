@@ -1,13 +1,10 @@
-use Rattle.std.proofs.Common.{◌≡◌, ◌++◌, [], sym, ap, refl, inl, subst, rules, append-nil, Option, Err}
-use Rattle.std.specs.Prelude.{map}
+use Rattle.std.proofs.Common.{◌≡◌, ◌++◌, [], sym, ap, refl, inl, subst, rules, append-nil, Option, Err, map}
 use Rattle.std.specs.Result.{result_err}
 use Rattle.std.specs.Io.KnownBytes.{Appends}
 use Rattle.std.proofs.KnownBytes.{Consumes-nil}
-use Rattle.client.specs.Rest.{taken_out}
-use Rattle.client.specs.Notes.{note}
-use Rattle.client.specs.Fits.{Fits}
+use Rattle.client.specs.Prelude.{taken_out, note, Fits}
 use Rattle.streams.specs.declared.fault.StreamFault.{StreamFault}
-use Rattle.streams.specs.Asking.{Asks}
+use Rattle.streams.specs.Prelude.{Asks}
 use Rattle.streams.proofs.Asked.{needed_taken, written_all}
 use Rattle.streams.proofs.client_end.converse.Goals as goal
 

@@ -1,10 +1,7 @@
-use Rattle.std.proofs.Common.{inl, sym, ap, subst, rules, Bool, Ok, Err, List}
-use Rattle.std.specs.Prelude.{map}
+use Rattle.std.proofs.Common.{inl, sym, ap, subst, rules, Bool, Ok, Err, List, map}
 use Rattle.std.proofs.lemmas.List.{nil_from_length}
-use Rattle.client.specs.Rest.{Note}
-use Rattle.client.specs.Notes.{note}
-use Rattle.client.specs.Fits.{Fits}
-use Rattle.streams.specs.Asking.{FeedsPiece, after_all}
+use Rattle.client.specs.Prelude.{Note, note, Fits}
+use Rattle.streams.specs.Prelude.{FeedsPiece, after_all}
 use Rattle.streams.proofs.Tales.{after_feed, part_kept, part_goes_on, part_refused, part_broken}
 use Rattle.streams.proofs.client_end.feed_piece.Goals as goal
 

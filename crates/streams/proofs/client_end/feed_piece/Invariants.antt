@@ -1,9 +1,6 @@
-use Rattle.std.proofs.Common.{length}
-use Rattle.std.specs.Prelude.{map}
-use Rattle.client.specs.Rest.{Rest}
-use Rattle.client.specs.Notes.{note}
-use Rattle.client.specs.Fits.{Fits}
-use Rattle.streams.specs.Asking.{PartFed}
+use Rattle.std.proofs.Common.{length, map}
+use Rattle.client.specs.Prelude.{Rest, note, Fits}
+use Rattle.streams.specs.Prelude.{PartFed}
 use Rattle.streams.proofs.client_end.feed_piece.Given as goal
 
 abbrev pub invariant-loop-rest : goal.invariant-loop-rest

@@ -1,5 +1,5 @@
 use Rattle.std.proofs.Common.{sym, ◌∙◌, arith}
-use Rattle.client.specs.Fits.{Fits}
+use Rattle.client.specs.Prelude.{Fits}
 use Rattle.streams.proofs.Asked.{unanswered_awaits, unanswered_waits, loses}
 use Rattle.streams.proofs.client_end.give_up.Goals as goal
 

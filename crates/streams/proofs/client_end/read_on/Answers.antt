@@ -1,8 +1,6 @@
-use Rattle.std.proofs.Common.{refl, sym, ◌∙◌}
-use Rattle.std.specs.Prelude.{map}
-use Rattle.client.specs.Notes.{note}
-use Rattle.client.specs.Fits.{Fits}
-use Rattle.streams.specs.Asking.{after_all}
+use Rattle.std.proofs.Common.{refl, sym, ◌∙◌, map}
+use Rattle.client.specs.Prelude.{note, Fits}
+use Rattle.streams.specs.Prelude.{after_all}
 use Rattle.streams.proofs.Asked.{is_awaited, reads_none, stops_waiting, hears_more, hears_end, hears_fault}
 use Rattle.streams.proofs.client_end.read_on.Goals as goal
 

@@ -1,10 +1,6 @@
-use Rattle.std.proofs.Common.{◌≡◌, true}
-use Rattle.std.specs.Prelude.{map}
-use Rattle.client.specs.Rest.{Rest}
-use Rattle.client.specs.Notes.{note}
-use Rattle.client.specs.Fits.{Fits}
-use Rattle.streams.specs.Asking.{ReadsOn}
-use Rattle.streams.specs.Failing.{StaysSound}
+use Rattle.std.proofs.Common.{◌≡◌, true, map}
+use Rattle.client.specs.Prelude.{Rest, note, Fits}
+use Rattle.streams.specs.Prelude.{ReadsOn, StaysSound}
 use Rattle.streams.proofs.client_end.read_on.Given as goal
 
 abbrev pub invariant-loop-client : goal.invariant-loop-client

@@ -1,6 +1,6 @@
 use Rattle.std.proofs.Common.{◌≡◌, refl, sym, ◌∙◌, subst, rules, arith, List, [], ℕ}
 use Rattle.std.specs.Io.KnownBytes.{Appends}
-use Rattle.streams.specs.Fronts.{AppendsFront}
+use Rattle.streams.specs.Prelude.{AppendsFront}
 use Rattle.streams.proofs.Asked.{all_taken, on_err}
 use Rattle.std.proofs.KnownBytes.{Appends-nil}
 use Rattle.streams.proofs.client_end.write_out.Goals as goal

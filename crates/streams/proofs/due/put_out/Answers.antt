@@ -1,9 +1,7 @@
 use Rattle.std.proofs.Common.{ℕ, List, [], ◌<◌, length, Ok, refl, subst, ◌∙◌, arith}
 use Rattle.std.specs.Io.KnownBytes.{Appends}
-use Rattle.server.specs.Serving.{taken_from}
-use Rattle.server.specs.Views.{Fits}
-use Rattle.streams.specs.Holding.{with_held}
-use Rattle.streams.specs.Conversing.{with_talk, heard_out}
+use Rattle.server.specs.Prelude.{taken_from, Fits}
+use Rattle.streams.specs.Prelude.{with_held, with_talk, heard_out}
 use Rattle.streams.proofs.Called.{live_then, lives_called, lives_kept, out_whole}
 use Rattle.std.proofs.KnownBytes.{Appends-nil}
 use Rattle.streams.proofs.Conversings.{sent_none}

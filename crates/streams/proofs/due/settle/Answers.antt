@@ -1,7 +1,5 @@
-use Rattle.server.specs.Serving.{setting}
-use Rattle.server.specs.Views.{Fits}
-use Rattle.streams.specs.Conversing.{heard_out}
-use Rattle.streams.specs.Settling.{due}
+use Rattle.server.specs.Prelude.{setting, Fits}
+use Rattle.streams.specs.Prelude.{heard_out, due}
 use Rattle.streams.proofs.Stepping.{breaks_steps, goes_first, goes_further, goes_no_further, goes_whole, goes_wrong}
 use Rattle.streams.proofs.Called.{lives_then}
 use Rattle.streams.proofs.Conversings.{sent_then}

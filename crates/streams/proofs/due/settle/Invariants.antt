@@ -1,13 +1,9 @@
-use Rattle.std.proofs.Common.{List}
-use Rattle.std.specs.Prelude.{IsSome}
-use Rattle.wire.specs.Framing.{Opened}
-use Rattle.engine.specs.Views.{EntryView}
-use Rattle.session.specs.Rest.{Kept}
-use Rattle.server.specs.Serving.{Rest, find, setting}
-use Rattle.server.specs.Views.{Fits}
-use Rattle.streams.specs.Holding.{with_held, HasSent}
-use Rattle.streams.specs.Conversing.{talk_of_due, with_talk}
-use Rattle.streams.specs.Settling.{IsLive, IsPlaced, LivesOn}
+use Rattle.std.proofs.Common.{List, IsSome}
+use Rattle.wire.specs.Prelude.{Opened}
+use Rattle.engine.specs.Prelude.{EntryView}
+use Rattle.session.specs.Prelude.{Kept}
+use Rattle.server.specs.Prelude.{Rest, find, setting, Fits}
+use Rattle.streams.specs.Prelude.{with_held, HasSent, talk_of_due, with_talk, IsLive, IsPlaced, LivesOn}
 use Rattle.streams.proofs.Stepping.{GoesOn}
 use Rattle.streams.proofs.due.settle.Given as goal
 

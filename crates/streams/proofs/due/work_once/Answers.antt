@@ -1,11 +1,8 @@
 use Rattle.std.proofs.Common.{refl, sym, subst, []}
 use Rattle.std.specs.Io.KnownBytes.{Appends}
 use Rattle.std.proofs.KnownBytes.{Appends-nil}
-use Rattle.server.specs.Serving.{setting}
-use Rattle.server.specs.Views.{Fits}
-use Rattle.streams.specs.Conversing.{Talk, heard_out}
-use Rattle.streams.specs.Holding.{with_held}
-use Rattle.streams.specs.Settling.{Breaks}
+use Rattle.server.specs.Prelude.{setting, Fits}
+use Rattle.streams.specs.Prelude.{Talk, heard_out, with_held, Breaks}
 use Rattle.streams.proofs.Stepping.{breaks_steps}
 use Rattle.streams.proofs.Called.{lives_then}
 use Rattle.streams.proofs.Conversings.{sent_none}

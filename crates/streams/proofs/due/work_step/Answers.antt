@@ -1,8 +1,6 @@
 use Rattle.std.proofs.Common.{◌∙◌, sym, ap, subst, Option, Ok}
-use Rattle.server.specs.Serving.{setting}
-use Rattle.server.specs.Views.{Fits}
-use Rattle.streams.specs.Conversing.{with_talk}
-use Rattle.streams.specs.Settling.{WorkStep, outcome}
+use Rattle.server.specs.Prelude.{setting, Fits}
+use Rattle.streams.specs.Prelude.{with_talk, WorkStep, outcome}
 use Rattle.streams.specs.declared.fault.Standing.{Standing}
 use Rattle.streams.proofs.Called.{live_then, lives_kept, lives_worked, stepped_talk}
 use Rattle.streams.proofs.Stepping.{stepped, works_by}

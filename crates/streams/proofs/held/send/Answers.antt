@@ -1,7 +1,7 @@
 use Rattle.std.proofs.Common.{◌≡◌, ◌∙◌, ◌+◌, ◌++◌, List, ℕ, subst, sym, ap, drop, take, take-append-drop, drop-drop}
 use Rattle.std.specs.Io.KnownBytes.{Appends, append_known}
 use Rattle.std.proofs.KnownBytes.{Keeps-refl, Keeps-trans, append_known-moved}
-use Rattle.streams.specs.Holding.{with_held}
+use Rattle.streams.specs.Prelude.{with_held}
 use Rattle.streams.proofs.Conversings.{sent_none, sent_then}
 use Rattle.streams.proofs.held.send.Goals as goal
 

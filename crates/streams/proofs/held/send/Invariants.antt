@@ -1,6 +1,6 @@
 use Rattle.std.proofs.Common.{◌≡◌, ◌-◌, length, true}
 use Rattle.std.specs.Io.KnownBytes.{Keeps}
-use Rattle.streams.specs.Holding.{with_held, HasSent}
+use Rattle.streams.specs.Prelude.{with_held, HasSent}
 use Rattle.streams.proofs.held.send.Given as goal
 
 abbrev pub invariant-loop-held : goal.invariant-loop-held

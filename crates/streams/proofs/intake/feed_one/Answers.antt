@@ -1,8 +1,6 @@
 use Rattle.std.proofs.Common.{◌<◌, Ok, arith, refl}
-use Rattle.server.specs.Views.{Fits}
-use Rattle.server.specs.Feeding.{feeding}
-use Rattle.server.specs.Serving.{fed_live}
-use Rattle.streams.specs.Conversing.{with_talk}
+use Rattle.server.specs.Prelude.{Fits, feeding, fed_live}
+use Rattle.streams.specs.Prelude.{with_talk}
 use Rattle.streams.proofs.Called.{fed_there, feed_takes, feed_within, live_then, lives_called, lives_kept}
 use Rattle.streams.proofs.intake.feed_one.Goals as goal
 

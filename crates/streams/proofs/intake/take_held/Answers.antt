@@ -1,7 +1,6 @@
 use Rattle.std.proofs.Common.{Ok, Err}
-use Rattle.server.specs.Serving.{setting}
-use Rattle.server.specs.Views.{Fits}
-use Rattle.streams.specs.Holding.{waits}
+use Rattle.server.specs.Prelude.{setting, Fits}
+use Rattle.streams.specs.Prelude.{waits}
 use Rattle.streams.proofs.Conversings.{piece_held, sent_then}
 use Rattle.streams.proofs.intake.take_held.Goals as goal
 

@@ -1,5 +1,5 @@
 use Rattle.std.proofs.Common.{◌++◌}
-use Rattle.server.specs.Views.{Fits}
+use Rattle.server.specs.Prelude.{Fits}
 use Rattle.streams.proofs.Parts.{empty_nil}
 use Rattle.streams.proofs.Talks.{partly_begun, partly_broken, partly_more, partly_over, partly_whole}
 use Rattle.streams.proofs.Called.{lives_same, lives_then}

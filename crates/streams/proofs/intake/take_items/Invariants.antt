@@ -1,9 +1,6 @@
-use Rattle.std.proofs.Common.{◌≡◌, ℕ, List, length, Option, None}
-use Rattle.std.specs.Prelude.{IsSome}
-use Rattle.server.specs.Serving.{Rest, find, setting}
-use Rattle.server.specs.Views.{Fits}
-use Rattle.streams.specs.Holding.{with_held, HasSent}
-use Rattle.streams.specs.Settling.{IsLive, Stands, told_by, LivesOn}
+use Rattle.std.proofs.Common.{◌≡◌, ℕ, List, length, Option, None, IsSome}
+use Rattle.server.specs.Prelude.{Rest, find, setting, Fits}
+use Rattle.streams.specs.Prelude.{with_held, HasSent, IsLive, Stands, told_by, LivesOn}
 use Rattle.streams.proofs.Talks.{Partly}
 use Rattle.streams.proofs.intake.take_items.Given as goal
 

@@ -1,11 +1,7 @@
-use Rattle.session.specs.Rest.{after_item}
-use Rattle.server.specs.Feeding.{arrival}
-use Rattle.server.specs.Serving.{setting}
-use Rattle.server.specs.Views.{Fits}
-use Rattle.wire.specs.Reader.{state, takes}
-use Rattle.wire.specs.Framing.{at_server}
-use Rattle.streams.specs.Holding.{with_held}
-use Rattle.streams.specs.Settling.{told_by}
+use Rattle.session.specs.Prelude.{after_item}
+use Rattle.server.specs.Prelude.{arrival, setting, Fits}
+use Rattle.wire.specs.Prelude.{state, takes, at_server}
+use Rattle.streams.specs.Prelude.{with_held, told_by}
 use Rattle.streams.proofs.Talks.{next_placed, none_taken, one_broken, one_taken, open_not_shut}
 use Rattle.streams.proofs.Called.{lives_then}
 use Rattle.streams.proofs.Conversings.{sent_none}

@@ -1,5 +1,5 @@
 use Rattle.std.proofs.Common.{◌∙◌}
-use Rattle.server.specs.Serving.{empty}
+use Rattle.server.specs.Prelude.{empty}
 use Rattle.streams.proofs.Firsts.{one, one_found, one_lives, one_out, one_last}
 use Rattle.streams.proofs.response.respond.Goals as goal
 

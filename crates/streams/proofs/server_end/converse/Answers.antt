@@ -1,7 +1,6 @@
 use Rattle.std.proofs.Common.{arith}
 use Rattle.std.proofs.KnownBytes.{Keeps-refl}
-use Rattle.server.specs.Serving.{setting}
-use Rattle.server.specs.Views.{Fits}
+use Rattle.server.specs.Prelude.{setting, Fits}
 use Rattle.streams.specs.declared.fault.StreamFault.TheVariants.{Memory}
 use Rattle.streams.proofs.Conversings.{reads_begun, reads_none}
 use Rattle.streams.proofs.Called.{lives_same}

@@ -1,6 +1,5 @@
-use Rattle.std.proofs.Common.{length, ◌≤◌, take, refl, sym, subst, arith}
-use Rattle.std.specs.Prelude.{IsSome}
-use Rattle.server.specs.Views.{Fits}
+use Rattle.std.proofs.Common.{length, ◌≤◌, take, refl, sym, subst, arith, IsSome}
+use Rattle.server.specs.Prelude.{Fits}
 use Rattle.streams.specs.declared.fault.StreamFault.TheVariants.{ReadFailed}
 use Rattle.streams.proofs.Conversings.{never_read, reads_begun, reads_broken, reads_more, reads_none, reads_over, reads_turn, reads_whole}
 use Rattle.streams.proofs.Called.{lives_same, lives_then}

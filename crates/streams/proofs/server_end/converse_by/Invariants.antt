@@ -1,8 +1,6 @@
 use Rattle.std.proofs.Common.{◌≡◌, [], Some}
-use Rattle.server.specs.Serving.{Rest, find, fresh, setting}
-use Rattle.server.specs.Views.{Fits}
-use Rattle.streams.specs.Holding.{waits}
-use Rattle.streams.specs.Settling.{IsLive, LivesOn}
+use Rattle.server.specs.Prelude.{Rest, find, fresh, setting, Fits}
+use Rattle.streams.specs.Prelude.{waits, IsLive, LivesOn}
 use Rattle.streams.proofs.Conversings.{Reads}
 use Rattle.streams.proofs.server_end.converse_by.Given as goal
 

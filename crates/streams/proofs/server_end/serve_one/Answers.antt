@@ -1,9 +1,7 @@
-use Rattle.std.proofs.Common.{◌∙◌, sym, ap, subst, refl, Option}
-use Rattle.std.specs.Prelude.{IsSome, unwrap_or}
+use Rattle.std.proofs.Common.{◌∙◌, sym, ap, subst, refl, Option, IsSome, unwrap_or}
 use Rattle.session.specs.declared.kinds.Cause.{Cause}
-use Rattle.server.specs.Serving.{find, setting}
-use Rattle.server.specs.Views.{Fits}
-use Rattle.streams.specs.Conversing.{conversation, with_talk}
+use Rattle.server.specs.Prelude.{find, setting, Fits}
+use Rattle.streams.specs.Prelude.{conversation, with_talk}
 use Rattle.streams.proofs.Called.{lives_no_more, lost_cause, lost_rest}
 use Rattle.streams.proofs.server_end.serve_one.Goals as goal
 

@@ -1,7 +1,6 @@
 use Rattle.std.proofs.Common.{ap, sym, ◌∙◌}
-use Rattle.packstream.specs.Tree.{dict}
-use Rattle.packstream.specs.View.{entries_of}
-use Rattle.cells.specs.Shape.{entries}
+use Rattle.packstream.specs.Prelude.{dict, entries_of}
+use Rattle.cells.specs.Prelude.{entries}
 use Rattle.packstream.proofs.Views.{tree-Dict}
 use Rattle.cells.proofs.Typed.{pairs_typed}
 use Rattle.structures.proofs.Formed.{packed_is}

@@ -1,8 +1,7 @@
 use Rattle.std.proofs.Common.{List, ap, sym, ◌∙◌}
-use Rattle.packstream.specs.Tree.{Tree, list}
-use Rattle.packstream.specs.View.{trees_of}
+use Rattle.packstream.specs.Prelude.{Tree, list, trees_of}
 use Rattle.packstream.proofs.Views.{tree-List}
-use Rattle.cells.specs.Shape.{shapes}
+use Rattle.cells.specs.Prelude.{shapes}
 use Rattle.cells.proofs.Typed.{shapes_typed}
 use Rattle.structures.proofs.Formed.{packed_is}
 use Rattle.structures.proofs.Fitted.{form_list}

@@ -1,4 +1,4 @@
-use Rattle.cells.specs.Shape.{shape}
+use Rattle.cells.specs.Prelude.{shape}
 use Rattle.cells.proofs.Typed.{typed_shape}
 use Rattle.structures.proofs.Formed.{packed_is}
 use Rattle.structures.proofs.codec.write_fine.Goals as goal

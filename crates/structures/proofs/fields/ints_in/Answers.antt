@@ -1,7 +1,7 @@
 use Rattle.std.proofs.Common.{◌≡◌, ◌++◌, ◌∷◌, [], ap, ◌∙◌, map, rules, to_z, of_z, w64}
 use Rattle.std.proofs.lemmas.List.{map_push}
-use Rattle.cells.specs.Faults.{is_int}
-use Rattle.packstream.specs.Tree.{int}
+use Rattle.cells.specs.Prelude.{is_int}
+use Rattle.packstream.specs.Prelude.{int}
 use Rattle.structures.proofs.Got.{each_at, typed_next}
 use Rattle.structures.proofs.fields.ints_in.Goals as goal
 

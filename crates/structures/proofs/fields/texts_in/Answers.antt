@@ -1,7 +1,6 @@
 use Rattle.std.proofs.Common.{◌≡◌, ◌++◌, ◌∷◌, [], ◌∙◌, map}
 use Rattle.std.proofs.lemmas.List.{map_push}
-use Rattle.cells.specs.Faults.{is_text}
-use Rattle.cells.specs.Shape.{text_of}
+use Rattle.cells.specs.Prelude.{is_text, text_of}
 use Rattle.structures.proofs.Got.{each_at, typed_next}
 use Rattle.structures.proofs.fields.texts_in.Goals as goal
 

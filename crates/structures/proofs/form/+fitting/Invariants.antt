@@ -1,6 +1,6 @@
 use Rattle.std.proofs.Common.{◌≡◌, take, map}
-use Rattle.cells.specs.Shape.{shapes, entries, node_shape, unbound_shape}
-use Rattle.structures.specs.Fitting.{fitted, fitted_entry}
+use Rattle.cells.specs.Prelude.{shapes, entries, node_shape, unbound_shape}
+use Rattle.structures.specs.Prelude.{fitted, fitted_entry}
 use Rattle.structures.proofs.form.+fitting.Given as goal
 
 abbrev pub invariant-fit_members-loop-i : goal.invariant-fit_members-loop-i

@@ -1,13 +1,10 @@
 use Rattle.std.proofs.Common.{◌≡◌, ℕ, ◌-ℤ◌, ◌∷◌, [], Option, Some, None, refl, sym, ap, ◌∙◌, rules, arith, ne_eqb, to_z, of_z, w64}
 use Rattle.std.proofs.lemmas.Int.{ints}
-use Rattle.packstream.specs.Tree.{int, float, Trees, no_trees, tree_then}
-use Rattle.packstream.specs.View.{trees, trees_of}
+use Rattle.packstream.specs.Prelude.{int, float, Trees, no_trees, tree_then, trees, trees_of}
 use Rattle.wire.specs.declared.Version.{Version}
 use Rattle.cells.specs.declared.table.Field.TheVariants.{Integer, Nanosecond, DayNanosecond, Offset, UtcSecond, Float, Text}
 use Rattle.cells.specs.declared.fault.Reason.TheVariants.{UnknownTag}
-use Rattle.cells.specs.Table.{Row, row_in, table, fields_of}
-use Rattle.cells.specs.Faults.{fault, fault_by}
-use Rattle.cells.specs.Shape.{text_of}
+use Rattle.cells.specs.Prelude.{Row, row_in, table, fields_of, fault, fault_by, text_of}
 use Rattle.cells.proofs.Views.{shape-Date, shape-Time, shape-LocalTime, shape-LocalDateTime, shape-DateTime, shape-ZonedLocal, shape-ZonedUtc, shape-Duration, shape-Point2D, shape-Point3D}
 use Rattle.structures.proofs.Got.{plain_is, local_is}
 use Rattle.structures.proofs.plain.plain_of.Goals as goal

@@ -1,19 +1,16 @@
 use Rattle.std.proofs.Common.{◌≡◌, List, ◌∷◌, [], ℤ, ℕ, eqb-true, ap, sym, refl, ◌∙◌, rules, arith, map, to_z, of_z, w64}
 use Rattle.std.proofs.lemmas.List.Elements.{same_from_all_zip}
 use Rattle.std.proofs.lemmas.Result.{IfOk-weaker}
-use Rattle.packstream.specs.Tree.{Tree, Trees, int, list, dict, structure, no_trees, tree_then}
-use Rattle.packstream.specs.View.{tree, entry, trees, trees_of, entries_of, entries as seen_entries}
+use Rattle.packstream.specs.Prelude.{Tree, Trees, int, list, dict, structure, no_trees, tree_then, tree, entry, trees, trees_of, entries_of, entries as seen_entries}
 use Rattle.packstream.specs.declared.value.Value.{the_lemmas as value_lemmas}
 use Rattle.packstream.proofs.Putting.{len_trees}
 use Rattle.packstream.proofs.Views.{tree-List, tree-Dict}
 use Rattle.cells.specs.declared.table.Field.TheVariants.{Integer, Text, Labels, Properties, Nodes, Relationships, Indices}
-use Rattle.cells.specs.Faults.{structures, fault, is_list_of, has_tag}
-use Rattle.cells.specs.Steps.{all_fine}
-use Rattle.cells.specs.Shape.{entries, text_of, texts_of, numbers_of, element_of, elements_of, node_shape, unbound_shape}
+use Rattle.cells.specs.Prelude.{structures, fault, is_list_of, has_tag, all_fine, entries, text_of, texts_of, numbers_of, element_of, elements_of, node_shape, unbound_shape}
 use Rattle.cells.specs.declared.cell.Cell.{the_lemmas}
 use Rattle.cells.proofs.Views.{shape-List, shape-Dict, path-roll, node-roll, unbound-roll, relationship-roll, relationship_parts}
 use Rattle.cells.proofs.Fine.{tree-Struct, fine_itself, fine_within, fine_member, fine_pair}
-use Rattle.structures.specs.Form.{typed}
+use Rattle.structures.specs.Prelude.{typed}
 use Rattle.structures.proofs.Got.{typed_pairs, at_some, at_none, typed_list, named_by, bound_by, each_at, path_length, path_field, read_by, at_both}
 use Rattle.structures.proofs.reader.+read.Goals as goal
 

@@ -1,8 +1,7 @@
 use Rattle.std.proofs.Common.{◌≡◌, take, map}
-use Rattle.packstream.specs.View.{trees, entries as seen_entries}
-use Rattle.cells.specs.Shape.{shapes, entries, node_shape, unbound_shape}
-use Rattle.structures.specs.Form.{typed}
-use Rattle.structures.specs.Steps.{typed_entry}
+use Rattle.packstream.specs.Prelude.{trees, entries as seen_entries}
+use Rattle.cells.specs.Prelude.{shapes, entries, node_shape, unbound_shape}
+use Rattle.structures.specs.Prelude.{typed, typed_entry}
 use Rattle.structures.proofs.reader.+read.Given as goal
 
 abbrev pub invariant-cells_of-loop-member : goal.invariant-cells_of-loop-member

@@ -1,19 +1,15 @@
 use Rattle.std.proofs.Common.{◌≡◌, ℤ, List, map, ap, sym, ◌∙◌, rules, to_z, of_z, w64}
 use Rattle.std.proofs.lemmas.List.Elements.{same_from_all_zip}
-use Rattle.packstream.specs.Tree.{Tree, int, list, dict}
-use Rattle.packstream.specs.View.{trees_of, entries_of}
+use Rattle.packstream.specs.Prelude.{Tree, int, list, dict, trees_of, entries_of}
 use Rattle.packstream.specs.declared.value.Value.{the_lemmas as value_lemmas}
 use Rattle.packstream.proofs.Views.{tree-List, tree-Dict}
-use Rattle.cells.specs.Faults.{structures}
-use Rattle.cells.specs.Steps.{all_fine}
-use Rattle.cells.specs.Writing.{fault_of_structure}
+use Rattle.cells.specs.Prelude.{structures, all_fine, fault_of_structure, shape, shapes, entry, entries, node_shape, unbound_shape}
 use Rattle.cells.proofs.Fine.{fine_member, fine_pair}
 use Rattle.cells.proofs.Judged.{node_fine, unbound_fine, relationship_fine, path_nodes_fine, path_unbounds_fine}
-use Rattle.cells.specs.Shape.{shape, shapes, entry, entries, node_shape, unbound_shape}
 use Rattle.cells.specs.declared.cell.Cell.{the_lemmas}
 use Rattle.cells.specs.declared.cell.Path.{out-Path}
 use Rattle.cells.proofs.Views.{shape-List, shape-Dict, node-out, unbound-out, relationship-out, path-out}
-use Rattle.structures.specs.Form.{form}
+use Rattle.structures.specs.Prelude.{form}
 use Rattle.structures.proofs.Fitted.{tree-Int, form_list, form_pairs, node_written, unbound_written, relationship_written, path_written}
 use Rattle.structures.proofs.writer.+write.Goals as goal
 

@@ -1,8 +1,7 @@
 use Rattle.std.proofs.Common.{◌≡◌, take, map}
-use Rattle.packstream.specs.View.{trees, entries as seen_entries}
-use Rattle.cells.specs.Shape.{shapes, entries, node_shape, unbound_shape}
-use Rattle.structures.specs.Form.{form}
-use Rattle.structures.specs.Steps.{form_entry}
+use Rattle.packstream.specs.Prelude.{trees, entries as seen_entries}
+use Rattle.cells.specs.Prelude.{shapes, entries, node_shape, unbound_shape}
+use Rattle.structures.specs.Prelude.{form, form_entry}
 use Rattle.structures.proofs.writer.+write.Given as goal
 
 abbrev pub invariant-values_of-loop-member : goal.invariant-values_of-loop-member

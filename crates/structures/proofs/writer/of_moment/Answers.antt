@@ -1,10 +1,9 @@
 use Rattle.std.proofs.Common.{◌≡◌, ◌+ℤ◌, false, cond, ap, sym, ◌∙◌, rules, arith, to_z, of_z, w64}
 use Rattle.std.proofs.lemmas.Int.{ints}
 use Rattle.std.proofs.lemmas.Result.{IfOk-weaker}
-use Rattle.packstream.specs.Tree.{int, structure, tree_then, no_trees}
-use Rattle.packstream.specs.View.{tree}
-use Rattle.wire.specs.Versions.{has_utc_times}
-use Rattle.structures.specs.Form.{to_local}
+use Rattle.packstream.specs.Prelude.{int, structure, tree_then, no_trees, tree}
+use Rattle.wire.specs.Prelude.{has_utc_times}
+use Rattle.structures.specs.Prelude.{to_local}
 use Rattle.structures.proofs.Formed.{local_sum}
 use Rattle.structures.proofs.writer.of_moment.Goals as goal
 

@@ -1,5 +1,5 @@
-use Rattle.engine.specs.Kept.{ledger_of}
-use Rattle.server.specs.Serving.{empty}
+use Rattle.engine.specs.Prelude.{ledger_of}
+use Rattle.server.specs.Prelude.{empty}
 use Rattle.streams.proofs.Firsts.{one, one_lives}
 use Rattle.test_conversation.proofs.serve_tests.served.Goals as goal
 

@@ -1,6 +1,6 @@
 use Rattle.std.proofs.Common.{refl}
-use Rattle.engine.specs.Kept.{ledger_of}
-use Rattle.server.specs.Serving.{empty}
+use Rattle.engine.specs.Prelude.{ledger_of}
+use Rattle.server.specs.Prelude.{empty}
 use Rattle.test_scripts.proofs.programs_tests.served.Goals as goal
 
 pub returns : goal.returns

@@ -1,5 +1,5 @@
-use Rattle.engine.specs.Kept.{ledger_of}
-use Rattle.server.specs.Views.{Fits}
+use Rattle.engine.specs.Prelude.{ledger_of}
+use Rattle.server.specs.Prelude.{Fits}
 use Rattle.programs.proofs.Served.{opened_lives}
 use Rattle.test_scripts.proofs.programs_tests.serves_a_socket.Goals as goal
 

@@ -1,7 +1,5 @@
 use Rattle.std.proofs.Common.{◌≡◌, ◌-◌, ◌≤◌, false, length, take, drop}
-use Rattle.wire.specs.Items.{answer_from, further}
-use Rattle.wire.specs.Unfinished.{unfinished_at}
-use Rattle.wire.specs.Scanning.{Holds}
+use Rattle.wire.specs.Prelude.{answer_from, further, unfinished_at, Holds}
 use Rattle.wire.proofs.items.scan_piece.Given as goal
 
 abbrev pub invariant-loop-used : goal.invariant-loop-used

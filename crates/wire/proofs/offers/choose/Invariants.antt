@@ -1,5 +1,5 @@
 use Rattle.std.proofs.Common.{◌≡◌, ◌+◌, ◌*◌, drop}
-use Rattle.wire.specs.Offers.{choice_of}
+use Rattle.wire.specs.Prelude.{choice_of}
 use Rattle.wire.proofs.offers.choose.Given as goal
 
 abbrev pub invariant-loop-at : goal.invariant-loop-at

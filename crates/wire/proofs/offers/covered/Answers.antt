@@ -1,7 +1,6 @@
 use Rattle.std.proofs.Common.{sym, ◌∙◌}
 use Rattle.wire.specs.declared.versions.Version.TheVariants.{V44}
-use Rattle.wire.specs.Versions.{versions}
-use Rattle.wire.specs.Offers.{is_covered}
+use Rattle.wire.specs.Prelude.{versions, is_covered}
 use Rattle.wire.proofs.Covered.{found-later}
 use Rattle.wire.proofs.offers.covered.Goals as goal
 

@@ -1,7 +1,5 @@
-use Rattle.std.proofs.Common.{◌≡◌, drop}
-use Rattle.std.specs.Prelude.{find}
-use Rattle.wire.specs.Versions.{versions}
-use Rattle.wire.specs.Offers.{is_covered, covered_by}
+use Rattle.std.proofs.Common.{◌≡◌, drop, find}
+use Rattle.wire.specs.Prelude.{versions, is_covered, covered_by}
 use Rattle.wire.proofs.offers.covered.Given as goal
 
 -- no version gone through is covered

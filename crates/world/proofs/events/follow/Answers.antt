@@ -1,5 +1,4 @@
-use Rattle.world.specs.Turns.{setting_of}
-use Rattle.world.specs.Views.{event_of}
+use Rattle.world.specs.Prelude.{setting_of, event_of}
 use Rattle.world.proofs.Told.{settled_follows}
 use Rattle.world.proofs.events.follow.Goals as goal
 

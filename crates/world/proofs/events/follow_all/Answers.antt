@@ -1,8 +1,6 @@
 use Rattle.std.proofs.Common.{List, subst, sym, ap, ◌∙◌, ◌++◌, ◌∷◌, [], map, take}
 use Rattle.std.proofs.lemmas.List.{map_more}
-use Rattle.world.specs.Views.{event_of}
-use Rattle.world.specs.World.{Event}
-use Rattle.world.specs.Turns.{setting_of, Goes}
+use Rattle.world.specs.Prelude.{event_of, Event, setting_of, Goes}
 use Rattle.world.proofs.Told.{goes_more}
 use Rattle.world.proofs.events.follow_all.Goals as goal
 

@@ -1,8 +1,6 @@
 use Rattle.std.proofs.Common.{List, [], map, take}
-use Rattle.engine.specs.Views.{EntryView}
-use Rattle.world.specs.World.{World}
-use Rattle.world.specs.Views.{event_of}
-use Rattle.world.specs.Turns.{setting_of, Goes}
+use Rattle.engine.specs.Prelude.{EntryView}
+use Rattle.world.specs.Prelude.{World, event_of, setting_of, Goes}
 use Rattle.world.proofs.events.follow_all.Given as goal
 
 abbrev pub invariant-loop-event : goal.invariant-loop-event

@@ -1,9 +1,6 @@
 use Rattle.std.proofs.Common.{refl, subst, List, []}
-use Rattle.engine.specs.Kept.{is_user, ledger_of}
-use Rattle.engine.specs.Queries.{fixed_answer}
-use Rattle.engine.specs.Views.{EntryView}
-use Rattle.world.specs.World.{Reached, empty}
-use Rattle.world.specs.Turns.{FitsWorld, setting_of}
+use Rattle.engine.specs.Prelude.{is_user, ledger_of, fixed_answer, EntryView}
+use Rattle.world.specs.Prelude.{Reached, empty, FitsWorld, setting_of}
 use Rattle.world.proofs.events.replay.Goals as goal
 
 pub returns-clause-ok : goal.returns-clause-ok

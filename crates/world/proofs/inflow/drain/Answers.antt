@@ -2,8 +2,7 @@ use Rattle.std.proofs.Common.{subst, ℕ, ◌∙◌, ap, length, Ok, ◌-◌, �
 use Rattle.server.specs.Serving as serving
 use Rattle.server.proofs.Answered as answered
 use Rattle.server.specs.Views as server
-use Rattle.world.specs.Fits.{Link}
-use Rattle.world.specs.Views.{flow_of}
+use Rattle.world.specs.Prelude.{Link, flow_of}
 use Rattle.world.proofs.Turning.{link_at, seen_by}
 use Rattle.world.proofs.Given.{drains_lacks, drains_gone, drains_done}
 use Rattle.world.proofs.inflow.drain.Goals as goal

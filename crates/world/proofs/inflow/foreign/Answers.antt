@@ -1,7 +1,5 @@
 use Rattle.std.proofs.Common.{refl, sym, ap, subst}
-use Rattle.world.specs.World.{Feeds}
-use Rattle.world.specs.Seeing.{IsWrong}
-use Rattle.world.specs.Views.{end_peer}
+use Rattle.world.specs.Prelude.{Feeds, IsWrong, end_peer}
 use Rattle.world.proofs.Turning.{lacks, wrong}
 use Rattle.world.proofs.Turned.{fed_over, fed_cut, comes, foreign_done}
 use Rattle.world.proofs.inflow.foreign.Goals as goal

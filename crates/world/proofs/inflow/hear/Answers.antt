@@ -1,13 +1,10 @@
 use Rattle.std.proofs.Common.{◌≡◌, sym, ◌∙◌, ap, subst, refl, map, ◌++◌, [], Ok, Err, Some, take, List, ℕ}
 use Rattle.client.specs.declared.Heard.{Heard}
 use Rattle.client.specs.Fits as client
-use Rattle.client.specs.Moments.{tellings}
-use Rattle.client.specs.Notes.{note}
+use Rattle.client.specs.Prelude.{tellings, note}
 use Rattle.client.specs.Rest as asking
 use Rattle.world.specs.declared.link.End.TheVariants as end
-use Rattle.world.specs.World.{Gave}
-use Rattle.world.specs.Reports.{read_after}
-use Rattle.world.specs.Views.{FitsEnd, flow_of, read_of}
+use Rattle.world.specs.Prelude.{Gave, read_after, FitsEnd, flow_of, read_of}
 use Rattle.world.proofs.Holding.{held_client, down_changed, unless}
 use Rattle.world.proofs.Turning.{looked}
 use Rattle.world.proofs.Given.{given_over, given_lacks, given_draws, given_done, given_fails}

@@ -5,9 +5,7 @@ use Rattle.server.proofs.Answered as answered
 use Rattle.server.specs.Views as server
 use Rattle.client.specs.Rest as asking
 use Rattle.world.specs.declared.link.End.TheVariants as end
-use Rattle.world.specs.World.{ToServer, Fed}
-use Rattle.world.specs.Seeing.{IsWrong}
-use Rattle.world.specs.Views.{end_peer, flow_of}
+use Rattle.world.specs.Prelude.{ToServer, Fed, IsWrong, end_peer, flow_of}
 use Rattle.world.proofs.Holding.{held_client, up_changed}
 use Rattle.world.proofs.Turning.{wrong, looked}
 use Rattle.world.proofs.Turned.{server_over, server_cut, server_lacks, server_done}

@@ -2,7 +2,7 @@ use Rattle.server.proofs.Bounds.{few_rows}
 use Rattle.server.proofs.Runs.{keeps_limits}
 use Rattle.world.proofs.Clients.{few, reached_follow}
 use Rattle.world.proofs.Limits.{sessions_within}
-use Rattle.world.specs.Turns.{setting_of}
+use Rattle.world.specs.Prelude.{setting_of}
 use Rattle.world.proofs.laws.keeps_limits.Goals as goal
 
 pub returns : goal.returns

@@ -1,5 +1,5 @@
 use Rattle.std.proofs.Common.{◌∙◌, ◌-◌, ◌++◌, ap, length}
-use Rattle.world.specs.Views.{flow_of}
+use Rattle.world.specs.Prelude.{flow_of}
 use Rattle.world.proofs.Given.{drawn}
 use Rattle.world.proofs.Turning.{none_of}
 use Rattle.world.proofs.outflow.draw_down.Goals as goal

@@ -1,9 +1,8 @@
 use Rattle.std.proofs.Common.{sym, subst, Result}
 use Rattle.world.specs.declared.kinds.Refused.{Refused}
 use Rattle.world.specs.declared.link.End.TheVariants as end
-use Rattle.world.specs.World.{Seen}
-use Rattle.world.specs.Turns.{Holds, Submits}
-use Rattle.messages.specs.View.{request_view}
+use Rattle.world.specs.Prelude.{Seen, Holds, Submits}
+use Rattle.messages.specs.Prelude.{request_view}
 use Rattle.world.proofs.Holding.{holds_client, holds_then, holds_still, with_end, refused_submits}
 use Rattle.world.proofs.submission.submit.Goals as goal
 

@@ -1,6 +1,6 @@
 use Rattle.std.proofs.Common.{refl, Ok, true}
 use Rattle.world.specs.declared.kinds.Seen.TheVariants as seen
-use Rattle.world.specs.Turns.{seen_in}
+use Rattle.world.specs.Prelude.{seen_in}
 use Rattle.world.proofs.Turning.{link_at}
 use Rattle.world.proofs.Given.{submit_turns, loses_turns, event_is}
 use Rattle.world.proofs.Turned.{cut_done}

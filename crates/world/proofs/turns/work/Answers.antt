@@ -1,6 +1,5 @@
 use Rattle.std.proofs.Common.{refl, ap, ◌∙◌, ◌++◌, map}
-use Rattle.world.specs.Reports.{wrote_by}
-use Rattle.world.specs.Views.{wrote_of}
+use Rattle.world.specs.Prelude.{wrote_by, wrote_of}
 use Rattle.world.proofs.Turning.{link_at, lacks, none_of}
 use Rattle.world.proofs.Turned.{work_over, works, work_done}
 use Rattle.world.proofs.turns.work.Goals as goal

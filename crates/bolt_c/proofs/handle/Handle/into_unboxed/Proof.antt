@@ -1,6 +1,6 @@
 -- A null handle is none; another owns what the box does.
 use Rattle.bolt_c.proofs.Steps.{◌≡◌, List, [], ◌∷◌, ◌++◌, refl, ap, ◌∙◌, Val, vstruct, of_list, SProp, emp, id⊢, ftrue, WpFn, ‵, raw, ◌⊛◌, prop, at_ret, ◌$◌, ◌∵◌, !, qed, done, move, keep, drop, use0, use1, split, join, fsplit, fjoin, fpick, feq_l, regoal, suffices, enter, of_opd, lit, bin, stop, fld, no_more, and_then, first, branches, exec, returns, alloc_all, pass_all, free_all, look_at, get, get_in, sets, sets_last, env, agg, sub, whole, live, tables, yes, owns, Ptr, block_ptr, null_ptr, ptr_val, tests_null, Slot, plain, types_at, type_at, nothing, Stays, walk_of, says, stay_dropped, Goes-dropped, ends_at, proved_at, D, word, box_typed, box_in, handle_tells, and_tt, lit<}
-use Rattle.std.specs.Prelude.{None, Some}
+use Rattle.std.proofs.Common.{None, Some}
 use Rattle.core.proofs.option.Made.{Some-of, none_of}
 use Rattle.core.proofs.alloc.Shapes.{after}
 use Rattle.std.specs.contracts.alloc.Global as heap

@@ -1,6 +1,6 @@
 -- The null handle owns nothing.
 use Rattle.bolt_c.proofs.Steps.{List, [], ◌∷◌, ◌++◌, refl, Val, vnull, vstruct, vcons, vnil, lit<, SProp, emp, id⊢, ftrue, WpFn, ‵, raw, ◌⊛◌, prop, ◌$◌, ◌∵◌, !, qed, done, move, keep, drop, use1, split, join, fsplit, fjoin, fpack, feq_i, regoal, suffices, enter, lit, no_more, and_then, returns, alloc_all, pass_all, free_all, look_at, get, sets, agg, tables, yes, owns, Valss, null_ptr, Slot, plain, types_at, type_at, nothing, Stays, walk_of, says, stay_dropped, Goes-dropped, ends_at, proved_at, handle_tells, and_tt, within, shape, to}
-use Rattle.std.specs.Prelude.{None}
+use Rattle.std.proofs.Common.{None}
 use Rattle.std.specs.contracts.alloc.Global as heap
 use Rattle.bolt_c.proofs.Boxed.{E}
 use Rattle.bolt_c.specs.contracts.handle.Handle as handle

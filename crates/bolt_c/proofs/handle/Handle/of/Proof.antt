@@ -1,6 +1,6 @@
 -- The handle owns what the box did.
 use Rattle.bolt_c.proofs.Steps.{List, [], ◌∷◌, ◌++◌, refl, Val, SProp, emp, id⊢, ftrue, WpFn, ‵, raw, ◌⊛◌, prop, ◌$◌, ◌∵◌, !, qed, done, keep, drop, use1, split, join, fsplit, fjoin, regoal, suffices, enter, of_opd, stop, fld, no_more, and_then, returns, alloc_all, pass_all, free_all, look_at, get, get_in, sets, agg, sub, whole, tables, yes, owns, block_ptr, Slot, plain, types_at, type_at, nothing, Stays, walk_of, says, stay_dropped, Goes-dropped, ends_at, proved_at, D, word, box_typed, box_out, box_in}
-use Rattle.std.specs.Prelude.{Some}
+use Rattle.std.proofs.Common.{Some}
 use Rattle.std.specs.contracts.alloc.Global as heap
 use Rattle.std.specs.contracts.impls.GlobalAllocator.TheImpl.{ghosts}
 use Rattle.bolt_c.proofs.Boxed.{E}

@@ -1,6 +1,5 @@
 use Rattle.std.proofs.Common.{sym, ◌∙◌, ap}
-use Rattle.client.specs.Rest.{Knows}
-use Rattle.client.specs.Fits.{Fits}
+use Rattle.client.specs.Prelude.{Knows, Fits}
 use Rattle.client.proofs.Pieces.{feeds_rests, keeps_rests}
 use Rattle.client.proofs.client.Client.feed.Goals as goal
 

@@ -1,11 +1,7 @@
 use Rattle.std.proofs.Common.{◌≡◌, Ok, Err, rules, ◌∙◌, ap}
-use Rattle.wire.specs.Framing.{at_client}
-use Rattle.wire.specs.Reader.{takes}
+use Rattle.wire.specs.Prelude.{at_client, takes}
 use Rattle.client.specs.declared.faults.ClientFault.{ClientFault}
-use Rattle.client.specs.Rest.{Knows, hears_item, note_of}
-use Rattle.client.specs.Hearings.{came_as, came_in}
-use Rattle.client.specs.Held.{IsItem}
-use Rattle.client.specs.Fits.{Fits, knowledge_of}
+use Rattle.client.specs.Prelude.{Knows, hears_item, note_of, came_as, came_in, IsItem, Fits, knowledge_of}
 use Rattle.client.proofs.Pieces.{err_note, heard_feeds, refused_feeds, result_feeds, hears_by}
 use Rattle.client.proofs.client.Client.feed_item.Goals as goal
 

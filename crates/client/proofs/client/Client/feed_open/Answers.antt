@@ -1,9 +1,7 @@
 use Rattle.std.proofs.Common.{Bool, Ok, Err, ap}
-use Rattle.wire.specs.Framing.{at_client}
-use Rattle.wire.specs.Reader.{takes}
+use Rattle.wire.specs.Prelude.{at_client, takes}
 use Rattle.client.specs.declared.faults.ClientFault.{ClientFault}
-use Rattle.client.specs.Held.{IsItem}
-use Rattle.client.specs.Fits.{Fits}
+use Rattle.client.specs.Prelude.{IsItem, Fits}
 use Rattle.client.proofs.Pieces.{quiet_feeds, result_feeds}
 use Rattle.client.proofs.client.Client.feed_open.Goals as goal
 

@@ -1,6 +1,5 @@
 use Rattle.inbox.proofs.Opening.{data_read}
-use Rattle.client.specs.Answers.{held_bytes}
-use Rattle.client.specs.Held.{IsItem}
+use Rattle.client.specs.Prelude.{held_bytes, IsItem}
 use Rattle.client.proofs.client.Client.reader.Goals as goal
 
 pub returns-clause-data : goal.returns-clause-data

@@ -1,9 +1,7 @@
 use Rattle.std.proofs.Common.{◌≡◌, ◌∙◌, refl, sym, ap, ◌<◌, ◌≤◌, ◌-◌, min, length, rules, arith, length-take}
 use Rattle.inbox.proofs.Opening.{by_part, by_whole}
 use Rattle.client.specs.declared.data.Came.TheVariants as came
-use Rattle.client.specs.Answers.{held_bytes}
-use Rattle.client.specs.Held.{IsItem}
-use Rattle.client.specs.Taking.{Comes}
+use Rattle.client.specs.Prelude.{held_bytes, IsItem, Comes}
 use Rattle.client.proofs.Versions.{plain_version, held-length}
 use Rattle.client.proofs.stream.Stream.take_answer.Goals as goal
 

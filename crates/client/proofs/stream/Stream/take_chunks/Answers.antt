@@ -1,12 +1,8 @@
-use Rattle.std.proofs.Common.{◌≡◌, ◌≤◌, length, rules, arith}
-use Rattle.std.specs.Prelude.{unwrap_or}
+use Rattle.std.proofs.Common.{◌≡◌, ◌≤◌, length, rules, arith, unwrap_or}
 use Rattle.wire.specs.declared.Version.TheVariants.{V51}
-use Rattle.wire.specs.Reader.{takes}
-use Rattle.wire.specs.Framing.{chunks}
+use Rattle.wire.specs.Prelude.{takes, chunks}
 use Rattle.inbox.proofs.Opening.{by_chunks}
-use Rattle.client.specs.Answers.{held_bytes}
-use Rattle.client.specs.Held.{IsItem}
-use Rattle.client.specs.Taking.{Comes}
+use Rattle.client.specs.Prelude.{held_bytes, IsItem, Comes}
 use Rattle.client.proofs.Versions.{held-length, chunks_stay}
 use Rattle.client.proofs.stream.Stream.take_chunks.Goals as goal
 

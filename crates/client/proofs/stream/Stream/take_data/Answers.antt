@@ -1,9 +1,6 @@
 use Rattle.std.proofs.Common.{◌≡◌, ◌≤◌, sym, ap, Bool, true, false, Ok, length, rules, arith}
 use Rattle.inbox.proofs.Opening.{by_chunks}
-use Rattle.client.specs.Answers.{held_bytes}
-use Rattle.client.specs.Hearings.{came_in}
-use Rattle.client.specs.Held.{IsHeld, IsItem}
-use Rattle.client.specs.Taking.{Comes, all_of}
+use Rattle.client.specs.Prelude.{held_bytes, came_in, IsHeld, IsItem, Comes, all_of}
 use Rattle.client.proofs.Versions.{held-length, chunks_stay}
 use Rattle.client.proofs.stream.Stream.take_data.Goals as goal
 

@@ -1,6 +1,6 @@
 use Rattle.std.proofs.Common.{◌∙◌, sym, rules}
-use Rattle.wire.specs.Versions.{versions}
-use Rattle.client.specs.Answers.{held_bytes}
+use Rattle.wire.specs.Prelude.{versions}
+use Rattle.client.specs.Prelude.{held_bytes}
 use Rattle.client.proofs.Versions.{heard_later}
 use Rattle.client.proofs.version_answer.Opening.version.Goals as goal
 

@@ -1,7 +1,7 @@
 use Rattle.std.proofs.Common.{◌≡◌, drop}
-use Rattle.wire.specs.Versions.{versions}
-use Rattle.messages.specs.Arrivals.{heard_among, heard_version}
-use Rattle.client.specs.Answers.{held_bytes}
+use Rattle.wire.specs.Prelude.{versions}
+use Rattle.messages.specs.Prelude.{heard_among, heard_version}
+use Rattle.client.specs.Prelude.{held_bytes}
 use Rattle.client.proofs.version_answer.Opening.version.Given as goal
 
 abbrev pub invariant-loop-version : goal.invariant-loop-version

@@ -1,8 +1,7 @@
 use Rattle.std.proofs.Common.{◌≡◌, List, ◌++◌, ◌∷◌, [], None, ap, sym, ◌∙◌, subst, rules}
 use Rattle.std.proofs.lemmas.List.{map-append}
 use Rattle.engine.proofs.Once.{once_after}
-use Rattle.engine.specs.Tokens.{TokensOnce, Found, Free, There, Other, added_by, found_in, known_by}
-use Rattle.engine.specs.Views.{EntryView, entry_view, entries_view, token_view, writes_view}
+use Rattle.engine.specs.Prelude.{TokensOnce, Found, Free, There, Other, added_by, found_in, known_by, EntryView, entry_view, entries_view, token_view, writes_view}
 use Rattle.engine.specs.declared.ledger.Entry.{Entry}
 use Rattle.example_engine.proofs.notes.NotesEngine.commit.Goals as goal
 

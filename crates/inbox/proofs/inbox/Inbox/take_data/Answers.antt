@@ -1,6 +1,6 @@
 use Rattle.std.proofs.Common.{ap, refl}
 use Rattle.packstream.proofs.Ranges.{bytes_from_each}
-use Rattle.reader.specs.Piecewise.{Points}
+use Rattle.reader.specs.Prelude.{Points}
 use Rattle.inbox.proofs.Fronts.{alone_taken, alone_wants, wants}
 use Rattle.inbox.proofs.Taken.{at_held}
 use Rattle.inbox.proofs.Told.{err_holds}

@@ -1,8 +1,8 @@
 use Rattle.std.proofs.Common.{take, sym, subst}
 use Rattle.packstream.proofs.Ranges.{bytes_from_each}
 use Rattle.wire.specs.declared.parts.Part.{Part}
-use Rattle.wire.specs.Scanning.{with_data}
-use Rattle.reader.specs.Piecewise.{Reads}
+use Rattle.wire.specs.Prelude.{with_data}
+use Rattle.reader.specs.Prelude.{Reads}
 use Rattle.reader.proofs.Pieces.{good_before}
 use Rattle.inbox.proofs.Taken.{taken_bytes}
 use Rattle.inbox.proofs.stream.Stream.next.Goals as goal

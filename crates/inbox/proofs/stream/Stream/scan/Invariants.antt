@@ -1,5 +1,5 @@
 use Rattle.std.proofs.Common.{◌≡◌, length, ◌-◌, ◌≤◌, None, false}
-use Rattle.wire.specs.Unfinished.{Unfinished}
+use Rattle.wire.specs.Prelude.{Unfinished}
 use Rattle.inbox.specs.Standing.{IsAt}
 use Rattle.inbox.specs.Scanning.{Comes}
 use Rattle.inbox.proofs.stream.Stream.scan.Given as goal

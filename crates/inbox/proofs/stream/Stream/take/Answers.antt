@@ -1,5 +1,5 @@
 use Rattle.std.proofs.Common.{◌∙◌, refl, sym, subst, [], true}
-use Rattle.reader.specs.Piecewise.{Points, Reads}
+use Rattle.reader.specs.Prelude.{Points, Reads}
 use Rattle.inbox.specs.declared.stream.Stream.{Stream}
 use Rattle.inbox.proofs.Told.{err_holds}
 use Rattle.inbox.proofs.Taken.{taken_part, taken_noop, taken_message, taken_refused}

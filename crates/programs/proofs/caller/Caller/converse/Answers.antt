@@ -1,7 +1,7 @@
 use Rattle.std.proofs.Common.{refl, inl, []}
 use Rattle.std.proofs.KnownBytes.{Appends-nil, Consumes-nil}
 use Rattle.streams.specs.declared.fault.StreamFault.TheVariants.{WriteFailed}
-use Rattle.programs.specs.Talking.{sent_out}
+use Rattle.programs.specs.Prelude.{sent_out}
 use Rattle.programs.proofs.Heard.{puts_out, written_then}
 use Rattle.programs.proofs.Printed.{prints_whole}
 use Rattle.programs.proofs.Stops.{unless_so}

@@ -1,7 +1,7 @@
 use Rattle.std.proofs.Common.{◌∙◌, sym, refl, []}
 use Rattle.std.proofs.KnownBytes.{Appends-nil}
-use Rattle.client.specs.Fits.{Fits}
-use Rattle.streams.specs.Asking.{after_all}
+use Rattle.client.specs.Prelude.{Fits}
+use Rattle.streams.specs.Prelude.{after_all}
 use Rattle.streams.proofs.Asked.{reads_none}
 use Rattle.programs.proofs.Heard.{all_heard, heard_at, heard_end, heard_more, heard_part, stands_so}
 use Rattle.programs.proofs.caller.Caller.hear_all.Goals as goal

@@ -1,5 +1,5 @@
-use Rattle.streams.specs.Failing.{StaysSound}
-use Rattle.programs.specs.Talking.{Place, IsAt}
+use Rattle.streams.specs.Prelude.{StaysSound}
+use Rattle.programs.specs.Prelude.{Place, IsAt}
 use Rattle.programs.proofs.Heard.{HeardSo}
 use Rattle.programs.proofs.caller.Caller.hear_all.Given as goal
 

@@ -1,7 +1,6 @@
-use Rattle.std.proofs.Common.{◌≡◌, ap, refl, rules, true, Err, []}
-use Rattle.std.specs.Prelude.{map}
+use Rattle.std.proofs.Common.{◌≡◌, ap, refl, rules, true, Err, [], map}
 use Rattle.std.proofs.KnownBytes.{Appends-nil}
-use Rattle.client.specs.Notes.{note}
+use Rattle.client.specs.Prelude.{note}
 use Rattle.streams.specs.declared.fault.StreamFault.TheVariants.{ReadFailed, WriteFailed}
 use Rattle.programs.proofs.Printed.{prints_whole}
 use Rattle.programs.proofs.Stops.{unless_so}

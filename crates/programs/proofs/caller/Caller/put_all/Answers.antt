@@ -1,7 +1,7 @@
 use Rattle.std.proofs.Common.{◌∙◌, ◌++◌, ◌∷◌, [], append_assoc, rules, refl, sym, ap, subst, true, false, map}
 use Rattle.std.proofs.KnownBytes.{Appends-nil}
 use Rattle.std.proofs.lemmas.List.{nil_from_length}
-use Rattle.client.specs.Notes.{note}
+use Rattle.client.specs.Prelude.{note}
 use Rattle.streams.proofs.Parts.{all_done}
 use Rattle.programs.specs.Shelling.{Prints}
 use Rattle.programs.proofs.Printed.{printed_next, prints_next_part, prints_whole}

@@ -1,7 +1,7 @@
 use Rattle.std.proofs.Common.{◌≡◌, ◌++◌, map}
-use Rattle.client.specs.Notes.{note}
-use Rattle.streams.specs.Failing.{StaysSound}
-use Rattle.programs.specs.Shelling.{HasPrinted}
+use Rattle.client.specs.Prelude.{note}
+use Rattle.streams.specs.Prelude.{StaysSound}
+use Rattle.programs.specs.Prelude.{HasPrinted}
 use Rattle.programs.proofs.caller.Caller.put_all.Given as goal
 
 -- those that were yielded are printed

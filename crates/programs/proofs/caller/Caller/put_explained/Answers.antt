@@ -2,10 +2,10 @@ use Rattle.std.proofs.Common.{◌∙◌, ◌++◌, refl, subst, ℕ, List, inl, 
 use Rattle.std.proofs.lemmas.Result.{on_err_weaker, on_ok_weaker}
 use Rattle.std.specs.Io.KnownBytes.{Appends}
 use Rattle.std.proofs.KnownBytes.{Appends-trans}
-use Rattle.client.specs.Notes.{note}
+use Rattle.client.specs.Prelude.{note}
 use Rattle.streams.specs.declared.fault.StreamFault.TheVariants.{WriteFailed}
-use Rattle.streams.specs.Fronts.{AppendsFront}
-use Rattle.programs.specs.Telling.{failure_told}
+use Rattle.streams.specs.Prelude.{AppendsFront}
+use Rattle.programs.specs.Prelude.{failure_told}
 use Rattle.streams.proofs.Stepping.{front_after, front_more}
 use Rattle.programs.proofs.Stops.{unless_then}
 use Rattle.programs.proofs.caller.Caller.put_explained.Goals as goal

@@ -1,4 +1,4 @@
-use Rattle.programs.specs.Talking.{first_place}
+use Rattle.programs.specs.Prelude.{first_place}
 use Rattle.programs.proofs.Followed.{begins, greeted}
 use Rattle.programs.proofs.Moved.{gets_none}
 use Rattle.programs.proofs.shells.Conversation.begin.Goals as goal

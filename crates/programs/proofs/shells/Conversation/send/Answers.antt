@@ -1,6 +1,5 @@
 use Rattle.std.proofs.Common.{◌≡◌, ⊎_elim, inl, inr, ◌∙◌, sym, ap, rules, false}
-use Rattle.scripts.specs.Words.{is_empty}
-use Rattle.scripts.specs.Rows.{request_line_of}
+use Rattle.scripts.specs.Prelude.{is_empty, request_line_of}
 use Rattle.streams.specs.declared.fault.StreamFault.TheVariants.{ReadFailed, WriteFailed}
 use Rattle.programs.proofs.Followed.{filled_is}
 use Rattle.programs.proofs.Stops.{unless_stops}

@@ -1,7 +1,7 @@
 use Rattle.std.proofs.Common.{ap, Err}
-use Rattle.scripts.specs.Views.{script_request_view}
+use Rattle.scripts.specs.Prelude.{script_request_view}
 use Rattle.streams.specs.declared.fault.StreamFault.TheVariants.{WriteFailed}
-use Rattle.programs.specs.Talking.{IsAt, streams_at}
+use Rattle.programs.specs.Prelude.{IsAt, streams_at}
 use Rattle.programs.proofs.Followed.{submit_failed, submit_refused, submit_taken}
 use Rattle.programs.proofs.Stops.{unless_then}
 use Rattle.programs.proofs.shells.Conversation.submit.Goals as goal

@@ -1,6 +1,5 @@
 use Rattle.std.proofs.Common.{◌++◌, ◌+◌, take, drop, subst, Some}
-use Rattle.programs.specs.Talking.{streams_at}
-use Rattle.programs.specs.Shelling.{Does}
+use Rattle.programs.specs.Prelude.{streams_at, Does}
 use Rattle.programs.proofs.Followed.{at_place}
 use Rattle.programs.proofs.shells.Conversation.take.Goals as goal
 

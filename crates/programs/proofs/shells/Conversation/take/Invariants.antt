@@ -1,7 +1,6 @@
 use Rattle.std.proofs.Common.{List, ℕ, ◌++◌, take}
-use Rattle.streams.specs.Failing.{StaysSound}
-use Rattle.programs.specs.Talking.{Streams, streams_at}
-use Rattle.programs.specs.Shelling.{Progress}
+use Rattle.streams.specs.Prelude.{StaysSound}
+use Rattle.programs.specs.Prelude.{Streams, streams_at, Progress}
 use Rattle.programs.proofs.shells.Conversation.take.Given as goal
 
 -- the bytes before it are done, and no stream fails

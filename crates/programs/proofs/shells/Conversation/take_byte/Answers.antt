@@ -1,8 +1,8 @@
 use Rattle.std.proofs.Common.{refl, sym, ◌∙◌, ◌==◌, ◌≡◌, ◌+◌, append_assoc, subst, false, All, ne_eqb, rules}
 use Rattle.std.proofs.lemmas.List.Elements.{All-push}
-use Rattle.scripts.specs.Script.{filled_from, lines}
+use Rattle.scripts.specs.Prelude.{filled_from, lines}
 use Rattle.streams.specs.declared.fault.StreamFault.TheVariants.{Memory}
-use Rattle.programs.specs.Shelling.{if_filled}
+use Rattle.programs.specs.Prelude.{if_filled}
 use Rattle.programs.proofs.Followed.{at_newline, next_line, one_more, stops_at, stops_behind}
 use Rattle.programs.proofs.shells.Conversation.take_byte.Goals as goal
 

@@ -1,5 +1,4 @@
-use Rattle.std.proofs.Common.{◌≡◌, ◌≤◌, ◌<◌, ◌-◌, ℕ}
-use Rattle.std.specs.Prelude.{slice_get}
+use Rattle.std.proofs.Common.{◌≡◌, ◌≤◌, ◌<◌, ◌-◌, ℕ, slice_get}
 use Rattle.reader.proofs.open.Open.copy_from.Given as goal
 
 abbrev pub invariant-loop-at : goal.invariant-loop-at

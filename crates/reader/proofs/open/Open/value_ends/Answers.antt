@@ -1,5 +1,5 @@
 use Rattle.std.proofs.Common.{◌≡◌, refl, sym, ◌∙◌}
-use Rattle.reader.specs.Frames.{whole, still, ends}
+use Rattle.reader.specs.Prelude.{whole, still, ends}
 use Rattle.reader.proofs.Leveling.{step_out, stay_in, all_ended}
 use Rattle.reader.proofs.open.Open.value_ends.Goals as goal
 

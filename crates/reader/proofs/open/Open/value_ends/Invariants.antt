@@ -1,6 +1,6 @@
 use Rattle.std.proofs.Common.{◌≡◌, List}
-use Rattle.packstream.specs.Tree.{Tree}
-use Rattle.reader.specs.Frames.{Frame, AreLevels, ends}
+use Rattle.packstream.specs.Prelude.{Tree}
+use Rattle.reader.specs.Prelude.{Frame, AreLevels, ends}
 use Rattle.reader.proofs.open.Open.value_ends.Given as goal
 
 abbrev pub invariant-loop-self : goal.invariant-loop-self

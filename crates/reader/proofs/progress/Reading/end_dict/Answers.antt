@@ -1,8 +1,7 @@
 use Rattle.std.proofs.Common.{◌≡◌, ◌<◌, ◌∷◌, ℕ, length, refl, ap, sym, subst, ◌∙◌}
 use Rattle.packstream.specs.declared.marker.Marker.TheVariants as announces
 use Rattle.reader.specs.declared.open.Open.{Open}
-use Rattle.reader.specs.Frames.{AreLevels, waits}
-use Rattle.reader.specs.Holding.{Holds, holds}
+use Rattle.reader.specs.Prelude.{AreLevels, waits, Holds, holds}
 use Rattle.reader.proofs.Standing.{after, has_taken}
 use Rattle.reader.proofs.Values.{has_room, dict_stands}
 use Rattle.reader.proofs.progress.Reading.end_dict.Goals as goal

@@ -1,12 +1,8 @@
-use Rattle.std.proofs.Common.{◌≡◌, ◌-◌, ◌∷◌, ℕ, List, Bool, Option, Ok, drop, length, ap, sym, subst, ◌∙◌, arith}
-use Rattle.std.specs.Str.{IsUtf8}
+use Rattle.std.proofs.Common.{◌≡◌, ◌-◌, ◌∷◌, ℕ, List, Bool, Option, Ok, drop, length, ap, sym, subst, ◌∙◌, arith, IsUtf8}
 use Rattle.reader.specs.declared.open.Open.{Open}
-use Rattle.reader.specs.Naming.{Name, IsRoot, IsNamed}
-use Rattle.packstream.specs.Faults.{at_key}
-use Rattle.reader.specs.Frames.{Frame, waits, AreLevels}
-use Rattle.reader.specs.Holding.{Holds, holds, with_item}
+use Rattle.reader.specs.Prelude.{Name, IsRoot, IsNamed, Frame, waits, AreLevels, Holds, holds, with_item, body, size_with}
+use Rattle.packstream.specs.Prelude.{at_key}
 use Rattle.packstream.specs.declared.marker.Marker.{Marker}
-use Rattle.reader.specs.Heads.{body, size_with}
 use Rattle.reader.proofs.Standing.{after, has_taken}
 use Rattle.reader.proofs.Values.{key_frame, key_root, key_stands, named_with, named_is}
 use Rattle.reader.proofs.Taking.{tail_at, key_twice}

@@ -1,7 +1,6 @@
 use Rattle.std.proofs.Common.{◌<◌, ap, sym, subst, ◌∙◌}
 use Rattle.reader.specs.declared.open.Open.{Open}
-use Rattle.reader.specs.Frames.{AreLevels}
-use Rattle.reader.specs.Holding.{Holds, holds}
+use Rattle.reader.specs.Prelude.{AreLevels, Holds, holds}
 use Rattle.reader.proofs.Standing.{after, has_taken}
 use Rattle.reader.proofs.Values.{list_has_room, list_stands}
 use Rattle.reader.proofs.progress.Reading.end_list.Goals as goal

@@ -1,7 +1,7 @@
-use Rattle.std.proofs.Common.{◌≡◌, ℕ, List, false, sym, subst, ◌∙◌}
-use Rattle.std.specs.Str.{IsUtf8, is_utf8}
+use Rattle.std.proofs.Common.{◌≡◌, ℕ, List, false, sym, subst, ◌∙◌, IsUtf8}
+use Rattle.std.specs.Str.{is_utf8}
 use Rattle.packstream.proofs.Texts.{not_utf8}
-use Rattle.reader.specs.Holding.{Holds, holds}
+use Rattle.reader.specs.Prelude.{Holds, holds}
 use Rattle.reader.proofs.Values.{text_value}
 use Rattle.reader.proofs.Taking.{text_bad, text_told}
 use Rattle.reader.proofs.progress.Reading.end_text.Goals as goal

@@ -2,7 +2,7 @@ use Rattle.std.proofs.Common.{◌≡◌, ◌++◌, ap, refl, sym, subst, ◌∙�
 use Rattle.std.proofs.lemmas.List.{append-nil}
 use Rattle.packstream.proofs.Ranges.{bytes_from_each}
 use Rattle.reader.specs.declared.stop.Stop.{Stop}
-use Rattle.reader.specs.Holding.{Holds, holds, at_mark, with_fault, HoldsOn, IsFaultOf}
+use Rattle.reader.specs.Prelude.{Holds, holds, at_mark, with_fault, HoldsOn, IsFaultOf}
 use Rattle.reader.proofs.Held.{keeps_on, keeps_cut, joins, on_taken, on_cut, on_bad, turns_back}
 use Rattle.reader.proofs.progress.Reading.feed.Goals as goal
 

@@ -1,7 +1,7 @@
 use Rattle.std.proofs.Common.{sym, subst, ◌∙◌}
-use Rattle.packstream.specs.Plain.{AreBytes}
+use Rattle.packstream.specs.Prelude.{AreBytes}
 use Rattle.packstream.proofs.Ranges.{bytes_from_each, both_bytes}
-use Rattle.reader.specs.Holding.{holds}
+use Rattle.reader.specs.Prelude.{holds}
 use Rattle.reader.proofs.Taking.{has_bytes}
 use Rattle.reader.proofs.progress.Reading.take.Goals as goal
 

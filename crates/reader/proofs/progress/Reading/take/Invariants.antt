@@ -1,5 +1,5 @@
 use Rattle.std.proofs.Common.{◌++◌, length}
-use Rattle.reader.specs.Holding.{holds, HasTaken, HasGrown}
+use Rattle.reader.specs.Prelude.{holds, HasTaken, HasGrown}
 use Rattle.reader.proofs.progress.Reading.take.Given as goal
 
 abbrev pub invariant-loop-first : goal.invariant-loop-first

@@ -1,6 +1,6 @@
 use Rattle.std.proofs.Common.{◌-◌, length, sym, subst, arith}
 use Rattle.reader.specs.declared.progress.Part.TheVariants as part
-use Rattle.reader.specs.Holding.{Holds, holds, Goes}
+use Rattle.reader.specs.Prelude.{Holds, holds, Goes}
 use Rattle.reader.proofs.Taking.{body_taken, stored_is, body_longer}
 use Rattle.reader.proofs.progress.Reading.take_body.Goals as goal
 

@@ -1,5 +1,5 @@
 use Rattle.std.proofs.Common.{◌-◌, length, arith}
-use Rattle.reader.specs.Holding.{holds}
+use Rattle.reader.specs.Prelude.{holds}
 use Rattle.reader.proofs.Taking.{body_taken}
 use Rattle.reader.proofs.progress.Reading.take_data.Goals as goal
 

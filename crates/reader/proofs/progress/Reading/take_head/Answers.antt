@@ -1,12 +1,10 @@
 use Rattle.std.proofs.Common.{◌≡◌, ◌+◌, ◌++◌, ℕ, [], length, Option, ap, sym, subst, ◌∙◌, arith}
 use Rattle.packstream.specs.declared.marker.Marker.{Marker}
-use Rattle.packstream.specs.Plain.{AreBytes}
+use Rattle.packstream.specs.Prelude.{AreBytes, marker}
 use Rattle.packstream.proofs.Ranges.{bytes_from_each, front_bytes}
-use Rattle.packstream.specs.Markers.{marker}
-use Rattle.reader.specs.Heads.{field, body, number_from}
+use Rattle.reader.specs.Prelude.{field, body, number_from, Holds, holds, Goes, HasTaken}
 use Rattle.reader.specs.declared.progress.Part.{Part}
 use Rattle.reader.specs.declared.progress.Part.TheVariants as part
-use Rattle.reader.specs.Holding.{Holds, holds, Goes, HasTaken}
 use Rattle.reader.proofs.Heads.{joined_fits, fits_word}
 use Rattle.reader.proofs.Taking.{parted, stored, stored_is, head_longer, head_whole, part_taken}
 use Rattle.reader.proofs.progress.Reading.take_head.Goals as goal

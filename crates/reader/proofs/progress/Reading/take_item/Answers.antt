@@ -1,8 +1,7 @@
 use Rattle.std.proofs.Common.{◌≡◌, [], ◌∷◌, sym, subst, ◌∙◌}
 use Rattle.packstream.specs.declared.fault.Reason.TheVariants as reason
-use Rattle.reader.specs.Frames.{place}
+use Rattle.reader.specs.Prelude.{place, Holds, holds, Goes}
 use Rattle.reader.specs.declared.progress.Part.TheVariants as part
-use Rattle.reader.specs.Holding.{Holds, holds, Goes}
 use Rattle.reader.proofs.Opening.{refused, no_marker}
 use Rattle.reader.proofs.Taking.{stored_is, goes_of, done_of, trails, head_bad, head_starts}
 use Rattle.reader.proofs.progress.Reading.take_item.Goals as goal

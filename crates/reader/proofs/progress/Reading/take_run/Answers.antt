@@ -1,7 +1,7 @@
 use Rattle.std.proofs.Common.{◌++◌, ℕ, List, [], ap, subst, ◌∙◌}
 use Rattle.std.proofs.lemmas.List.{append-nil}
 use Rattle.reader.specs.declared.open.Open.{Open}
-use Rattle.reader.specs.Holding.{Holds, holds, with_item, HasTaken}
+use Rattle.reader.specs.Prelude.{Holds, holds, with_item, HasTaken}
 use Rattle.reader.proofs.Standing.{after, has_taken}
 use Rattle.reader.proofs.Taking.{stored, stored_is, tiny_stands}
 use Rattle.reader.proofs.progress.Reading.take_run.Goals as goal

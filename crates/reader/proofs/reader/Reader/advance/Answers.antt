@@ -1,8 +1,7 @@
 use Rattle.std.proofs.Common.{Ok, ap, sym, subst, ◌∙◌}
 use Rattle.std.proofs.lemmas.List.{append-nil}
 use Rattle.packstream.proofs.Ranges.{bytes_from_each}
-use Rattle.reader.specs.Piecewise.{Point, Points, Takes}
-use Rattle.reader.specs.Holding.{Holds, holds}
+use Rattle.reader.specs.Prelude.{Point, Points, Takes, Holds, holds}
 use Rattle.reader.proofs.Held.{keeps_on, keeps_at, here_at, kept_within, joins}
 use Rattle.reader.proofs.reader.Reader.advance.Goals as goal
 

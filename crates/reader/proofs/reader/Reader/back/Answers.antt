@@ -1,5 +1,5 @@
 use Rattle.std.proofs.Common.{Bool, sym, subst}
-use Rattle.reader.specs.Holding.{Holds, holds, IsKept, IsKeptAt}
+use Rattle.reader.specs.Prelude.{Holds, holds, IsKept, IsKeptAt}
 use Rattle.reader.proofs.Held.{kept_back}
 use Rattle.reader.proofs.reader.Reader.back.Goals as goal
 

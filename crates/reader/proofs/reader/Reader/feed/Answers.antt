@@ -1,5 +1,5 @@
 use Rattle.std.proofs.Common.{Bool, sym, subst}
-use Rattle.reader.specs.Holding.{holds, IsKept, IsKeptAt}
+use Rattle.reader.specs.Prelude.{holds, IsKept, IsKeptAt}
 use Rattle.reader.proofs.Held.{keeps_at, kept_marked}
 use Rattle.reader.proofs.reader.Reader.feed.Goals as goal
 

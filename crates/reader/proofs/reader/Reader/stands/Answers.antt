@@ -1,6 +1,5 @@
 use Rattle.std.proofs.Common.{ap, sym, subst, ◌∙◌}
-use Rattle.reader.specs.Piecewise.{Point, Points, MayGoOn}
-use Rattle.reader.specs.Holding.{Holds, holds}
+use Rattle.reader.specs.Prelude.{Point, Points, MayGoOn, Holds, holds}
 use Rattle.reader.proofs.Held.{keeps_at, here_at, may_go_on}
 use Rattle.reader.proofs.reader.Reader.stands.Goals as goal
 

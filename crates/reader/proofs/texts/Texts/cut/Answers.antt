@@ -1,6 +1,6 @@
 use Rattle.std.proofs.Common.{take, length, ap, sym, subst, ◌∙◌}
 use Rattle.std.specs.List.{take-map}
-use Rattle.reader.specs.Naming.{Kept, ArePlaced, name, names_of}
+use Rattle.reader.specs.Prelude.{Kept, ArePlaced, name, names_of}
 use Rattle.reader.proofs.Treeing.{tree_cut}
 use Rattle.reader.proofs.texts.Texts.cut.Goals as goal
 

@@ -2,7 +2,7 @@ use Rattle.std.proofs.Common.{◌≤◌, ◌-◌, ℕ, List, [], ◌∷◌, ◌+
 use Rattle.std.proofs.lemmas.List.{length-drop}
 use Rattle.reader.specs.declared.texts.Key.{Key}
 use Rattle.reader.specs.declared.texts.Link.{Link}
-use Rattle.reader.specs.Naming.{Kept, names_of, IsNamed, IsFree}
+use Rattle.reader.specs.Prelude.{Kept, names_of, IsNamed, IsFree}
 use Rattle.reader.proofs.Hanging.{text_from, moved, new_key, links, tree_hangs_at, names_after}
 use Rattle.reader.proofs.texts.Texts.join.Goals as goal
 

@@ -1,13 +1,10 @@
 use Rattle.std.proofs.Common.{◌≤◌, refl, sym, ap, ap₂, length, Ok, Bool, arith}
-use Rattle.wire.specs.Reader.{takes}
-use Rattle.wire.specs.Framing.{chunks}
+use Rattle.wire.specs.Prelude.{takes, chunks}
 use Rattle.inbox.proofs.Opening.{by_chunks}
 use Rattle.inbox.proofs.Told.{err_holds}
 use Rattle.session.specs.declared.kinds.What.{What}
-use Rattle.session.specs.Rest.{what_of, after_item}
-use Rattle.session.specs.Views.{kept_of}
-use Rattle.server.specs.Feeding.{arrival, takes_item}
-use Rattle.server.specs.Incoming.{offered, IsFedBy}
+use Rattle.session.specs.Prelude.{what_of, after_item, kept_of}
+use Rattle.server.specs.Prelude.{arrival, takes_item, offered, IsFedBy}
 use Rattle.server.proofs.Feeds.{took_of, offered-length, chunks_stay}
 use Rattle.server.proofs.input.Incoming.take_chunks.Goals as goal
 

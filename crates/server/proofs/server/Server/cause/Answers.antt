@@ -1,5 +1,5 @@
 use Rattle.std.proofs.Common.{◌≡◌, get_or, rules}
-use Rattle.server.specs.Views.{Fits}
+use Rattle.server.specs.Prelude.{Fits}
 use Rattle.server.proofs.Calls.{told_by}
 use Rattle.server.proofs.server.Server.cause.Goals as goal
 

@@ -1,7 +1,6 @@
-use Rattle.std.proofs.Common.{◌≡◌, ◌<◌, ◌≤◌, ◌∙◌, sym, length, arith, rules, true}
-use Rattle.std.specs.Prelude.{nat_le}
+use Rattle.std.proofs.Common.{◌≡◌, ◌<◌, ◌≤◌, ◌∙◌, sym, length, arith, rules, true, nat_le}
 use Rattle.std.proofs.lemmas.Bool.Decides.{nat_tests}
-use Rattle.server.specs.Views.{Fits}
+use Rattle.server.specs.Prelude.{Fits}
 use Rattle.server.proofs.Calls.{live_length, full_of, full_at_numbers}
 use Rattle.server.proofs.server.Server.is_full.Goals as goal
 

@@ -1,7 +1,6 @@
 use Rattle.std.proofs.Common.{◌≡◌, ◌+◌, ◌++◌, ◌∙◌, sym, ap, subst, List, [], ◌∷◌, length, rules}
 use Rattle.server.specs.declared.connected.Connected.{Connected}
-use Rattle.server.specs.Serving.{fresh}
-use Rattle.server.specs.Views.{Fits, IsLive, AreLive}
+use Rattle.server.specs.Prelude.{fresh, Fits, IsLive, AreLive}
 use Rattle.server.proofs.Calls.{live_length, live_pushed, full_of, none_left, not_full}
 use Rattle.server.proofs.server.Server.open.Goals.{then-len-ge-MAX_SESSIONS-via-then-len-ge-MAX_SESSIONS, then-len-ge-MAX_SESSIONS-via-else-len-ge-MAX_SESSIONS+then-self-ge-MAX_NUMBERS}
 use Rattle.server.proofs.server.Server.open.Goals as goal

@@ -1,7 +1,6 @@
 use Rattle.std.proofs.Common.{◌≡◌, get_or, rules}
 use Rattle.inbox.proofs.Opening.{data_read}
-use Rattle.server.specs.Incoming.{offered}
-use Rattle.server.specs.Views.{Fits}
+use Rattle.server.specs.Prelude.{offered, Fits}
 use Rattle.server.proofs.Calls.{live_at}
 use Rattle.server.proofs.server.Server.reader.Goals as goal
 

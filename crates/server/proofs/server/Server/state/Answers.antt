@@ -1,5 +1,5 @@
 use Rattle.std.proofs.Common.{◌≡◌, get_or, rules}
-use Rattle.server.specs.Views.{Fits}
+use Rattle.server.specs.Prelude.{Fits}
 use Rattle.server.proofs.Calls.{told_at}
 use Rattle.server.proofs.server.Server.state.Goals as goal
 

@@ -1,9 +1,7 @@
 use Rattle.std.proofs.Common.{◌∙◌, ap, length}
-use Rattle.messages.specs.Summaries.{response_of_summary, Committed}
-use Rattle.engine.specs.Tokens.{found_in, commit_by}
-use Rattle.engine.specs.Views.{writes_view}
-use Rattle.session.specs.Session.{change_inside}
-use Rattle.session.specs.Views.{kept_of}
+use Rattle.messages.specs.Prelude.{response_of_summary, Committed}
+use Rattle.engine.specs.Prelude.{found_in, commit_by, writes_view}
+use Rattle.session.specs.Prelude.{change_inside, kept_of}
 use Rattle.session.proofs.Commits.{commits_told}
 use Rattle.session.proofs.session.Session.answer.Goals as goal
 

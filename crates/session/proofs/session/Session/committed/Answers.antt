@@ -1,4 +1,4 @@
-use Rattle.session.specs.Views.{kept_of}
+use Rattle.session.specs.Prelude.{kept_of}
 use Rattle.session.proofs.session.Session.committed.Goals as goal
 
 pub returns-in-Added : goal.returns-in-Added

@@ -1,10 +1,8 @@
-use Rattle.messages.specs.Summaries.{response_of_summary}
+use Rattle.messages.specs.Prelude.{response_of_summary}
 use Rattle.machine.specs.declared.rows.Verdict.{Verdict}
 use Rattle.std.proofs.Common.{None}
 use Rattle.session.specs.declared.fault.Fault.TheVariants as fault
-use Rattle.session.specs.Faults.{failure}
-use Rattle.session.specs.Session.{Summary, no_result, no_tx, passed_over}
-use Rattle.session.specs.Views.{kept_of}
+use Rattle.session.specs.Prelude.{failure, Summary, no_result, no_tx, passed_over, kept_of}
 use Rattle.session.proofs.Replies.{all_writable}
 use Rattle.session.proofs.session.Session.decide.Goals as goal
 

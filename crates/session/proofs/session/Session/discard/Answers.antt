@@ -1,7 +1,5 @@
 use Rattle.std.proofs.Common.{◌≡◌, ◌∙◌, ap, length, drop, deque_len, ◌<◌, ◌≤◌, arith}
-use Rattle.session.specs.Session.{count_at, close, close_last, left_after}
-use Rattle.session.specs.Rest.{version_of}
-use Rattle.session.specs.Views.{kept_of}
+use Rattle.session.specs.Prelude.{count_at, close, close_last, left_after, version_of, kept_of}
 use Rattle.session.proofs.Replies.{acts_at, acts_same, more_left, discard_more, discard_last}
 use Rattle.session.proofs.session.Session.discard.Goals as goal
 

@@ -1,13 +1,8 @@
 use Rattle.std.proofs.Common.{ℕ, ◌∙◌, sym, ap, List, length, Some}
-use Rattle.messages.specs.View.{ResponseView}
-use Rattle.messages.specs.Summaries.{response_of_summary, Closing}
-use Rattle.engine.specs.Tokens.{found_in, commit_by}
+use Rattle.messages.specs.Prelude.{ResponseView, response_of_summary, Closing}
+use Rattle.engine.specs.Prelude.{found_in, commit_by, WriteView, token_view, writes_view}
 use Rattle.engine.specs.declared.ledger.Commit.{Commit}
-use Rattle.engine.specs.Views.{WriteView, token_view, writes_view}
-use Rattle.session.specs.Session.{Change, change_alone, close_last}
-use Rattle.session.specs.Rest.{version_of}
-use Rattle.session.specs.Views.{kept_of}
-use Rattle.session.specs.Acts.{commits_by}
+use Rattle.session.specs.Prelude.{Change, change_alone, close_last, version_of, kept_of, commits_by}
 use Rattle.session.proofs.Commits.{commits_told}
 use Rattle.session.proofs.Replies.{acts_same, close_inside}
 use Rattle.session.proofs.Writes.{one_write}

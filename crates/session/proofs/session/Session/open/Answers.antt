@@ -1,10 +1,6 @@
 use Rattle.std.proofs.Common.{◌∙◌, sym, ap, subst, Ok}
-use Rattle.engine.specs.Views.{Token, AnswerView, answer_view, token_view}
-use Rattle.session.specs.Session.{fields_said, fails, reply_to_run}
-use Rattle.session.specs.Rest.{version_of}
-use Rattle.session.specs.Views.{kept_of}
-use Rattle.session.specs.Said.{fits}
-use Rattle.session.specs.Acts.{IsBody, IsRefused, Refuses, opened_by}
+use Rattle.engine.specs.Prelude.{Token, AnswerView, answer_view, token_view}
+use Rattle.session.specs.Prelude.{fields_said, fails, reply_to_run, version_of, kept_of, fits, IsBody, IsRefused, Refuses, opened_by}
 use Rattle.session.proofs.Replies.{acts_at}
 use Rattle.session.proofs.Turns.{opens_as, refused_as}
 use Rattle.session.proofs.session.Session.open.Goals as goal

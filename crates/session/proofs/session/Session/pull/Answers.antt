@@ -1,7 +1,5 @@
 use Rattle.std.proofs.Common.{◌∙◌, refl, sym, length, deque_len, ◌<◌, arith}
-use Rattle.session.specs.Session.{pull}
-use Rattle.session.specs.Rest.{version_of}
-use Rattle.session.specs.Views.{kept_of}
+use Rattle.session.specs.Prelude.{pull, version_of, kept_of}
 use Rattle.session.proofs.Replies.{acts_at, more_left, pull_used}
 use Rattle.session.proofs.session.Session.pull.Goals as goal
 

@@ -1,10 +1,7 @@
 use Rattle.std.proofs.Common.{ℕ, ◌∙◌, sym, subst, List, drop}
-use Rattle.messages.specs.View.{request_view}
-use Rattle.machine.specs.Asks.{kind_of}
-use Rattle.session.specs.Session.{Setting, serve}
-use Rattle.session.specs.Rest.{replies, after_interrupt, turns, version_of}
-use Rattle.session.specs.Acts.{ActsAs, IsWritable, served_interrupted}
-use Rattle.session.specs.Views.{kept_of}
+use Rattle.messages.specs.Prelude.{request_view}
+use Rattle.machine.specs.Prelude.{kind_of}
+use Rattle.session.specs.Prelude.{Setting, serve, replies, after_interrupt, turns, version_of, ActsAs, IsWritable, served_interrupted, kept_of}
 use Rattle.session.proofs.Free.{acts_free, serve_free}
 use Rattle.session.proofs.Turns.{serves_is, turns_interrupted, turns_served, steps_at}
 use Rattle.session.proofs.session.Session.serve.Goals as goal

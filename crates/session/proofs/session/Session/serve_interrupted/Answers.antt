@@ -1,12 +1,8 @@
 use Rattle.std.proofs.Common.{◌≡◌, ◌∙◌, sym, ap, drop, false, None}
-use Rattle.messages.specs.View.{request_view}
-use Rattle.messages.specs.Summaries.{response_of_summary, Passed}
+use Rattle.messages.specs.Prelude.{request_view, response_of_summary, Passed}
 use Rattle.machine.specs.declared.rows.Verdict.{Verdict}
-use Rattle.machine.specs.Asks.{kind_of, is_goodbye, is_reset}
-use Rattle.session.specs.Session.{Summary, no_result, no_tx}
-use Rattle.session.specs.Rest.{replies, after_interrupt}
-use Rattle.session.specs.Acts.{served_interrupted}
-use Rattle.session.specs.Views.{kept_of}
+use Rattle.machine.specs.Prelude.{kind_of, is_goodbye, is_reset}
+use Rattle.session.specs.Prelude.{Summary, no_result, no_tx, replies, after_interrupt, served_interrupted, kept_of}
 use Rattle.session.proofs.Turns.{asked_head, interrupted_passed, steps_at}
 use Rattle.session.proofs.session.Session.serve_interrupted.Goals as goal
 

@@ -1,5 +1,4 @@
-use Rattle.std.proofs.Common.{◌≡◌, ◌<◌, ℕ, zero, suc, List, length, take, min, true, false, Result, Ok, Err, refl, arith, rules, length-take}
-use Rattle.std.specs.Prelude.{OnErr, IsOk}
+use Rattle.std.proofs.Common.{◌≡◌, ◌<◌, ℕ, zero, suc, List, length, take, min, true, false, Result, Ok, Err, refl, arith, rules, length-take, OnErr, IsOk}
 use Rattle.session.proofs.session.Session.take_out.Goals as goal
 
 -- what can't be had is of some bytes

@@ -1,11 +1,8 @@
 use Rattle.std.proofs.Common.{sym, ◌∙◌, ap, arith, ◌<◌, length, map, refl}
 use Rattle.std.proofs.lemmas.List.{length-map}
-use Rattle.world.specs.Reports.{ordinals}
-use Rattle.world.specs.Views.{wrote_of, read_of}
-use Rattle.world.specs.Turns.{FitsWorld}
+use Rattle.world.specs.Prelude.{ordinals, wrote_of, read_of, FitsWorld, FitsLink}
 use Rattle.world.proofs.Told.{held, there, stands_as, waits_as}
 use Rattle.world.proofs.Turning.{along_none, held_past}
-use Rattle.world.specs.Fits.{FitsLink}
 use Rattle.world.proofs.world.World.connection.Goals as goal
 
 pub returns-then-conn-len : goal.returns-then-conn-len

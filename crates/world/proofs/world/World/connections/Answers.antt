@@ -1,7 +1,6 @@
 use Rattle.std.proofs.Common.{arith, ◌∙◌}
-use Rattle.world.specs.Turns.{FitsWorld, Holds}
+use Rattle.world.specs.Prelude.{FitsWorld, Holds, FitsLink}
 use Rattle.world.proofs.Turning.{as_long}
-use Rattle.world.specs.Fits.{FitsLink}
 use Rattle.world.proofs.world.World.connections.Goals as goal
 
 pub returns : goal.returns

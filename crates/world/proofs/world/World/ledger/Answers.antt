@@ -1,5 +1,5 @@
 use Rattle.std.proofs.Common.{◌∙◌, ap}
-use Rattle.world.specs.Turns.{FitsWorld}
+use Rattle.world.specs.Prelude.{FitsWorld}
 use Rattle.world.proofs.world.World.ledger.Goals as goal
 
 pub returns : goal.returns

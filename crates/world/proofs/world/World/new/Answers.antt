@@ -1,10 +1,8 @@
 use Rattle.std.proofs.lemmas.List.{length-map}
-use Rattle.engine.specs.Views.{entry_view, EntryView}
+use Rattle.engine.specs.Prelude.{entry_view, EntryView}
 use Rattle.std.proofs.Common.{sym, subst, ap, refl, length, List, [], arith}
 use Rattle.world.specs.declared.link.Link.{Link as LinkHeld}
-use Rattle.world.specs.Fits.{Alongside}
-use Rattle.world.specs.Turns.{FitsWorld, Holds}
-use Rattle.world.specs.World.{begins}
+use Rattle.world.specs.Prelude.{Alongside, FitsWorld, Holds, begins}
 use Rattle.world.proofs.Turning.{new_fits}
 use Rattle.world.proofs.world.World.new.Goals as goal
 

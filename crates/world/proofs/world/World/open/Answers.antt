@@ -1,6 +1,5 @@
 use Rattle.std.proofs.Common.{sym, ◌∙◌, ap, refl, ◌++◌, ◌∷◌, []}
-use Rattle.world.specs.Turns.{FitsWorld, setting_of}
-use Rattle.world.specs.Views.{peer_of}
+use Rattle.world.specs.Prelude.{FitsWorld, setting_of, peer_of}
 use Rattle.world.proofs.Turning.{open_refused, opens_lacks, opens_done, opens_not}
 use Rattle.world.proofs.world.World.open.Goals as goal
 

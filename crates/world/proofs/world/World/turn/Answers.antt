@@ -1,6 +1,5 @@
 use Rattle.std.proofs.Common.{arith, refl}
-use Rattle.world.specs.Turns.{FitsWorld}
-use Rattle.world.specs.Views.{event_of}
+use Rattle.world.specs.Prelude.{FitsWorld, event_of}
 use Rattle.world.proofs.Turning.{nowhere, placed}
 use Rattle.world.proofs.world.World.turn.Goals as goal
 
