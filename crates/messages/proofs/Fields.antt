@@ -18,7 +18,6 @@ use Rattle.structures.proofs.Formed.{again}
 use Rattle.cells.specs.declared.cell.Cell.{Cell}
 use Rattle.messages.specs.declared.fault.MsgFault.TheVariants as fault
 use Rattle.structures.specs.declared.fault.CellFault.TheVariants as cell_fault
-use Rattle.messages.specs.declared.fault.MsgFault.TheVariants as fault
 
 pub some_field : (vs : List Value) → (length vs == 0) ≡ false → no_field (trees_of (trees vs)) ≡ Err fault.Fields
 some_field [] h = cc

@@ -16,11 +16,14 @@ use Rattle.packstream.proofs.Only.{canon_spells}
 use Rattle.wire.specs.Prelude.{Item, Opening, Message, item_bytes}
 use Rattle.packstream.specs.declared.fault.PackFault.TheVariants as pack
 use Rattle.messages.specs.declared.fault.MsgFault.TheVariants as fault
-use Rattle.packstream.specs.declared.fault.PackFault.TheVariants as pack
-use Rattle.messages.specs.declared.fault.MsgFault.TheVariants as fault
 
 pub means_said : (v : Version) (table : List Row) (s : Contents) (b : List ℕ) (bytes : AreBytes b) → Means v table s b → contents_in v table b ≡ Ok s
 means_said v table s b bytes h = ap (contents_by v table) ((whole_value b bytes h.value).1 (h.good, h.spelled)) ∙ h.says
+
+-- what is read of a value is what is read of every spelling of it
+pub spelled_answers : {X : Type 0} (view : X → Contents) (v : Version) (table : List Row) (u t : Tree) (b : List ℕ) (r : Result X MsgFault) → u ≡ t → IsGood t → Spells t b
+    → Answers view r (contents_of_message v table u) → Answers view r (contents_in v table b)
+spelled_answers view v table u t b r same good spells h = subst (λ s. Answers view r s) (ap (contents_of_message v table) same ∙ sym (ap (contents_by v table) ((whole_value b spells.0 t).1 (good, spells)))) h
 
 pub none_said : (v : Version) (table : List Row) (e : MsgFault) (b : List ℕ) (bytes : AreBytes b) → IsNone v table e b → contents_in v table b ≡ Err e
 none_said v table e b bytes (inl h) = ap (contents_by v table) ((whole_fault b bytes h.0 h.1).1 h.3) ∙ ap Err (sym h.2)

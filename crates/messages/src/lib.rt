@@ -10,6 +10,7 @@ mod entries;
 mod fault;
 pub mod laws;
 mod of_fields;
+mod of_packed;
 mod reader;
 mod request;
 mod response;
@@ -20,6 +21,7 @@ mod values;
 
 pub use codec::{read_request, read_response, write_request, write_response};
 pub use fault::MsgFault;
+pub use of_packed::{request_of, response_of};
 use packstream::MAX_SIZE;
 pub use request::{Auth, Count, Mode, Request};
 pub use response::Response;

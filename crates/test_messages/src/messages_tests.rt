@@ -266,11 +266,12 @@ const AGAIN: &[(Version, &[u8])] = &[
     (Version::V51, LOGON_OF_USER),
 ];
 
-/// Whether a copy of the request that is read is written as the same bytes.
+/// Whether a copy of the request that is read is written as the same bytes, and that which is read of their value.
 fn is_again(alloc: Global, version: Version, bytes: &[u8]) -> Result<bool, Fail> {
     let request = read_request(alloc, version, bytes)?;
     let copy = request.clone()?;
-    Ok(is_written(alloc, version, &copy, bytes))
+    let of_value = request_of(alloc, version, &decode(alloc, bytes)?)?;
+    Ok(is_written(alloc, version, &copy, bytes) && is_written(alloc, version, &of_value, bytes))
 }
 
 /// The code of what reading a request answers.
@@ -311,23 +312,28 @@ const RESPONSES: &[(Version, &[u8])] = &[
     (Version::V51, ROW_OF_17),
 ];
 
-/// Whether the response that is read is written as the same bytes.
-fn is_answered_again(alloc: Global, version: Version, bytes: &[u8]) -> bool {
-    let Ok(response) = read_response(alloc, version, bytes) else {
-        return false;
-    };
+/// Whether the response that is read is written as the same bytes, and that which is read of their value.
+fn is_answered_again(alloc: Global, version: Version, bytes: &[u8]) -> Result<bool, Fail> {
+    let response = read_response(alloc, version, bytes)?;
+    let of_value = response_of(alloc, version, &decode(alloc, bytes)?)?;
+    Ok(is_said(alloc, version, &response, bytes) && is_said(alloc, version, &of_value, bytes))
+}
+
+/// Whether a response is written as these bytes.
+fn is_said(alloc: Global, version: Version, response: &Response, bytes: &[u8]) -> bool {
     let mut out = BytesMut::new(alloc);
-    write_response(version, &response, &mut out).is_ok() && out.as_slice() == bytes
+    write_response(version, response, &mut out).is_ok() && out.as_slice() == bytes
 }
 
 #[test]
-fn responses(rt: HostRuntime) {
+fn responses(rt: HostRuntime) -> Result<(), Fail> {
     for (version, bytes) in RESPONSES {
         assert!(rt;
-            is_answered_again(rt.alloc(), *version, bytes),
+            is_answered_again(rt.alloc(), *version, bytes)?,
             "at {bytes:?}"
         );
     }
+    Ok(())
 }
 
 #[test]
