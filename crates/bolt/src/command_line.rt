@@ -8,9 +8,6 @@ use std::env::Env;
 use std::io::ErrorKind;
 use streams::{Sink, write_all};
 
-#[cfg(test)]
-mod tests;
-
 /// Why there are no words.
 #[derive(Clone, Copy, Debug, PartialEq, Eq)]
 pub(crate) enum Unread {

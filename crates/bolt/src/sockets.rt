@@ -16,9 +16,6 @@ use std::time::Duration;
 use std::{fs, io};
 use streams::{Over, Sink, StreamFault, write_all};
 
-#[cfg(test)]
-mod tests;
-
 /// The address of this machine for itself.
 const HERE: &str = "127.0.0.1";
 
@@ -42,7 +39,7 @@ pub(crate) fn shell_at(rt: &HostRuntime, host: &str, port: u16) -> u8 {
 }
 
 /// The same over a connection.
-pub(crate) fn talk<I: Read + Drop, O: Write + Drop, E: Sink>(
+fn talk<I: Read + Drop, O: Write + Drop, E: Sink>(
     alloc: Global,
     stream: &TcpStream,
     input: I,
@@ -77,7 +74,7 @@ pub(crate) fn serve_on(rt: &HostRuntime, port: u16, count: u32) -> u8 {
 }
 
 /// The same of a listener: I1 where it gives no connection, I2 where standard output fails.
-pub(crate) fn serve_count<O: Sink>(
+fn serve_count<O: Sink>(
     alloc: Global,
     listener: &TcpListener,
     port: u16,
@@ -157,12 +154,7 @@ pub(crate) fn loop_through(rt: &HostRuntime, file: &str) -> u8 {
 }
 
 /// The same of the lines themselves.
-pub(crate) fn loop_lines<O: Sink, E: Sink>(
-    rt: &HostRuntime,
-    script: &[u8],
-    out: &mut O,
-    err: &mut E,
-) -> u8
+fn loop_lines<O: Sink, E: Sink>(rt: &HostRuntime, script: &[u8], out: &mut O, err: &mut E) -> u8
     // 0 is only for lines that can all be read.
     ensures readable { result ≡ 0 → unreadable request_line_of (filled_lines script.now) ≡ None }
 {
