@@ -20,8 +20,8 @@
  *
  * What a proof shows: no call reads or writes outside of what it was given, overflows or ends the process, whatever the
  * bytes are; want of memory is answered by BOLT_MEMORY, and then nothing has changed; each call does with a handle's
- * client what its contract says, and of a null handle it says BOLT_NO_CLIENT and leaves it null. Where a call answers
- * another code than BOLT_OK, what it would have filled in is as it was.
+ * client what its contract says; of a null handle each but bolt_open, which fills it, and bolt_close says BOLT_NO_CLIENT
+ * and leaves it null. Where a call answers another code than BOLT_OK, what it would have filled in is as it was.
  */
 #ifndef BOLT_H
 #define BOLT_H
@@ -39,8 +39,8 @@ typedef struct { void *at; } bolt_client;
 /* What a call answers. */
 enum {
     BOLT_OK = 0,
-    BOLT_NOT_ALLOWED = 1,  /* the request isn't allowed in every phase that the session may be in then, or no version is known */
-    BOLT_FULL = 2,         /* 32 requests wait */
+    BOLT_NOT_ALLOWED = 1,  /* the request isn't allowed in every phase but DEFUNCT that the session may be in then, or no version is known */
+    BOLT_FULL = 2,         /* 32 requests wait, or no ordinal is left */
     BOLT_SIZE = 3,         /* the request's message takes more than 65,536 bytes */
     BOLT_CLOSED = 4,       /* the client has ended */
     BOLT_MEMORY = 5,       /* malloc gave none */
@@ -64,7 +64,7 @@ enum {
     BOLT_DONE,       /* SUCCESS, and there was nothing to commit */
     BOLT_COMMITTED,  /* SUCCESS, and what it commits stands */
     BOLT_REFUSED,    /* FAILURE */
-    BOLT_IGNORED,    /* IGNORED, behind a failure */
+    BOLT_IGNORED,    /* IGNORED: behind a failure, or before a RESET */
     BOLT_LOST,       /* no summary came, and the server can't have committed by it */
     BOLT_UNKNOWN     /* no summary came, and the server may have committed by it */
 };
@@ -114,7 +114,7 @@ uint32_t bolt_take(bolt_client *c, uint8_t *into, size_t room, size_t *taken);
 uint32_t bolt_feed(bolt_client *c, const uint8_t *piece, size_t length, bolt_heard *heard);
 
 /* Copies up to `room` bytes of the row or summary that was heard last, in PackStream (B1 71 a row, B1 70 SUCCESS, B0 7E IGNORED,
- * B1 7F FAILURE), and tells how many there are, at most BOLT_MESSAGE. NOT_HEARD, MEMORY: it may be asked for again. */
+ * B1 7F FAILURE), and tells how many there are, at most BOLT_MESSAGE. NOT_HEARD, UNWRITABLE, MEMORY: it may be asked for again. */
 uint32_t bolt_message(bolt_client *c, uint8_t *into, size_t room, size_t *length);
 enum { BOLT_MESSAGE = 65536 };
 

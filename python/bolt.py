@@ -35,7 +35,7 @@ class Fault(Exception):
 
 
 class Refused(Exception):
-    """The server's FAILURE, by its code and message. A transaction that was open is gone, and the session is ready again."""
+    """The server's FAILURE, by its code and message. A transaction that was open is gone, and the session is ready again if it lives on."""
 
     def __init__(self, code, message):
         super().__init__(f"{code}: {message}")
@@ -43,7 +43,7 @@ class Refused(Exception):
 
 
 class Broken(Exception):
-    """The connection broke. `requests` are those asked since all was settled, in order, each with its outcome."""
+    """The connection broke, or memory ran out while its bytes were heard. `requests` are those asked since all was settled, in order, each with its outcome."""
 
     def __init__(self, requests):
         super().__init__(", ".join(f"{it.text}: {it.outcome}" for it in requests))
@@ -313,14 +313,17 @@ class Connection:
     def message(self):
         """The fields of the row or summary that was heard last."""
         length = ctypes.c_size_t()
-        self.check(LIBRARY.bolt_message(self.handle, self.buffer, MESSAGE, length))
+        code = LIBRARY.bolt_message(self.handle, self.buffer, MESSAGE, length)
+        if code == MEMORY:
+            self.lose()
+        self.check(code)
         return unpack_message(self.buffer.raw[:length.value])[1]
 
     def hear(self, piece):
         """Feeds a piece to the end of an item, and answers the rest of it."""
         first, heard = self.state().first, Heard()
         code = LIBRARY.bolt_feed(self.handle, piece, len(piece), heard)
-        if code == BAD_PEER:
+        if code in (BAD_PEER, MEMORY):
             self.lose()
         self.check(code)
         if heard.kind == VERSION and not heard.version:
@@ -329,7 +332,8 @@ class Connection:
             self.asked[first].rows.append(self.message()[0])
         if heard.kind == SUMMARY:
             request = self.asked[heard.ordinal]
-            request.outcome, request.metadata = OUTCOMES[heard.outcome], (self.message() or [{}])[0]
+            request.outcome = OUTCOMES[heard.outcome]
+            request.metadata = (self.message() or [{}])[0]
         return piece[heard.used:]
 
     def exchange(self):
@@ -345,7 +349,7 @@ class Connection:
             piece = self.hear(piece)
 
     def lose(self):
-        """The connection is gone: what became of each request that waits is known, and told."""
+        """The connection is gone, or given up where memory ran out: what became of each request that waits is known, and told."""
         losses, count = (Loss * LOSSES)(), ctypes.c_size_t()
         self.check(LIBRARY.bolt_lost(self.handle, losses, LOSSES, count))
         for loss in losses[:count.value]:
@@ -360,8 +364,11 @@ class Connection:
         requests, self.asked = list(self.asked.values()), {}
         refused = next((it for it in requests if it.outcome == REFUSED), None)
         if refused and not self.state().has_ended:
-            self.ask_reset()
-            self.settle()
+            try:
+                self.ask_reset()
+                self.settle()
+            except Broken as broken:
+                raise Broken(requests + broken.requests) from None
         if refused:
             raise Refused(refused.metadata["code"], refused.metadata["message"])
         return requests
