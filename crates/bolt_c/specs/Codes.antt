@@ -46,6 +46,7 @@ version_of n =
     else (if eqb n 50 then Some version.V50
     else (if eqb n 51 then Some version.V51 else None))
 
+-- the number of a phase
 abbrev pub phase_code : Phase → ℕ
 phase_code phase.Fresh = 0
 phase_code phase.Unauth = 1
@@ -56,6 +57,7 @@ phase_code phase.TxStreaming = 5
 phase_code phase.Halted = 6
 phase_code phase.Defunct = 7
 
+-- the phase of a number, Defunct of 7 and more
 abbrev pub phase_of : ℕ → Phase
 phase_of n =
     if eqb n 0 then phase.Fresh
@@ -67,6 +69,7 @@ phase_of n =
     else (if eqb n 6 then phase.Halted
     else phase.Defunct))))))
 
+-- the number of an outcome
 abbrev pub outcome_code : Outcome → ℕ
 outcome_code outcome.Done = 0
 outcome_code outcome.Committed = 1
@@ -75,6 +78,7 @@ outcome_code outcome.Ignored = 3
 outcome_code outcome.Lost = 4
 outcome_code outcome.Unknown = 5
 
+-- the outcome of a number, Unknown of 5 and more
 abbrev pub outcome_of : ℕ → Outcome
 outcome_of n =
     if eqb n 0 then outcome.Done

@@ -9,10 +9,11 @@ use base.Stored.{Coded}
 use denote.RawPtr.{Ptr, block_ptr, null_ptr}
 use Rattle.bolt_c.specs.contracts.held.Held.{the_row}
 
--- as it is stored
+-- what a handle holds, as it is stored
 abbrev pub held_coded : Coded (Option the_row.Denot)
 held_coded = coded_option the_row.coded
 
+-- what a handle owns: nothing where its pointer is null and it holds nothing, a box where both are there; no other handle is
 abbrev pub handle_owns : Global → Ptr → Option the_row.Denot → Fml
 handle_owns alloc null_ptr None = ftrue
 handle_owns alloc null_ptr (Some x) = ffalse

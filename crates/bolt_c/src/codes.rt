@@ -24,15 +24,21 @@ pub(crate) const NO_ROOM: u32 = 11;
 /// The handle is null.
 pub(crate) const NO_CLIENT: u32 = 100;
 
-/// What a call of `feed` used, and what ended with it.
+/// What a call of `bolt_feed` used, and what ended with it.
 #[repr(C)]
 #[derive(Drop)]
 pub struct Heard {
+    /// How many bytes of the piece were used.
     pub used: usize,
+    /// Of a summary, the ordinal of its request, from 0.
     pub ordinal: u64,
+    /// 0 for nothing, 1 for the version, 2 for a row, 3 for a summary.
     pub kind: u32,
+    /// Of the version, 44, 50 or 51, or 0 where none was taken.
     pub version: u32,
+    /// Of a summary, what became of its request, 0 to 3.
     pub outcome: u32,
+    /// Of a summary, the phase that it leads to, 0 to 7.
     pub phase: u32,
 }
 
@@ -40,7 +46,9 @@ pub struct Heard {
 #[repr(C)]
 #[derive(Clone, Copy, Drop)]
 pub struct Loss {
+    /// Its ordinal, from 0.
     pub ordinal: u64,
+    /// 4 where it is lost, 5 where it may have committed.
     pub outcome: u64,
 }
 
@@ -48,12 +56,19 @@ pub struct Loss {
 #[repr(C)]
 #[derive(Drop)]
 pub struct Standing {
+    /// The ordinal of the first request that waits, or else of the next.
     pub first: u64,
+    /// How many requests wait, at most 32.
     pub pending: u32,
+    /// The phase of the last summary, 0 before one.
     pub phase: u32,
+    /// 44, 50 or 51, or 0 where none is known.
     pub version: u32,
+    /// 1 where the client has ended, else 0.
     pub has_ended: u32,
+    /// 1 where an answer is still to come, else 0.
     pub awaits: u32,
+    /// 0.
     pub padding: u32,
 }
 

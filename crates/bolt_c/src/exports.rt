@@ -1,4 +1,5 @@
-//! The calls that C sees. Each is the call of what the handle holds, in numbers; a null handle is answered, and stays null.
+//! The calls that C sees. Each is the call of what the handle holds, in numbers. A null handle is answered by 100 and stays null, but that
+//! `bolt_open` fills it and `bolt_close` leaves it so.
 
 ghost use Rattle.std.specs.Prelude.{◌≡◌, None};
 ghost use Rattle.client.specs.Rest.{Rest, begun, losses, after_drop};
@@ -18,8 +19,8 @@ use client::ClientFault;
 use machine::MAX_WAITING;
 use std::alloc::Global;
 
-/// Holds a new client, whose offer is to be taken out; what it held before is freed. Where the wish is none of 0, 44, 50 and 51, or
-/// memory ran out, nothing has changed.
+/// Holds a new client, whose offer is to be taken out; what it held before is freed. Answers 10 where the wish is none of 0, 44, 50 and
+/// 51, and 5 for want of memory: nothing has changed then.
 #[unsafe(no_mangle)]
 pub extern "C" fn bolt_open(alloc: Global, handle: &mut Handle, versions: u32) -> u32
     ensures { Opens handle.old.held (wish_of versions) result handle.new.held }
@@ -44,7 +45,8 @@ pub extern "C" fn bolt_close(alloc: Global, handle: &mut Handle)
     drop(handle.take(alloc));
 }
 
-/// Takes the request of the bytes of a message: it waits, with this ordinal, and its bytes are to be taken out.
+/// Takes the request of the bytes of a message: it waits, with this ordinal, and its bytes are to be taken out. Else it answers the first of
+/// 4, 1 before a version is known, 8, 1, 2, 7 and 3, or 5 for want of memory: nothing has changed then.
 #[unsafe(no_mangle)]
 pub extern "C" fn bolt_submit(
     alloc: Global,
@@ -70,7 +72,7 @@ pub extern "C" fn bolt_submit(
     }
 }
 
-/// Moves the next bytes that are to be sent into the buffer, and tells how many.
+/// Moves the next bytes that are to be sent into the buffer, and tells how many. Answers 5 for want of memory: nothing has changed then.
 #[unsafe(no_mangle)]
 pub extern "C" fn bolt_take(
     alloc: Global,
@@ -97,7 +99,8 @@ pub extern "C" fn bolt_take(
     }
 }
 
-/// Uses bytes of the server to the end of the item begun, and tells what ended with the last of them.
+/// Uses bytes of the server to the end of the item begun, and tells what ended with the last of them. Answers 4 where the client has ended,
+/// 6 at a bad answer, 5 for want of memory: nothing was used then.
 #[unsafe(no_mangle)]
 pub extern "C" fn bolt_feed(
     alloc: Global,
@@ -123,7 +126,8 @@ pub extern "C" fn bolt_feed(
     }
 }
 
-/// The bytes of the row or summary that was heard last go into the buffer, as many as there is room for; tells how many there are.
+/// The bytes of the row or summary that was heard last go into the buffer, as many as there is room for; tells how many there are. Answers 9
+/// where none was heard, 7 where it can't be written, 5 for want of memory: nothing has changed then.
 #[unsafe(no_mangle)]
 pub extern "C" fn bolt_message(
     alloc: Global,
@@ -153,7 +157,7 @@ pub extern "C" fn bolt_message(
 }
 
 /// No byte comes any more: the client has ended, and the outcome of each request that waited goes into the buffer, in order.
-/// Where that hasn't room for 32, nothing has changed.
+/// Where that hasn't room for 32, it answers 11, and nothing has changed.
 #[unsafe(no_mangle)]
 pub extern "C" fn bolt_lost(
     alloc: Global,

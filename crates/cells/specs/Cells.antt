@@ -15,7 +15,7 @@ abbrev pub is_row : Option Row → Trees → Bool
 is_row None ts = false
 is_row (Some r) ts = has_count r ts && are_kinds (r.fields ++ r.added) ts
 
--- Each structure is one of the table, with the fields of its row and of their kinds; local seconds don't occur.
+-- Each structure is one of the table, with the fields of its row and of their kinds; a legacy DateTime doesn't occur.
 abbrev mutual
   pub is_typed : Tree → Bool
   is_typed null = true

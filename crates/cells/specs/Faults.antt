@@ -9,7 +9,7 @@ use Rattle.cells.specs.declared.fault.Reason.{Reason}
 use Rattle.cells.specs.declared.fault.Reason.TheVariants.{FieldCount, FieldKind, Range, PathShape}
 use Rattle.cells.specs.Table.{kinds, node_tag, unbound_tag, path_tag, legacy_date_time_tag}
 
--- The kinds of fields.
+-- an integer of any size
 abbrev pub is_int : Tree → Bool
 is_int (int z) = true
 is_int t = false
@@ -64,7 +64,7 @@ abbrev pub are_kinds : List Field → Trees → Bool
 are_kinds (k ∷ ks) (tree_then t ts) = is_kind k t && are_kinds ks ts
 are_kinds ks ts = true
 
--- The ranges.
+-- an integer is among those from low to high; what is no integer passes
 abbrev pub is_between : ℤ → ℤ → Tree → Bool
 is_between low high (int z) = int_le low z && int_le z high
 is_between low high t = true
@@ -96,7 +96,7 @@ to_utc ts = ts
 abbrev pub utc_fields : ℕ → Trees → Trees
 utc_fields tag ts = if tag == legacy_date_time_tag then to_utc ts else ts
 
--- The shape of a path: steps by a relationship, then to a node.
+-- the number of one of n relationships, counted from 1 and negative against its direction; what is no integer passes
 abbrev pub is_relationship : ℕ → Tree → Bool
 is_relationship n (int z) = nat_lt 0 (nat_abs z) && nat_le (nat_abs z) n
 is_relationship n t = true

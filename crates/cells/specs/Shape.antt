@@ -13,7 +13,7 @@ use Rattle.cells.specs.declared.cell.Path.{Path}
 use Rattle.cells.specs.declared.cell.ElementIds.{ElementIds}
 use Rattle.cells.specs.Table.{node_tag, relationship_tag, unbound_tag, path_tag, date_tag, time_tag, local_time_tag, local_date_time_tag, date_time_tag, legacy_zoned_tag, zoned_tag, duration_tag, point_2d_tag, point_3d_tag}
 
--- a text, texts, numbers, and entries
+-- a text, by its bytes
 abbrev pub text_of : String Global → Tree
 text_of s = text (string_bytes s)
 
@@ -40,7 +40,7 @@ elements_of None = no_trees
 elements_of (Some e) = tree_then (text_of e.own)
     (tree_then (text_of e.start) (tree_then (text_of e.end) no_trees))
 
--- a node, a relationship in a path, a relationship, and a path
+-- a node: id, labels, properties, and the element id where it is there
 abbrev pub node_step : Node-F Tree Tree Tree Tree Tree → Tree
 node_step n =
     structure node_tag (tree_then (int n.id)

@@ -9,6 +9,8 @@ use Rattle.cells.specs.declared.fault.Reason.{Reason}
 use Rattle.cells.specs.declared.fault.Reason.TheVariants.{UnknownTag, NotInVersion}
 
 -- The tags. A date with a time and an offset, or a zone, has one for seconds in UTC, and a legacy one for local seconds.
+
+-- a node: its labels and its properties
 abbrev pub node_tag : ℕ
 node_tag = 0x4E
 

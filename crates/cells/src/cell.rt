@@ -64,6 +64,7 @@ pub enum Cell {
         nanos: i64,
         zone: String,
     },
+    /// Months, days, seconds, and nanoseconds of a second.
     Duration {
         months: i64,
         days: i64,

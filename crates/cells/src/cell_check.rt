@@ -94,8 +94,8 @@ fn elements_count(ids: &Option<ElementIds>) -> usize
     }
 }
 
-/// Looks at the typed cells in preorder, the first with this number; answers the number after them, or the first that can't be
-/// written by its number.
+/// Looks at the typed cells in preorder, the first with this number; answers the number after them, or of the first that can't be
+/// written the fault (`NotInVersion`, `Range` or `PathShape`) and the number.
 #[cycle(judge)]
 #[tactic(auto, using(crate::proofs::Views::dicts))]
 pub fn check_cell(version: Version, cell: &Cell, seen: usize) -> Result<usize, (Reason, usize)>

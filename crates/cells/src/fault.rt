@@ -17,10 +17,10 @@ pub enum Reason {
     /// S4: a number is out of its range.
     #[error("S4")]
     Range,
-    /// S5: the indices of a path don't walk from node to node.
+    /// S5: a path has no node, or its indices don't walk from node to node.
     #[error("S5")]
     PathShape,
-    /// S6: the structure, or its element ids, belong to the other version.
+    /// S6: the structure, or its element ids, belong to another version.
     #[error("S6")]
     NotInVersion,
 }

@@ -9,7 +9,7 @@ use wire::Version;
 /// What a field holds, and in which range.
 #[derive(Clone, Copy, Debug, PartialEq, Eq)]
 pub enum Field {
-    /// A number.
+    /// An integer of 64 bits.
     Integer,
     /// A nanosecond of a second.
     Nanosecond,
@@ -17,7 +17,7 @@ pub enum Field {
     DayNanosecond,
     /// Seconds east of UTC, at most 18 hours of them either way.
     Offset,
-    /// Seconds since 1970-01-01 UTC.
+    /// Seconds since 1970-01-01 UTC, at most 10^17 of them either way.
     UtcSecond,
     /// A float of any bits.
     Float,
@@ -31,7 +31,7 @@ pub enum Field {
     Nodes,
     /// A list of relationships without their ends.
     Relationships,
-    /// A list of numbers.
+    /// A list of integers.
     Indices,
 }
 

@@ -1,5 +1,5 @@
 //! The tags of the structures. A date with a time and an offset, or a zone, has one for seconds in UTC, and a legacy one for
-//! local seconds.
+//! local seconds (Bolt structure semantics).
 
 /// A node.
 pub const NODE: u8 = 0x4E;

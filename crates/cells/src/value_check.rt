@@ -9,7 +9,7 @@ use packstream::Value;
 use wire::Version;
 
 /// Looks at the structures of a value in preorder, the first with this number; answers the number after them, or the first
-/// with a fault by its number.
+/// fault and the number of its structure.
 #[cycle(check)]
 pub fn check_value(version: Version, value: &Value, seen: usize) -> Result<usize, (Reason, usize)>
     ensures { result ≡ scan (fault version) seen (structures (tree value.now)) }

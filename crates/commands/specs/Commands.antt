@@ -17,7 +17,7 @@ use Rattle.session.specs.declared.kinds.Cause.{Cause}
 use Rattle.commands.specs.Hexadecimal.{AnswersHex}
 use Rattle.commands.specs.Checks.{ChecksHex}
 
--- a state and a cause, as they are printed
+-- a state as it is printed: `state`, and its name
 abbrev pub state_words : State → List ℕ
 state_words State.Fresh = codes "state Fresh"
 state_words State.Unauth = codes "state Unauth"

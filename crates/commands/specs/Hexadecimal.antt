@@ -1,4 +1,4 @@
--- The same in hex.
+-- What the program's server puts out for bytes, both as texts in hex.
 use Rattle.std.specs.Prelude.{◌≡◌, ℕ, List, Ok}
 use Rattle.hex.specs.Hex.{decode_of, encode_lower}
 use Rattle.streams.specs.declared.response.End.{End}

@@ -1,4 +1,4 @@
--- Laws of the answers.
+-- Laws of answers, of checks and of words.
 use Rattle.std.specs.Prelude.{◌≡◌, ℕ, List, true, IsErr, string_bytes}
 use Rattle.packstream.specs.Plain.{AreBytes}
 use Rattle.wire.specs.declared.Version.{Version}

@@ -9,7 +9,7 @@ use Rattle.commands.specs.Asked.{Ask, ToAnswer, ToCheck, ToReplay, ToPass, ToLoo
 use Rattle.commands.specs.Commands.{Says, SaysAnswer, SaysCheck}
 use Rattle.commands.specs.Refusals.{refusal_text}
 
--- a stream over a call: what it had taken before and has taken after, and whether it had failed, and has
+-- a stream over a call: what a sink had taken and has, or what a source had left and has, and whether it had failed, and has
 pub record Passage : Type 0 where
   pub before : Option (List ℕ)
   pub after : Option (List ℕ)
@@ -21,7 +21,7 @@ abbrev pub SaysReplay : Passage → Said → Type 0
 SaysReplay source s = (r : Replayed) × SaysSource source.has_failed source.before source.after r
     × Says (string_bytes r.out) (string_bytes r.err) r.status s
 
--- This is said by the test vectors: nothing on standard error.
+-- This is said by the test vectors: nothing on standard error, with status 0 or 1.
 abbrev pub SaysVectors : Said → Type 0
 SaysVectors s = (s.err.items ≡ []) × (s.status ≤ 1)
 

@@ -29,7 +29,8 @@ pub enum AnswerFault {
     BadHex,
 }
 
-/// What a server puts out for the bytes that the text spells in hex, of either case, and how it stands then.
+/// What a server over an empty table, with the user `user` by `pass`, puts out for the bytes that the text spells in hex, of either case,
+/// and how its session stands then. I4 exactly where the text isn't hex of whole bytes; I3 for want of memory.
 pub fn answer(alloc: Global, text: &str) -> Result<Answered, AnswerFault>
     // The text is refused exactly where it isn't hex of whole bytes ..
     ensures hex { (result ≡ Err fault.BadHex) ↔ IsErr (decode_of text.now) }

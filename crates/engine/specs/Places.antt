@@ -56,7 +56,7 @@ abbrev pub AreBehindFirsts : Places → Type 0
 AreBehindFirsts places = (t : List ℕ) → first_of places (fingerprint t) ≡ None
     → other_of places t ≡ None
 
--- the place of a token, once it is kept for this one
+-- the place of a token that had this one before, or none, once a place is kept for a token
 abbrev pub kept_at : Token → ℕ → List ℕ → Option ℕ → Option ℕ
 kept_at None place q old = old
 kept_at (Some t) place q old = if bytes_eq t q then Some place else old

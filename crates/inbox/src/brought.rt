@@ -7,7 +7,9 @@ use messages::MsgFault;
 pub enum Brought<M> {
     /// Nothing: the piece is used up.
     Nothing,
+    /// A no-op, two zero bytes between messages.
     Noop,
+    /// A message that was read.
     Message(M),
     /// A message that can't be read, and why: want of memory is no such reason.
     Bad(MsgFault),

@@ -16,7 +16,7 @@ pub trait Readable {
     /// What may be told of a message of these bytes at a version.
     ghost reads: { Version → List ℕ → Result Self MsgFault → Type 0 };
 
-    /// The message of these bytes.
+    /// The message of these bytes; or their fault, or want of memory.
     fn of_bytes(alloc: Global, version: Version, bytes: &[u8]) -> Result<Self, MsgFault>
         ensures { reads version bytes.now result };
 

@@ -68,7 +68,7 @@ same_kind Kind.Discard Kind.Discard = true
 same_kind Kind.Pull Kind.Pull = true
 same_kind _ _ = false
 
--- a RESET, and a GOODBYE
+-- whether requests of this kind are RESET
 abbrev pub is_reset : Kind → Bool
 is_reset k = same_kind k Kind.Reset
 

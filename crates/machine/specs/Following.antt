@@ -14,7 +14,7 @@ use Rattle.machine.specs.States.{phase_of, same_state, same_phase}
 use Rattle.machine.specs.Asks.{kind_of, in_part, is_of, same_kind}
 use Rattle.machine.specs.Rows.{row_of, row_at}
 
--- a set of phases is a list of them
+-- whether a phase is in a set; a set of phases is a list of them
 abbrev pub has : Phase → List Phase → Bool
 has p ps = list_any (same_phase p) ps
 
@@ -27,7 +27,7 @@ abbrev pub every_state : List State
 every_state = State.Fresh ∷ State.Unauth ∷ State.Ready ∷ State.Streaming ∷ State.TxReady
     ∷ State.TxStreaming ∷ State.Failed ∷ State.Interrupted ∷ State.Defunct ∷ []
 
--- each phase once, in the order of `every_phase`
+-- the phases that pass a test, each once, in the order of `every_phase`
 abbrev pub set_of : (Phase → Bool) → List Phase
 set_of holds = filter holds every_phase
 
@@ -153,7 +153,7 @@ set_after v ps a = set_of (λ x. list_any (λ p. has x (table v p (kind_of a) (i
 abbrev pub is_defunct : Phase → Bool
 is_defunct p = same_phase p Defunct
 
--- Halted allows every kind of the version; another phase GOODBYE, and what has a row of Success
+-- Halted allows every kind of the version, and Defunct none; another phase GOODBYE, and what has a row of Success
 abbrev pub allows : Version → Phase → Kind → Bool
 allows v Defunct k = false
 allows v Halted k = is_of v k

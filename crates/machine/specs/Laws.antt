@@ -41,7 +41,7 @@ abbrev pub CouldGrows : Type 0
 CouldGrows = (v : Version) (ps qs : List Phase) (asks : List RequestView) (i : ℕ) → IsWithin ps qs
     → could v ps asks i ≡ true → could v qs asks i ≡ true
 
--- requests in turn are their list
+-- what may follow requests in two parts is what may follow the second from what may follow the first
 abbrev pub PossibleInTurn : Type 0
 PossibleInTurn = (v : Version) (ps : List Phase) (first second : List RequestView)
     → possible v ps (first ++ second) ≡ possible v (possible v ps first) second

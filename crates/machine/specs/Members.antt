@@ -37,6 +37,7 @@ fields ps =
       defunct = has Phase.Defunct ps;
     }
 
+-- phases that pass the test are one
 pub same_phase-true : (p q : Phase) → same_phase p q ≡ true → p ≡ q
 same_phase-true Phase.Fresh Phase.Fresh h = refl
 same_phase-true Phase.Unauth Phase.Unauth h = refl

@@ -9,7 +9,7 @@ pub fn one_next()
 {}
 
 /// Each kind of the version is met in exactly one way in each state that isn't over: worked, passed over, refused, or not
-/// answered at all; in a state that is over in none, nor is a kind of the other version alone.
+/// answered at all; in a state that is over in none, nor is a kind that the version doesn't have.
 #[tactic(auto, using(crate::proofs::RowFacts::one_way))]
 pub fn one_way()
     ensures { OneWay }

@@ -13,7 +13,7 @@ pub enum State {
     TxReady,
     /// In a transaction, and the rows of a result are open.
     TxStreaming,
-    /// A request failed: what follows is ignored, up to a RESET.
+    /// A request failed: what follows is ignored, up to a RESET or a GOODBYE.
     Failed,
     /// A RESET has interrupted: what stands before it is ignored.
     Interrupted,

@@ -63,7 +63,7 @@ pub data Arrival : Type 0 where
   Unread : MsgFault → Arrival
   TooLong : Arrival
 
--- by the bytes of an offer
+-- what a server takes an offer as, by its bytes
 abbrev pub arrival_of_offer : List ℕ → Arrival
 arrival_of_offer bytes =
     if bytes_eq (take 4 bytes) magic then Shook (version_taken (drop 4 bytes)) else NoMagic

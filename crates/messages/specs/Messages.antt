@@ -35,7 +35,7 @@ IsNone v table e b =
     ((r : Reason) × (o : ℕ) × (e ≡ fault.Pack r o) × Bad b o r)
     ⊎ SpellsWhere b (λ t. contents_of_message v table t ≡ Err e)
 
--- the bytes stand for this request, or this response; or they have this fault
+-- the bytes stand for this request
 abbrev pub Req : Version → RequestView → List ℕ → Type 0
 Req v m b = Means v requests (request_contents m) b
 
@@ -141,8 +141,7 @@ abbrev pub count_in : Tree → Count
 count_in (int z) = Of z
 count_in t = All
 
--- The request that holds this, and the response. What a response says asks nothing, nor is a request's an answer: no table
--- of the other tells them, and they are taken as a RESET and as IGNORED.
+-- The request that holds this. What a response says asks nothing: no table of requests tells it, and it is taken as a RESET.
 abbrev pub request_held : Contents → RequestView
 request_held (contents HELLO fs es) = hello_in es
 request_held (contents LOGON fs es) = Logon (login_in es)

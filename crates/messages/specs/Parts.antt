@@ -21,7 +21,7 @@ abbrev pub Seen : Option (Bor Value) → Option Tree → Type 0
 Seen None o = o ≡ None
 Seen (Some x) o = o ≡ Some (tree x.now)
 
--- Fields by their number and kind, one at a time.
+-- no field; any field is a fault
 abbrev pub no_field : Trees → Result (Unit {0}) MsgFault
 no_field no_trees = Ok tt
 no_field (tree_then t ts) = Err fault.Fields
@@ -82,7 +82,7 @@ abbrev pub as_list : Tree → Result Tree MsgFault
 as_list (list ts) = Ok (list ts)
 as_list t = Err fault.Fields
 
--- a field as a dictionary, or a list, of cells
+-- a field as a dictionary of cells of the version; a fault of the cells comes before one of its kind
 abbrev pub dict_of_cells : Version → Tree → Result Tree MsgFault
 dict_of_cells v t = cell_of_field v t >>= as_dict
 

@@ -29,7 +29,7 @@ abbrev pub ◌>>=◌ : {A B : Type 0} → Result A MsgFault → (A → Result B 
 pub data Contents : Type 0 where
   contents : Name → List Tree → List Tree → Contents
 
--- The number and the kinds of the fields.
+-- whether a field is of this kind
 abbrev pub is_kind : Field → Tree → Bool
 is_kind text_field (text s) = true
 is_kind text_field t = false
@@ -52,7 +52,7 @@ abbrev pub lookup : List ℕ → Entries → Option Tree
 lookup name no_entries = None
 lookup name (entry_then k t es) = if bytes_eq name k then Some t else lookup name es
 
--- What an entry says where it is there or absent.
+-- what a text says: itself; it has to be there
 abbrev pub contents_of_text : Option Tree → Result (List Tree) MsgFault
 contents_of_text (Some (text s)) = Ok (text s ∷ [])
 contents_of_text o = Err fault.Extra
@@ -146,7 +146,7 @@ cell_by (Err e) t = Err (fault.Cell e.0 e.1)
 abbrev pub cell_of_field : Version → Tree → Result Tree MsgFault
 cell_of_field v t = cell_by (scan (structure_fault v) 0 (structures t)) t
 
--- what the fields before the last say, cells as cells
+-- what the fields say but the one with named entries, cells as cells
 abbrev pub contents_of_fields : Version → List Field → Trees → Result (List Tree) MsgFault
 contents_of_fields v (text_field ∷ ks) (tree_then t ts) =
     contents_of_fields v ks ts >>= λ xs. Ok (t ∷ xs)
@@ -183,7 +183,7 @@ abbrev pub contents_of_message : Version → List Row → Tree → Result Conten
 contents_of_message v table (structure tag ts) = contents_at_tag v table tag ts
 contents_of_message v table t = Err fault.NotAMessage
 
--- What a message holds.
+-- what a mode says: its text, `r` or `w`
 abbrev pub mode_tree : Mode → Tree
 mode_tree Read = text (codes "r")
 mode_tree Write = text (codes "w")

@@ -65,7 +65,7 @@ abbrev pub ResponsesReadBack : Type 0
 ResponsesReadBack = (v : Version) (m : ResponseView) (b : List ℕ) → IsResponse v m
     → response_spelling v m ≡ Ok b → Resp v m b × (response_of v b ≡ Ok m)
 
--- What was read is so made.
+-- A request that bytes stand for is made of texts in UTF-8, of counts of 64 bits and of cells of the version.
 abbrev pub RequestsAreMade : Type 0
 RequestsAreMade = (v : Version) (m : RequestView) (b : List ℕ) → Req v m b → IsRequest v m
 

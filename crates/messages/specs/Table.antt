@@ -4,7 +4,7 @@ use Rattle.std.specs.Prelude.{ℕ, List, [], ◌∷◌, Bool, if◌then◌else�
 use Rattle.wire.specs.declared.Version.{Version}
 use Rattle.wire.specs.Versions.{every_version, hello_has_login, has_logon}
 
--- The tags.
+-- the tag of HELLO, with which a client begins its session
 abbrev pub hello_tag : ℕ
 hello_tag = 0x01
 
@@ -109,14 +109,14 @@ pub data Name : Type 0 where
   IGNORED : Name
   FAILURE : Name
 
--- so does a row
+-- a row stands at the versions that pass its test
 pub record Row : Type 0 where
   pub name : Name
   pub tag : ℕ
   pub stands : Version → Bool
   pub fields : List Field
 
--- a row by its parts, and a named entry
+-- a row by its parts
 abbrev pub row : Name → ℕ → (Version → Bool) → List Field → Row
 row n t s fs = record { name = n; tag = t; stands = s; fields = fs }
 
@@ -124,7 +124,7 @@ row n t s fs = record { name = n; tag = t; stands = s; fields = fs }
 abbrev pub named_entry : List ℕ → (Version → Bool) → Holds → Named
 named_entry n s h = record { name = n; stands = s; holds = h }
 
--- who a client is, its mode, a count of rows, an error, and a HELLO
+-- the named entries that say who a client is, at the versions that pass the test
 abbrev pub credentials : (Version → Bool) → List Named
 credentials s =
     named_entry (codes "scheme") s a_text
@@ -169,7 +169,7 @@ layout RECORD = row RECORD record_tag every_version (cell_list ∷ [])
 layout IGNORED = row IGNORED ignored_tag every_version []
 layout FAILURE = row FAILURE failure_tag every_version (extra ignored of_error ∷ [])
 
--- the rows of requests, and of responses
+-- the rows of requests
 abbrev pub requests : List Row
 requests =
     layout HELLO

@@ -75,7 +75,7 @@ entries_put v [] xs = Ok no_entries
 entries_put v (extra o ns ∷ ks) xs = named_put v ns xs
 entries_put v (k ∷ ks) xs = entries_put v ks xs
 
--- Fields, from what those before the last say and the entries of the last.
+-- a field and those after it, or the first fault
 abbrev pub then_put : Result Tree MsgFault → Result Trees MsgFault → Result Trees MsgFault
 then_put r rs = r >>= λ t. rs >>= λ ts. Ok (tree_then t ts)
 
@@ -99,7 +99,7 @@ row_put v r fs xs =
 abbrev pub form_put : Version → Contents → Result Tree MsgFault
 form_put v (contents n fs xs) = row_put v (layout n) fs xs
 
--- The spelling of a structure.
+-- a value after a search for its faults: itself, or the first fault with its preorder number
 abbrev pub packed_by : Result ℕ (PackReason × ℕ) → Tree → Result Tree MsgFault
 packed_by (Ok n) t = Ok t
 packed_by (Err e) t = Err (fault.Pack e.0 e.1)
@@ -116,7 +116,7 @@ spelling_of_tree t = packed_by (first_fault (faults_in 0 false t) 0) t >>= spell
 abbrev pub spelling_of_contents : Version → Contents → Result (List ℕ) MsgFault
 spelling_of_contents v s = form_put v s >>= spelling_of_tree
 
--- the spelling of a request, or of a response, or why it can't be written
+-- the spelling of a request at a version, or why it can't be written
 unfoldable pub request_spelling : Version → RequestView → Result (List ℕ) MsgFault
 request_spelling v m = spelling_of_contents v (request_contents m)
 

@@ -45,7 +45,8 @@ fn response_in(alloc: Global, version: Version, bytes: &[u8]) -> Result<Response
     response_of_value(alloc, version, packed.value())
 }
 
-/// The request of the bytes of one message, without chunks (Bolt message specification).
+/// The request of the bytes of one message, without chunks (Bolt message specification). Bytes that stand for none are refused by their
+/// first fault: `Pack`, `NotAMessage`, `UnknownTag`, `Fields`, `Extra` or `Cell`, in this order. Or want of memory.
 pub fn read_request(alloc: Global, version: Version, bytes: &[u8]) -> Result<Request, MsgFault>
     // Apart from memory, it is the request that the bytes stand for at the version, where they stand for one ..
     ensures request { (m : RequestView)
@@ -61,7 +62,8 @@ pub fn read_request(alloc: Global, version: Version, bytes: &[u8]) -> Result<Req
     request_in(alloc, version, bytes)
 }
 
-/// The response of the bytes of one message, without chunks (Bolt message specification).
+/// The response of the bytes of one message, without chunks (Bolt message specification). Bytes that stand for none are refused by their
+/// first fault: `Pack`, `NotAMessage`, `UnknownTag`, `Fields`, `Extra` or `Cell`, in this order. Or want of memory.
 pub fn read_response(alloc: Global, version: Version, bytes: &[u8]) -> Result<Response, MsgFault>
     // Apart from memory, it is the response that the bytes stand for at the version, where they stand for one ..
     ensures response { (m : ResponseView)

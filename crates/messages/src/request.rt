@@ -37,7 +37,7 @@ impl fmt::Debug for Auth {
     }
 }
 
-/// A request.
+/// A request (Bolt message specification).
 ///
 /// ```rust
 /// Request::Hello {

@@ -2,7 +2,7 @@
 
 use structures::Cell;
 
-/// A response.
+/// A response (Bolt message specification).
 #[derive(Debug, Drop)]
 pub enum Response {
     /// The metadata in their order.

@@ -71,6 +71,7 @@ pub record Way : Type 0 where
   pub taken : Option (List ℕ)
   pub left : Option (List ℕ)
 
+-- a way on which so much was taken by the sink, and so much is left of the source
 abbrev pub way_at : Option (List ℕ) → Option (List ℕ) → Way
 way_at taken left = record { taken = taken; left = left }
 
@@ -93,6 +94,7 @@ pub record Ways : Type 0 where
   pub down : Way
   pub out : Option (List ℕ)
 
+-- both ways between the ends, and what was printed
 abbrev pub ways_at : Option (List ℕ) → Option (List ℕ) → Option (List ℕ) → Option (List ℕ)
     → Option (List ℕ) → Ways
 ways_at near_taken far_left far_taken near_left out = record {

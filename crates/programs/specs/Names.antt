@@ -1,4 +1,4 @@
--- How outcomes, phases, refusals, states and causes are printed.
+-- How outcomes, phases, refusals, states, causes and versions are printed.
 use Rattle.std.specs.Prelude.{ℕ, List, codes, Option, Some, None}
 use Rattle.client.specs.declared.Outcome.{Outcome}
 use Rattle.client.specs.declared.Outcome.TheVariants as outcome

@@ -91,7 +91,7 @@ Converses p left left_now written written_now before after c (Err fault) =
     (out : ℕ) × Puts (is_printed (Some fault)) written written_now p.rest.unsent
     × HearsPart (sent_out p out) fault left left_now before after c
 
--- A session was made, up to a fault.
+-- An exchange was made, up to a fault.
 pub record Asked (fault : Option StreamFault) (p : Place) (before after : Streams)
     (Now : Place → Type 0) : Type 0 where
   pub gone : Bool

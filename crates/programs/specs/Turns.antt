@@ -1,4 +1,4 @@
--- What a client and a session make of the lines of a script, a session after each: what the client sends, what the session answers, and what
+-- What a client and a session make of the lines of a script, an exchange after each: what the client sends, what the session answers, and what
 -- is printed of it.
 use Rattle.std.specs.Prelude.{◌≡◌, ℕ, false, List, [], ◌∷◌, ◌++◌, length, drop, Option, Some, None}
 use Rattle.wire.specs.declared.Version.{Version}
@@ -74,7 +74,7 @@ abbrev pub with_refusal : Turns → ℕ → SubmitFault → Turns
 with_refusal t n why =
     record { place = t.place; sent = t.sent; shown = t.shown ++ OfRefusal n why ∷ [] }
 
--- no answer is still to come but that of a GOODBYE
+-- no answer is still to come; a GOODBYE has none
 abbrev pub IsQuiet : Turns → Type 0
 IsQuiet t = awaits t.place.rest.knows ≡ false
 
@@ -95,12 +95,12 @@ module _ (S : Setting) (conn : ℕ) (ledger : List EntryView) where
     shown = t.shown ++ shown_of t.place (answer_to t.sent more);
   }
 
-  -- A session: the client sends all that it has to send, and hears all that the session answers.
+  -- An exchange: the client sends all that it has to send, and hears all that the session answers.
   abbrev pub exchanged : Turns → Turns
   exchanged t = given (record { place = all_sent t.place; sent = t.sent; shown = t.shown })
       t.place.rest.unsent
 
-  -- A line with this number: its request is accepted, and a session follows; or the client refuses it, which is printed.
+  -- A line with this number: its request is accepted, and an exchange follows; or the client refuses it, which is printed.
   abbrev pub line_by : Option SubmitFault → Turns → ℕ → RequestView → Turns
   line_by None t n q = exchanged (with_request t q)
   line_by (Some why) t n q = with_refusal t n why

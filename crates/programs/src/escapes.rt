@@ -7,8 +7,8 @@ use std::alloc::{AllocError, Global};
 /// The first byte of the control characters of two bytes.
 const LEAD: u8 = 194;
 
-/// A text of which each control character is escaped, a line's end as `\n` and every other as `\u{1b}`: so it stays on its line, and
-/// no terminal obeys it. A text without control characters is itself.
+/// A text of which each control character is escaped, a line's end as `\n` and every other by its number, as `\u{1b}`: so it stays on its
+/// line, and no terminal obeys it. A text without control characters is itself. Or want of memory.
 #[tactic(auto, using(crate::proofs::Escapings::escaped_same, crate::proofs::Escapings::escaped_clean))]
 pub fn escape(alloc: Global, text: &[u8]) -> Result<Vec<u8>, AllocError>
     ensures value { IfOk result (λ t. t.items ≡ escaped text.now) }

@@ -436,7 +436,7 @@ fn run<E: Engine, G: Gate, A: Source, B: Sink, C: Source, D: Sink, O: Sink>(
 /// `entry CONN ORDINAL COUNT` for each entry of the ledger, with ` token HEX` behind it where it has a token. The exit status is 0; 1 for a
 /// stream that has failed (`fault I1` for a source, also where it ends before the bytes that were written came, or gives others; `fault I2`
 /// for a sink), 3 for want of memory (`fault I3`); 2 for a line that can't be read: then nothing was run, and `line I unreadable` stands on
-/// `err`.
+/// `err`, and on the next line what is expected there.
 pub fn run_loop<E: Engine, G: Gate, A: Source, B: Sink, C: Source, D: Sink, O: Sink, F: Sink>(
     alloc: Global,
     server: &mut Server<E, G>,

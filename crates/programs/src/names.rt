@@ -38,7 +38,7 @@ pub fn phase_name(phase: Phase) -> &'static str
     }
 }
 
-/// The code of a refusal, `C1` to `C7`; None of want of memory.
+/// The code of a refusal, `C1` to `C4` or `C7`; None of want of memory.
 pub fn refusal_code(fault: &SubmitFault) -> Option<&'static str>
     ensures { option_map (λ s. s.now) result ≡ refusal_code fault.now }
 {

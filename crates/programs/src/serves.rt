@@ -15,8 +15,8 @@ use streams::{Sink, Source, StreamFault, serve_one};
 
 /// Serves one connection, of a server that has no other: opens a session, serves it to its end or that of the input, gives it up, and
 /// prints `conn K En`, its number and the cause of its end. A connection of which a stream fails, or for which memory runs out, is lost, E8,
-/// and that is no fault of the server: it can go on with the next. I2 is a failure of `out` alone, I3 want of memory to open a session or to
-/// tell its end.
+/// and that is no fault of the server: it can go on with the next. I2 is a failure of `out` alone, I3 want of memory or of a number to open
+/// a session, or of memory to tell its end.
 pub fn serve_next<E: Engine, G: Gate, I: Source, O: Sink, P: Sink>(
     alloc: Global,
     server: &mut Server<E, G>,

@@ -259,7 +259,8 @@ fn run<I: Source, S: Source, T: Sink, O: Sink, E: Sink>(
 /// Opens a conversation with the server behind `source` and `sink`, as a client that takes the newest version, and submits the
 /// requests of the input, a line each. After each it waits for all answers, and prints on `out`, as they come, each `row HEX`, each
 /// `heard ORDINAL OUTCOME PHASE`, and after that of a FAILURE `fault CODE MESSAGE`. A request that the client refuses is printed as
-/// `line I C1`, with its number and the code. A line that can't be read ends it, with `line I unreadable` on `err`.
+/// `line I C1`, with its number and the code. A line that can't be read ends it, with `line I unreadable` on `err`, and on the next line what
+/// is expected there.
 ///
 /// On `err` it says the version that was taken and how a line looks, before it reads one. Whatever ends the conversation (the server is
 /// gone, a bad answer, a stream that fails, want of memory), each request that waited for an answer is told as `lost ORDINAL OUTCOME`

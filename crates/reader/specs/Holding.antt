@@ -57,7 +57,7 @@ at_mark m h = record {
   standing = m.standing;
 }
 
--- the same, turned bad by this fault at this place
+-- what it holds, turned bad by this fault at this place
 abbrev pub with_fault : Reason → ℕ → Holds → Holds
 with_fault r o h = record h { standing = record h.standing { bad = Some (r, o) } }
 
@@ -90,13 +90,13 @@ IsPart p part.Nothing tail = tail ≡ []
 IsPart p (part.Head m number has) tail = IsHeadPart p m number has tail
 IsPart p (part.Body m number lacks) tail = IsBodyPart p m number lacks tail
 
--- bytes are missing to the part
+-- bytes are missing from the part, where one was begun
 abbrev pub IsLacking : Part → Type 0
 IsLacking part.Nothing = Unit {0}
 IsLacking (part.Head m number has) = has < field (marker m)
 IsLacking (part.Body m number lacks) = 0 < lacks
 
--- Something is open, and p is the part behind it: the bytes are those of what is open, and of the part.
+-- The value isn't whole, and p is the part behind what is open: the bytes are those of what is open, and of the part.
 pub record Goes (h : Holds) (p : Part) : Type 0 where
   pub frames : List Frame
   pub full : List ℕ
@@ -161,7 +161,7 @@ pub record HasTaken (b : List ℕ) (new : Holds) (rest : List ℕ) : Type 0 wher
   pub ends : (new.standing.part ≡ part.Nothing) ⊎ (rest ≡ [])
   pub bad : new.standing.bad ≡ None
 
--- These bytes have a fault that isn't for missing bytes.
+-- These bytes have this fault, and it isn't for missing bytes; of want of memory nothing is known.
 abbrev pub IsFaultOf : Stop → List ℕ → Type 0
 IsFaultOf stop.Memory b = Unit {0}
 IsFaultOf (stop.Fault r o) b = Bad b o r × (r ≡ reason.Short → ⊥)

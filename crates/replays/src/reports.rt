@@ -22,7 +22,7 @@ use world::{Connection, Read, Standing, World};
 /// What is printed of a world: `conn K` for each connection and after it `heard ORDINAL OUTCOME PHASE` for each summary that its
 /// client read, `lost ORDINAL OUTCOME` for each outcome at its loss, `waits ORDINAL` for each request that waits, and `server STATE`
 /// or `server ended E1`; then `entry K ORDINAL COUNT` for each entry of the ledger, with the count of its writes, and ` token HEX` behind it
-/// where the entry has a token.
+/// where the entry has a token. Or want of memory.
 pub fn report<E: Engine, G: Gate>(alloc: Global, world: &World<E, G>) -> Result<String, AllocError>
     ensures { (gate : G) (brought : List EntryView) (w : WorldSeen)
         → Reached (setting_of E.answer G.accepts gate) brought w

@@ -19,14 +19,18 @@ use world::World;
 /// What is said of a script: on standard output, on standard error, and by an exit status.
 #[derive(Debug, Drop)]
 pub struct Replayed {
+    /// On standard output.
     pub out: String,
+    /// On standard error.
     pub err: String,
+    /// The exit status, at most 2.
     pub status: u8,
 }
 
 /// Reads a script to its end, and only then runs it, by a world without connections over an empty `FixedTable` and the gate of
 /// `user` with `pass`. What is noted of its lines is said, and then the report. Of a script with a line that can't be read nothing is
-/// run: `line 3 unreadable` is said on standard error, and on the next line what is expected there, with status 2. Where the source fails, `fault I1` is, with status 1.
+/// run: `line 3 unreadable` is said on standard error, and on the next line what is expected there, with status 2. Where the source fails,
+/// `fault I1` is, with status 1. Else the status is 0. Or want of memory, of which nothing is said.
 pub fn replay<S: Source>(alloc: Global, source: &mut S) -> Result<Replayed, AllocError>
     ensures says { IfOk result
         (λ r. SaysSource (S.has_failed source.new) (S.left source.old) (S.left source.new) r) }

@@ -2,8 +2,8 @@
 
 use std::alloc::{AllocError, AllocFailed};
 
-/// It isn't scanned here: the bytes spell no good value, or one with a structure, with many keys in one dictionary or too deep, or
-/// there is no memory.
+/// It isn't scanned here: the bytes spell no good value, or one of another kind, with a structure, with many keys in one dictionary or
+/// too deep, or there is no memory.
 #[derive(Clone, Copy, Debug)]
 pub struct Unscanned;
 

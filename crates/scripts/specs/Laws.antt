@@ -1,4 +1,4 @@
--- What words and parameters are, by relations that don't tell how they are found.
+-- What words are, by a relation that doesn't tell how they are found.
 use Rattle.std.specs.Prelude.{◌≡◌, ◌<◌, ◌==◌, ◌&&◌, not, Bool, true, List, length}
 use Rattle.std.specs.List.{list_any, list_all, join_with_byte}
 use Rattle.std.specs.Str.{IsUtf8}

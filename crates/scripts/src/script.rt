@@ -14,10 +14,12 @@ use std::alloc::{AllocError, Global};
 pub struct Numbered<T> {
     /// The line's number, from 1, empty lines counted.
     pub number: usize,
+    /// What it says.
     pub said: T,
 }
 
-/// The lines of a script of a world, parted by newlines; empty ones are skipped.
+/// The lines of a script of a world, parted by newlines; empty ones are skipped. Where a line can't be read, the number of the first such line;
+/// or want of memory.
 pub fn read_script(alloc: Global, bytes: &[u8]) -> Result<Vec<Numbered<Line>>, ScriptFault>
     ensures { GivesAll line_of (λ v. said_lines v.items) bytes.now result }
 {
@@ -44,7 +46,8 @@ pub fn read_script(alloc: Global, bytes: &[u8]) -> Result<Vec<Numbered<Line>>, S
     Ok(said)
 }
 
-/// The lines of a script that are requests alone, parted by newlines; empty ones are skipped.
+/// The lines of a script that are requests alone, parted by newlines; empty ones are skipped. Where a line can't be read, the number of the
+/// first such line; or want of memory.
 pub fn read_requests(
     alloc: Global,
     bytes: &[u8],

@@ -22,7 +22,7 @@ pub fn keeps_limits<E: Engine, G: Gate>()
         → IsKept (after_events E.answer G.accepts events (empty ledger gate)) }
 {}
 
-/// The ledger grows by a work step alone, by one entry, that of the first request that waits there whole, by a row that commits.
+/// The ledger grows by a work step alone, by one entry, that of the first request that waits there, by a row that commits.
 pub fn grows_by_commits<E: Engine, G: Gate>()
     ensures { (event : Event) (r : Rest G)
         → Grows event r (after_event E.answer G.accepts event r) }

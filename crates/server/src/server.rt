@@ -53,7 +53,8 @@ impl<E: Engine, G: Gate> Server<E, G> {
         MAX_SESSIONS <= self.sessions.len() || MAX_NUMBERS <= self.next
     }
 
-    /// Opens a session, and answers its number. Numbers go from 0, each once.
+    /// Opens a session, and answers its number. Numbers go from 0, each once. N2 where 16 sessions live or no number is left, else N3 for
+    /// want of memory; nothing has changed then.
     #[tactic(auto, unfolding(crate::specs::Views::Fits))]
     pub fn open(&mut self) -> Result<u64, Refused>
         ensures { (r : Rest G) → Fits E.entries self.old r
@@ -73,9 +74,10 @@ impl<E: Engine, G: Gate> Server<E, G> {
         Ok(conn)
     }
 
-    /// Takes at most one handshake, no-op or message of the piece, else all of it. Memory is wanted where a handshake is answered, where
-    /// data of the piece is kept, and where a message ends: never for headers and no-ops, and never once the message that isn't whole is
-    /// known to be bad.
+    /// Takes at most one handshake, no-op or message of the piece, else all of it; nothing where the session is closed or full, which is told.
+    /// N1 exactly where no live session has the number; N3 for want of memory; nothing has changed then. Memory is wanted where a handshake
+    /// is answered, where data of the piece is kept, and where a message ends: never for headers and no-ops, and never once the message that
+    /// isn't whole is known to be bad.
     #[tactic(auto, unfolding(crate::specs::Views::Fits))]
     pub fn feed(&mut self, conn: u64, piece: &[u8]) -> Result<Took, Refused>
         ensures done { (r : Rest G) → Fits E.entries self.old r → IfOk result
@@ -99,7 +101,8 @@ impl<E: Engine, G: Gate> Server<E, G> {
         Ok(took)
     }
 
-    /// Does one step of a session: a row, a summary or an end.
+    /// Does one step of a session: nothing, a row, a summary or an end. N1 exactly where no live session has the number; N3 for want of
+    /// memory; nothing has changed then, nor has the ledger.
     #[tactic(auto, unfolding(crate::specs::Views::Fits))]
     pub fn work(&mut self, conn: u64) -> Result<Worked, Refused>
         ensures done { (r : Rest G) → Fits E.entries self.old r → IfOk result
@@ -124,7 +127,8 @@ impl<E: Engine, G: Gate> Server<E, G> {
         Ok(worked)
     }
 
-    /// Takes out the smaller of `max` and what waits to go, in order; where that is none, without memory.
+    /// Takes out the smaller of `max` and what waits to go, in order; where that is none, without memory. N1 exactly where no live session
+    /// has the number; N3 for want of memory; nothing has changed then.
     #[tactic(auto, unfolding(crate::specs::Views::Fits))]
     pub fn take_out(&mut self, conn: u64, max: usize) -> Result<Bytes, Refused>
         ensures done { (r : Rest G) → Fits E.entries self.old r → IfOk result
@@ -149,7 +153,7 @@ impl<E: Engine, G: Gate> Server<E, G> {
     }
 
     /// Puts a no-op, and answers whether it did: not before a version is chosen, after the end, or while 65,536 bytes or more wait
-    /// to go.
+    /// to go. N1 exactly where no live session has the number; N3 for want of memory; nothing has changed then.
     #[tactic(auto, unfolding(crate::specs::Views::Fits))]
     pub fn noop(&mut self, conn: u64) -> Result<bool, Refused>
         ensures done { (r : Rest G) → Fits E.entries self.old r → IfOk result
@@ -188,7 +192,7 @@ impl<E: Engine, G: Gate> Server<E, G> {
         }
     }
 
-    /// The state of a live session. Takes no memory.
+    /// The state of a live session; None where none has the number. Takes no memory.
     #[tactic(auto, unfolding(crate::specs::Views::Fits))]
     pub fn state(&self, conn: u64) -> Option<State>
         ensures { (r : Rest G) → Fits E.entries self.now r → result ≡ state_at conn r }
@@ -198,7 +202,7 @@ impl<E: Engine, G: Gate> Server<E, G> {
         Some(session.state())
     }
 
-    /// Why a live session has ended, where it has. Takes no memory.
+    /// Why a live session has ended; None where it hasn't, or where none has the number. Takes no memory.
     #[tactic(auto, unfolding(crate::specs::Views::Fits))]
     pub fn cause(&self, conn: u64) -> Option<Cause>
         ensures { (r : Rest G) → Fits E.entries self.now r → result ≡ cause_at conn r }

@@ -33,6 +33,7 @@ pub enum What {
     Handshake(Option<Version>),
     /// A handshake that doesn't begin as the protocol's.
     BadMagic,
+    /// A no-op, two zero bytes between messages.
     Noop,
     /// A message that stands for a request.
     Message,

@@ -169,8 +169,9 @@ impl Session {
         Ok(What::Handshake(version))
     }
 
-    /// Takes what was asked, by a message at its version: a request takes a slot, and a RESET interrupts; what stands for no request takes a
-    /// slot too. Want of memory in `asked`, and no other, is handed on as an `Err`, and changes nothing. It takes no memory.
+    /// Takes what was asked, by a message at its version, where the session isn't full: a request takes a slot, and a RESET interrupts; what
+    /// stands for no request takes a slot too. Want of memory in `asked`, and no other, is handed on as an `Err`, and changes nothing. It
+    /// takes no memory.
     pub fn receive(&mut self, asked: Result<Request, MsgFault>) -> Result<What, AllocError>
         requires { full (kept_of self.old) ≡ false }
         ensures taken { IfOk result
@@ -209,7 +210,7 @@ impl Session {
         }
     }
 
-    /// A message past its limit takes a slot. Takes no memory.
+    /// A message past its limit takes a slot, where the session isn't full. Takes no memory.
     pub fn refuse(&mut self) -> What
         requires { full (kept_of self.old) ≡ false }
         ensures { Receives result (kept_of self.old) (kept_of self.new) TooLong }

@@ -44,7 +44,7 @@ pub(crate) fn put_head(out: &mut Adding, tiny: u8, marker: u8, n: u32) -> Result
     }
 }
 
-/// Adds the shortest spelling of an integer.
+/// Adds the shortest spelling of an integer; or says no, for want of memory.
 #[tactic(auto, unfolding(packstream::specs::Canon::int_bytes))]
 #[inline]
 pub fn put_int(out: &mut Adding, n: i64) -> Result<(), AllocError>
@@ -76,7 +76,7 @@ pub(crate) fn put_float(out: &mut Adding, bits: u64) -> Result<(), AllocError>
     out.extend_from_slice(&bits.to_be_bytes())
 }
 
-/// Adds the shortest spelling of a text that is not too long.
+/// Adds the shortest spelling of a text of at most 65,536 bytes; or says no, for want of memory.
 #[tactic(auto, using(packstream::proofs::Putting::parts))]
 #[inline]
 pub fn put_short_text(out: &mut Adding, text: &str) -> Result<(), AllocError>
@@ -88,7 +88,7 @@ pub fn put_short_text(out: &mut Adding, text: &str) -> Result<(), AllocError>
     out.extend_from_slice(text.as_bytes())
 }
 
-/// Adds the shortest spelling of a text of at most 65,536 bytes.
+/// Adds the shortest spelling of a text; or says no, to one of more than 65,536 bytes, or for want of memory.
 #[inline]
 pub fn put_text(out: &mut Adding, text: &str) -> Result<(), Unspelled>
     ensures before { out.new.before ≡ out.old.before }

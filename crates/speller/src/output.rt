@@ -50,7 +50,7 @@ impl Adding {
         self.out.len() - self.start
     }
 
-    /// Adds a byte, or nothing for want of memory.
+    /// Adds a byte; or says no, for want of memory.
     #[tactic(auto, using(packstream::proofs::Growing::growing))]
     #[inline]
     pub fn push(&mut self, byte: u8) -> Result<(), AllocError>
@@ -60,7 +60,7 @@ impl Adding {
         self.out.extend_from_slice(&[byte])
     }
 
-    /// Adds bytes, or none for want of memory.
+    /// Adds bytes; or says no, for want of memory.
     #[tactic(auto, using(packstream::proofs::Growing::growing))]
     #[inline]
     pub fn extend_from_slice(&mut self, bytes: &[u8]) -> Result<(), AllocError>

@@ -42,7 +42,7 @@ tale_of wish k (x ∷ xs) =
     else after_notes (notes_of (heard_as k.version x) (hears_item wish k (heard_as k.version x)))
     (tale_of wish (hears_item wish k (heard_as k.version x)).knows xs)
 
--- the same of bytes, and where the client stands after them
+-- the same of bytes, of which the first may end the client's unfinished item
 abbrev pub hears_all : Rest → List ℕ → Tale
 hears_all r bytes = tale_of r.wish r.knows (outputs at_client r.item bytes)
 

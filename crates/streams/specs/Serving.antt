@@ -13,7 +13,7 @@ use Rattle.streams.specs.Fronts.{AppendsFront}
 use Rattle.streams.specs.Conversing.{Talk, conversation, with_talk, without_talk}
 use Rattle.streams.specs.Limits.{max_piece}
 
--- A source lets itself be read, of at most 4,096 bytes at once, whenever it is the client's turn.
+-- A source lets itself be read, of at most 4,096 bytes at once, whenever it is the turn of the end that it comes from.
 abbrev pub LetsRead : {I : Type 0} → (I → Option (List ℕ) → ℕ → Type 0)
     → (I → Option (List ℕ) → Type 0) → Type 0
 LetsRead {I = I} MayRead IsItsTurn =

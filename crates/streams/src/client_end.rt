@@ -79,7 +79,7 @@ pub fn feed_piece(
 }
 
 /// Reads a piece of at most 4,096 bytes and feeds it whole, or up to the client's end, and adds what was told. It answers whether there
-/// was a piece: none is the end of the input. I1 exactly where the source has failed; I3 where memory runs out: then some of it was fed.
+/// was a piece: none is the end of the input. I1 where the source fails, and nothing has changed; I3 where memory runs out: then some of it was fed.
 /// The sink is that of what the client puts out.
 pub fn hear_piece<I: Peer, O: Sink>(
     client: &mut Client,
@@ -159,7 +159,8 @@ pub fn write_out<O: Sink>(client: &mut Client, sink: &mut O) -> Result<(), Strea
     Ok(())
 }
 
-/// Unless all was answered, the client is lost. It takes no memory.
+/// Unless all was answered, the client is lost. Answers what became of the requests that waited, none where all were answered. It takes no
+/// memory.
 pub fn give_up(client: &mut Client) -> Losses
     ensures { (r : Rest) → Fits client.old r → GivesUp (Fits client.new) result r }
 {

@@ -24,8 +24,9 @@ struct Taken {
     standing: Standing,
 }
 
-/// Takes a piece, item by item, up to the end of the session, and writes what it makes due: together, in pieces of 65,536 bytes where that is
-/// more.
+/// Takes a piece, item by item, up to the end of a session that lives, and writes what it makes due: together, or in pieces of some 65,536 bytes
+/// where that is more. It answers whether the session goes on. I2 where the sink fails, with a beginning written; I3 for want of memory or
+/// where no ordinal is left.
 pub fn take_piece<E: Engine, G: Gate, O: Sink>(
     alloc: Global,
     server: &mut Server<E, G>,

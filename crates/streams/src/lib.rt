@@ -23,5 +23,5 @@ pub use server_end::{converse, serve_one};
 pub use traits::{Failed, Peer, Sink, Source};
 pub use writer::write_all;
 
-/// The most bytes that `serve_one` and `ask_all` read at once.
+/// The most bytes that either end reads at once.
 pub const MAX_PIECE: usize = 4096;

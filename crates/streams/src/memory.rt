@@ -3,13 +3,14 @@ ghost use Rattle.std.specs.Prelude.{◌≡◌, false};
 
 use crate::traits::{Failed, Sink, Source};
 
-/// The bytes of a slice.
+/// A source of the bytes of a slice.
 #[derive(Drop)]
 pub struct Slice<'a> {
     rest: &'a [u8],
 }
 
 impl<'a> Slice<'a> {
+    /// A source of these bytes. It takes no memory.
     pub fn new(bytes: &'a [u8]) -> Slice<'a>
         ensures { result.rest.now ≡ bytes.entry.now }
     {
@@ -43,6 +44,7 @@ pub struct Buffer {
 }
 
 impl Buffer {
+    /// A sink that puts what it takes behind these bytes. It takes no memory.
     pub fn new(bytes: Vec<u8>) -> Buffer
         ensures { (result.bytes.items ≡ bytes.items) × (result.failed ≡ false) }
     {

@@ -19,6 +19,7 @@ pub struct Over<S> {
 }
 
 impl<S> Over<S> {
+    /// Over this reader or writer, which hasn't failed, with 2^63 reads to come. It takes no memory.
     pub fn new(stream: S) -> Over<S>
         ensures stream { result.stream ≡ stream }
         ensures failed { result.failed ≡ false }

@@ -15,7 +15,9 @@ use std::alloc::{AllocError, Global};
 /// The state of a session that goes on, or the cause of its end.
 #[derive(Clone, Copy, Debug, PartialEq, Eq)]
 pub enum End {
+    /// It goes on, in this state.
     Live(State),
+    /// It has ended, by this cause.
     Over(Cause),
 }
 

@@ -21,6 +21,9 @@ use std::alloc::Global;
 /// cause of its end is answered: `Lost` where the input ends first. What a piece makes due is one write, or more of some 65,536 bytes.
 ///
 /// It reads only while the session goes on and nothing is due any more: what the bytes so far make due was put out by then, all of it.
+///
+/// I1 where the source fails; I2 where the sink does, with a beginning of what is due written; I3 for want of memory or where no ordinal is
+/// left. The session is given up then too.
 pub fn serve_one<E: Engine, G: Gate, I: Peer, O: Sink>(
     alloc: Global,
     server: &mut Server<E, G>,

@@ -24,7 +24,7 @@ front zero ts = no_trees
 front (suc n) no_trees = no_trees
 front (suc n) (tree_then t ts) = tree_then t (front n ts)
 
--- of each
+-- the decimal texts of ids, in order
 abbrev pub decimal_texts : Trees → Trees
 decimal_texts no_trees = no_trees
 decimal_texts (tree_then t ts) = tree_then (decimal_text t) (decimal_texts ts)
@@ -45,7 +45,7 @@ with_added v fs [] ts = ts
 with_added v fs (f ∷ more) ts =
     if has_element_ids v then with_texts fs (f ∷ more) ts else front (length fs) ts
 
--- the fields of a tag's row at a version
+-- the fields of a structure at a version, by its tag's row
 abbrev pub fitted_by : Version → Option Row → Trees → Trees
 fitted_by v None ts = ts
 fitted_by v (Some r) ts = with_added v r.fields r.added ts
@@ -84,7 +84,7 @@ element_or id (tree_then t ts) = tree_then t ts
 abbrev pub element_at : Version → ℤ → Trees → Trees
 element_at v id es = if has_element_ids v then element_or id es else no_trees
 
--- the element ids of three
+-- the element ids of three ids, as their decimal texts where there were none
 abbrev pub elements_or : ℤ → ℤ → ℤ → Trees → Trees
 elements_or id start end no_trees =
     tree_then (text (signed_decimal id))

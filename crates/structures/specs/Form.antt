@@ -6,7 +6,7 @@ use Rattle.wire.specs.Versions.{has_utc_times}
 use Rattle.cells.specs.Table.{date_time_tag, legacy_date_time_tag}
 use Rattle.cells.specs.Faults.{utc_fields, IsFine}
 
--- Read: the same tree, but local seconds are brought to UTC.
+-- the tag that a structure is read with: of a legacy DateTime that of one with seconds in UTC
 abbrev pub typed_tag : ℕ → ℕ
 typed_tag tag = if tag == legacy_date_time_tag then date_time_tag else tag
 
@@ -35,7 +35,7 @@ abbrev mutual
 abbrev pub Form : Version → Tree → Tree → Type 0
 Form v cell t = IsFine v t × (cell ≡ typed t)
 
--- Written: a DateTime has local seconds where the version has no UTC times.
+-- seconds in UTC, nanoseconds and offset, with the seconds brought to local ones
 abbrev pub to_local : Trees → Trees
 to_local (tree_then (int utc) (tree_then t (tree_then (int offset) no_trees))) =
     tree_then (int (utc +ℤ offset)) (tree_then t (tree_then (int offset) no_trees))

@@ -48,8 +48,8 @@ pub fn read_value(alloc: Global, version: Version, value: &Value) -> Result<Cell
 /// The cell of a value in the form of a version.
 ///
 /// Refuses the first structure in preorder with a fault, by its number from 0 and its first fault in this order:
-/// unknown tag (S1) or tag of the other version (S6), number of fields (S2), kind of a field (S3), number out of its
-/// range (S4), path that doesn't walk (S5); and for want of memory (S7).
+/// unknown tag (S1) or tag of another version (S6), number of fields (S2), kind of a field (S3), number out of its
+/// range (S4), path without a node or that doesn't walk (S5); and for want of memory (S7).
 pub fn read(alloc: Global, version: Version, packed: &Packed) -> Result<Cell, CellFault>
     // Apart from memory, it is the cell whose form the value is, where it is one's ..
     ensures cell { (s : Tree) → UnlessMemory result (Gave result s ↔ Form version s packed.now) }
@@ -94,8 +94,8 @@ fn write_cell(alloc: Global, version: Version, cell: &Cell) -> Result<Packed, Ce
 /// The value of a cell in the form of a version.
 ///
 /// Refuses the first typed cell in preorder with a fault, by its number from 0 and its first fault in this order: cell
-/// or element ids of the other version (S6), number out of its range (S4), path that doesn't walk (S5). Where there is
-/// none, refuses a value that is too deep or has a key twice (S8), and for want of memory (S7).
+/// or element ids of another version (S6), number out of its range (S4), path without a node or that doesn't walk (S5).
+/// Where there is none, refuses a value that is too deep or has a key twice (S8), and for want of memory (S7).
 #[tactic(auto, using(crate::proofs::Clauses::writes_value, crate::proofs::Clauses::writes_pack))]
 pub fn write(alloc: Global, version: Version, cell: &Cell) -> Result<Packed, CellFault>
     // Apart from memory, it is the cell's form, where the cell has one and that is good ..

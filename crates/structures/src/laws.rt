@@ -18,8 +18,8 @@ pub fn one_reading()
     ensures { (v : AnyVersion) (t : Tree) → HasOneReading v t }
 {}
 
-/// What a cell is seen as is typed: each of its structures is one of the table, with its fields, of their kinds, and no local
-/// seconds.
+/// What a cell is seen as is typed: each of its structures is one of the table, with its fields, of their kinds, and none
+/// is a legacy DateTime.
 #[tactic(auto, using(cells::proofs::Typed::typed_shape))]
 pub fn cells_are_typed()
     ensures { (c : AnyCell) → IsTrue (is_typed (shape c)) }

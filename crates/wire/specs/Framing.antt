@@ -67,7 +67,7 @@ opened_item k (reading s) b = chunks.item s b
 abbrev pub opening_reader : ℕ → Reader Opened Item
 opening_reader k = record { start = opening []; byte = opened_byte k; item = opened_item k }
 
--- at the server the 20 bytes of an offer come first, at the client the 4 bytes of a version answer
+-- how a server reads: the 20 bytes of an offer, and then chunks
 abbrev pub at_server : Reader Opened Item
 at_server = opening_reader 20
 
@@ -90,7 +90,7 @@ item_bytes Noop = noop
 item_bytes (Message m) = written_run m
 item_bytes TooBig = []
 
--- the bytes of all in order, and those whose bytes end within n
+-- the bytes of all, in order
 abbrev pub bytes_in_order : {X : Type 0} → (X → List ℕ) → List X → List ℕ
 bytes_in_order text [] = []
 bytes_in_order text (x ∷ xs) = text x ++ bytes_in_order text xs
@@ -101,7 +101,7 @@ within text n [] = []
 within text n (x ∷ xs) =
     if nat_le (length (text x)) n then x ∷ within text (n - length (text x)) xs else []
 
--- the same where the newest comes first
+-- the bytes of all, the oldest's first, of a list with the newest first
 abbrev pub bytes_newest_first : {X : Type 0} → (X → List ℕ) → List X → List ℕ
 bytes_newest_first text [] = []
 bytes_newest_first text (x ∷ xs) = bytes_newest_first text xs ++ text x
@@ -141,7 +141,7 @@ FramesFronts = (k : ℕ) (start : List ℕ) (xs : List Item) (n : ℕ) → 0 < k
     (take n (start ++ bytes_in_order item_bytes xs))
     ≡ (if nat_le k n then Opening start ∷ within item_bytes (n - k) xs else [])
 
--- what a client of this product sends: its offer, then messages
+-- each is a message that may be written
 abbrev pub AreMessages : List (List ℕ) → Type 0
 AreMessages [] = Unit {0}
 AreMessages (m ∷ ms) = CanCome (Message m) × AreMessages ms
@@ -178,7 +178,7 @@ abbrev pub AnswersTake : Type 0
 AnswersTake = (s : Unfinished) (bytes : List ℕ) → s.too_big ≡ false
     → takes chunks s bytes ≡ took_by (answer_to s bytes).answer (answer_to s bytes).rest
 
--- the items that a stream's pieces are, with the refusal of a message at their end
+-- the items that a stream's pieces are
 abbrev pub arrivals : List Piece → List Item
 arrivals [] = []
 arrivals (p ∷ ps) = option_to_list (item_in p) ++ arrivals ps

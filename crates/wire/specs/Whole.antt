@@ -56,7 +56,7 @@ abbrev pub BeginsNone : Type 0
 BeginsNone = (m other more : List ℕ) → 0 < length m → length m ≤ max_message → 0 < length other
     → length other ≤ max_message → written_run other ≡ written_run m ++ more → (m ≡ other) × (more ≡ [])
 
--- the bytes that are kept of an unfinished item: its data, and that of a header that isn't whole
+-- the number of bytes that are kept of a header that isn't whole
 abbrev pub header_bytes : Option ℕ → ℕ
 header_bytes None = 0
 header_bytes (Some high) = 1

@@ -19,6 +19,7 @@ use std::marker::Model;
 pub enum Piece {
     /// Nothing: the piece is used up.
     Nothing,
+    /// A no-op, two zero bytes between messages.
     Noop,
     /// The data of a message, at least one byte.
     Message(Bytes),

@@ -97,7 +97,7 @@ pub fn refuses_past()
     ensures { RefusesPast }
 {}
 
-/// What `put_message` writes is one run, of its message.
+/// What `put_message` writes is no-ops and runs whose one message is its message.
 #[tactic(auto, using(crate::proofs::Grammar::texts_one))]
 pub fn texts_one()
     ensures { TextsOne }

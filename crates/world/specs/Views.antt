@@ -68,7 +68,7 @@ abbrev pub losses_of : Option (List (ℕ × Outcome)) → List (ℕ × Outcome)
 losses_of None = []
 losses_of (Some losses) = losses
 
--- what an end tells: its peer, and the outcomes at the client's loss, if it was lost
+-- the peer of an end
 abbrev pub end_peer : End → Peer
 end_peer (end.Ours wish c lost) = Ours wish
 end_peer end.Foreign = Foreign

@@ -38,13 +38,14 @@ pub fn nothing_follows()
     ensures { NothingFollows }
 {}
 
-/// What arrives after an offer of which a version is taken is the requests of the whole messages of the bytes after it.
+/// What arrives after an offer of which a version is taken, no-ops aside, is the requests of the whole messages of the bytes after
+/// it, up to the first that stands for none, and the refusal of a message past its limit.
 #[tactic(auto, using(crate::proofs::Arriving::arrives_whole))]
 pub fn arrives_whole()
     ensures { ArrivesWhole }
 {}
 
-/// What a client hears of more bytes ends with what it heard.
+/// What a client hears of more bytes, the newest first, ends with what it heard.
 #[tactic(auto, using(crate::proofs::Following::hears_go_on))]
 pub fn hears_go_on()
     ensures { HearsGoOn }

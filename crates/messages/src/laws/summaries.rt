@@ -2,7 +2,8 @@
 ghost use Rattle.messages.specs.Summaries.{Summary, IsShort, HasTexts, FitsRoom, ReadsBack};
 ghost use Rattle.wire.specs.declared.Version.{Version as AnyVersion};
 
-/// Each fits a message, in the room that `room` tells; and what is written stands for it.
+/// Each whose numbers are below 2^64 and whose texts have at most 65,000 bytes together fits a message, in the room that `room`
+/// tells; where its texts are UTF-8, what is written stands for it.
 #[tactic(auto, using(crate::proofs::Fitting::fits_room, crate::proofs::Fitting::reads_back))]
 pub fn short_fits()
     ensures fits { (v : AnyVersion) (s : Summary) → IsShort s → FitsRoom v s }
