@@ -35,8 +35,10 @@ struct Least { many: f64, none: f64 }
 
 fn time(call: Call, size: u32, turns: u32) -> f64 {
     let begin = now();
-    black_box(unsafe { call(black_box(size), turns) });
-    now() - begin
+    let told = black_box(unsafe { call(black_box(size), turns) });
+    let taken = now() - begin;
+    assert!(told > 0 || turns == 0, "a call has stopped");
+    taken
 }
 
 /// A record of so many keys; its call answers the bytes of its text.

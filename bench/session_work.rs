@@ -1,5 +1,5 @@
 //! The workloads over a client and a server in one process, which pass bytes through memory in pieces of at most 4,096;
-//! each checks its outcomes and the ledger, and answers one number of all that was moved and heard.
+//! each checks what it can of its outcomes, and answers one number of all that was moved and heard, with the ledger's length.
 use crate::session_twin::*;
 use crate::twin::Value;
 
@@ -358,9 +358,12 @@ struct Least { call: f64, less: f64 }
 /// it is a difference, and prints a table; with two sides, their ratio too.
 pub fn report(sides: &[Side], times: u32, only: &str) {
     let lines: Vec<_> = lines().into_iter().filter(|l| l.name.starts_with(only)).collect();
-    let checks: Vec<u64> = lines.iter().map(|l| twin(l.call)).collect();
+    let checks: Vec<(u64, Option<u64>)> = lines.iter().map(|l| (twin(l.call), l.less.map(twin))).collect();
     for (line, check) in lines.iter().zip(&checks) {
-        for (name, side) in sides { assert_eq!(side(line.call), *check, "{name}: {:?}", line.call); }
+        for (name, side) in sides {
+            assert_eq!(side(line.call), check.0, "{name}: {:?}", line.call);
+            assert_eq!(line.less.map(side), check.1, "{name}: {:?}", line.less);
+        }
     }
     let mut least = vec![vec![Least { call: f64::MAX, less: f64::MAX }; sides.len()]; lines.len()];
     for round in 0..4 * times {
@@ -380,7 +383,7 @@ pub fn report(sides: &[Side], times: u32, only: &str) {
     let names: Vec<_> = sides.iter().map(|(name, _)| format!("{name} ns")).collect();
     println!("| workload | unit | {} |{} check |", names.join(" | "), if sides.len() == 2 { " ratio |" } else { "" });
     println!("|{}", "---|".repeat(names.len() + 3 + (sides.len() == 2) as usize));
-    for ((line, least), check) in lines.iter().zip(&least).zip(&checks) {
+    for ((line, least), (check, _)) in lines.iter().zip(&least).zip(&checks) {
         let per: Vec<f64> = least.iter().map(|l| (l.call - l.less) / line.units as f64).collect();
         let digits = if per[0] < 100.0 { 2 } else { 0 };
         let shown: Vec<_> = per.iter().map(|p| format!("{p:.digits$}")).collect();

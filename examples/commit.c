@@ -27,7 +27,7 @@ static int send_all(void) {
     uint8_t bytes[4096];
     size_t count = 0, sent;
     for (;;) {
-        if (bolt_take(&client, bytes, sizeof bytes, &count)) stop("out of memory");
+        if (bolt_take(&client, bytes, sizeof bytes, &count)) return fprintf(stderr, "out of memory\n"), 0;
         if (!count) return 1;
         for (sent = 0; sent < count;) {
             ssize_t more = send(fd, bytes + sent, count - sent, MSG_NOSIGNAL);
@@ -37,7 +37,7 @@ static int send_all(void) {
     }
 }
 
-/* Hears answers until none is to come, or none can come: 0 then. */
+/* Hears answers until none is to come, or none can come, also for want of memory: 0 then. */
 static int settle(void) {
     uint8_t bytes[4096];
     while (!bolt_state(&client, &now) && now.awaits) {
@@ -45,7 +45,7 @@ static int settle(void) {
         if (count <= 0) return 0;
         for (bolt_heard heard = {0}, *h = &heard; count > 0; count -= (ssize_t)h->used) {
             uint32_t code = bolt_feed(&client, bytes, (size_t)count, h);
-            if (code == BOLT_MEMORY) stop("out of memory");
+            if (code == BOLT_MEMORY) fprintf(stderr, "out of memory\n");
             if (code) return 0;
             memmove(bytes, bytes + h->used, (size_t)count - h->used);
             if (h->kind == BOLT_SUMMARY) printf("%d: %s\n", (int)h->ordinal, outcomes[h->outcome]);

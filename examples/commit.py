@@ -23,6 +23,9 @@ def main(address, port, key):
     except bolt.Broken as broken:
         print("the connection broke")
         requests = broken.requests
+    except bolt.Refused as refused:
+        print(refused)
+        requests = refused.requests
     for request in requests:
         print(f"{request.text}: {request.outcome}")
 

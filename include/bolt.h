@@ -8,9 +8,10 @@
  *     bolt_client c = {0};
  *     if (bolt_open(&c, BOLT_NEWEST) != BOLT_OK) ..;
  *     while (bolt_take(&c, buffer, sizeof buffer, &n) == BOLT_OK && n) send(fd, buffer, n, 0);
- *     n = recv(fd, buffer, sizeof buffer, 0);
- *     for (used = 0; used < n; used += heard.used)
- *         if (bolt_feed(&c, buffer + used, n - used, &heard) != BOLT_OK) ..; else if (heard.kind == BOLT_SUMMARY) ..;
+ *     ssize_t got = recv(fd, buffer, sizeof buffer, 0);
+ *     if (got <= 0) bolt_lost(&c, losses, BOLT_LOSSES, &count) ..;
+ *     for (ssize_t used = 0; used < got; used += (ssize_t)heard.used)
+ *         if (bolt_feed(&c, buffer + used, (size_t)(got - used), &heard) != BOLT_OK) ..; else if (heard.kind == BOLT_SUMMARY) ..;
  *     bolt_close(&c);
  *
  * What the caller owes, and nothing checks: a handle is {0} before its first call, is given to one call at a time, is
@@ -20,8 +21,8 @@
  *
  * What a proof shows: no call reads or writes outside of what it was given, overflows or ends the process, whatever the
  * bytes are; want of memory is answered by BOLT_MEMORY, and then nothing has changed; each call does with a handle's
- * client what its contract says; of a null handle each but bolt_open, which fills it, and bolt_close says BOLT_NO_CLIENT
- * and leaves it null. Where a call answers another code than BOLT_OK, what it would have filled in is as it was.
+ * client what its contract says; of a null handle bolt_open makes a client, bolt_close does nothing, and each
+ * other call says BOLT_NO_CLIENT and leaves it null. Where a call answers another code than BOLT_OK, what it would have filled in is as it was.
  */
 #ifndef BOLT_H
 #define BOLT_H

@@ -7,7 +7,8 @@
 A pipeline is asked for and then settled, `c.ask_begin(); c.ask_run("PUT", {..}); c.ask_commit(); c.settle()`, and goes out at once.
 
 Where the connection breaks, `Broken` tells what became of each request that was asked since the last time all was settled: what it was
-told, else LOST (the server can't have committed by it) or UNKNOWN (it may have).
+told, else LOST (the server can't have committed by it) or UNKNOWN (it may have). Under a token the same transaction may be sent again until
+it is known: `c.begin(token=..)`, and outside a transaction `c.run("PUT", {..}, token=..)`.
 """
 import ctypes
 import dataclasses
@@ -19,8 +20,8 @@ NEWEST, V4_4, V5_0, V5_1 = 0, 44, 50, 51
 PHASES = ("FRESH", "UNAUTH", "READY", "STREAMING", "TX_READY", "TX_STREAMING", "HALTED", "DEFUNCT")
 DONE, COMMITTED, REFUSED, IGNORED, LOST, UNKNOWN = OUTCOMES = ("DONE", "COMMITTED", "REFUSED", "IGNORED", "LOST", "UNKNOWN")
 VERSION, ROW, SUMMARY = 1, 2, 3
-CLOSED, MEMORY, BAD_PEER = 4, 5, 6
-FAULTS = {1: "the request isn't allowed here", 2: "32 requests wait", 3: "the message is too long", 4: "the client has ended",
+FULL, CLOSED, MEMORY, BAD_PEER, UNWRITABLE = 2, 4, 5, 6, 7
+FAULTS = {1: "the request isn't allowed here", 2: "no room among the 32 requests that may wait", 3: "the message is too long", 4: "the client has ended",
           5: "out of memory", 6: "the server sent what no server may", 7: "the request can't be written", 8: "no request of this version",
           9: "nothing was heard", 10: "no version has this number", 11: "the buffer is too short", 100: "the connection is closed"}
 MESSAGE, LOSSES = 65536, 32
@@ -35,18 +36,20 @@ class Fault(Exception):
 
 
 class Refused(Exception):
-    """The server's FAILURE, by its code and message. A transaction that was open is gone, and the session is ready again if it lives on."""
+    """The server's FAILURE, by its code and message. `requests` are those asked since all was settled, in order, each with its outcome. A
+    transaction that was open is gone, and the session is ready again if it lives on."""
 
-    def __init__(self, code, message):
+    def __init__(self, code, message, requests):
         super().__init__(f"{code}: {message}")
-        self.code, self.message = code, message
+        self.code, self.message, self.requests = code, message, requests
 
 
 class Broken(Exception):
-    """The connection broke, or memory ran out while its bytes were heard. `requests` are those asked since all was settled, in order, each with its outcome."""
+    """The connection broke, or was given up: at a bad answer, where no version was taken, after an interrupt, or for want of memory. `requests` are
+    those asked since all was settled, in order, each with its outcome."""
 
     def __init__(self, requests):
-        super().__init__(", ".join(f"{it.text}: {it.outcome}" for it in requests))
+        super().__init__(", ".join(f"{it.text}: {it.outcome}" for it in requests) or "before any request")
         self.requests = requests
 
 
@@ -134,6 +137,8 @@ def pack(value, version=V5_1):
     if isinstance(value, (list, tuple)):
         return sized(len(value), 0x90, 0xD4) + b"".join(pack(it, version) for it in value)
     if isinstance(value, dict):
+        if not all(isinstance(key, str) for key in value):
+            raise TypeError("a key of a dictionary of PackStream is a text")
         return sized(len(value), 0xA0, 0xD8) + b"".join(pack(key, version) + pack(it, version) for key, it in value.items())
     if type(value) in TAGS.values():
         return pack_structure(*fields_of(value, version), version)
@@ -241,11 +246,17 @@ class Request:
     rows: list = dataclasses.field(default_factory=list)
 
 
+def extra(write, token):
+    """The entries of a BEGIN or a RUN beside its text: the mode where that is to read, and the token where there is one."""
+    return {**({} if write else {"mode": "r"}), **({} if token is None else {"tx_metadata": {"token": token}})}
+
+
 class Connection:
     """A session of a server. Times are the socket's: `timeout` is that of each send and receive, in seconds."""
 
     def __init__(self, host, port, auth=("none", "", ""), agent="bolt.py/1", versions=NEWEST, timeout=10):
         self.handle, self.asked, self.buffer, self.socket, self.version = Handle(), {}, ctypes.create_string_buffer(MESSAGE), None, V5_1
+        self.cut = None  # why nothing more is sent
         self.check(LIBRARY.bolt_open(self.handle, versions))
         try:
             self.socket = socket.create_connection((host, port), timeout)
@@ -280,19 +291,28 @@ class Connection:
         return standing
 
     def ask(self, text, tag, *fields):
-        """Submits a request: it goes out when it is settled."""
+        """Submits a request: it goes out when it is settled, and not before."""
         message, ordinal = pack_structure(tag, fields, self.version), ctypes.c_uint64()
         self.check(LIBRARY.bolt_submit(self.handle, message, len(message), ordinal))
         self.asked[ordinal.value] = request = Request(text)
         return request
 
-    def ask_begin(self, write=True):
-        return self.ask("BEGIN", 0x11, {} if write else {"mode": "r"})
+    def ask_begin(self, write=True, token=None):
+        return self.ask("BEGIN", 0x11, extra(write, token))
 
-    def ask_run(self, text, parameters=None, write=True):
-        """A RUN and a PULL of all its rows: the latter, which has the rows and the outcome."""
-        self.ask(f"RUN {text}", 0x10, text, parameters or {}, {} if write else {"mode": "r"})
-        return self.ask(f"PULL of {text}", 0x3F, {"n": -1})
+    def ask_run(self, text, parameters=None, write=True, token=None):
+        """A RUN and a PULL of all its rows, both or neither: the latter, which has the rows and the outcome."""
+        if self.state().pending > LOSSES - 2:
+            raise Fault(FULL)
+        self.ask(f"RUN {text}", 0x10, text, parameters or {}, extra(write, token))
+        try:
+            return self.ask(f"PULL of {text}", 0x3F, {"n": -1})
+        except Fault:
+            # (memory ran out between the two)
+            self.lose()
+        except BaseException:
+            self.end()
+            raise
 
     def ask_commit(self):
         return self.ask("COMMIT", 0x12)
@@ -303,29 +323,44 @@ class Connection:
     def ask_reset(self):
         return self.ask("RESET", 0x0F)
 
+    def moved(self, code):
+        """Checks a call that moves bytes: at a bad answer, where memory ran out, and at an answer that can't be told, the connection is given up."""
+        if code in (BAD_PEER, MEMORY, UNWRITABLE):
+            self.lose()
+        self.check(code)
+
     def send(self):
+        """Sends what waits. Where the server takes no more, what it has said may still be heard."""
         count = ctypes.c_size_t(1)
-        while count.value:
-            self.check(LIBRARY.bolt_take(self.handle, self.buffer, MESSAGE, count))
-            if count.value:
-                self.socket.sendall(self.buffer.raw[:count.value])
+        while count.value and not self.cut:
+            self.moved(LIBRARY.bolt_take(self.handle, self.buffer, MESSAGE, count))
+            try:
+                if count.value:
+                    self.socket.sendall(self.buffer.raw[:count.value])
+            except OSError as why:
+                self.cut = why
+
+    def receive(self):
+        """The next bytes of the server, none where no more come."""
+        try:
+            return self.socket.recv(MESSAGE)
+        except OSError as why:
+            self.cut = self.cut or why
+            return b""
 
     def message(self):
         """The fields of the row or summary that was heard last."""
         length = ctypes.c_size_t()
-        code = LIBRARY.bolt_message(self.handle, self.buffer, MESSAGE, length)
-        if code == MEMORY:
-            self.lose()
-        self.check(code)
+        self.moved(LIBRARY.bolt_message(self.handle, self.buffer, MESSAGE, length))
         return unpack_message(self.buffer.raw[:length.value])[1]
 
     def hear(self, piece):
-        """Feeds a piece to the end of an item, and answers the rest of it."""
+        """Feeds a piece to the end of an item, and answers the rest of it: none behind the client's end, where nothing is heard."""
         first, heard = self.state().first, Heard()
         code = LIBRARY.bolt_feed(self.handle, piece, len(piece), heard)
-        if code in (BAD_PEER, MEMORY):
-            self.lose()
-        self.check(code)
+        if code == CLOSED:
+            return b""
+        self.moved(code)
         if heard.kind == VERSION and not heard.version:
             self.lose()
         if heard.kind == ROW:
@@ -337,52 +372,80 @@ class Connection:
         return piece[heard.used:]
 
     def exchange(self):
-        """Sends what waits, and hears a piece of the server's bytes."""
+        """Sends what waits, and hears a piece of the server's bytes. Where that is broken off, as by an interrupt, bytes are gone: then the client
+        ends, so that no answer is taken for another's."""
         try:
             self.send()
-            piece = self.socket.recv(MESSAGE)
-        except OSError:
-            piece = b""
-        if not piece:
-            self.lose()
-        while piece:
-            piece = self.hear(piece)
+            piece = self.receive()
+            if not piece:
+                self.lose()
+            while piece:
+                piece = self.hear(piece)
+        except Broken:
+            raise
+        except BaseException:
+            self.end()
+            raise
 
-    def lose(self):
-        """The connection is gone, or given up where memory ran out: what became of each request that waits is known, and told."""
+    def end(self):
+        """Nothing is heard any more: what became of each request that waits is known."""
         losses, count = (Loss * LOSSES)(), ctypes.c_size_t()
         self.check(LIBRARY.bolt_lost(self.handle, losses, LOSSES, count))
         for loss in losses[:count.value]:
             self.asked[loss.ordinal].outcome = OUTCOMES[loss.outcome]
+        for request in self.asked.values():
+            # (of one whose summary was heard when that was broken off, what it says is gone)
+            request.outcome = request.outcome or UNKNOWN
+
+    def told(self):
+        """The requests asked since all was settled, which they now are."""
         requests, self.asked = list(self.asked.values()), {}
-        raise Broken(requests)
+        return requests
+
+    def lose(self):
+        """The connection is gone, or given up: what became of each request is told."""
+        self.end()
+        raise Broken(self.told()) from self.cut
 
     def settle(self):
-        """Hears all answers, and answers the requests asked since all was settled. The first FAILURE is raised, after a RESET."""
+        """Hears all answers, and answers the requests asked since all was settled. The first FAILURE is raised, after a RESET where the session
+        still ignores what it is asked."""
         while self.state().awaits:
             self.exchange()
-        requests, self.asked = list(self.asked.values()), {}
+        if self.state().has_ended:
+            self.end()
+        requests = self.told()
         refused = next((it for it in requests if it.outcome == REFUSED), None)
-        if refused and not self.state().has_ended:
-            try:
-                self.ask_reset()
-                self.settle()
-            except Broken as broken:
-                raise Broken(requests + broken.requests) from None
+        if refused and PHASES[self.state().phase] == "HALTED":
+            self.go_on(requests)
         if refused:
-            raise Refused(refused.metadata["code"], refused.metadata["message"])
+            raise Refused(refused.metadata.get("code", ""), refused.metadata.get("message", ""), requests)
+        if any(it.outcome in (LOST, UNKNOWN) for it in requests):
+            raise Broken(requests) from self.cut
         return requests
+
+    def go_on(self, requests):
+        """Resets the session; where that can't be, the connection is gone, and these requests are told too."""
+        try:
+            self.ask_reset()
+            self.settle()
+        except Fault:
+            # (memory ran out, or the client has ended)
+            self.end()
+            raise Broken(requests + self.told()) from None
+        except Broken as broken:
+            raise Broken(requests + broken.requests) from self.cut
 
     def settled(self, request):
         self.settle()
         return request
 
-    def run(self, text, parameters=None, write=True):
-        """The rows. Outside a transaction they are committed with the last of them."""
-        return self.settled(self.ask_run(text, parameters, write)).rows
+    def run(self, text, parameters=None, write=True, token=None):
+        """The rows. Outside a transaction they are committed with the last of them, under the token if there is one."""
+        return self.settled(self.ask_run(text, parameters, write, token)).rows
 
-    def begin(self, write=True):
-        self.settled(self.ask_begin(write))
+    def begin(self, write=True, token=None):
+        self.settled(self.ask_begin(write, token))
 
     def commit(self):
         return self.settled(self.ask_commit()).outcome
@@ -394,13 +457,15 @@ class Connection:
         self.settled(self.ask_reset())
 
     def close(self):
-        """Says goodbye where it can, and frees the client. A second close does nothing."""
+        """Says goodbye where nothing waits, and frees the client. What was asked and isn't settled isn't sent any more. A second close does nothing."""
         try:
-            if self.socket and self.handle.at and not self.state().has_ended:
+            state = self.state() if self.socket and self.handle.at else None
+            if state and not state.has_ended and not state.pending:
                 self.ask("GOODBYE", 0x02)
                 self.send()
-        except (Fault, OSError):
+        except (Fault, Broken):
             pass
-        if self.socket:
-            self.socket.close()
-        LIBRARY.bolt_close(self.handle)
+        finally:
+            if self.socket:
+                self.socket.close()
+            LIBRARY.bolt_close(self.handle)

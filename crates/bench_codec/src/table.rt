@@ -1,4 +1,4 @@
-//! The kept table behind C calls. Each makes a table of its own, by puts over some keys in turn, each its own commit; a
+//! The fixed table behind C calls. Each makes a table of its own, by puts over some keys in turn, each its own commit; a
 //! program that times a part takes off the time of a call without it. Each answers 0 at want of memory.
 use engine::{Answer, Engine, EntryId, FixedTable, Mode, Write};
 use std::alloc::{AllocError, Global};

@@ -1,5 +1,6 @@
 //! Workloads over a client and a server in one process, behind C calls, for a program that times them from outside. Each call
-//! makes all that it needs, and answers a check number of all that was moved and heard, or 0 at want of memory.
+//! makes all that it needs, and answers a number that its caller can check: of the workloads one of all that was moved and heard; or 0 at want of
+//! memory or an answer that it doesn't wait for.
 #![tactic(auto)]
 
 mod answers;
