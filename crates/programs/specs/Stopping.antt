@@ -16,7 +16,7 @@ stop_status (Broken Memory) = 3
 -- why a program stops: the number of a line, from 1, and then what is expected there; or the code of a fault
 abbrev pub stop_text : Stop → List ℕ
 stop_text (Unreadable n) = codes "line " ++ decimal n
-    ++ codes " unreadable\nexpected hello, logon [bad], logoff, goodbye, reset, run TEXT HEX [r], begin [r], commit, rollback, discard N or pull N\n"
+    ++ codes " unreadable\nexpected hello, logon [bad], logoff, goodbye, reset, run TEXT HEX [r] [token T], begin [r] [token T], commit, rollback, discard N or pull N\n"
 stop_text (Broken ReadFailed) = codes "fault I1" ++ 10 ∷ []
 stop_text (Broken WriteFailed) = codes "fault I2" ++ 10 ∷ []
 stop_text (Broken Memory) = codes "fault I3" ++ 10 ∷ []
@@ -28,7 +28,7 @@ IsStopOf (Broken ReadFailed) read written = read
 IsStopOf (Broken WriteFailed) read written = written
 IsStopOf (Broken Memory) read written = Unit {0}
 
--- How a program ends: with 0, and nothing said on standard error; or with the status and the text of why it stops.
+-- the status with which a program ends: 0, or that of why it stops
 abbrev pub ends_with : Option Stop → ℕ
 ends_with None = 0
 ends_with (Some stop) = stop_status stop

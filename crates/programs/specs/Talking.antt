@@ -48,7 +48,7 @@ sent_out p n = record { rest = taken_out p.rest n; version = p.version }
 abbrev pub greeting_of : Bool → Version → List ℕ
 greeting_of true v = codes "no conversation: no version was taken, or the server is gone\n"
 greeting_of false v = codes "version " ++ version_name v
-    ++ codes "; each line is a request: hello, logon [bad], logoff, goodbye, reset, run TEXT HEX [r], begin [r], commit, rollback, discard N or pull N\n"
+    ++ codes "; each line is a request: hello, logon [bad], logoff, goodbye, reset, run TEXT HEX [r] [token T], begin [r] [token T], commit, rollback, discard N or pull N\n"
 
 -- the same where a client stands after the version was heard
 abbrev pub greeting : Place → List ℕ
@@ -153,6 +153,7 @@ pub record Streams : Type 0 where
   pub told : Option (List ℕ)
   pub deaf : Bool
 
+-- the streams of a conversation: what is left, and what was written, printed and told
 abbrev pub streams_at : Option (List ℕ) → Option (List ℕ) → Option (List ℕ) → Option (List ℕ) → Bool
     → Streams
 streams_at left written printed told deaf = record {

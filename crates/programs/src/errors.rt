@@ -33,7 +33,7 @@ pub(crate) fn greet<E: Sink>(has_ended: bool, version: Version, err: &mut E)
     tell(b"version ", err);
     tell(version_name(version).as_bytes(), err);
     tell(
-        b"; each line is a request: hello, logon [bad], logoff, goodbye, reset, run TEXT HEX [r], begin [r], commit, rollback, discard N or pull N\n",
+        b"; each line is a request: hello, logon [bad], logoff, goodbye, reset, run TEXT HEX [r] [token T], begin [r] [token T], commit, rollback, discard N or pull N\n",
         err,
     );
 }

@@ -41,7 +41,7 @@ fn unreadable_text(alloc: Global, number: usize) -> Result<String, AllocError>
     ensures { IfOk result (λ t. string_bytes t ≡ stop_text (Stop.Unreadable number)) }
 {
     let text = format!(in alloc;
-        "line {number} unreadable\nexpected hello, logon [bad], logoff, goodbye, reset, run TEXT HEX [r], begin [r], commit, rollback, discard N or pull N\n"
+        "line {number} unreadable\nexpected hello, logon [bad], logoff, goodbye, reset, run TEXT HEX [r] [token T], begin [r] [token T], commit, rollback, discard N or pull N\n"
     )?;
     Ok(text)
 }
