@@ -69,7 +69,7 @@ fn ends_at_unknown_versions(rt: HostRuntime) -> Result<(), Fail> {
 }
 
 #[test]
-fn ends_at_another_message(rt: HostRuntime) -> Result<(), Fail> {
+fn ends_at_a_hello_without_its_agent(rt: HostRuntime) -> Result<(), Fail> {
     answers(
         &rt,
         rt.alloc(),
@@ -470,10 +470,10 @@ const HELP: &[&str] = &[
     "   bolt serve 7687 1\n",
     "   bolt vectors\n",
     " | bolt shell 127.0.0.1 7687\n",
-    "\n  0  ",
-    "\n  1  ",
-    "\n  2  ",
-    "\n  3  ",
+    "\n  0  it is done\n",
+    "\n  1  a value is refused, a vector fails, or a file, a port, a host or an output can't be\n     had (fault I1, fault I2)\n",
+    "\n  2  the words are no command, or what is to be read can't be (fault I4,\n     line N unreadable)\n",
+    "\n  3  there is not enough memory (fault I3)\n",
 ];
 
 #[test]

@@ -25,7 +25,7 @@ const ROW: &[u8] = &[
 #[derive(Clone, Copy, Debug, PartialEq, Eq)]
 enum Said {
     Else,
-    Version,
+    Version(Option<Version>),
     Summary(u64, Outcome, Phase),
 }
 
@@ -176,7 +176,7 @@ const CASES: [Case; 7] = [
         step: MANY,
         reads: MANY,
         room: MANY,
-        heard: &[Said::Version],
+        heard: &[Said::Version(Some(Version::V44))],
         losses: &[],
         fault: None,
         written: 20,
@@ -202,7 +202,7 @@ fn is_heard(rt: &impl Abort, heard: &[Heard], wanted: &[Said]) {
     for (one, other) in heard.iter().zip(wanted) {
         let said = match one {
             Heard::Nothing | Heard::Row(_) => Said::Else,
-            Heard::Version(_) => Said::Version,
+            Heard::Version(version) => Said::Version(*version),
             Heard::Summary {
                 ordinal,
                 phase,

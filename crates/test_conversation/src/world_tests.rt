@@ -184,7 +184,7 @@ const WAITS_FOR_GONE: Told = Told {
     standing: GONE,
 };
 
-const CASES: [Case; 15] = [
+const CASES: [Case; 17] = [
     // Nothing is reported of nothing.
     Case {
         script: &[],
@@ -294,6 +294,11 @@ const CASES: [Case; 15] = [
         entries: &[(5, 1)],
     },
     Case {
+        script: &[PIPELINE, &[AllServer, AllWork, AllClient, Cut]],
+        connections: &[HEARD_AND_READY],
+        entries: &[(5, 1)],
+    },
+    Case {
         script: &[PIPELINE, &[ServerLost, AllServer, AllWork, AllClient]],
         connections: &[WAITS_FOR_GONE],
         entries: &[],
@@ -305,6 +310,11 @@ const CASES: [Case; 15] = [
     },
     Case {
         script: &[PIPELINE, &[AllServer, AllWork, ServerLost, AllClient]],
+        connections: &[HEARD_AND_GONE],
+        entries: &[(5, 1)],
+    },
+    Case {
+        script: &[PIPELINE, &[AllServer, AllWork, AllClient, ServerLost]],
         connections: &[HEARD_AND_GONE],
         entries: &[(5, 1)],
     },

@@ -198,6 +198,8 @@ enum Lie {
     Undelivered,
     /// One request fewer waits.
     Waits,
+    /// The last summary that was written isn't told.
+    Unwritten,
     Ended(Cause),
 }
 
@@ -233,8 +235,8 @@ fn of_loss(after: usize, line: &'static str, lie: Lie, broken: Broken) -> Wrong 
     }
 }
 
-/// A wrong report of each kind.
-fn lies() -> [Wrong; 16] {
+/// A wrong report of each kind but two: `wrong_rows` has one of rows, and no fixed table has two entries under one token.
+fn lies() -> [Wrong; 18] {
     [
         of_all(
             TRANSACTION,
@@ -267,6 +269,7 @@ fn lies() -> [Wrong; 16] {
         of_all(TRANSACTION, Lie::Phase(3, Phase::Ready), Broken::Read),
         of_all(TRANSACTION, Lie::Unread, Broken::Read),
         of_all(TRANSACTION, Lie::Ended(Cause::Malformed), Broken::End),
+        of_all(TRANSACTION, Lie::Ended(Cause::NoVersion), Broken::End),
         of_loss(
             9,
             "clientlost 0",
@@ -287,6 +290,7 @@ fn lies() -> [Wrong; 16] {
         ),
         of_loss(11, "clientlost 0", Lie::Undelivered, Broken::Read),
         of_loss(9, "cut 0", Lie::Waits, Broken::Numbers),
+        of_loss(11, "clientlost 0", Lie::Unwritten, Broken::Ledger),
     ]
 }
 
@@ -353,6 +357,10 @@ fn judged(alloc: Global, wrong: &Wrong) -> Result<(Option<Broken>, Option<Broken
     match wrong.lie {
         Lie::Unread => lies.waits = lies.waits.wrapping_add(1),
         Lie::Waits => lies.waits = lies.waits.wrapping_sub(1),
+        Lie::Unwritten => {
+            let front = told.wrote.len().saturating_sub(1);
+            lies.wrote = told.wrote.get(..front).unwrap_or(&[]);
+        }
         Lie::Ended(cause) => lies.standing = Standing::Ended(cause),
         _ => {}
     }

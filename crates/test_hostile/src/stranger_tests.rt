@@ -1,4 +1,5 @@
-//! Bytes of strangers. A message past 65,536 bytes, the 1,025th write and the 65,616 bytes that wait are tests of `server`.
+//! Bytes of strangers. A message past 65,536 bytes, the 1,025th write and the 65,616 bytes that wait stand in `limit_tests.rt` of
+//! `test_libraries`.
 
 use crate::report::told;
 use packstream::{PackFault, Reason, decode};

@@ -8,7 +8,7 @@ use std::alloc::{AllocError, Global};
 use std::process::Abort;
 use std::test::*;
 use structures::Cell;
-use wire::{Wish, put_message};
+use wire::{Version, Wish, put_message};
 
 pub const SUCCESS: &[u8] = &[0xB1, 0x70, 0xA0];
 
@@ -59,7 +59,7 @@ pub enum Asked {
 /// What a feed tells.
 pub enum Told {
     Nothing(usize),
-    Version,
+    Version(Version),
     NoVersion,
     Row,
     Summary(u64, Outcome, Phase),
@@ -97,7 +97,7 @@ use Step::*;
 fn is_told(fed: &Result<(usize, Heard), ClientFault>, told: &Told) -> bool {
     match (fed, told) {
         (Ok((used, Heard::Nothing)), Told::Nothing(wanted)) => used == wanted,
-        (Ok((_, Heard::Version(Some(_)))), Told::Version) => true,
+        (Ok((_, Heard::Version(Some(heard)))), Told::Version(wanted)) => heard == wanted,
         (Ok((_, Heard::Version(None))), Told::NoVersion) => true,
         (Ok((_, Heard::Row(_))), Told::Row) => true,
         (

@@ -181,7 +181,7 @@ pub fn feeds(server: &mut Table, conn: u64, pieces: &[&[u8]]) -> Result<Took, Re
     Ok(took)
 }
 
-/// Works until there is nothing to do.
+/// Works until there is nothing to do; `Row`, which no conversation wants of it, where that takes more than 2,000 steps.
 fn work_all(server: &mut Table, conn: u64) -> Result<Worked, Refused> {
     for _step in 0..2000 {
         match server.work(conn)? {
@@ -189,7 +189,7 @@ fn work_all(server: &mut Table, conn: u64) -> Result<Worked, Refused> {
             done => return Ok(done),
         }
     }
-    Ok(Worked::Full)
+    Ok(Worked::Row)
 }
 
 /// Whether each of the bytes is a piece that ends nothing.

@@ -5,7 +5,6 @@ use crate::conversation::{
     BEGIN, GET, HELLO, LOGON, NOT_IN_VERSION, OFFER, OLD_HELLO, OLD_OFFER, PULL_ALL, PUT, READY,
     RESET, ROW_TOO_LARGE, Step, TOO_MANY_WRITES, Turn, plays,
 };
-use engine::{FixedTable, OneUser};
 use machine::{Kind, State};
 use server::{Cause, What, Worked};
 use std::test::Fail;
@@ -144,7 +143,7 @@ const TIME_IS_REFUSED: &[Step] = &[Out(NOT_IN_VERSION), Stands(State::Failed), E
 /// Nodes that are put at 4.4 are longer at 5.1, by their element ids.
 const NODES_ARE_REFUSED: &[Step] = &[Out(ROW_TOO_LARGE), Stands(State::Failed), Entries(1)];
 
-/// The session is asked for a row that fills a message, and nothing is taken out.
+/// The session is asked for the longest row that a RUN ECHO can ask for, and nothing is taken out.
 const ASKS_FOR_THE_LONGEST: &[Step] = &[
     Opens,
     Feed(OFFER, 20, What::Handshake(Some(Version::V51))),
@@ -257,7 +256,7 @@ const CONVERSATIONS: &[(&str, &[Turn])] = &[
         ],
     ),
     (
-        "a client that takes nothing asks for a row that fills a message",
+        "a client that takes nothing asks for the longest row of an ECHO",
         &[
             (0, 1, ASKS_FOR_THE_LONGEST),
             (0, 1, WRITES_WHEN_THERE_IS_ROOM),
@@ -271,12 +270,4 @@ fn keeps_its_limits(rt: HostRuntime) -> Result<(), Fail> {
         plays(&rt, rt.alloc(), name, turns)?;
     }
     Ok(())
-}
-
-#[test]
-fn laws_hold_at_the_fixed_table() {
-    server::laws::keeps_limits::<FixedTable, OneUser>();
-    server::laws::leaves_others::<FixedTable, OneUser>();
-    server::laws::grows_by_commits::<FixedTable, OneUser>();
-    server::laws::places_follow_bytes::<FixedTable, OneUser>();
 }

@@ -105,6 +105,22 @@ const OTHER_METADATA: &[u8] = &[
     0xB1, 0x11, 0xA1, 0x8B, 0x74, 0x78, 0x5F, 0x6D, 0x65, 0x74, 0x61, 0x64, 0x61, 0x74, 0x61, 0xA2,
     0x81, 0x78, 0xB1, 0x5A, 0x00, 0x85, 0x74, 0x6F, 0x6B, 0x65, 0x6E, 0x82, 0x74, 0x31,
 ];
+/// HELLO at 5.1 of the agent `t/1`.
+const HELLO_OF_AGENT: &[u8] = &[
+    0xB1, 0x01, 0xA1, 0x8A, 0x75, 0x73, 0x65, 0x72, 0x5F, 0x61, 0x67, 0x65, 0x6E, 0x74, 0x83, 0x74,
+    0x2F, 0x31,
+];
+/// The same with a structure of no version under `x`.
+const OTHER_ENTRY: &[u8] = &[
+    0xB1, 0x01, 0xA2, 0x8A, 0x75, 0x73, 0x65, 0x72, 0x5F, 0x61, 0x67, 0x65, 0x6E, 0x74, 0x83, 0x74,
+    0x2F, 0x31, 0x81, 0x78, 0xB1, 0x5A, 0x00,
+];
+/// PULL of one row.
+const PULL_ONE: &[u8] = &[0xB1, 0x3F, 0xA1, 0x81, 0x6E, 0x01];
+/// The same with a `qid`, -1.
+const PULL_OF_LAST: &[u8] = &[
+    0xB1, 0x3F, 0xA2, 0x81, 0x6E, 0x01, 0x83, 0x71, 0x69, 0x64, 0xFF,
+];
 /// RUN whose one parameter is a structure of an unknown tag, and whose `tx_metadata` is null.
 const RUN_OF_BOTH_FAULTS: &[u8] = &[
     0xB3, 0x10, 0x83, 0x4F, 0x4E, 0x45, 0xA1, 0x81, 0x61, 0xB1, 0x5A, 0x00, 0xA1, 0x8B, 0x74, 0x78,
@@ -201,8 +217,8 @@ fn unwritten_requests(rt: HostRuntime) -> Result<(), Fail> {
     Ok(())
 }
 
-/// Requests, and the codes of what reading them answers.
-const READ_REQUESTS: &[(Version, &[u8], &str)] = &[
+/// Bytes that stand for no request of the version, and the codes of why.
+const UNREAD: &[(Version, &[u8], &str)] = &[
     (Version::V51, &[0xC0], "M2"),
     (Version::V51, &[0xB1, 0x70, 0xA0], "M3"),
     (Version::V44, &[0xB0, 0x6B], "M3"),
@@ -221,13 +237,6 @@ const READ_REQUESTS: &[(Version, &[u8], &str)] = &[
     ),
     (
         Version::V51,
-        &[
-            0xB1, 0x3F, 0xA2, 0x81, 0x6E, 0x01, 0x83, 0x71, 0x69, 0x64, 0xFF,
-        ],
-        "read",
-    ),
-    (
-        Version::V51,
         &[0xB1, 0x3F, 0xA2, 0x81, 0x6E, 0x01, 0x81, 0x78, 0x01],
         "M5",
     ),
@@ -240,38 +249,30 @@ const READ_REQUESTS: &[(Version, &[u8], &str)] = &[
     (Version::V51, TOKEN_OF_NONE, "M5"),
     (Version::V51, TOKEN_OF_ONE, "M5"),
     (Version::V51, TOKEN_OF_65, "M5"),
-    (Version::V51, OTHER_METADATA, "read"),
     (Version::V51, RUN_OF_BOTH_FAULTS, "M5"),
     (Version::V51, RUN_OF_UNKNOWN_CELL, "M6"),
     (Version::V51, &[0xB0, 0x0F, 0x00], "M1"),
-    (
-        Version::V51,
-        &[
-            0xB1, 0x01, 0xA2, 0x8A, 0x75, 0x73, 0x65, 0x72, 0x5F, 0x61, 0x67, 0x65, 0x6E, 0x74,
-            0x83, 0x74, 0x2F, 0x31, 0x81, 0x78, 0xB1, 0x5A, 0x00,
-        ],
-        "read",
-    ),
-    (Version::V44, HELLO_OF_USER, "read"),
-    (Version::V50, HELLO_OF_USER, "read"),
-    (Version::V51, LOGON_OF_USER, "read"),
 ];
 
-/// Requests whose copies are written as they were read.
-const AGAIN: &[(Version, &[u8])] = &[
-    (Version::V44, BEGIN_OF_T1),
-    (Version::V51, TOKEN_OF_64),
-    (Version::V44, HELLO_OF_USER),
-    (Version::V50, HELLO_OF_USER),
-    (Version::V51, LOGON_OF_USER),
+/// Bytes of requests, and those that are written of a copy of each.
+const READ: &[(Version, &[u8], &[u8])] = &[
+    (Version::V44, BEGIN_OF_T1, BEGIN_OF_T1),
+    (Version::V51, TOKEN_OF_64, TOKEN_OF_64),
+    (Version::V44, HELLO_OF_USER, HELLO_OF_USER),
+    (Version::V50, HELLO_OF_USER, HELLO_OF_USER),
+    (Version::V51, LOGON_OF_USER, LOGON_OF_USER),
+    (Version::V51, OTHER_METADATA, BEGIN_OF_T1),
+    (Version::V51, OTHER_ENTRY, HELLO_OF_AGENT),
+    (Version::V51, PULL_OF_LAST, PULL_ONE),
 ];
 
-/// Whether a copy of the request that is read is written as the same bytes, and that which is read of their value.
-fn is_again(alloc: Global, version: Version, bytes: &[u8]) -> Result<bool, Fail> {
+/// Whether a copy of the request that is read is written so, and that which is read of their value.
+fn is_again(alloc: Global, version: Version, bytes: &[u8], written: &[u8]) -> Result<bool, Fail> {
     let request = read_request(alloc, version, bytes)?;
     let copy = request.clone()?;
     let of_value = request_of(alloc, version, &decode(alloc, bytes)?)?;
-    Ok(is_written(alloc, version, &copy, bytes) && is_written(alloc, version, &of_value, bytes))
+    let is_copied = is_written(alloc, version, &copy, written);
+    Ok(is_copied && is_written(alloc, version, &of_value, written))
 }
 
 /// The code of what reading a request answers.
@@ -284,20 +285,26 @@ fn asked(alloc: Global, version: Version, bytes: &[u8]) -> &'static str {
 
 #[test]
 fn read_requests(rt: HostRuntime) -> Result<(), Fail> {
-    for (version, bytes, told) in READ_REQUESTS {
+    for (version, bytes, told) in UNREAD {
         assert!(rt; asked(rt.alloc(), *version, bytes) == *told, "at {bytes:?}");
     }
-    for (version, bytes) in AGAIN {
-        assert!(rt; is_again(rt.alloc(), *version, bytes)?, "at {bytes:?}");
+    for (version, bytes, written) in READ {
+        assert!(rt;
+            is_again(rt.alloc(), *version, bytes, written)?,
+            "at {bytes:?}"
+        );
     }
     Ok(())
 }
 
 #[test]
-fn the_fault_of_a_cell(rt: HostRuntime) {
-    let told = read_request(rt.alloc(), Version::V51, RUN_OF_UNKNOWN_CELL);
+fn what_faults_carry(rt: HostRuntime) {
+    let of_cell = read_request(rt.alloc(), Version::V51, RUN_OF_UNKNOWN_CELL);
     let unknown = structures::Reason::UnknownTag;
-    assert!(rt; matches!(&told, Err(MsgFault::Cell(reason, 0)) if *reason == unknown));
+    assert!(rt; matches!(&of_cell, Err(MsgFault::Cell(reason, 0)) if *reason == unknown));
+    let of_bytes = read_request(rt.alloc(), Version::V51, &[0xB0, 0x0F, 0x00]);
+    let trailing = packstream::Reason::Trailing;
+    assert!(rt; matches!(&of_bytes, Err(MsgFault::Pack(reason, 2)) if *reason == trailing));
 }
 
 /// Responses that are written as they were read.

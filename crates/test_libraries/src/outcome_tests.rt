@@ -17,7 +17,7 @@ const ALONE_AT_5_0: Wish = Wish::Only(Version::V50);
 
 /// A client of 4.4 is logged on.
 const LOGS_ON: &[Step] = &[
-    Feeds(OLD, Told::Version),
+    Feeds(OLD, Told::Version(Version::V44)),
     Asks(HelloOld, "accepted"),
     Hears(SUCCESS, Told::Summary(0, Outcome::Done, Phase::Ready)),
 ];
@@ -42,7 +42,7 @@ const NO_VERSION: &[Step] = &[
 const OFFERS: &[Step] = &[
     TakesOut(6, &[0x60, 0x60, 0xB0, 0x17, 0, 1]),
     TakesOut(100, &[1, 5, 0, 0, 4, 4, 0, 0, 0, 0, 0, 0, 0, 0]),
-    Feeds(&[0, 0, 4, 4, 1], Told::Version),
+    Feeds(&[0, 0, 4, 4, 1], Told::Version(Version::V44)),
     Asks(Hello, "C7 with M5"),
     Takes(100, 0),
     Asks(Goodbye, "accepted"),
@@ -53,7 +53,7 @@ const OFFERS: &[Step] = &[
 /// At 5.0 a HELLO has the login, and there are no LOGON and LOGOFF.
 const LOGS_ON_AT_5_0: &[Step] = &[
     Takes(100, 20),
-    Feeds(AT_5_0, Told::Version),
+    Feeds(AT_5_0, Told::Version(Version::V50)),
     Asks(Hello, "C7 with M5"),
     Asks(Logon, "C1"),
     Asks(HelloOld, "accepted"),
@@ -65,7 +65,7 @@ const LOGS_ON_AT_5_0: &[Step] = &[
 
 /// A session at 5.1, with a result in two parts.
 const SESSION: &[Step] = &[
-    Feeds(NEW, Told::Version),
+    Feeds(NEW, Told::Version(Version::V51)),
     Asks(Hello, "accepted"),
     Asks(Reset, "C1"),
     Hears(SUCCESS, Told::Summary(0, Outcome::Done, Phase::Unauth)),
@@ -89,7 +89,7 @@ const SESSION: &[Step] = &[
 ];
 
 const LOGGED_OFF: &[Step] = &[
-    Feeds(NEW, Told::Version),
+    Feeds(NEW, Told::Version(Version::V51)),
     Asks(Hello, "accepted"),
     Asks(Logon, "accepted"),
     Hears(SUCCESS, Told::Summary(0, Outcome::Done, Phase::Unauth)),
@@ -99,7 +99,7 @@ const LOGGED_OFF: &[Step] = &[
 ];
 
 const LENDS_ITS_READER: &[Step] = &[
-    Feeds(NEW, Told::Version),
+    Feeds(NEW, Told::Version(Version::V51)),
     Asks(Hello, "accepted"),
     Feeds(&[0, 2, 0xB1, 0x70], Told::Nothing(4)),
     Reads(false),
@@ -111,7 +111,7 @@ const LENDS_ITS_READER: &[Step] = &[
 
 /// A message that can't be a value is a bad answer with its last byte, and not before.
 const BAD_AT_ITS_END: &[Step] = &[
-    Feeds(NEW, Told::Version),
+    Feeds(NEW, Told::Version(Version::V51)),
     Asks(Hello, "accepted"),
     Feeds(&[0, 2, 0xC4, 0xC4], Told::Nothing(4)),
     Feeds(&[0, 1, 0xC4, 0], Told::Nothing(4)),
@@ -216,8 +216,8 @@ const SIZES: &[Step] = &[
     Takes(100_000, 65542),
 ];
 
-/// A no-op and a message, one byte at a time.
-const BYTE_BY_BYTE: &[Step] = &[
+/// A message between no-ops, in pieces of one to four bytes.
+const IN_SMALL_PIECES: &[Step] = &[
     Asks(Reset, "accepted"),
     Feeds(&[0], Told::Nothing(1)),
     Feeds(&[0], Told::Nothing(1)),
@@ -232,7 +232,7 @@ const BYTE_BY_BYTE: &[Step] = &[
 
 /// A message past the limit.
 const TOO_BIG: &[Step] = &[
-    Feeds(NEW, Told::Version),
+    Feeds(NEW, Told::Version(Version::V51)),
     FeedsTheLongest(Told::Nothing(65537)),
     Feeds(&[0, 2], Told::BadPeer),
     Feeds(&[0, 2], Told::Closed),
@@ -291,7 +291,7 @@ const PLAYED: &[(&str, Wish, &[&[Step]])] = &[
     ("ignored alone", OLD_ALONE, &[LOGS_ON, IGNORED_ALONE]),
     ("full", OLD_ALONE, &[LOGS_ON, &[ASKS_A_RESET; 32], FULL]),
     ("sizes", OLD_ALONE, &[LOGS_ON, SIZES]),
-    ("byte by byte", OLD_ALONE, &[LOGS_ON, BYTE_BY_BYTE]),
+    ("in small pieces", OLD_ALONE, &[LOGS_ON, IN_SMALL_PIECES]),
     ("too big", Wish::Newest, &[TOO_BIG]),
     ("lost after a COMMIT", OLD_ALONE, &[LOST_AFTER_A_COMMIT]),
 ];

@@ -150,22 +150,22 @@ fn put_back(rt: HostRuntime) -> Result<(), Fail> {
     Ok(())
 }
 
-/// Reasons, and the texts of their faults at 4.
-const TEXTS: &[(Reason, &str)] = &[
-    (Reason::Short, "P1 at 4"),
-    (Reason::Marker, "P2 at 4"),
-    (Reason::Utf8, "P3 at 4"),
-    (Reason::KeyKind, "P4 at 4"),
-    (Reason::KeyTwice, "P5 at 4"),
-    (Reason::Depth, "P6 at 4"),
-    (Reason::Trailing, "P7 at 4"),
-    (Reason::Size, "P9 at 4"),
+/// Faults, and their texts.
+const TEXTS: &[(PackFault, &str)] = &[
+    (PackFault::Refused(Reason::Short, 4), "P1 at 4"),
+    (PackFault::Refused(Reason::Marker, 4), "P2 at 4"),
+    (PackFault::Refused(Reason::Utf8, 4), "P3 at 4"),
+    (PackFault::Refused(Reason::KeyKind, 4), "P4 at 4"),
+    (PackFault::Refused(Reason::KeyTwice, 4), "P5 at 4"),
+    (PackFault::Refused(Reason::Depth, 4), "P6 at 4"),
+    (PackFault::Refused(Reason::Trailing, 4), "P7 at 4"),
+    (PackFault::Refused(Reason::Size, 4), "P9 at 4"),
+    (PackFault::Memory, "out of memory"),
 ];
 
 #[test]
 fn texts_of_faults(rt: HostRuntime) -> Result<(), Fail> {
-    for (reason, wanted) in TEXTS {
-        let fault = PackFault::Refused(*reason, 4);
+    for (fault, wanted) in TEXTS {
         let text = format!(in rt.alloc(); "{fault}")?;
         assert_eq!(rt; text.as_str(), *wanted);
     }

@@ -253,11 +253,16 @@ const IS_RESET: &[Step] = &[
 /// BEGIN, a RUN that fails, PULL and COMMIT in one pipeline.
 const FAILS: &[Step] = &[
     Send(BEGIN, What::Message),
-    WorkAll(Worked::Idle),
-    Out(&[0, 3, 0xB1, 0x70, 0xA0, 0, 0]),
     Send(NOPE, What::Message),
     Send(PULL_ALL, What::Message),
     Send(COMMIT, What::Message),
+    Work(Worked::Wrote {
+        ordinal: 2,
+        kind: Kind::Begin,
+        state: State::TxReady,
+        entry: None,
+    }),
+    Out(&[0, 3, 0xB1, 0x70, 0xA0, 0, 0]),
     Work(Worked::Wrote {
         ordinal: 3,
         kind: Kind::Run,

@@ -13,7 +13,7 @@ use test_worlds::{BROUGHT, Play, Table, Unplayed, asking, server, table_of, writ
 use wire::{Dechunk, Version, WireFault, Wish};
 use world::{Event, Peer, Refused, Seen};
 
-/// A handshake for 5.1.
+/// A handshake for 5.1 and 4.4.
 const OFFER: &[u8] = &[
     0x60, 0x60, 0xB0, 0x17, 0, 0, 1, 5, 0, 0, 4, 4, 0, 0, 0, 0, 0, 0, 0, 0,
 ];
@@ -32,9 +32,20 @@ fn open_three(server: &mut Table) -> Result<(), Unplayed> {
     Ok(())
 }
 
-fn three(alloc: Global) -> Result<Table, Unplayed> {
+/// A session of which 65,536 bytes wait to go: 4 of the version, and 2 of each no-op.
+fn open_unsent(server: &mut Table) -> Result<(), Unplayed> {
+    let unsent = server.open()?;
+    server.feed(unsent, OFFER)?;
+    for _noop in 0..32_766 {
+        server.noop(unsent)?;
+    }
+    Ok(())
+}
+
+fn four(alloc: Global) -> Result<Table, Unplayed> {
     let mut server = server(alloc)?;
     open_three(&mut server)?;
+    open_unsent(&mut server)?;
     Ok(server)
 }
 
@@ -42,7 +53,7 @@ fn is_took(took: Result<Took, server::Refused>, what: What) -> bool {
     matches!(took, Ok(took) if took.used == 0 && took.what == what)
 }
 
-/// What sessions answer without memory.
+/// What the first three sessions answer without memory.
 fn sessions_answer(server: &mut Table) -> bool {
     let is_fed = is_took(server.feed(0, RESET), What::Full)
         && is_took(server.feed(1, RESET), What::Closed);
@@ -60,11 +71,16 @@ fn sessions_answer(server: &mut Table) -> bool {
         && lost == (Some(Cause::Lost), Some(Cause::BadMagic), None)
 }
 
+/// What the fourth answers.
+fn unsent_answers(server: &mut Table) -> bool {
+    server.work(3) == Ok(Worked::Full) && server.noop(3) == Ok(false)
+}
+
 pub fn sessions(alloc: Global) -> Result<bool, Unplayed> {
-    let mut server = three(alloc)?;
+    let mut server = four(alloc)?;
     let mut hunger = Hunger::new(alloc)?;
     hunger.starve();
-    let held = sessions_answer(&mut server);
+    let held = sessions_answer(&mut server) && unsent_answers(&mut server);
     hunger.feast();
     Ok(held)
 }

@@ -83,7 +83,7 @@ const COMMITS: &[u8] = b"hello\nlogon\nbegin\ncommit\n";
 
 /// What is told where a version is taken, and where none is.
 const GREETED: &str =
-    "version 5.1; each line is a request: hello, logon [bad], logoff, goodbye, reset, run TEXT HEX [r], begin [r], commit, rollback, discard N or pull N\n";
+    "version 5.1; each line is a request: hello, logon [bad], logoff, goodbye, reset, run TEXT HEX [r] [token T], begin [r] [token T], commit, rollback, discard N or pull N\n";
 
 const NOT_GREETED: &str = "no conversation: no version was taken, or the server is gone\n";
 
@@ -98,7 +98,7 @@ const SHELLS: [Shell; 12] = [
         Case {
             lines: LINES,
             out: PRINTED,
-            err: "line 9 unreadable\nexpected hello, logon [bad], logoff, goodbye, reset, run TEXT HEX [r], begin [r], commit, rollback, discard N or pull N\n",
+            err: "line 9 unreadable\nexpected hello, logon [bad], logoff, goodbye, reset, run TEXT HEX [r] [token T], begin [r] [token T], commit, rollback, discard N or pull N\n",
             status: 2,
         },
     ),
@@ -302,7 +302,7 @@ const LOOPS: [Case; 5] = [
     Case {
         lines: b"hello\n\nnothing\n",
         out: "",
-        err: "line 3 unreadable\nexpected hello, logon [bad], logoff, goodbye, reset, run TEXT HEX [r], begin [r], commit, rollback, discard N or pull N\n",
+        err: "line 3 unreadable\nexpected hello, logon [bad], logoff, goodbye, reset, run TEXT HEX [r] [token T], begin [r] [token T], commit, rollback, discard N or pull N\n",
         status: 2,
     },
 ];
@@ -413,7 +413,7 @@ fn escapes_control_characters(rt: HostRuntime) -> Result<(), Fail> {
 }
 
 #[test]
-fn tells_a_fault(rt: HostRuntime) {
+fn tells_a_fault(rt: HostRuntime) -> Result<(), Fail> {
     for (fault, text, status) in [
         (StreamFault::ReadFailed, "fault I1\n", 1),
         (StreamFault::WriteFailed, "fault I2\n", 1),
@@ -422,5 +422,8 @@ fn tells_a_fault(rt: HostRuntime) {
         let mut err = Buffer::new(Vec::new(rt.alloc()));
         assert_eq!(rt; put_fault(fault, &mut err), status);
         assert_eq!(rt; err.bytes(), text.as_bytes());
+        let line = format!(in rt.alloc(); "fault {fault}\n")?;
+        assert_eq!(rt; line.as_str(), text);
     }
+    Ok(())
 }

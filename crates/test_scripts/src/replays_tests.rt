@@ -366,6 +366,10 @@ const ROWS: &[Row] = &[
         &[ALL_WAIT, COMMITTED],
     ),
     (
+        &[PIPELINE, SERVER, WORK, CLIENT, CUT],
+        &[ALL_HEARD, COMMITTED],
+    ),
+    (
         &[PIPELINE, SERVER_LOST, SERVER, WORK, CLIENT],
         &[ALL_WAIT, ENDED],
     ),
@@ -375,6 +379,10 @@ const ROWS: &[Row] = &[
     ),
     (
         &[PIPELINE, SERVER, WORK, SERVER_LOST, CLIENT],
+        &[ALL_HEARD, ENDED_AFTER],
+    ),
+    (
+        &[PIPELINE, SERVER, WORK, CLIENT, SERVER_LOST],
         &[ALL_HEARD, ENDED_AFTER],
     ),
     // A transaction that is sent again under its token after a loss stands once, whichever attempt the server works first.
@@ -448,6 +456,13 @@ const ROWS: &[Row] = &[
             "foreign 0 0002B00F0000\nwork 0 all",
         ],
         &["line 35 Full\nconn 0\nserver ended E5\n"],
+    ),
+    // A LOGON with other credentials is refused.
+    (
+        &[
+            "open 5.1\nserver 0 all\nclient 0 all\nsubmit 0 hello\nsubmit 0 logon bad\nserver 0 all\nwork 0 all\nclient 0 all\n",
+        ],
+        &["conn 0\nheard 0 Done Unauth\nheard 1 Refused Defunct\nserver ended E6\n"],
     ),
     // At 4.4 a HELLO has the login.
     (

@@ -209,10 +209,6 @@ const MEANT_WITH_LOGIN: &[(&[u8], &str)] = &[(
 
 const MEANT_AT_51: &[(&[u8], &str)] = &[
     (b"hello", "Hello { agent: \"t/1\", auth: None }"),
-    (
-        b"logon bad",
-        "Logon(Auth { scheme: \"basic\", principal: \"user\", .. })",
-    ),
     (b"pull 3", "Pull(Of(3))"),
     (
         b"begin token t1",
@@ -273,7 +269,22 @@ fn texts_are_read(rt: HostRuntime) -> Result<(), Fail> {
             );
         }
     }
-    let fault = format!(in rt.alloc(); "{}", ScriptFault::Unreadable(4))?;
-    assert_eq!(rt; fault.as_str(), "line 4 unreadable");
+    Ok(())
+}
+
+/// Faults of scripts, and their texts.
+const TEXTS: &[(ScriptFault, &str)] = &[
+    (ScriptFault::Unreadable(4), "line 4 unreadable"),
+    (ScriptFault::Memory, "out of memory"),
+];
+
+#[test]
+fn texts_of_faults(rt: HostRuntime) -> Result<(), Fail> {
+    for (fault, wanted) in TEXTS {
+        let text = format!(in rt.alloc(); "{fault}")?;
+        assert_eq!(rt; text.as_str(), *wanted);
+    }
+    let text = format!(in rt.alloc(); "{}", LineFault::Memory)?;
+    assert_eq!(rt; text.as_str(), "out of memory");
     Ok(())
 }

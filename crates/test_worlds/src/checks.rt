@@ -10,7 +10,7 @@ use std::alloc::Global;
 /// A refused event changed the report.
 const TORN: u64 = 7;
 
-/// There was no memory to begin with, or a script can't be read.
+/// There was no memory to begin with, or a script isn't there or can't be read.
 pub const NOT_PLAYED: u64 = 8;
 
 /// How often a step is given again where the play itself wants memory.
@@ -43,7 +43,9 @@ pub fn checked(alloc: Global, play: &Play) -> u64 {
 /// Plays a script by its number, and answers what `digest` gives of its report, or a number below 100 where it couldn't be played or
 /// something didn't hold.
 pub fn plays_script(alloc: Global, number: u32) -> u64 {
-    let script = SCRIPTS.get(number as usize).copied().unwrap_or("");
+    let Some(script) = SCRIPTS.get(number as usize).copied() else {
+        return NOT_PLAYED;
+    };
     match played(alloc, script) {
         Ok(told) => told,
         Err(_) => NOT_PLAYED,

@@ -235,7 +235,9 @@ fn numbers_in_turn(sent: &[Request], told: &Connection<'_>) -> bool {
 fn is_bad_end(standing: Standing) -> bool {
     matches!(
         standing,
-        Standing::Ended(Cause::BadMagic | Cause::TooBig | Cause::Malformed | Cause::Invalid)
+        Standing::Ended(
+            Cause::BadMagic | Cause::NoVersion | Cause::TooBig | Cause::Malformed | Cause::Invalid
+        )
     )
 }
 

@@ -102,7 +102,7 @@ impl Play {
         self.world.report().connection(conn)
     }
 
-    /// A number of all that is reported. It takes no memory.
+    /// A number of all that is reported but who the peers are and the values of writes. It takes no memory.
     pub fn digest(&self) -> u64 {
         let mut sum = 14_695_981_039_346_656_037;
         for conn in 0..MOST_CONNECTIONS {
