@@ -9,9 +9,8 @@ use Rattle.server.specs.Prelude.{Rest, Live, find, fresh}
 use Rattle.streams.specs.declared.fault.Standing.{Standing}
 use Rattle.streams.specs.declared.fault.Standing.TheVariants.{Open, Over}
 use Rattle.streams.specs.declared.fault.StreamFault.{StreamFault}
-use Rattle.streams.specs.Prelude.{AppendsFront, HasSent, Breaks, told_by, Stands, TakesPiece, IsDueTo, Talk, conversation, with_talk, IsTurn, Converses, ConversesFront}
-use Rattle.streams.proofs.Stepping.{breaks_with}
-use Rattle.streams.proofs.Talks.{breaks_more, talk_by_items, told_over}
+use Rattle.streams.specs.Prelude.{AppendsFront, HasSent, StandsOver, told_by, BreaksIn, Stands, TakesPiece, IsDueTo, Talk, conversation, with_talk, IsTurn, IsBrokenOff, Converses, ConversesFront}
+use Rattle.streams.proofs.Talks.{breaks_more, breaks_whole, comes_by_items, talk_by_items, told_over}
 use Rattle.streams.specs.declared.fault.StreamFault.TheVariants as stream_fault
 use Rattle.streams.proofs.Called.{replace-itself}
 
@@ -43,30 +42,50 @@ gone_front (Some xs) (Some ys) (Some zs) before held out p s h =
 -- A piece was taken, and not all of what waited behind it has gone.
 module _ {G : Type 0} (r : Rest G) (conn : ℕ) (S : Setting) (before old mid new : Option (List ℕ)) (up piece waited held left : List ℕ) (Now : Rest G → Type 0)
     (none : waited ≡ []) (keeps : Keeps (append_known mid held) (append_known new left)) (began : Appends before old (told_by r conn S up).out) (sent : HasSent old new) where
-  held_broken : (used : List ℕ) → Breaks r conn (told_by r conn S used) Now before (append_known mid held) → Breaks r conn (told_by r conn S used) Now before new
+  held_broken : (used : List ℕ) → BreaksIn r conn S used Now before (append_known mid held) → BreaksIn r conn S used Now before new
   held_broken used b =
-      let out = (told_by r conn S used).out in
-      breaks_with b (told_by r conn S used) before new b.more b.grown (gone_front before old new (told_by r conn S up).out left out began sent (front_kept before (append_known mid held) (append_known new left) out b.took keeps))
+      let out = b.so_far.out in
+      record {
+        so_far = b.so_far;
+        comes = b.comes;
+        stands = b.stands;
+        took = gone_front before old new (told_by r conn S up).out left out began sent (front_kept before (append_known mid held) (append_known new left) out b.took keeps);
+        more = b.more;
+        rest = b.rest;
+        grown = b.grown;
+        due = b.due;
+      }
 
-  held_stands : (used : List ℕ) → Stands r conn S Now before (append_known mid held) used → Breaks r conn (told_by r conn S used) Now before new
-  held_stands used s =
-      let t = told_by r conn S used in
-      held_broken used (record { unfinished = state at_server at_server.start used; kept = t.kept; ledger = t.ledger; more = []; now = s.0; grown = append-nil t.ledger; took = (t.out, [], append-nil t.out, s.1) })
+  held_stands : (used : List ℕ) → Stands r conn S Now before (append_known mid held) used → BreaksIn r conn S used Now before new
+  held_stands used s = held_broken used (breaks_whole r conn S used Now before (append_known mid held) (state at_server at_server.start used) (told_by r conn S used).kept s.0 s.1)
 
   -- so it was broken off
-  pub piece_held : (done : Result Standing StreamFault) → (Appends before (append_known old waited) (told_by r conn S up).out → TakesPiece r conn S Now before (append_known mid held) up piece done) → Breaks r conn (told_by r conn S (up ++ piece)) Now before new
+  pub piece_held : (done : Result Standing StreamFault) → (Appends before (append_known old waited) (told_by r conn S up).out → TakesPiece r conn S Now before (append_known mid held) up piece done) → BreaksIn r conn S (up ++ piece) Now before new
   piece_held done takes = go done (takes (subst (λ (o : Option (List ℕ)). Appends before o (told_by r conn S up).out) (sym (ap (append_known old) none ∙ none_held old)) began))
     where
-      go : (done : Result Standing StreamFault) → TakesPiece r conn S Now before (append_known mid held) up piece done → Breaks r conn (told_by r conn S (up ++ piece)) Now before new
+      go : (done : Result Standing StreamFault) → TakesPiece r conn S Now before (append_known mid held) up piece done → BreaksIn r conn S (up ++ piece) Now before new
       go (Ok Open) h = held_stands (up ++ piece) h.0
       go (Ok Over) h =
-          subst (λ (z : List ℕ). Breaks r conn (told_by r conn S z) Now before new) (append_assoc up h.front h.rest ∙ ap (λ (z : List ℕ). up ++ z) h.parts)
+          subst (λ (z : List ℕ). BreaksIn r conn S z Now before new) (append_assoc up h.front h.rest ∙ ap (λ (z : List ℕ). up ++ z) h.parts)
           (breaks_more r conn S (up ++ h.front) h.rest Now before new (held_stands (up ++ h.front) h.stands))
       go (Err fault) h = held_broken (up ++ piece) h
 
 module _ {G : Type 0} (r : Rest G) (conn : ℕ) (S : Setting) where
   by_read : (read : List ℕ) → told_by r conn S read ≡ conversation S conn r.ledger read
   by_read read = sym (talk_by_items S conn r.ledger read)
+
+  -- what broke off the one by its items broke off the other
+  abbrev broken_by_read : (read : List ℕ) (Now : Rest G → Type 0) (old new : Option (List ℕ)) → BreaksIn r conn S read Now old new → IsBrokenOff r conn S read (StandsOver r conn Now) old new
+  broken_by_read read Now old new b = record {
+    so_far = b.so_far;
+    comes = comes_by_items S conn r.ledger read b.so_far b.comes;
+    stands = b.stands;
+    took = b.took;
+    more = b.more;
+    rest = b.rest;
+    grown = b.grown ∙ ap (λ (t : Talk). t.ledger) (by_read read);
+    due = b.due ∙ ap (λ (t : Talk). t.out) (by_read read);
+  }
 
   -- what was read of known bytes leads to what all of them lead to, where the reading ended with them or with the session
   pub read_all : (bytes : List ℕ) (left_now : Option (List ℕ)) (read : List ℕ) → Consumes (Some bytes) left_now read → IsAtEnd left_now ⊎ IsSome (conversation S conn r.ledger read).kept.ended → conversation S conn r.ledger read ≡ conversation S conn r.ledger bytes
@@ -123,15 +142,9 @@ module _ {G : Type 0} {r : Rest G} {conn : ℕ} {S : Setting} {left before taken
   pub reads_none : (new : Option (List ℕ)) → Keeps left_now new → (fault : StreamFault) → ConversesFront r conn S Now left new before taken fault
   reads_none new h fault = record {
     read = p.up;
-    unfinished = state at_server at_server.start p.up;
-    kept = t.kept;
-    ledger = t.ledger;
-    more = [];
     input = Consumes-kept left left_now new p.up p.input h;
-    now = subst (λ (t : Talk). Now (with_talk r conn (state at_server at_server.start p.up) t.ledger t.kept)) (by_read r conn S p.up) p.stands.0;
-    grown = append-nil t.ledger;
-    took = (t.out, [], append-nil t.out, out);
-    whole = λ e. (refl, out);
+    broken = broken_by_read r conn S p.up Now before taken (breaks_whole r conn S p.up Now before taken (state at_server at_server.start p.up) (told_by r conn S p.up).kept p.stands.0 p.stands.1);
+    whole = λ e. (ap (λ (t : Talk). t.ledger) (by_read r conn S p.up), out);
   }
 
   -- a piece more is read
@@ -150,19 +163,7 @@ module _ {G : Type 0} {r : Rest G} {conn : ℕ} {S : Setting} {left before taken
     -- a fault comes in what it makes due
     pub reads_broken : (fault : StreamFault) → (fault ≡ stream_fault.ReadFailed → ⊥) → TakesPiece r conn S Then before new p.up piece (Err fault) → ConversesFront r conn S Then left next before new fault
     reads_broken fault never h =
-        let b = subst (λ (t : Talk). Breaks r conn t Then before new) (by_read r conn S (p.up ++ piece)) h in
-        record {
-          read = p.up ++ piece;
-          unfinished = b.unfinished;
-          kept = b.kept;
-          ledger = b.ledger;
-          more = b.more;
-          input = all_of;
-          now = b.now;
-          grown = b.grown;
-          took = b.took;
-          whole = λ e. absurd (never e);
-        }
+        record { read = p.up ++ piece; input = all_of; broken = broken_by_read r conn S (p.up ++ piece) Then before new h; whole = λ e. absurd (never e) }
 
 -- a fault that is due to the sink or to memory alone isn't one of the source
 pub never_read : (fault : StreamFault) (output : Bool) → IsDueTo fault false output → fault ≡ stream_fault.ReadFailed → ⊥

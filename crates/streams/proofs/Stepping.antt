@@ -9,7 +9,7 @@ use Rattle.session.specs.declared.kinds.Cause.{Cause}
 use Rattle.session.specs.Prelude.{Setting, Open, no_result, Tx, Reply, OneRow, Summary, Bye, no_tx, serve, Kept, rests, turns, serves, Done, Idle, Full, WroteRow, Wrote, Ended, Step, work_kept, replies, after_interrupt, version_of, commit_entries, worked_of}
 use Rattle.session.proofs.Served.{Served, writes_row, serving}
 use Rattle.machine.specs.declared.kinds.Kind.{Kind}
-use Rattle.streams.specs.Prelude.{Talk, silent, after_bytes, heard_out, step_then, steps, steps_due, with_talk, talk_of_due, IsPlaced, due, outcome, standing_of, HasNothingDue, WorkStep, StepsOut, Breaks, SettlesWhole, Puts, AppendsFront}
+use Rattle.streams.specs.Prelude.{Talk, silent, after_bytes, heard_out, step_then, steps, steps_due, with_talk, talk_of_due, IsSteps, IsPartOfDue, IsPlaced, due, outcome, standing_of, HasNothingDue, WorkStep, StepsOut, Breaks, SettlesWhole, Puts, AppendsFront}
 use Rattle.wire.specs.Prelude.{Opened}
 use Rattle.server.specs.Prelude.{Rest}
 use Rattle.streams.specs.declared.fault.Standing.{Standing}
@@ -101,6 +101,19 @@ steps_over S c zero ledger k e a (inl s) l = ap (silent ledger) (sym s)
 steps_over S c zero ledger k e a (inr s) l = absurd (omega arith)
 steps_over S c (suc n) ledger k e a s l = ap (λ (x : Done). step_then c k.first ledger (after_step S c ledger k) x (steps S c n)) a
 
+-- Where nothing waits nothing is done, however many steps there might be.
+pub steps_none : (S : Setting) (c n : ℕ) (ledger : List EntryView) (k : Kept) → k.unsent ≡ [] → k.ended ≡ None → k.waiting ≡ [] → steps S c n ledger k ≡ silent ledger k
+steps_none S c n ledger k s o w = go (stepped S c ledger k s (subst IsPlaced (sym w) tt))
+  where
+    none : due k ≡ 0
+    none = ap (λ (xs : List Arrival). steps_due xs (length k.result.rows)) w
+
+    go : StepKind k (after_step S c ledger k) → steps S c n ledger k ≡ silent ledger k
+    go (idle e q v u) = steps_idle S c n ledger k e
+    go (over e a q m u v (inl same)) = let bad : Some e ≡ None = sym q ∙ ap (λ (x : Kept). x.ended) same ∙ o in cc
+    go (over e a q m u v (inr some)) = absurd (omega (arith, none, some))
+    go (puts i q f v) = absurd (omega (arith, none, f))
+
 -- After all that is due nothing is.
 abbrev pub RestsAs : Kept → Talk → Type 0
 RestsAs k t = Rested t.kept × (t.kept.version ≡ k.version)
@@ -161,7 +174,7 @@ module _ {G : Type 0} (r : Rest G) (conn : ℕ) (u : Opened) (S : Setting) (Now 
   works_by (suc m) ledger k l h (puts i q f v) =
       let d = after_step S conn ledger k in
       subst (λ (x : Option Standing). WorkStep r conn u ledger k S (suc m) Now (Ok x)) (sym (outcome_put d.answer i))
-      (record { less = m; after = ledger ++ commit_entries conn k.first d.commit; left = d.kept; one_less = refl; follows = steps_put S conn m ledger k d i; placed = q; enough = omega arith; now = h })
+      (record { less = m; after = ledger ++ commit_entries conn k.first d.commit; left = d.kept; one_less = refl; follows = λ n. steps_put S conn n ledger k d i; placed = q; enough = omega arith; now = h })
 
 -- what a sink took whole
 pub front_whole : (a b : Option (List ℕ)) (bs : List ℕ) → Appends a b bs → AppendsFront a b bs
@@ -175,27 +188,48 @@ front_after a b c bs cs p q = (bs ++ q.0, q.1, append_assoc bs q.0 q.1 ∙ ap (�
 pub front_more : (a b : Option (List ℕ)) (bs cs : List ℕ) → AppendsFront a b bs → AppendsFront a b (bs ++ cs)
 front_more a b bs cs p = (p.0, p.1 ++ cs, sym (append_assoc p.0 p.1 cs) ∙ ap (λ z. z ++ cs) p.2, p.3)
 
--- A fault that leaves as much of another conversation.
-pub breaks_with : {G : Type 0} {r : Rest G} {conn : ℕ} {t : Talk} {Now : Rest G → Type 0} {before new : Option (List ℕ)} (b : Breaks r conn t Now before new) (whole : Talk) (old taken : Option (List ℕ)) (more : List EntryView) → b.ledger ++ more ≡ whole.ledger → AppendsFront old taken whole.out → Breaks r conn whole Now old taken
-breaks_with b whole old taken more grown took = record { unfinished = b.unfinished; kept = b.kept; ledger = b.ledger; more = more; now = b.now; grown = grown; took = took }
+-- bytes before bytes before a conversation
+pub after_twice : (a b : List ℕ) (t : Talk) → after_bytes a (after_bytes b t) ≡ after_bytes (a ++ b) t
+after_twice a b t = ap (λ z. record { out = z; ledger = t.ledger; kept = t.kept }) (sym (append_assoc a b t.out))
 
 -- A fault in what follows is one in the whole.
-pub breaks_after : {G : Type 0} (r : Rest G) (conn : ℕ) (t : Talk) (out : List ℕ) (Now : Rest G → Type 0) (before old new : Option (List ℕ)) → Appends before old out → Breaks r conn t Now old new → Breaks r conn (after_bytes out t) Now before new
-breaks_after r conn t out Now before old new a b = breaks_with b (after_bytes out t) before new b.more b.grown (front_after before old new out t.out a b.took)
+pub breaks_after : {G : Type 0} (r : Rest G) (conn : ℕ) (t : Talk) (out : List ℕ) (Comes Wholly : Talk → Type 0) (Now : Rest G → Type 0) (before old new : Option (List ℕ)) → Appends before old out → ((s : Talk) → Comes s → Wholly (after_bytes out s)) → Breaks r conn t Comes Now old new
+    → Breaks r conn (after_bytes out t) Wholly Now before new
+breaks_after r conn t out Comes Wholly Now before old new a comes b = record {
+  so_far = after_bytes out b.so_far;
+  comes = comes b.so_far b.comes;
+  stands = b.stands;
+  took = front_after before old new out b.so_far.out a b.took;
+  more = b.more;
+  rest = b.rest;
+  grown = b.grown;
+  due = append_assoc out b.so_far.out b.rest ∙ ap (λ (z : List ℕ). out ++ z) b.due;
+}
 
 -- One before the steps that follow.
-pub breaks_steps : {G : Type 0} {r : Rest G} {conn : ℕ} {Now : Rest G → Type 0} {old new : Option (List ℕ)} (u : Opened) (S : Setting) (n : ℕ) (ledger : List EntryView) (next k : Kept) (out : List ℕ) → Now (with_talk r conn u ledger k) → AppendsFront old new out → Breaks r conn (after_bytes out (steps S conn n ledger next)) Now old new
-breaks_steps {conn = conn} {old = old} {new = new} u S n ledger next k out h took =
+pub breaks_steps : {G : Type 0} {r : Rest G} {conn : ℕ} {Now : Rest G → Type 0} {old new : Option (List ℕ)} (Comes : Talk → Type 0) (u : Opened) (S : Setting) (n : ℕ) (ledger : List EntryView) (next k : Kept) (out : List ℕ) → Comes (after_bytes out (silent ledger next)) → Now (with_talk r conn u ledger k) → AppendsFront old new out
+    → Breaks r conn (after_bytes out (steps S conn n ledger next)) Comes Now old new
+breaks_steps {conn = conn} {old = old} {new = new} Comes u S n ledger next k out comes h took =
     let g = steps_grow S conn n ledger next in
-    record { unfinished = u; kept = k; ledger = ledger; more = g.0; now = h; grown = g.1; took = front_more old new out (steps S conn n ledger next).out took }
+    record {
+      so_far = after_bytes out (silent ledger next);
+      comes = comes;
+      stands = record { unfinished = u; kept = k; now = h };
+      took = front_more old new out [] took;
+      more = g.0;
+      rest = (steps S conn n ledger next).out;
+      grown = g.1;
+      due = ap (λ (z : List ℕ). z ++ (steps S conn n ledger next).out) (append-nil out);
+    }
 
 -- Some of it is out, and the rest follows from what the session keeps.
-pub record GoesOn {G : Type 0} (r : Rest G) (conn : ℕ) (u : Opened) (S : Setting) (t : Talk) (before : Option (List ℕ)) (Now : Rest G → Type 0) (taken : Option (List ℕ)) : Type 0 where
+pub record GoesOn {G : Type 0} (r : Rest G) (conn : ℕ) (u : Opened) (S : Setting) (t : Talk) (Comes : Talk → Type 0) (before : Option (List ℕ)) (Now : Rest G → Type 0) (taken : Option (List ℕ)) : Type 0 where
   pub most : ℕ
   pub ledger : List EntryView
   pub kept : Kept
   pub out : List ℕ
   pub follows : t ≡ after_bytes out (steps S conn most ledger kept)
+  pub comes : (n : ℕ) → Comes (after_bytes out (steps S conn n ledger kept))
   pub sent : kept.unsent ≡ []
   pub placed : IsPlaced kept.waiting
   pub enough : due kept ≤ most
@@ -203,19 +237,20 @@ pub record GoesOn {G : Type 0} (r : Rest G) (conn : ℕ) (u : Opened) (S : Setti
   pub took : Appends before taken out
 
 -- What waits to go is out, and the steps follow.
-pub goes_first : {G : Type 0} {r : Rest G} {conn : ℕ} {u : Opened} {S : Setting} {Now : Rest G → Type 0} {old new : Option (List ℕ)} (ledger : List EntryView) (k : Kept) → IsPlaced k.waiting → Puts r conn u ledger k Now old new (Ok tt) → GoesOn r conn u S (talk_of_due S conn ledger k) old Now new
-goes_first ledger k p h = record { most = due k; ledger = ledger; kept = heard_out k; out = k.unsent; follows = refl; sent = refl; placed = p; enough = omega arith; now = h.0; took = h.1 }
+pub goes_first : {G : Type 0} {r : Rest G} {conn : ℕ} {u : Opened} {S : Setting} {Now : Rest G → Type 0} {old new : Option (List ℕ)} (ledger : List EntryView) (k : Kept) → IsPlaced k.waiting → Puts r conn u ledger k Now old new (Ok tt)
+    → GoesOn r conn u S (talk_of_due S conn ledger k) (IsPartOfDue S conn ledger k) old Now new
+goes_first ledger k p h = record { most = due k; ledger = ledger; kept = heard_out k; out = k.unsent; follows = refl; comes = λ n. (n, refl); sent = refl; placed = p; enough = omega arith; now = h.0; took = h.1 }
 
-module _ {G : Type 0} {r : Rest G} {conn : ℕ} {u : Opened} {S : Setting} {t : Talk} {before old new : Option (List ℕ)} {Now Then : Rest G → Type 0} (g : GoesOn r conn u S t before Now old) where
-  pub goes_further : StepsOut r conn u g.ledger g.kept S g.most Then old new → GoesOn r conn u S t before Then new
+module _ {G : Type 0} {r : Rest G} {conn : ℕ} {u : Opened} {S : Setting} {t : Talk} {Comes : Talk → Type 0} {before old new : Option (List ℕ)} {Now Then : Rest G → Type 0} (g : GoesOn r conn u S t Comes before Now old) where
+  pub goes_further : StepsOut r conn u g.ledger g.kept S g.most Then old new → GoesOn r conn u S t Comes before Then new
   goes_further h =
-      let later = steps S conn h.less h.after h.left in
       record {
         most = h.less;
         ledger = h.after;
         kept = h.left;
         out = g.out ++ h.out;
-        follows = g.follows ∙ ap (after_bytes g.out) h.follows ∙ ap (λ z. record { out = z; ledger = later.ledger; kept = later.kept }) (sym (append_assoc g.out h.out later.out));
+        follows = g.follows ∙ ap (λ (n : ℕ). after_bytes g.out (steps S conn n g.ledger g.kept)) h.one_less ∙ ap (after_bytes g.out) (h.follows h.less) ∙ after_twice g.out h.out (steps S conn h.less h.after h.left);
+        comes = λ n. subst Comes (ap (after_bytes g.out) (h.follows n) ∙ after_twice g.out h.out (steps S conn n h.after h.left)) (g.comes (suc n));
         sent = h.sent;
         placed = h.placed;
         enough = h.enough;
@@ -228,10 +263,12 @@ module _ {G : Type 0} {r : Rest G} {conn : ℕ} {u : Opened} {S : Setting} {t : 
       subst (λ (x : Talk). SettlesWhole r conn u x Then before new standing) (sym g.follows)
       (record { now = h.now; took = Appends-trans before old new g.out (steps S conn g.most g.ledger g.kept).out g.took h.took; stands = h.stands })
 
-  pub goes_wrong : Breaks r conn (steps S conn g.most g.ledger g.kept) Then old new → Breaks r conn t Then before new
-  goes_wrong h = subst (λ (x : Talk). Breaks r conn x Then before new) (sym g.follows) (breaks_after r conn (steps S conn g.most g.ledger g.kept) g.out Then before old new g.took h)
+  pub goes_wrong : Breaks r conn (steps S conn g.most g.ledger g.kept) (IsSteps S conn g.ledger g.kept) Then old new → Breaks r conn t Comes Then before new
+  goes_wrong h =
+      subst (λ (x : Talk). Breaks r conn x Comes Then before new) (sym g.follows)
+      (breaks_after r conn (steps S conn g.most g.ledger g.kept) g.out (IsSteps S conn g.ledger g.kept) Comes Then before old new g.took (λ s w. subst (λ (z : Talk). Comes (after_bytes g.out z)) (sym w.1) (g.comes w.0)) h)
 
 -- It is given up.
-pub goes_no_further : {G : Type 0} {r : Rest G} {conn : ℕ} {u : Opened} {S : Setting} {t : Talk} {before old : Option (List ℕ)} {Now : Rest G → Type 0} → GoesOn r conn u S t before Now old → Breaks r conn t Now before old
-goes_no_further {r = r} {conn = conn} {u = u} {S = S} {before = before} {old = old} {Now = Now} g =
-    subst (λ (x : Talk). Breaks r conn x Now before old) (sym g.follows) (breaks_steps u S g.most g.ledger g.kept g.kept g.out g.now (front_whole before old g.out g.took))
+pub goes_no_further : {G : Type 0} {r : Rest G} {conn : ℕ} {u : Opened} {S : Setting} {t : Talk} {Comes : Talk → Type 0} {before old : Option (List ℕ)} {Now : Rest G → Type 0} → GoesOn r conn u S t Comes before Now old → Breaks r conn t Comes Now before old
+goes_no_further {r = r} {conn = conn} {u = u} {S = S} {Comes = Comes} {before = before} {old = old} {Now = Now} g =
+    subst (λ (x : Talk). Breaks r conn x Comes Now before old) (sym g.follows) (breaks_steps Comes u S g.most g.ledger g.kept g.kept g.out (g.comes 0) g.now (front_whole before old g.out g.took))

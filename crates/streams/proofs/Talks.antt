@@ -1,14 +1,14 @@
 -- What a conversation has come to after some bytes of the client: by its items, by what arrives, and by the pieces that are taken.
-use Rattle.std.proofs.Common.{◌≡◌, refl, sym, ap, subst, ◌∙◌, ℕ, Bool, true, false, List, [], ◌∷◌, ◌++◌, append-nil, append_assoc, Option, Some, None, option_to_list, arith, take, drop, take-append-drop, Ok, Err, Result, ◌&&◌, if◌then◌else◌, IsSome, is_some, ◌||◌, bytes_eq}
+use Rattle.std.proofs.Common.{◌≡◌, refl, sym, ap, subst, ◌∙◌, ℕ, Bool, true, false, List, [], ◌∷◌, ◌++◌, append-nil, append_assoc, Option, Some, None, option_to_list, arith, take, drop, take-append-drop, Ok, Err, Result, ◌&&◌, ◌⊎◌, inl, inr, if◌then◌else◌, IsSome, is_some, ◌||◌, bytes_eq}
 use Rattle.wire.specs.Prelude.{Item, Opened, at_server, items_received, Opening, Noop, Message, TooBig, Took, state, outputs, takes, magic, choice_of as version_taken}
-use Rattle.messages.specs.Prelude.{Arrival, Asked, Unread, TooLong, Shook, NoMagic, then_request, requests_in, after_shake, arrivals_of, RequestView, request_of}
+use Rattle.messages.specs.Prelude.{Arrival, Asked, Unread, TooLong, Shook, NoMagic, then_request, requests_in, after_shake, arrivals, arrivals_of, RequestView, request_of}
 use Rattle.machine.specs.Prelude.{kind_of, is_reset, interruptible}
 use Rattle.engine.specs.Prelude.{EntryView}
 use Rattle.session.specs.declared.kinds.Cause.{Cause}
 use Rattle.session.specs.Prelude.{Setting, Kept, after_item, after_interrupt, version_of, begun, shut, unread_among, arrival_by}
 use Rattle.server.specs.Prelude.{arrives, arrival as arrival_of, Rest}
-use Rattle.streams.specs.Prelude.{Talk, silent, after_bytes, heard_out, steps, talk_of_due, unless_ended, talk_then, with_talk, talk_of_arrivals, conversation, IsPlaced, due, item_talk, standing_of, Breaks, Settles, Feeds, told_by, TakesOne, Stands, TakesFront, TakesPiece}
-use Rattle.streams.proofs.Stepping.{Grown, Rested, RestsAs, steps_grow, steps_rest, breaks_after, breaks_with, front_more}
+use Rattle.streams.specs.Prelude.{Talk, silent, after_bytes, heard_out, steps, talk_of_due, unless_ended, talk_then, with_talk, talk_of_arrivals, conversation, IsPartOfDue, due_of, ComesTo, nothing_yet, part_of_first, after_first, as_it_is, ConversationComesTo, IsPlaced, due, as_item, item_talk, standing_of, Breaks, Settles, Feeds, told_by, told_to, BreaksIn, TakesOne, Stands, TakesFront, TakesPiece}
+use Rattle.streams.proofs.Stepping.{Grown, Rested, RestsAs, after_twice, steps_grow, steps_none, steps_rest, breaks_after, front_whole}
 use Rattle.std.specs.Io.KnownBytes.{Appends}
 use Rattle.std.proofs.KnownBytes.{Appends-trans}
 use Rattle.wire.proofs.Readers.{outputs-append, state-append, takes_outputs}
@@ -23,11 +23,11 @@ use Rattle.messages.specs.Arrivals as arrival
 use Rattle.wire.proofs.Opening.{AreChunks, Came, part, whole, came}
 
 -- Where nothing is unsent and nothing waits there is nothing to do.
-pub settled_silent : (S : Setting) (c : ℕ) (ledger : List EntryView) (k : Kept) → k.unsent ≡ [] → k.waiting ≡ [] → talk_of_due S c ledger k ≡ silent ledger k
-settled_silent S c ledger k s w =
-    ap (λ xs. after_bytes k.unsent (steps S c (due (record k { waiting = xs })) ledger (heard_out k))) w
-    ∙ ap (λ (z : List ℕ). after_bytes z (silent ledger (heard_out k))) s
-    ∙ ap (λ (z : List ℕ). silent ledger (record k { unsent = z })) (sym s)
+settled_silent : (S : Setting) (c n : ℕ) (ledger : List EntryView) (k : Kept) → Rested k → k.ended ≡ None → after_bytes k.unsent (steps S c n ledger (heard_out k)) ≡ silent ledger k
+settled_silent S c n ledger k h e =
+    ap (after_bytes k.unsent) (steps_none S c n ledger (heard_out k) refl e (h.done e))
+    ∙ ap (λ (z : List ℕ). after_bytes z (silent ledger (heard_out k))) h.sent
+    ∙ ap (λ (z : List ℕ). silent ledger (record k { unsent = z })) (sym h.sent)
 
 -- one at most waits once an item was taken
 interrupted_placed : (b : Bool) (k : Kept) → IsPlaced k.waiting → IsPlaced (if b then after_interrupt k else k).waiting
@@ -52,10 +52,6 @@ item_talk_over S c (x ∷ xs) ledger k e = go k.ended e
     go : (o : Option Cause) → IsSome o → unless_ended o (silent ledger k) (talk_then (talk_of_due S c ledger (after_item k (Some (arrives (version_of k) x)))) (item_talk S c xs)) ≡ silent ledger k
     go (Some cause) e = refl
     go None e = cc
-
--- after_bytes twice
-pub after_twice : (a b : List ℕ) (t : Talk) → after_bytes a (after_bytes b t) ≡ after_bytes (a ++ b) t
-after_twice a b t = ap (λ z. record { out = z; ledger = t.ledger; kept = t.kept }) (sym (append_assoc a b t.out))
 
 pub item_talk-append : (S : Setting) (c : ℕ) (xs ys : List Item) (ledger : List EntryView) (k : Kept) → item_talk S c (xs ++ ys) ledger k ≡ talk_then (item_talk S c xs ledger k) (item_talk S c ys)
 item_talk-append S c [] ys ledger k = refl
@@ -98,10 +94,63 @@ item_talk_grows S c (x ∷ xs) ledger k = go k.ended (λ l n. item_talk_grows S 
 
 -- One item more, or none.
 pub one_item : (S : Setting) (c : ℕ) (o : Option Item) (ledger : List EntryView) (k : Kept) → Rested k → k.ended ≡ None → item_talk S c (option_to_list o) ledger k ≡ talk_of_due S c ledger (after_item k (arrival_of k o))
-one_item S c None ledger k h e = sym (settled_silent S c ledger k h.sent (h.done e))
+one_item S c None ledger k h e = sym (settled_silent S c (due k) ledger k h e)
 one_item S c (Some x) ledger k h e =
     let t : Talk = talk_of_due S c ledger (after_item k (Some (arrives (version_of k) x))) in
     ap (λ (o : Option Cause). unless_ended o (silent ledger k) (talk_then t (item_talk S c []))) e ∙ ap (λ z. record { out = z; ledger = t.ledger; kept = t.kept }) (append-nil t.out)
+
+-- A part of what it makes due.
+part_of_one : (S : Setting) (c : ℕ) (o : Option Item) (ledger : List EntryView) (k : Kept) (t : Talk) → Rested k → k.ended ≡ None → IsPartOfDue S c ledger (after_item k (arrival_of k o)) t → ComesTo as_item S c (option_to_list o) ledger k t
+part_of_one S c None ledger k t h e w = subst (ComesTo as_item S c [] ledger k) (sym (w.1 ∙ settled_silent S c w.0 ledger k h e)) (nothing_yet [] ledger k)
+part_of_one S c (Some x) ledger k t h e w = part_of_first x [] ledger k t e w
+
+no_end : (o : Option Cause) → IsSome o → o ≡ None → ⊥
+no_end None i e = cc
+no_end (Some cause) i e = cc
+
+-- Nothing is done after an end, whatever comes.
+comes_over : {A B : Type 0} {takes_as : Kept → A → Arrival} {takes_so : Kept → B → Arrival} {S : Setting} {c : ℕ} {xs : List A} {ledger : List EntryView} {k : Kept} {t : Talk} (ys : List B) → IsSome k.ended → ComesTo takes_as S c xs ledger k t → ComesTo takes_so S c ys ledger k t
+comes_over ys i (nothing_yet xs ledger k) = nothing_yet ys ledger k
+comes_over ys i (part_of_first x xs ledger k t e w) = absurd (no_end k.ended i e)
+comes_over ys i (after_first x xs ledger k t e h) = absurd (no_end k.ended i e)
+
+-- How far it may have come it may have come where more items follow, ..
+comes_longer : {A : Type 0} {takes_as : Kept → A → Arrival} {S : Setting} {c : ℕ} {xs : List A} {ledger : List EntryView} {k : Kept} {t : Talk} (ys : List A) → ComesTo takes_as S c xs ledger k t → ComesTo takes_as S c (xs ++ ys) ledger k t
+comes_longer ys (nothing_yet xs ledger k) = nothing_yet (xs ++ ys) ledger k
+comes_longer ys (part_of_first x xs ledger k t e w) = part_of_first x (xs ++ ys) ledger k t e w
+comes_longer ys (after_first x xs ledger k t e h) = after_first x (xs ++ ys) ledger k t e (comes_longer ys h)
+
+-- .. so it may where items come before, ..
+comes_later : (S : Setting) (c : ℕ) (xs ys : List Item) (ledger : List EntryView) (k : Kept) (t : Talk) → ComesTo as_item S c ys (item_talk S c xs ledger k).ledger (item_talk S c xs ledger k).kept t → ComesTo as_item S c (xs ++ ys) ledger k (after_bytes (item_talk S c xs ledger k).out t)
+comes_later S c [] ys ledger k t h = h
+comes_later S c (x ∷ xs) ys ledger k t h = go k.ended refl (λ l n. comes_later S c xs ys l n t) h
+  where
+    first : Talk
+    first = due_of S c ledger k (as_item k x)
+
+    said : Option Cause → Talk
+    said o = unless_ended o (silent ledger k) (talk_then first (item_talk S c xs))
+
+    go : (o : Option Cause) → k.ended ≡ o
+        → ((l : List EntryView) (n : Kept) → ComesTo as_item S c ys (item_talk S c xs l n).ledger (item_talk S c xs l n).kept t → ComesTo as_item S c (xs ++ ys) l n (after_bytes (item_talk S c xs l n).out t))
+        → ComesTo as_item S c ys (said o).ledger (said o).kept t → ComesTo as_item S c (x ∷ (xs ++ ys)) ledger k (after_bytes (said o).out t)
+    go (Some cause) e f h = comes_over (x ∷ (xs ++ ys)) (subst IsSome (sym e) refl) h
+    go None e f h =
+        let next = item_talk S c xs first.ledger first.kept in
+        subst (ComesTo as_item S c (x ∷ (xs ++ ys)) ledger k) (after_twice first.out next.out t)
+        (after_first x (xs ++ ys) ledger k (after_bytes next.out t) e (f first.ledger first.kept h))
+
+-- .. and it may have come to its end.
+pub comes_whole : (S : Setting) (c : ℕ) (xs : List Item) (ledger : List EntryView) (k : Kept) → ComesTo as_item S c xs ledger k (item_talk S c xs ledger k)
+comes_whole S c [] ledger k = nothing_yet [] ledger k
+comes_whole S c (x ∷ xs) ledger k = go k.ended refl (λ l n. comes_whole S c xs l n)
+  where
+    first : Talk
+    first = due_of S c ledger k (as_item k x)
+
+    go : (o : Option Cause) → k.ended ≡ o → ((l : List EntryView) (n : Kept) → ComesTo as_item S c xs l n (item_talk S c xs l n)) → ComesTo as_item S c (x ∷ xs) ledger k (unless_ended o (silent ledger k) (talk_then first (item_talk S c xs)))
+    go (Some cause) e f = nothing_yet (x ∷ xs) ledger k
+    go None e f = after_first x xs ledger k (item_talk S c xs first.ledger first.kept) e (f first.ledger first.kept)
 
 module _ {G : Type 0} (r : Rest G) (conn : ℕ) (S : Setting) where
   abbrev told : List ℕ → Talk
@@ -130,13 +179,34 @@ module _ {G : Type 0} (r : Rest G) (conn : ℕ) (S : Setting) where
       ∙ ap (λ z. record { out = z; ledger = (told up).ledger; kept = (told up).kept }) (append-nil (told up).out)
 
   -- what broke off a conversation breaks off a longer one
-  pub breaks_more : (up more : List ℕ) (Now : Rest G → Type 0) (before new : Option (List ℕ)) → Breaks r conn (told up) Now before new → Breaks r conn (told (up ++ more)) Now before new
+  pub breaks_more : (up more : List ℕ) (Now : Rest G → Type 0) (before new : Option (List ℕ)) → BreaksIn r conn S up Now before new → BreaksIn r conn S (up ++ more) Now before new
   breaks_more up more Now before new b =
-      let then_said = item_talk S conn (outputs at_server (kept_at up) more) in
-      let g = item_talk_grows S conn (outputs at_server (kept_at up) more) (told up).ledger (told up).kept in
-      subst (λ (x : Talk). Breaks r conn x Now before new) (sym (told_append up more))
-      (breaks_with b (talk_then (told up) then_said) before new (b.more ++ g.0) (sym (append_assoc b.ledger b.more g.0) ∙ ap (λ z. z ++ g.0) b.grown ∙ g.1)
-      (front_more before new (told up).out (then_said (told up).ledger (told up).kept).out b.took))
+      let items = outputs at_server (kept_at up) more in
+      let later = item_talk S conn items (told up).ledger (told up).kept in
+      let g = item_talk_grows S conn items (told up).ledger (told up).kept in
+      record {
+        so_far = b.so_far;
+        comes = subst (λ (xs : List Item). ComesTo as_item S conn xs r.ledger begun b.so_far) (sym (outputs-append Opened Item at_server at_server.start up more)) (comes_longer items b.comes);
+        stands = b.stands;
+        took = b.took;
+        more = b.more ++ g.0;
+        rest = b.rest ++ later.out;
+        grown = sym (append_assoc b.so_far.ledger b.more g.0) ∙ ap (λ z. z ++ g.0) b.grown ∙ g.1 ∙ ap (λ (x : Talk). x.ledger) (sym (told_append up more));
+        due = sym (append_assoc b.so_far.out b.rest later.out) ∙ ap (λ z. z ++ later.out) b.due ∙ ap (λ (x : Talk). x.out) (sym (told_append up more));
+      }
+
+  -- where all of it was done
+  abbrev pub breaks_whole : (up : List ℕ) (Now : Rest G → Type 0) (before new : Option (List ℕ)) (u : Opened) (k : Kept) → Now (with_talk r conn u (told up).ledger k) → Appends before new (told up).out → BreaksIn r conn S up Now before new
+  breaks_whole up Now before new u k h said = record {
+    so_far = told up;
+    comes = comes_whole S conn (items_received up) r.ledger begun;
+    stands = record { unfinished = u; kept = k; now = h };
+    took = front_whole before new (told up).out said;
+    more = [];
+    rest = [];
+    grown = append-nil (told up).ledger;
+    due = append-nil (told up).out;
+  }
 
   module _ (up piece : List ℕ) (goes_on : (told up).kept.ended ≡ None) where
     abbrev t : Took Opened Item
@@ -160,24 +230,29 @@ module _ {G : Type 0} (r : Rest G) (conn : ℕ) (S : Setting) where
         ∙ ap (λ xs. talk_then (told up) (item_talk S conn xs)) (takes_outputs Opened Item at_server (kept_at up) piece).0
         ∙ ap (after_bytes (told up).out) (one_item S conn t.item (told up).ledger (told up).kept (told_rests up) goes_on)
 
+    comes_next : (s : Talk) → IsPartOfDue S conn (told up).ledger next s → told_to r conn S (up ++ take t.used piece) (after_bytes (told up).out s)
+    comes_next s w =
+        subst (λ (xs : List Item). ComesTo as_item S conn xs r.ledger begun (after_bytes (told up).out s))
+        (sym (outputs-append Opened Item at_server at_server.start up (take t.used piece) ∙ ap (λ (xs : List Item). items_received up ++ xs) (takes_outputs Opened Item at_server (kept_at up) piece).0))
+        (comes_later S conn (items_received up) (option_to_list t.item) r.ledger begun s (part_of_one S conn t.item (told up).ledger (told up).kept s (told_rests up) goes_on w))
+
     module _ (Now : Rest G → Type 0) (before old new : Option (List ℕ)) (said : Appends before old (told up).out) where
-      pub one_taken : (used : ℕ) (standing : Standing) → used ≡ t.used → Settles r conn t.rest then_said Now old new (Ok standing) → TakesOne r conn S Now before new up piece (Ok (record { used = used; standing = standing }))
+      pub one_taken : (used : ℕ) (standing : Standing) → used ≡ t.used → Settles r conn t.rest then_said (IsPartOfDue S conn (told up).ledger next) Now old new (Ok standing) → TakesOne r conn S Now before new up piece (Ok (record { used = used; standing = standing }))
       one_taken used standing e h =
           subst (λ (n : ℕ). TakesOne r conn S Now before new up piece (Ok (record { used = n; standing = standing }))) (sym e)
           (subst (λ (x : Talk). (Now (with_talk r conn (kept_at (up ++ take t.used piece)) x.ledger x.kept) × Appends before new x.out) × (standing ≡ standing_of x.kept.ended)) (sym told_next)
           ((subst (λ (v : Opened). Now (with_talk r conn v then_said.ledger then_said.kept)) (sym kept_next) h.now, Appends-trans before old new (told up).out then_said.out said h.took), h.stands))
 
-      pub one_broken : (fault : StreamFault) → Settles r conn t.rest then_said Now old new (Err fault) → TakesOne r conn S Now before new up piece (Err fault)
+      pub one_broken : (fault : StreamFault) → Settles r conn t.rest then_said (IsPartOfDue S conn (told up).ledger next) Now old new (Err fault) → TakesOne r conn S Now before new up piece (Err fault)
       one_broken fault h =
-          let b = subst (λ (x : Talk). Breaks r conn x Now before new) (sym told_next) (breaks_after r conn then_said (told up).out Now before old new said h) in
-          subst (λ (z : List ℕ). Breaks r conn (told z) Now before new) (append_assoc up (take t.used piece) (drop t.used piece) ∙ ap (λ z. up ++ z) (take-append-drop t.used piece))
+          let far = told_to r conn S (up ++ take t.used piece) in
+          let b = subst (λ (x : Talk). Breaks r conn x far Now before new) (sym told_next) (breaks_after r conn then_said (told up).out (IsPartOfDue S conn (told up).ledger next) far Now before old new said comes_next h) in
+          subst (λ (z : List ℕ). BreaksIn r conn S z Now before new) (append_assoc up (take t.used piece) (drop t.used piece) ∙ ap (λ z. up ++ z) (take-append-drop t.used piece))
           (breaks_more (up ++ take t.used piece) (drop t.used piece) Now before new b)
 
     -- where nothing was taken
     pub none_taken : (Now : Rest G → Type 0) (before old : Option (List ℕ)) (fault : StreamFault) → Appends before old (told up).out → Feeds r conn (kept_at up) (told up).ledger (told up).kept piece Now (Err fault) → TakesOne r conn S Now before old up piece (Err fault)
-    none_taken Now before old fault said h =
-        breaks_more up piece Now before old
-        (record { unfinished = h.0; kept = h.1; ledger = (told up).ledger; more = []; now = h.2; grown = append-nil (told up).ledger; took = ((told up).out, [], append-nil (told up).out, said) })
+    none_taken Now before old fault said h = breaks_more up piece Now before old (breaks_whole up Now before old h.0 h.1 h.2 said)
 
 pub open_goes_on : (o : Option Cause) → Open ≡ standing_of o → o ≡ None
 open_goes_on None e = refl
@@ -221,8 +296,8 @@ module _ {G : Type 0} {r : Rest G} {conn : ℕ} {S : Setting} {before old new : 
         over = subst (λ (z : List ℕ). IsSome (told_by r conn S z).kept.ended) joined (over_ended _ (sym o ∙ h.1));
       }
 
-  pub partly_broken : Breaks r conn (told_by r conn S ((up ++ p.done) ++ rest)) Then before new → Breaks r conn (told_by r conn S (up ++ piece)) Then before new
-  partly_broken h = subst (λ (z : List ℕ). Breaks r conn (told_by r conn S z) Then before new) (append_assoc up p.done rest ∙ ap (λ z. up ++ z) p.parts) h
+  pub partly_broken : BreaksIn r conn S ((up ++ p.done) ++ rest) Then before new → BreaksIn r conn S (up ++ piece) Then before new
+  partly_broken h = subst (λ (z : List ℕ). BreaksIn r conn S z Then before new) (append_assoc up p.done rest ∙ ap (λ z. up ++ z) p.parts) h
 
 pub partly_whole : {G : Type 0} {r : Rest G} {conn : ℕ} {S : Setting} {before taken : Option (List ℕ)} {up piece rest : List ℕ} {Now : Rest G → Type 0} → rest ≡ [] → Partly r conn S before up piece Now taken rest → TakesPiece r conn S Now before taken up piece (Ok Open)
 partly_whole {r = r} {conn = conn} {S = S} {before = before} {taken = taken} {up = up} {Now = Now} e p =
@@ -240,68 +315,114 @@ interrupts_version : (b : Bool) (k : Kept) → (if b then after_interrupt k else
 interrupts_version true k = refl
 interrupts_version false k = refl
 
+-- What arrives and the items that it stands for, one for one, as far as a session goes on.
+abbrev Alike : Setting → ℕ → List Arrival → List Item → List EntryView → Kept → Type 0
+Alike S c [] [] ledger k = Unit {0}
+Alike S c [] (y ∷ ys) ledger k = IsSome k.ended
+Alike S c (x ∷ xs) [] ledger k = IsSome k.ended
+Alike S c (x ∷ xs) (y ∷ ys) ledger k =
+    let first = due_of S c ledger k (as_item k y) in
+    IsSome k.ended ⊎ ((as_item k y ≡ x) × Alike S c xs ys first.ledger first.kept)
+
+alike_over : (S : Setting) (c : ℕ) (ys : List Item) (ledger : List EntryView) (k : Kept) → IsSome k.ended → Alike S c [] ys ledger k
+alike_over S c [] ledger k i = tt
+alike_over S c (y ∷ ys) ledger k i = i
+
+unless_over : (o : Option Cause) (over more : Talk) → IsSome o → unless_ended o over more ≡ over
+unless_over (Some cause) over more i = refl
+unless_over None over more i = cc
+
+-- so both say the same, ..
+alike_talk : (S : Setting) (c : ℕ) (xs : List Arrival) (ys : List Item) (ledger : List EntryView) (k : Kept) → Alike S c xs ys ledger k → talk_of_arrivals S c xs ledger k ≡ item_talk S c ys ledger k
+alike_talk S c [] [] ledger k h = refl
+alike_talk S c [] (y ∷ ys) ledger k h = sym (item_talk_over S c (y ∷ ys) ledger k h)
+alike_talk S c (x ∷ xs) [] ledger k h = unless_over k.ended (silent ledger k) (talk_then (due_of S c ledger k x) (talk_of_arrivals S c xs)) h
+alike_talk S c (x ∷ xs) (y ∷ ys) ledger k (inl h) = unless_over k.ended (silent ledger k) (talk_then (due_of S c ledger k x) (talk_of_arrivals S c xs)) h ∙ sym (item_talk_over S c (y ∷ ys) ledger k h)
+alike_talk S c (x ∷ xs) (y ∷ ys) ledger k (inr h) =
+    let first = due_of S c ledger k (as_item k y) in
+    ap (λ (z : Arrival). talk_of_arrivals S c (z ∷ xs) ledger k) (sym h.0)
+    ∙ ap (λ (z : Talk). unless_ended k.ended (silent ledger k) (after_bytes first.out z)) (alike_talk S c xs ys first.ledger first.kept h.1)
+
+-- .. and come as far
+alike_comes : (S : Setting) (c : ℕ) (xs : List Arrival) {ys : List Item} {ledger : List EntryView} {k : Kept} {t : Talk} → ComesTo as_item S c ys ledger k t → Alike S c xs ys ledger k → ComesTo as_it_is S c xs ledger k t
+alike_comes S c xs (nothing_yet ys ledger k) h = nothing_yet xs ledger k
+alike_comes S c [] (part_of_first y ys ledger k t e w) h = absurd (no_end k.ended h e)
+alike_comes S c (x ∷ xs) (part_of_first y ys ledger k t e w) (inl h) = absurd (no_end k.ended h e)
+alike_comes S c (x ∷ xs) (part_of_first y ys ledger k t e w) (inr h) = subst (λ (z : Arrival). ComesTo as_it_is S c (z ∷ xs) ledger k t) h.0 (part_of_first (as_item k y) xs ledger k t e w)
+alike_comes S c [] (after_first y ys ledger k t e f) h = absurd (no_end k.ended h e)
+alike_comes S c (x ∷ xs) (after_first y ys ledger k t e f) (inl h) = absurd (no_end k.ended h e)
+alike_comes S c (x ∷ xs) (after_first y ys ledger k t e f) (inr h) =
+    subst (λ (z : Arrival). ComesTo as_it_is S c (z ∷ xs) ledger k (after_bytes (due_of S c ledger k (as_item k y)).out t)) h.0
+    (after_first (as_item k y) xs ledger k t e (alike_comes S c xs f h.1))
+
 module _ (S : Setting) (c : ℕ) (v : Version) where
   abbrev Same : List Item → Type 0
-  Same ys = (ledger : List EntryView) (k : Kept) → Rested k → k.version ≡ Some v → talk_of_arrivals S c (requests_in v ys) ledger k ≡ item_talk S c ys ledger k
+  Same ys = (ledger : List EntryView) (k : Kept) → Rested k → k.version ≡ Some v → Alike S c (requests_in v ys) ys ledger k
+
+  abbrev Follows : List Arrival → List Item → List EntryView → Kept → Arrival → Type 0
+  Follows xs ys ledger k a = Alike S c xs ys (due_of S c ledger k a).ledger (due_of S c ledger k a).kept
 
   -- what follows one that arrives
-  one_more : (x : Arrival) (xs : List Arrival) (y : Item) (ys : List Item) (ledger : List EntryView) (k : Kept) → arrives v y ≡ x → k.version ≡ Some v
-      → (k.ended ≡ None → let t = talk_of_due S c ledger (after_item k (Some x)) in talk_of_arrivals S c xs t.ledger t.kept ≡ item_talk S c ys t.ledger t.kept) → talk_of_arrivals S c (x ∷ xs) ledger k ≡ item_talk S c (y ∷ ys) ledger k
-  one_more x xs y ys ledger k a e f =
-      let is : arrives (version_of k) y ≡ x = subst (λ (w : Version). arrives w y ≡ x) (sym (known k.version e)) a in
-      ap (λ (z : Arrival). unless_ended k.ended (silent ledger k) (talk_then (talk_of_due S c ledger (after_item k (Some z))) (talk_of_arrivals S c xs))) (sym is)
-      ∙ by_end k.ended refl (λ o. subst (λ (z : Arrival). let t = talk_of_due S c ledger (after_item k (Some z)) in talk_of_arrivals S c xs t.ledger t.kept ≡ item_talk S c ys t.ledger t.kept) (sym is) (f o))
+  one_more : (x : Arrival) (xs : List Arrival) (y : Item) (ys : List Item) (ledger : List EntryView) (k : Kept) → arrives v y ≡ x → k.version ≡ Some v → (k.ended ≡ None → Follows xs ys ledger k x) → Alike S c (x ∷ xs) (y ∷ ys) ledger k
+  one_more x xs y ys ledger k a e f = by_end k.ended refl
     where
       known : (o : Option Version) → o ≡ Some v → version_of (record k { version = o }) ≡ v
       known None e = cc
       known (Some w) e = cc
 
-      by_end : (o : Option Cause) → k.ended ≡ o → (k.ended ≡ None → let t = talk_of_due S c ledger (after_item k (Some (arrives (version_of k) y))) in talk_of_arrivals S c xs t.ledger t.kept ≡ item_talk S c ys t.ledger t.kept)
-          → unless_ended o (silent ledger k) (talk_then (talk_of_due S c ledger (after_item k (Some (arrives (version_of k) y)))) (talk_of_arrivals S c xs)) ≡ unless_ended o (silent ledger k) (talk_then (talk_of_due S c ledger (after_item k (Some (arrives (version_of k) y)))) (item_talk S c ys))
-      by_end (Some cause) e g = refl
-      by_end None e g = ap (after_bytes (talk_of_due S c ledger (after_item k (Some (arrives (version_of k) y)))).out) (g e)
+      is : as_item k y ≡ x
+      is = subst (λ (w : Version). arrives w y ≡ x) (sym (known k.version e)) a
 
-  goes_on : (x : Arrival) (ys : List Item) (ledger : List EntryView) (k : Kept) → Rested k → k.version ≡ Some v → ((after_item k (Some x)).version ≡ k.version) → Same ys → k.ended ≡ None
-      → (let t = talk_of_due S c ledger (after_item k (Some x)) in talk_of_arrivals S c (requests_in v ys) t.ledger t.kept ≡ item_talk S c ys t.ledger t.kept)
+      by_end : (o : Option Cause) → k.ended ≡ o → IsSome k.ended ⊎ ((as_item k y ≡ x) × Follows xs ys ledger k (as_item k y))
+      by_end (Some cause) q = inl (subst IsSome (sym q) refl)
+      by_end None q = inr (is, subst (Follows xs ys ledger k) (sym is) (f q))
+
+  goes_on : (x : Arrival) (ys : List Item) (ledger : List EntryView) (k : Kept) → Rested k → k.version ≡ Some v → ((after_item k (Some x)).version ≡ k.version) → Same ys → k.ended ≡ None → Follows (requests_in v ys) ys ledger k x
   goes_on x ys ledger k h e kept more o =
-      let t = talk_of_due S c ledger (after_item k (Some x)) in
+      let t = due_of S c ledger k x in
       let a = settled_rests S c ledger (after_item k (Some x)) (fed_placed k (Some x) (h.done o)) in
       more t.ledger t.kept a.0 (a.1 ∙ kept ∙ e)
 
-  stops : (x : Arrival) (ys : List Item) (ledger : List EntryView) (k : Kept) → IsSome (talk_of_due S c ledger (after_item k (Some x))).kept.ended → (let t = talk_of_due S c ledger (after_item k (Some x)) in talk_of_arrivals S c [] t.ledger t.kept ≡ item_talk S c ys t.ledger t.kept)
-  stops x ys ledger k i = let t = talk_of_due S c ledger (after_item k (Some x)) in sym (item_talk_over S c ys t.ledger t.kept i)
+  stops : (x : Arrival) (ys : List Item) (ledger : List EntryView) (k : Kept) → IsSome (due_of S c ledger k x).kept.ended → Follows [] ys ledger k x
+  stops x ys ledger k i = let t = due_of S c ledger k x in alike_over S c ys t.ledger t.kept i
 
   pub same_asked : (ys : List Item) → AreChunks ys → Same ys
-  same_asked [] a ledger k h e = refl
+  same_asked [] a ledger k h e = tt
   same_asked (Opening b ∷ ys) a ledger k h e = absurd a.0
   same_asked (Noop ∷ ys) a ledger k h e = one_more arrival.Idle (requests_in v ys) Noop ys ledger k refl e (goes_on arrival.Idle ys ledger k h e refl (same_asked ys a.1))
   same_asked (TooBig ∷ ys) a ledger k h e = one_more TooLong [] TooBig ys ledger k refl e (λ o. stops TooLong ys ledger k (ends_over S c ledger k TooLong o (h.done o) refl))
   same_asked (Message b ∷ ys) a ledger k h e = go (request_of v b) refl (same_asked ys a.1)
     where
-      go : (q : Result RequestView MsgFault) → request_of v b ≡ q → Same ys → talk_of_arrivals S c (then_request q (requests_in v ys)) ledger k ≡ item_talk S c (Message b ∷ ys) ledger k
+      go : (q : Result RequestView MsgFault) → request_of v b ≡ q → Same ys → Alike S c (then_request q (requests_in v ys)) (Message b ∷ ys) ledger k
       go (Ok q) f more = one_more (Asked q) (requests_in v ys) (Message b) ys ledger k (ap arrival_by f) e (goes_on (Asked q) ys ledger k h e (interrupts_version (is_reset (kind_of q) && interruptible k.state) (record k { waiting = k.waiting ++ Asked q ∷ [] })) more)
       go (Err x) f more = one_more (Unread x) [] (Message b) ys ledger k (ap arrival_by f) e (λ o. stops (Unread x) ys ledger k (ends_over S c ledger k (Unread x) o (h.done o) refl))
 
 -- The offer, and what follows it.
 module _ (S : Setting) (c : ℕ) (ledger : List EntryView) where
-  after_over : (x : Arrival) (ys : List Item) → IsSome (talk_of_due S c ledger (after_item begun (Some x))).kept.ended → talk_of_arrivals S c (x ∷ []) ledger begun ≡ talk_then (talk_of_due S c ledger (after_item begun (Some x))) (item_talk S c ys)
-  after_over x ys e = let t = talk_of_due S c ledger (after_item begun (Some x)) in ap (after_bytes t.out) (sym (item_talk_over S c ys t.ledger t.kept e))
+  abbrev After : Arrival → List Item → Type 0
+  After x ys = Alike S c (after_shake x ys) ys (due_of S c ledger begun x).ledger (due_of S c ledger begun x).kept
 
-  after_offer : (o : Option Version) (ys : List Item) → AreChunks ys → talk_of_arrivals S c (Shook o ∷ after_shake (Shook o) ys) ledger begun ≡ talk_then (talk_of_due S c ledger (after_item begun (Some (Shook o)))) (item_talk S c ys)
-  after_offer None ys a = after_over (Shook None) ys refl
+  after_offer : (o : Option Version) (ys : List Item) → AreChunks ys → After (Shook o) ys
+  after_offer None ys a = let t = due_of S c ledger begun (Shook None) in alike_over S c ys t.ledger t.kept refl
   after_offer (Some v) ys a =
-      let t = talk_of_due S c ledger (after_item begun (Some (Shook (Some v)))) in
-      ap (after_bytes t.out) (same_asked S c v ys a t.ledger t.kept (record { sent = refl; done = λ e. refl }) refl)
+      let t = due_of S c ledger begun (Shook (Some v)) in
+      same_asked S c v ys a t.ledger t.kept (record { sent = refl; done = λ e. refl }) refl
 
-  after_opening : (b : Bool) (o : Option Version) (ys : List Item) → AreChunks ys → (let x = if b then Shook o else NoMagic in talk_of_arrivals S c (x ∷ after_shake x ys) ledger begun ≡ talk_then (talk_of_due S c ledger (after_item begun (Some x))) (item_talk S c ys))
+  after_opening : (b : Bool) (o : Option Version) (ys : List Item) → AreChunks ys → After (if b then Shook o else NoMagic) ys
   after_opening true o ys a = after_offer o ys a
-  after_opening false o ys a = after_over NoMagic ys refl
+  after_opening false o ys a = let t = due_of S c ledger begun NoMagic in alike_over S c ys t.ledger t.kept refl
 
-  by_came : (xs : List Item) (u : Opened) → Came 20 xs u → talk_of_arrivals S c (arrivals_of xs) ledger begun ≡ item_talk S c xs ledger begun
-  by_came xs u (part bytes e s) = subst (λ (zs : List Item). talk_of_arrivals S c (arrivals_of zs) ledger begun ≡ item_talk S c zs ledger begun) (sym e) refl
+  by_came : (xs : List Item) (u : Opened) → Came 20 xs u → Alike S c (arrivals_of xs) xs ledger begun
+  by_came xs u (part bytes e s) = subst (λ (zs : List Item). Alike S c (arrivals_of zs) zs ledger begun) (sym e) tt
   by_came xs u (whole bytes ys w e a s) =
-      subst (λ (zs : List Item). talk_of_arrivals S c (arrivals_of zs) ledger begun ≡ item_talk S c zs ledger begun) (sym e)
-      (after_opening (bytes_eq (take 4 bytes) magic) (version_taken (drop 4 bytes)) ys a)
+      subst (λ (zs : List Item). Alike S c (arrivals_of zs) zs ledger begun) (sym e)
+      (inr (refl, after_opening (bytes_eq (take 4 bytes) magic) (version_taken (drop 4 bytes)) ys a))
+
+  arrives_alike : (bytes : List ℕ) → Alike S c (arrivals bytes) (items_received bytes) ledger begun
+  arrives_alike bytes = by_came (items_received bytes) (state at_server at_server.start bytes) (came 20 [] bytes)
 
   pub talk_by_items : (bytes : List ℕ) → conversation S c ledger bytes ≡ item_talk S c (items_received bytes) ledger begun
-  talk_by_items bytes = by_came (items_received bytes) (state at_server at_server.start bytes) (came 20 [] bytes)
+  talk_by_items bytes = alike_talk S c (arrivals bytes) (items_received bytes) ledger begun (arrives_alike bytes)
+
+  pub comes_by_items : (bytes : List ℕ) (t : Talk) → ComesTo as_item S c (items_received bytes) ledger begun t → ConversationComesTo S c ledger bytes t
+  comes_by_items bytes t h = alike_comes S c (arrivals bytes) h (arrives_alike bytes)

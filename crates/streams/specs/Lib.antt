@@ -3,6 +3,7 @@ pub mod Fronts
 pub mod Failing
 pub mod Asking
 pub mod Conversing
+pub mod Breaking
 pub mod Holding
 pub mod Putting
 pub mod Settling

@@ -5,12 +5,12 @@ use Rattle.wire.specs.Framing.{Opened}
 use Rattle.engine.specs.Views.{EntryView}
 use Rattle.session.specs.declared.kinds.Cause.{Cause}
 use Rattle.session.specs.Session.{Setting}
-use Rattle.session.specs.Rest.{Kept}
 use Rattle.server.specs.Serving.{cause_or, Rest}
 use Rattle.streams.specs.declared.fault.StreamFault.{StreamFault}
 use Rattle.streams.specs.declared.fault.StreamFault.TheVariants as stream_fault
-use Rattle.streams.specs.Fronts.{AppendsFront}
 use Rattle.streams.specs.Conversing.{Talk, conversation, with_talk, without_talk}
+use Rattle.streams.specs.Breaking.{ConversationComesTo, BreaksOff}
+use Rattle.streams.specs.Settling.{StandsOver}
 use Rattle.streams.specs.Limits.{max_piece}
 
 -- A source lets itself be read, of at most 4,096 bytes at once, whenever it is the turn of the end that it comes from.
@@ -23,6 +23,12 @@ module _ {G : Type 0} (r : Rest G) (conn : ℕ) (S : Setting) where
   -- what the session does with these bytes of its client
   abbrev pub talk_for : List ℕ → Talk
   talk_for bytes = conversation S conn r.ledger bytes
+
+  -- Broken off at some moment of it: the sink took a beginning of what was put out by then, and the ledger is the one of then.
+  abbrev pub IsBrokenOff : List ℕ → (List EntryView → Type 0) → Option (List ℕ) → Option (List ℕ)
+      → Type 0
+  IsBrokenOff bytes Stands old new =
+      BreaksOff (talk_for bytes) (ConversationComesTo S conn r.ledger bytes) Stands old new
 
   -- It is the client's turn: the session goes on after the bytes that were read, and the sink took all that they make due.
   pub record IsTurn (left left_now old taken : Option (List ℕ)) : Type 0 where
@@ -45,20 +51,14 @@ module _ {G : Type 0} (r : Rest G) (conn : ℕ) (S : Setting) where
       pub now : Now (with_talk r conn unfinished (talk_for read).ledger (talk_for read).kept)
       pub took : Appends old new (talk_for read).out
 
-    -- A fault came: the sink took a beginning of what is due for the bytes that were read, and the ledger is a beginning of the one
-    -- that they lead to. Where the source failed, it is all of both.
+    -- A fault came: the session's conversation for the bytes that were read was broken off. Where the source failed, all that they make due
+    -- was done and put out.
     pub record ConversesFront (fault : StreamFault) : Type 0 where
       pub read : List ℕ
-      pub unfinished : Opened
-      pub kept : Kept
-      pub ledger : List EntryView
-      pub more : List EntryView
       pub input : Consumes left left_now read
-      pub now : Now (with_talk r conn unfinished ledger kept)
-      pub grown : ledger ++ more ≡ (talk_for read).ledger
-      pub took : AppendsFront old new (talk_for read).out
+      pub broken : IsBrokenOff read (StandsOver r conn Now) old new
       pub whole : fault ≡ stream_fault.ReadFailed
-          → (ledger ≡ (talk_for read).ledger) × Appends old new (talk_for read).out
+          → (broken.so_far.ledger ≡ (talk_for read).ledger) × Appends old new (talk_for read).out
 
     -- all of it went well, or a fault came
     abbrev pub Converses : Result (Unit {0}) StreamFault → Type 0
@@ -75,18 +75,14 @@ module _ {G : Type 0} (r : Rest G) (conn : ℕ) (S : Setting) where
       pub now : Now (without_talk r conn (talk_for read).ledger)
       pub took : Appends old new (talk_for read).out
 
-    -- A fault came: the sink took a beginning of what is due for the bytes that were read, and the ledger is a beginning of the one
-    -- that they lead to. Where the source failed, it is all of both. The session lives no more.
+    -- A fault came: the conversation for the bytes that were read was broken off, and the session lives no more. Where the source failed, all
+    -- that they make due was done and put out.
     pub record ServesFront (fault : StreamFault) : Type 0 where
       pub read : List ℕ
-      pub ledger : List EntryView
-      pub more : List EntryView
       pub input : Consumes left left_now read
-      pub now : Now (without_talk r conn ledger)
-      pub grown : ledger ++ more ≡ (talk_for read).ledger
-      pub took : AppendsFront old new (talk_for read).out
+      pub broken : IsBrokenOff read (λ ledger. Now (without_talk r conn ledger)) old new
       pub whole : fault ≡ stream_fault.ReadFailed
-          → (ledger ≡ (talk_for read).ledger) × Appends old new (talk_for read).out
+          → (broken.so_far.ledger ≡ (talk_for read).ledger) × Appends old new (talk_for read).out
 
     -- all of it went well, or a fault came
     abbrev pub Serves : Result Cause StreamFault → Type 0

@@ -19,8 +19,8 @@ use Rattle.streams.specs.declared.fault.StreamFault.TheVariants.{ReadFailed, Wri
 use Rattle.streams.specs.declared.intake.Taken.{Taken}
 use Rattle.streams.specs.declared.fault.Standing.{Standing}
 use Rattle.streams.specs.declared.fault.Standing.TheVariants.{Open, Over}
-use Rattle.streams.specs.Fronts.{AppendsFront}
 use Rattle.streams.specs.Conversing.{Talk, silent, after_bytes, heard_out, steps, steps_due, talk_of_due, unless_ended, talk_then, with_talk}
+use Rattle.streams.specs.Breaking.{IsSteps, ComesTo, BreaksOff}
 
 -- a stream is told to have failed only where it has
 abbrev pub IsDueTo : StreamFault → Bool → Bool → Type 0
@@ -55,24 +55,28 @@ IsPlaced _ = ⊥
 abbrev pub due : Kept → ℕ
 due k = steps_due k.waiting (length k.result.rows)
 
+-- what a session takes a whole item of the bytes as
+abbrev pub as_item : Kept → Item → Arrival
+as_item k x = arrives (version_of k) x
+
 -- the same conversation by the whole items of the bytes
 abbrev pub item_talk : Setting → ℕ → List Item → List EntryView → Kept → Talk
 item_talk S c [] ledger k = silent ledger k
 item_talk S c (x ∷ xs) ledger k =
     unless_ended k.ended (silent ledger k)
-    (talk_then (talk_of_due S c ledger (after_item k (Some (arrives (version_of k) x))))
-    (item_talk S c xs))
+    (talk_then (talk_of_due S c ledger (after_item k (Some (as_item k x)))) (item_talk S c xs))
 
 module _ {G : Type 0} (r : Rest G) (conn : ℕ) where
-  -- A fault came in the midst of it: the sink took a beginning, and the ledger is one.
-  pub record Breaks (t : Talk) (Now : Rest G → Type 0) (old new : Option (List ℕ)) : Type 0 where
+  -- The session stands somehow, over this ledger.
+  pub record StandsOver (Now : Rest G → Type 0) (ledger : List EntryView) : Type 0 where
     pub unfinished : Opened
     pub kept : Kept
-    pub ledger : List EntryView
-    pub more : List EntryView
     pub now : Now (with_talk r conn unfinished ledger kept)
-    pub grown : ledger ++ more ≡ t.ledger
-    pub took : AppendsFront old new t.out
+
+  -- A fault came in the midst of it.
+  abbrev pub Breaks : Talk → (Talk → Type 0) → (Rest G → Type 0) → Option (List ℕ)
+      → Option (List ℕ) → Type 0
+  Breaks t Comes Now old new = BreaksOff t Comes (StandsOver Now) old new
 
   -- The session stands somehow, the others as before, and the ledger has grown by some entries, or by none.
   abbrev pub Grows : (Rest G → Type 0) → Type 0
@@ -87,10 +91,10 @@ module _ {G : Type 0} (r : Rest G) (conn : ℕ) where
     pub stands : standing ≡ standing_of t.kept.ended
 
   -- all of it went well, or a fault came
-  abbrev pub Settles : Opened → Talk → (Rest G → Type 0) → Option (List ℕ) → Option (List ℕ)
-      → Result Standing StreamFault → Type 0
-  Settles u t Now old new (Ok standing) = SettlesWhole u t Now old new standing
-  Settles u t Now old new (Err fault) = Breaks t Now old new
+  abbrev pub Settles : Opened → Talk → (Talk → Type 0) → (Rest G → Type 0) → Option (List ℕ)
+      → Option (List ℕ) → Result Standing StreamFault → Type 0
+  Settles u t Comes Now old new (Ok standing) = SettlesWhole u t Now old new standing
+  Settles u t Comes Now old new (Err fault) = Breaks t Comes Now old new
 
   -- Nothing is put out, and the session stands as told.
   pub record HasNothingDue (u : Opened) (t : Talk) (Now : Rest G → Type 0) (standing : Standing)
@@ -106,8 +110,8 @@ module _ {G : Type 0} (r : Rest G) (conn : ℕ) where
     pub after : List EntryView
     pub left : Kept
     pub one_less : n ≡ suc less
-    pub follows : steps S conn n ledger k
-        ≡ after_bytes left.unsent (steps S conn less after (heard_out left))
+    pub follows : (m : ℕ) → steps S conn (suc m) ledger k
+        ≡ after_bytes left.unsent (steps S conn m after (heard_out left))
     pub placed : IsPlaced left.waiting
     pub enough : due left ≤ less
     pub now : Now (with_talk r conn u after left)
@@ -128,7 +132,8 @@ module _ {G : Type 0} (r : Rest G) (conn : ℕ) where
     pub left : Kept
     pub out : List ℕ
     pub one_less : n ≡ suc less
-    pub follows : steps S conn n ledger k ≡ after_bytes out (steps S conn less after left)
+    pub follows : (m : ℕ)
+        → steps S conn (suc m) ledger k ≡ after_bytes out (steps S conn m after left)
     pub sent : left.unsent ≡ []
     pub placed : IsPlaced left.waiting
     pub enough : due left ≤ less
@@ -139,9 +144,10 @@ module _ {G : Type 0} (r : Rest G) (conn : ℕ) where
   abbrev pub Steps : Opened → List EntryView → Kept → Setting → ℕ → (Rest G → Type 0)
       → Option (List ℕ) → Option (List ℕ) → Result (Option Standing) StreamFault → Type 0
   Steps u ledger k S n Now old new (Ok (Some standing)) =
-      Settles u (steps S conn n ledger k) Now old new (Ok standing)
+      SettlesWhole u (steps S conn n ledger k) Now old new standing
   Steps u ledger k S n Now old new (Ok None) = StepsOut u ledger k S n Now old new
-  Steps u ledger k S n Now old new (Err fault) = Breaks (steps S conn n ledger k) Now old new
+  Steps u ledger k S n Now old new (Err fault) =
+      Breaks (steps S conn n ledger k) (IsSteps S conn ledger k) Now old new
 
   -- An item at most was taken of a piece, which uses these of its bytes; or the session stands somehow.
   abbrev pub Feeds : Opened → List EntryView → Kept → List ℕ → (Rest G → Type 0)
@@ -157,6 +163,14 @@ module _ {G : Type 0} (r : Rest G) (conn : ℕ) where
     abbrev pub told_by : List ℕ → Talk
     told_by up = item_talk S conn (items_received up) r.ledger begun
 
+    -- how far it may have come
+    abbrev pub told_to : List ℕ → Talk → Type 0
+    told_to up = ComesTo as_item S conn (items_received up) r.ledger begun
+
+    -- A fault came in the midst of it.
+    abbrev pub BreaksIn : List ℕ → (Rest G → Type 0) → Option (List ℕ) → Option (List ℕ) → Type 0
+    BreaksIn up Now before new = Breaks (told_by up) (told_to up) Now before new
+
     -- the server and the sink are as it has them
     abbrev pub Stands : (Rest G → Type 0) → Option (List ℕ) → Option (List ℕ) → List ℕ → Type 0
     Stands Now before new up =
@@ -169,7 +183,7 @@ module _ {G : Type 0} (r : Rest G) (conn : ℕ) where
     TakesOne Now before new up piece (Ok taken) =
         Stands Now before new (up ++ take taken.used piece)
         × (taken.standing ≡ standing_of (told_by (up ++ take taken.used piece)).kept.ended)
-    TakesOne Now before new up piece (Err fault) = Breaks (told_by (up ++ piece)) Now before new
+    TakesOne Now before new up piece (Err fault) = BreaksIn (up ++ piece) Now before new
 
     -- A beginning of a piece was taken, and with it the session ended.
     pub record TakesFront (Now : Rest G → Type 0) (before new : Option (List ℕ))
@@ -186,7 +200,7 @@ module _ {G : Type 0} (r : Rest G) (conn : ℕ) where
     TakesPiece Now before new up piece (Ok Open) =
         Stands Now before new (up ++ piece) × ((told_by (up ++ piece)).kept.ended ≡ None)
     TakesPiece Now before new up piece (Ok Over) = TakesFront Now before new up piece
-    TakesPiece Now before new up piece (Err fault) = Breaks (told_by (up ++ piece)) Now before new
+    TakesPiece Now before new up piece (Err fault) = BreaksIn (up ++ piece) Now before new
 
 -- From any rest in which it lived, the session lives on: the others are as before, and the ledger has at most grown.
 abbrev pub LivesOn : {G : Type 0} → ℕ → (Rest G → Type 0) → (Rest G → Type 0) → Type 0

@@ -6,6 +6,7 @@ ghost use Rattle.session.specs.Rest.{Kept};
 ghost use Rattle.server.specs.Serving.{Rest, find, setting};
 ghost use Rattle.server.specs.Views.{Fits};
 ghost use Rattle.streams.specs.Conversing.{talk_of_due, with_talk};
+ghost use Rattle.streams.specs.Breaking.{IsPartOfDue};
 ghost use Rattle.streams.specs.Settling.{IsDueTo, IsLive, LivesOn, IsPlaced, Settles, Steps, WorkStep, due, outcome};
 ghost use Rattle.streams.specs.Holding.{with_held, HasSent};
 ghost use Rattle.streams.specs.Putting.{Puts};
@@ -57,7 +58,7 @@ pub(crate) fn settle<E: Engine, G: Gate, O: Sink>(
     ensures settles { (r : Rest G) (u : Opened) (ledger : List EntryView) (k : Kept)
         → IsSome (find conn r.sessions) → IsPlaced k.waiting
         → Fits E.entries server.old (with_talk r conn u ledger k)
-        → Settles r conn u (talk_of_due (setting E.answer G.accepts r) conn ledger k) (Fits E.entries server.new) (with_held (O.taken sink.old) held.old) (with_held (O.taken sink.new) held.new) result }
+        → Settles r conn u (talk_of_due (setting E.answer G.accepts r) conn ledger k) (IsPartOfDue (setting E.answer G.accepts r) conn ledger k) (Fits E.entries server.new) (with_held (O.taken sink.old) held.old) (with_held (O.taken sink.new) held.new) result }
     ensures sends { HasSent (O.taken sink.old) (O.taken sink.new) }
     ensures failed { IfErr result (λ e. IsDueTo e false (O.has_failed sink.new)) }
 {

@@ -23,7 +23,7 @@ use std::alloc::Global;
 /// It reads only while the session goes on and nothing is due any more: what the bytes so far make due was put out by then, all of it.
 ///
 /// I1 where the source fails; I2 where the sink does, with a beginning of what is due written; I3 for want of memory or where no ordinal is
-/// left. The session is given up then too.
+/// left. The session is given up then too. What was written is of work that was done: an answer to a commit only where the commit stands.
 pub fn serve_one<E: Engine, G: Gate, I: Peer, O: Sink>(
     alloc: Global,
     server: &mut Server<E, G>,
@@ -38,8 +38,8 @@ pub fn serve_one<E: Engine, G: Gate, I: Peer, O: Sink>(
         → find conn r.sessions ≡ Some (fresh conn)
         → IsTurn r conn (setting E.answer G.accepts r) (I.left source.old) (I.left s) (O.taken sink.old) taken) }
     // Of a fresh session, some bytes were read: the sink took what the conversation puts out for them, the ledger is as it leaves it, the
-    // cause is that of its end, and with that or the input the reading ended; at a fault the sink took a beginning, and the ledger is one.
-    // The session lives no more.
+    // cause is that of its end, and with that or the input the reading ended; at a fault the conversation was broken off at some moment of it:
+    // the sink took a beginning of what was put out by then, and the ledger is the one of then. The session lives no more.
     ensures serves { (r : Rest G) → Fits E.entries server.old r
         → find conn r.sessions ≡ Some (fresh conn)
         → Serves r conn (setting E.answer G.accepts r) (Fits E.entries server.new) (I.left source.old) (I.left source.new) (O.taken sink.old) (O.taken sink.new) result }

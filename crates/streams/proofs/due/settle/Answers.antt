@@ -1,5 +1,6 @@
 use Rattle.server.specs.Prelude.{setting, Fits}
-use Rattle.streams.specs.Prelude.{heard_out, due}
+use Rattle.std.proofs.Common.{refl}
+use Rattle.streams.specs.Prelude.{IsPartOfDue, heard_out, due}
 use Rattle.streams.proofs.Stepping.{breaks_steps, goes_first, goes_further, goes_no_further, goes_whole, goes_wrong}
 use Rattle.streams.proofs.Called.{lives_then}
 use Rattle.streams.proofs.Conversings.{sent_then}
@@ -8,7 +9,8 @@ use Rattle.streams.proofs.due.settle.Goals as goal
 pub returns-in-Err-clause-settles : goal.returns-in-Err-clause-settles
 returns-in-Err-clause-settles g c = λ r u ledger k i p f.
     let h = c.in-Err.ensures.puts r u ledger k i f in
-    breaks_steps u (setting g.E.Engine.answer g.G.Gate.accepts r) (due k) ledger (heard_out k) h.0 k.unsent h.1 h.2
+    let S = setting g.E.Engine.answer g.G.Gate.accepts r in
+    breaks_steps (IsPartOfDue S c.args.conn ledger k) u S (due k) ledger (heard_out k) h.0 k.unsent (0, refl) h.1 h.2
 
 pub loop-init : goal.loop-init
 loop-init g c = record {

@@ -1,8 +1,8 @@
-use Rattle.std.proofs.Common.{refl, sym, subst, []}
+use Rattle.std.proofs.Common.{ℕ, refl, sym, ap, subst, ◌∙◌, []}
 use Rattle.std.specs.Io.KnownBytes.{Appends}
 use Rattle.std.proofs.KnownBytes.{Appends-nil}
 use Rattle.server.specs.Prelude.{setting, Fits}
-use Rattle.streams.specs.Prelude.{Talk, heard_out, with_held, Breaks}
+use Rattle.streams.specs.Prelude.{Talk, IsSteps, heard_out, steps, with_held, Breaks}
 use Rattle.streams.proofs.Stepping.{breaks_steps}
 use Rattle.streams.proofs.Called.{lives_then}
 use Rattle.streams.proofs.Conversings.{sent_none}
@@ -16,7 +16,8 @@ returns-in-Ok-Some-clause-steps g c = λ r u ledger k n i s p l f.
 
 pub returns-in-Err-clause-steps : goal.returns-in-Err-clause-steps
 returns-in-Err-clause-steps g c = λ r u ledger k n i s p l f.
-    breaks_steps u (setting g.E.Engine.answer g.G.Gate.accepts r) n ledger k k [] (c.in-Err.ensures.works r u ledger k n i s p l f) ([], [], refl, Appends-nil (with_held (g.O.Sink.taken c.args.sink.now) c.args.held.now))
+    let S = setting g.E.Engine.answer g.G.Gate.accepts r in
+    breaks_steps (IsSteps S c.args.conn ledger k) u S n ledger k k [] (0, refl) (c.in-Err.ensures.works r u ledger k n i s p l f) ([], [], refl, Appends-nil (with_held (g.O.Sink.taken c.args.sink.now) c.args.held.now))
 
 pub returns-in-Ok-clause-steps : goal.returns-in-Ok-clause-steps
 returns-in-Ok-clause-steps g c = λ r u ledger k n i s p l f.
@@ -40,8 +41,10 @@ pub returns-in-Err-put_out-clause-steps : goal.returns-in-Err-put_out-clause-ste
 returns-in-Err-put_out-clause-steps g c = λ r u ledger k n i s p l f.
     let h = rw c.in-Ok-None.field-0-is at (c.in-Ok-None.ensures.works r u ledger k n i s p l f) in
     let out = c.in-Err-put_out.ensures.puts r u h.after h.left i h.now in
-    subst (λ (t : Talk). Breaks r c.args.conn t (Fits g.E.Engine.entries c.put_out.new.server) (with_held (g.O.Sink.taken c.args.sink.now) c.args.held.now) (with_held (g.O.Sink.taken c.put_out.new.sink) c.put_out.new.held)) (sym h.follows)
-    (breaks_steps u (setting g.E.Engine.answer g.G.Gate.accepts r) h.less h.after (heard_out h.left) out.0 h.left.unsent out.1 out.2)
+    let S = setting g.E.Engine.answer g.G.Gate.accepts r in
+    subst (λ (t : Talk). Breaks r c.args.conn t (IsSteps S c.args.conn ledger k) (Fits g.E.Engine.entries c.put_out.new.server) (with_held (g.O.Sink.taken c.args.sink.now) c.args.held.now) (with_held (g.O.Sink.taken c.put_out.new.sink) c.put_out.new.held))
+    (sym (ap (λ (m : ℕ). steps S c.args.conn m ledger k) h.one_less ∙ h.follows h.less))
+    (breaks_steps (IsSteps S c.args.conn ledger k) u S h.less h.after (heard_out h.left) out.0 h.left.unsent (1, sym (h.follows 0)) out.1 out.2)
 
 pub returns-in-Ok-clause-grows : goal.returns-in-Ok-clause-grows
 returns-in-Ok-clause-grows g c = lives_then c.args.conn (Fits g.E.Engine.entries c.args.server.now) (Fits g.E.Engine.entries c.work_step.new.server) (Fits g.E.Engine.entries c.put_out.new.server) c.work_step.ensures.grows c.put_out.ensures.grows

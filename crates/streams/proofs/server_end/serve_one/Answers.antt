@@ -24,15 +24,22 @@ pub returns-in-Err-clause-serves : goal.returns-in-Err-clause-serves
 returns-in-Err-clause-serves g c = λ r f e.
     let h = c.in-Err.ensures.converses r f e in
     let i : IsSome (find c.args.conn r.sessions) = subst IsSome (sym e) refl in
-    let l = c.lost.ensures (with_talk r c.args.conn h.unfinished h.ledger h.kept) h.now in
+    let b = h.broken in
+    let s = b.stands in
+    let l = c.lost.ensures (with_talk r c.args.conn s.unfinished b.so_far.ledger s.kept) s.now in
     record {
       read = h.read;
-      ledger = h.ledger;
-      more = h.more;
       input = h.input;
-      now = subst (Fits g.E.Engine.entries c.lost.new.self) (lost_rest r c.args.conn i h.unfinished h.ledger h.kept) l.1;
-      grown = h.grown;
-      took = h.took;
+      broken = record {
+        so_far = b.so_far;
+        comes = b.comes;
+        stands = subst (Fits g.E.Engine.entries c.lost.new.self) (lost_rest r c.args.conn i s.unfinished b.so_far.ledger s.kept) l.1;
+        took = b.took;
+        more = b.more;
+        rest = b.rest;
+        grown = b.grown;
+        due = b.due;
+      };
       whole = h.whole;
     }
 
