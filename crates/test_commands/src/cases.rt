@@ -1,5 +1,13 @@
 //! Bytes of a client, and what a server answers them.
 
+/// A handshake for 5.1 and 4.4, then HELLO with a user agent.
+pub(crate) const HELLO: &str =
+    "6060B017000001050000040400000000000000000012B101A18A757365725F6167656E7483742F310000";
+
+/// What a server answers to it.
+pub(crate) const SUCCESS: &str =
+    "00000105002bb170a2867365727665728b426f6c745461626c652f318d636f6e6e656374696f6e5f696486626f6c742d300000";
+
 /// A text, what is put out for it, and how the session stands then.
 #[derive(Clone, Copy)]
 pub(crate) struct Case {

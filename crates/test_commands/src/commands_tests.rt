@@ -1,97 +1,13 @@
-use crate::cases::CASES;
-use commands::{AnswerFault, answer, command, end_text, help_text};
+use crate::cases::{HELLO, SUCCESS};
+use commands::{command, help_text};
 use std::alloc::Global;
 use std::process::Abort;
 use std::test::Fail;
 use streams::{Buffer, Failed, Sink, Slice};
 
-/// A handshake for 5.1 and 4.4, then HELLO with a user agent.
-const HELLO: &str =
-    "6060B017000001050000040400000000000000000012B101A18A757365725F6167656E7483742F310000";
-
 /// What is expected of a line of a script.
 const EXPECTED: &str =
     "expected open newest, open 4.4, open 5.0, open 5.1, open foreign, submit K REQUEST, server K BYTES, client K BYTES, work K [all], noop K, cut K, clientlost K, serverlost K or foreign K HEX; BYTES is a number or all; REQUEST is hello, logon [bad], logoff, goodbye, reset, run TEXT HEX [r] [token T], begin [r] [token T], commit, rollback, discard N or pull N\n";
-
-const SUCCESS: &str =
-    "00000105002bb170a2867365727665728b426f6c745461626c652f318d636f6e6e656374696f6e5f696486626f6c742d300000";
-
-fn answers(rt: &impl Abort, alloc: Global, text: &str, out: &str, last: &str) -> Result<(), Fail> {
-    let answered = answer(alloc, text)?;
-    assert_eq!(rt; answered.out.as_str(), out);
-    assert_eq!(rt; end_text(answered.last), last);
-    Ok(())
-}
-
-#[test]
-fn answers_a_hello(rt: HostRuntime) -> Result<(), Fail> {
-    answers(&rt, rt.alloc(), HELLO, SUCCESS, "state Unauth")
-}
-
-/// HELLO with a further entry, which is no cell and isn't read as one.
-#[test]
-fn ignores_other_entries_of_a_hello(rt: HostRuntime) -> Result<(), Fail> {
-    let hello = "0017B101A28A757365725F6167656E7483742F318178B15A000000";
-    let text = format!(in rt.alloc(); "{}{hello}", &HELLO[..40])?;
-    answers(&rt, rt.alloc(), text.as_str(), SUCCESS, "state Unauth")
-}
-
-#[test]
-fn waits_for_the_last_byte(rt: HostRuntime) -> Result<(), Fail> {
-    answers(&rt, rt.alloc(), &HELLO[..82], "00000105", "state Fresh")
-}
-
-#[test]
-fn answers_nothing_to_nothing(rt: HostRuntime) -> Result<(), Fail> {
-    answers(&rt, rt.alloc(), "", "", "state Fresh")
-}
-
-#[test]
-fn ends_at_another_magic(rt: HostRuntime) -> Result<(), Fail> {
-    answers(
-        &rt,
-        rt.alloc(),
-        "6060B01800000105000004040000000000000000",
-        "",
-        "ended E1",
-    )
-}
-
-#[test]
-fn ends_at_unknown_versions(rt: HostRuntime) -> Result<(), Fail> {
-    answers(
-        &rt,
-        rt.alloc(),
-        "6060B01700000003000000000000000000000000",
-        "00000000",
-        "ended E2",
-    )
-}
-
-#[test]
-fn ends_at_a_hello_without_its_agent(rt: HostRuntime) -> Result<(), Fail> {
-    answers(
-        &rt,
-        rt.alloc(),
-        "6060B017000001050000040400000000000000000003B101A00000",
-        "00000105",
-        "ended E4",
-    )
-}
-
-#[test]
-fn answers_each_case(rt: HostRuntime) -> Result<(), Fail> {
-    for case in CASES.iter() {
-        answers(&rt, rt.alloc(), case.text, case.out, case.last)?;
-    }
-    Ok(())
-}
-
-#[test]
-fn refuses_what_is_no_hex(rt: HostRuntime) {
-    assert_eq!(rt; answer(rt.alloc(), "606").err(), Some(AnswerFault::BadHex));
-    assert_eq!(rt; answer(rt.alloc(), "6g").err(), Some(AnswerFault::BadHex));
-}
 
 /// Runs the command on memory streams, of which the input is empty.
 fn says(

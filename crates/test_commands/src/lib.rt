@@ -2,6 +2,8 @@
 #![tactic(auto)]
 
 #[cfg(test)]
+mod answers_tests;
+#[cfg(test)]
 mod cases;
 #[cfg(test)]
 mod commands_tests;
