@@ -12,7 +12,7 @@ use Rattle.engine.specs.Prelude.{EntryView}
 use Rattle.session.specs.Prelude.{Setting}
 use Rattle.client.specs.Prelude.{writing_fault, writing_fault_by, Knows, refuses, Note, feed_of, Reading, knows_of, refusal_of, reading_of, Call, Submits, Feeds as FeedsCall, Loses, Run, starts, submits, used_of, call, calls, opened_bytes, tellings_in, Told}
 use Rattle.client.proofs.Refusing.{accepted_facts, accepted_written, knows_version}
-use Rattle.world.specs.Prelude.{Ours, input, Connection, wish_of, said_version, client, Foreign, output, bytes_delivered, Peer, fresh, World, Event, Submit, Seen, Effect, place, IsMade, give, taken_for, Reached, Opens, effect_at_peer, taken_out, client_rest, IsFew, Ran, told_in, told_at, by_peer}
+use Rattle.world.specs.Prelude.{Ours, input, Connection, wish_of, said_version, heard_by_bytes, Foreign, output, bytes_delivered, Peer, fresh, World, Event, Submit, Seen, Effect, place, IsMade, give, taken_for, Reached, Opens, effect_at_peer, taken_out, client_rest, IsFew, Ran, told_in, told_at, by_peer}
 use Rattle.world.proofs.Deeds as deed
 use Rattle.world.proofs.Deeds.{Deed, Did, opens, acts, step_did, along, set_same, set_other}
 use Rattle.world.proofs.Sound.{Sound, Speaks, says, feed_speaks, work_speaks, noop_speaks, reached_sound, Alike, client_alike, Does, stays, asks, loses, gives, strange, deed_does}
@@ -31,11 +31,11 @@ use Rattle.world.specs.Runs.{begins, goes_on, takes_out}
 -- the client's answer to a submit, of the connection that it was for
 abbrev pub TellsWritten : World → Event → Type 0
 TellsWritten w (Submit c q) =
-    (k : Connection) → slice_get w.conns c ≡ Some k → (wish : Wish) → k.peer ≡ Ours wish → refusal_of (client k) k.client_lost k.sent q ≡ None → IsWritten (wish_version wish) q
+    (k : Connection) → slice_get w.conns c ≡ Some k → (wish : Wish) → k.peer ≡ Ours wish → refusal_of (heard_by_bytes k) k.client_lost k.sent q ≡ None → IsWritten (wish_version wish) q
 TellsWritten w e = Unit {0}
 
 -- the version that a client of ours knows is the one that was wished
-pub knows_if : {R : Type 0} (S : Setting) (all : List EntryView) (wish : Wish) (k : Connection) → Talk S all wish k → ((client k).version ≡ None) ⊎ (Trace S (said_version k) all k.sent k.says × R × ((client k).version ≡ Some (said_version k))) → ((client k).version ≡ None) ⊎ ((client k).version ≡ Some (wish_version wish))
+pub knows_if : {R : Type 0} (S : Setting) (all : List EntryView) (wish : Wish) (k : Connection) → Talk S all wish k → ((heard_by_bytes k).version ≡ None) ⊎ (Trace S (said_version k) all k.sent k.says × R × ((heard_by_bytes k).version ≡ Some (said_version k))) → ((heard_by_bytes k).version ≡ None) ⊎ ((heard_by_bytes k).version ≡ Some (wish_version wish))
 knows_if S all wish k talk (inl e) = inl e
 knows_if S all wish k (inr s) (inr e) = inr (e.2 ∙ ap (λ o. Some (unwrap_or o Version.V51)) s.0)
 knows_if S all wish k (inl s) (inr e) = let bad : Trace S (said_version k) all k.sent [] = subst (λ xs. Trace S (said_version k) all k.sent xs) s.1 e.0 in elim bad [ ]
@@ -52,11 +52,11 @@ written_by (Ok b) h = (b, refl)
 written_by (Err e) h = cc
 
 -- A request that is made of texts, numbers and cells and that the client accepts has a text that stands for it.
-made_written : (wish : Wish) (k : Connection) (q : RequestView) → ((client k).version ≡ None) ⊎ ((client k).version ≡ Some (wish_version wish)) → IsRequest (wish_version wish) q → refusal_of (client k) k.client_lost k.sent q ≡ None
+made_written : (wish : Wish) (k : Connection) (q : RequestView) → ((heard_by_bytes k).version ≡ None) ⊎ ((heard_by_bytes k).version ≡ Some (wish_version wish)) → IsRequest (wish_version wish) q → refusal_of (heard_by_bytes k) k.client_lost k.sent q ≡ None
     → IsWritten (wish_version wish) q
 made_written wish k q knows ready none =
-    let version = ⊎_elim (λ e. absurd ((accepting (client k) k.client_lost k.sent q none).2 e)) (λ e. e) knows in
-    let text = written_by (request_spelling (wish_version wish) q) (ap (writing_fault q) (sym version) ∙ accepted_written (knows_of (client k) k.sent k.client_lost) q none) in
+    let version = ⊎_elim (λ e. absurd ((accepting (heard_by_bytes k) k.client_lost k.sent q none).2 e)) (λ e. e) knows in
+    let text = written_by (request_spelling (wish_version wish) q) (ap (writing_fault q) (sym version) ∙ accepted_written (knows_of (heard_by_bytes k) k.sent k.client_lost) q none) in
     (text.0, text.1, (request_reads_back (wish_version wish) q text.0 ready text.1).0)
 
 both : (v : Version) (ms : List RequestView) (q : RequestView) → AreWritten v ms → IsWritten v q → AreWritten v (ms ++ q ∷ [])
@@ -71,7 +71,7 @@ spoken_written (says t xs up commit seen may wrote untold) h = h
 
 module _ {S : Setting} {c : ℕ} {all : List EntryView} (w : World) (k : Connection) where
   -- each deed
-  pub deed_written : {e : Event} {x : Effect} → slice_get w.conns (place e) ≡ Some k → Sound k → ((wish : Wish) → k.peer ≡ Ours wish → ((client k).version ≡ None) ⊎ ((client k).version ≡ Some (wish_version wish))) → Written k → Deed S c all k e x
+  pub deed_written : {e : Event} {x : Effect} → slice_get w.conns (place e) ≡ Some k → Sound k → ((wish : Wish) → k.peer ≡ Ours wish → ((heard_by_bytes k).version ≡ None) ⊎ ((heard_by_bytes k).version ≡ Some (wish_version wish))) → Written k → Deed S c all k e x
       → IsMade w e x.seen → Written x.conn
   deed_written here s knows h (deed.submits i q wish p none) made =
       both (wish_version (wish_of k.peer)) k.sent q h
@@ -124,7 +124,7 @@ module _ (wish : Wish) (k : Connection) (ours : k.peer ≡ Ours wish) (h : Follo
   abbrev run : Run
   run = calls (starts wish) h.made
 
-  knows_is : run.rest.knows ≡ knows_of (client k) k.sent k.client_lost
+  knows_is : run.rest.knows ≡ knows_of (heard_by_bytes k) k.sent k.client_lost
   knows_is =
       (tells_by_bytes wish h.made).knows ∙ ap (λ (z : Past). knows_of (reading_of wish z.0 z.1.0) z.0 z.1.1) h.same
       ∙ ap (λ x. knows_of (reading_of (wish_of x) k.sent (bytes_delivered k)) k.sent k.client_lost) (sym ours)
@@ -133,7 +133,7 @@ module _ (wish : Wish) (k : Connection) (ours : k.peer ≡ Ours wish) (h : Follo
   item_is = (tells_by_bytes wish h.made).item ∙ ap (λ (z : Past). state at_client at_client.start z.1.0) h.same
 
   -- before a version is known nothing was sent
-  pub sent_none : (client k).version ≡ None → k.sent ≡ []
+  pub sent_none : (heard_by_bytes k).version ≡ None → k.sent ≡ []
   sent_none e =
       let known = ap (λ (z : Past). (reading_of wish z.0 z.1.0).version) h.same ∙ ap (λ x. (reading_of (wish_of x) k.sent (bytes_delivered k)).version) (sym ours) in
       sym (ap (λ (z : Past). z.0) h.same) ∙ (calls_hold wish h.made (starts wish) (starts_hold wish)).before (known ∙ e)
@@ -147,12 +147,12 @@ module _ (wish : Wish) (k : Connection) (ours : k.peer ≡ Ours wish) (h : Follo
   follows_more : (c : Call) (k2 : Connection) → past_of (call run c) ≡ (k2.sent, (bytes_delivered k2, k2.client_lost)) → Follows wish k2
   follows_more c k2 e = record { made = h.made ++ c ∷ []; same = ap past_of (calls_more h.made c (starts wish)) ∙ e }
 
-  accepts : (q : RequestView) → refusal_of (client k) k.client_lost k.sent q ≡ None → Follows wish (record k { sent = k.sent ++ q ∷ [] })
+  accepts : (q : RequestView) → refusal_of (heard_by_bytes k) k.client_lost k.sent q ≡ None → Follows wish (record k { sent = k.sent ++ q ∷ [] })
   accepts q none =
       follows_more (Submits q) (record k { sent = k.sent ++ q ∷ [] })
       (ap (λ o. past_of (submits run q o)) (ap (λ y. refuses y q) knows_is ∙ none) ∙ ap (λ (z : Past). let y : Past = (z.0 ++ q ∷ [], z.1) in y) h.same)
 
-  hears_more : (n : ℕ) → k.client_lost ≡ false → ((client k).ended ≡ false) × ((client k).bad ≡ false) → Follows wish (give n k).conn
+  hears_more : (n : ℕ) → k.client_lost ≡ false → ((heard_by_bytes k).ended ≡ false) × ((heard_by_bytes k).bad ≡ false) → Follows wish (give n k).conn
   hears_more n lives on =
       follows_more (FeedsCall piece) (give n k).conn
       (ap₂ (λ (z : Past) (m : ℕ). let y : Past = (z.0, (z.1.0 ++ take m piece, z.1.1)) in y) h.same used ∙ ap (λ (bs : List ℕ). let y : Past = (k.sent, (bs, k.client_lost)) in y) (sym (given_more k 0 n lives on)))
@@ -188,7 +188,7 @@ ran_reached (takes_out w c n past r) = world.takes_out w c n (ran_reached r)
 -- what the client of a connection tells; none of a foreign peer, and of a connection that wasn't opened
 abbrev pub told_of : Option Connection → List Told
 told_of None = []
-told_of (Some k) = by_peer k.peer (client k).told
+told_of (Some k) = by_peer k.peer (heard_by_bytes k).told
 
 answer_told : (used : ℕ) (a : Result (ℕ × Note) ClientFault) → tellings_in a ≡ told_in (seen_as used a)
 answer_told used (Ok t) = refl
@@ -197,16 +197,16 @@ answer_told used (Err e) = refl
 does_tell : (k : Connection) (x : Effect) → Does k x → told_in x.seen ++ told_of (Some k) ≡ told_of (Some x.conn)
 does_tell k x (stays y a e) = ap (λ ts. ts ++ told_of (Some k)) e ∙ sym (ap₂ (λ p (ts : List Told). by_peer p ts) a.peer (ap (λ r. r.told) (client_alike k y.conn a)))
 does_tell k x (asks q none) =
-    let a = accepting (client k) k.client_lost k.sent q none in
+    let a = accepting (heard_by_bytes k) k.client_lost k.sent q none in
     sym (ap (λ r. by_peer k.peer r.told) (reading_later (wish_of k.peer) k.sent (q ∷ []) (hears (bytes_delivered k)) a.1))
 does_tell k x loses = refl
 does_tell k x (gives wish n p lives on) =
     let same = give_same k 0 n lives on in let piece = take n (drop k.down (output k)) in
     ap (λ s. told_in s ++ told_of (Some k)) (sym same.1)
     ∙ ap (λ ts. ts ++ told_of (Some k)) (sym (answer_told ((give n k).conn.down - k.down) (feed_of (client_rest 0 k) piece).answer))
-    ∙ ap (λ q. tellings_in (feed_of (client_rest 0 k) piece).answer ++ by_peer q (client k).told) p ∙ sym (give_told k 0 n lives on)
-    ∙ sym (ap (λ q. by_peer q (client (give n k).conn).told) p)
-does_tell k x (strange n p) = ap (λ q. by_peer q (client k).told) p ∙ sym (ap (λ q. by_peer q (client (record k { taken = taken_for n k; down = taken_for n k })).told) p)
+    ∙ ap (λ q. tellings_in (feed_of (client_rest 0 k) piece).answer ++ by_peer q (heard_by_bytes k).told) p ∙ sym (give_told k 0 n lives on)
+    ∙ sym (ap (λ q. by_peer q (heard_by_bytes (give n k).conn).told) p)
+does_tell k x (strange n p) = ap (λ q. by_peer q (heard_by_bytes k).told) p ∙ sym (ap (λ q. by_peer q (heard_by_bytes (record k { taken = taken_for n k; down = taken_for n k })).told) p)
 
 -- a connection that is opened told nothing
 opened_told : (xs : List Connection) (j : ℕ) (peer : Peer) → told_of (slice_get (xs ++ fresh peer ∷ []) j) ≡ told_of (slice_get xs j)

@@ -14,7 +14,7 @@ use Rattle.session.specs.Rest as serving
 use Rattle.session.specs.Prelude.{Kept, Done, Ended, Step, worked_of, rests, replies, serves, turns, work_kept, after_interrupt, interrupts, reset_among, shut, full, commit_entries, Setting, Change, Open, no_result, Tx, no_tx, Reply, serve}
 use Rattle.client.specs.declared.SubmitFault.{SubmitFault}
 use Rattle.client.specs.Prelude.{refusal_of, Nothing}
-use Rattle.world.specs.Prelude.{Peer, Ours, Foreign, Connection, SaysNoop, fresh, answer_count, waiting, said_version, client, kept_of, keeping, World, Event, Opens, Submit, ToServer, ToClient, Work, PutsNoop, Cut, ClientLost, ServerLost, Feeds, Seen, Opened, Submitted, Fed, Gave, SawWork, SawNoop, SawNothing, Refusal, V3, Effect, quiet, effect_of_submit, feed, to_server, takes, give, taken_for, effect_at_peer, said_by, effect_of_step, work, noop, server_gone, at_peer, after_effect, with_effect, at_conn, live, ledger, place, step, IsMade, IsCountedIn, taken_out, Reached, begins, goes_on, takes_out, told_in}
+use Rattle.world.specs.Prelude.{Peer, Ours, Foreign, Connection, SaysNoop, fresh, answer_count, waiting, said_version, heard_by_bytes, kept_of, keeping, World, Event, Opens, Submit, ToServer, ToClient, Work, PutsNoop, Cut, ClientLost, ServerLost, Feeds, Seen, Opened, Submitted, Fed, Gave, SawWork, SawNoop, SawNothing, Refusal, V3, Effect, quiet, effect_of_submit, feed, to_server, takes, give, taken_for, effect_at_peer, said_by, effect_of_step, work, noop, server_gone, at_peer, after_effect, with_effect, at_conn, live, ledger, place, step, IsMade, IsCountedIn, taken_out, Reached, begins, goes_on, takes_out, told_in}
 
 -- lists of connections
 pub get_more : {A : Type 0} (xs : List A) (j : ℕ) (y z : A) → slice_get (xs ++ y ∷ []) j ≡ Some z → (slice_get xs j ≡ Some z) ⊎ ((j ≡ length xs) × (y ≡ z))
@@ -85,7 +85,7 @@ noop_case P k q t = go (is_some k.version) (is_some k.ended) (nat_le 65536 (leng
 
 -- What is taken out for a peer is what was taken, or more.
 pub taken_case : (P : ℕ → Type 0) (p : Peer) (n : ℕ) (k : Connection) → P k.taken → P (taken_for n k) → P (effect_at_peer p n k).conn.taken
-taken_case P (Ours wish) n k a b = cond_both (k.cut || (k.client_lost || ((client k).ended || (client k).bad))) _ _ (λ (x : Effect). P x.conn.taken) (λ _. a) (λ _. b)
+taken_case P (Ours wish) n k a b = cond_both (k.cut || (k.client_lost || ((heard_by_bytes k).ended || (heard_by_bytes k).bad))) _ _ (λ (x : Effect). P x.conn.taken) (λ _. a) (λ _. b)
 taken_case P Foreign n k a b = cond_both k.cut _ _ (λ (x : Effect). P x.conn.taken) (λ _. a) (λ _. b)
 
 -- What is fed is told to no client, and commits nothing.
@@ -95,11 +95,11 @@ feed_hushed piece k = feed_case (λ x. (told_in x.seen ≡ []) × (x.commit ≡ 
 -- What an event does at a connection whose peer takes it.
 pub data Deed (S : Setting) (c : ℕ) (all : List EntryView) (k : Connection) : Event → Effect → Type 0 where
   declines : (i : ℕ) (q : RequestView) (fault : SubmitFault) → Deed S c all k (Submit i q) (quiet k (Submitted (Err fault)))
-  submits : (i : ℕ) (q : RequestView) (wish : Wish) → k.peer ≡ Ours wish → refusal_of (client k) k.client_lost k.sent q ≡ None → Deed S c all k (Submit i q) (effect_of_submit q k None)
+  submits : (i : ℕ) (q : RequestView) (wish : Wish) → k.peer ≡ Ours wish → refusal_of (heard_by_bytes k) k.client_lost k.sent q ≡ None → Deed S c all k (Submit i q) (effect_of_submit q k None)
   hands : (i n : ℕ) (wish : Wish) → k.peer ≡ Ours wish → Deed S c all k (ToServer i n) (to_server wish n k)
   feeds : (i : ℕ) (piece : List ℕ) → k.peer ≡ Foreign → Deed S c all k (Feeds i piece) (feed piece k)
   misses : (i n : ℕ) → Deed S c all k (ToClient i n) (quiet k (Gave 0 (Ok Nothing)))
-  gives : (i n : ℕ) (wish : Wish) → k.peer ≡ Ours wish → (k.cut || (k.client_lost || ((client k).ended || (client k).bad))) ≡ false → Deed S c all k (ToClient i n) (give n k)
+  gives : (i n : ℕ) (wish : Wish) → k.peer ≡ Ours wish → (k.cut || (k.client_lost || ((heard_by_bytes k).ended || (heard_by_bytes k).bad))) ≡ false → Deed S c all k (ToClient i n) (give n k)
   drains : (i n : ℕ) → k.peer ≡ Foreign → Deed S c all k (ToClient i n) (quiet (record k { taken = taken_for n k; down = taken_for n k }) (Gave (taken_for n k - k.down) (Ok Nothing)))
   works : (i : ℕ) → Deed S c all k (Work i) (work S c all k)
   noops : (i : ℕ) → Deed S c all k (PutsNoop i) (noop k)
@@ -108,14 +108,14 @@ pub data Deed (S : Setting) (c : ℕ) (all : List EntryView) (k : Connection) : 
   ends : (i : ℕ) → Deed S c all k (ServerLost i) (server_gone k)
 
 module _ (S : Setting) (c : ℕ) (all : List EntryView) (k : Connection) where
-  submit_deed : (i : ℕ) (q : RequestView) (wish : Wish) → k.peer ≡ Ours wish → (o : Option SubmitFault) → refusal_of (client k) k.client_lost k.sent q ≡ o → Deed S c all k (Submit i q) (effect_of_submit q k o)
+  submit_deed : (i : ℕ) (q : RequestView) (wish : Wish) → k.peer ≡ Ours wish → (o : Option SubmitFault) → refusal_of (heard_by_bytes k) k.client_lost k.sent q ≡ o → Deed S c all k (Submit i q) (effect_of_submit q k o)
   submit_deed i q wish p None e = submits i q wish p e
   submit_deed i q wish p (Some fault) e = declines i q fault
 
   event_deed : (p : Peer) (e : Event) → k.peer ≡ p → IfOk (at_peer S c all e p k) (Deed S c all k e)
-  event_deed (Ours wish) (Submit i q) p = submit_deed i q wish p (refusal_of (client k) k.client_lost k.sent q) refl
+  event_deed (Ours wish) (Submit i q) p = submit_deed i q wish p (refusal_of (heard_by_bytes k) k.client_lost k.sent q) refl
   event_deed (Ours wish) (ToServer i n) p = hands i n wish p
-  event_deed (Ours wish) (ToClient i n) p = cond_both (k.cut || (k.client_lost || ((client k).ended || (client k).bad))) _ _ (Deed S c all k (ToClient i n)) (λ _. misses i n) (λ e. gives i n wish p e)
+  event_deed (Ours wish) (ToClient i n) p = cond_both (k.cut || (k.client_lost || ((heard_by_bytes k).ended || (heard_by_bytes k).bad))) _ _ (Deed S c all k (ToClient i n)) (λ _. misses i n) (λ e. gives i n wish p e)
   event_deed Foreign (ToClient i n) p = cond_both k.cut _ _ (Deed S c all k (ToClient i n)) (λ _. misses i n) (λ _. drains i n p)
   event_deed Foreign (Feeds i piece) p = feeds i piece p
   event_deed _ (Work i) p = works i

@@ -14,7 +14,7 @@ use Rattle.client.specs.declared.Outcome.{Outcome}
 use Rattle.client.specs.Prelude.{Told, GotRow, Got, knows_of, tellings_in, losses}
 use Rattle.client.specs.Rest as asking
 use Rattle.client.proofs.Later.{reading_later}
-use Rattle.world.specs.Prelude.{Peer, Ours, Foreign, Connection, fresh, Said, SaysSummary, output, bytes_delivered, client, wish_of, input, Effect, give, taken_for, server_gone, Seen, Fed, feed, client_rest, ReadSummary, wrote_after, summaries_told, read_after, by_peer, opened_link, Link, FitsClient, FitsLink, cause_seen, FitsFlags, FitsOurs}
+use Rattle.world.specs.Prelude.{Peer, Ours, Foreign, Connection, fresh, Said, SaysSummary, output, bytes_delivered, heard_by_bytes, wish_of, input, Effect, give, taken_for, server_gone, Seen, Fed, feed, client_rest, ReadSummary, wrote_after, summaries_told, read_after, by_peer, opened_link, Link, FitsClient, FitsLink, cause_seen, FitsFlags, FitsOurs}
 use Rattle.std.proofs.lemmas.Option.{same_Some}
 use Rattle.world.proofs.Sound.{Sound, spoken, falling_same, client_alike, rest_alike, Speaks, says, wrote_seen, speaks_alike, Alike, feed_speaks}
 use Rattle.world.proofs.Trace.{input_more}
@@ -54,7 +54,7 @@ same_client p o u k k2 eu es er h = client_then p o o (λ y. y) u k k2 [] eu (λ
 module _ (l : Link) (k : Connection) (f : FitsLink l k) (s : Sound k) (lives : k.server_lost ≡ false) where
   pub speaks_link : {x : Effect} → Speaks k x → (o : Option asking.Rest) (u : List ℕ) (wrote : List (ℕ × Phase)) → wrote ≡ l.wrote ++ wrote_seen x.seen → FitsClient k.peer o u x.conn → FitsLink (record l { client = o; up = u; wrote = wrote }) x.conn
   speaks_link (says t xs up commit seen may wrote untold) o u written e c =
-      let same : client (spoken k t xs up) ≡ client k = client_alike k (spoken k t xs up) (speaks_alike k s (says t xs up commit seen may wrote untold)) in
+      let same : heard_by_bytes (spoken k t xs up) ≡ heard_by_bytes k = client_alike k (spoken k t xs up) (speaks_alike k s (says t xs up commit seen may wrote untold)) in
       record {
         peer = f.peer;
         client = c;
@@ -87,7 +87,7 @@ gone_link l k f s lives =
     (f.flags.0, f.flags.1, refl)
 
 -- `lost` of the client
-pub lost_link : (l : Link) (k : Connection) (told : List (ℕ × Outcome)) → FitsLink l k → told ≡ by_peer k.peer (losses (knows_of (client k) k.sent false))
+pub lost_link : (l : Link) (k : Connection) (told : List (ℕ × Outcome)) → FitsLink l k → told ≡ by_peer k.peer (losses (knows_of (heard_by_bytes k) k.sent false))
     → FitsLink (record l { client = option_map asking.after_drop l.client; client_lost = true; lost = told }) (record k { client_lost = true })
 lost_link l k told f e =
     record {
@@ -103,17 +103,17 @@ pub lost_again : (l : Link) (k : Connection) → FitsLink l k → k.client_lost 
 lost_again l k f e =
     record {
       peer = f.peer;
-      client = same_client k.peer l.client l.up k (record k { client_lost = true }) refl refl (λ out. ap (λ b. record { wish = wish_of k.peer; knows = knows_of (client k) k.sent b; item = state at_client at_client.start (bytes_delivered k); unsent = drop out (input (wish_of k.peer) k.sent) }) (sym e)) f.client;
+      client = same_client k.peer l.client l.up k (record k { client_lost = true }) refl refl (λ out. ap (λ b. record { wish = wish_of k.peer; knows = knows_of (heard_by_bytes k) k.sent b; item = state at_client at_client.start (bytes_delivered k); unsent = drop out (input (wish_of k.peer) k.sent) }) (sym e)) f.client;
       down = f.down;
       flags = (f.flags.0, f.flags.1 ∙ e, f.flags.2);
-      report = (f.report.0, f.report.1, f.report.2 ∙ ap (λ b. by_peer k.peer (if b then losses (knows_of (client k) k.sent false) else [])) e);
+      report = (f.report.0, f.report.1, f.report.2 ∙ ap (λ b. by_peer k.peer (if b then losses (knows_of (heard_by_bytes k) k.sent false) else [])) e);
     }
 
 -- `submit` that is accepted
-pub submit_link : (l : Link) (k : Connection) (q : RequestView) → FitsLink l k → (client k).bad ≡ false → k.client_lost ≡ false → (client k).version ≡ Some (wish_version (wish_of k.peer))
+pub submit_link : (l : Link) (k : Connection) (q : RequestView) → FitsLink l k → (heard_by_bytes k).bad ≡ false → k.client_lost ≡ false → (heard_by_bytes k).version ≡ Some (wish_version (wish_of k.peer))
     → FitsLink (record l { client = option_map (λ r. asking.after_submit r q) l.client }) (record k { sent = k.sent ++ q ∷ [] })
 submit_link l k q f good lives ver =
-    let same : client (record k { sent = k.sent ++ q ∷ [] }) ≡ client k = reading_later (wish_of k.peer) k.sent (q ∷ []) (hears (bytes_delivered k)) good in
+    let same : heard_by_bytes (record k { sent = k.sent ++ q ∷ [] }) ≡ heard_by_bytes k = reading_later (wish_of k.peer) k.sent (q ∷ []) (hears (bytes_delivered k)) good in
     let done = λ (o : Option asking.Rest). option_map (λ (r : asking.Rest). asking.after_submit r q) o in
     let more = request_bytes (wish_version (wish_of k.peer)) q in
     record {
@@ -201,7 +201,7 @@ module _ (l : Link) (k : Connection) (f : FitsLink l k) (s : Sound k) (n : ℕ) 
       unknown (Ours wish) e xs ys = cc
 
   -- and `feed` of a client that goes on
-  module _ (wish : Wish) (ours : k.peer ≡ Ours wish) (lives : k.client_lost ≡ false) (on : ((client k).ended ≡ false) × ((client k).bad ≡ false)) (r : asking.Rest) (here : l.client ≡ Some r) where
+  module _ (wish : Wish) (ours : k.peer ≡ Ours wish) (lives : k.client_lost ≡ false) (on : ((heard_by_bytes k).ended ≡ false) × ((heard_by_bytes k).bad ≡ false)) (r : asking.Rest) (here : l.client ≡ Some r) where
     abbrev used : ℕ
     used = reach hears (bytes_delivered k) (take n bytes)
 
@@ -243,9 +243,9 @@ module _ (l : Link) (k : Connection) (f : FitsLink l k) (s : Sound k) (n : ℕ) 
 
         told : summaries_told k ++ read_after (tellings_in (asking.feed_of (client_rest old.out k) (take n bytes)).answer) [] ≡ summaries_told k3
         told =
-            ap (λ p. by_peer p (read_after (client k).told []) ++ read_after (tellings_in (asking.feed_of (client_rest old.out k) (take n bytes)).answer) []) ours
-            ∙ sym (read_more (tellings_in (asking.feed_of (client_rest old.out k) (take n bytes)).answer) (client k).told)
-            ∙ ap (λ ts. read_after ts []) (sym (give_told k old.out n lives on)) ∙ sym (ap (λ p. by_peer p (read_after (client k3).told [])) ours)
+            ap (λ p. by_peer p (read_after (heard_by_bytes k).told []) ++ read_after (tellings_in (asking.feed_of (client_rest old.out k) (take n bytes)).answer) []) ours
+            ∙ sym (read_more (tellings_in (asking.feed_of (client_rest old.out k) (take n bytes)).answer) (heard_by_bytes k).told)
+            ∙ ap (λ ts. read_after ts []) (sym (give_told k old.out n lives on)) ∙ sym (ap (λ p. by_peer p (read_after (heard_by_bytes k3).told [])) ours)
 
 -- The links of a world: bytes that go to the server.
 abbrev pub used_seen : Seen → ℕ

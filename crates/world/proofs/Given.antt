@@ -4,7 +4,7 @@ use Rattle.std.specs.declared.alloc.AllocError.{AllocError}
 use Rattle.session.specs.declared.Cause.{Cause}
 use Rattle.server.specs.Serving as serving
 use Rattle.server.proofs.Answered as answered
-use Rattle.world.specs.Prelude.{Takes, Draws, Peer, Ours, Foreign, Connection, client, output, bytes_delivered, wish_of, World, Effect, ToClient, Seen, Gave, SawNothing, Refusal, quiet, at_peer, ledger, after_effect, effect_at_peer, taken_for, give, to_client, drain, taken_out, Submit, ClientLost, Submitted, effect_of_submit, read_after, by_peer, client_rest, live_of, server_rest, Link, Rest, FitsClient, FitsLink, Answers, FitsEnd, link_of, end_peer, event_of, Definition, Before, Holds, Submits, LosesClient, after_loss, Turns, IsWrong}
+use Rattle.world.specs.Prelude.{Takes, Draws, Peer, Ours, Foreign, Connection, heard_by_bytes, output, bytes_delivered, wish_of, World, Effect, ToClient, Seen, Gave, SawNothing, Refusal, quiet, at_peer, ledger, after_effect, effect_at_peer, taken_for, give, to_client, drain, taken_out, Submit, ClientLost, Submitted, effect_of_submit, read_after, by_peer, client_rest, live_of, server_rest, Link, Rest, FitsClient, FitsLink, Answers, FitsEnd, link_of, end_peer, event_of, Definition, Before, Holds, Submits, LosesClient, after_loss, Turns, IsWrong}
 use Rattle.std.proofs.Math.Seq.{take-nil, drop-length}
 use Rattle.std.proofs.lemmas.Bool.{or_left, or_right, cond-true, cond-false}
 use Rattle.std.proofs.lemmas.List.{length-take-le}
@@ -96,7 +96,7 @@ module _ {E G : Type 0} {entries : E → List EntryView} {answer : Definition} {
     pub given_cut : l.is_cut ≡ true → TurnsTo b (Ok (Gave 0 (Ok asking.Nothing))) l s
     given_cut cut =
         let is : k.cut ≡ true = sym fits.flags.0 ∙ cut in
-        nothing (either at (done (quiet k (Gave 0 (Ok asking.Nothing)))) (λ wish. ap done (cond-true (k.cut || (k.client_lost || ((client k).ended || (client k).bad))) _ _ (or_left _ _ is))) (ap done (cond-true k.cut _ _ is)) k.peer)
+        nothing (either at (done (quiet k (Gave 0 (Ok asking.Nothing)))) (λ wish. ap done (cond-true (k.cut || (k.client_lost || ((heard_by_bytes k).ended || (heard_by_bytes k).bad))) _ _ (or_left _ _ is))) (ap done (cond-true k.cut _ _ is)) k.peer)
 
     -- the server's part, where this was taken out of a session that lives: the bytes that are missing to n
     abbrev missing : ℕ
@@ -120,25 +120,25 @@ module _ {E G : Type 0} {entries : E → List EntryView} {answer : Definition} {
       abbrev of_ours : (wish : Wish) × (k.peer ≡ Ours wish) × ((out : ℕ) × (y ≡ client_rest out k))
       of_ours = client_here m k y fits client_is
 
-      over_is : y.knows.over ≡ (k.client_lost || ((client k).ended || (client k).bad))
+      over_is : y.knows.over ≡ (k.client_lost || ((heard_by_bytes k).ended || (heard_by_bytes k).bad))
       over_is = ap (λ (z : asking.Rest). z.knows.over) of_ours.2.1
 
       takes : at k.peer ≡ done (to_client n k)
       takes = ap at of_ours.1
 
       pub given_over : y.knows.over ≡ true → TurnsTo b (Ok (Gave 0 (Ok asking.Nothing))) l s
-      given_over over = nothing (takes ∙ ap done (cond-true (k.cut || (k.client_lost || ((client k).ended || (client k).bad))) _ _ (or_right k.cut _ (sym over_is ∙ over))))
+      given_over over = nothing (takes ∙ ap done (cond-true (k.cut || (k.client_lost || ((heard_by_bytes k).ended || (heard_by_bytes k).bad))) _ _ (or_right k.cut _ (sym over_is ∙ over))))
 
       -- where nothing came out
       pub given_lacks : (l2 : LinkHeld) (s2 : Server E G) → link_of l2 b.client ≡ m → FitsEnd l2.end b.client → server.Fits entries s2 r.server → TurnsTo b (Err Memory) l2 s2
       given_lacks = lacks b refl _ takes (λ h. h) (inl refl)
 
       module _ (on : y.knows.over ≡ false) (joined : l.is_cut ≡ false) where
-        open_is : (k.client_lost ≡ false) × (((client k).ended ≡ false) × ((client k).bad ≡ false))
-        open_is = let o = none_of false k.client_lost (client k).ended (client k).bad (sym over_is ∙ on) in (o.0, (o.1, o.2))
+        open_is : (k.client_lost ≡ false) × (((heard_by_bytes k).ended ≡ false) × ((heard_by_bytes k).bad ≡ false))
+        open_is = let o = none_of false k.client_lost (heard_by_bytes k).ended (heard_by_bytes k).bad (sym over_is ∙ on) in (o.0, (o.1, o.2))
 
         goes : to_client n k ≡ give n k
-        goes = cond-false (k.cut || (k.client_lost || ((client k).ended || (client k).bad))) _ _ (ap₂ (λ x z. x || z) (sym fits.flags.0 ∙ joined) (ap₂ (λ x z. x || z) open_is.0 (ap₂ (λ x z. x || z) open_is.1.0 open_is.1.1)))
+        goes = cond-false (k.cut || (k.client_lost || ((heard_by_bytes k).ended || (heard_by_bytes k).bad))) _ _ (ap₂ (λ x z. x || z) (sym fits.flags.0 ∙ joined) (ap₂ (λ x z. x || z) open_is.0 (ap₂ (λ x z. x || z) open_is.1.0 open_is.1.1)))
 
         -- where bytes came out of a session that lives
         came_out : (l2 : LinkHeld) (s2 : Server E G) → l.gone ≡ None → (bytes : List ℕ) → Takes c missing r.server m.down bytes (server.Fits entries s2) → link_of l2 b.client ≡ record m { down = bytes } → FitsEnd l2.end b.client → TurnsTo b (Err Memory) l2 s2
@@ -275,7 +275,7 @@ module _ {E G : Type 0} {entries : E → List EntryView} {answer : Definition} {
       refuses_turn : (fault : SubmitFault) (l2 : LinkHeld) → asking.refuses y.knows q ≡ Some fault → Holds l2 m_asked → TurnsTo b (Ok (Submitted (Err fault))) l2 s
       refuses_turn fault l2 refused h =
           acts_unseen b refl k_asked (Submitted (Err fault)) (asked (Some fault) refused) refl (λ _ j. refl) l2 h.client h.ends (subst (λ z. FitsLink z k_asked) h.link_is (found b).2)
-          (λ k2 g wish2 p none. let no : Some fault ≡ None = sym refused ∙ ap (λ z. asking.refuses z.knows q) its.2.1 ∙ subst (λ z. refusal_of (client z) z.client_lost z.sent q ≡ None) (same_Some k2 k_asked (sym g ∙ (found b).1)) none in absurd cc) tt
+          (λ k2 g wish2 p none. let no : Some fault ≡ None = sym refused ∙ ap (λ z. asking.refuses z.knows q) its.2.1 ∙ subst (λ z. refusal_of (heard_by_bytes z) z.client_lost z.sent q ≡ None) (same_Some k2 k_asked (sym g ∙ (found b).1)) none in absurd cc) tt
 
       accepts_turn : (n : ℕ) (l2 : LinkHeld) → IsAccepted y q n → Holds l2 (record m_asked { client = Some (asking.after_submit y q) }) → TurnsTo b (Ok (Submitted (Ok n))) l2 s
       accepts_turn n l2 accepted h =
@@ -284,23 +284,23 @@ module _ {E G : Type 0} {entries : E → List EntryView} {answer : Definition} {
           (subst (λ z. FitsLink z (record k_asked { sent = k_asked.sent ++ q ∷ [] })) (ap (λ z. let m2 : Link = record m_asked { client = option_map (λ v. asking.after_submit v q) z } in m2) is_there ∙ h.link_is) (submit_link m_asked k_asked q (found b).2 open_now.1 open_now.0
           (⊎_elim (λ e. absurd (open_now.2 e)) (λ e. e ∙ ap (λ p. Some (wish_version (wish_of p))) (sym its.1)) knows)))
           (λ k2 g wish2 p no.
-          let text : IsWrittenBy (client k_asked).version q = subst (λ z. IsWrittenBy z.knows.version q) its.2.1 accepted.written in
+          let text : IsWrittenBy (heard_by_bytes k_asked).version q = subst (λ z. IsWrittenBy z.knows.version q) its.2.1 accepted.written in
           subst (λ wi. IsWritten (wish_version wi) q) (ap wish_of (sym its.1 ∙ ap (λ (y : Connection). y.peer) (same_Some k_asked k2 (sym (found b).1 ∙ g)) ∙ p))
           (⊎_elim (λ e. let n : ⊥ = subst (λ z. IsWrittenBy z q) e text in absurd n) (λ e. subst (λ z. IsWrittenBy z q) e text) knows)) tt)
         where
-          open_now : (k_asked.client_lost ≡ false) × ((client k_asked).bad ≡ false) × ((client k_asked).version ≡ None → ⊥)
-          open_now = accepting (client k_asked) k_asked.client_lost k_asked.sent q (ap (λ z. asking.refuses z.knows q) (sym its.2.1) ∙ accepted.allowed)
+          open_now : (k_asked.client_lost ≡ false) × ((heard_by_bytes k_asked).bad ≡ false) × ((heard_by_bytes k_asked).version ≡ None → ⊥)
+          open_now = accepting (heard_by_bytes k_asked) k_asked.client_lost k_asked.sent q (ap (λ z. asking.refuses z.knows q) (sym its.2.1) ∙ accepted.allowed)
 
-          knows : ((client k_asked).version ≡ None) ⊎ ((client k_asked).version ≡ Some (wish_version its.0))
+          knows : ((heard_by_bytes k_asked).version ≡ None) ⊎ ((heard_by_bytes k_asked).version ≡ Some (wish_version its.0))
           knows =
               let inv = reached_inv (setting_at b) b.brought b.reached c k_asked (found b).1 its.0 its.1 in
               knows_if (setting_at b) (ledger w) its.0 k_asked inv.talk (tells (setting_at b) w.brought w.since c its.0 k_asked its.1 inv.talk).version
 
           ordinal_is : asking.next_ordinal y ≡ length k_asked.sent
           ordinal_is =
-              let few : (client k_asked).count ≤ length k_asked.sent = reading_count (wish_of k_asked.peer) k_asked.sent (hears (bytes_delivered k_asked)) in
-              let counted : (client k_asked).count + length (drop (client k_asked).count k_asked.sent) ≡ length k_asked.sent = omega (arith, length-drop (client k_asked).count k_asked.sent) in
-              ap asking.next_ordinal its.2.1 ∙ ap (λ b. (client k_asked).count + length (if b then [] else drop (client k_asked).count k_asked.sent)) open_now.0 ∙ counted
+              let few : (heard_by_bytes k_asked).count ≤ length k_asked.sent = reading_count (wish_of k_asked.peer) k_asked.sent (hears (bytes_delivered k_asked)) in
+              let counted : (heard_by_bytes k_asked).count + length (drop (heard_by_bytes k_asked).count k_asked.sent) ≡ length k_asked.sent = omega (arith, length-drop (heard_by_bytes k_asked).count k_asked.sent) in
+              ap asking.next_ordinal its.2.1 ∙ ap (λ b. (heard_by_bytes k_asked).count + length (if b then [] else drop (heard_by_bytes k_asked).count k_asked.sent)) open_now.0 ∙ counted
 
     pub submit_turns : (res : Result Seen Refused) (l2 : LinkHeld) → Submits m_asked q res (Holds l2) → TurnsTo b res l2 s
     submit_turns (Ok (Submitted (Ok n))) l2 x = accepts_turn x.client x.here n l2 x.accepted x.now
@@ -336,8 +336,8 @@ module _ {E G : Type 0} {entries : E → List EntryView} {answer : Definition} {
         link false was =
             subst (λ o. FitsLink (record m_lost { client = option_map asking.after_drop o; client_lost = true; lost = asking.losses y.knows }) (record k { client_lost = true })) is
             (lost_link m_lost k (asking.losses y.knows) (found b).2
-            (ap (λ z. asking.losses z.knows) its_lost.2.1 ∙ ap (λ b. asking.losses (knows_of (client k) k.sent b)) (sym (found b).2.flags.1 ∙ was)
-            ∙ ap (λ p. by_peer p (asking.losses (knows_of (client k) k.sent false))) (sym its_lost.1)))
+            (ap (λ z. asking.losses z.knows) its_lost.2.1 ∙ ap (λ b. asking.losses (knows_of (heard_by_bytes k) k.sent b)) (sym (found b).2.flags.1 ∙ was)
+            ∙ ap (λ p. by_peer p (asking.losses (knows_of (heard_by_bytes k) k.sent false))) (sym its_lost.1)))
 
     pub loses_turns : (res : Result Seen Refused) (l2 : LinkHeld) → LosesClient m_lost res (Holds l2) → Answers T w (ClientLost c) res (Now_ l2 s)
     loses_turns (Ok SawNothing) l2 x = loses_turn m_lost.client_lost refl l2 x.client x.here x.now

@@ -14,7 +14,7 @@ use Rattle.client.specs.Rest as asking
 use Rattle.client.proofs.Makes.{Makes, spoils, makes}
 use Rattle.client.proofs.Later.{reading_later, reading_count}
 use Rattle.client.proofs.Fed.{rest_at, fed_rest, fed_told}
-use Rattle.world.specs.Prelude.{Connection, output, bytes_delivered, client, wish_of, input, Seen, Gave, give, taken_for, note_now, note_given, tells_of, client_rest}
+use Rattle.world.specs.Prelude.{Connection, output, bytes_delivered, heard_by_bytes, wish_of, input, Seen, Gave, give, taken_for, note_now, note_given, tells_of, client_rest}
 use Rattle.world.proofs.Trace.{input_more}
 
 -- a front of a longer one
@@ -133,7 +133,7 @@ module _ (wish : Wish) (sent : List RequestView) (xs : List Heard) (on : ((readi
       by_bad y true f = refl
       by_bad y false f = ap (λ n. Gave used (Ok n)) (made_note wish knows r1 y _ (makes wish knows y) f)
 
-module _ (k : Connection) (out n : ℕ) (lives : k.client_lost ≡ false) (on : ((client k).ended ≡ false) × ((client k).bad ≡ false)) where
+module _ (k : Connection) (out n : ℕ) (lives : k.client_lost ≡ false) (on : ((heard_by_bytes k).ended ≡ false) × ((heard_by_bytes k).bad ≡ false)) where
   abbrev pub piece : List ℕ
   piece = take n (drop k.down (output k))
 
@@ -154,12 +154,12 @@ module _ (k : Connection) (out n : ℕ) (lives : k.client_lost ≡ false) (on : 
   taken_more : bytes_delivered k2 ≡ bytes_delivered k ++ take t.used piece
   taken_more = given_more ∙ ap (λ i. bytes_delivered k ++ take i piece) (used_same (wish_of k.peer) k.sent (bytes_delivered k) on piece)
 
-  heard_more : hears (bytes_delivered k2) ≡ option_to_list (option_map (heard_as (client k).version) t.item) ++ hears (bytes_delivered k)
+  heard_more : hears (bytes_delivered k2) ≡ option_to_list (option_map (heard_as (heard_by_bytes k).version) t.item) ++ hears (bytes_delivered k)
   heard_more = ap hears taken_more ∙ more_heard (wish_of k.peer) k.sent (bytes_delivered k) on piece
 
   -- one item at most
   pub one_more : length (hears (bytes_delivered k2)) ≤ suc (length (hears (bytes_delivered k)))
-  one_more = at (option_map (heard_as (client k).version) t.item) (ap length heard_more)
+  one_more = at (option_map (heard_as (heard_by_bytes k).version) t.item) (ap length heard_more)
     where
       at : (o : Option Heard) → length (hears (bytes_delivered k2)) ≡ length (option_to_list o ++ hears (bytes_delivered k)) → length (hears (bytes_delivered k2)) ≤ suc (length (hears (bytes_delivered k)))
       at None e = omega arith
@@ -182,16 +182,16 @@ module _ (k : Connection) (out n : ℕ) (lives : k.client_lost ≡ false) (on : 
       let is = held_is (bytes_delivered k) in (
         ap (λ r. (asking.feed_of r piece).rest) is ∙ fed_rest (wish_of k.peer) k.sent unsent (bytes_delivered k) on piece ∙ ap held (sym taken_more) ∙ sym (held_is (bytes_delivered k2)),
         ap₂ (λ r u. seen_as u (asking.feed_of r piece).answer) is used
-            ∙ ap (λ (f : asking.Fed). seen_as t.used f.answer) (cond-false ((client k).ended || (client k).bad) (record { rest = held (bytes_delivered k); answer = Err ClientFault.Closed }) (asking.fed_open (held (bytes_delivered k)) t) (ap₂ (λ a b. a || b) on.0 on.1))
+            ∙ ap (λ (f : asking.Fed). seen_as t.used f.answer) (cond-false ((heard_by_bytes k).ended || (heard_by_bytes k).bad) (record { rest = held (bytes_delivered k); answer = Err ClientFault.Closed }) (asking.fed_open (held (bytes_delivered k)) t) (ap₂ (λ a b. a || b) on.0 on.1))
             ∙ item_seen (wish_of k.peer) k.sent (hears (bytes_delivered k)) on t.rest unsent t.used t.item
             ∙ ap (λ ys. let r = reading (wish_of k.peer) k.sent ys in Gave t.used (note_given r.bad (note_now (hears (bytes_delivered k)) ys r))) (sym heard_more)
-            ∙ ap (λ u. Gave u (note_given (client k2).bad (note_now (hears (bytes_delivered k)) (hears (bytes_delivered k2)) (client k2)))) (sym used),
+            ∙ ap (λ u. Gave u (note_given (heard_by_bytes k2).bad (note_now (hears (bytes_delivered k)) (hears (bytes_delivered k2)) (heard_by_bytes k2)))) (sym used),
       )
 
-  pub give_told : (client k2).told ≡ tellings_in (asking.feed_of (client_rest out k) piece).answer ++ (client k).told
+  pub give_told : (heard_by_bytes k2).told ≡ tellings_in (asking.feed_of (client_rest out k) piece).answer ++ (heard_by_bytes k).told
   give_told =
       ap (λ bytes. (reading_of (wish_of k.peer) k.sent bytes).told) taken_more ∙ fed_told (wish_of k.peer) k.sent unsent (bytes_delivered k) on piece
-      ∙ ap (λ r. tellings_in (asking.feed_of r piece).answer ++ (client k).told) (sym (held_is (bytes_delivered k)))
+      ∙ ap (λ r. tellings_in (asking.feed_of r piece).answer ++ (heard_by_bytes k).told) (sym (held_is (bytes_delivered k)))
 
 -- what it keeps is enough for a submit: the rest after one that isn't refused
 module _ (k : Connection) (out : ℕ) (q : RequestView) (few : out ≤ length (input (wish_of k.peer) k.sent)) where
@@ -205,14 +205,14 @@ module _ (k : Connection) (out : ℕ) (q : RequestView) (few : out ≤ length (i
       }
 
   -- where the client knows the version that it wished
-  pub submitted_same : (client k).bad ≡ false → k.client_lost ≡ false → (client k).version ≡ Some (wish_version (wish_of k.peer)) → asking.after_submit (client_rest out k) q ≡ client_rest out (record k { sent = k.sent ++ q ∷ [] })
+  pub submitted_same : (heard_by_bytes k).bad ≡ false → k.client_lost ≡ false → (heard_by_bytes k).version ≡ Some (wish_version (wish_of k.peer)) → asking.after_submit (client_rest out k) q ≡ client_rest out (record k { sent = k.sent ++ q ∷ [] })
   submitted_same good lives ver =
-      ap₂ (λ w u. rest_as (client k) w u) (waits k.client_lost lives)
+      ap₂ (λ w u. rest_as (heard_by_bytes k) w u) (waits k.client_lost lives)
       (ap (λ o. drop out (input (wish_of k.peer) k.sent) ++ asking.asking_bytes o q) ver
       ∙ sym (drop-append-le out (input (wish_of k.peer) k.sent) (request_bytes (wish_version (wish_of k.peer)) q) few)
       ∙ ap (drop out) (sym (input_more (wish_of k.peer) k.sent q)))
       ∙ ap (λ rd. rest_as rd (if k.client_lost then [] else drop rd.count (k.sent ++ q ∷ [])) (drop out (input (wish_of k.peer) (k.sent ++ q ∷ [])))) (sym (reading_later (wish_of k.peer) k.sent (q ∷ []) (hears (bytes_delivered k)) good))
     where
-      waits : (b : Bool) → b ≡ false → (if b then [] else drop (client k).count k.sent) ++ q ∷ [] ≡ (if b then [] else drop (client k).count (k.sent ++ q ∷ []))
-      waits false e = sym (drop-append-le (client k).count k.sent (q ∷ []) (reading_count (wish_of k.peer) k.sent (hears (bytes_delivered k))))
+      waits : (b : Bool) → b ≡ false → (if b then [] else drop (heard_by_bytes k).count k.sent) ++ q ∷ [] ≡ (if b then [] else drop (heard_by_bytes k).count (k.sent ++ q ∷ []))
+      waits false e = sym (drop-append-le (heard_by_bytes k).count k.sent (q ∷ []) (reading_count (wish_of k.peer) k.sent (hears (bytes_delivered k))))
       waits true e = cc

@@ -7,7 +7,7 @@ use Rattle.client.specs.Prelude.{knows_of}
 use Rattle.world.specs.declared.link.Link.{Link as LinkHeld}
 use Rattle.world.specs.declared.report.Standing.{Standing as StandingTold}
 use Rattle.world.specs.declared.world.World.{World as WorldHeld}
-use Rattle.world.specs.Prelude.{Peer, Ours, Foreign, Connection, Said, SaysSummary, answer_count, client, World, Reached, Event, Refusal, V1, V2, V3, step, goes_on, tellings_of, delivered_whole, server_outcome, Good, ReadSummary, by_peer, read_after, summaries_told, waits, ordinals, standing, standing_of, client_rest, live_of, Link, FitsClient, FitsLink, link_of, waiting_at, seen_of, Definition, setting_of, Holds, IsWorld, Goes, GoesBy, FitsWorld, seen_in, standing_seen, StandsBy, Answers, Follows, Replays}
+use Rattle.world.specs.Prelude.{Peer, Ours, Foreign, Connection, Said, SaysSummary, answer_count, heard_by_bytes, World, Reached, Event, Refusal, V1, V2, V3, step, goes_on, tellings_of, delivered_whole, server_outcome, Good, ReadSummary, by_peer, read_after, summaries_told, waits, ordinals, standing, standing_of, client_rest, live_of, Link, FitsClient, FitsLink, link_of, waiting_at, seen_of, Definition, setting_of, Holds, IsWorld, Goes, GoesBy, FitsWorld, seen_in, standing_seen, StandsBy, Answers, Follows, Replays}
 use Rattle.machine.specs.Prelude.{phase_of}
 use Rattle.world.proofs.Sound.{reached_sound}
 use Rattle.world.proofs.Headline.{all_good}
@@ -59,12 +59,12 @@ module _ {E G : Type 0} {entries : E → List EntryView} (answer : Definition) (
         go (Ours wish) p g =
             let old : FitsClient (Ours wish) m.client m.up k = subst (λ q. FitsClient q m.client m.up k) p g in let y = client_rest old.out k in
             let good : Good (setting_of answer accepts gate) w c k = all_good (setting_of answer accepts gate) brought w reached c k wish there.1 p in
-            let n : length (summaries_told k) ≡ (client k).count =
-            ap (λ q. length (by_peer q (read_after (client k).told []))) p ∙ ap (λ ts. length (read_after ts [])) good.told ∙ read_long (delivered_whole k) [] ∙ sym (good.count_told ∙ (let same : answer_count (delivered_whole k) ≡ answer_count (delivered_whole k) + 0 = omega arith in same)) in
+            let n : length (summaries_told k) ≡ (heard_by_bytes k).count =
+            ap (λ q. length (by_peer q (read_after (heard_by_bytes k).told []))) p ∙ ap (λ ts. length (read_after ts [])) good.told ∙ read_long (delivered_whole k) [] ∙ sym (good.count_told ∙ (let same : answer_count (delivered_whole k) ≡ answer_count (delivered_whole k) + 0 = omega arith in same)) in
             ap (λ q. by_peer q (ordinals y.knows.first (length y.knows.waiting))) p ∙ ap₂ (λ i j. ordinals i j) (sym n ∙ long) (ap waiting_at (sym old.client_is))
         go Foreign p g =
             let old : FitsClient Foreign m.client m.up k = subst (λ q. FitsClient q m.client m.up k) p g in
-            ap (λ q. by_peer q (ordinals (knows_of (client k) k.sent k.client_lost).first (length (knows_of (client k) k.sent k.client_lost).waiting))) p ∙ ap (λ o. ordinals count (waiting_at o)) (sym old.0)
+            ap (λ q. by_peer q (ordinals (knows_of (heard_by_bytes k) k.sent k.client_lost).first (length (knows_of (heard_by_bytes k) k.sent k.client_lost).waiting))) p ∙ ap (λ o. ordinals count (waiting_at o)) (sym old.0)
 
 -- Events one after the other.
 pub replays_more : (S : Setting) (w w2 w3 : World) (es : List Event) (e : Event) → Replays S w es w2 → Follows S w2 e w3 → Replays S w (es ++ e ∷ []) w3

@@ -96,9 +96,9 @@ abbrev pub wish_of : Peer → Wish
 wish_of (Ours wish) = wish
 wish_of Foreign = Wish.Newest
 
--- what the client of a connection makes of it
-abbrev pub client : Connection → Reading
-client k = reading_of (wish_of k.peer) k.sent (bytes_delivered k)
+-- what a reader makes of the bytes that the client of a connection was given, by these bytes alone
+abbrev pub heard_by_bytes : Connection → Reading
+heard_by_bytes k = reading_of (wish_of k.peer) k.sent (bytes_delivered k)
 
 -- all that the client ever puts out
 abbrev pub input : Wish → List RequestView → List ℕ

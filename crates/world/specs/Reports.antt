@@ -9,7 +9,7 @@ use Rattle.client.specs.declared.Outcome.{Outcome}
 use Rattle.client.specs.Verdicts.{Told, GotRow, Got}
 use Rattle.client.specs.Rest.{losses}
 use Rattle.client.specs.Client.{knows_of}
-use Rattle.world.specs.Connections.{Said, SaysSummary, Peer, Ours, Foreign, Connection, client}
+use Rattle.world.specs.Connections.{Said, SaysSummary, Peer, Ours, Foreign, Connection, heard_by_bytes}
 
 -- the summaries that the server wrote, the oldest first: ordinal and phase
 abbrev pub wrote_after : List Said → List (ℕ × Phase) → List (ℕ × Phase)
@@ -49,12 +49,12 @@ by_peer Foreign xs = []
 
 -- the summaries that the client of a connection read, the oldest first
 abbrev pub summaries_told : Connection → List ReadSummary
-summaries_told k = by_peer k.peer (read_after (client k).told [])
+summaries_told k = by_peer k.peer (read_after (heard_by_bytes k).told [])
 
 -- the outcomes that the client gave when it was lost
 abbrev pub outcomes_at_loss : Connection → List (ℕ × Outcome)
 outcomes_at_loss k = by_peer k.peer
-    (if k.client_lost then losses (knows_of (client k) k.sent false) else [])
+    (if k.client_lost then losses (knows_of (heard_by_bytes k) k.sent false) else [])
 
 -- the ordinals from one on, so many
 abbrev pub ordinals : ℕ → ℕ → List ℕ
@@ -63,7 +63,7 @@ ordinals i (suc n) = i ∷ ordinals (suc i) n
 
 -- the requests that still wait for a summary
 abbrev pub waits : Connection → List ℕ
-waits k = let knows = knows_of (client k) k.sent k.client_lost in by_peer k.peer
+waits k = let knows = knows_of (heard_by_bytes k) k.sent k.client_lost in by_peer k.peer
     (ordinals knows.first (length knows.waiting))
 
 -- the session's state, or why it has ended
