@@ -8,8 +8,8 @@ use Rattle.machine.specs.Prelude.{kind_of, is_reset}
 use Rattle.engine.specs.Prelude.{EntryView, WriteView, ParameterView, AnswerView, QueryFault}
 use Rattle.session.specs.declared.Cause.{Cause}
 use Rattle.session.specs.Prelude.{Setting, Open, Tx, Reply, OneRow, Summary, Bye, Step, after_item, after_interrupt, ends, puts, puts_noop, noop_kept, unread_among, work_kept, Kept, worked_of, what_of, shut, full, commit_entries}
-use Rattle.server.specs.Prelude.{arrival, Feeding, feeding, takes_item, Live, find, replace, without}
-use Rattle.world.specs.Prelude.{Connection, SaysNoop, heard_as, said_version, output, requests_among, arrivals_at, waiting, answer_count, kept_of, keeping, Peer, fresh, said_by, take_item, noop, live, World, Effect, Seen, quiet, Fed, SawNothing, takes, feed, server_gone, ledger, work, after_effect, live_of, sessions_from, server_rest}
+use Rattle.server.specs.Prelude.{arrival, Feeding, feeding, takes_item, Live, find, replace, without, places_of}
+use Rattle.world.specs.Prelude.{Connection, SaysNoop, heard_as, said_version, output, arrivals_at, waiting, answer_count, kept_of, keeping, Peer, fresh, said_by, take_item, noop, live, World, Effect, Seen, quiet, Fed, SawNothing, takes, feed, server_gone, ledger, work, after_effect, live_of, sessions_from, server_rest}
 use Rattle.client.proofs.Steps.{drop_next}
 use Rattle.world.proofs.Deeds.{replied, step_case, interrupt_case}
 use Rattle.server.proofs.Arriving.{placed-append}
@@ -56,13 +56,13 @@ module _ (k : Connection) (s : Sound k) where
     abbrev a : Option Arrival
     a = arrival (kept_of k) (reads at_server (state at_server at_server.start k.up) piece).item
 
-    waits : (o : Option Arrival) → a ≡ o → drop (answer_count k.says) (requests_among (arrivals up2)) ≡ waiting k ++ requests_among (option_to_list o)
+    waits : (o : Option Arrival) → a ≡ o → drop (answer_count k.says) (places_of (arrivals up2)) ≡ waiting k ++ places_of (option_to_list o)
     waits o e =
-        ap (λ z. drop (answer_count k.says) (requests_among z)) (more_arrives k.up k.version k.says (s.stage going) good piece ∙ ap (λ x. arrivals k.up ++ option_to_list x) e)
+        ap (λ z. drop (answer_count k.says) (places_of z)) (more_arrives k.up k.version k.says (s.stage going) good piece ∙ ap (λ x. arrivals k.up ++ option_to_list x) e)
         ∙ ap (drop (answer_count k.says)) (placed-append (arrivals k.up) (option_to_list o))
-        ∙ drop-append-le (answer_count k.says) (arrivals_at k) (requests_among (option_to_list o)) s.past
+        ∙ drop-append-le (answer_count k.says) (arrivals_at k) (places_of (option_to_list o)) s.past
 
-    none_waits : (o : Option Arrival) → a ≡ o → requests_among (option_to_list o) ≡ [] → drop (answer_count k.says) (requests_among (arrivals up2)) ≡ waiting k
+    none_waits : (o : Option Arrival) → a ≡ o → places_of (option_to_list o) ≡ [] → drop (answer_count k.says) (places_of (arrivals up2)) ≡ waiting k
     none_waits o e h = waits o e ∙ ap (λ z. waiting k ++ z) h ∙ append-nil (waiting k)
 
     pub item_keeps : (used : ℕ) (o : Option Arrival) → a ≡ o → kept_of (take_item k up2 used o).conn ≡ after_item (kept_of k) o

@@ -6,12 +6,13 @@ use Rattle.wire.specs.declared.Wish.{Wish}
 use Rattle.wire.specs.Offers.{offer_of, wish_version}
 use Rattle.wire.specs.Framing.{bytes_in_order, bytes_newest_first}
 use Rattle.messages.specs.View.{RequestView, ResponseView}
-use Rattle.messages.specs.Arrivals.{Arrival, Asked, Unread, TooLong, arrivals, request_bytes, Heard, Chosen, Quiet, heard_bytes}
+use Rattle.messages.specs.Arrivals.{Arrival, arrivals, request_bytes, Heard, Chosen, Quiet, heard_bytes}
 use Rattle.machine.specs.declared.State.{State}
 use Rattle.session.specs.declared.Cause.{Cause}
 use Rattle.session.specs.Session.{Open, no_result, Tx, no_tx}
 use Rattle.session.specs.Rest.{Written, Kept}
 use Rattle.client.specs.Client.{Reading, reading_of}
+use Rattle.server.specs.Past.{places_of}
 
 -- what a server says: the version, or that it takes none; a no-op; a row, as it was fitted; a summary
 pub data Said : Type 0 where
@@ -104,17 +105,9 @@ heard_by_bytes k = reading_of (wish_of k.peer) k.sent (bytes_delivered k)
 abbrev pub input : Wish → List RequestView → List ℕ
 input wish sent = offer_of wish ++ bytes_in_order (request_bytes (wish_version wish)) sent
 
--- requests and what can't be read, in order
-abbrev pub requests_among : List Arrival → List Arrival
-requests_among [] = []
-requests_among (Asked q ∷ xs) = Asked q ∷ requests_among xs
-requests_among (Unread e ∷ xs) = Unread e ∷ requests_among xs
-requests_among (TooLong ∷ xs) = TooLong ∷ requests_among xs
-requests_among (_ ∷ xs) = requests_among xs
-
 -- the requests that a session took, and what can't be read, the oldest first
 abbrev pub arrivals_at : Connection → List Arrival
-arrivals_at k = requests_among (arrivals k.up)
+arrivals_at k = places_of (arrivals k.up)
 
 -- what arrived and isn't answered
 abbrev pub waiting : Connection → List Arrival
