@@ -54,6 +54,14 @@ pub enum Asked {
     Pull(Count),
     /// RUN with a text of so many bytes among its parameters.
     Echo(usize),
+    /// RUN with so many lists inside of one another among its parameters.
+    Nested(usize),
+    /// RUN with two parameters of one key.
+    Twice,
+    /// RUN with a time in a named zone among its parameters, as 5.0 and 5.1 have it.
+    Zoned,
+    /// BEGIN under a token of so many bytes.
+    BeginUnder(usize),
 }
 
 /// What a feed tells.
@@ -69,7 +77,7 @@ pub enum Told {
 
 /// A call of a client, and what it has to answer.
 pub enum Step {
-    /// What a submit answers, by its code.
+    /// What a submit answers: that it is accepted, or the text of its refusal.
     Asks(Asked, &'static str),
     /// Bytes as they come, a message in one chunk, and a chunk as long as can be.
     Feeds(&'static [u8], Told),
@@ -120,16 +128,15 @@ fn is_told(fed: &Result<(usize, Heard), ClientFault>, told: &Told) -> bool {
     }
 }
 
-fn code(submitted: Result<u64, SubmitFault>) -> &'static str {
+/// Whether a submit answers so.
+fn answers(
+    alloc: Global,
+    submitted: Result<u64, SubmitFault>,
+    answer: &str,
+) -> Result<bool, AllocError> {
     match submitted {
-        Ok(_) => "accepted",
-        Err(SubmitFault::NotAllowed) => "C1",
-        Err(SubmitFault::PipelineFull) => "C2",
-        Err(SubmitFault::Size) => "C3",
-        Err(SubmitFault::Closed) => "C4",
-        Err(SubmitFault::Memory) => "C5",
-        Err(SubmitFault::Unwritable(Unwritable::Extra)) => "C7 with M5",
-        Err(SubmitFault::Unwritable(_)) => "C7",
+        Ok(_) => Ok(answer == "accepted"),
+        Err(fault) => Ok(format!(in alloc; "{fault}")?.as_str() == answer),
     }
 }
 
@@ -157,15 +164,26 @@ fn run(alloc: Global, query: &str, params: Vec<(String, Cell)>) -> Result<Reques
     })
 }
 
-/// A parameter with a text of so many bytes.
-fn long_param(alloc: Global, len: usize) -> Result<Vec<(String, Cell)>, AllocError> {
-    let mut long = String::new(alloc);
-    for _ in 0..len {
-        long.push('x')?;
-    }
+/// So many parameters `x`.
+fn params(alloc: Global, cells: Vec<Cell>) -> Result<Vec<(String, Cell)>, AllocError> {
     let mut params = Vec::new(alloc);
-    params.push((String::from_str(alloc, "x")?, Cell::Text(long)))?;
+    for cell in cells {
+        params.push((String::from_str(alloc, "x")?, cell))?;
+    }
     Ok(params)
+}
+
+/// So many lists inside of one another.
+fn nested(alloc: Global, depth: usize) -> Result<Cell, AllocError> {
+    let mut cell = Cell::Null;
+    for _ in 0..depth {
+        cell = Cell::List(vec![in alloc; cell]?);
+    }
+    Ok(cell)
+}
+
+fn echo(alloc: Global, cells: Vec<Cell>) -> Result<Request, AllocError> {
+    run(alloc, "ECHO", params(alloc, cells)?)
 }
 
 fn request(alloc: Global, asked: &Asked) -> Result<Request, AllocError> {
@@ -183,7 +201,22 @@ fn request(alloc: Global, asked: &Asked) -> Result<Request, AllocError> {
         }),
         Commit => Ok(Request::Commit),
         Pull(count) => Ok(Request::Pull(*count)),
-        Echo(len) => run(alloc, "ECHO", long_param(alloc, *len)?),
+        Echo(len) => echo(alloc, vec![in alloc; Cell::Text("x".repeat(alloc, *len)?)]?),
+        Nested(depth) => echo(alloc, vec![in alloc; nested(alloc, *depth)?]?),
+        Twice => echo(alloc, vec![in alloc; Cell::Null, Cell::Null]?),
+        Zoned => {
+            let zone = String::from_str(alloc, "UTC")?;
+            let cell = Cell::ZonedUtc {
+                seconds: 0,
+                nanos: 0,
+                zone,
+            };
+            echo(alloc, vec![in alloc; cell]?)
+        }
+        BeginUnder(len) => Ok(Request::Begin {
+            mode: Mode::Write,
+            token: Some("a".repeat(alloc, *len)?),
+        }),
     }
 }
 
@@ -227,7 +260,7 @@ fn hear(client: &mut Client, bytes: &[u8]) -> Result<usize, ClientFault> {
 /// Whether a call of the client answers what it has to.
 fn is_so(alloc: Global, client: &mut Client, step: &Step) -> Result<bool, Fail> {
     Ok(match step {
-        Asks(asked, answer) => code(client.submit(request(alloc, asked)?)) == *answer,
+        Asks(asked, answer) => { answers(alloc, client.submit(request(alloc, asked)?), answer)? }
         Feeds(bytes, told) => is_told(&client.feed(bytes), told),
         Hears(message, told) => match chunked(alloc, message) {
             Some(bytes) => is_told(&client.feed(&bytes), told),

@@ -43,7 +43,7 @@ const OFFERS: &[Step] = &[
     TakesOut(6, &[0x60, 0x60, 0xB0, 0x17, 0, 1]),
     TakesOut(100, &[1, 5, 0, 0, 4, 4, 0, 0, 0, 0, 0, 0, 0, 0]),
     Feeds(&[0, 0, 4, 4, 1], Told::Version(Version::V44)),
-    Asks(Hello, "C7 with M5"),
+    Asks(Hello, "M5"),
     Takes(100, 0),
     Asks(Goodbye, "accepted"),
     Stands(1, Phase::Fresh),
@@ -54,7 +54,7 @@ const OFFERS: &[Step] = &[
 const LOGS_ON_AT_5_0: &[Step] = &[
     Takes(100, 20),
     Feeds(AT_5_0, Told::Version(Version::V50)),
-    Asks(Hello, "C7 with M5"),
+    Asks(Hello, "M5"),
     Asks(Logon, "C1"),
     Asks(HelloOld, "accepted"),
     Asks(Logon, "C1"),
@@ -216,6 +216,20 @@ const SIZES: &[Step] = &[
     Takes(100_000, 65542),
 ];
 
+/// What can't be written, each time with why and where; nothing of it goes out.
+const UNWRITABLE: &[Step] = &[
+    Takes(1000, 87),
+    Asks(Nested(31), "P6 at 33"),
+    Asks(Nested(32), "P6 at 32"),
+    Asks(Twice, "P5 at 2"),
+    Asks(Zoned, "S6 at 0"),
+    Asks(BeginUnder(0), "M5"),
+    Asks(BeginUnder(65), "M5"),
+    Stands(0, Phase::Ready),
+    Takes(1000, 0),
+    Asks(Nested(30), "accepted"),
+];
+
 /// A message between no-ops, in pieces of one to four bytes.
 const IN_SMALL_PIECES: &[Step] = &[
     Asks(Reset, "accepted"),
@@ -291,6 +305,7 @@ const PLAYED: &[(&str, Wish, &[&[Step]])] = &[
     ("ignored alone", OLD_ALONE, &[LOGS_ON, IGNORED_ALONE]),
     ("full", OLD_ALONE, &[LOGS_ON, &[ASKS_A_RESET; 32], FULL]),
     ("sizes", OLD_ALONE, &[LOGS_ON, SIZES]),
+    ("unwritable", OLD_ALONE, &[LOGS_ON, UNWRITABLE]),
     ("in small pieces", OLD_ALONE, &[LOGS_ON, IN_SMALL_PIECES]),
     ("too big", Wish::Newest, &[TOO_BIG]),
     ("lost after a COMMIT", OLD_ALONE, &[LOST_AFTER_A_COMMIT]),
