@@ -1,6 +1,7 @@
 pub mod Limits
 pub mod Fronts
 pub mod Failing
+pub mod Reasons
 pub mod Asking
 pub mod Conversing
 pub mod Breaking

@@ -1,5 +1,7 @@
 //! A source and a sink in memory.
-ghost use Rattle.std.specs.Prelude.{◌≡◌, false};
+ghost use Rattle.std.specs.Prelude.{◌≡◌, ◌<◌, ◌+◌, ◌⊎◌, ◌↔◌, true, false, IsErr, IfOk, OnErr, Some, length};
+ghost use Rattle.std.specs.Io.KnownBytes.{WriteAppends};
+ghost use Rattle.std.specs.Vec.{vec_len, vec_capacity};
 
 use crate::traits::{Failed, Sink, Source};
 
@@ -76,7 +78,15 @@ impl Sink for Buffer {
 
     ghost has_failed = { λ b. b.failed };
 
-    fn write(&mut self, bytes: &[u8]) -> Result<usize, Failed> {
+    // It fails where it had failed before, or where the vector has no room for the bytes and gets none.
+    fn write(&mut self, bytes: &[u8]) -> Result<usize, Failed>
+        ensures failed { IsErr result ↔ (self.new.failed ≡ true) }
+        ensures stays { self.old.failed ≡ true → self.new.failed ≡ true }
+        ensures full { OnErr result ((self.old.failed ≡ true)
+            ⊎ (vec_capacity self.old.bytes < vec_len self.old.bytes + length bytes.now)) }
+        ensures whole { IfOk result (λ n. n ≡ length bytes.now) }
+        ensures bytes { WriteAppends (Some self.old.bytes.items) (Some self.new.bytes.items) result bytes.now }
+    {
         if self.failed {
             return Err(Failed);
         }

@@ -5,6 +5,8 @@
 #[cfg(test)]
 mod ask_tests;
 #[cfg(test)]
+mod over_tests;
+#[cfg(test)]
 mod retry_tests;
 #[cfg(test)]
 mod serve_tests;
