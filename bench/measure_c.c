@@ -15,7 +15,7 @@ static size_t answers_len, told;
 static void need(int holds) { if (!holds) { fprintf(stderr, "a call was refused\n"); exit(1); } }
 static double now(void) { struct timespec at; clock_gettime(CLOCK_MONOTONIC, &at); return (double)at.tv_sec * 1e9 + (double)at.tv_nsec; }
 static void put(const char *text, size_t length) { memcpy(answers + answers_len, text, length); answers_len += length; }
-static void submit(const char *text, size_t length) { uint64_t ordinal; need(!bolt_submit(&client, (const uint8_t *)text, length, &ordinal)); }
+static void submit(const char *text, size_t length) { bolt_submitted told; need(!bolt_submit(&client, (const uint8_t *)text, length, &told)); }
 #define PUT(text) put(text, sizeof text - 1)
 #define SUBMIT(text) submit(text, sizeof text - 1)
 

@@ -17,8 +17,10 @@ static int fd;
 static void stop(const char *why) { fprintf(stderr, "%s\n", why); bolt_close(&client); exit(3); }
 
 static void submit(const char *message, size_t length) {
-    uint64_t ordinal;
-    uint32_t code = bolt_submit(&client, (const uint8_t *)message, length, &ordinal);
+    bolt_submitted told;
+    uint32_t code = bolt_submit(&client, (const uint8_t *)message, length, &told);
+    if (code == BOLT_NO_REQUEST || code == BOLT_UNWRITABLE)
+        fprintf(stderr, "%c%c at %d\n", (char)(told.rule >> 8), (char)(told.rule & 255), (int)told.place);
     if (code) stop(code == BOLT_MEMORY ? "out of memory" : "not submitted");
 }
 #define SUBMIT(text) submit(text, sizeof text - 1)

@@ -22,7 +22,8 @@
  * What a proof shows: no call reads or writes outside of what it was given, overflows or ends the process, whatever the
  * bytes are; want of memory is answered by BOLT_MEMORY, and then nothing has changed; each call does with a handle's
  * client what its contract says; of a null handle bolt_open makes a client, bolt_close does nothing, and each
- * other call says BOLT_NO_CLIENT and leaves it null. Where a call answers another code than BOLT_OK, what it would have filled in is as it was.
+ * other call says BOLT_NO_CLIENT and leaves it null. Where a call answers another code than BOLT_OK, what it would have filled in is as it was,
+ * but for the rule and the place that bolt_submit tells.
  */
 #ifndef BOLT_H
 #define BOLT_H
@@ -103,9 +104,20 @@ uint32_t bolt_open(bolt_client *c, uint32_t versions);
 /* Frees it. The handle is null then; a null one stays so. */
 void bolt_close(bolt_client *c);
 
-/* Takes a request, the bytes of its message in PackStream without chunks, as B1 11 A0 for BEGIN. Its bytes are to be taken out,
- * and *ordinal is its number. Up to 32 may wait. CLOSED, NOT_ALLOWED, NO_REQUEST, FULL, UNWRITABLE, SIZE, MEMORY. */
-uint32_t bolt_submit(bolt_client *c, const uint8_t *message, size_t length, uint64_t *ordinal);
+/* What a call of bolt_submit tells. The rules are those of the profile (docs/PROFILE.md). */
+typedef struct {
+    uint64_t ordinal;  /* BOLT_OK: the request's number, from 0 */
+    uint64_t rule;     /* NO_REQUEST, UNWRITABLE: the rule that the message breaks, two characters, as 'M' << 8 | '5'; BOLT_OK: 0 */
+    uint64_t place;    /* where; of M2 to M8 0. NO_REQUEST: of P1 to P6 the offset in the message of the marker of the value that can't be read, of
+                        * P7 that of the first byte behind the message. UNWRITABLE: of P5, P6 and P9 the number of a value, in the order in which
+                        * values begin, keys not counted. Either: of S1 to S6 the number of a structure among those of the parameters, or of
+                        * the metadata, in the order in which they begin. All from 0 */
+} bolt_submitted;
+
+/* Takes a request, the bytes of its message in PackStream without chunks, as B1 11 A0 for BEGIN. It is read and written anew, so that entries
+ * that the profile doesn't name (db, bookmarks, tx_timeout ..) aren't sent. What is written is to be taken out. Up to 32 may wait.
+ * CLOSED, NOT_ALLOWED, NO_REQUEST, FULL, UNWRITABLE, SIZE, MEMORY. NO_REQUEST and UNWRITABLE leave `ordinal` as it was. */
+uint32_t bolt_submit(bolt_client *c, const uint8_t *message, size_t length, bolt_submitted *submitted);
 
 /* Moves up to `room` of the bytes that are to be sent into the buffer, and tells how many: 0 where there are none. MEMORY. */
 uint32_t bolt_take(bolt_client *c, uint8_t *into, size_t room, size_t *taken);

@@ -1,4 +1,4 @@
 -- What the proofs share.
-pub mod Boxed
 pub mod Filling
-pub mod Steps
+pub mod Heap
+pub mod Words

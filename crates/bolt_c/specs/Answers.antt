@@ -12,6 +12,7 @@ use Rattle.client.specs.declared.faults.ClientFault.{ClientFault}
 use Rattle.client.specs.declared.faults.ClientFault.TheVariants as client_fault
 use Rattle.client.specs.Rest.{Rest, Knows, Note, Nothing, Chose, Row, Summary, feed_of, refuses, after_submit, taken_out}
 use Rattle.client.specs.Fits.{Fits, IsAccepted, UnlessMemory}
+use Rattle.client.specs.Held.{WantsRoom}
 use Rattle.bolt_c.specs.declared.answers.Refusal.{Refusal}
 use Rattle.bolt_c.specs.declared.answers.Refusal.TheVariants as refusal
 use Rattle.bolt_c.specs.declared.answers.Event.{Event}
@@ -26,19 +27,19 @@ Writes bytes old new =
     new ≡ take (min (length bytes) (length old)) bytes
     ++ drop (min (length bytes) (length old)) old
 
--- the refusal without what is wrong with a request that can't be written
+-- the client's refusal
 abbrev pub refusal_of : SubmitFault → Refusal
 refusal_of submit_fault.NotAllowed = refusal.NotAllowed
 refusal_of submit_fault.PipelineFull = refusal.PipelineFull
 refusal_of submit_fault.Size = refusal.Size
 refusal_of submit_fault.Closed = refusal.Closed
 refusal_of submit_fault.Memory = refusal.Memory
-refusal_of (submit_fault.Unwritable u) = refusal.Unwritable
+refusal_of (submit_fault.Unwritable u) = refusal.Unwritable u
 
--- the request that the bytes of a message stand for, or that they stand for none
+-- the request that the bytes of a message stand for, or why they stand for none
 abbrev pub asked_by : Result RequestView MsgFault → Result RequestView Refusal
 asked_by (Ok q) = Ok q
-asked_by (Err e) = Err refusal.NoRequest
+asked_by (Err e) = Err (refusal.NoRequest e)
 
 -- the same at the version that is known; before one is known nothing is allowed
 abbrev pub asked : Option Version → List ℕ → Result RequestView Refusal
@@ -81,6 +82,8 @@ pub record Takes (old : Held) (before : List ℕ) (result : Result ℕ ClientFau
   pub err : (r : Rest) → Fits old.client r → OnErr result (Fits new.client r)
   pub same : OnErr result (after ≡ before)
   pub fault : IfErr result (λ e. e ≡ client_fault.Memory)
+  pub memory : (r : Rest) → Fits old.client r
+      → OnErr result (0 < min (length before) (length r.unsent))
   pub last : new.last ≡ old.last
 
 -- what ended, by what the client tells
@@ -119,7 +122,7 @@ pub record Feeds (old : Held) (piece : List ℕ) (result : Result (ℕ × Event)
   pub kept : (r : Rest) → Fits old.client r
       → UnlessMemory result (last_of new ≡ kept_result (feed_of r piece).answer (last_of old))
   pub memory : (r : Rest) → Fits old.client r → IsErrOf result client_fault.Memory
-      → Fits new.client r × (r.knows.over ≡ false)
+      → Fits new.client r × (r.knows.over ≡ false) × WantsRoom r.item piece
   pub same : IsErrOf result client_fault.Memory → last_of new ≡ last_of old
   pub within : IfOk result (λ t. t.0 ≤ length piece)
   pub goes_on : 0 < length piece → IfOk result (λ t. 0 < t.0)

@@ -18,10 +18,13 @@ use Rattle.bolt_c.specs.declared.answers.Event.{Event}
 use Rattle.bolt_c.specs.declared.answers.Event.TheVariants as event
 use Rattle.bolt_c.specs.declared.answers.MessageFault.{MessageFault}
 use Rattle.bolt_c.specs.declared.answers.MessageFault.TheVariants as message_fault
+use Rattle.bolt_c.specs.declared.codes.Submitted.{Submitted}
 use Rattle.bolt_c.specs.declared.codes.Heard.{Heard}
 use Rattle.bolt_c.specs.declared.codes.Loss.{Loss}
 use Rattle.bolt_c.specs.declared.codes.Standing.{Standing}
 use Rattle.bolt_c.specs.declared.held.Held.{Held}
+use Rattle.bolt_c.specs.Rules.{broken, broken_in}
+use Rattle.bolt_c.specs.Answers.{Submits, Takes, Feeds, Tells, last_of, message_of}
 use Rattle.machine.specs.Limits.{max_waiting}
 
 -- the wish of a number
@@ -39,13 +42,6 @@ version_code (Some version.V44) = 44
 version_code (Some version.V50) = 50
 version_code (Some version.V51) = 51
 
--- the version of a number
-abbrev pub version_of : ℕ → Option Version
-version_of n =
-    if eqb n 44 then Some version.V44
-    else (if eqb n 50 then Some version.V50
-    else (if eqb n 51 then Some version.V51 else None))
-
 -- the number of a phase
 abbrev pub phase_code : Phase → ℕ
 phase_code phase.Fresh = 0
@@ -57,18 +53,6 @@ phase_code phase.TxStreaming = 5
 phase_code phase.Halted = 6
 phase_code phase.Defunct = 7
 
--- the phase of a number, Defunct of 7 and more
-abbrev pub phase_of : ℕ → Phase
-phase_of n =
-    if eqb n 0 then phase.Fresh
-    else (if eqb n 1 then phase.Unauth
-    else (if eqb n 2 then phase.Ready
-    else (if eqb n 3 then phase.Streaming
-    else (if eqb n 4 then phase.TxReady
-    else (if eqb n 5 then phase.TxStreaming
-    else (if eqb n 6 then phase.Halted
-    else phase.Defunct))))))
-
 -- the number of an outcome
 abbrev pub outcome_code : Outcome → ℕ
 outcome_code outcome.Done = 0
@@ -78,59 +62,63 @@ outcome_code outcome.Ignored = 3
 outcome_code outcome.Lost = 4
 outcome_code outcome.Unknown = 5
 
--- the outcome of a number, Unknown of 5 and more
-abbrev pub outcome_of : ℕ → Outcome
-outcome_of n =
-    if eqb n 0 then outcome.Done
-    else (if eqb n 1 then outcome.Committed
-    else (if eqb n 2 then outcome.Refused
-    else (if eqb n 3 then outcome.Ignored
-    else (if eqb n 4 then outcome.Lost
-    else outcome.Unknown))))
+-- the number of a refusal
+abbrev pub refusal_code : Refusal → ℕ
+refusal_code refusal.NotAllowed = 1
+refusal_code refusal.PipelineFull = 2
+refusal_code refusal.Size = 3
+refusal_code refusal.Closed = 4
+refusal_code refusal.Memory = 5
+refusal_code (refusal.Unwritable u) = 7
+refusal_code (refusal.NoRequest e) = 8
 
--- what `bolt_submit` tells by its code and the ordinal
-abbrev pub submit_answer : ℕ → ℕ → Result ℕ Refusal
-submit_answer n ordinal =
-    if eqb n 0 then Ok ordinal
-    else (if eqb n 1 then Err refusal.NotAllowed
-    else (if eqb n 2 then Err refusal.PipelineFull
-    else (if eqb n 3 then Err refusal.Size
-    else (if eqb n 4 then Err refusal.Closed
-    else (if eqb n 5 then Err refusal.Memory
-    else (if eqb n 7 then Err refusal.Unwritable
-    else Err refusal.NoRequest))))))
+-- the number of a client's fault
+abbrev pub fault_code : ClientFault → ℕ
+fault_code client_fault.Closed = 4
+fault_code client_fault.Memory = 5
+fault_code client_fault.BadPeer = 6
 
--- what `bolt_take` tells by its code and the count
-abbrev pub take_answer : ℕ → ℕ → Result ℕ ClientFault
-take_answer n count =
-    if eqb n 0 then Ok count
-    else (if eqb n 4 then Err client_fault.Closed
-    else (if eqb n 5 then Err client_fault.Memory
-    else Err client_fault.BadPeer))
+-- the number of why a message isn't told
+abbrev pub message_fault_code : MessageFault → ℕ
+message_fault_code message_fault.Memory = 5
+message_fault_code message_fault.Unwritable = 7
+message_fault_code message_fault.NotHeard = 9
 
--- what ended, by what `bolt_feed` fills in
-abbrev pub event_in : Heard → ℕ → Event
-event_in h n =
-    if eqb n 0 then event.Nothing
-    else (if eqb n 1 then event.Version (version_of h.version)
-    else (if eqb n 2 then event.Row
-    else event.Summary h.ordinal (phase_of h.phase) (outcome_of h.outcome)))
+-- the code of an answer: 0, or the fault's number
+abbrev pub code_by : {A E : Type 0} → (E → ℕ) → Result A E → ℕ
+code_by f (Ok x) = 0
+code_by f (Err e) = f e
 
--- what `bolt_feed` tells by its code and what it fills in
-abbrev pub feed_answer : ℕ → Heard → Result (ℕ × Event) ClientFault
-feed_answer n h =
-    if eqb n 0 then Ok (h.used, event_in h h.kind)
-    else (if eqb n 4 then Err client_fault.Closed
-    else (if eqb n 5 then Err client_fault.Memory
-    else Err client_fault.BadPeer))
+-- what a call fills in: nothing where it tells a fault
+abbrev pub filled : {A B E : Type 0} → (A → B) → Result A E → B → B
+filled f (Ok x) before = f x
+filled f (Err e) before = before
 
--- what `bolt_message` tells by its code and the length
-abbrev pub message_answer : ℕ → ℕ → Result ℕ MessageFault
-message_answer n count =
-    if eqb n 0 then Ok count
-    else (if eqb n 5 then Err message_fault.Memory
-    else (if eqb n 7 then Err message_fault.Unwritable
-    else Err message_fault.NotHeard))
+-- with the rule that a message breaks, and where
+abbrev pub with_rule : Submitted → ℕ × ℕ → Submitted
+with_rule s b = record { ordinal = s.ordinal; rule = b.0; place = b.1 }
+
+-- what a refusal fills in: the rule that the message breaks and where, if it is refused for one
+abbrev pub refused_in : Refusal → Submitted → Submitted
+refused_in (refusal.Unwritable u) s = with_rule s (broken_in u)
+refused_in (refusal.NoRequest e) s = with_rule s (broken e)
+refused_in e s = s
+
+-- what `bolt_submit` fills in
+abbrev pub submitted_in : Result ℕ Refusal → Submitted → Submitted
+submitted_in (Ok n) s = record { ordinal = n; rule = 0; place = 0 }
+submitted_in (Err e) s = refused_in e s
+
+-- what `bolt_feed` fills in: the bytes used, and what ended with the last of them
+abbrev pub heard_of : ℕ → Event → Heard
+heard_of used event.Nothing =
+    record { used = used; ordinal = 0; kind = 0; version = 0; outcome = 0; phase = 0 }
+heard_of used (event.Version o) =
+    record { used = used; ordinal = 0; kind = 1; version = version_code o; outcome = 0; phase = 0 }
+heard_of used event.Row =
+    record { used = used; ordinal = 0; kind = 2; version = 0; outcome = 0; phase = 0 }
+heard_of used (event.Summary n p o) =
+    record { used = used; ordinal = n; kind = 3; version = 0; outcome = outcome_code o; phase = phase_code p }
 
 -- an ordinal with what became of its request, in numbers
 abbrev pub loss_of : ℕ × Outcome → Loss
@@ -141,6 +129,32 @@ abbrev pub OnHeld : Option Held → Option Held → Type 0 → (Held → Held �
 OnHeld None None empty moves = empty
 OnHeld (Some old) (Some new) empty moves = moves old new
 OnHeld old new empty moves = ⊥
+
+-- `bolt_submit` of the bytes of a message: its code, and what it fills in, are those of the client's answer
+abbrev pub Submitting : List ℕ → ℕ → Submitted → Submitted → Held → Held → Type 0
+Submitting bytes n before after old new =
+    (answer : Result ℕ Refusal) × Submits old bytes answer new
+    × (n ≡ code_by refusal_code answer) × (after ≡ submitted_in answer before)
+
+-- `bolt_take` into a buffer: the same, beside the bytes
+abbrev pub Taking : List ℕ → ℕ → List ℕ → ℕ → ℕ → Held → Held → Type 0
+Taking into n written before after old new =
+    (answer : Result ℕ ClientFault) × Takes old into answer written new
+    × (n ≡ code_by fault_code answer) × (after ≡ filled (λ count. count) answer before)
+
+-- `bolt_feed` of a piece: the same
+abbrev pub Feeding : List ℕ → ℕ → Heard → Heard → Held → Held → Type 0
+Feeding piece n before after old new =
+    (answer : Result (ℕ × Event) ClientFault) × Feeds old piece answer new
+    × (n ≡ code_by fault_code answer) × (after ≡ filled (λ told. heard_of told.0 told.1) answer before)
+
+-- `bolt_message` into a buffer: the same, and nothing else has changed
+abbrev pub Messaging : List ℕ → ℕ → List ℕ → ℕ → ℕ → Held → Held → Type 0
+Messaging into n written before after old new =
+    (answer : Result ℕ MessageFault) × (new ≡ old)
+    × ((r : Rest) → Fits old.client r
+    → Tells (message_of r.knows.version (last_of old)) into answer written)
+    × (n ≡ code_by message_fault_code answer) × (after ≡ filled (λ count. count) answer before)
 
 -- there is a new client for the wish
 abbrev pub Opened : Wish → Option Held → Type 0

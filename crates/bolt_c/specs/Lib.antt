@@ -1,4 +1,5 @@
--- What the calls of a handle tell, and what a handle owns.
+-- What the calls of a handle tell, in which numbers, and what a handle owns.
 pub mod Answers
+pub mod Rules
 pub mod Codes
 pub mod Owning

@@ -1,22 +1,26 @@
--- What a handle owns: nothing at null; else what a box at its pointer owns.
+-- What a handle owns.
 use Rattle.std.specs.Prelude.{Option, Some, None}
 use Rattle.std.specs.Coded.{coded_option}
-use Rattle.std.specs.Box.Ownership.{box_owns}
-use Rattle.std.specs.Global.{Global}
-use Rattle.std.specs.contracts.impls.GlobalAllocator.TheImpl.{ghosts}
-use base.Fml.{Fml, ftrue, ffalse}
+use Rattle.core.specs.Ptr.{points_to}
+use Rattle.libc.specs.Heap.{chunk}
+use base.Fml.{Fml, ftrue, ffalse, fsep}
 use base.Stored.{Coded}
+use denote.Memory.{lone}
+use denote.RattleType.{RattleType}
 use denote.RawPtr.{Ptr, block_ptr, null_ptr}
+use mir.Raw.{raw}
 use Rattle.bolt_c.specs.contracts.held.Held.{the_row}
 
--- what a handle holds, as it is stored
-abbrev pub held_coded : Coded (Option the_row.Denot)
-held_coded = coded_option the_row.coded
+-- a value at a place that malloc gave, and the right to free it
+abbrev pub on_heap : (R : RattleType) → Ptr → R.Denot → Fml
+on_heap R p x = fsep (points_to R p x) (chunk (raw (lone R.mir)) p)
 
--- what a handle owns: nothing where its pointer is null and it holds nothing, a box where both are there; no other handle is
-abbrev pub handle_owns : Global → Ptr → Option the_row.Denot → Fml
-handle_owns alloc null_ptr None = ftrue
-handle_owns alloc null_ptr (Some x) = ffalse
-handle_owns alloc (block_ptr b o) None = ffalse
-handle_owns alloc (block_ptr b o) (Some x) =
-    box_owns (ghosts.dealloc_token alloc) the_row (block_ptr b o) x
+-- what a handle holds, as it is stored
+abbrev pub stored : Coded (Option the_row.Denot)
+stored = coded_option the_row.coded
+
+-- what a handle owns: where it holds a client, that client at its place; where it holds none it is null, and owns nothing
+abbrev pub lies : Option the_row.Denot → Ptr → Fml
+lies None null_ptr = ftrue
+lies (Some x) (block_ptr b o) = on_heap the_row (block_ptr b o) x
+lies k p = ffalse

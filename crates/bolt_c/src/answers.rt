@@ -3,12 +3,13 @@
 ghost use Rattle.std.specs.Prelude.{◌≡◌};
 ghost use Rattle.bolt_c.specs.Answers.{refusal_of};
 
-use client::{Outcome, SubmitFault};
+use client::{Outcome, SubmitFault, Unwritable};
 use machine::Phase;
+use messages::MsgFault;
 use wire::Version;
 
 /// Why a request isn't taken.
-#[derive(Clone, Copy, Drop)]
+#[derive(Drop)]
 pub(crate) enum Refusal {
     /// It isn't allowed in every phase that may follow the requests that wait; nor is any before the version is known.
     NotAllowed,
@@ -20,10 +21,10 @@ pub(crate) enum Refusal {
     Closed,
     /// Memory ran out.
     Memory,
-    /// It can't be written.
-    Unwritable,
-    /// The bytes are no request of the version.
-    NoRequest,
+    /// It can't be written, and this is why.
+    Unwritable(Unwritable),
+    /// The bytes are no request of the version, and this is why.
+    NoRequest(MsgFault),
 }
 
 /// What ended with the last byte that was used. A row or summary is kept beside it.
@@ -50,8 +51,8 @@ pub(crate) enum MessageFault {
     Unwritable,
 }
 
-/// The refusal without what is wrong with a request that can't be written.
-pub(crate) fn plain_refusal(fault: SubmitFault) -> Refusal
+/// The client's refusal.
+pub(crate) fn refusal_of(fault: SubmitFault) -> Refusal
     ensures { result ≡ refusal_of fault }
 {
     match fault {
@@ -60,6 +61,6 @@ pub(crate) fn plain_refusal(fault: SubmitFault) -> Refusal
         SubmitFault::Size => Refusal::Size,
         SubmitFault::Closed => Refusal::Closed,
         SubmitFault::Memory => Refusal::Memory,
-        SubmitFault::Unwritable(_) => Refusal::Unwritable,
+        SubmitFault::Unwritable(why) => Refusal::Unwritable(why),
     }
 }

@@ -1,10 +1,10 @@
 //! What C sees: codes for what Rust names, and the structs that calls fill in.
 
-ghost use Rattle.std.specs.Prelude.{◌≡◌, ℕ, Ok, Err};
-ghost use Rattle.bolt_c.specs.declared.codes.Heard.{Heard as AnyHeard};
-ghost use Rattle.bolt_c.specs.Codes.{wish_of, version_code, phase_code, outcome_code, submit_answer, take_answer, feed_answer, message_answer};
+ghost use Rattle.std.specs.Prelude.{◌≡◌};
+ghost use Rattle.bolt_c.specs.Codes.{wish_of, version_code, phase_code, outcome_code, refusal_code, refused_in, fault_code, message_fault_code, heard_of};
 
 use crate::answers::{Event, MessageFault, Refusal};
+use crate::rules::{message_rule, request_rule};
 use client::{ClientFault, Outcome};
 use machine::Phase;
 use wire::{Version, Wish};
@@ -15,14 +15,26 @@ pub(crate) const OK: u32 = 0;
 /// `malloc` gave none.
 pub(crate) const MEMORY: u32 = 5;
 
-/// The wish names no version.
-pub(crate) const NO_WISH: u32 = 10;
+/// No version has the number.
+pub(crate) const NO_VERSION: u32 = 10;
 
 /// There isn't room for 32 outcomes.
 pub(crate) const NO_ROOM: u32 = 11;
 
 /// The handle is null.
 pub(crate) const NO_CLIENT: u32 = 100;
+
+/// What a call of `bolt_submit` tells.
+#[repr(C)]
+#[derive(Drop)]
+pub struct Submitted {
+    /// The request's ordinal, from 0.
+    pub ordinal: u64,
+    /// Of a message that isn't taken, the rule that it breaks: its two characters, as 'M' << 8 | '5'.
+    pub rule: u64,
+    /// Where it breaks the rule.
+    pub place: u64,
+}
 
 /// What a call of `bolt_feed` used, and what ended with it.
 #[repr(C)]
@@ -126,8 +138,8 @@ pub(crate) fn outcome_code(outcome: Outcome) -> u32
 }
 
 /// The code of a refusal.
-pub(crate) fn refusal_code(refusal: Refusal) -> u32
-    ensures { (n : ℕ) → submit_answer result n ≡ Err refusal }
+pub(crate) fn refusal_code(refusal: &Refusal) -> u32
+    ensures { result ≡ refusal_code refusal.now }
 {
     match refusal {
         Refusal::NotAllowed => 1,
@@ -135,15 +147,27 @@ pub(crate) fn refusal_code(refusal: Refusal) -> u32
         Refusal::Size => 3,
         Refusal::Closed => 4,
         Refusal::Memory => 5,
-        Refusal::Unwritable => 7,
-        Refusal::NoRequest => 8,
+        Refusal::Unwritable(_) => 7,
+        Refusal::NoRequest(_) => 8,
     }
+}
+
+/// Tells the rule that a message breaks, and where; nothing where it is refused for another reason.
+pub(crate) fn tell_rule(refusal: Refusal, submitted: &mut Submitted)
+    ensures { submitted.new ≡ refused_in refusal submitted.old }
+{
+    let (rule, place) = match refusal {
+        Refusal::Unwritable(why) => request_rule(why),
+        Refusal::NoRequest(fault) => message_rule(fault),
+        _ => return,
+    };
+    submitted.rule = rule;
+    submitted.place = place;
 }
 
 /// The code of a fault of the client.
 pub(crate) fn fault_code(fault: ClientFault) -> u32
-    ensures take { (n : ℕ) → take_answer result n ≡ Err fault }
-    ensures feed { (heard : AnyHeard) → feed_answer result heard ≡ Err fault }
+    ensures { result ≡ fault_code fault }
 {
     match fault {
         ClientFault::Closed => 4,
@@ -154,7 +178,7 @@ pub(crate) fn fault_code(fault: ClientFault) -> u32
 
 /// The code of a message that isn't told.
 pub(crate) fn message_code(fault: MessageFault) -> u32
-    ensures { (n : ℕ) → message_answer result n ≡ Err fault }
+    ensures { result ≡ message_fault_code fault }
 {
     match fault {
         MessageFault::Memory => 5,
@@ -165,7 +189,7 @@ pub(crate) fn message_code(fault: MessageFault) -> u32
 
 /// What a feed tells.
 pub(crate) fn as_heard(used: usize, event: Event) -> Heard
-    ensures { feed_answer 0 result ≡ Ok (used, event) }
+    ensures { result ≡ heard_of used event }
 {
     let nothing = Heard {
         used,

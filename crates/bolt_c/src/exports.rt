@@ -2,15 +2,13 @@
 //! `bolt_open` fills it and `bolt_close` leaves it so.
 
 ghost use Rattle.std.specs.Prelude.{◌≡◌, None};
-ghost use Rattle.client.specs.Rest.{Rest, begun, losses, after_drop};
+ghost use Rattle.client.specs.Rest.{Rest};
 ghost use Rattle.client.specs.Fits.{Fits};
-ghost use Rattle.bolt_c.specs.declared.held.Held.{Held};
-ghost use Rattle.bolt_c.specs.Answers.{Submits, Takes, Feeds, Tells, last_of, message_of};
-ghost use Rattle.bolt_c.specs.Codes.{wish_of, submit_answer, take_answer, feed_answer, message_answer, OnHeld, Opens, Loses, StandsAt};
+ghost use Rattle.bolt_c.specs.Codes.{wish_of, Submitting, Taking, Feeding, Messaging, OnHeld, Opens, Loses, StandsAt};
 
 use crate::codes::{
-    Heard, Loss, MEMORY, NO_CLIENT, NO_ROOM, NO_WISH, OK, Standing, as_heard, fault_code,
-    message_code, refusal_code, wish,
+    Heard, Loss, MEMORY, NO_CLIENT, NO_ROOM, NO_VERSION, OK, Standing, Submitted, as_heard,
+    fault_code, message_code, refusal_code, tell_rule, wish,
 };
 use crate::handle::Handle;
 use crate::held::Held;
@@ -26,11 +24,11 @@ pub extern "C" fn bolt_open(alloc: Global, handle: &mut Handle, versions: u32) -
     ensures { Opens handle.old.held (wish_of versions) result handle.new.held }
 {
     let Some(wish) = wish(versions) else {
-        return NO_WISH;
+        return NO_VERSION;
     };
     match Held::new(alloc, wish) {
         Ok(held) => {
-            handle.put(held);
+            handle.put(alloc, held);
             OK
         }
         Err(_) => MEMORY,
@@ -46,29 +44,38 @@ pub extern "C" fn bolt_close(alloc: Global, handle: &mut Handle)
 }
 
 /// Takes the request of the bytes of a message: it waits, with this ordinal, and its bytes are to be taken out. Else it answers the first of
-/// 4, 1 before a version is known, 8, 1, 2, 7 and 3, or 5 for want of memory: nothing has changed then.
+/// 4, 1 before a version is known, 8, 1, 2, 7 and 3, or 5 for want of memory: nothing has changed then, but that 8 and 7 tell which rule the
+/// message breaks, and where.
 #[unsafe(no_mangle)]
 pub extern "C" fn bolt_submit(
     alloc: Global,
     handle: &mut Handle,
     message: &[u8],
-    ordinal: &mut u64,
+    submitted: &mut Submitted,
 ) -> u32
-    ensures done { OnHeld handle.old.held handle.new.held (result ≡ 100)
-        (λ old new. Submits old message.now (submit_answer result ordinal.new) new) }
-    ensures kept { (result ≡ 0 → ⊥) → ordinal.new ≡ ordinal.old }
+    ensures { OnHeld handle.old.held handle.new.held
+        ((result ≡ 100) × (submitted.new ≡ submitted.old))
+        (Submitting message.now result submitted.old submitted.new) }
 {
     let Some(mut held) = handle.take(alloc) else {
         return NO_CLIENT;
     };
     let answer = held.submit(alloc, message);
-    handle.put(held);
+    handle.put(alloc, held);
     match answer {
-        Ok(number) => {
-            *ordinal = number;
+        Ok(ordinal) => {
+            *submitted = Submitted {
+                ordinal,
+                rule: 0,
+                place: 0,
+            };
             OK
         }
-        Err(refusal) => refusal_code(refusal),
+        Err(refusal) => {
+            let code = refusal_code(&refusal);
+            tell_rule(refusal, submitted);
+            code
+        }
     }
 }
 
@@ -80,16 +87,15 @@ pub extern "C" fn bolt_take(
     into: &mut [u8],
     taken: &mut usize,
 ) -> u32
-    ensures done { OnHeld handle.old.held handle.new.held
-        ((result ≡ 100) × (into.new ≡ into.old))
-        (λ old new. Takes old into.old (take_answer result taken.new) into.new new) }
-    ensures kept { (result ≡ 0 → ⊥) → taken.new ≡ taken.old }
+    ensures { OnHeld handle.old.held handle.new.held
+        ((result ≡ 100) × (into.new ≡ into.old) × (taken.new ≡ taken.old))
+        (Taking into.old result into.new taken.old taken.new) }
 {
     let Some(mut held) = handle.take(alloc) else {
         return NO_CLIENT;
     };
     let answer = held.take(into);
-    handle.put(held);
+    handle.put(alloc, held);
     match answer {
         Ok(count) => {
             *taken = count;
@@ -108,15 +114,15 @@ pub extern "C" fn bolt_feed(
     piece: &[u8],
     heard: &mut Heard,
 ) -> u32
-    ensures done { OnHeld handle.old.held handle.new.held (result ≡ 100)
-        (λ old new. Feeds old piece.now (feed_answer result heard.new) new) }
-    ensures kept { (result ≡ 0 → ⊥) → heard.new ≡ heard.old }
+    ensures { OnHeld handle.old.held handle.new.held
+        ((result ≡ 100) × (heard.new ≡ heard.old))
+        (Feeding piece.now result heard.old heard.new) }
 {
     let Some(mut held) = handle.take(alloc) else {
         return NO_CLIENT;
     };
     let answer = held.feed(piece);
-    handle.put(held);
+    handle.put(alloc, held);
     match answer {
         Ok((used, event)) => {
             *heard = as_heard(used, event);
@@ -135,18 +141,15 @@ pub extern "C" fn bolt_message(
     into: &mut [u8],
     length: &mut usize,
 ) -> u32
-    ensures done { OnHeld handle.old.held handle.new.held
-        ((result ≡ 100) × (into.new ≡ into.old))
-        (λ old new. (new ≡ old) × ((r : Rest) → Fits old.client r
-        → Tells (message_of r.knows.version (last_of old)) into.old
-        (message_answer result length.new) into.new)) }
-    ensures kept { (result ≡ 0 → ⊥) → length.new ≡ length.old }
+    ensures { OnHeld handle.old.held handle.new.held
+        ((result ≡ 100) × (into.new ≡ into.old) × (length.new ≡ length.old))
+        (Messaging into.old result into.new length.old length.new) }
 {
     let Some(held) = handle.take(alloc) else {
         return NO_CLIENT;
     };
     let answer = held.message(alloc, into);
-    handle.put(held);
+    handle.put(alloc, held);
     match answer {
         Ok(count) => {
             *length = count;
@@ -173,11 +176,11 @@ pub extern "C" fn bolt_lost(
         return NO_CLIENT;
     };
     if into.len() < MAX_WAITING {
-        handle.put(held);
+        handle.put(alloc, held);
         return NO_ROOM;
     }
     let losses = held.client.lost();
-    handle.put(held);
+    handle.put(alloc, held);
     let told = losses.as_slice();
     fill(told, into);
     *count = told.len();
@@ -196,6 +199,6 @@ pub extern "C" fn bolt_state(alloc: Global, handle: &mut Handle, state: &mut Sta
         return NO_CLIENT;
     };
     *state = held.standing();
-    handle.put(held);
+    handle.put(alloc, held);
     OK
 }

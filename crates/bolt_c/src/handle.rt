@@ -1,12 +1,11 @@
-//! What C has of a client: a pointer, null where there is none.
+//! What C has of a client: where it lies, or null.
 
 ghost use Rattle.std.specs.Prelude.{◌≡◌, Option, None, Some};
 ghost use Rattle.std.specs.Option.{MatchOption};
 ghost use Rattle.bolt_c.specs.declared.held.Held.{Held as AnyHeld};
-ghost use Rattle.bolt_c.specs.Owning.{handle_owns, held_coded};
+ghost use Rattle.bolt_c.specs.Owning.{on_heap, lies, stored};
 
 use crate::held::Held;
-use crate::unboxed::Unboxed;
 use std::alloc::Global;
 use std::marker::Model;
 use std::mem;
@@ -16,46 +15,64 @@ use std::ptr::null_mut;
 #[repr(C)]
 pub struct Handle {
     at: *mut u8,
-    alloc: Global,
-    pub(crate) ghost held: { Option AnyHeld } by { held_coded },
+    pub(crate) ghost held: { Option AnyHeld } by { stored },
 }
 
 impl Model for Handle {
-    ghost also_owns = { λ h. handle_owns h.alloc h.at h.held };
+    ghost also_owns = { λ h. lies h.held h.at };
+}
+
+/// Where the value of a box lies, which stays there.
+struct Place<T> {
+    at: *mut T,
+    ghost value: { T },
+}
+
+impl<T> Model for Place<T> {
+    ghost also_owns = { λ p. on_heap T.row p.at p.value };
+}
+
+impl<T: Drop> Place<T> {
+    fn of(boxed: Box<T>) -> Place<T>
+        ensures { result.value ≡ boxed.value }
+    {
+        Place {
+            at: Box::into_raw(boxed),
+        }
+    }
+
+    fn into_box(self, alloc: Global) -> Box<T>
+        ensures { result.value ≡ self.value }
+    {
+        let Place { at } = self;
+        unsafe { Box::from_raw(alloc, at) }
+    }
 }
 
 impl Handle {
-    fn none(alloc: Global) -> Handle
+    fn null() -> Handle
         ensures { result.held ≡ None }
     {
-        Handle {
-            at: null_mut(),
-            alloc,
-        }
+        Handle { at: null_mut() }
     }
 
-    fn of(whole: Unboxed<Held, Global>) -> Handle
-        ensures { result.held ≡ Some whole.value }
+    fn to(place: Place<Held>) -> Handle
+        ensures { result.held ≡ Some place.value }
     {
-        let Unboxed { at, alloc } = whole;
-        Handle {
-            at: at as *mut u8,
-            alloc,
-        }
+        let Place { at } = place;
+        Handle { at: at as *mut u8 }
     }
 
-    fn into_unboxed(self) -> Option<Unboxed<Held, Global>>
-        ensures { MatchOption result (self.held ≡ None) (λ u. self.held ≡ Some u.value) }
+    fn place(self) -> Option<Place<Held>>
+        ensures { MatchOption result (self.held ≡ None) (λ p. self.held ≡ Some p.value) }
     {
-        let Handle { at, alloc } = self;
+        let Handle { at } = self;
         if at.is_null() {
-            None
-        } else {
-            Some(Unboxed {
-                at: at as *mut Held,
-                alloc,
-            })
+            return None;
         }
+        Some(Place {
+            at: at as *mut Held,
+        })
     }
 
     /// What it holds, which is left empty; nothing where it is null.
@@ -63,25 +80,19 @@ impl Handle {
         ensures told { MatchOption result (self.old.held ≡ None) (λ b. self.old.held ≡ Some b.value) }
         ensures empty { self.new.held ≡ None }
     {
-        let whole = mem::replace(self, Handle::none(alloc));
-        match whole.into_unboxed() {
-            Some(unboxed) => Some(unboxed.into_box()),
+        match mem::replace(self, Handle::null()).place() {
+            Some(place) => Some(place.into_box(alloc)),
             None => None,
         }
     }
 
     /// What it held before is freed.
-    pub(crate) fn put(&mut self, held: Box<Held>)
+    pub(crate) fn put(&mut self, alloc: Global, held: Box<Held>)
         ensures { self.new.held ≡ Some held.value }
     {
-        *self = Handle::of(Unboxed::of(held));
-    }
-}
-
-impl Drop for Handle {
-    fn drop(self) {
-        if let Some(unboxed) = self.into_unboxed() {
-            drop(unboxed.into_box());
+        let old = mem::replace(self, Handle::to(Place::of(held)));
+        if let Some(place) = old.place() {
+            drop(place.into_box(alloc));
         }
     }
 }

@@ -4,10 +4,11 @@ ghost use Rattle.std.specs.Prelude.{◌≡◌, ◌≤◌, ◌<◌, true, false, 
 ghost use Rattle.client.specs.Rest.{Rest, begun, taken_out, feed_of};
 ghost use Rattle.client.specs.Fits.{Fits, UnlessMemory};
 ghost use Rattle.client.specs.Notes.{note};
+ghost use Rattle.client.specs.Held.{WantsRoom};
 ghost use Rattle.bolt_c.specs.Codes.{StandsAt};
 ghost use Rattle.bolt_c.specs.Answers.{Writes, asked, Asks, refuses_bytes, Accepts, event_of, kept_of, last_of, event_result, kept_result, message_of, Tells};
 
-use crate::answers::{Event, MessageFault, Refusal, plain_refusal};
+use crate::answers::{Event, MessageFault, Refusal, refusal_of};
 use crate::codes::{Standing, phase_code, version_code};
 use bytes::BytesMut;
 use client::{Client, ClientFault, Heard};
@@ -33,7 +34,7 @@ fn request_at(alloc: Global, version: Option<Version>, message: &[u8]) -> Result
     match read_request(alloc, version, message) {
         Ok(request) => Ok(request),
         Err(MsgFault::Memory) => Err(Refusal::Memory),
-        Err(_) => Err(Refusal::NoRequest),
+        Err(fault) => Err(Refusal::NoRequest(fault)),
     }
 }
 
@@ -80,12 +81,12 @@ impl Held {
         let request = request_at(alloc, self.client.version(), message)?;
         match self.client.submit(request) {
             Ok(ordinal) => Ok(ordinal),
-            Err(fault) => Err(plain_refusal(fault)),
+            Err(fault) => Err(refusal_of(fault)),
         }
     }
 
-    /// Moves the next bytes that aren't taken out into the buffer, as many as there is room for, and answers how many; or C5,
-    /// and nothing has changed.
+    /// Moves the next bytes that aren't taken out into the buffer, as many as there is room for, and answers how many. Where that is none it
+    /// takes no memory. Or C5, and nothing has changed.
     pub(crate) fn take(&mut self, into: &mut [u8]) -> Result<usize, ClientFault>
         ensures ok { (r : Rest) → Fits self.old.client r
             → IfOk result (λ n. (n ≡ min (length into.old) (length r.unsent))
@@ -94,6 +95,8 @@ impl Held {
         ensures err { (r : Rest) → Fits self.old.client r → OnErr result (Fits self.new.client r) }
         ensures same { OnErr result (into.new ≡ into.old) }
         ensures fault { IfErr result (λ e. e ≡ ClientFault.Memory) }
+        ensures memory { (r : Rest) → Fits self.old.client r
+            → OnErr result (0 < min (length into.old) (length r.unsent)) }
         ensures last { self.new.last ≡ self.old.last }
     {
         let bytes = self.client.take_out(into.len())?;
@@ -110,7 +113,7 @@ impl Held {
             → UnlessMemory result
             (last_of self.new ≡ kept_result (feed_of r piece.now).answer (last_of self.old)) }
         ensures memory { (r : Rest) → Fits self.old.client r → IsErrOf result ClientFault.Memory
-            → Fits self.new.client r × (r.knows.over ≡ false) }
+            → Fits self.new.client r × (r.knows.over ≡ false) × WantsRoom r.item piece.now }
         ensures same { IsErrOf result ClientFault.Memory → last_of self.new ≡ last_of self.old }
         ensures within { IfOk result (λ t. t.0 ≤ length piece.now) }
         ensures goes_on { 0 < length piece.now → IfOk result (λ t. 0 < t.0) }

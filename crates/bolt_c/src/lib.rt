@@ -9,4 +9,4 @@ mod exports;
 mod handle;
 mod held;
 mod losses;
-mod unboxed;
+mod rules;
