@@ -51,7 +51,7 @@ abbrev pub missing_line : ℕ → Wanted → List ℕ
 missing_line n x = if n == 1 then []
     else codes "error: word " ++ decimal n ++ codes " is missing, wanted is " ++ wanted_words x ++ codes "\n"
 
--- the beginning of a line that says which word is wrong: its number and the word, its control characters by their numbers
+-- the beginning of a line that says which word is wrong: its number and the word, escaped
 abbrev pub shown_word : ℕ → Text → List ℕ
 shown_word n word = codes "error: word " ++ decimal n ++ codes " is `" ++ escaped word
 

@@ -82,9 +82,9 @@ fn shown_word(alloc: Global, number: usize, word: &str) -> Result<Vec<u8>, Alloc
 {
     let mut line = Vec::new(alloc);
     let front = format!(in alloc; "error: word {number} is `")?;
-    let shown = escape(alloc, word.as_bytes())?;
+    let shown = escape(alloc, word)?;
     line.extend_from_slice(front.as_bytes())?;
-    line.extend_from_slice(shown.as_slice())?;
+    line.extend_from_slice(shown.as_bytes())?;
     Ok(line)
 }
 

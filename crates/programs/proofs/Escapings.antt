@@ -1,105 +1,128 @@
--- What is printed of a stranger's text has no control character, and is the text itself where that has none.
-use Rattle.std.proofs.Common.{◌≡◌, refl, sym, ap, ◌∙◌, ℕ, ◌<◌, ◌≤◌, ◌+◌, List, [], ◌∷◌, ◌++◌, Bool, true, false, cond, length, drop, get_or, arith, ⊎_elim, append_assoc, add-one, drop-cons, ◌&&◌, not}
-use Rattle.std.specs.List.{list_all}
-use Rattle.std.proofs.lemmas.Bool.{and_parts, or_cases, ltb-true, eqb-true, agree_below_at, false≢true}
-use Rattle.std.proofs.lemmas.List.{drop_all}
-use Rattle.hex.specs.Hex.{encode_with}
-use Rattle.programs.specs.Prelude.{is_control, is_lead, is_second, number, escape, first_shown, shown, escaped_after, escaped, is_clean_after, is_clean}
+-- What is printed of a stranger's text may be printed as it is, and is the text itself where all of that may be.
+use Rattle.std.proofs.Common.{◌≡◌, refl, sym, ap, ◌∙◌, ℕ, zero, suc, ◌<◌, ◌/◌, ◌%◌, List, [], ◌∷◌, ◌++◌, Bool, true, false, cond, arith, append_assoc, append-nil, length, ◌&&◌, ◌==◌, not, nat_lt, IsUtf8}
+use Rattle.std.specs.List.{list_all, flat_map}
+use Rattle.std.specs.Fmt.{digits, digits_onto, digit_glyph}
+use Rattle.std.specs.Str.{chars, encode_utf8_all, all_scalars}
+use Rattle.std.specs.Char.{encode_utf8}
+use Rattle.std.proofs.Math.Utf8.{scalar}
+use Rattle.std.proofs.lemmas.Bool.{and_parts, ltb-true, agree_below_at, false≢true}
+use Rattle.std.proofs.lemmas.List.Folds.{list_all-append}
+use Rattle.std.proofs.lemmas.Str.{chars-encodes, encodes-chars, encodes-append, scalars-chars, encode_ascii, chars_past_char, chars-nil}
+use Rattle.programs.specs.Prelude.{is_unprintable, hex_number, escape, shown, escaped, is_clean}
 
--- of a byte that is shown as it is
-same_step : (held lead control second : Bool) (b : ℕ) (bs rest : List ℕ) → (not control && not (held && second)) ≡ true → (lead ≡ true → b ≡ 194) → rest ≡ cond lead (194 ∷ bs) bs
-    → cond held (cond second (escape b) (194 ∷ cond lead [] (cond control (escape b) (b ∷ [])))) (cond lead [] (cond control (escape b) (b ∷ []))) ++ rest ≡ cond held (194 ∷ b ∷ bs) (b ∷ bs)
-same_step held lead true second b bs rest h l e = absurd (false≢true h)
-same_step true lead false true b bs rest h l e = absurd (false≢true h)
-same_step false false false second b bs rest h l e = ap (λ (r : List ℕ). b ∷ r) e
-same_step false true false second b bs rest h l e = e ∙ ap (λ (x : ℕ). x ∷ bs) (sym (l refl))
-same_step true false false false b bs rest h l e = ap (λ (r : List ℕ). 194 ∷ b ∷ r) e
-same_step true true false false b bs rest h l e = ap (λ (r : List ℕ). 194 ∷ r) (e ∙ ap (λ (x : ℕ). x ∷ bs) (sym (l refl)))
-
-same_after : (held : Bool) (bs : List ℕ) → is_clean_after held bs ≡ true → escaped_after held bs ≡ cond held (194 ∷ bs) bs
-same_after false [] h = refl
-same_after true [] h = refl
-same_after held (b ∷ bs) h =
-    let p = and_parts (not (is_control b) && not (held && is_second b)) (is_clean_after (is_lead b) bs) h in
-    same_step held (is_lead b) (is_control b) (is_second b) b bs (escaped_after (is_lead b) bs) p.0 (eqb-true b 194) (same_after (is_lead b) bs p.1)
-
--- a text without control characters is itself
-pub escaped_same : (t : List ℕ) → is_clean t ≡ true → escaped t ≡ t
-escaped_same t h = same_after false t h
-
--- a byte that is no control character, and makes none with what stands beside it
+-- a character of ASCII that may be printed as it is
 abbrev is_plain : ℕ → Bool
-is_plain b = (not (is_control b) && not (is_second b)) && not (is_lead b)
+is_plain b = nat_lt b 128 && not (is_unprintable b)
 
-plain_step : (control second lead more : Bool) (b : ℕ) (rest : List ℕ) → is_control b ≡ control → is_second b ≡ second → is_lead b ≡ lead → ((not control && not second) && not lead) ≡ true → is_clean_after false rest ≡ true
-    → is_clean_after false (b ∷ rest) ≡ true
-plain_step true second lead more b rest c s l h k = absurd (false≢true h)
-plain_step false true lead more b rest c s l h k = absurd (false≢true h)
-plain_step false false true more b rest c s l h k = absurd (false≢true h)
-plain_step false false false more b rest c s l h k = rw (c, l) k
+both : (p q : Bool) → p ≡ true → q ≡ true → (p && q) ≡ true
+both p q e f = ap (λ x. x && q) e ∙ f
 
-plain_run : (xs rest : List ℕ) → list_all is_plain xs ≡ true → is_clean_after false rest ≡ true → is_clean_after false (xs ++ rest) ≡ true
-plain_run [] rest h k = k
-plain_run (x ∷ xs) rest h k =
+joined : (p : ℕ → Bool) (xs ys : List ℕ) → list_all p xs ≡ true → list_all p ys ≡ true → list_all p (xs ++ ys) ≡ true
+joined p xs ys e f = list_all-append p xs ys ∙ both (list_all p xs) (list_all p ys) e f
+
+glyph_plain : (d : ℕ) → d < 16 → is_plain (digit_glyph false d) ≡ true
+glyph_plain d h = agree_below_at (λ d. is_plain (digit_glyph false d)) (λ d. true) 16 d refl h
+
+digits_step : (last : Bool) (front rest : List ℕ) → list_all is_plain front ≡ true → list_all is_plain rest ≡ true → list_all is_plain (cond last front rest) ≡ true
+digits_step true front rest e f = e
+digits_step false front rest e f = f
+
+digits_plain : (k n : ℕ) (acc : List ℕ) → list_all is_plain acc ≡ true → list_all is_plain (digits_onto k 16 false n acc) ≡ true
+digits_plain zero n acc h = h
+digits_plain (suc k) n acc h =
+    let more : list_all is_plain (digit_glyph false (n % 16) ∷ acc) ≡ true = both (is_plain (digit_glyph false (n % 16))) (list_all is_plain acc) (glyph_plain (n % 16) (omega arith)) h in
+    digits_step (n / 16 == 0) _ _ more (digits_plain k (n / 16) (digit_glyph false (n % 16) ∷ acc) more)
+
+all_digits_plain : (n : ℕ) → list_all is_plain (digits 16 false n) ≡ true
+unfolding digits
+all_digits_plain n = digits_plain 64 n [] refl
+
+number_step : (small : Bool) (ds : List ℕ) → list_all is_plain ds ≡ true → list_all is_plain (cond small (48 ∷ ds) ds) ≡ true
+number_step true ds h = h
+number_step false ds h = h
+
+escape_step : (end : Bool) (ds : List ℕ) → list_all is_plain ds ≡ true → list_all is_plain (cond end (92 ∷ 110 ∷ []) (92 ∷ 117 ∷ 123 ∷ ds ++ 125 ∷ [])) ≡ true
+escape_step true ds h = refl
+escape_step false ds h = joined is_plain ds (125 ∷ []) h refl
+
+-- a character by its number is spelled in ASCII that may be printed
+escape_plain : (c : ℕ) → list_all is_plain (escape c) ≡ true
+escape_plain c = escape_step (c == 10) (hex_number c) (number_step (nat_lt c 16) (digits 16 false c) (all_digits_plain c))
+
+encoded_plain : (xs : List ℕ) → list_all is_plain xs ≡ true → encode_utf8_all xs ≡ xs
+encoded_plain [] h = refl
+encoded_plain (x ∷ xs) h =
     let p = and_parts (is_plain x) (list_all is_plain xs) h in
-    plain_step (is_control x) (is_second x) (is_lead x) true x (xs ++ rest) refl refl refl p.0 (plain_run xs rest p.1 k)
+    let small = ltb-true x 128 (and_parts (nat_lt x 128) (not (is_unprintable x)) p.0).0 in
+    ap (λ b. b ++ encode_utf8_all xs) (encode_ascii x small) ∙ ap (λ b. x ∷ b) (encoded_plain xs p.1)
 
-number_plain : (b : ℕ) → b < 160 → list_all is_plain (number b) ≡ true
-unfolding encode_with
-number_plain b h = agree_below_at (λ b. list_all is_plain (number b)) (λ b. true) 160 b refl h
+-- what is printed of a character by its number is one byte a character
+pub encoded_escape : (c : ℕ) → encode_utf8_all (escape c) ≡ escape c
+encoded_escape c = encoded_plain (escape c) (escape_plain c)
 
-control_small : (b : ℕ) → is_control b ≡ true → b < 160
-control_small b h = ⊎_elim (λ e. omega (arith, ltb-true b 32 e)) (λ e. omega (arith, eqb-true b 127 e)) (or_cases _ _ h)
+all_from : (p q : ℕ → Bool) (xs : List ℕ) → ((x : ℕ) → p x ≡ true → q x ≡ true) → list_all p xs ≡ true → list_all q xs ≡ true
+all_from p q [] f h = refl
+all_from p q (x ∷ xs) f h =
+    let e = and_parts (p x) (list_all p xs) h in
+    both (q x) (list_all q xs) (f x e.0) (all_from p q xs f e.1)
 
-second_small : (b : ℕ) → is_second b ≡ true → b < 160
-second_small b h = ltb-true b 160 (and_parts _ _ h).1
+plain_printed : (x : ℕ) → is_plain x ≡ true → not (is_unprintable x) ≡ true
+plain_printed x h = (and_parts (nat_lt x 128) (not (is_unprintable x)) h).1
 
-escape_clean : (led : Bool) (b : ℕ) (rest : List ℕ) → b < 160 → is_clean_after false rest ≡ true → is_clean_after led (escape b ++ rest) ≡ true
-escape_clean false b rest h k = plain_run (number b) rest (number_plain b h) k
-escape_clean true b rest h k = plain_run (number b) rest (number_plain b h) k
+plain_scalar : (x : ℕ) → is_plain x ≡ true → scalar x ≡ true
+plain_scalar x h = agree_below_at scalar (λ b. true) 128 x refl (ltb-true x 128 (and_parts (nat_lt x 128) (not (is_unprintable x)) h).0)
 
-first_clean : (lead control : Bool) (b : ℕ) (rest : List ℕ) → is_control b ≡ control → is_lead b ≡ lead → is_clean_after false rest ≡ true
-    → is_clean_after false (cond lead [] (cond control (escape b) (b ∷ [])) ++ rest) ≡ true
-first_clean true control b rest c l h = h
-first_clean false true b rest c l h = escape_clean false b rest (control_small b c) h
-first_clean false false b rest c l h = rw (c, l) h
+shown_step : (hidden : Bool) (p : ℕ → Bool) (c : ℕ) → is_unprintable c ≡ hidden → ((x : ℕ) → is_plain x ≡ true → p x ≡ true) → (not (is_unprintable c) ≡ true → p c ≡ true)
+    → list_all p (cond hidden (escape c) (c ∷ [])) ≡ true
+shown_step true p c e plain own = all_from is_plain p (escape c) plain (escape_plain c)
+shown_step false p c e plain own = both (p c) true (own (ap not e)) refl
 
-after_clean : (lead control : Bool) (b : ℕ) (rest : List ℕ) → is_control b ≡ control → is_lead b ≡ lead → is_second b ≡ false → is_clean_after false rest ≡ true → (lead ≡ true → is_clean_after true rest ≡ true)
-    → is_clean_after true (cond lead [] (cond control (escape b) (b ∷ [])) ++ rest) ≡ true
-after_clean true control b rest c l s h r = r refl
-after_clean false true b rest c l s h r = escape_clean true b rest (control_small b c) h
-after_clean false false b rest c l s h r = rw (c, l, s) h
+-- what is printed of characters passes a test that plain ones pass, and each that is printed as it is
+shown_all : (p : ℕ → Bool) (cs : List ℕ) → ((x : ℕ) → is_plain x ≡ true → p x ≡ true) → ((x : ℕ) → not (is_unprintable x) ≡ true → p x ≡ true) → list_all p (flat_map shown cs) ≡ true
+shown_all p [] plain own = refl
+shown_all p (c ∷ cs) plain own = joined p (shown c) (flat_map shown cs) (shown_step (is_unprintable c) p c refl plain (own c)) (shown_all p cs plain own)
 
-held_clean : (led second : Bool) (b : ℕ) (rest : List ℕ) → is_second b ≡ second → is_clean_after false rest ≡ true → (is_lead b ≡ true → is_clean_after true rest ≡ true)
-    → is_clean_after led (cond second (escape b) (194 ∷ first_shown b) ++ rest) ≡ true
-held_clean led true b rest s h r = escape_clean led b rest (second_small b s) h
-held_clean false false b rest s h r = after_clean (is_lead b) (is_control b) b rest refl refl s h r
-held_clean true false b rest s h r = after_clean (is_lead b) (is_control b) b rest refl refl s h r
+-- what is printed of characters is characters
+shown_scalars : (cs : List ℕ) → all_scalars cs ≡ true → list_all scalar (flat_map shown cs) ≡ true
+shown_scalars [] h = refl
+shown_scalars (c ∷ cs) h =
+    let p = and_parts (scalar c) (all_scalars cs) h in
+    joined scalar (shown c) (flat_map shown cs) (shown_step (is_unprintable c) scalar c refl plain_scalar (λ e. p.0)) (shown_scalars cs p.1)
 
-clean_all : (led held : Bool) (bs : List ℕ) → (led ≡ true → held ≡ true) → is_clean_after led (escaped_after held bs) ≡ true
-clean_all false false [] k = refl
-clean_all false true [] k = refl
-clean_all true false [] k = refl
-clean_all true true [] k = refl
-clean_all false false (b ∷ bs) k = first_clean (is_lead b) (is_control b) b (escaped_after (is_lead b) bs) refl refl (clean_all false (is_lead b) bs (λ e. absurd (false≢true e)))
-clean_all true false (b ∷ bs) k = absurd (false≢true (k refl))
-clean_all led true (b ∷ bs) k = held_clean led (is_second b) b (escaped_after (is_lead b) bs) refl (clean_all false (is_lead b) bs (λ e. absurd (false≢true e))) (λ e. clean_all true (is_lead b) bs (λ _. e))
+scalars_all : (cs : List ℕ) → list_all scalar cs ≡ true → all_scalars cs ≡ true
+scalars_all [] h = refl
+scalars_all (c ∷ cs) h =
+    let p = and_parts (scalar c) (list_all scalar cs) h in
+    both (scalar c) (all_scalars cs) p.0 (scalars_all cs p.1)
 
--- what is printed has no control character
-pub escaped_clean : (t : List ℕ) → is_clean (escaped t) ≡ true
-escaped_clean t = clean_all false false t (λ e. absurd (false≢true e))
+-- what is printed of a text may be printed as it is
+pub escaped_clean : (t : List ℕ) → IsUtf8 t → is_clean (escaped t) ≡ true
+escaped_clean t u =
+    ap (list_all (λ c. not (is_unprintable c))) (chars-encodes (flat_map shown (chars t)) (scalars_all (flat_map shown (chars t)) (shown_scalars (chars t) (scalars-chars t u))))
+    ∙ shown_all (λ c. not (is_unprintable c)) (chars t) plain_printed (λ x e. e)
 
--- one more byte of a text is shown
-pub escaped_step : (held : Bool) (t a out whole : List ℕ) (i : ℕ) → i < length t → out ≡ a ++ shown held (get_or t i 0) → a ++ escaped_after held (drop i t) ≡ whole
-    → out ++ escaped_after (is_lead (get_or t i 0)) (drop (i + 1) t) ≡ whole
-escaped_step held t a out whole i lt o e =
-    let b = get_or t i 0 in
-    let d : drop i t ≡ b ∷ drop (i + 1) t = drop-cons t i 0 lt ∙ rw add-one refl in
-    ap (λ (x : List ℕ). x ++ escaped_after (is_lead b) (drop (i + 1) t)) o
-    ∙ append_assoc a (shown held b) (escaped_after (is_lead b) (drop (i + 1) t))
-    ∙ ap (λ (x : List ℕ). a ++ escaped_after held x) (sym d)
-    ∙ e
+same_step : (hidden : Bool) (c : ℕ) (front rest cs : List ℕ) → not hidden ≡ true → rest ≡ cs → cond hidden front (c ∷ []) ++ rest ≡ c ∷ cs
+same_step true c front rest cs h e = absurd (false≢true h)
+same_step false c front rest cs h e = ap (λ r. c ∷ r) e
 
--- the text is at its end
-pub escaped_end : (held : Bool) (t out whole : List ℕ) (i : ℕ) → length t ≤ i → out ++ escaped_after held (drop i t) ≡ whole → out ++ cond held (194 ∷ []) [] ≡ whole
-escaped_end held t out whole i le e = ap (λ (x : List ℕ). out ++ escaped_after held x) (sym (drop_all i t le)) ∙ e
+shown_same : (cs : List ℕ) → list_all (λ c. not (is_unprintable c)) cs ≡ true → flat_map shown cs ≡ cs
+shown_same [] h = refl
+shown_same (c ∷ cs) h =
+    let p = and_parts (not (is_unprintable c)) (list_all (λ c. not (is_unprintable c)) cs) h in
+    same_step (is_unprintable c) c (escape c) (flat_map shown cs) cs p.0 (shown_same cs p.1)
+
+-- a text that may be printed as it is, is
+pub escaped_same : (t : List ℕ) → IsUtf8 t → is_clean t ≡ true → escaped t ≡ t
+escaped_same t u h = ap encode_utf8_all (shown_same (chars t) h) ∙ encodes-chars t u
+
+-- one more character of a text is shown
+pub escaped_step : (t rest a out whole : List ℕ) (c : ℕ) → IsUtf8 t → t ≡ encode_utf8 c ++ rest → out ≡ a ++ encode_utf8_all (shown c) → a ++ escaped t ≡ whole → out ++ escaped rest ≡ whole
+escaped_step t rest a out whole c u e o h =
+    let split : escaped t ≡ encode_utf8_all (shown c) ++ escaped rest =
+    ap (λ cs. encode_utf8_all (flat_map shown cs)) (chars_past_char t rest c u e) ∙ encodes-append (shown c) (flat_map shown (chars rest)) in
+    ap (λ x. x ++ escaped rest) o ∙ append_assoc a (encode_utf8_all (shown c)) (escaped rest) ∙ ap (λ x. a ++ x) (sym split) ∙ h
+
+-- nothing is left of a text
+pub escaped_end : (t out whole : List ℕ) → length t ≡ 0 → out ++ escaped t ≡ whole → out ≡ whole
+escaped_end [] out whole e h = sym (append-nil out) ∙ ap (λ cs. out ++ encode_utf8_all (flat_map shown cs)) (sym chars-nil) ∙ h
+escaped_end (b ∷ bs) out whole e h = absurd (omega (arith, e))

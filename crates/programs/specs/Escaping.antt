@@ -1,54 +1,45 @@
--- How a stranger's text is printed, so that it can't forge a line: each control character by its number.
-use Rattle.std.specs.Prelude.{ℕ, ◌==◌, ◌&&◌, ◌||◌, not, nat_lt, if◌then◌else◌, Bool, true, false, List, [], ◌∷◌, ◌++◌, codes}
-use Rattle.hex.specs.Hex.{encode_lower}
+-- How a stranger's text is printed, so that it can't forge a line: some characters by their numbers.
+use Rattle.std.specs.Prelude.{ℕ, ◌==◌, nat_lt, not, if◌then◌else◌, Bool, false, List, [], ◌∷◌, ◌++◌, codes}
+use Rattle.std.specs.Int.{is_in_range}
+use Rattle.std.specs.List.{flat_map, list_all, list_any}
+use Rattle.std.specs.Fmt.{digits}
+use Rattle.std.specs.Str.{chars, encode_utf8_all}
 
--- a control character of one byte: below a blank, or DEL
-abbrev pub is_control : ℕ → Bool
-is_control b = nat_lt b 32 || b == 127
+-- the characters that are never printed as they are, from the first of each row to its last
+abbrev pub unprintable : List (ℕ × ℕ)
+unprintable =
+    (0x0, 0x1F)  -- control characters, a line's end among them
+    ∷ (0x7F, 0x9F)  -- DEL, and control characters
+    ∷ (0x61C, 0x61C)  -- Arabic letter mark
+    ∷ (0x200B, 0x200F)  -- blanks and joiners of no width, and marks that turn text
+    ∷ (0x2028, 0x202E)  -- the separators of lines and paragraphs; embeddings and overrides, which turn text
+    ∷ (0x2060, 0x2064)  -- a joiner of no width, and invisible operators
+    ∷ (0x2066, 0x206F)  -- isolates, which turn text, and controls that nobody should use
+    ∷ (0xFEFF, 0xFEFF)  -- the mark of the order of bytes, of no width
+    ∷ (0xE0001, 0xE0001)  -- the tag of a language
+    ∷ (0xE0020, 0xE007F)  -- tag characters, which are hidden
+    ∷ []
 
--- the first byte of U+0080 to U+00BF, of which those below U+00A0 are control characters
-abbrev pub is_lead : ℕ → Bool
-is_lead b = b == 194
+-- a character is never printed as it is
+abbrev pub is_unprintable : ℕ → Bool
+is_unprintable c = list_any (λ range. is_in_range range.0 range.1 c) unprintable
 
--- the second byte of a control character after that one
-abbrev pub is_second : ℕ → Bool
-is_second b = not (nat_lt b 128) && nat_lt b 160
+-- a number in lower case hex, of two digits at least
+abbrev pub hex_number : ℕ → List ℕ
+hex_number n = if nat_lt n 16 then 48 ∷ digits 16 false n else digits 16 false n
 
--- a control character's number, of which this is the last byte: `n` for a line's end, else as `u{1b}`
-abbrev pub number : ℕ → List ℕ
-number b = if b == 10 then codes "n" else 117 ∷ 123 ∷ encode_lower (b ∷ []) ++ 125 ∷ []
-
--- a control character by its number, after a backslash
+-- a character by its number, after a backslash: a line's end as `\n`, every other as `\u{1b}` or `\u{202e}`
 abbrev pub escape : ℕ → List ℕ
-escape b = 92 ∷ number b
+escape c = if c == 10 then codes "\\n" else codes "\\u{" ++ hex_number c ++ codes "}"
 
--- what is printed of a byte that no lead byte stands before; a lead byte is held back until the next is known
-abbrev pub first_shown : ℕ → List ℕ
-first_shown b =
-    if is_lead b then []
-    else (if is_control b then escape b else b ∷ [])
-
--- what is printed of a byte, where a lead byte is held back or not
-abbrev pub shown : Bool → ℕ → List ℕ
-shown held b =
-    if held then (if is_second b then escape b else 194 ∷ first_shown b)
-    else first_shown b
-
--- what is printed of bytes, where a lead byte is held back or not
-abbrev pub escaped_after : Bool → List ℕ → List ℕ
-escaped_after held [] = if held then 194 ∷ [] else []
-escaped_after held (b ∷ bs) = shown held b ++ escaped_after (is_lead b) bs
+-- the characters that are printed of one
+abbrev pub shown : ℕ → List ℕ
+shown c = if is_unprintable c then escape c else c ∷ []
 
 -- what is printed of a text
 abbrev pub escaped : List ℕ → List ℕ
-escaped text = escaped_after false text
+escaped text = encode_utf8_all (flat_map shown (chars text))
 
--- no byte of a text is a control character, and none makes one with a lead byte before it, where one stands before the text or not
-abbrev pub is_clean_after : Bool → List ℕ → Bool
-is_clean_after led [] = true
-is_clean_after led (b ∷ bs) =
-    (not (is_control b) && not (led && is_second b)) && is_clean_after (is_lead b) bs
-
--- a text has no control character
+-- each character of a text may be printed as it is
 abbrev pub is_clean : List ℕ → Bool
-is_clean text = is_clean_after false text
+is_clean text = list_all (λ c. not (is_unprintable c)) (chars text)

@@ -1,6 +1,6 @@
 -- The words of this crate's definitions, as proofs import them.
 pub use Rattle.programs.specs.Names.{refusal_code}
-pub use Rattle.programs.specs.Escaping.{is_control, is_lead, is_second, number, escape, first_shown, shown, escaped_after, escaped, is_clean_after, is_clean}
+pub use Rattle.programs.specs.Escaping.{is_unprintable, hex_number, escape, shown, escaped, is_clean}
 pub use Rattle.programs.specs.Telling.{IsSpelled, row_line, IsTold, failure_told, refused_line, version_after, IsExplained, versions_after, AreTold, lost_line}
 pub use Rattle.programs.specs.Stopping.{stop_status, stop_text, IsStopOf, Gets, TellsStop}
 pub use Rattle.programs.specs.Talking.{IsAt, Place, first_place, submitted, sent_out, greeting_of, greeting, is_printed, lost_of, losses_text, Log, and_then, Exchanges, greeting_after, told_more, printed_more, Talked, opens, refuses_line, answers_line, Streams, streams_at, Puts, Moves, IsUsedUp, Stands, Anywhere}

@@ -31,7 +31,7 @@ abbrev pub heard_line : ℕ → List ℕ → List ℕ → List ℕ
 heard_line ordinal outcome phase =
     codes "heard " ++ decimal ordinal ++ codes " " ++ outcome ++ codes " " ++ phase ++ 10 ∷ []
 
--- a failure by its code and its message, of which no control character is printed as it is
+-- a failure by its code and its message, both escaped
 abbrev pub fault_line : List ℕ → List ℕ → List ℕ
 fault_line code message =
     codes "fault " ++ escaped code ++ codes " " ++ escaped message ++ 10 ∷ []

@@ -1,94 +1,72 @@
 //! A stranger's text as it is printed, so that it can't forge a line.
-ghost use Rattle.std.specs.Prelude.{◌≡◌, ◌++◌, true, IfOk, OnOk};
-ghost use Rattle.programs.specs.Escaping.{escape, escaped, first_shown, is_clean, is_control, is_lead, is_second, shown};
+ghost use Rattle.std.specs.Prelude.{◌≡◌, ◌++◌, true, IfOk, OnOk, string_bytes};
+ghost use Rattle.std.specs.Str.{encode_utf8_all};
+ghost use Rattle.programs.specs.Escaping.{escape, escaped, hex_number, is_clean, is_unprintable, shown};
 
 use std::alloc::{AllocError, Global};
 
-/// The first byte of the control characters of two bytes.
-const LEAD: u8 = 194;
-
-/// A text of which each control character is escaped, a line's end as `\n` and every other by its number, as `\u{1b}`: so it stays on its
-/// line, and no terminal obeys it. A text without control characters is itself. Or want of memory.
-#[tactic(auto, using(crate::proofs::Escapings::escaped_same, crate::proofs::Escapings::escaped_clean))]
-pub fn escape(alloc: Global, text: &[u8]) -> Result<Vec<u8>, AllocError>
-    ensures value { IfOk result (λ t. t.items ≡ escaped text.now) }
-    ensures clean { IfOk result (λ t. is_clean t.items ≡ true) }
-    ensures same { is_clean text.now ≡ true → IfOk result (λ t. t.items ≡ text.now) }
+/// A text of which each character that could forge a line, give a terminal orders, or turn or hide what stands beside it is escaped: a line's
+/// end as `\n`, every other by its number, as `\u{1b}` and `\u{202e}`. A text without such characters is itself. Or want of memory.
+pub fn escape(alloc: Global, text: &str) -> Result<String, AllocError>
+    ensures value { IfOk result (λ t. string_bytes t ≡ escaped text.now) }
+    ensures clean { IfOk result (λ t. is_clean (string_bytes t) ≡ true) }
+    ensures same { is_clean text.now ≡ true → IfOk result (λ t. string_bytes t ≡ text.now) }
 {
-    let mut out = Vec::new(alloc);
-    push_escaped(alloc, &mut out, text)?;
+    let mut out = String::new(alloc);
+    for c in text.chars() {
+        push_shown(&mut out, c)?;
+    }
     Ok(out)
 }
 
-/// Adds a text, escaped.
-fn push_escaped(alloc: Global, out: &mut Vec<u8>, text: &[u8]) -> Result<(), AllocError>
-    ensures { OnOk result (out.new.items ≡ out.old.items ++ escaped text.now) }
+/// Adds a character, escaped where it has to be.
+#[tactic(auto, using(crate::proofs::Escapings::encoded_escape))]
+fn push_shown(out: &mut String, c: char) -> Result<(), AllocError>
+    ensures { OnOk result (string_bytes out.new ≡ string_bytes out.old ++ encode_utf8_all (shown c)) }
 {
-    let mut held = false;
-    for byte in text {
-        push_shown(alloc, out, held, *byte)?;
-        held = is_lead(*byte);
+    if is_unprintable(c) {
+        return push_escape(out, c);
     }
-    if held {
-        return out.extend_from_slice(&[LEAD]);
-    }
-    Ok(())
+    out.push(c)
 }
 
-/// Adds a byte, where a lead byte is held back or not.
-fn push_shown(alloc: Global, out: &mut Vec<u8>, held: bool, byte: u8) -> Result<(), AllocError>
-    ensures { OnOk result (out.new.items ≡ out.old.items ++ shown held byte) }
+/// Adds a character by its number.
+fn push_escape(out: &mut String, c: char) -> Result<(), AllocError>
+    ensures { OnOk result (string_bytes out.new ≡ string_bytes out.old ++ escape c) }
 {
-    if !held {
-        return push_first(alloc, out, byte);
+    if c == '\n' {
+        return out.push_str("\\n");
     }
-    if is_second(byte) {
-        return push_escape(alloc, out, byte);
-    }
-    out.extend_from_slice(&[LEAD])?;
-    push_first(alloc, out, byte)
+    out.push_str("\\u{")?;
+    push_number(out, c as u32)?;
+    out.push_str("}")
 }
 
-/// Adds a byte that no lead byte stands before; a lead byte is held back.
-fn push_first(alloc: Global, out: &mut Vec<u8>, byte: u8) -> Result<(), AllocError>
-    ensures { OnOk result (out.new.items ≡ out.old.items ++ first_shown byte) }
+/// Adds a number in hex, of two digits at least.
+fn push_number(out: &mut String, number: u32) -> Result<(), AllocError>
+    ensures { OnOk result (string_bytes out.new ≡ string_bytes out.old ++ hex_number number) }
 {
-    if is_lead(byte) {
-        return Ok(());
+    if number < 16 {
+        return write!(out, "0{number:x}");
     }
-    if is_control(byte) {
-        return push_escape(alloc, out, byte);
-    }
-    out.extend_from_slice(&[byte])
+    write!(out, "{number:x}")
 }
 
-/// Adds a control character by its number.
-fn push_escape(alloc: Global, out: &mut Vec<u8>, byte: u8) -> Result<(), AllocError>
-    ensures { OnOk result (out.new.items ≡ out.old.items ++ escape byte) }
+/// Whether a character is never printed as it is.
+fn is_unprintable(c: char) -> bool
+    ensures { result ≡ is_unprintable c }
 {
-    if byte == b'\n' {
-        return out.extend_from_slice(b"\\n");
-    }
-    let hex = hex::encode(alloc, &[byte])?;
-    out.extend_from_slice(b"\\u{")?;
-    out.extend_from_slice(hex.as_bytes())?;
-    out.extend_from_slice(b"}")
-}
-
-fn is_control(byte: u8) -> bool
-    ensures { result ≡ is_control byte }
-{
-    byte < 32 || byte == 127
-}
-
-fn is_lead(byte: u8) -> bool
-    ensures { result ≡ is_lead byte }
-{
-    byte == LEAD
-}
-
-fn is_second(byte: u8) -> bool
-    ensures { result ≡ is_second byte }
-{
-    byte >= 128 && byte < 160
+    matches!(
+        c,
+        '\u{0}'..='\u{1F}'
+            | '\u{7F}'..='\u{9F}'
+            | '\u{61C}'
+            | '\u{200B}'..='\u{200F}'
+            | '\u{2028}'..='\u{202E}'
+            | '\u{2060}'..='\u{2064}'
+            | '\u{2066}'..='\u{206F}'
+            | '\u{FEFF}'
+            | '\u{E0001}'
+            | '\u{E0020}'..='\u{E007F}'
+    )
 }

@@ -116,13 +116,13 @@ fn failure(alloc: Global, response: &Response) -> Result<Vec<u8>, AllocError>
 fn failure_text(alloc: Global, code: &str, message: &str) -> Result<Vec<u8>, AllocError>
     ensures { IfOk result (λ t. t.items ≡ fault_line code.now message.now) }
 {
-    let code = escape(alloc, code.as_bytes())?;
-    let message = escape(alloc, message.as_bytes())?;
+    let code = escape(alloc, code)?;
+    let message = escape(alloc, message)?;
     let mut line = Vec::new(alloc);
     line.extend_from_slice(b"fault ")?;
-    line.extend_from_slice(code.as_slice())?;
+    line.extend_from_slice(code.as_bytes())?;
     line.extend_from_slice(b" ")?;
-    line.extend_from_slice(message.as_slice())?;
+    line.extend_from_slice(message.as_bytes())?;
     line.extend_from_slice(b"\n")?;
     Ok(line)
 }

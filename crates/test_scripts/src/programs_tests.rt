@@ -390,24 +390,56 @@ fn serves_a_socket(rt: HostRuntime) -> Result<(), Fail> {
 }
 
 /// What a stranger says, and what is printed of it.
-const ESCAPES: [(&[u8], &[u8]); 6] = [
-    (b"unknown text", b"unknown text"),
-    (b"", b""),
+const ESCAPES: [(&str, &str); 16] = [
+    ("unknown text", "unknown text"),
+    ("", ""),
     (
-        b"no\nheard 4 Committed Ready",
-        b"no\\nheard 4 Committed Ready",
+        "no\nheard 4 Committed Ready",
+        "no\\nheard 4 Committed Ready",
     ),
-    (b"\x1B[2J\x7F\r\0", b"\\u{1b}[2J\\u{7f}\\u{0d}\\u{00}"),
-    // U+0085 is a control character, U+00A0 and U+0145 are none.
-    (b"\xC2\x85\xC2\xA0\xC5\x85", b"\\u{85}\xC2\xA0\xC5\x85"),
-    // A backslash stays as it is, and so does a byte that begins a character which doesn't come.
-    (b"a\\n\xC2", b"a\\n\xC2"),
+    ("\u{1b}[2J\r", "\\u{1b}[2J\\u{0d}"),
+    // A second line to who cuts at U+2028, and one that reads from right to left.
+    (
+        "no\u{2028}heard 3 Committed Ready\u{202E}ydaeR",
+        "no\\u{2028}heard 3 Committed Ready\\u{202e}ydaeR",
+    ),
+    // A backslash stays as it is.
+    ("a\\n", "a\\n"),
+    // Each row of the table: the character before it, its first and its last, and the character behind it.
+    ("\u{0}\u{1F}\u{20}", "\\u{00}\\u{1f}\u{20}"),
+    ("\u{7E}\u{7F}\u{9F}\u{A0}", "\u{7E}\\u{7f}\\u{9f}\u{A0}"),
+    ("\u{61B}\u{61C}\u{61D}", "\u{61B}\\u{61c}\u{61D}"),
+    (
+        "\u{200A}\u{200B}\u{200F}\u{2010}",
+        "\u{200A}\\u{200b}\\u{200f}\u{2010}",
+    ),
+    (
+        "\u{2027}\u{2028}\u{202E}\u{202F}",
+        "\u{2027}\\u{2028}\\u{202e}\u{202F}",
+    ),
+    (
+        "\u{205F}\u{2060}\u{2064}\u{2065}",
+        "\u{205F}\\u{2060}\\u{2064}\u{2065}",
+    ),
+    (
+        "\u{2065}\u{2066}\u{206F}\u{2070}",
+        "\u{2065}\\u{2066}\\u{206f}\u{2070}",
+    ),
+    ("\u{FEFE}\u{FEFF}\u{FF00}", "\u{FEFE}\\u{feff}\u{FF00}"),
+    (
+        "\u{E0000}\u{E0001}\u{E0002}",
+        "\u{E0000}\\u{e0001}\u{E0002}",
+    ),
+    (
+        "\u{E001F}\u{E0020}\u{E007F}\u{E0080}",
+        "\u{E001F}\\u{e0020}\\u{e007f}\u{E0080}",
+    ),
 ];
 
 #[test]
-fn escapes_control_characters(rt: HostRuntime) -> Result<(), Fail> {
+fn escapes_what_forges_turns_or_hides(rt: HostRuntime) -> Result<(), Fail> {
     for (said, printed) in &ESCAPES {
-        assert_eq!(rt; escape(rt.alloc(), said)?.as_slice(), *printed);
+        assert_eq!(rt; escape(rt.alloc(), said)?.as_str(), *printed);
     }
     Ok(())
 }

@@ -1,0 +1,23 @@
+use Rattle.std.proofs.Common.{ap, ◌∙◌, string_bytes}
+use Rattle.std.proofs.lemmas.Str.{IsUtf8-past_char}
+use Rattle.programs.specs.Prelude.{is_clean}
+use Rattle.programs.proofs.Escapings.{escaped_step, escaped_end, escaped_same, escaped_clean}
+use Rattle.programs.proofs.escapes.escape.Goals as goal
+
+pub loop-c-preserved : goal.loop-c-preserved
+loop-c-preserved c =
+    let held = c.loop-c.invariant in
+    let parts = c.in-Some.ensures.steps.0 in
+    record {
+      text = IsUtf8-past_char _ _ c.in-Some.c held.text parts;
+      whole = escaped_step _ _ (string_bytes c.loop-c.out) _ _ c.in-Some.c held.text parts c.in_ok-push_shown.ensures held.whole;
+    }
+
+pub returns-clause-value : goal.returns-clause-value
+returns-clause-value c = escaped_end _ (string_bytes c.loop-c.out) _ c.in-None.ensures.steps.0.0 c.loop-c.invariant.whole
+
+pub returns-clause-clean : goal.returns-clause-clean
+returns-clause-clean c = ap is_clean (escaped_end _ (string_bytes c.loop-c.out) _ c.in-None.ensures.steps.0.0 c.loop-c.invariant.whole) ∙ escaped_clean c.args.text.now c.utf8.text
+
+pub returns-clause-same : goal.returns-clause-same
+returns-clause-same c = λ h. escaped_end _ (string_bytes c.loop-c.out) _ c.in-None.ensures.steps.0.0 c.loop-c.invariant.whole ∙ escaped_same c.args.text.now c.utf8.text h
