@@ -1,2 +1,3 @@
 pub mod Starting
 pub mod Served
+pub mod Reasons

@@ -5,11 +5,13 @@ mod command_line;
 mod reasons;
 mod script_file;
 mod sockets;
+mod standard_streams;
 
 use command_line::{refuse, words_of};
 use commands::{CommandLine, asked, command};
 use script_file::replay_file;
 use sockets::{loop_through, serve_on, shell_at};
+use standard_streams::fill_closed;
 use std::process::ExitCode;
 use streams::Over;
 
@@ -32,5 +34,7 @@ fn run(rt: &HostRuntime) -> u8 {
 }
 
 fn main(rt: HostRuntime) -> ExitCode {
+    // Before anything else is opened, and kept until the end.
+    let _closed = fill_closed(&rt);
     ExitCode::from(run(&rt))
 }

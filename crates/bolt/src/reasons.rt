@@ -1,9 +1,11 @@
-//! What is said of files and connections that aren't had.
-ghost use Rattle.std.specs.Prelude.{◌≡◌, ◌⊎◌, ◌↔◌};
+//! What is said of files and connections that aren't had. The names of files and hosts are words of the command line, so they are escaped.
+ghost use Rattle.std.specs.Prelude.{◌≡◌, ◌⊎◌, ◌↔◌, IfOk, string_bytes};
 ghost use Rattle.std.specs.IoError.{error_kind};
+ghost use Rattle.bolt.specs.Reasons.{connected_line, place_name};
 
-use programs::put_fault;
-use std::alloc::Global;
+use crate::sockets::SILENCE;
+use programs::{escape, put_fault};
+use std::alloc::{AllocError, Global};
 use std::io;
 use std::io::ErrorKind;
 use streams::{Over, Sink, StreamFault, write_all};
@@ -14,8 +16,8 @@ pub(crate) fn put_unread<E: Sink>(alloc: Global, file: &str, error: &io::Error, 
     ensures { (result ≡ 1) ⊎ (result ≡ 3) }
 {
     let status = put_fault(unread(error), err);
-    if let Ok(text) = format!(in alloc; "{file}: {error}\n") {
-        let _ = write_all(err, text.as_bytes());
+    if let Ok(name) = escape(alloc, file) {
+        put_reason(alloc, name.as_str(), error, err);
     }
     status
 }
@@ -31,8 +33,8 @@ pub(crate) fn put_unreached<E: Sink>(
     ensures { (result ≡ 1) ⊎ (result ≡ 3) }
 {
     let status = put_fault(unread(error), err);
-    if let Ok(text) = format!(in alloc; "{host} port {port}: {error}\n") {
-        let _ = write_all(err, text.as_bytes());
+    if let Ok(name) = place_name(alloc, host, port) {
+        put_reason(alloc, name.as_str(), error, err);
     }
     status
 }
@@ -40,15 +42,51 @@ pub(crate) fn put_unreached<E: Sink>(
 /// Says why a stream failed, where it did by an error of the system and there is memory for it: what it is, and the reason.
 pub(crate) fn put_failed<S, E: Sink>(alloc: Global, what: &str, stream: &Over<S>, err: &mut E) {
     if let Some(error) = stream.error() {
-        if let Ok(text) = format!(in alloc; "{what}: {error}\n") {
-            let _ = write_all(err, text.as_bytes());
-        }
+        put_reason(alloc, what, error, err);
+    }
+}
+
+/// The same of the server's stream. Where it let a read or a write wait for too long, what it didn't do for that long is the reason.
+pub(crate) fn put_lost<S, E: Sink>(alloc: Global, silence: &str, stream: &Over<S>, err: &mut E) {
+    let Some(error) = stream.error() else {
+        return;
+    };
+    if error.kind() != ErrorKind::WouldBlock {
+        put_reason(alloc, "the server", error, err);
+        return;
+    }
+    if let Ok(text) = format!(in alloc; "the server: {silence} for {SILENCE} seconds\n") {
+        let _ = write_all(err, text.as_bytes());
     }
 }
 
 /// Says which host and port a shell is connected to, where there is memory for it.
 pub(crate) fn put_connected<E: Sink>(alloc: Global, host: &str, port: u16, err: &mut E) {
-    if let Ok(text) = format!(in alloc; "connected to {host} port {port}\n") {
+    if let Ok(text) = connected_line(alloc, host, port) {
+        let _ = write_all(err, text.as_bytes());
+    }
+}
+
+fn connected_line(alloc: Global, host: &str, port: u16) -> Result<String, AllocError>
+    ensures { IfOk result (λ t. string_bytes t ≡ connected_line host.now port) }
+{
+    let place = place_name(alloc, host, port)?;
+    let text = format!(in alloc; "connected to {place}\n")?;
+    Ok(text)
+}
+
+/// A host and a port as they are told.
+fn place_name(alloc: Global, host: &str, port: u16) -> Result<String, AllocError>
+    ensures { IfOk result (λ t. string_bytes t ≡ place_name host.now port) }
+{
+    let host = escape(alloc, host)?;
+    let text = format!(in alloc; "{host} port {port}")?;
+    Ok(text)
+}
+
+/// A name and the system's reason on a line, where there is memory for it.
+fn put_reason<E: Sink>(alloc: Global, name: &str, error: &io::Error, err: &mut E) {
+    if let Ok(text) = format!(in alloc; "{name}: {error}\n") {
         let _ = write_all(err, text.as_bytes());
     }
 }

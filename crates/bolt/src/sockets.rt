@@ -5,7 +5,7 @@ ghost use Rattle.scripts.specs.Rows.{request_line_of};
 ghost use Rattle.scripts.specs.Script.{filled_lines, unreadable};
 ghost use Rattle.bolt.specs.Served.{IsServing, HasServedAll, listening_line};
 
-use crate::reasons::{put_connected, put_failed, put_unreached, put_unread};
+use crate::reasons::{put_connected, put_failed, put_lost, put_unreached, put_unread};
 use engine::{FixedTable, OneUser};
 use programs::{Channel, drain, put_fault, run_loop, serve_next, shell};
 use server::Server;
@@ -19,14 +19,15 @@ use streams::{Over, Sink, StreamFault, write_all};
 /// The address of this machine for itself.
 const HERE: &str = "127.0.0.1";
 
-/// How many seconds `serve` waits for a peer that says nothing, or takes nothing of what it is sent. Then the connection is lost.
-const SILENCE: u64 = 60;
+/// How many seconds `serve` and `shell` wait for a peer that says nothing, or takes nothing of what it is sent. Then the connection is lost.
+pub(crate) const SILENCE: u64 = 60;
 
 /// How many seconds each read waits for what a peer still sends after the end.
 const LAST_WAIT: u64 = 1;
 
 /// A client at a shell, with the server at this port of the host: `fault I1` where it can't be reached, and on the next line why. Where it
-/// can, that is said on standard error. A stream that fails then is told with the system's reason too.
+/// can, that is said on standard error. A stream that fails then is told with the system's reason too, a server that says nothing for too
+/// long with that.
 pub(crate) fn shell_at(rt: &HostRuntime, host: &str, port: u16) -> u8 {
     let mut err = Over::new(rt.stderr());
     let stream = match TcpStream::connect(rt, (host, port)) {
@@ -35,6 +36,7 @@ pub(crate) fn shell_at(rt: &HostRuntime, host: &str, port: u16) -> u8 {
     };
     put_connected(rt.alloc(), host, port, &mut err);
     send_at_once(&stream);
+    wait_at_most(&stream, SILENCE);
     talk(rt.alloc(), &stream, rt.stdin(), rt.stdout(), &mut err)
 }
 
@@ -52,8 +54,8 @@ fn talk<I: Read + Drop, O: Write + Drop, E: Sink>(
     let mut sink = Over::new(stream);
     let status = shell(alloc, &mut input, &mut source, &mut sink, &mut out, err);
     put_failed(alloc, "standard input", &input, err);
-    put_failed(alloc, "the server", &source, err);
-    put_failed(alloc, "the server", &sink, err);
+    put_lost(alloc, "said nothing", &source, err);
+    put_lost(alloc, "took nothing", &sink, err);
     put_failed(alloc, "standard output", &out, err);
     status
 }
