@@ -6,11 +6,9 @@ use Rattle.programs.proofs.escapes.escape.Goals as goal
 
 pub loop-c-preserved : goal.loop-c-preserved
 loop-c-preserved c =
-    let held = c.loop-c.invariant in
-    let parts = c.in-Some.ensures.steps.0 in
     record {
-      text = IsUtf8-past_char _ _ c.in-Some.c held.text parts;
-      whole = escaped_step _ _ (string_bytes c.loop-c.out) _ _ c.in-Some.c held.text parts c.in_ok-push_shown.ensures held.whole;
+      text = IsUtf8-past_char _ _ c.in-Some.c c.loop-c.invariant.text c.in-Some.ensures.steps.0;
+      whole = escaped_step _ _ (string_bytes c.loop-c.out) _ _ c.in-Some.c c.loop-c.invariant.text c.in-Some.ensures.steps.0 c.in_ok-push_shown.ensures c.loop-c.invariant.whole;
     }
 
 pub returns-clause-value : goal.returns-clause-value
