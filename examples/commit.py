@@ -1,4 +1,5 @@
-"""commit.py ADDRESS PORT KEY: puts a key in a transaction, all of it in one pipeline, and prints what became of each of its requests.
+"""commit.py ADDRESS PORT KEY: puts a key in a transaction, all of it in one pipeline, and prints what became of each of its requests, and where the connection
+broke, why.
 
 It finds the module in ../python, and libbolt.so beside it or where BOLT_SO says; bench/build_c makes it.
 """
@@ -21,7 +22,7 @@ def main(address, port, key):
     try:
         requests = commit(address, int(port), key)
     except bolt.Broken as broken:
-        print("the connection broke")
+        print(f"the connection broke: {broken.why}")
         requests = broken.requests
     except bolt.Refused as refused:
         print(refused)

@@ -6,51 +6,92 @@
 
 A pipeline is asked for and then settled, `c.ask_begin(); c.ask_run("PUT", {..}); c.ask_commit(); c.settle()`, and goes out at once.
 
-Where the connection breaks, `Broken` tells what became of each request that was asked since the last time all was settled: what it was
-told, else LOST (the server can't have committed by it) or UNKNOWN (it may have). Under a token the same transaction may be sent again until
+Where the connection breaks, `Broken` says why, and tells what became of each request that was asked since the last time all was settled: what it
+was told, else LOST (the server can't have committed by it) or UNKNOWN (it may have). Under a token the same transaction may be sent again until
 it is known: `c.begin(token=..)`, and outside a transaction `c.run("PUT", {..}, token=..)`.
+
+An exception that comes from elsewhere in the midst of a call, as KeyboardInterrupt or that of a signal handler, ends the connection, and
+`c.requests` has what became of each request; one that comes between two calls changes nothing. Once the connection is closed each has its outcome.
 """
 import ctypes
 import dataclasses
+import functools
 import os
 import socket
 import struct
+import time
+import warnings
 
-NEWEST, V4_4, V5_0, V5_1 = 0, 44, 50, 51
+__all__ = ["Connection", "Request", "Error", "Fault", "Refused", "Broken", "NEWEST", "V4_4", "V5_0", "V5_1",
+           "DONE", "COMMITTED", "REFUSED", "IGNORED", "LOST", "UNKNOWN",
+           "NO_VERSION", "NOT_BOLT", "TIMED_OUT", "GONE", "FAILED", "BAD_ANSWER", "NO_MEMORY", "INTERRUPTED",
+           "Node", "Relationship", "UnboundRelationship", "Path", "Date", "Time", "LocalTime", "LocalDateTime", "DateTime", "ZonedLocal", "ZonedUtc",
+           "Duration", "Point2D", "Point3D", "pack", "unpack"]
+
+VERSIONS = NEWEST, V4_4, V5_0, V5_1 = 0, 44, 50, 51
 PHASES = ("FRESH", "UNAUTH", "READY", "STREAMING", "TX_READY", "TX_STREAMING", "HALTED", "DEFUNCT")
 DONE, COMMITTED, REFUSED, IGNORED, LOST, UNKNOWN = OUTCOMES = ("DONE", "COMMITTED", "REFUSED", "IGNORED", "LOST", "UNKNOWN")
 VERSION, ROW, SUMMARY = 1, 2, 3
-FULL, CLOSED, MEMORY, BAD_PEER, UNWRITABLE = 2, 4, 5, 6, 7
+NOT_ALLOWED, FULL, CLOSED, MEMORY, BAD_PEER, UNWRITABLE = 1, 2, 4, 5, 6, 7
 FAULTS = {1: "the request isn't allowed here", 2: "no room among the 32 requests that may wait", 3: "the message is too long", 4: "the client has ended",
           5: "out of memory", 6: "the server sent what no server may", 7: "the request can't be written", 8: "no request of this version",
           9: "nothing was heard", 10: "no version has this number", 11: "the buffer is too short", 100: "the connection is closed"}
-MESSAGE, LOSSES = 65536, 32
+MESSAGE, LOSSES, LATE = 65536, 32, 1 << 22
+
+# Why a connection is gone.
+NO_VERSION = "the server took no version"
+NOT_BOLT = "not Bolt: the answer isn't a version that was offered"
+TIMED_OUT = "time-out"
+GONE = "the server closed the connection"
+FAILED = "the socket failed"
+BAD_ANSWER = "the server sent what no server may"
+NO_MEMORY = "out of memory"
+INTERRUPTED = "interrupted"
+ENDED = "a FAILURE ended the session"  # raised as Refused
+CLOSED_HERE = "closed"
 
 
-class Fault(Exception):
-    """A call of the library was refused, and nothing has changed. `code` is that of bolt.h."""
-
-    def __init__(self, code):
-        super().__init__(FAULTS.get(code, str(code)))
-        self.code = code
+class Error(Exception):
+    """What this module raises, but for OSError where no connection comes to be, and TypeError, ValueError and RecursionError of an argument that
+    can't be packed, which leave all as it was."""
 
 
-class Refused(Exception):
+class Fault(Error):
+    """A call was refused, and nothing has changed. `code` is that of bolt.h; `rule` is that of the message which was broken, as `M5`, and
+    `place` where: the byte of the message (P1 to P9) or the number of the value in its field (S1 to S6), None for a rule without a place."""
+
+    def __init__(self, code, rule="", place=None, hint=""):
+        super().__init__(code, rule, place, hint)
+        self.code, self.rule, self.place, self.hint = code, rule, place, hint
+
+    def __str__(self):
+        broken = self.rule if self.place is None else f"{self.rule} at {self.place}"
+        return ": ".join(it for it in (FAULTS.get(self.code, str(self.code)), broken, self.hint) if it)
+
+
+class Refused(Error):
     """The server's FAILURE, by its code and message. `requests` are those asked since all was settled, in order, each with its outcome. A
     transaction that was open is gone, and the session is ready again if it lives on."""
 
     def __init__(self, code, message, requests):
-        super().__init__(f"{code}: {message}")
+        super().__init__(code, message, requests)
         self.code, self.message, self.requests = code, message, requests
 
+    def __str__(self):
+        return f"{self.code}: {self.message}"
 
-class Broken(Exception):
-    """The connection broke, or was given up: at a bad answer, where no version was taken, after an interrupt, or for want of memory. `requests` are
-    those asked since all was settled, in order, each with its outcome."""
 
-    def __init__(self, requests):
-        super().__init__(", ".join(f"{it.text}: {it.outcome}" for it in requests) or "before any request")
-        self.requests = requests
+class Broken(Error):
+    """The connection broke, or was given up. `why` is one of the reasons NO_VERSION to INTERRUPTED, and `__cause__` the socket's own where it has
+    one. `requests` are those asked since all was settled, in order, each with its outcome."""
+
+    def __init__(self, requests, why):
+        super().__init__(requests, why)
+        self.requests, self.why = requests, why
+
+    def __str__(self):
+        told = ", ".join(f"{it.text}: {it.outcome}" for it in self.requests) or "before any request"
+        return f"{told} ({self.why})"
 
 
 # Values: None, bool, int, float, str, bytes, list and dict stand for themselves, and the classes below for structures.
@@ -62,6 +103,7 @@ def structure(tag, name, fields, later=""):
     """A class for a structure, with its fields in order; those of `later` came with 5.0 and are None before."""
     names = [(it, object) for it in fields.split()] + [(it, object, None) for it in later.split()]
     made = dataclasses.make_dataclass(name, names, namespace={"tag": tag, "later": len(later.split())}, frozen=True, eq=True)
+    made.__module__ = __name__  # where pickle finds it
     TAGS[tag] = made
     return made
 
@@ -214,6 +256,10 @@ class Heard(ctypes.Structure):
     _fields_ = [("used", ctypes.c_size_t), ("ordinal", ctypes.c_uint64)] + [(it, ctypes.c_uint32) for it in "kind version outcome phase".split()]
 
 
+class Submitted(ctypes.Structure):
+    _fields_ = [(it, ctypes.c_uint64) for it in "ordinal rule place".split()]
+
+
 class Loss(ctypes.Structure):
     _fields_ = [("ordinal", ctypes.c_uint64), ("outcome", ctypes.c_uint64)]
 
@@ -226,7 +272,7 @@ def library(path=os.environ.get("BOLT_SO") or os.path.join(os.path.dirname(os.pa
     made = ctypes.CDLL(path)
     code, count, text = ctypes.c_uint32, ctypes.c_size_t, ctypes.c_char_p
     to = ctypes.POINTER
-    for name, result, *rest in (("open", code, code), ("close", None), ("submit", code, text, count, to(ctypes.c_uint64)),
+    for name, result, *rest in (("open", code, code), ("close", None), ("submit", code, text, count, to(Submitted)),
                                 ("take", code, text, count, to(count)), ("feed", code, text, count, to(Heard)),
                                 ("message", code, text, count, to(count)), ("lost", code, to(Loss), count, to(count)), ("state", code, to(Standing))):
         call = getattr(made, "bolt_" + name)
@@ -248,32 +294,95 @@ class Request:
 
 def extra(write, token):
     """The entries of a BEGIN or a RUN beside its text: the mode where that is to read, and the token where there is one."""
+    if not isinstance(write, bool):
+        raise TypeError("write is True or False")
     return {**({} if write else {"mode": "r"}), **({} if token is None else {"tx_metadata": {"token": token}})}
 
 
+def fault_of(code, submitted):
+    """The Fault of a submit: which rule of the message was broken, and where."""
+    rule = submitted.rule.to_bytes(2, "big").decode() if submitted.rule else ""
+    return Fault(code, rule, submitted.place if rule[:1] in ("P", "S") else None)
+
+
+def reason(failed):
+    """Why a connection is gone whose socket failed so, or came to its end where that is None."""
+    if failed is None or isinstance(failed, ConnectionError):
+        return GONE
+    return TIMED_OUT if isinstance(failed, TimeoutError) else FAILED
+
+
+def ends(call):
+    """A call that ends the client where it is broken off, as by an interrupt: bytes are gone then, and no answer may be taken for another's."""
+    @functools.wraps(call)
+    def whole(self, *words):
+        try:
+            return call(self, *words)
+        except Error:
+            raise
+        except BaseException:
+            self._end(INTERRUPTED)
+            raise
+    return whole
+
+
 class Connection:
-    """A session of a server. Times are the socket's: `timeout` is that of each send and receive, in seconds."""
+    """A session of a server. `timeout` is that of each call as a whole, in seconds, also of this one but for the look-up of a name; None for none.
+    What isn't settled when it has passed is told by `Broken`, and the connection is gone.
+
+    `requests` are those asked since all was settled, in order; they stay until the next is asked."""
+
+    _handle = _socket = None
 
     def __init__(self, host, port, auth=("none", "", ""), agent="bolt.py/1", versions=NEWEST, timeout=10):
-        self.handle, self.asked, self.buffer, self.socket, self.version = Handle(), {}, ctypes.create_string_buffer(MESSAGE), None, V5_1
-        self.cut = None  # why nothing more is sent
-        self.check(LIBRARY.bolt_open(self.handle, versions))
+        self._handle, self._buffer, self.version, self.timeout = Handle(), ctypes.create_string_buffer(MESSAGE), V5_1, timeout
+        self._heard, self._losses, self._lost = Heard(), (Loss * LOSSES)(), ctypes.c_size_t()
+        self.requests, self._first = [], 0  # with the ordinal of the first
+        self._settled, self._went = True, False  # whether all of them are, and were told; whether bytes of theirs may have gone out
+        self._cut, self._why = None, None  # why nothing more is sent, and why the client has ended
+        if len(auth) != 3:
+            raise ValueError("auth is the scheme, the principal and the credentials")
+        if type(versions) is not int or versions not in VERSIONS:
+            raise ValueError("versions is NEWEST, V4_4, V5_0 or V5_1")
+        self._check(LIBRARY.bolt_open(self._handle, versions))
         try:
-            self.socket = socket.create_connection((host, port), timeout)
-            self.socket.setsockopt(socket.IPPROTO_TCP, socket.TCP_NODELAY, 1)
-            self.log_in(agent, dict(zip(("scheme", "principal", "credentials"), auth)))
+            self._bound()
+            self._socket = self._connected(host, port)
+            self._socket.setsockopt(socket.IPPROTO_TCP, socket.TCP_NODELAY, 1)
+            self._log_in(agent, dict(zip(("scheme", "principal", "credentials"), auth)))
         except BaseException:
             self.close()
             raise
 
-    def log_in(self, agent, login):
-        while not self.state().version:
-            self.exchange()
-        self.version = self.state().version
+    def _bound(self):
+        """A call begins: by when it has to be done."""
+        self._until, self._is_late = None if self.timeout is None else time.monotonic() + self.timeout, False
+
+    def _left(self):
+        """The seconds that are left for the call, None where it has no end."""
+        left = None if self._until is None else self._until - time.monotonic()
+        if left is not None and left <= 0:
+            raise TimeoutError(TIMED_OUT)
+        return left
+
+    def _connected(self, host, port):
+        """A socket to the first address of the host that takes one."""
+        failed = OSError("the host has no address")
+        for *_, address in socket.getaddrinfo(host, port, type=socket.SOCK_STREAM):
+            try:
+                return socket.create_connection(address[:2], self._left())
+            except OSError as why:
+                failed = why.with_traceback(None)
+        raise failed
+
+    def _log_in(self, agent, login):
+        while not self._state().version:
+            self._exchange()
+        self.version = self._state().version
         self.ask("HELLO", 0x01, {"user_agent": agent, **({} if self.version >= V5_1 else login)})
         if self.version >= V5_1:
             self.ask("LOGON", 0x6A, login)
-        self.settle()
+        self._settle()
 
     def __enter__(self):
         return self
@@ -281,38 +390,58 @@ class Connection:
     def __exit__(self, *_):
         self.close()
 
-    def check(self, code):
+    def __del__(self):
+        if self._handle and self._handle.at:
+            warnings.warn("a Connection was dropped that wasn't closed", ResourceWarning, source=self)
+            self._free()
+
+    def _check(self, code):
         if code:
             raise Fault(code)
 
-    def state(self):
+    def _state(self):
         standing = Standing()
-        self.check(LIBRARY.bolt_state(self.handle, standing))
+        self._check(LIBRARY.bolt_state(self._handle, standing))
         return standing
 
     def ask(self, text, tag, *fields):
-        """Submits a request: it goes out when it is settled, and not before."""
-        message, ordinal = pack_structure(tag, fields, self.version), ctypes.c_uint64()
-        self.check(LIBRARY.bolt_submit(self.handle, message, len(message), ordinal))
-        self.asked[ordinal.value] = request = Request(text)
+        """Submits a request, by its tag and its fields, and answers it: it goes out when it is settled, and not before. `text` is what it is called
+        where it is told of."""
+        return self._submit(text, pack_structure(tag, fields, self.version))
+
+    @ends
+    def _submit(self, text, message):
+        state, submitted, request = self._state(), Submitted(), Request(text)
+        if self._settled and not state.has_ended:
+            self._heard, self.requests, self._first, self._went = Heard(), [], state.first, False
+            self._settled = False
+        # (noted before the library has it: an exception may come between any two steps)
+        self.requests.append(request)
+        code = LIBRARY.bolt_submit(self._handle, message, len(message), submitted)
+        if code:
+            self.requests.pop()
+            raise fault_of(code, submitted) if code != CLOSED else Fault(code, hint=self._why or "")
         return request
 
     def ask_begin(self, write=True, token=None):
+        """A BEGIN: of a transaction to write unless `write` is False, under the token if there is one."""
         return self.ask("BEGIN", 0x11, extra(write, token))
+
+    @ends
+    def _submit_both(self, text, run, pull):
+        if self._state().pending > LOSSES - 2:
+            raise Fault(FULL)
+        self._submit(f"RUN {text}", run)
+        try:
+            return self._submit(f"PULL of {text}", pull)
+        except Fault:
+            # (memory ran out between the two)
+            self._lose(NO_MEMORY)
 
     def ask_run(self, text, parameters=None, write=True, token=None):
         """A RUN and a PULL of all its rows, both or neither: the latter, which has the rows and the outcome."""
-        if self.state().pending > LOSSES - 2:
-            raise Fault(FULL)
-        self.ask(f"RUN {text}", 0x10, text, parameters or {}, extra(write, token))
-        try:
-            return self.ask(f"PULL of {text}", 0x3F, {"n": -1})
-        except Fault:
-            # (memory ran out between the two)
-            self.lose()
-        except BaseException:
-            self.end()
-            raise
+        fields = text, {} if parameters is None else parameters, extra(write, token)
+        return self._submit_both(text, pack_structure(0x10, fields, self.version), pack_structure(0x3F, ({"n": -1},), self.version))
 
     def ask_commit(self):
         return self.ask("COMMIT", 0x12)
@@ -323,149 +452,170 @@ class Connection:
     def ask_reset(self):
         return self.ask("RESET", 0x0F)
 
-    def moved(self, code):
+    def _moved(self, code):
         """Checks a call that moves bytes: at a bad answer, where memory ran out, and at an answer that can't be told, the connection is given up."""
         if code in (BAD_PEER, MEMORY, UNWRITABLE):
-            self.lose()
-        self.check(code)
+            self._lose(NO_MEMORY if code == MEMORY else BAD_ANSWER if self._state().version else NOT_BOLT)
+        self._check(code)
 
-    def send(self):
+    def _send(self):
         """Sends what waits. Where the server takes no more, what it has said may still be heard."""
         count = ctypes.c_size_t(1)
-        while count.value and not self.cut:
-            self.moved(LIBRARY.bolt_take(self.handle, self.buffer, MESSAGE, count))
+        while count.value and not self._cut:
+            self._moved(LIBRARY.bolt_take(self._handle, self._buffer, MESSAGE, count))
             try:
                 if count.value:
-                    self.socket.sendall(self.buffer.raw[:count.value])
+                    self._socket.settimeout(self._left())
+                    self._went = True
+                    self._socket.sendall(ctypes.string_at(self._buffer, count.value))
             except OSError as why:
-                self.cut = why
+                self._cut = why.with_traceback(None)
 
-    def receive(self):
-        """The next bytes of the server, none where no more come."""
+    def _receive(self):
+        """The next bytes of the server, none where no more come. Once the call's time has passed, or a send took it up, what is there already is
+        still heard, in one piece, and nothing else."""
         try:
-            return self.socket.recv(MESSAGE)
+            late = isinstance(self._cut, TimeoutError) or self._until is not None and time.monotonic() >= self._until
+            if late and self._is_late:
+                raise TimeoutError(TIMED_OUT)
+            self._is_late = late
+            self._socket.settimeout(0 if late else self._left())
+            return self._socket.recv(LATE if late else MESSAGE)
         except OSError as why:
-            self.cut = self.cut or why
+            why = TimeoutError(TIMED_OUT) if isinstance(why, BlockingIOError) else why
+            self._cut = self._cut or why.with_traceback(None)
             return b""
 
-    def message(self):
+    def _message(self):
         """The fields of the row or summary that was heard last."""
         length = ctypes.c_size_t()
-        self.moved(LIBRARY.bolt_message(self.handle, self.buffer, MESSAGE, length))
-        return unpack_message(self.buffer.raw[:length.value])[1]
+        self._moved(LIBRARY.bolt_message(self._handle, self._buffer, MESSAGE, length))
+        return unpack_message(ctypes.string_at(self._buffer, length.value))[1]
 
-    def hear(self, piece):
+    def _hear(self, piece):
         """Feeds a piece to the end of an item, and answers the rest of it: none behind the client's end, where nothing is heard."""
-        first, heard = self.state().first, Heard()
-        code = LIBRARY.bolt_feed(self.handle, piece, len(piece), heard)
+        first = self._state().first
+        self._heard = heard = Heard()  # (kept for `_end`, where what follows is broken off)
+        code = LIBRARY.bolt_feed(self._handle, piece, len(piece), heard)
         if code == CLOSED:
             return b""
-        self.moved(code)
+        self._moved(code)
         if heard.kind == VERSION and not heard.version:
-            self.lose()
+            self._lose(NO_VERSION)
         if heard.kind == ROW:
-            self.asked[first].rows.append(self.message()[0])
+            self.requests[first - self._first].rows.append(self._message()[0])
         if heard.kind == SUMMARY:
-            request = self.asked[heard.ordinal]
+            request = self.requests[heard.ordinal - self._first]
+            request.metadata = (self._message() or [{}])[0]
             request.outcome = OUTCOMES[heard.outcome]
-            request.metadata = (self.message() or [{}])[0]
         return piece[heard.used:]
 
-    def exchange(self):
-        """Sends what waits, and hears a piece of the server's bytes. Where that is broken off, as by an interrupt, bytes are gone: then the client
-        ends, so that no answer is taken for another's."""
-        try:
-            self.send()
-            piece = self.receive()
-            if not piece:
-                self.lose()
-            while piece:
-                piece = self.hear(piece)
-        except Broken:
-            raise
-        except BaseException:
-            self.end()
-            raise
+    def _exchange(self):
+        """Sends what waits, and hears a piece of the server's bytes."""
+        self._send()
+        piece = self._receive()
+        if not piece:
+            self._lose(reason(self._cut))
+        while piece:
+            piece = self._hear(piece)
 
-    def end(self):
-        """Nothing is heard any more: what became of each request that waits is known."""
-        losses, count = (Loss * LOSSES)(), ctypes.c_size_t()
-        self.check(LIBRARY.bolt_lost(self.handle, losses, LOSSES, count))
-        for loss in losses[:count.value]:
-            self.asked[loss.ordinal].outcome = OUTCOMES[loss.outcome]
-        for request in self.asked.values():
-            # (of one whose summary was heard when that was broken off, what it says is gone)
-            request.outcome = request.outcome or UNKNOWN
+    def _end(self, why):
+        """Nothing is heard any more: what became of each request is known. What is told stays, so that this may be broken off and done again."""
+        self._why = self._why or why
+        state = Standing()
+        if self._handle.at and not LIBRARY.bolt_state(self._handle, state) and (state.pending or not state.has_ended):
+            LIBRARY.bolt_lost(self._handle, self._losses, LOSSES, self._lost)
+        for told in ([self._heard] if self._heard.kind == SUMMARY else []) + self._losses[:self._lost.value]:
+            place = told.ordinal - self._first
+            if 0 <= place < len(self.requests):
+                self.requests[place].outcome = OUTCOMES[told.outcome]
+        for request in self.requests:
+            # (nothing was committed by what the library never took, nor by what no byte of has gone out)
+            request.outcome = request.outcome if request.outcome and self._went else LOST
+        if self._socket:
+            self._socket.close()
 
-    def told(self):
-        """The requests asked since all was settled, which they now are."""
-        requests, self.asked = list(self.asked.values()), {}
-        return requests
-
-    def lose(self):
+    def _lose(self, why):
         """The connection is gone, or given up: what became of each request is told."""
-        self.end()
-        raise Broken(self.told()) from self.cut
+        self._end(why)
+        self._settled = True
+        raise Broken(list(self.requests), self._why) from self._cut
 
     def settle(self):
-        """Hears all answers, and answers the requests asked since all was settled. The first FAILURE is raised, after a RESET where the session
-        still ignores what it is asked."""
-        while self.state().awaits:
-            self.exchange()
-        if self.state().has_ended:
-            self.end()
-        requests = self.told()
+        """Sends what was asked and hears all answers, and answers the requests asked since all was settled. The first FAILURE is raised, after a
+        RESET where the session still ignores what it is asked."""
+        self._bound()
+        return self._settle()
+
+    @ends
+    def _settle(self):
+        while self._state().awaits:
+            self._exchange()
+        if self._cut or self._state().has_ended:
+            self._end(reason(self._cut) if self._cut else ENDED)
+        requests = [] if self._settled else list(self.requests)
         refused = next((it for it in requests if it.outcome == REFUSED), None)
-        if refused and PHASES[self.state().phase] == "HALTED":
-            self.go_on(requests)
+        if refused and not self._why and PHASES[self._state().phase] == "HALTED":
+            self._go_on()
+            self.requests = requests
+        self._settled = True
         if refused:
             raise Refused(refused.metadata.get("code", ""), refused.metadata.get("message", ""), requests)
         if any(it.outcome in (LOST, UNKNOWN) for it in requests):
-            raise Broken(requests) from self.cut
+            raise Broken(requests, self._why) from self._cut
         return requests
 
-    def go_on(self, requests):
-        """Resets the session; where that can't be, the connection is gone, and these requests are told too."""
+    def _go_on(self):
+        """Resets the session; where that can't be, the connection is gone."""
         try:
             self.ask_reset()
-            self.settle()
         except Fault:
-            # (memory ran out, or the client has ended)
-            self.end()
-            raise Broken(requests + self.told()) from None
-        except Broken as broken:
-            raise Broken(requests + broken.requests) from self.cut
+            # (memory ran out)
+            self._lose(NO_MEMORY)
+        while self._state().awaits:
+            self._exchange()
 
-    def settled(self, request):
+    def _at_once(self, ask, *words):
+        """Asks for one thing and settles it. Refused where something else was asked and isn't settled, which would go out with it."""
+        if any(it.outcome is None for it in self.requests):
+            raise Fault(NOT_ALLOWED, hint="what was asked before isn't settled")
+        request = ask(*words)
         self.settle()
         return request
 
     def run(self, text, parameters=None, write=True, token=None):
         """The rows. Outside a transaction they are committed with the last of them, under the token if there is one."""
-        return self.settled(self.ask_run(text, parameters, write, token)).rows
+        return self._at_once(self.ask_run, text, parameters, write, token).rows
 
     def begin(self, write=True, token=None):
-        self.settled(self.ask_begin(write, token))
+        """Begins a transaction: to write unless `write` is False, under the token if there is one."""
+        self._at_once(self.ask_begin, write, token)
 
     def commit(self):
-        return self.settled(self.ask_commit()).outcome
+        """COMMITTED, once it is; any other end is raised."""
+        return self._at_once(self.ask_commit).outcome
 
     def rollback(self):
-        self.settled(self.ask_rollback())
+        self._at_once(self.ask_rollback)
 
     def reset(self):
-        self.settled(self.ask_reset())
+        """Ends whatever is open in the session: a result, and a transaction, which is dropped."""
+        self._at_once(self.ask_reset)
 
     def close(self):
         """Says goodbye where nothing waits, and frees the client. What was asked and isn't settled isn't sent any more. A second close does nothing."""
         try:
-            state = self.state() if self.socket and self.handle.at else None
+            self._bound()
+            state = self._state() if self._socket and self._handle.at else None
             if state and not state.has_ended and not state.pending:
-                self.ask("GOODBYE", 0x02)
-                self.send()
+                goodbye = pack_structure(0x02, (), self.version)
+                self._check(LIBRARY.bolt_submit(self._handle, goodbye, len(goodbye), Submitted()))
+                self._send()
         except (Fault, Broken):
             pass
         finally:
-            if self.socket:
-                self.socket.close()
-            LIBRARY.bolt_close(self.handle)
+            self._free()
+
+    def _free(self):
+        self._end(CLOSED_HERE)
+        LIBRARY.bolt_close(self._handle)

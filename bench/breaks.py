@@ -1,0 +1,324 @@
+"""What python/bolt.py does where a call of it is broken off or can't be: rows that `bench/languages` tries, each against a server of its own."""
+import contextlib
+import gc
+import pickle
+import socket
+import struct
+import subprocess
+import sys
+import threading
+import time
+import warnings
+
+import bolt
+
+USER = ("basic", "user", "pass")
+
+
+def is_right(outcome, is_there):
+    """Whether what a client says of the request that commits agrees with the table."""
+    return is_there if outcome == bolt.COMMITTED else True if outcome == bolt.UNKNOWN else not is_there and outcome in (None, bolt.LOST)
+
+
+def raised(call):
+    """What a call raises, None where it answers."""
+    try:
+        call()
+    except Exception as why:
+        return why
+    return None
+
+
+def code_of(call):
+    """The code of the Fault that a call raises, 0 where it answers, None of what is no Fault."""
+    why = raised(call)
+    return 0 if why is None else why.code if isinstance(why, bolt.Fault) else None
+
+
+# Works, each of which puts a key, and answers what was asked.
+
+def by_steps(connection, key):
+    connection.begin()
+    connection.run("PUT", {"key": key, "value": 1})
+    return [bolt.Request("COMMIT", connection.commit())]
+
+
+def in_one(connection, key):
+    ask_all(connection, key)
+    return connection.settle()
+
+
+def alone(connection, key):
+    connection.ask_run("PUT", {"key": key, "value": 1})
+    return connection.settle()
+
+
+def ask_all(connection, key, text="PUT"):
+    connection.ask_begin()
+    connection.ask_run(text, {"key": key, "value": 1})
+    connection.ask_commit()
+
+
+# Works that don't end well.
+
+def refused(connection, key):
+    """A request is refused, and a RESET goes behind."""
+    ask_all(connection, key, "NOPE")
+    connection.settle()
+
+
+def deaf(connection, key):
+    """All goes out, and no answer comes."""
+    ask_all(connection, key)
+    connection._socket.shutdown(socket.SHUT_RD)
+    connection.settle()
+
+
+def mute(connection, key):
+    """Nothing goes out."""
+    ask_all(connection, key)
+    connection._socket.shutdown(socket.SHUT_WR)
+    connection.settle()
+
+
+def late(connection, key):
+    """The time is over before it begins."""
+    ask_all(connection, key)
+    connection.timeout = 0
+    connection.settle()
+
+
+WORKS = by_steps, in_one, alone, refused, deaf, mute, late
+
+
+class Interrupt(Exception):
+    pass
+
+
+INTERRUPTS = KeyboardInterrupt, Interrupt, TimeoutError
+VALUES = ("pack", "pack_int", "sized", "fields_of", "number", "bytes", "of_length", "fields", "value")  # of these each line once
+
+
+class Interrupted:
+    """Traces the lines of the module, and raises an interrupt at that of a number."""
+
+    def __init__(self, number):
+        self.number, self.passed, self.seen, self.is_over = number, 0, set(), False
+
+    def __call__(self, frame, event, _):
+        if frame.f_code.co_filename != bolt.__file__ or frame.f_code.co_name == "__del__":
+            return None
+        line = frame.f_lineno
+        if event == "line" and not (frame.f_code.co_name in VALUES and line in self.seen):
+            self.seen.add(line)
+            self.passed += 1
+            if self.passed == self.number:
+                self.is_over = True
+                raise INTERRUPTS[self.number % len(INTERRUPTS)]
+        return self
+
+
+def interrupted(port, work, key, number):
+    """What became of what was asked, where an interrupt comes at a line of a work by number: None where the work has fewer lines."""
+    interrupt = Interrupted(number)
+    with bolt.Connection("127.0.0.1", port, USER) as connection:
+        with contextlib.suppress(*INTERRUPTS, bolt.Error):
+            sys.settrace(interrupt)
+            try:
+                work(connection, key)
+            finally:
+                sys.settrace(None)
+        requests, told = list(connection.requests), [it.outcome for it in connection.requests]
+        # It goes on, or something is to be settled, or it has ended.
+        is_defined = code_of(lambda: connection.run("ONE")) in (0, bolt.NOT_ALLOWED, bolt.CLOSED)
+    stays = all(it.outcome in bolt.OUTCOMES and before in (None, it.outcome) for it, before in zip(requests, told))
+    outcome = {it.text: it.outcome for it in requests}.get("PULL of PUT" if work is alone else "COMMIT")
+    return (outcome, is_defined and stays) if interrupt.is_over else None
+
+
+def interrupts(port, work):
+    """Whether an interrupt at each line of a work leaves a defined state, and each request with a true outcome; and how many lines there are."""
+    told, number = {}, 1
+    while (held := interrupted(port, work, f"{work.__name__}{number:04}", number)) is not None:
+        told[f"{work.__name__}{number:04}"] = held
+        number += 1
+    wrong = [key for key, (outcome, is_defined) in told.items() if not is_defined]
+    with bolt.Connection("127.0.0.1", port, USER) as connection:
+        for key, (outcome, _) in told.items():
+            is_there = connection.run("GET", {"key": key}, write=False) == [[1]]
+            wrong += [] if is_right(outcome, is_there) or work is refused and not is_there else [f"{key} {outcome} {is_there}"]
+    if wrong:
+        print(f"interrupts of {work.__name__}, of {number - 1} lines: {wrong[:9]}")
+    return not wrong and number > 100, number - 1
+
+
+# Ends of a server: what it sends when it has heard something, and then; what it sends again and again, whether it closes, resets or waits; and what
+# is raised, with its cause.
+
+TOOK = bytes([0, 0, 1, 5])
+SUCCESS = bytes.fromhex("0003B170A00000")
+BEFORE, BOTH = "before any request", "HELLO: LOST, LOGON: LOST"
+ENDS = (
+    ((bytes(4),), b"", "waits", f"{BEFORE} ({bolt.NO_VERSION})", None),
+    ((b"HTTP/1.1 400 Bad Request\r\n\r\n",), b"", "closes", f"{BEFORE} ({bolt.NOT_BOLT})", None),
+    ((bytes([0, 0, 3, 4]),), b"", "waits", f"{BEFORE} ({bolt.NOT_BOLT})", None),
+    ((), b"", "closes", f"{BEFORE} ({bolt.GONE})", None),
+    ((), b"", "resets", f"{BEFORE} ({bolt.GONE})", ConnectionResetError),
+    ((), b"", "waits", f"{BEFORE} ({bolt.TIMED_OUT})", TimeoutError),
+    ((TOOK,), b"", "waits", f"{BOTH} ({bolt.TIMED_OUT})", TimeoutError),
+    ((TOOK,), b"\0\0", "waits", f"{BOTH} ({bolt.TIMED_OUT})", TimeoutError),
+    ((TOOK, bytes.fromhex("4000B170A18178D13FF0")), b"x", "waits", f"{BOTH} ({bolt.TIMED_OUT})", TimeoutError),
+    ((TOOK, SUCCESS), b"", "closes", f"HELLO: DONE, LOGON: LOST ({bolt.GONE})", None),
+    ((TOOK, bytes.fromhex("0001000000")), b"", "waits", f"{BOTH} ({bolt.BAD_ANSWER})", None),
+)
+
+
+def ending(listener, said, again, how):
+    """Answers one connection so; what it sends again it sends for three seconds."""
+    peer, _ = listener.accept()
+    with peer, contextlib.suppress(OSError):
+        peer.recv(20, socket.MSG_WAITALL)
+        for place, piece in enumerate(said):
+            peer.sendall(piece)
+            if place < len(said) - 1:
+                peer.recv(4096)
+        over = time.monotonic() + 3
+        while again and time.monotonic() < over:
+            peer.sendall(again)
+            time.sleep(0.02)
+        if how == "resets":
+            peer.setsockopt(socket.SOL_SOCKET, socket.SO_LINGER, struct.pack("ii", 1, 0))
+        while how == "waits" and not again and peer.recv(4096):
+            pass
+
+
+def ends(_):
+    """Whether each end of a server is told with its reason, and none takes longer than the time that was set; and how many there are."""
+    wrong = []
+    for said, again, how, text, cause in ENDS:
+        with socket.create_server(("127.0.0.1", 0)) as listener:
+            server = threading.Thread(target=ending, args=(listener, said, again, how), daemon=True)
+            server.start()
+            began = time.monotonic()
+            why = raised(lambda: bolt.Connection("127.0.0.1", listener.getsockname()[1], USER, timeout=0.4))
+            took = time.monotonic() - began
+            server.join()
+        if not (isinstance(why, bolt.Broken) and str(why) == text and text.endswith(f"({why.why})") and took < 2):
+            wrong.append(f"{why!r} for {text}, after {took:.1f} s")
+        elif type(why.__cause__) is not (type(None) if cause is None else cause):
+            wrong.append(f"{text}: its cause is {why.__cause__!r}")
+    if wrong:
+        print("ends:", *wrong, sep="\n")
+    return not wrong, len(ENDS)
+
+
+def gives_up(port):
+    """Whether an interrupt and want of memory are told as such, and behind the end too."""
+    with bolt.Connection("127.0.0.1", port, USER) as connection:
+        connection.ask_begin()
+        short = str(raised(lambda: connection._moved(bolt.MEMORY)))
+    with bolt.Connection("127.0.0.1", port, USER) as connection:
+        asked = connection.ask_run("ROWS", {"n": 2})
+        connection._message = lambda: interrupt()
+        is_raised = isinstance(raised(connection.settle), Interrupt) and asked.outcome == bolt.UNKNOWN
+        told, after = raised(connection.settle), raised(connection.begin)
+    told = str(told), str(after), after.code
+    return short == "BEGIN: LOST (out of memory)" and is_raised and told == (
+        "RUN ROWS: DONE, PULL of ROWS: UNKNOWN (interrupted)", "the client has ended: interrupted", 4)
+
+
+def interrupt():
+    raise Interrupt
+
+
+# What names no request, and what isn't an argument: at a version, and what is raised.
+
+def nested(depth):
+    return [nested(depth - 1)] if depth > 1 else []
+
+
+NONE = "no request of this version"
+ECHOED = (
+    (bolt.Node(1, "A", {}, "n"), "S3 at 1"), (bolt.Node("1", ["A"], {}, "n"), "S3 at 1"), (bolt.Date(None), "S3 at 1"),
+    (bolt.Time(86_400_000_000_000, 0), "S4 at 1"), (bolt.Point2D(7203, 1, 2), "S3 at 1"), (bolt.ZonedLocal(7, 8, "UTC"), "S6 at 1"),
+    ([1, bolt.Path([], [], [])], "S5 at 3"), (nested(31), "P6 at 40"),
+)
+MISTAKEN = (
+    *((51, lambda c, it=it: c.ask_run("ECHO", {"x": it}), f"{NONE}: {rule}") for it, rule in ECHOED),
+    (44, lambda c: c.ask_run("ECHO", {"x": bolt.ZonedUtc(7, 8, "UTC")}), f"{NONE}: S6 at 1"),
+    *((51, lambda c, it=it: c.ask_run(*it), f"{NONE}: M4") for it in ((None,), (5,), ("ONE", [1]), ("ONE", "x"), ("ONE", []))),
+    *((51, lambda c, it=it: c.ask_begin(token=it), f"{NONE}: M5") for it in (5, "", "x" * 65)),
+    (51, lambda c: c.ask("NONE", 0x7E), f"{NONE}: M3"),
+    (51, lambda c: c.ask_begin(write="r"), "write is True or False"),
+    (51, lambda c: c.ask_run("ONE", write=0), "write is True or False"),
+    (51, lambda c: bolt.Connection("127.0.0.1", c.port, USER, versions=5.1), "versions is NEWEST, V4_4, V5_0 or V5_1"),
+    (51, lambda c: bolt.Connection("127.0.0.1", c.port, USER, versions=52), "versions is NEWEST, V4_4, V5_0 or V5_1"),
+    (51, lambda c: bolt.Connection("127.0.0.1", c.port, USER[:2]), "auth is the scheme, the principal and the credentials"),
+)
+
+
+def names_mistakes(port):
+    """Whether each mistake is told by a text of its own, and leaves the connection as it was; and how many there are."""
+    wrong = []
+    for version in (44, 51):
+        with bolt.Connection("127.0.0.1", port, USER, versions=version) as connection:
+            connection.port = port
+            for _, call, text in (it for it in MISTAKEN if it[0] == version):
+                why = raised(lambda: call(connection))
+                wrong += [] if str(why) == text and isinstance(why, (bolt.Fault, TypeError, ValueError)) else [f"{why!r} for {text}"]
+            wrong += [] if connection.run("ONE") == [[1]] else ["it doesn't go on"]
+    if wrong:
+        print("mistakes:", *wrong, sep="\n")
+    return not wrong, len(MISTAKEN)
+
+
+def settles_first(port):
+    """Whether, where something that was asked isn't settled, no call asks for more and settles both."""
+    calls = (lambda c: c.run("PUT", {"key": "swallowed", "value": 1}), lambda c: c.begin(), lambda c: c.commit(), lambda c: c.rollback(), lambda c: c.reset())
+    told = []
+    for call in calls:
+        with bolt.Connection("127.0.0.1", port, USER) as connection:
+            connection.ask_begin()
+            unpacked = raised(lambda: connection.ask_run("PUT", {"key": "swallowed", "value": {1, 2}}))
+            told.append(str(raised(lambda: call(connection))))
+            told.append([it.text for it in connection.settle()])
+        told.append(type(unpacked))
+    return told == ["the request isn't allowed here: what was asked before isn't settled", ["BEGIN"], TypeError] * len(calls)
+
+
+POOL = """
+import bolt, concurrent.futures
+def breaks(_): raise bolt.Broken([bolt.Request("COMMIT", bolt.UNKNOWN)], bolt.GONE)
+def goes_on(_): return bolt.Date(1)
+with concurrent.futures.ProcessPoolExecutor(1) as pool:
+    for work in (breaks, goes_on):
+        told = pool.submit(work, 0)
+        print(repr(told.exception() or told.result()))
+"""
+
+
+def crosses_processes(values):
+    """Whether what is raised, and each structure, is the same after it was pickled, and a pool of processes lives on."""
+    asked = [bolt.Request("COMMIT", bolt.UNKNOWN, {"a": 1}, [[1]])]
+    errors = bolt.Fault(8, "S3", 2), bolt.Fault(4, hint=bolt.GONE), bolt.Refused("a.B", "c", asked), bolt.Broken(asked, bolt.TIMED_OUT)
+    held = [pickle.loads(pickle.dumps(it)) == it for it in values]
+    for error in errors:
+        there = pickle.loads(pickle.dumps(error))
+        held.append(isinstance(error, bolt.Error) and (type(there), str(there), vars(there)) == (type(error), str(error), vars(error)))
+    environment = {"PYTHONPATH": bolt.os.path.dirname(bolt.__file__), "BOLT_SO": bolt.os.environ["BOLT_SO"]}
+    pool = subprocess.run([sys.executable, "-c", POOL], env=environment, stdout=subprocess.PIPE, stderr=subprocess.DEVNULL, text=True, timeout=60)
+    wanted = "Broken([Request(text='COMMIT', outcome='UNKNOWN', metadata={}, rows=[])], 'the server closed the connection')\nDate(days=1)\n"
+    return all(held) and pool.stdout == wanted, len(held)
+
+
+def frees(port):
+    """Whether a connection that is dropped and isn't closed frees its client and its socket, and says so."""
+    connection = bolt.Connection("127.0.0.1", port, USER)
+    handle, other = connection._handle, connection._socket
+    asked = connection.ask_begin()
+    with warnings.catch_warnings(record=True) as told:
+        warnings.simplefilter("always")
+        del connection
+        gc.collect()
+    warned = [it for it in told if it.category is ResourceWarning]
+    return len(warned) == 1 and not handle.at and other.fileno() == -1 and asked.outcome == bolt.LOST

@@ -1,0 +1,54 @@
+"""A proxy that cuts a connection after so many bytes, and what a client's word of a commit is held to."""
+import contextlib
+import socket
+import threading
+
+MANY = 1 << 40  # more bytes than pass
+
+
+class Proxy:
+    """Passes one connection on, and cuts it once it passed so many bytes of the server, or of the client, counted from `arm` on."""
+
+    def __init__(self, port, told=MANY, asked=MANY):
+        self.left, self.passed = {"told": told, "asked": asked}, {"told": 0, "asked": 0}
+        self.armed, self.listener = False, socket.create_server(("127.0.0.1", 0))
+        self.listener.settimeout(60)
+        self.port = self.listener.getsockname()[1]
+        self.over = threading.Thread(target=self.serve, args=(port,), daemon=True)
+        self.over.start()
+
+    def arm(self):
+        self.armed = True
+
+    def end(self):
+        """Waits for the end of the connection; none comes any more."""
+        with contextlib.suppress(OSError):
+            self.listener.shutdown(socket.SHUT_RDWR)
+        self.over.join()
+
+    def serve(self, port):
+        with self.listener, contextlib.suppress(OSError):
+            client, _ = self.listener.accept()
+            self.listener.close()
+            with client, socket.create_connection(("127.0.0.1", port)) as server:
+                for it in (client, server):
+                    it.setsockopt(socket.IPPROTO_TCP, socket.TCP_NODELAY, 1)
+                ends = [threading.Thread(target=self.move, args=it) for it in (("told", server, client), ("asked", client, server))]
+                for end in ends:
+                    end.start()
+                for end in ends:
+                    end.join()
+
+    def move(self, way, source, sink):
+        with contextlib.suppress(OSError):
+            while piece := source.recv(65536):
+                if self.armed:
+                    piece = piece[:self.left[way]]
+                    self.left[way] -= len(piece)
+                    self.passed[way] += len(piece)
+                sink.sendall(piece)
+                if self.armed and self.left[way] == 0:
+                    break
+        for it in (source, sink):
+            with contextlib.suppress(OSError):
+                it.shutdown(socket.SHUT_RDWR)
