@@ -1,6 +1,7 @@
 """What python/bolt.py does where a call of it is broken off or can't be: rows that `bench/languages` tries, each against a server of its own."""
 import contextlib
 import gc
+import os
 import pickle
 import socket
 import struct
@@ -37,10 +38,20 @@ def code_of(call):
 
 # Works, each of which puts a key, and answers what was asked.
 
-def by_steps(connection, key):
+def in_steps(connection, key):
     connection.begin()
     connection.run("PUT", {"key": key, "value": 1})
+
+
+def by_steps(connection, key):
+    in_steps(connection, key)
     return [bolt.Request("COMMIT", connection.commit())]
+
+
+def ask_all(connection, key, text="PUT"):
+    connection.ask_begin()
+    connection.ask_run(text, {"key": key, "value": 1})
+    connection.ask_commit()
 
 
 def in_one(connection, key):
@@ -53,42 +64,45 @@ def alone(connection, key):
     return connection.settle()
 
 
-def ask_all(connection, key, text="PUT"):
-    connection.ask_begin()
-    connection.ask_run(text, {"key": key, "value": 1})
-    connection.ask_commit()
+# What goes before an interrupt.
 
+def nothing(connection, key):
+    pass
 
-# Works that don't end well.
 
 def refused(connection, key):
-    """A request is refused, and a RESET goes behind."""
+    """A request will be refused, and a RESET goes behind."""
     ask_all(connection, key, "NOPE")
-    connection.settle()
 
 
 def deaf(connection, key):
-    """All goes out, and no answer comes."""
+    """All will go out, and no answer comes."""
     ask_all(connection, key)
     connection._socket.shutdown(socket.SHUT_RD)
-    connection.settle()
 
 
 def mute(connection, key):
-    """Nothing goes out."""
+    """Nothing will go out."""
     ask_all(connection, key)
     connection._socket.shutdown(socket.SHUT_WR)
-    connection.settle()
 
 
 def late(connection, key):
     """The time is over before it begins."""
     ask_all(connection, key)
     connection.timeout = 0
+
+
+def settle(connection, _):
     connection.settle()
 
 
-WORKS = by_steps, in_one, alone, refused, deaf, mute, late
+def commit(connection, _):
+    connection.commit()
+
+
+# What goes before, and in which an interrupt comes.
+INTERRUPTED = ((nothing, in_one), (nothing, alone), (in_steps, commit), (refused, settle), (deaf, settle), (mute, settle), (late, settle))
 
 
 class Interrupt(Exception):
@@ -118,10 +132,11 @@ class Interrupted:
         return self
 
 
-def interrupted(port, work, key, number):
+def interrupted(port, before, work, key, number):
     """What became of what was asked, where an interrupt comes at a line of a work by number: None where the work has fewer lines."""
     interrupt = Interrupted(number)
     with bolt.Connection("127.0.0.1", port, USER) as connection:
+        before(connection, key)
         with contextlib.suppress(*INTERRUPTS, bolt.Error):
             sys.settrace(interrupt)
             try:
@@ -129,6 +144,7 @@ def interrupted(port, work, key, number):
             finally:
                 sys.settrace(None)
         requests, told = list(connection.requests), [it.outcome for it in connection.requests]
+        connection.timeout = 10
         # It goes on, or something is to be settled, or it has ended.
         is_defined = code_of(lambda: connection.run("ONE")) in (0, bolt.NOT_ALLOWED, bolt.CLOSED)
     stays = all(it.outcome in bolt.OUTCOMES and before in (None, it.outcome) for it, before in zip(requests, told))
@@ -136,20 +152,20 @@ def interrupted(port, work, key, number):
     return (outcome, is_defined and stays) if interrupt.is_over else None
 
 
-def interrupts(port, work):
+def interrupts(port, before, work):
     """Whether an interrupt at each line of a work leaves a defined state, and each request with a true outcome; and how many lines there are."""
     told, number = {}, 1
-    while (held := interrupted(port, work, f"{work.__name__}{number:04}", number)) is not None:
-        told[f"{work.__name__}{number:04}"] = held
+    while (held := interrupted(port, before, work, f"line{number}", number)) is not None:
+        told[f"line{number}"] = held
         number += 1
     wrong = [key for key, (outcome, is_defined) in told.items() if not is_defined]
     with bolt.Connection("127.0.0.1", port, USER) as connection:
         for key, (outcome, _) in told.items():
             is_there = connection.run("GET", {"key": key}, write=False) == [[1]]
-            wrong += [] if is_right(outcome, is_there) or work is refused and not is_there else [f"{key} {outcome} {is_there}"]
+            wrong += [] if is_right(outcome, is_there) or before is refused and not is_there else [f"{key} {outcome} {is_there}"]
     if wrong:
-        print(f"interrupts of {work.__name__}, of {number - 1} lines: {wrong[:9]}")
-    return not wrong and number > 100, number - 1
+        print(f"interrupts of {work.__name__} behind {before.__name__}, of {number - 1} lines: {wrong[:9]}")
+    return not wrong and number > 50, number - 1
 
 
 # Ends of a server: what it sends when it has heard something, and then; what it sends again and again, whether it closes, resets or waits; and what
@@ -174,7 +190,7 @@ ENDS = (
 
 
 def ending(listener, said, again, how):
-    """Answers one connection so; what it sends again it sends for three seconds."""
+    """Answers one connection so; what it sends again it sends for six seconds."""
     peer, _ = listener.accept()
     with peer, contextlib.suppress(OSError):
         peer.recv(20, socket.MSG_WAITALL)
@@ -182,7 +198,7 @@ def ending(listener, said, again, how):
             peer.sendall(piece)
             if place < len(said) - 1:
                 peer.recv(4096)
-        over = time.monotonic() + 3
+        over = time.monotonic() + 6
         while again and time.monotonic() < over:
             peer.sendall(again)
             time.sleep(0.02)
@@ -203,7 +219,7 @@ def ends(_):
             why = raised(lambda: bolt.Connection("127.0.0.1", listener.getsockname()[1], USER, timeout=0.4))
             took = time.monotonic() - began
             server.join()
-        if not (isinstance(why, bolt.Broken) and str(why) == text and text.endswith(f"({why.why})") and took < 2):
+        if not (isinstance(why, bolt.Broken) and str(why) == text and text.endswith(f"({why.why})") and took < 4):
             wrong.append(f"{why!r} for {text}, after {took:.1f} s")
         elif type(why.__cause__) is not (type(None) if cause is None else cause):
             wrong.append(f"{text}: its cause is {why.__cause__!r}")
@@ -239,13 +255,13 @@ def nested(depth):
 
 NONE = "no request of this version"
 ECHOED = (
-    (bolt.Node(1, "A", {}, "n"), "S3 at 1"), (bolt.Node("1", ["A"], {}, "n"), "S3 at 1"), (bolt.Date(None), "S3 at 1"),
-    (bolt.Time(86_400_000_000_000, 0), "S4 at 1"), (bolt.Point2D(7203, 1, 2), "S3 at 1"), (bolt.ZonedLocal(7, 8, "UTC"), "S6 at 1"),
-    ([1, bolt.Path([], [], [])], "S5 at 3"), (nested(31), "P6 at 40"),
+    (bolt.Node(1, "A", {}, "n"), "S3 at 0"), (bolt.Node("1", ["A"], {}, "n"), "S3 at 0"), (bolt.Date(None), "S3 at 0"),
+    (bolt.Time(86_400_000_000_000, 0), "S4 at 0"), (bolt.Point2D(7203, 1, 2), "S3 at 0"), (bolt.ZonedLocal(7, 8, "UTC"), "S6 at 0"),
+    ([bolt.Date(1), bolt.Path([], [], [])], "S5 at 1"), (nested(31), "P6 at 40"),
 )
 MISTAKEN = (
     *((51, lambda c, it=it: c.ask_run("ECHO", {"x": it}), f"{NONE}: {rule}") for it, rule in ECHOED),
-    (44, lambda c: c.ask_run("ECHO", {"x": bolt.ZonedUtc(7, 8, "UTC")}), f"{NONE}: S6 at 1"),
+    (44, lambda c: c.ask_run("ECHO", {"x": bolt.ZonedUtc(7, 8, "UTC")}), f"{NONE}: S6 at 0"),
     *((51, lambda c, it=it: c.ask_run(*it), f"{NONE}: M4") for it in ((None,), (5,), ("ONE", [1]), ("ONE", "x"), ("ONE", []))),
     *((51, lambda c, it=it: c.ask_begin(token=it), f"{NONE}: M5") for it in (5, "", "x" * 65)),
     (51, lambda c: c.ask("NONE", 0x7E), f"{NONE}: M3"),
@@ -305,8 +321,8 @@ def crosses_processes(values):
     for error in errors:
         there = pickle.loads(pickle.dumps(error))
         held.append(isinstance(error, bolt.Error) and (type(there), str(there), vars(there)) == (type(error), str(error), vars(error)))
-    environment = {"PYTHONPATH": bolt.os.path.dirname(bolt.__file__), "BOLT_SO": bolt.os.environ["BOLT_SO"]}
-    pool = subprocess.run([sys.executable, "-c", POOL], env=environment, stdout=subprocess.PIPE, stderr=subprocess.DEVNULL, text=True, timeout=60)
+    environment = {**os.environ, "PYTHONPATH": os.path.dirname(bolt.__file__)}
+    pool = subprocess.run([sys.executable, "-B", "-c", POOL], env=environment, stdout=subprocess.PIPE, stderr=subprocess.DEVNULL, text=True, timeout=60)
     wanted = "Broken([Request(text='COMMIT', outcome='UNKNOWN', metadata={}, rows=[])], 'the server closed the connection')\nDate(days=1)\n"
     return all(held) and pool.stdout == wanted, len(held)
 

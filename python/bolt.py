@@ -58,7 +58,7 @@ class Error(Exception):
 
 class Fault(Error):
     """A call was refused, and nothing has changed. `code` is that of bolt.h; `rule` is that of the message which was broken, as `M5`, and
-    `place` where: the byte of the message (P1 to P9) or the number of the value in its field (S1 to S6), None for a rule without a place."""
+    `place` where: the byte of the message (P1 to P9) or the number of the structure in its field (S1 to S6), from 0; None for a rule without a place."""
 
     def __init__(self, code, rule="", place=None, hint=""):
         super().__init__(code, rule, place, hint)
@@ -407,7 +407,10 @@ class Connection:
     def ask(self, text, tag, *fields):
         """Submits a request, by its tag and its fields, and answers it: it goes out when it is settled, and not before. `text` is what it is called
         where it is told of."""
-        return self._submit(text, pack_structure(tag, fields, self.version))
+        return self._submit(*self._packed(text, tag, *fields))
+
+    def _packed(self, text, tag, *fields):
+        return text, pack_structure(tag, fields, self.version)
 
     @ends
     def _submit(self, text, message):
@@ -440,8 +443,11 @@ class Connection:
 
     def ask_run(self, text, parameters=None, write=True, token=None):
         """A RUN and a PULL of all its rows, both or neither: the latter, which has the rows and the outcome."""
-        fields = text, {} if parameters is None else parameters, extra(write, token)
-        return self._submit_both(text, pack_structure(0x10, fields, self.version), pack_structure(0x3F, ({"n": -1},), self.version))
+        return self._submit_both(*self._run(text, parameters, write, token))
+
+    def _run(self, text, parameters, write, token):
+        run = pack_structure(0x10, (text, {} if parameters is None else parameters, extra(write, token)), self.version)
+        return text, run, pack_structure(0x3F, ({"n": -1},), self.version)
 
     def ask_commit(self):
         return self.ask("COMMIT", 0x12)
@@ -575,32 +581,33 @@ class Connection:
         while self._state().awaits:
             self._exchange()
 
-    def _at_once(self, ask, *words):
-        """Asks for one thing and settles it. Refused where something else was asked and isn't settled, which would go out with it."""
+    @ends
+    def _at_once(self, submit, *packed):
+        """Submits what is packed and settles it. Refused where something else was asked and isn't settled, which would go out with it."""
         if any(it.outcome is None for it in self.requests):
             raise Fault(NOT_ALLOWED, hint="what was asked before isn't settled")
-        request = ask(*words)
+        request = submit(*packed)
         self.settle()
         return request
 
     def run(self, text, parameters=None, write=True, token=None):
         """The rows. Outside a transaction they are committed with the last of them, under the token if there is one."""
-        return self._at_once(self.ask_run, text, parameters, write, token).rows
+        return self._at_once(self._submit_both, *self._run(text, parameters, write, token)).rows
 
     def begin(self, write=True, token=None):
         """Begins a transaction: to write unless `write` is False, under the token if there is one."""
-        self._at_once(self.ask_begin, write, token)
+        self._at_once(self._submit, *self._packed("BEGIN", 0x11, extra(write, token)))
 
     def commit(self):
         """COMMITTED, once it is; any other end is raised."""
-        return self._at_once(self.ask_commit).outcome
+        return self._at_once(self._submit, *self._packed("COMMIT", 0x12)).outcome
 
     def rollback(self):
-        self._at_once(self.ask_rollback)
+        self._at_once(self._submit, *self._packed("ROLLBACK", 0x13))
 
     def reset(self):
         """Ends whatever is open in the session: a result, and a transaction, which is dropped."""
-        self._at_once(self.ask_reset)
+        self._at_once(self._submit, *self._packed("RESET", 0x0F))
 
     def close(self):
         """Says goodbye where nothing waits, and frees the client. What was asked and isn't settled isn't sent any more. A second close does nothing."""
@@ -608,8 +615,8 @@ class Connection:
             self._bound()
             state = self._state() if self._socket and self._handle.at else None
             if state and not state.has_ended and not state.pending:
-                goodbye = pack_structure(0x02, (), self.version)
-                self._check(LIBRARY.bolt_submit(self._handle, goodbye, len(goodbye), Submitted()))
+                _, message = self._packed("GOODBYE", 0x02)
+                self._check(LIBRARY.bolt_submit(self._handle, message, len(message), Submitted()))
                 self._send()
         except (Fault, Broken):
             pass
