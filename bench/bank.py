@@ -139,7 +139,8 @@ class Bank:
         held = all([self.has(*it) for it in self.accounts.items()])
         _, after = self.alone("ONE", {}, False)
         if not held or after - before != rounds + self.entries:
-            raise AssertionError(f"{rounds} transfers and {self.entries} other requests made {after - before} entries, the balances {'are' if held else 'are not'} right")
+            right = "are" if held else "are not"
+            raise AssertionError(f"{rounds} transfers and {self.entries} other requests made {after - before} entries, the balances {right} right")
 
 
 def main(port, rounds, seed):

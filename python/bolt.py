@@ -393,7 +393,10 @@ class Connection:
     def __del__(self):
         if self._handle and self._handle.at:
             warnings.warn("a Connection was dropped that wasn't closed", ResourceWarning, source=self)
-            self._free()
+            try:
+                self._end(CLOSED_HERE)
+            finally:
+                LIBRARY.bolt_close(self._handle)
 
     def _check(self, code):
         if code:
@@ -527,9 +530,10 @@ class Connection:
 
     def _end(self, why):
         """Nothing is heard any more: what became of each request is known. What is told stays, so that this may be broken off and done again."""
-        self._why = self._why or why
-        state = Standing()
-        if self._handle.at and not LIBRARY.bolt_state(self._handle, state) and (state.pending or not state.has_ended):
+        if not self._handle.at:
+            return
+        self._why, state = self._why or why, self._state()
+        if state.pending or not state.has_ended:
             LIBRARY.bolt_lost(self._handle, self._losses, LOSSES, self._lost)
         for told in ([self._heard] if self._heard.kind == SUMMARY else []) + self._losses[:self._lost.value]:
             place = told.ordinal - self._first
@@ -621,8 +625,6 @@ class Connection:
         except (Fault, Broken):
             pass
         finally:
-            self._free()
-
-    def _free(self):
-        self._end(CLOSED_HERE)
-        LIBRARY.bolt_close(self._handle)
+            self._end(CLOSED_HERE)
+            # (not where that is broken off: then a second close tells what became of each request)
+            LIBRARY.bolt_close(self._handle)
