@@ -344,8 +344,8 @@ class Connection:
             raise ValueError("auth is the scheme, the principal and the credentials")
         if type(versions) is not int or versions not in VERSIONS:
             raise ValueError("versions is NEWEST, V4_4, V5_0 or V5_1")
-        self._check(LIBRARY.bolt_open(self._handle, versions))
         try:
+            self._check(LIBRARY.bolt_open(self._handle, versions))
             self._bound()
             self._socket = self._connected(host, port)
             self._socket.setsockopt(socket.IPPROTO_TCP, socket.TCP_NODELAY, 1)
