@@ -5,8 +5,6 @@
 #[cfg(test)]
 mod loss_tests;
 #[cfg(test)]
-mod report;
-#[cfg(test)]
 mod stranger_tests;
 #[cfg(test)]
 mod stream_tests;

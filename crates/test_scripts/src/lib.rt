@@ -9,8 +9,6 @@ mod pieces;
 #[cfg(test)]
 mod programs_tests;
 #[cfg(test)]
-mod replays_cases;
-#[cfg(test)]
 mod replays_tests;
 #[cfg(test)]
 mod scripts_tests;

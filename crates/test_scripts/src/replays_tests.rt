@@ -1,34 +1,6 @@
 use crate::pieces::Pieces;
-use crate::replays_cases::{READY, ROWS};
 use replays::replay;
 use std::test::*;
-use streams::Slice;
-
-#[test]
-fn scripts_tell(rt: HostRuntime) -> Result<(), Fail> {
-    for (script, out) in ROWS {
-        let script = script.concat(rt.alloc())?;
-        let said = replay(rt.alloc(), &mut Slice::new(script.as_bytes()))?;
-        assert_eq!(rt; said.out, out.concat(rt.alloc())?);
-        assert_eq!(rt; said.err.as_str(), "");
-        assert_eq!(rt; said.status, 0);
-    }
-    Ok(())
-}
-
-#[test]
-fn runs_many_lines(rt: HostRuntime) -> Result<(), Fail> {
-    let lines = "work 0 all\nsubmit 0 commit\n".repeat(rt.alloc(), 5000)?;
-    let script = [READY, lines.as_str()].concat(rt.alloc())?;
-    let said = replay(rt.alloc(), &mut Slice::new(script.as_bytes()))?;
-    assert!(rt; said.out.as_str().starts_with("line 10 C1\nline 12 C1\n"));
-    assert!(rt;
-        said.out.as_str().ends_with(
-            "line 10008 C1\nconn 0\nheard 0 Done Unauth\nheard 1 Done Ready\nserver Ready\n"
-        )
-    );
-    Ok(())
-}
 
 /// Of an unreadable script and of a source that breaks nothing is run.
 #[test]
