@@ -2,7 +2,6 @@
 use Rattle.std.proofs.Common.{[], ◌∷◌, refl, lit<, None}
 use Rattle.std.proofs.raw_atomic.Walks.{proved, leaves}
 use base.Logic.{emp}
-use contract.Running.{tables}
 use types.Kit.{‵, raw, ◌$◌, ◌∵◌, !, qed, done, drop, use1, suffices, frame}
 use types.Run.{enter, lit, no_more, and_then, returns}
 use types.ByLocal.{alloc_all, pass_all, free_all, look_at, sets}
@@ -12,7 +11,6 @@ use denote.Steps.{nothing}
 use denote.Triple.Entry.{on_entry}
 use denote.Triple.Walked.{says}
 use Rattle.bolt_c.proofs.Words.{word, handed}
-use Rattle.bolt_c.specs.Owning.{lies}
 use Rattle.bolt_c.specs.contracts.handle.Handle as Handle
 use Rattle.bolt_c.specs.contracts.handle.Handle.null as f
 use Rattle.bolt_c.proofs.handle.Handle.null.Statement.{statement}

@@ -1,5 +1,5 @@
 -- At null there is none; elsewhere the handle's client is a place's.
-use Rattle.std.proofs.Common.{◌≡◌, ℕ, ◌<◌, ◌^◌, zero, List, [], ◌∷◌, refl, sym, subst, Option, None, Some, lit<}
+use Rattle.std.proofs.Common.{◌≡◌, ℕ, ◌<◌, ◌^◌, zero, [], ◌∷◌, refl, sym, subst, Option, None, Some, lit<}
 use Rattle.std.proofs.raw_atomic.Walks.{proved, leaves}
 use seplogic.Ra.Ura.{Ura}
 use base.Logic.{SProp, ent, emp, never_e, snd∗, via}

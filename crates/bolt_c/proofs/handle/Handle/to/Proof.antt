@@ -11,11 +11,9 @@ use denote.Exit.{yes}
 use denote.RawPtr.{rawptr_Lawful}
 use denote.Signature.{Slot, plain}
 use denote.Steps.{nothing}
-use denote.Struct.Owning.{shape}
-use denote.Struct.Struct.{Struct-Lawful}
 use denote.Triple.Walked.{Stays, says, stay_dropped, Goes-dropped}
 use Rattle.bolt_c.proofs.Words.{word, fits, place_told, handed, lodged}
-use Rattle.bolt_c.specs.Owning.{on_heap, lies}
+use Rattle.bolt_c.specs.Owning.{lies}
 use Rattle.bolt_c.specs.contracts.held.Held as Held
 use Rattle.bolt_c.specs.contracts.handle.Handle as Handle
 use Rattle.bolt_c.specs.contracts.handle.Place as Place

@@ -7,17 +7,17 @@ use base.Fml.{ftrue, fsep, flft}
 use contract.Monad.{fact, fact_i}
 use contract.BorrowLft.{◌⊑◌, ⊑_static}
 use mir.MapTy.{inst_fn}
-use mir.Syntax.{Fn, Args, Dict, a_type, dcons, dnil, impl, tcons, tnil}
+use mir.Syntax.{Fn, Args, a_type, dcons, dnil}
 use types.Kit.{‵, raw, some, later, at_ret, ◌⊛◌, ◌$◌, ◌∵◌, !, qed, done, keep, move, use0, use1, split, join, drop, pick, feq_i, await, fsplit, fjoin, suffices, frame}
 use types.Run.{enter, of_opd, stop, fld, no_more, and_then, first, blocks, exec, returns}
 use types.ByLocal.{alloc_all, pass_all, free_all, look_at, get, get_in, sets, lands_last, env}
 use types.Part.{sub, whole}
 use types.Tokens.{lft_new}
 use denote.Exit.{no, yes}
-use denote.Param.{bounded, layout, param}
+use denote.Param.{bounded, param}
 use denote.RawPtr.{ptr_val, rawptr_Lawful}
-use denote.Signature.{Slot, plain, types_at}
-use denote.RattleType.{RattleType, owns}
+use denote.Signature.{Slot, plain}
+use denote.RattleType.{RattleType}
 use denote.Steps.{nothing, heard, peeks}
 use denote.Laws.{Is, shows}
 use Rattle.core.proofs.alloc.Shapes.{after}

@@ -1,5 +1,5 @@
 -- The library gives the place of what the box owned.
-use Rattle.std.proofs.Common.{◌≡◌, List, [], ◌∷◌, refl, ap}
+use Rattle.std.proofs.Common.{[], ◌∷◌, refl, ap}
 use Rattle.std.proofs.raw_atomic.Walks.{proved, leaves}
 use base.Fraction.{full_share}
 use base.Logic.{emp, id⊢}
@@ -7,17 +7,17 @@ use base.Fml.{ftrue, fsep, flft}
 use contract.Monad.{fact, fact_i}
 use contract.BorrowLft.{◌⊑◌, ⊑_static}
 use mir.MapTy.{inst_fn}
-use mir.Syntax.{Fn, Args, Dict, a_type, dcons, dnil, impl, tcons, tnil}
-use types.Kit.{‵, raw, some, later, ◌⊛◌, ◌$◌, ◌∵◌, !, qed, done, keep, move, use0, use1, split, join, drop, pick, feq_l, await, fsplit, fjoin, suffices, frame}
-use types.Run.{enter, of_opd, stop, fld, no_more, and_then, returns}
-use types.ByLocal.{alloc_all, pass_all, free_all, look_at, get, get_in, sets, lands_as}
-use types.Part.{agg, sub, whole}
+use mir.Syntax.{Fn, Args, a_type, dcons, dnil}
+use types.Kit.{‵, raw, some, later, ◌⊛◌, ◌$◌, ◌∵◌, !, qed, done, keep, move, use0, use1, split, join, drop, pick, feq_l, await, fjoin, suffices, frame}
+use types.Run.{enter, of_opd, no_more, and_then, returns}
+use types.ByLocal.{alloc_all, pass_all, free_all, look_at, get, sets, lands_as}
+use types.Part.{agg}
 use types.Tokens.{lft_new}
 use denote.Exit.{no}
-use denote.Param.{bounded, layout, param}
+use denote.Param.{bounded, param}
 use denote.RawPtr.{Ptr, RawPtr, rawptr_Lawful}
-use denote.Signature.{Slot, plain, types_at}
-use denote.RattleType.{RattleType, owns}
+use denote.Signature.{Slot, plain}
+use denote.RattleType.{RattleType}
 use denote.Steps.{nothing, only}
 use denote.Triple.Call.{calls_at}
 use denote.Triple.Spec.{triple_of}
@@ -28,7 +28,6 @@ use Rattle.core.proofs.alloc.Calls.{Goes-blank}
 use Rattle.std.proofs.impls.GlobalAllocator.TheImpl.Met as heap_met
 use Rattle.std.specs.contracts.impls.GlobalAllocator.TheImpl.{ghosts, dict}
 use Rattle.std.specs.contracts.alloc.Global as heap
-use Rattle.std.proofs.alloc.Global.TheLaws as heap_laws
 use Rattle.std_alloc.specs.contracts.boxed.Box.into_raw as callee
 use Rattle.std_alloc.proofs.boxed.Box.into_raw.Met.{met}
 use Rattle.bolt_c.proofs.Heap.{Heap, Heap_laws, let_go, goes}
