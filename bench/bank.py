@@ -59,6 +59,8 @@ class Bank:
         self.accounts = {f"account {number}": [1000, -1] for number in range(ACCOUNTS)}
         self.entries, self.told, self.spans = 0, collections.Counter(), [0.01, 0.01]
         signal.signal(signal.SIGALRM, self.ring)
+        # (Python drops an interrupt that comes while it frees something)
+        sys.unraisablehook = lambda _: None
 
     def ring(self, *_):
         raise self.kinds.choice(INTERRUPTS)

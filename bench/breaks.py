@@ -117,7 +117,7 @@ class Interrupted:
     """Traces the lines of the module, and raises an interrupt at that of a number."""
 
     def __init__(self, number):
-        self.number, self.passed, self.seen, self.is_over = number, 0, set(), False
+        self.number, self.passed, self.seen, self.raised = number, 0, set(), None
 
     def __call__(self, frame, event, _):
         if frame.f_code.co_filename != bolt.__file__ or frame.f_code.co_name == "__del__":
@@ -127,8 +127,8 @@ class Interrupted:
             self.seen.add(line)
             self.passed += 1
             if self.passed == self.number:
-                self.is_over = True
-                raise INTERRUPTS[self.number % len(INTERRUPTS)]
+                self.raised = INTERRUPTS[self.number % len(INTERRUPTS)]()
+                raise self.raised
         return self
 
 
@@ -137,23 +137,26 @@ def interrupted(port, before, work, key, number):
     interrupt = Interrupted(number)
     with bolt.Connection("127.0.0.1", port, USER) as connection:
         before(connection, key)
-        with contextlib.suppress(*INTERRUPTS, bolt.Error):
-            sys.settrace(interrupt)
-            try:
-                work(connection, key)
-            finally:
-                sys.settrace(None)
+        came = None
+        sys.settrace(interrupt)
+        try:
+            work(connection, key)
+        except (*INTERRUPTS, bolt.Error) as why:
+            came = why
+        finally:
+            sys.settrace(None)
         requests, told = list(connection.requests), [it.outcome for it in connection.requests]
         connection.timeout = 10
         # It goes on, or something is to be settled, or it has ended.
         is_defined = code_of(lambda: connection.run("ONE")) in (0, bolt.NOT_ALLOWED, bolt.CLOSED)
     stays = all(it.outcome in bolt.OUTCOMES and before in (None, it.outcome) for it, before in zip(requests, told))
     outcome = {it.text: it.outcome for it in requests}.get("PULL of PUT" if work is alone else "COMMIT")
-    return (outcome, is_defined and stays) if interrupt.is_over else None
+    return (outcome, is_defined and stays and came is interrupt.raised) if interrupt.raised else None
 
 
 def interrupts(port, before, work):
-    """Whether an interrupt at each line of a work leaves a defined state, and each request with a true outcome; and how many lines there are."""
+    """Whether an interrupt at each line of a work is raised, and leaves a defined state, and each request with a true outcome; and how many lines
+    there are."""
     told, number = {}, 1
     while (held := interrupted(port, before, work, f"line{number}", number)) is not None:
         told[f"line{number}"] = held
@@ -336,5 +339,6 @@ def frees(port):
         warnings.simplefilter("always")
         del connection
         gc.collect()
-    warned = [it for it in told if it.category is ResourceWarning]
+    # (others may be dropped meanwhile; a warning holds what it is about)
+    warned = [it for it in told if it.category is ResourceWarning and getattr(it.source, "_handle", None) is handle]
     return len(warned) == 1 and not handle.at and other.fileno() == -1 and asked.outcome == bolt.LOST

@@ -312,6 +312,13 @@ def reason(failed):
     return TIMED_OUT if isinstance(failed, TimeoutError) else FAILED
 
 
+def own(failed):
+    """The error of a socket's call, without its frames. One that a signal handler raised while the call ran has the handler's frames, and is raised."""
+    if failed.__traceback__.tb_next:
+        raise failed
+    return failed.with_traceback(None)
+
+
 def ends(call):
     """A call that ends the client where it is broken off, as by an interrupt: bytes are gone then, and no answer may be taken for another's."""
     @functools.wraps(call)
@@ -347,7 +354,7 @@ class Connection:
         try:
             self._check(LIBRARY.bolt_open(self._handle, versions))
             self._bound()
-            self._socket = self._connected(host, port)
+            self._connect(host, port)
             self._socket.setsockopt(socket.IPPROTO_TCP, socket.TCP_NODELAY, 1)
             self._log_in(agent, dict(zip(("scheme", "principal", "credentials"), auth)))
         except BaseException:
@@ -360,19 +367,23 @@ class Connection:
 
     def _left(self):
         """The seconds that are left for the call, None where it has no end."""
-        left = None if self._until is None else self._until - time.monotonic()
-        if left is not None and left <= 0:
-            raise TimeoutError(TIMED_OUT)
-        return left
+        return None if self._until is None else max(0, self._until - time.monotonic())
 
-    def _connected(self, host, port):
-        """A socket to the first address of the host that takes one."""
+    def _connect(self, host, port):
+        """Connects to the first address of the host that takes it."""
         failed = OSError("the host has no address")
-        for *_, address in socket.getaddrinfo(host, port, type=socket.SOCK_STREAM):
+        for *kind, _, address in socket.getaddrinfo(host, port, type=socket.SOCK_STREAM):
             try:
-                return socket.create_connection(address[:2], self._left())
+                if (left := self._left()) == 0:
+                    raise TimeoutError(TIMED_OUT)
+                self._socket = socket.socket(*kind)
+                self._socket.settimeout(left)
+                self._socket.connect(address)
+                return
             except OSError as why:
                 failed = why.with_traceback(None)
+                if self._socket:
+                    self._socket.close()
         raise failed
 
     def _log_in(self, agent, login):
@@ -469,30 +480,33 @@ class Connection:
 
     def _send(self):
         """Sends what waits. Where the server takes no more, what it has said may still be heard."""
-        count = ctypes.c_size_t(1)
-        while count.value and not self._cut:
+        count = ctypes.c_size_t()
+        while not self._cut:
             self._moved(LIBRARY.bolt_take(self._handle, self._buffer, MESSAGE, count))
+            if not count.value:
+                return
             try:
-                if count.value:
-                    self._socket.settimeout(self._left())
-                    self._went = True
-                    self._socket.sendall(ctypes.string_at(self._buffer, count.value))
+                if (left := self._left()) == 0:
+                    raise TimeoutError(TIMED_OUT)
+                self._socket.settimeout(left)
+                self._went = True
+                self._socket.sendall(ctypes.string_at(self._buffer, count.value))
             except OSError as why:
-                self._cut = why.with_traceback(None)
+                self._cut = own(why)
 
     def _receive(self):
         """The next bytes of the server, none where no more come. Once the call's time has passed, or a send took it up, what is there already is
         still heard, in one piece, and nothing else."""
         try:
-            late = isinstance(self._cut, TimeoutError) or self._until is not None and time.monotonic() >= self._until
-            if late and self._is_late:
+            left = 0 if isinstance(self._cut, TimeoutError) else self._left()
+            if left == 0 and self._is_late:
                 raise TimeoutError(TIMED_OUT)
-            self._is_late = late
-            self._socket.settimeout(0 if late else self._left())
-            return self._socket.recv(LATE if late else MESSAGE)
+            self._is_late = left == 0
+            self._socket.settimeout(left)
+            return self._socket.recv(LATE if left == 0 else MESSAGE)
         except OSError as why:
-            why = TimeoutError(TIMED_OUT) if isinstance(why, BlockingIOError) else why
-            self._cut = self._cut or why.with_traceback(None)
+            failed = own(why)
+            self._cut = self._cut or (TimeoutError(TIMED_OUT) if isinstance(failed, BlockingIOError) else failed)
             return b""
 
     def _message(self):
@@ -561,8 +575,8 @@ class Connection:
     def _settle(self):
         while self._state().awaits:
             self._exchange()
-        if self._cut or self._state().has_ended:
-            self._end(reason(self._cut) if self._cut else ENDED)
+        if self._state().has_ended:
+            self._end(ENDED)
         requests = [] if self._settled else list(self.requests)
         refused = next((it for it in requests if it.outcome == REFUSED), None)
         if refused and not self._why and PHASES[self._state().phase] == "HALTED":
