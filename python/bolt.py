@@ -57,8 +57,8 @@ class Error(Exception):
 
 
 class Fault(Error):
-    """A call was refused, and nothing has changed. `code` is that of bolt.h; `rule` is that of the message which was broken, as `M5`, and
-    `place` where: the byte of the message (P1 to P9) or the number of the structure in its field (S1 to S6), from 0; None for a rule without a place."""
+    """A call was refused, and nothing has changed. `code` is that of bolt.h; `rule` is the one that the message breaks, as `M5`, and `place` where,
+    as bolt.h counts it: a byte of the message (P), a structure of the parameters (S); None for a rule without a place."""
 
     def __init__(self, code, rule="", place=None, hint=""):
         super().__init__(code, rule, place, hint)
