@@ -91,6 +91,12 @@ CHECKED = [
     ("4.4", "B346CB80000000000000000001", "refused S4 at 0", 1),
     ("4.4", "B350909090", "refused S5 at 0", 1),
     ("4.4", "B144C0", "refused S3 at 0", 1),
+    # An offset past 18 hours; the nanoseconds of a whole day; a path that tells of a relationship which it hasn't; a moment in a zone, of the older form.
+    ("4.4", "B25400CA0000FD21", "refused S4 at 0", 1),
+    ("4.4", "B254CB00004E94914F000000", "refused S4 at 0", 1),
+    ("4.4", "B35091B34E0190A090920100", "refused S5 at 0", 1),
+    ("5.1", "B366000083555443", "refused S6 at 0", 1),
+    ("5.0", "B366000083555443", "refused S6 at 0", 1),
 ]
 # A HELLO at 4.4, LOGON, a SUCCESS of RUN, a FAILURE, a RECORD of a path at 4.4 and at 5.1, which are no cells but spell values, and parameters; what `check` prints of
 # each. Of each front that isn't all of it the bytes stop short.

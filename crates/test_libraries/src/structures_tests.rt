@@ -207,84 +207,6 @@ fn times(rt: HostRuntime) -> Result<(), Fail> {
     Ok(())
 }
 
-/// Bytes that are refused, and the faults.
-const UNREAD: &[(Version, &[u8], CellFault)] = &[
-    (
-        Version::V51,
-        &[0xB1, 0x5A, 0x00],
-        CellFault::Refused(Reason::UnknownTag, 0),
-    ),
-    (
-        Version::V51,
-        OLD_NODE,
-        CellFault::Refused(Reason::FieldCount, 0),
-    ),
-    (
-        Version::V50,
-        OLD_NODE,
-        CellFault::Refused(Reason::FieldCount, 0),
-    ),
-    (
-        Version::V44,
-        &[0x92, 0xB1, 0x44, 0x00, 0xB2, 0x44, 0x00, 0x00],
-        CellFault::Refused(Reason::FieldCount, 1),
-    ),
-    (
-        Version::V44,
-        &[0xB3, 0x46, 0xCB, 0x80, 0, 0, 0, 0, 0, 0, 0, 0x00, 0x01],
-        CellFault::Refused(Reason::Range, 0),
-    ),
-    (
-        Version::V44,
-        &[0xB2, 0x54, 0x00, 0xCA, 0x00, 0x00, 0xFD, 0x21],
-        CellFault::Refused(Reason::Range, 0),
-    ),
-    (
-        Version::V44,
-        &[
-            0xB2, 0x54, 0xCB, 0x00, 0x00, 0x4E, 0x94, 0x91, 0x4F, 0x00, 0x00, 0x00,
-        ],
-        CellFault::Refused(Reason::Range, 0),
-    ),
-    (
-        Version::V51,
-        &[0xB4, 0x45, 0x00, 0x00, 0x00, 0xCA, 0x3B, 0x9A, 0xCA, 0x00],
-        CellFault::Refused(Reason::Range, 0),
-    ),
-    (
-        Version::V44,
-        &[0xB3, 0x50, 0x90, 0x90, 0x90],
-        CellFault::Refused(Reason::PathShape, 0),
-    ),
-    (
-        Version::V44,
-        &[
-            0xB3, 0x50, 0x91, 0xB3, 0x4E, 0x01, 0x90, 0xA0, 0x90, 0x92, 0x01, 0x00,
-        ],
-        CellFault::Refused(Reason::PathShape, 0),
-    ),
-    (
-        Version::V51,
-        OLD_MOMENT,
-        CellFault::Refused(Reason::NotInVersion, 0),
-    ),
-    (
-        Version::V51,
-        ZONED,
-        CellFault::Refused(Reason::NotInVersion, 0),
-    ),
-    (
-        Version::V50,
-        OLD_MOMENT,
-        CellFault::Refused(Reason::NotInVersion, 0),
-    ),
-    (
-        Version::V50,
-        ZONED,
-        CellFault::Refused(Reason::NotInVersion, 0),
-    ),
-];
-
 fn is_fault(told: &CellFault, wanted: &CellFault) -> bool {
     match (told, wanted) {
         (CellFault::Refused(why, at), CellFault::Refused(reason, number)) => {
@@ -293,30 +215,6 @@ fn is_fault(told: &CellFault, wanted: &CellFault) -> bool {
         (CellFault::Pack(why, at), CellFault::Pack(reason, place)) => why == reason && at == place,
         _ => false,
     }
-}
-
-fn is_unread(
-    alloc: Global,
-    version: Version,
-    input: &[u8],
-    wanted: &CellFault,
-) -> Result<bool, Fail> {
-    let packed = decode(alloc, input)?;
-    match read(alloc, version, &packed) {
-        Ok(_) => Ok(false),
-        Err(fault) => Ok(is_fault(&fault, wanted)),
-    }
-}
-
-#[test]
-fn unread(rt: HostRuntime) -> Result<(), Fail> {
-    for (version, input, fault) in UNREAD {
-        assert!(rt;
-            is_unread(rt.alloc(), *version, input, fault)?,
-            "at {input:?}"
-        );
-    }
-    Ok(())
 }
 
 /// Bytes of a cell at one version, and its fault at another.
