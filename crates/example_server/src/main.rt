@@ -5,7 +5,7 @@ use engine::{FixedTable, OneUser};
 use programs::{drain, serve_next};
 use server::Server;
 use std::io;
-use std::net::{Shutdown, TcpListener};
+use std::net::{Shutdown, TcpListener, TcpStream};
 use std::time::Duration;
 use streams::Over;
 
@@ -18,6 +18,14 @@ fn port_of(rt: &HostRuntime) -> io::Result<Option<u16>> {
     Ok(word.parse::<u16>().ok())
 }
 
+/// Has a peer given up that says nothing for long, or takes nothing of what it is sent.
+fn timed(stream: TcpStream) -> io::Result<TcpStream> {
+    let longest = Some(Duration::from_secs(10));
+    stream.set_read_timeout(longest)?;
+    stream.set_write_timeout(longest)?;
+    Ok(stream)
+}
+
 fn main(rt: HostRuntime) -> io::Result<()> {
     let alloc = rt.alloc();
     let Some(port) = port_of(&rt)? else {
@@ -28,9 +36,10 @@ fn main(rt: HostRuntime) -> io::Result<()> {
     let listener = TcpListener::bind(&rt, ("127.0.0.1", port))?;
     let mut out = Over::new(rt.stdout());
     for stream in listener.incoming() {
-        let stream = stream?;
-        // A peer that says nothing for long is given up.
-        stream.set_read_timeout(Some(Duration::from_secs(10)))?;
+        // A connection that fails before it begins is passed over.
+        let Ok(stream) = stream.and_then(timed) else {
+            continue;
+        };
         let (mut source, mut sink) = (Over::new(&stream), Over::new(&stream));
         let _cause = serve_next(alloc, &mut server, &mut source, &mut sink, &mut out);
         // A close with bytes unread would throw away what hasn't arrived.
