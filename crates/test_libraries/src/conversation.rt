@@ -231,31 +231,9 @@ fn fault_in(server: &Table, conn: u64) -> Option<(Reason, usize)> {
     }
 }
 
-/// Whether a step of this connection tells what it should.
-fn is_so(alloc: Global, server: &mut Table, conn: u64, step: &Step) -> Result<bool, Fail> {
-    Ok(match step {
-        Opens => server.open()? == conn,
-        OpensNone => server.open() == Err(Refused::SessionsFull),
-        Feed(bytes, used, what) => {
-            let took = server.feed(conn, bytes)?;
-            took.used == *used && took.what == *what
-        }
-        Bytes(bytes) => are_parts(server, conn, bytes),
-        Long(first, other, times, last, what) => {
-            let bytes = long(alloc, first, other, *times, last)?;
-            let took = server.feed(conn, &bytes)?;
-            took.used == bytes.len() && took.what == *what
-        }
-        Send(message, what) => {
-            let header = [0, (message.len() % 256) as u8];
-            feeds(server, conn, &[&header, message, &[0, 0]])?.what == *what
-        }
-        Work(told) => server.work(conn)? == *told,
-        WorkAll(told) => work_all(server, conn)? == *told,
-        Out(bytes) => server.take_out(conn, 1000000)?.as_slice() == *bytes,
-        Next(most, bytes) => server.take_out(conn, *most)?.as_slice() == *bytes,
-        Takes(most, count) => server.take_out(conn, *most)?.len() == *count,
-        Noop(put) => server.noop(conn)? == *put,
+/// Whether a step that moves no bytes of a message tells what it should.
+fn is_told(server: &mut Table, conn: u64, step: &Step) -> bool {
+    match step {
         Stands(state) => server.state(conn) == Some(*state),
         Ends(cause) => server.cause(conn) == *cause,
         Loses(cause) => server.lost(conn) == *cause,
@@ -263,7 +241,70 @@ fn is_so(alloc: Global, server: &mut Table, conn: u64, step: &Step) -> Result<bo
         Reads(reason, place) => fault_in(server, conn) == Some((*reason, *place)),
         NoReader => server.reader(conn).is_none(),
         Entries(count) => server.engine().ledger().len() == *count,
-    })
+        OpensNone => server.open() == Err(Refused::SessionsFull),
+        Opens => server.open() == Ok(conn),
+        Bytes(bytes) => are_parts(server, conn, bytes),
+        _ => false,
+    }
+}
+
+/// Whether so many of these bytes are used, and this is told of them.
+fn is_fed(server: &mut Table, conn: u64, bytes: &[u8], used: usize, what: &What) -> bool {
+    match server.feed(conn, bytes) {
+        Ok(took) => took.used == used && took.what == *what,
+        Err(_) => false,
+    }
+}
+
+/// Whether what is taken out is this.
+fn is_out(server: &mut Table, conn: u64, most: usize, bytes: &[u8]) -> bool {
+    match server.take_out(conn, most) {
+        Ok(out) => out.as_slice() == bytes,
+        Err(_) => false,
+    }
+}
+
+/// Whether the bytes, where there is memory for them, are used whole, and this is told of them.
+fn is_long(server: &mut Table, conn: u64, bytes: Result<Vec<u8>, AllocError>, what: &What) -> bool {
+    match bytes {
+        Ok(bytes) => is_fed(server, conn, &bytes, bytes.len(), what),
+        Err(_) => false,
+    }
+}
+
+/// Whether this is told of a message in one chunk.
+fn is_sent(server: &mut Table, conn: u64, message: &[u8], what: &What) -> bool {
+    let header = [0, (message.len() % 256) as u8];
+    match feeds(server, conn, &[&header, message, &[0, 0]]) {
+        Ok(took) => took.what == *what,
+        Err(_) => false,
+    }
+}
+
+/// Whether so many bytes are taken out.
+fn takes(server: &mut Table, conn: u64, most: usize, count: usize) -> bool {
+    match server.take_out(conn, most) {
+        Ok(out) => out.len() == count,
+        Err(_) => false,
+    }
+}
+
+/// Whether a step of this connection tells what it should.
+fn is_so(alloc: Global, server: &mut Table, conn: u64, step: &Step) -> bool {
+    match step {
+        Feed(bytes, used, what) => is_fed(server, conn, bytes, *used, what),
+        Long(first, other, times, last, what) => {
+            is_long(server, conn, long(alloc, first, other, *times, last), what)
+        }
+        Send(message, what) => is_sent(server, conn, message, what),
+        Work(told) => server.work(conn) == Ok(*told),
+        WorkAll(told) => work_all(server, conn) == Ok(*told),
+        Out(bytes) => is_out(server, conn, 1000000, bytes),
+        Next(most, bytes) => is_out(server, conn, *most, bytes),
+        Takes(most, count) => takes(server, conn, *most, *count),
+        Noop(put) => server.noop(conn) == Ok(*put),
+        _ => is_told(server, conn, step),
+    }
 }
 
 /// Steps of a connection of the conversation of this name.
@@ -277,7 +318,7 @@ pub fn converse(
 ) -> Result<(), Fail> {
     for (place, step) in steps.iter().enumerate() {
         assert!(rt;
-            is_so(alloc, server, conn, step)?,
+            is_so(alloc, server, conn, step),
             "{name}: {conn}, step {place}"
         );
     }
