@@ -1,65 +1,108 @@
 use crate::streams_of::{MANY, Trickle};
 use crate::world_scripts::{Asked, Given, PUT, request};
-use client::{Client, Heard, Outcome};
+use client::{Client, Heard, Outcome, SubmitFault};
 use engine::{Engine, FixedTable, OneUser};
-use messages::Response;
+use messages::{Request, Response};
 use server::Server;
 use std::alloc::Global;
+use std::process::Abort;
 use std::test::*;
-use streams::{Buffer, Sink, Source, ask_all};
+use streams::{Buffer, Sink, Source, Told, ask_all};
 use wire::{Version, Wish};
 
-/// What an attempt tells of a transaction under a token.
+/// What is known of a transaction under a token.
 #[derive(Clone, Copy, Debug, PartialEq, Eq)]
 enum Known {
     /// The writes stand exactly once, and no attempt adds them again, nor one that is still on its way.
     Stands,
     /// Other writes stand under the token: of an earlier attempt, which saw other data, or of whoever took the token first.
     Taken,
-    /// This attempt tells nothing of those before it.
+    /// It was refused for good, and nothing of it stands: not of this attempt, nor of any before it.
+    Refused,
+    /// Nothing yet: another attempt may tell.
     Open,
 }
 
-fn known_of(outcome: Outcome, response: &Response) -> Known {
-    match (outcome, response) {
-        (Outcome::Committed, _) => Known::Stands,
-        (Outcome::Refused, Response::Failure { code, .. })
-            if code.as_str() == "Neo.ClientError.Transaction.TokenClash" => { Known::Taken }
-        _ => Known::Open,
-    }
+/// What is known where the same requests are refused each time: nothing of them stands, unless an earlier attempt may have committed.
+fn refused_for_good(doubted: bool) -> Known {
+    if doubted { Known::Open } else { Known::Refused }
 }
 
-/// One attempt, over a connection of its own, of requests that end with a COMMIT.
-fn attempt(
-    alloc: Global,
-    asked: &[Asked],
-    source: &mut impl Source,
-    sink: &mut impl Sink,
-) -> Result<Known, Fail> {
-    let mut client = Client::new(alloc, Wish::Only(Version::V51))?;
-    let _version = ask_all(alloc, &mut client, source, sink);
-    let mut commit = 0;
-    for one in asked {
-        commit = client.submit(request(alloc, one)?)?;
+/// What a refusal by the server tells.
+fn refused(code: &str, doubted: bool) -> Known {
+    if code == "Neo.ClientError.Transaction.TokenClash" {
+        return Known::Taken;
     }
-    let told = ask_all(alloc, &mut client, source, sink);
+    if code.starts_with("Neo.ClientError.") {
+        return refused_for_good(doubted);
+    }
+    Known::Open
+}
+
+/// What an attempt tells, which sets `doubted` where it may have committed.
+fn known_of(told: &Told, doubted: &mut bool) -> Known {
     for heard in &told.heard {
         if let Heard::Summary {
-            ordinal,
             outcome,
             response,
             ..
         } = heard
         {
-            if *ordinal == commit {
-                return Ok(known_of(*outcome, response));
+            match (outcome, response) {
+                (Outcome::Committed, _) => return Known::Stands,
+                // The first that is refused: all behind it is ignored.
+                (Outcome::Refused, Response::Failure { code, .. }) => {
+                    return refused(code.as_str(), *doubted);
+                }
+                _ => {}
             }
+        }
+    }
+    for (_, outcome) in told.losses.as_slice() {
+        *doubted |= *outcome == Outcome::Unknown;
+    }
+    Known::Open
+}
+
+/// One attempt, over a connection of its own, of requests from HELLO to the one COMMIT.
+fn attempt(
+    alloc: Global,
+    asked: &[Request],
+    source: &mut impl Source,
+    sink: &mut impl Sink,
+    doubted: &mut bool,
+) -> Result<Known, Fail> {
+    let mut client = Client::new(alloc, Wish::Only(Version::V51))?;
+    let _version = ask_all(alloc, &mut client, source, sink);
+    for request in asked {
+        match client.submit(request.clone()?) {
+            Ok(_) => {}
+            // The connection ended before its version came, or no memory was left: nothing was sent.
+            Err(SubmitFault::Closed | SubmitFault::Memory) => return Ok(Known::Open),
+            Err(_) => return Ok(refused_for_good(*doubted)),
+        }
+    }
+    let told = ask_all(alloc, &mut client, source, sink);
+    Ok(known_of(&told, doubted))
+}
+
+/// One attempt after the other, each over the next of these connections, until one tells. `doubted` is false before the first.
+fn until_known(
+    alloc: Global,
+    asked: &[Request],
+    connections: &mut [(impl Source, impl Sink)],
+    doubted: &mut bool,
+) -> Result<Known, Fail> {
+    for (source, sink) in connections {
+        let known = attempt(alloc, asked, source, sink, doubted)?;
+        if known != Known::Open {
+            return Ok(known);
         }
     }
     Ok(Known::Open)
 }
 
-/// A transaction under a token, and one under it that saw other data.
+/// A transaction under a token, one under it that saw other data, and one under another token with a query that the server doesn't know.
 const ASKED: &[Asked] = &[
     Asked::Hello,
     Asked::Logon,
@@ -79,6 +122,74 @@ const OTHER: &[Asked] = &[
     ),
     Asked::PullAll,
     Asked::Commit,
+];
+
+const NOPE: &[Asked] = &[
+    Asked::Hello,
+    Asked::Logon,
+    Asked::BeginUnder("9f3d"),
+    Asked::Run("NOPE", &[]),
+    Asked::PullAll,
+    Asked::Commit,
+];
+
+/// A transaction whose BEGIN can't be written, since its token has no byte.
+const UNWRITABLE: &[Asked] = &[Asked::Hello, Asked::Logon, Asked::BeginUnder("")];
+
+/// The version, SUCCESS, and FAILURE of a LOGON, by a code that is final and by one that isn't.
+const UNAUTHORIZED: &[u8] =
+    b"\x00\x00\x01\x05\x00\x03\xB1\x70\xA0\x00\x00\x00\x39\xB1\x7F\xA2\x84code\xD0\x25Neo.ClientError.Security.Unauthorized\x87message\x81n\x00\x00";
+
+const TRANSIENT: &[u8] =
+    b"\x00\x00\x01\x05\x00\x03\xB1\x70\xA0\x00\x00\x00\x28\xB1\x7F\xA2\x84code\xD0\x14Neo.TransientError.N\x87message\x81n\x00\x00";
+
+/// What a connection gives: so many bytes of what the server answers, or others.
+enum Connection {
+    Served(usize),
+    Said(&'static [u8]),
+}
+
+use Connection::*;
+
+/// What is asked over which connections, what is known in the end, and with how many of them.
+type Case = (&'static [Asked], &'static [Connection], Known, usize);
+
+const CASES: [Case; 9] = [
+    // Where the version alone comes, the COMMIT may stand, as it does here.
+    (
+        ASKED,
+        &[Served(4), Served(MANY), Served(MANY)],
+        Known::Stands,
+        2,
+    ),
+    (ASKED, &[Served(MANY)], Known::Stands, 1),
+    (OTHER, &[Served(MANY)], Known::Taken, 1),
+    (
+        OTHER,
+        &[Said(&[]), Served(4), Served(MANY)],
+        Known::Taken,
+        3,
+    ),
+    (NOPE, &[Served(MANY), Served(MANY)], Known::Refused, 1),
+    (
+        NOPE,
+        &[Said(&[]), Said(TRANSIENT), Served(MANY)],
+        Known::Refused,
+        3,
+    ),
+    (
+        ASKED,
+        &[Said(UNAUTHORIZED), Served(MANY)],
+        Known::Refused,
+        1,
+    ),
+    (ASKED, &[Served(4), Said(UNAUTHORIZED)], Known::Open, 2),
+    (
+        UNWRITABLE,
+        &[Said(&[]), Served(4), Served(4)],
+        Known::Refused,
+        2,
+    ),
 ];
 
 /// How many items come and how many steps are worked, at most.
@@ -104,29 +215,72 @@ fn answers(
     Ok(answers)
 }
 
-/// Attempts with so many bytes of the answers that come.
-const ATTEMPTS: [(&[Asked], usize, Known); 4] = [
-    (ASKED, 4, Known::Open),
-    (ASKED, MANY, Known::Stands),
-    (ASKED, MANY, Known::Stands),
-    (OTHER, MANY, Known::Taken),
-];
+/// What an attempt puts out, to which the version alone is answered.
+fn put_out(alloc: Global, asked: &[Request]) -> Result<Vec<u8>, Fail> {
+    let mut sink = Buffer::new(Vec::new(alloc));
+    attempt(
+        alloc,
+        asked,
+        &mut trickle(&[0, 0, 1, 5]),
+        &mut sink,
+        &mut false,
+    )?;
+    Ok(sink.into_bytes())
+}
+
+/// What each connection of a case gives.
+fn given(
+    alloc: Global,
+    server: &mut Server<FixedTable, OneUser>,
+    asked: &[Request],
+    connections: &[Connection],
+) -> Result<Vec<Vec<u8>>, Fail> {
+    let out = put_out(alloc, asked)?;
+    let mut given = Vec::new(alloc);
+    for one in connections {
+        match one {
+            Served(count) => {
+                let mut bytes = answers(alloc, server, out.as_slice())?;
+                bytes.truncate(*count);
+                given.push(bytes)?;
+            }
+            Said(bytes) => given.push(bytes.to_vec(alloc)?)?,
+        }
+    }
+    Ok(given)
+}
+
+/// Makes the attempts of a case.
+fn is_known(
+    rt: &impl Abort,
+    alloc: Global,
+    server: &mut Server<FixedTable, OneUser>,
+    case: &Case,
+) -> Result<(), Fail> {
+    let (script, connections, known, used) = case;
+    let mut asked = Vec::new(alloc);
+    for one in *script {
+        asked.push(request(alloc, one)?)?;
+    }
+    let given = given(alloc, server, asked.as_slice(), connections)?;
+    let mut streams = Vec::new(alloc);
+    for bytes in &given {
+        streams.push((trickle(bytes), Buffer::new(Vec::new(alloc))))?;
+    }
+    let told = until_known(alloc, asked.as_slice(), streams.as_mut_slice(), &mut false)?;
+    assert_eq!(rt; told, *known);
+    let begun = streams.iter().filter(|(_, sink)| !sink.bytes().is_empty());
+    assert_eq!(rt; begun.count(), *used);
+    Ok(())
+}
 
 #[test]
 fn retries_until_it_is_known(rt: HostRuntime) -> Result<(), Fail> {
     let alloc = rt.alloc();
     let gate = OneUser::new(alloc, "user", "pass")?;
     let mut server = Server::new(alloc, FixedTable::new(alloc), gate);
-    for (asked, bytes, known) in &ATTEMPTS {
-        let mut sink = Buffer::new(Vec::new(alloc));
-        let mut version = trickle(&[0, 0, 1, 5]);
-        assert_eq!(rt;
-            attempt(alloc, asked, &mut version, &mut sink)?,
-            Known::Open
-        );
-        let answers = answers(alloc, &mut server, sink.bytes())?;
-        let mut source = trickle(answers.get(..*bytes).unwrap_or(&answers));
-        assert_eq!(rt; attempt(alloc, asked, &mut source, &mut sink)?, *known);
+    for case in &CASES {
+        is_known(&rt, alloc, &mut server, case)?;
     }
     assert_eq!(rt; server.engine().ledger().len(), 1);
     Ok(())
