@@ -1,6 +1,7 @@
 -- What serving one connection after another does.
-use Rattle.std.specs.Prelude.{◌≡◌, ◌⊎◌, ℕ, ◌+◌, Bool, List, [], ◌∷◌, ◌++◌, codes, Option, Result, Ok, Err}
+use Rattle.std.specs.Prelude.{◌≡◌, ◌⊎◌, ◌≤◌, ℕ, ◌+◌, Bool, true, List, [], ◌∷◌, ◌++◌, codes, length, Option, Some, None, Result, Ok, Err}
 use Rattle.std.specs.Fmt.{decimal}
+use Rattle.std.specs.Io.KnownBytes.{Consumes, IsAtEnd}
 use Rattle.engine.specs.Views.{EntryView}
 use Rattle.session.specs.declared.kinds.Cause.{Cause}
 use Rattle.session.specs.Session.{Setting}
@@ -10,6 +11,7 @@ use Rattle.server.specs.Views.{Fits}
 use Rattle.streams.specs.declared.fault.StreamFault.{StreamFault}
 use Rattle.streams.specs.Settling.{IsDueTo}
 use Rattle.streams.specs.Serving.{Serves}
+use Rattle.programs.specs.declared.serves.ServedOne.{ServedOne}
 use Rattle.programs.specs.Names.{cause_code}
 
 -- no session lives
@@ -20,10 +22,11 @@ IsVacant {G = G} entries s = (r : Rest G) × Fits entries s r × (r.sessions ≡
 abbrev pub conn_line : ℕ → Cause → List ℕ
 conn_line conn cause = codes "conn " ++ decimal conn ++ codes " " ++ cause_code cause ++ 10 ∷ []
 
--- the cause that is told: a connection of which a stream has failed is lost
-abbrev pub IsCauseOf : Cause → Result Cause StreamFault → Bool → Bool → Type 0
-IsCauseOf cause (Ok ended) input output = cause ≡ ended
-IsCauseOf cause (Err fault) input output = (cause ≡ Cause.Lost) × IsDueTo fault input output
+-- what is told of a connection: the cause of its end; or that it is lost, and the fault that broke it off, which is a stream's only where that has failed
+abbrev pub IsEndOf : ServedOne → Result Cause StreamFault → Bool → Bool → Type 0
+IsEndOf told (Ok ended) input output = (told.cause ≡ ended) × (told.fault ≡ None)
+IsEndOf told (Err fault) input output =
+    (told.cause ≡ Cause.Lost) × (told.fault ≡ Some fault) × IsDueTo fault input output
 
 module _ {G : Type 0} (r : Rest G) where
   -- One more session was opened and given up, and the ledger has grown by some entries, or by none.
@@ -35,10 +38,17 @@ module _ {G : Type 0} (r : Rest G) where
   abbrev pub MayHaveServed : (Rest G → Type 0) → Type 0
   MayHaveServed Now = Now r ⊎ HasServed Now
 
-  -- The connection was served as the conversation for what was read has it, whole or up to a fault of a stream, and this cause is told
-  -- of it.
+  -- The connection was served as the conversation for what was read has it, whole or up to a fault, and this is told of it.
   abbrev pub ServesSo : ℕ → Setting → (Rest G → Type 0) → Option (List ℕ) → Option (List ℕ)
-      → Option (List ℕ) → Option (List ℕ) → Bool → Bool → Cause → Type 0
-  ServesSo conn S Now left left_now old new input output cause =
+      → Option (List ℕ) → Option (List ℕ) → Bool → Bool → ServedOne → Type 0
+  ServesSo conn S Now left left_now old new input output told =
       (served : Result Cause StreamFault) × Serves r conn S Now left left_now old new served
-      × IsCauseOf cause served input output
+      × IsEndOf told served input output
+
+-- Bytes were read and dropped, 65,536 at most: to the end of the input, to a failure, or by 64 reads that gave some.
+pub record Drains (failed : Bool) (reads reads_now : ℕ) (left left_now : Option (List ℕ))
+    : Type 0 where
+  pub dropped : List ℕ
+  pub read : Consumes left left_now dropped
+  pub few : length dropped ≤ 65536
+  pub ends : IsAtEnd left_now ⊎ (failed ≡ true) ⊎ (reads_now + 64 ≤ reads)

@@ -361,11 +361,19 @@ fn serves_one_after_another(rt: HostRuntime) -> Result<(), Fail> {
     let mut out = Buffer::new(Vec::new(rt.alloc()));
     let mut broken = Pieces::new(&[], 0);
     let lost = serve_next(rt.alloc(), &mut server, &mut broken, &mut sink, &mut out);
-    assert_eq!(rt; lost, Ok(Cause::Lost));
+    let failed = ServedOne {
+        cause: Cause::Lost,
+        fault: Some(StreamFault::ReadFailed),
+    };
+    assert_eq!(rt; lost, Ok(failed));
     assert_eq!(rt; sink.bytes().len(), 0);
     let mut source = Slice::new(FAREWELL);
     let ended = serve_next(rt.alloc(), &mut server, &mut source, &mut sink, &mut out);
-    assert_eq!(rt; ended, Ok(Cause::Goodbye));
+    let left = ServedOne {
+        cause: Cause::Goodbye,
+        fault: None,
+    };
+    assert_eq!(rt; ended, Ok(left));
     assert_eq!(rt; sink.bytes(), [0, 0, 4, 4].as_slice());
     assert_eq!(rt; out.bytes(), b"conn 0 E8\nconn 1 E7\n".as_slice());
     Ok(())
