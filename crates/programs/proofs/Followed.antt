@@ -1,11 +1,12 @@
 -- The lines of a shell, one after the other, and how it stops.
 use Rattle.std.proofs.Common.{◌≡◌, refl, sym, ap, subst, ◌∙◌, ℕ, ◌+◌, ◌==◌, ◌||◌, Bool, true, false, List, [], ◌∷◌, ◌++◌, append_assoc, append-nil, true≢false, Option, Some, None, Result, Ok, Err, ◌⊎◌, inl, inr, ⊎_elim, All, not-suc-le-zero, length, take, drop, get_or, ◌<◌, drop-cons, add-one, take-append-drop}
-use Rattle.std.specs.Io.KnownBytes.{Consumes, IsAtEnd}
-use Rattle.std.proofs.KnownBytes.{Consumes-nil}
+use Rattle.std.specs.Io.KnownBytes.{Appends, Consumes, IsAtEnd}
+use Rattle.std.proofs.KnownBytes.{Appends-trans, Consumes-nil, Consumes-trans}
 use Rattle.std.proofs.lemmas.List.Splits.{slice_split_at, slice_split_none}
 use Rattle.std.specs.Result.{result_err}
 use Rattle.wire.specs.declared.Version.{Version}
 use Rattle.client.specs.declared.SubmitFault.{SubmitFault}
+use Rattle.messages.specs.View.{RequestView}
 use Rattle.client.specs.Prelude.{refuses}
 use Rattle.streams.specs.declared.fault.StreamFault.{StreamFault}
 use Rattle.streams.specs.declared.fault.StreamFault.TheVariants.{ReadFailed, WriteFailed, Memory}
@@ -14,10 +15,11 @@ use Rattle.programs.specs.declared.caller.Caller.{Caller}
 use Rattle.programs.specs.declared.shells.Conversation.{Conversation}
 use Rattle.programs.specs.declared.stop.Stop.{Stop}
 use Rattle.programs.specs.declared.stop.Stop.TheVariants.{Unreadable, Broken}
-use Rattle.programs.specs.Prelude.{refusal_code, Gets, TellsStop, stop_status, refused_line, Place, IsAt, submitted, first_place, is_printed, greeting, greeting_after, greeting_of, told_more, printed_more, and_then, Log, Exchanges, Talked, opens, refuses_line, answers_line, Streams, Puts, IsUsedUp, Stands, Anywhere, Asked, Asks, Submits, DoesLine, Sends, if_filled, Progress, Does, Runs, Shells}
-use Rattle.programs.proofs.Heard.{asked_by}
-use Rattle.programs.proofs.Stops.{broken_stops, told_of}
-use Rattle.programs.proofs.Moved.{moves_then, moves_weak, moves_told, moves_printed, puts_front, front_same, gets_none, used_before, used_stays}
+use Rattle.programs.specs.Prelude.{refusal_code, Gets, stop_status, stop_text, refused_line, Place, IsAt, submitted, first_place, IsPart, greeting, greeting_after, greeting_of, told_more, printed_more, and_then, Log, Exchanges, Talked, opens, refuses_line, answers_line, Streams, IsUsedUp, Stands, Anywhere, no_log, asks_version, asks_answer, IsServersTurn, IsAsked, Asked, Asks, Submits, DoesLine, Sends, if_filled, Progress, Does, Runs, Shells}
+use Rattle.programs.proofs.Heard.{asked_by, outs_in}
+use Rattle.programs.proofs.Printed.{nothing_heard}
+use Rattle.programs.proofs.Stops.{stop_of}
+use Rattle.programs.proofs.Moved.{moves_then, moves_weak, moves_told, moves_printed, front_same, gets_none, used_before, used_stays}
 
 -- ---- lines
 
@@ -39,7 +41,7 @@ line_last n begun plain =
 -- ---- what was done before a line
 
 module _ {start now : Streams} {done : List (ℕ × Text)} {Now : Place → Type 0} (s : Stands None start now done Now) where
-  talked_whole : Talked s.gone None done s.log s.place
+  pub talked_whole : Talked s.gone None done s.log s.place
   talked_whole = subst (λ (b : Option StreamFault). Talked s.gone b done s.log s.place) (⊎_elim (λ e. e) (λ e. e) s.breaks) s.talked
 
   -- a fault comes behind it
@@ -57,17 +59,17 @@ module _ {start now : Streams} {done : List (ℕ × Text)} {Now : Place → Type
   }
 
   -- the next line is refused
-  pub line_refused : {More : Place → Type 0} (printed : Option (List ℕ)) (fault : Option StreamFault) (n : ℕ) (l : Text) (q : ScriptRequestView) (why : SubmitFault) (code : List ℕ) → request_line_of l ≡ Some q
-      → refuses s.place.rest.knows (meant s.place.version q) ≡ Some why → refusal_code why ≡ Some code → Puts (is_printed fault) now.printed printed (refused_line n code) → More s.place
+  pub line_refused : {More : Place → Type 0} (printed : Option (List ℕ)) (fault : Option StreamFault) (n : ℕ) (l : Text) (q : ScriptRequestView) (why : SubmitFault) (code part : List ℕ) → request_line_of l ≡ Some q
+      → refuses s.place.rest.knows (meant s.place.version q) ≡ Some why → refusal_code why ≡ Some code → IsPart fault (refused_line n code) part → Appends now.printed printed part → More s.place
       → Stands fault start (record now { printed = printed }) (done ++ (n, l) ∷ []) More
-  line_refused printed fault n l q why code r e k h m = record {
+  line_refused printed fault n l q why code part r e k some h m = record {
     gone = s.gone;
-    log = printed_more s.log (refused_line n code);
+    log = printed_more s.log part;
     place = s.place;
     broken = fault;
     breaks = inr refl;
-    talked = refuses_line fault done s.log s.place n l q why code talked_whole r e k;
-    moves = moves_printed fault start now s.log printed (refused_line n code) s.moves h;
+    talked = refuses_line fault done s.log s.place n l q why code part talked_whole r e k some;
+    moves = moves_printed fault start now s.log printed part s.moves h;
     end = s.end;
     at = m;
   }
@@ -76,11 +78,11 @@ module _ {start now : Streams} {done : List (ℕ × Text)} {Now : Place → Type
 
 -- the same, where the server may be gone
 gone_exchange : {gone : Bool} {f : Option StreamFault} {a : Place} {l : Log} {r : Place} → Exchanges gone f a l r → Exchanges true f a l r
-gone_exchange x = record { out = x.out; fed = x.fed; unheard = x.unheard; shown = x.shown; unshown = x.unshown; sent = x.sent; read = x.read; needed = x.needed; heard = x.heard; prints = x.prints; whole = x.whole; ends = λ e. ((x.ends e).0, inl refl); losses = x.losses; after = x.after }
+gone_exchange x = record { out = x.out; fed = x.fed; unheard = x.unheard; shown = x.shown; unshown = x.unshown; text = x.text; begun = x.begun; told = x.told; broken = x.broken; breaks = x.breaks; sent = x.sent; read = x.read; needed = x.needed; heard = x.heard; prints = x.prints; next = x.next; printed = x.printed; whole = x.whole; ends = λ e. ((x.ends e).0, inl refl); losses = x.losses; after = x.after }
 
 gone_talked : {f : Option StreamFault} {ls : List (ℕ × Text)} {l : Log} {r : Place} → Talked false f ls l r → Talked true f ls l r
 gone_talked (opens f l r x) = opens f l r (gone_exchange x)
-gone_talked (refuses_line f ls l r n t q why code h e d c) = refuses_line f ls l r n t q why code (gone_talked h) e d c
+gone_talked (refuses_line f ls l r n t q why code part h e d c some) = refuses_line f ls l r n t q why code part (gone_talked h) e d c some
 gone_talked (answers_line f ls l m a r n t q h e d x) = answers_line f ls l m a r n t q (gone_talked h) e d (gone_exchange x)
 
 answered : (g h : Bool) (fault : Option StreamFault) (done : List (ℕ × Text)) (log more : Log) (p r : Place) (n : ℕ) (l : Text) (q : ScriptRequestView) → Talked g None done log p → request_line_of l ≡ Some q → refuses p.rest.knows (meant p.version q) ≡ None
@@ -179,34 +181,19 @@ module _ {start now : Streams} {script : List ℕ} {b : Conversation} (p : Progr
 
 -- ---- the whole
 
--- a line that can't be read may be told as want of memory
-runs_told : {told stop : Stop} {before after : Option (List ℕ)} {start now : Streams} → (told ≡ stop) ⊎ ((told ≡ Broken Memory) × (stop_status stop ≡ 2)) → Runs (Some stop) before after start now → Runs (Some told) before after start now
-runs_told {before = before} {after = after} {start = start} {now = now} (inl e) r = subst (λ (s : Stop). Runs (Some s) before after start now) (sym e) r
-runs_told {stop = stop} {before = before} {after = after} {start = start} {now = now} (inr e) r =
-    subst (λ (s : Stop). Runs (Some s) before after start now) (sym e.0) (record { script = r.script; read = r.read; end = λ n. absurd cc; does = told_does stop e.1 r.does })
-  where
-    told_does : (stop : Stop) → stop_status stop ≡ 2 → Does (Some stop) start now r.script → Does (Some (Broken Memory)) start now r.script
-    told_does (Unreadable n) e d = record { done = d.done; lines = ((n, d.lines.0) ∷ d.lines.1, d.lines.2); stands = stands_broken d.stands (Some Memory) }
-    told_does (Broken fault) e d = absurd (broken_stops fault e)
-
 pub shell_stops : {stop : Stop} {status : ℕ} {A B : Type 0} {before after told : Option (List ℕ)} {start mid : Streams} {deaf : Bool} → (stop ≡ Broken ReadFailed → A) → (stop ≡ Broken WriteFailed → B)
-    → Runs (Some stop) before after start mid → TellsStop stop status mid.deaf deaf mid.told told → Shells status A B before after start (record mid { told = told; deaf = deaf })
-shell_stops {stop = stop} {A = A} {B = B} {mid = mid} a b r p = record {
-  stop = Some p.told;
-  ends = p.ends;
-  cause = told_of p.told stop A B a b p.which;
+    → Runs (Some stop) before after start mid → status ≡ stop_status stop → Gets mid.deaf deaf mid.told told (stop_text stop) → Shells status A B before after start (record mid { told = told; deaf = deaf })
+shell_stops {stop = stop} {A = A} {B = B} {mid = mid} a b r ends said = record {
+  stop = Some stop;
+  ends = ends;
+  cause = stop_of stop A B a b;
   told = mid.told;
   deaf = mid.deaf;
-  runs = runs_told p.which r;
-  said = p.text;
+  runs = r;
+  said = said;
 }
 
 -- ---- what is told at the start, and what submitting comes to
-
-never_printed : (fault : StreamFault) → (fault ≡ ReadFailed → ⊥) → is_printed (Some fault) ≡ false
-never_printed ReadFailed never = absurd (never refl)
-never_printed WriteFailed never = refl
-never_printed Memory never = refl
 
 pub greeted : {c : Caller} {p : Place} {ended : Bool} (d e : Bool) (a b : Option (List ℕ)) → IsAt c p → ended ≡ p.rest.knows.over → Gets d e a b (greeting_of ended c.version) → Gets d e a b (greeting p)
 greeted {p = p} {ended = ended} d e a b at same h = subst (λ (z : Bool). Gets d e a b (greeting_of z p.version)) same (subst (λ (v : Version). Gets d e a b (greeting_of ended v)) at.version h)
@@ -222,11 +209,11 @@ module _ {start now : Streams} {done : List (ℕ × Text)} {b : Caller} (s : Sta
       go (Err fault) h2 = inr (line_asked s n l q r h.0 h2)
 
   pub submit_refused : Submits s.place (meant s.place.version q) n now.printed printed Now (Ok false) → (c : Caller) → ((p : Place) → Now p → IsAt c p) → DoesLine start (record now { printed = printed }) done n l c (Ok tt)
-  submit_refused h c same = line_refused s printed None n l q h.0 h.1 r h.2 h.3 h.4 (same s.place h.5)
+  submit_refused h c same = line_refused s printed None n l q h.0 h.1 (refused_line n h.1) r h.2 h.3 refl h.4 (same s.place h.5)
 
-  pub submit_failed : (fault : StreamFault) → (fault ≡ ReadFailed → ⊥) → Submits s.place (meant s.place.version q) n now.printed printed Now (Err fault) → (c : Caller) → DoesLine start (record now { printed = printed }) done n l c (Err fault)
-  submit_failed fault never (inl e) c = inl (subst (λ (z : Option (List ℕ)). Stands (Some fault) start (record now { printed = z }) done Anywhere) (sym e) (stands_broken s (Some fault)))
-  submit_failed fault never (inr h) c = inr (line_refused s printed (Some fault) n l q h.0 h.1 r h.2 h.3 (puts_front (is_printed (Some fault)) now.printed printed (refused_line n h.1) (never_printed fault never) h.4) tt)
+  pub submit_failed : (fault : StreamFault) → Submits s.place (meant s.place.version q) n now.printed printed Now (Err fault) → (c : Caller) → DoesLine start (record now { printed = printed }) done n l c (Err fault)
+  submit_failed fault (inl e) c = inl (subst (λ (z : Option (List ℕ)). Stands (Some fault) start (record now { printed = z }) done Anywhere) (sym e) (stands_broken s (Some fault)))
+  submit_failed fault (inr h) c = let cut = h.4 in inr (line_refused s printed (Some fault) n l q h.0 h.1 cut.0 r h.2 h.3 (cut.1, cut.2) cut.3 tt)
 
 -- ---- the input
 
@@ -247,9 +234,8 @@ nothing_done ReadFailed now e = absurd cc
 nothing_done WriteFailed now e = absurd cc
 nothing_done Memory now e =
     begins now.told now.deaf
-    (asked_by (Some Memory) false first_place now now 0 [] [] [] [] []
-    (record { read = Consumes-nil now.left; sent = front_same now.written now.written first_place.rest.unsent refl; printed = front_same now.printed now.printed [] refl; told = gets_none now.deaf now.told })
-    (inl refl) refl refl (λ z. absurd (true≢false (sym z))) (λ z. absurd cc) (λ z. absurd (true≢false (sym z))) tt) (gets_none now.deaf now.told)
+    (asked_by (Some Memory) false first_place now now (outs_in now) 0 [] [] None (nothing_heard first_place.version (outs_in now)) (inl refl) (Consumes-nil now.left) (front_same now.written now.written first_place.rest.unsent refl) refl (gets_none now.deaf now.told)
+    (inl refl) (λ z. absurd (true≢false (sym z))) (λ z. absurd cc) (λ z. absurd (true≢false (sym z))) tt) (gets_none now.deaf now.told)
 
 pub runs_at_first : {input : Option (List ℕ)} {start now : Streams} (fault : StreamFault) → Stands (Some fault) start now [] Anywhere → Runs (Some (Broken fault)) input input start now
 runs_at_first {input = input} fault s = record { script = []; read = Consumes-nil input; end = λ z. absurd cc; does = record { done = []; lines = (filled_lines [], refl); stands = s } }
@@ -269,3 +255,24 @@ runs_to_end {script = script} {b = b} c (Err stop) r e p s = record {
   end = λ z. absurd cc;
   does = stops_at p.done [] b.number b.begun.items c stop (at_end p ∙ ap (λ (z : List (ℕ × Text)). p.done ++ z) (sym (append-nil (if_filled b.number b.begun.items)))) s;
 }
+
+-- ---- whose turn it is
+
+pub turn_first : (start : Streams) (left taken : Option (List ℕ)) (c : Caller) → IsAt c first_place → IsAsked c start.left left start.written taken → IsServersTurn start left taken
+turn_first start left taken c at turn =
+    let t = turn first_place at in
+    record { log = no_log; place = first_place; asking = asks_version; read = t.awaited.0; input = t.awaited.1; awaited = t.awaited.2; asked = t.asked }
+
+pub turn_answer : {start now : Streams} {done : List (ℕ × Text)} {Now : Place → Type 0} (s : Stands None start now done Now) (q : RequestView) (left taken : Option (List ℕ)) (c : Caller) → refuses s.place.rest.knows q ≡ None → IsAt c (submitted s.place q)
+    → IsAsked c now.left left now.written taken → IsServersTurn start left taken
+turn_answer {start = start} {now = now} {done = done} s q left taken c e at turn =
+    let t = turn (submitted s.place q) at in
+    record {
+      log = s.log;
+      place = submitted s.place q;
+      asking = asks_answer s.gone done s.log s.place q (talked_whole s) e;
+      read = t.awaited.0;
+      input = Consumes-trans start.left now.left left s.log.read t.awaited.0 s.moves.read t.awaited.1;
+      awaited = t.awaited.2;
+      asked = Appends-trans start.written now.written taken s.log.sent (submitted s.place q).rest.unsent s.moves.sent t.asked;
+    }

@@ -20,7 +20,7 @@ use Rattle.scripts.specs.Prelude.{ScriptRequestView, meant}
 use Rattle.programs.specs.declared.caller.Caller.{Caller}
 use Rattle.programs.specs.declared.stop.Stop.{Stop}
 use Rattle.programs.specs.declared.stop.Stop.TheVariants.{Unreadable, Broken}
-use Rattle.programs.specs.Prelude.{Alters, Comes, Loops, entries_text, Numbers, Passes, Prints, Sits, StandsAt, TellsLine, Way, Ways, Gets, TellsStop, stop_status, stop_text, refusal_code, IsAt, first_place, refused_line, OfRefusal, Turns, IsQuiet, AreQuiet, all_sent, after_line, answer_to, exchanged, given, line_by, no_turns, place_after, shown_of, talk_for, turns_of, with_request}
+use Rattle.programs.specs.Prelude.{Alters, Comes, Loops, entries_text, Numbers, Passes, Prints, Sits, StandsAt, TellsLine, Way, Ways, Gets, stop_status, stop_text, refusal_code, IsAt, first_place, refused_line, OfRefusal, Turns, IsQuiet, AreQuiet, all_sent, after_line, answer_to, exchanged, given, line_by, no_turns, place_after, shown_of, talk_for, turns_of, with_request}
 use Rattle.programs.proofs.Stops.{broken_stops}
 use Rattle.programs.proofs.Turned.{answer_is, given_more, given_none, prints_none, prints_one, prints_then, with_item}
 
@@ -224,11 +224,6 @@ module _ {G : Type 0} (r : Rest G) (S : Setting) where
       }
 
 -- the number that is told is that of the stop
-pub tells_line : (script : List ℕ) {stop : Stop} {had has : Bool} {before after : Option (List ℕ)} {status : ℕ} → TellsStop stop status had has before after → status ≡ 2 → Numbers script stop → TellsLine script had has before after
-tells_line script {had = had} {has = has} {before = before} {after = after} p e h =
-    ⊎_elim (λ q. by_told p.told p.text (sym p.ends ∙ e) (subst (Numbers script) (sym q) h))
-    (λ q. absurd (broken_stops Memory (subst (λ (s : Stop). stop_status s ≡ 2) q.0 (sym p.ends ∙ e)))) p.which
-  where
-    by_told : (t : Stop) → Gets had has before after (stop_text t) → stop_status t ≡ 2 → Numbers script t → TellsLine script had has before after
-    by_told (Unreadable n) text q h = (n, h, text)
-    by_told (Broken fault) text q h = absurd (broken_stops fault q)
+pub tells_line : (script : List ℕ) (stop : Stop) (had has : Bool) (before after : Option (List ℕ)) → Gets had has before after (stop_text stop) → stop_status stop ≡ 2 → Numbers script stop → TellsLine script had has before after
+tells_line script (Unreadable n) had has before after text q h = (n, h, text)
+tells_line script (Broken fault) had has before after text q h = absurd (broken_stops fault q)

@@ -39,7 +39,7 @@ pub moves_then : (fault : Option StreamFault) (a b c : Streams) (l m : Log) → 
 moves_then fault a b c l m h k = record {
   read = Consumes-trans a.left b.left c.left l.read m.read h.read k.read;
   sent = puts_then (is_printed fault) a.written b.written c.written l.sent m.sent h.sent k.sent;
-  printed = puts_then (is_printed fault) a.printed b.printed c.printed l.printed m.printed h.printed k.printed;
+  printed = Appends-trans a.printed b.printed c.printed l.printed m.printed h.printed k.printed;
   told = gets_then a.deaf b.deaf c.deaf a.told b.told c.told l.told m.told h.told k.told;
 }
 
@@ -48,7 +48,7 @@ pub moves_weak : (fault : Option StreamFault) (a b : Streams) (l : Log) → Move
 moves_weak fault a b l h = record {
   read = h.read;
   sent = puts_whole (is_printed fault) a.written b.written l.sent h.sent;
-  printed = puts_whole (is_printed fault) a.printed b.printed l.printed h.printed;
+  printed = h.printed;
   told = h.told;
 }
 
@@ -62,11 +62,11 @@ moves_told fault a b l told deaf text h k = record {
 }
 
 -- more is printed
-pub moves_printed : (fault : Option StreamFault) (a b : Streams) (l : Log) (printed : Option (List ℕ)) (text : List ℕ) → Moves None a b l → Puts (is_printed fault) b.printed printed text → Moves fault a (record b { printed = printed }) (printed_more l text)
+pub moves_printed : (fault : Option StreamFault) (a b : Streams) (l : Log) (printed : Option (List ℕ)) (text : List ℕ) → Moves None a b l → Appends b.printed printed text → Moves fault a (record b { printed = printed }) (printed_more l text)
 moves_printed fault a b l printed text h k = record {
   read = h.read;
   sent = puts_whole (is_printed fault) a.written b.written l.sent h.sent;
-  printed = puts_then (is_printed fault) a.printed b.printed printed l.printed text h.printed k;
+  printed = Appends-trans a.printed b.printed printed l.printed text h.printed k;
   told = h.told;
 }
 

@@ -1,20 +1,17 @@
 -- How a program ends, by why it stops.
-use Rattle.std.proofs.Common.{◌≡◌, refl, sym, ap, ◌∙◌, subst, ℕ, Bool, List, Option, Some, None, Result, Ok, Err, ◌⊎◌, ⊎_elim, arith, IsErr, IsSome, option_map}
+use Rattle.std.proofs.Common.{◌≡◌, refl, ap, ◌∙◌, ℕ, Option, Some, None, Result, Ok, Err, IsErr, IsSome, option_map}
 use Rattle.streams.specs.declared.fault.StreamFault.{StreamFault}
 use Rattle.streams.specs.declared.fault.StreamFault.TheVariants.{ReadFailed, WriteFailed, Memory}
 use Rattle.streams.specs.Prelude.{UnlessTold}
 use Rattle.programs.specs.declared.stop.Stop.{Stop}
 use Rattle.programs.specs.declared.stop.Stop.TheVariants.{Unreadable, Broken}
-use Rattle.programs.specs.Prelude.{IsStopOf, stop_status, TellsStop}
+use Rattle.programs.specs.Prelude.{IsStopOf, stop_status}
 
-stop_of : (stop : Stop) (A B : Type 0) → (stop ≡ Broken ReadFailed → A) → (stop ≡ Broken WriteFailed → B) → IsStopOf stop A B
+pub stop_of : (stop : Stop) (A B : Type 0) → (stop ≡ Broken ReadFailed → A) → (stop ≡ Broken WriteFailed → B) → IsStopOf stop A B
 stop_of (Unreadable n) A B a b = tt
 stop_of (Broken ReadFailed) A B a b = a refl
 stop_of (Broken WriteFailed) A B a b = b refl
 stop_of (Broken Memory) A B a b = tt
-
-pub told_of : (told stop : Stop) (A B : Type 0) → (stop ≡ Broken ReadFailed → A) → (stop ≡ Broken WriteFailed → B) → (told ≡ stop) ⊎ ((told ≡ Broken Memory) × (stop_status stop ≡ 2)) → IsStopOf told A B
-told_of told stop A B a b h = ⊎_elim (λ e. stop_of told A B (λ q. a (sym e ∙ q)) (λ q. b (sym e ∙ q))) (λ e. subst (λ (s : Stop). IsStopOf s A B) (sym e.0) tt) h
 
 -- a status of 0 is that of no stop
 pub never_well : (stop : Stop) → stop_status stop ≡ 0 → ⊥
@@ -34,10 +31,8 @@ some_of f None n e = absurd cc
 some_of f (Some a) n e = refl
 
 -- a fault of a stream is told with status 1
-pub never_failed : {stop : Stop} {status : ℕ} {had failed : Bool} {before after : Option (List ℕ)} (fault : StreamFault) → stop_status (Broken fault) ≡ 1 → TellsStop stop status had failed before after → (status ≡ 1 → ⊥) → stop ≡ Broken fault → ⊥
-never_failed {stop = stop} fault one p n e =
-    let is : stop_status stop ≡ 1 = ap stop_status e ∙ one in
-    ⊎_elim (λ q. n (p.ends ∙ ap stop_status q ∙ is)) (λ (q : (p.told ≡ Broken Memory) × (stop_status stop ≡ 2)). omega (arith, q.1, is)) p.which
+pub never_failed : {stop : Stop} {status : ℕ} (fault : StreamFault) → stop_status (Broken fault) ≡ 1 → status ≡ stop_status stop → (status ≡ 1 → ⊥) → stop ≡ Broken fault → ⊥
+never_failed fault one ends n e = n (ends ∙ ap stop_status e ∙ one)
 
 -- what holds unless a fault is told, and what follows of it
 pub unless_then : {T E : Type 0} (x : Result T E) (f : E) (A B : Type 0) → (A → B) → UnlessTold x f A → UnlessTold x f B

@@ -9,7 +9,7 @@ use Rattle.client.specs.Rest.{Note, Rest, refuses}
 use Rattle.client.specs.Fits.{Fits}
 use Rattle.streams.specs.declared.fault.StreamFault.{StreamFault}
 use Rattle.streams.specs.Fronts.{AppendsFront}
-use Rattle.streams.specs.Asking.{hears_all, after_all, IsNeeded, HearsPiece, ReadsAll}
+use Rattle.streams.specs.Asking.{hears_all, after_all, given_up, IsNeeded, HearsPiece, IsAwaited, IsTurn, ReadsAll}
 use Rattle.scripts.specs.Views.{Text}
 use Rattle.scripts.specs.Words.{is_empty}
 use Rattle.scripts.specs.Script.{lines, filled_from, filled_lines}
@@ -20,61 +20,112 @@ use Rattle.programs.specs.declared.stop.Stop.{Stop}
 use Rattle.programs.specs.declared.stop.Stop.TheVariants.{Unreadable, Broken}
 use Rattle.programs.specs.Names.{refusal_code}
 use Rattle.programs.specs.Stopping.{Gets, IsStopOf, ends_with, said_of}
-use Rattle.programs.specs.Telling.{AreTold, IsExplained, refused_line, version_after, versions_after}
-use Rattle.programs.specs.Talking.{Place, IsAt, submitted, sent_out, is_printed, Log, Exchanges, Streams, Puts, Moves, IsUsedUp, Stands, Anywhere}
+use Rattle.programs.specs.Telling.{AreTold, IsBegun, IsCut, IsExplained, IsFront, refused_line, versions_after}
+use Rattle.programs.specs.Talking.{Place, IsAt, first_place, submitted, sent_out, is_printed, lost_of, losses_text, why_text, Log, Exchanges, IsServersTurn, Streams, Puts, Moves, IsUsedUp, Stands, Anywhere}
 
--- Of a note all was printed, or a beginning, or nothing.
-pub record PrintsPart (v : Version) (n : Note) (before after : Option (List ℕ)) : Type 0 where
+-- Where a client's words go: what standard output and standard error took, and whether standard error has failed.
+pub record Outs : Type 0 where
+  pub printed : Option (List ℕ)
+  pub told : Option (List ℕ)
+  pub deaf : Bool
+
+-- both outputs
+abbrev pub outs_of : {O E : Type 0} → (O → Option (List ℕ)) → (E → Option (List ℕ)) → (E → Bool) → O
+    → E → Outs
+outs_of printed told deaf out err =
+    record { printed = printed out; told = told err; deaf = deaf err }
+
+-- this is told
+abbrev pub Hears : Outs → Outs → List ℕ → Type 0
+Hears before after text = Gets before.deaf after.deaf before.told after.told text
+
+-- A note was printed, and nothing is told.
+pub record PrintsWhole (v : Version) (n : Note) (before after : Outs) : Type 0 where
   pub text : List ℕ
-  pub told : IsExplained v n text
-  pub printed : AppendsFront before after text
+  pub prints : IsExplained v n text
+  pub printed : Appends before.printed after.printed text
+  pub quiet : Hears before after []
 
--- Notes were printed in order, all of them; or those before one, and a beginning of that.
-pub record Prints (v : Version) (notes : List Note) (whole : Bool) (before after : Option (List ℕ))
+-- A fault came while it was printed.
+pub record PrintsCut (v : Version) (n : Note) (fault : StreamFault) (before after : Outs)
     : Type 0 where
+  pub begun : List ℕ
+  pub told : List ℕ
+  pub cut : IsCut v n fault begun told
+  pub printed : Appends before.printed after.printed begun
+  pub tells : Hears before after told
+
+-- one of the two
+abbrev pub PrintsOne : Version → Note → Outs → Outs → Result (Unit {0}) StreamFault → Type 0
+PrintsOne v n before after (Ok x) = PrintsWhole v n before after
+PrintsOne v n before after (Err fault) = PrintsCut v n fault before after
+
+-- Notes were printed in order, all of them; or a fault came while one was printed, and the summaries that aren't printed are told.
+pub record Prints (v : Version) (notes : List Note) (broken : Option StreamFault)
+    (before after : Outs) : Type 0 where
   pub shown : List Note
   pub unshown : List Note
   pub text : List ℕ
+  pub begun : List ℕ
+  pub told : List ℕ
   pub parts : notes ≡ shown ++ unshown
-  pub told : AreTold v shown text
-  pub printed : AppendsFront before after text
-  pub all : whole ≡ true → (unshown ≡ []) × Appends before after text
+  pub prints : AreTold v shown text
+  pub next : IsBegun broken (versions_after v shown) unshown begun told
+  pub printed : Appends before.printed after.printed (text ++ begun)
+  pub tells : Hears before after told
 
 -- What a client was told of these notes is printed, and it has heard the version that they tell.
-pub record HasPrinted (v : Version) (notes : List Note) (c : Caller)
-    (before after : Option (List ℕ)) : Type 0 where
+pub record HasPrinted (v : Version) (notes : List Note) (c : Caller) (before after : Outs)
+    : Type 0 where
   pub text : List ℕ
   pub told : AreTold v notes text
-  pub printed : Appends before after text
+  pub printed : Appends before.printed after.printed text
+  pub quiet : Hears before after []
   pub version : c.version ≡ versions_after v notes
 
+-- one of the two
+abbrev pub PrintsAll : Version → List Note → Caller → Outs → Outs → Result (Unit {0}) StreamFault
+    → Type 0
+PrintsAll v notes c before after (Ok x) = HasPrinted v notes c before after
+PrintsAll v notes c before after (Err fault) = Prints v notes (Some fault) before after
+
+-- A piece was heard and printed up to a fault: one that came while a note was printed, or before, when all is printed.
+pub record HearsBroken (p : Place) (fault : StreamFault) (left left_now : Option (List ℕ))
+    (before after : Outs) (c : Caller) : Type 0 where
+  pub notes : List Note
+  pub done : Result Bool StreamFault
+  pub hears : HearsPiece p.rest left left_now [] notes (Fits c.client) done
+  pub broken : Option StreamFault
+  pub breaks : (broken ≡ None) ⊎ (broken ≡ Some fault)
+  pub prints : Prints p.version notes broken before after
+  pub whole : is_printed (Some fault) ≡ true → (done ≡ Err fault) × (broken ≡ None)
+
 -- A piece was heard and printed; or a fault came, and some of it was.
-abbrev pub HearsSome : Place → Option (List ℕ) → Option (List ℕ) → Option (List ℕ)
-    → Option (List ℕ) → Caller → Result Bool StreamFault → Type 0
+abbrev pub HearsSome : Place → Option (List ℕ) → Option (List ℕ) → Outs → Outs → Caller
+    → Result Bool StreamFault → Type 0
 HearsSome p left left_now before after c (Ok some) =
     (notes : List Note) × HearsPiece p.rest left left_now [] notes (Fits c.client) (Ok some)
     × HasPrinted p.version notes c before after
 HearsSome p left left_now before after c (Err fault) =
-    (notes : List Note) × (done : Result Bool StreamFault)
-    × HearsPiece p.rest left left_now [] notes (Fits c.client) done
-    × Prints p.version notes (is_printed (Some fault)) before after
-    × (is_printed (Some fault) ≡ true → done ≡ Err fault)
+    HearsBroken p fault left left_now before after c
 
 -- Bytes were read and fed, and what they told was printed, up to a fault.
-pub record HearsPart (p : Place) (fault : StreamFault) (left left_now before after : Option (List ℕ))
-    (c : Caller) : Type 0 where
+pub record HearsPart (p : Place) (fault : StreamFault) (left left_now : Option (List ℕ))
+    (before after : Outs) (c : Caller) : Type 0 where
   pub fed : List ℕ
   pub unheard : List ℕ
   pub input : Consumes left left_now (fed ++ unheard)
   pub needed : IsNeeded p.rest (fed ++ unheard)
-  pub whole : is_printed (Some fault) ≡ true
-      → (unheard ≡ []) ⊎ ((hears_all p.rest fed).knows.over ≡ true)
+  pub broken : Option StreamFault
+  pub breaks : (broken ≡ None) ⊎ (broken ≡ Some fault)
+  pub whole : is_printed (Some fault) ≡ true → (broken ≡ None)
+      × ((unheard ≡ []) ⊎ ((hears_all p.rest fed).knows.over ≡ true))
   pub now : Fits c.client (after_all p.rest fed)
-  pub prints : Prints p.version (hears_all p.rest fed).notes (is_printed (Some fault)) before after
+  pub prints : Prints p.version (hears_all p.rest fed).notes broken before after
 
 -- All that was waited for was heard and printed, or the input has ended; or a fault came.
-abbrev pub HearsAll : Place → Option (List ℕ) → Option (List ℕ) → Option (List ℕ)
-    → Option (List ℕ) → Caller → Result (Unit {0}) StreamFault → Type 0
+abbrev pub HearsAll : Place → Option (List ℕ) → Option (List ℕ) → Outs → Outs → Caller
+    → Result (Unit {0}) StreamFault → Type 0
 HearsAll p left left_now before after c (Ok done) =
     (notes : List Note) × ReadsAll p.rest left left_now [] notes (Fits c.client) None
     × HasPrinted p.version notes c before after
@@ -82,14 +133,19 @@ HearsAll p left left_now before after c (Err fault) = HearsPart p fault left lef
 
 -- All was written, heard and printed; or a fault came: then the client stands after the bytes that were fed.
 abbrev pub Converses : Place → Option (List ℕ) → Option (List ℕ) → Option (List ℕ)
-    → Option (List ℕ) → Option (List ℕ) → Option (List ℕ) → Caller → Result (Unit {0}) StreamFault
-    → Type 0
+    → Option (List ℕ) → Outs → Outs → Caller → Result (Unit {0}) StreamFault → Type 0
 Converses p left left_now written written_now before after c (Ok done) =
     (out : ℕ) × (drop out p.rest.unsent ≡ []) × Appends written written_now p.rest.unsent
     × HearsAll (sent_out p out) left left_now before after c (Ok done)
 Converses p left left_now written written_now before after c (Err fault) =
     (out : ℕ) × Puts (is_printed (Some fault)) written written_now p.rest.unsent
     × HearsPart (sent_out p out) fault left left_now before after c
+
+-- The client of an exchange is given up, unless all was answered: what became of the requests that waited is told, and, unless a fault came,
+-- why no answer comes.
+abbrev pub Parts : Rest → (Rest → Type 0) → Option StreamFault → Outs → Outs → Type 0
+Parts r Now fault before after =
+    Now (given_up r) × Hears before after (losses_text (lost_of r.knows) ++ why_text fault r.knows)
 
 -- An exchange was made, up to a fault.
 pub record Asked (fault : Option StreamFault) (p : Place) (before after : Streams)
@@ -214,3 +270,21 @@ pub record Shells (status : ℕ) (read written : Type 0) (before after : Option 
   pub deaf : Bool
   pub runs : Runs stop before after start (record now { told = told; deaf = deaf })
   pub said : Gets deaf now.deaf told now.told (said_of stop)
+
+-- It is the turn of a client's server: the sink took all that the client puts out, and an answer is still to come.
+abbrev pub IsAsked : Caller → Option (List ℕ) → Option (List ℕ) → Option (List ℕ)
+    → Option (List ℕ) → Type 0
+IsAsked c left left_now written taken =
+    (p : Place) → IsAt c p → IsTurn p.rest left left_now written taken
+
+-- the same after any conversation that leaves the streams and the client so
+abbrev pub IsTurnAfter : Streams → Caller → Option (List ℕ) → Option (List ℕ) → Type 0
+IsTurnAfter now c left taken =
+    (start : Streams) (done : List (ℕ × Text)) → Stands None start now done (IsAt c)
+    → IsServersTurn start left taken
+
+-- the same after any beginning of an input
+abbrev pub IsTurnWithin : Streams → Conversation → Option (List ℕ) → Option (List ℕ) → Type 0
+IsTurnWithin now c left taken =
+    (start : Streams) (script : List ℕ) → Progress start now script c
+    → IsServersTurn start left taken

@@ -50,11 +50,3 @@ pub record Ends (status : ℕ) (read written : Type 0) (err_failed : Bool)
 abbrev pub Gets : Bool → Bool → Option (List ℕ) → Option (List ℕ) → List ℕ → Type 0
 Gets had_failed has_failed before after text =
     has_failed ≡ false → (had_failed ≡ false) × Appends before after text
-
--- The status of why a program stops, and what standard error got then; or, for a line that can't be read, those of want of memory.
-pub record TellsStop (stop : Stop) (status : ℕ) (had_failed has_failed : Bool)
-    (before after : Option (List ℕ)) : Type 0 where
-  pub told : Stop
-  pub which : (told ≡ stop) ⊎ ((told ≡ Broken Memory) × (stop_status stop ≡ 2))
-  pub ends : status ≡ stop_status told
-  pub text : Gets had_failed has_failed before after (stop_text told)

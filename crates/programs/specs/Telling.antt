@@ -1,6 +1,8 @@
 -- What is printed of what a client heard.
-use Rattle.std.specs.Prelude.{◌≡◌, ℕ, Some, List, [], ◌∷◌, ◌++◌, codes}
+use Rattle.std.specs.Prelude.{◌≡◌, ℕ, Option, Some, None, Result, Ok, Err, List, [], ◌∷◌, ◌++◌, codes}
 use Rattle.std.specs.Fmt.{decimal}
+use Rattle.std.specs.List.{flat_map}
+use Rattle.std.specs.Io.KnownBytes.{Appends}
 use Rattle.hex.specs.Hex.{encode_lower}
 use Rattle.packstream.specs.Canon.{canon}
 use Rattle.packstream.specs.Tree.{Tree, list}
@@ -10,6 +12,9 @@ use Rattle.wire.specs.declared.Version.{Version}
 use Rattle.messages.specs.View.{ResponseView, Success, Record, Ignored, Failure}
 use Rattle.client.specs.declared.Outcome.{Outcome}
 use Rattle.client.specs.Rest.{Note, Nothing, Chose, Row, Summary}
+use Rattle.streams.specs.declared.fault.StreamFault.{StreamFault}
+use Rattle.streams.specs.declared.fault.StreamFault.TheVariants.{ReadFailed, WriteFailed, Memory}
+use Rattle.streams.specs.Fronts.{AppendsFront}
 use Rattle.programs.specs.Escaping.{escaped}
 use Rattle.programs.specs.Names.{outcome_name, phase_name}
 
@@ -83,6 +88,49 @@ AreTold v [] text = text ≡ []
 AreTold v (n ∷ ns) text =
     (front : List ℕ) × (rest : List ℕ) × IsExplained (version_after v n) n front
     × AreTold (version_after v n) ns rest × (text ≡ front ++ rest)
+
+-- the line of a summary, and of nothing else
+abbrev pub summary_line : Note → List ℕ
+summary_line Nothing = []
+summary_line (Chose o) = []
+summary_line (Row cells) = []
+summary_line (Summary ordinal phase outcome said) =
+    heard_line ordinal (outcome_name outcome) (phase_name phase)
+
+-- those of notes, in order
+abbrev pub summaries_text : List Note → List ℕ
+summaries_text notes = flat_map summary_line notes
+
+-- a beginning of a text
+abbrev pub IsFront : List ℕ → List ℕ → Type 0
+IsFront front text = (rest : List ℕ) × (front ++ rest ≡ text)
+
+-- A line was put out whole; or there was no memory for it, or a beginning of it was taken.
+abbrev pub PutsLine : (List ℕ → Type 0) → Option (List ℕ) → Option (List ℕ)
+    → Result (Unit {0}) StreamFault → Type 0
+PutsLine IsLine before after (Ok x) =
+    (line : List ℕ) × IsLine line × Appends before after line
+PutsLine IsLine before after (Err Memory) = after ≡ before
+PutsLine IsLine before after (Err WriteFailed) =
+    (line : List ℕ) × IsLine line × AppendsFront before after line
+PutsLine IsLine before after (Err ReadFailed) = ⊥
+
+-- What is printed of a note at a shell where a fault comes, and what is told of it on standard error then: no memory was left for a row; or its
+-- line wasn't taken whole, and the line of a summary is told; or its line is printed, and a beginning of why it was refused.
+pub data IsCut (v : Version) (n : Note) : StreamFault → List ℕ → List ℕ → Type 0 where
+  unmade : (cells : List Tree) → n ≡ Row cells → IsCut v n Memory [] []
+  in_line : (line front : List ℕ) → IsTold v n line → IsFront front line
+      → IsCut v n WriteFailed front (summary_line n)
+  behind_line : (fault : StreamFault) (line front : List ℕ) → IsTold v n line
+      → IsFront front (failure_told n) → IsCut v n fault (line ++ front) []
+
+-- The same of the notes that aren't printed whole: none, or the first was cut; each summary behind it is told on standard error.
+abbrev pub IsBegun : Option StreamFault → Version → List Note → List ℕ → List ℕ → Type 0
+IsBegun None v notes begun told = (notes ≡ []) × (begun ≡ []) × (told ≡ [])
+IsBegun (Some fault) v [] begun told = ⊥
+IsBegun (Some fault) v (n ∷ ns) begun told =
+    (first : List ℕ) × IsCut (version_after v n) n fault begun first
+    × (told ≡ first ++ summaries_text ns)
 
 -- what became of a request that has no answer: its ordinal, and the outcome at the client's loss
 abbrev pub lost_line : ℕ × Outcome → List ℕ

@@ -1,18 +1,15 @@
 //! A client that takes its requests from the lines of a script.
-ghost use Rattle.std.specs.Prelude.{◌≡◌, ◌⊎◌, ℕ, List, true, IfOk, IfErr, OnOk, OnErr, IsErrOf};
-ghost use Rattle.std.specs.Io.KnownBytes.{Appends};
+ghost use Rattle.std.specs.Prelude.{◌≡◌, true, IfOk, IfErr, IsErrOf};
 ghost use Rattle.client.specs.Notes.{note};
 ghost use Rattle.streams.specs.Failing.{StaysSound, UnlessTold};
-ghost use Rattle.streams.specs.Fronts.{AppendsFront};
 ghost use Rattle.scripts.specs.Meant.{meant};
 ghost use Rattle.scripts.specs.Views.{script_request_view};
-ghost use Rattle.programs.specs.Telling.{IsExplained, IsTold, version_after};
+ghost use Rattle.programs.specs.Telling.{IsTold, PutsLine, version_after};
 ghost use Rattle.programs.specs.Talking.{IsAt, Place, first_place};
-ghost use Rattle.programs.specs.Shelling.{PrintsPart, Submits};
+ghost use Rattle.programs.specs.Shelling.{PrintsOne, Submits, outs_of};
 
 use crate::names::refusal_code;
-use crate::printed_lines::{put, put_heard, put_refused};
-use crate::summaries::failure_of;
+use crate::printed_lines::{put_heard, put_refused, put_row, put_summary};
 use client::{Client, Heard};
 use scripts::ScriptRequest;
 use std::alloc::Global;
@@ -55,16 +52,10 @@ impl Caller {
 
     /// Prints what was heard: `row HEX`, `heard ORDINAL OUTCOME PHASE`, or nothing.
     pub fn put_heard<O: Sink>(&mut self, heard: Heard, out: &mut O) -> Result<(), StreamFault>
-        ensures told { OnOk result
-            ((text : List ℕ) × IsTold (version_after self.old.version (note heard)) (note heard)
-            text × Appends (O.taken out.old) (O.taken out.new) text) }
+        ensures puts { PutsLine (IsTold (version_after self.old.version (note heard)) (note heard))
+            (O.taken out.old) (O.taken out.new) result }
         ensures read { IsErrOf result StreamFault.ReadFailed → ⊥ }
         ensures written { IsErrOf result StreamFault.WriteFailed → O.has_failed out.new ≡ true }
-        ensures sound { UnlessTold result StreamFault.WriteFailed
-            (StaysSound (O.has_failed out.old) (O.has_failed out.new)) }
-        ensures part { OnErr result
-            ((O.taken out.new ≡ O.taken out.old)
-            ⊎ ((text : List ℕ) × IsTold (version_after self.old.version (note heard)) (note heard) text × AppendsFront (O.taken out.old) (O.taken out.new) text)) }
         ensures version { self.new.version ≡ version_after self.old.version (note heard) }
         ensures client { self.new.client ≡ self.old.client }
     {
@@ -72,28 +63,34 @@ impl Caller {
         put_heard(self.alloc, self.version, heard, out)
     }
 
-    /// The same, and after the line of a FAILURE `fault CODE MESSAGE`.
-    pub fn put_explained<O: Sink>(&mut self, heard: Heard, out: &mut O) -> Result<(), StreamFault>
-        ensures told { OnOk result
-            ((text : List ℕ) × IsExplained (version_after self.old.version (note heard)) (note heard) text × Appends (O.taken out.old) (O.taken out.new) text) }
-        ensures part { OnErr result
-            ((O.taken out.new ≡ O.taken out.old)
-            ⊎ PrintsPart (version_after self.old.version (note heard)) (note heard) (O.taken out.old)
-            (O.taken out.new)) }
-        ensures version { OnOk result
-            (self.new.version ≡ version_after self.old.version (note heard)) }
+    /// The same, and behind the line of a FAILURE `fault CODE MESSAGE`. Where the line of a summary isn't taken whole, it is told on `err`.
+    pub fn put_explained<O: Sink, E: Sink>(
+        &mut self,
+        heard: Heard,
+        out: &mut O,
+        err: &mut E,
+    ) -> Result<(), StreamFault>
+        ensures prints { PrintsOne (version_after self.old.version (note heard)) (note heard)
+            (outs_of O.taken E.taken E.has_failed out.old err.old)
+            (outs_of O.taken E.taken E.has_failed out.new err.new) result }
+        ensures version { self.new.version ≡ version_after self.old.version (note heard) }
+        ensures client { self.new.client ≡ self.old.client }
         ensures read { IsErrOf result StreamFault.ReadFailed → ⊥ }
         ensures written { IsErrOf result StreamFault.WriteFailed → O.has_failed out.new ≡ true }
         ensures sound { UnlessTold result StreamFault.WriteFailed
             (StaysSound (O.has_failed out.old) (O.has_failed out.new)) }
-        ensures client { self.new.client ≡ self.old.client }
     {
-        let Ok(failure) = failure_of(self.alloc, &heard) else {
-            return Err(StreamFault::Memory);
-        };
-        match self.put_heard(heard, out) {
-            Ok(()) => put(failure.as_slice(), out),
-            Err(fault) => Err(fault),
+        self.keep_version(&heard);
+        match heard {
+            Heard::Nothing => Ok(()),
+            Heard::Version(_) => Ok(()),
+            Heard::Row(cells) => put_row(self.alloc, self.version, cells, out),
+            Heard::Summary {
+                ordinal,
+                phase,
+                outcome,
+                response,
+            } => put_summary(self.alloc, ordinal, phase, outcome, &response, out, err),
         }
     }
 

@@ -1,11 +1,13 @@
 //! What a shell tells on standard error. None of it takes memory.
 ghost use Rattle.std.specs.Prelude.{◌≡◌};
+ghost use Rattle.client.specs.Notes.{note};
 ghost use Rattle.programs.specs.Stopping.{Gets};
-ghost use Rattle.programs.specs.Telling.{lost_line};
+ghost use Rattle.programs.specs.Telling.{lost_line, summary_line};
 ghost use Rattle.programs.specs.Talking.{greeting_of, losses_text};
 
 use crate::names::{outcome_name, version_name};
-use client::Outcome;
+use crate::summaries::heard_line;
+use client::{Heard, Outcome};
 use itoa::Buffer;
 use streams::{Sink, write_all};
 use wire::Version;
@@ -24,10 +26,7 @@ pub(crate) fn greet<E: Sink>(has_ended: bool, version: Version, err: &mut E)
         (greeting_of has_ended version) }
 {
     if has_ended {
-        tell(
-            b"no conversation: no version was taken, or the server is gone\n",
-            err,
-        );
+        tell(b"no conversation\n", err);
         return;
     }
     tell(b"version ", err);
@@ -36,6 +35,22 @@ pub(crate) fn greet<E: Sink>(has_ended: bool, version: Version, err: &mut E)
         b"; each line is a request: hello, logon [bad], logoff, goodbye, reset, run TEXT HEX [r] [token T], begin [r] [token T], commit, rollback, discard N or pull N\n",
         err,
     );
+}
+
+/// Tells `heard ORDINAL OUTCOME PHASE` of a summary, and of nothing else.
+pub(crate) fn put_unprinted<E: Sink>(heard: &Heard, err: &mut E)
+    ensures { Gets (E.has_failed err.old) (E.has_failed err.new) (E.taken err.old) (E.taken err.new)
+        (summary_line (note heard.now)) }
+{
+    if let Heard::Summary {
+        ordinal,
+        phase,
+        outcome,
+        ..
+    } = heard
+    {
+        tell(heard_line(*ordinal, *outcome, *phase).as_bytes(), err);
+    }
 }
 
 /// Tells `lost ORDINAL OUTCOME` of each request that has no answer.

@@ -473,6 +473,6 @@ pub fn run_loop<E: Engine, G: Gate, A: Source, B: Sink, C: Source, D: Sink, O: S
 {
     match run(alloc, server, script, near, far, out) {
         Ok(()) => 0,
-        Err(stop) => put_stop(alloc, stop, err),
+        Err(stop) => put_stop(stop, err),
     }
 }

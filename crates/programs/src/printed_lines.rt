@@ -1,28 +1,38 @@
 //! Lines that are printed.
-ghost use Rattle.std.specs.Prelude.{◌≡◌, ◌⊎◌, ℕ, List, [], ◌∷◌, ◌++◌, true, codes, IfOk, OnOk, OnErr, string_bytes, IsErrOf};
+ghost use Rattle.std.specs.Prelude.{◌≡◌, ◌⊎◌, ℕ, List, [], ◌∷◌, ◌++◌, true, codes, IfErr, IfOk, OnOk, OnErr, string_bytes, IsErrOf};
+ghost use Rattle.cells.specs.Shape.{shapes};
 ghost use Rattle.std.specs.Fmt.{decimal};
 ghost use Rattle.std.specs.Io.KnownBytes.{Appends};
+ghost use Rattle.messages.specs.View.{response_view};
 ghost use Rattle.client.specs.Notes.{note};
+ghost use Rattle.client.specs.Rest.{Summary};
 ghost use Rattle.engine.specs.Views.{entries_view, entry_view};
 ghost use Rattle.streams.specs.Failing.{StaysSound, UnlessTold};
 ghost use Rattle.streams.specs.Fronts.{AppendsFront};
 ghost use Rattle.programs.specs.Looping.{entries_text, entry_line};
 ghost use Rattle.programs.specs.Serving.{conn_line};
-ghost use Rattle.programs.specs.Telling.{IsTold, refused_line};
+ghost use Rattle.programs.specs.Names.{outcome_name, phase_name};
+ghost use Rattle.programs.specs.Telling.{IsRowLine, IsTold, PutsLine, failure_line, heard_line as heard_text, refused_line};
+ghost use Rattle.programs.specs.Shelling.{PrintsOne, outs_of};
 
+use crate::errors::tell;
 use crate::names::cause_code;
-use crate::summaries::told;
-use client::Heard;
+use crate::summaries::{failure, heard_line, row};
+use client::{Heard, Outcome};
 use engine::Entry;
+use machine::Phase;
+use messages::Response;
 use server::Cause;
 use std::alloc::{AllocError, Global};
 use streams::{Sink, StreamFault, write_all};
+use structures::Cell;
 use wire::Version;
 
 /// Writes a text.
 pub(crate) fn put<O: Sink>(text: &[u8], out: &mut O) -> Result<(), StreamFault>
     ensures text { OnOk result (Appends (O.taken out.old) (O.taken out.new) text.now) }
     ensures front { OnErr result (AppendsFront (O.taken out.old) (O.taken out.new) text.now) }
+    ensures fault { IfErr result (λ e. e ≡ StreamFault.WriteFailed) }
     ensures read { IsErrOf result StreamFault.ReadFailed → ⊥ }
     ensures written { IsErrOf result StreamFault.WriteFailed → O.has_failed out.new ≡ true }
     ensures sound { UnlessTold result StreamFault.WriteFailed
@@ -34,29 +44,110 @@ pub(crate) fn put<O: Sink>(text: &[u8], out: &mut O) -> Result<(), StreamFault>
     }
 }
 
-/// Prints what was heard: `row HEX`, `heard ORDINAL OUTCOME PHASE`, or nothing.
+/// Prints what was heard: `row HEX`, `heard ORDINAL OUTCOME PHASE`, or nothing. Only a row takes memory.
 pub(crate) fn put_heard<O: Sink>(
     alloc: Global,
     version: Version,
     heard: Heard,
     out: &mut O,
 ) -> Result<(), StreamFault>
-    ensures told { OnOk result
-        ((text : List ℕ) × IsTold version (note heard) text
-        × Appends (O.taken out.old) (O.taken out.new) text) }
-    ensures part { OnErr result
-        ((O.taken out.new ≡ O.taken out.old)
-        ⊎ ((text : List ℕ) × IsTold version (note heard) text
-        × AppendsFront (O.taken out.old) (O.taken out.new) text)) }
+    ensures puts { PutsLine (IsTold version (note heard)) (O.taken out.old) (O.taken out.new) result }
     ensures read { IsErrOf result StreamFault.ReadFailed → ⊥ }
     ensures written { IsErrOf result StreamFault.WriteFailed → O.has_failed out.new ≡ true }
     ensures sound { UnlessTold result StreamFault.WriteFailed
         (StaysSound (O.has_failed out.old) (O.has_failed out.new)) }
 {
-    let Ok(line) = told(alloc, version, heard) else {
+    match heard {
+        Heard::Nothing => Ok(()),
+        Heard::Version(_) => Ok(()),
+        Heard::Row(cells) => put_row(alloc, version, cells, out),
+        Heard::Summary {
+            ordinal,
+            phase,
+            outcome,
+            ..
+        } => put_line(ordinal, outcome, phase, out),
+    }
+}
+
+fn put_line<O: Sink>(
+    ordinal: u64,
+    outcome: Outcome,
+    phase: Phase,
+    out: &mut O,
+) -> Result<(), StreamFault>
+    ensures puts { PutsLine (λ t. t ≡ heard_text ordinal (outcome_name outcome) (phase_name phase))
+        (O.taken out.old) (O.taken out.new) result }
+    ensures read { IsErrOf result StreamFault.ReadFailed → ⊥ }
+    ensures written { IsErrOf result StreamFault.WriteFailed → O.has_failed out.new ≡ true }
+    ensures sound { UnlessTold result StreamFault.WriteFailed
+        (StaysSound (O.has_failed out.old) (O.has_failed out.new)) }
+{
+    let line = heard_line(ordinal, outcome, phase);
+    put(line.as_str().as_bytes(), out)
+}
+
+/// Prints `row HEX`.
+pub(crate) fn put_row<O: Sink>(
+    alloc: Global,
+    version: Version,
+    cells: Vec<Cell>,
+    out: &mut O,
+) -> Result<(), StreamFault>
+    ensures puts { PutsLine (IsRowLine version (shapes cells.items)) (O.taken out.old) (O.taken out.new) result }
+    ensures read { IsErrOf result StreamFault.ReadFailed → ⊥ }
+    ensures written { IsErrOf result StreamFault.WriteFailed → O.has_failed out.new ≡ true }
+    ensures sound { UnlessTold result StreamFault.WriteFailed
+        (StaysSound (O.has_failed out.old) (O.has_failed out.new)) }
+{
+    let Ok(line) = row(alloc, version, cells) else {
         return Err(StreamFault::Memory);
     };
     put(line.as_bytes(), out)
+}
+
+/// Prints `heard ORDINAL OUTCOME PHASE`, and behind that of a FAILURE `fault CODE MESSAGE`. The first line takes no memory; where it isn't taken
+/// whole it is told on `err`.
+pub(crate) fn put_summary<O: Sink, E: Sink>(
+    alloc: Global,
+    ordinal: u64,
+    phase: Phase,
+    outcome: Outcome,
+    response: &Response,
+    out: &mut O,
+    err: &mut E,
+) -> Result<(), StreamFault>
+    ensures prints { (v : Version) → PrintsOne v (Summary ordinal phase outcome (response_view response.now))
+        (outs_of O.taken E.taken E.has_failed out.old err.old)
+        (outs_of O.taken E.taken E.has_failed out.new err.new) result }
+    ensures read { IsErrOf result StreamFault.ReadFailed → ⊥ }
+    ensures written { IsErrOf result StreamFault.WriteFailed → O.has_failed out.new ≡ true }
+    ensures sound { UnlessTold result StreamFault.WriteFailed
+        (StaysSound (O.has_failed out.old) (O.has_failed out.new)) }
+{
+    let line = heard_line(ordinal, outcome, phase);
+    let text = line.as_str().as_bytes();
+    match put(text, out) {
+        Ok(()) => put_failure(alloc, response, out),
+        Err(fault) => {
+            tell(text, err);
+            Err(fault)
+        }
+    }
+}
+
+/// Prints `fault CODE MESSAGE` of a FAILURE, and nothing else.
+fn put_failure<O: Sink>(alloc: Global, response: &Response, out: &mut O) -> Result<(), StreamFault>
+    ensures puts { PutsLine (λ t. t ≡ failure_line (response_view response.now)) (O.taken out.old) (O.taken out.new) result }
+    ensures read { IsErrOf result StreamFault.ReadFailed → ⊥ }
+    ensures written { IsErrOf result StreamFault.WriteFailed → O.has_failed out.new ≡ true }
+    ensures sound { UnlessTold result StreamFault.WriteFailed
+        (StaysSound (O.has_failed out.old) (O.has_failed out.new)) }
+{
+    let Ok(text) = failure(alloc, response) else {
+        return Err(StreamFault::Memory);
+    };
+    put(text.as_slice(), out)
 }
 
 /// Prints `line I C1`: the number of a line whose request is refused, and the code.

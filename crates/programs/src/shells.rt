@@ -4,15 +4,16 @@ ghost use Rattle.std.specs.Result.{result_err};
 ghost use Rattle.scripts.specs.Rows.{request_line_of};
 ghost use Rattle.scripts.specs.Views.{Text, script_request_view};
 ghost use Rattle.streams.specs.Failing.{StaysSound, UnlessTold};
-ghost use Rattle.programs.specs.Talking.{IsAt, Stands, Streams, first_place, streams_at};
-ghost use Rattle.programs.specs.Shelling.{Begins, DoesLine, Progress, Runs, Sends, Shells, Takes, TakesByte};
+ghost use Rattle.streams.specs.Serving.{LetsRead};
+ghost use Rattle.programs.specs.Talking.{IsAt, IsServersTurn, Stands, Streams, first_place, streams_of};
+ghost use Rattle.programs.specs.Shelling.{Begins, DoesLine, IsAsked, IsTurnAfter, IsTurnWithin, Progress, Runs, Sends, Shells, Takes, TakesByte};
 
 use crate::caller::Caller;
 use crate::errors::greet;
 use crate::stop::{Stop, put_stop};
 use scripts::{LineFault, ScriptRequest, read_request};
 use std::alloc::Global;
-use streams::{MAX_PIECE, Sink, Source, StreamFault};
+use streams::{MAX_PIECE, Peer, Sink, Source, StreamFault};
 
 /// A client, and the line that is begun.
 #[derive(Drop)]
@@ -41,15 +42,19 @@ impl Conversation {
     }
 
     /// Hears the version, and tells it with how a line looks.
-    fn begin<S: Source, T: Sink, O: Sink, E: Sink>(
+    fn begin<S: Peer, T: Sink, O: Sink, E: Sink>(
         &mut self,
         source: &mut S,
         sink: &mut T,
         out: &mut O,
         err: &mut E,
     ) -> Result<(), StreamFault>
+        requires { LetsRead S.may_read (λ s. IsAsked self.old.caller (S.left source.old) (S.left s) (T.taken sink.old)) }
         ensures begins { IsAt self.old.caller first_place
-            → Begins (streams_at (S.left source.old) (T.taken sink.old) (O.taken out.old) (E.taken err.old) (E.has_failed err.old)) (streams_at (S.left source.new) (T.taken sink.new) (O.taken out.new) (E.taken err.new) (E.has_failed err.new)) self.new.caller result }
+            → Begins
+            (streams_of S.left T.taken O.taken E.taken E.has_failed source.old sink.old out.old err.old)
+            (streams_of S.left T.taken O.taken E.taken E.has_failed source.new sink.new out.new err.new)
+            self.new.caller result }
         ensures begun { self.new.begun ≡ self.old.begun }
         ensures number { self.new.number ≡ self.old.number }
         ensures read { IsErrOf result StreamFault.ReadFailed → S.has_failed source.new ≡ true }
@@ -71,7 +76,7 @@ impl Conversation {
     }
 
     /// Takes a piece of the input: each line that ends in it is sent.
-    fn take<S: Source, T: Sink, O: Sink, E: Sink>(
+    fn take<S: Peer, T: Sink, O: Sink, E: Sink>(
         &mut self,
         piece: &[u8],
         source: &mut S,
@@ -79,8 +84,16 @@ impl Conversation {
         out: &mut O,
         err: &mut E,
     ) -> Result<(), Stop>
+        requires { LetsRead S.may_read (λ s. IsTurnWithin
+            (streams_of S.left T.taken O.taken E.taken E.has_failed source.old sink.old out.old err.old)
+            self.old (S.left s)) }
         ensures takes { (start : Streams) (script : List ℕ)
-            → Progress start (streams_at (S.left source.old) (T.taken sink.old) (O.taken out.old) (E.taken err.old) (E.has_failed err.old)) script self.old → Takes start (streams_at (S.left source.new) (T.taken sink.new) (O.taken out.new) (E.taken err.new) (E.has_failed err.new)) script piece.now self.new result }
+            → Progress start
+            (streams_of S.left T.taken O.taken E.taken E.has_failed source.old sink.old out.old err.old)
+            script self.old
+            → Takes start
+            (streams_of S.left T.taken O.taken E.taken E.has_failed source.new sink.new out.new err.new)
+            script piece.now self.new result }
         ensures read { IsErrOf result (Stop.Broken StreamFault.ReadFailed)
             → S.has_failed source.new ≡ true }
         ensures written { IsErrOf result (Stop.Broken StreamFault.WriteFailed)
@@ -102,7 +115,7 @@ impl Conversation {
     }
 
     /// Takes a byte of the input: a newline ends the line that was begun, which is sent; any other is one more of it.
-    fn take_byte<S: Source, T: Sink, O: Sink, E: Sink>(
+    fn take_byte<S: Peer, T: Sink, O: Sink, E: Sink>(
         &mut self,
         byte: u8,
         source: &mut S,
@@ -110,8 +123,16 @@ impl Conversation {
         out: &mut O,
         err: &mut E,
     ) -> Result<(), Stop>
+        requires { LetsRead S.may_read (λ s. IsTurnWithin
+            (streams_of S.left T.taken O.taken E.taken E.has_failed source.old sink.old out.old err.old)
+            self.old (S.left s)) }
         ensures takes { (start : Streams) (script : List ℕ)
-            → Progress start (streams_at (S.left source.old) (T.taken sink.old) (O.taken out.old) (E.taken err.old) (E.has_failed err.old)) script self.old → TakesByte start (streams_at (S.left source.new) (T.taken sink.new) (O.taken out.new) (E.taken err.new) (E.has_failed err.new)) script byte self.new result }
+            → Progress start
+            (streams_of S.left T.taken O.taken E.taken E.has_failed source.old sink.old out.old err.old)
+            script self.old
+            → TakesByte start
+            (streams_of S.left T.taken O.taken E.taken E.has_failed source.new sink.new out.new err.new)
+            script byte self.new result }
         ensures read { IsErrOf result (Stop.Broken StreamFault.ReadFailed)
             → S.has_failed source.new ≡ true }
         ensures written { IsErrOf result (Stop.Broken StreamFault.WriteFailed)
@@ -142,15 +163,23 @@ impl Conversation {
     }
 
     /// Sends the line that was begun, unless it is empty.
-    fn send<S: Source, T: Sink, O: Sink, E: Sink>(
+    fn send<S: Peer, T: Sink, O: Sink, E: Sink>(
         &mut self,
         source: &mut S,
         sink: &mut T,
         out: &mut O,
         err: &mut E,
     ) -> Result<(), Stop>
+        requires { LetsRead S.may_read (λ s. IsTurnAfter
+            (streams_of S.left T.taken O.taken E.taken E.has_failed source.old sink.old out.old err.old)
+            self.old.caller (S.left s)) }
         ensures sends { (start : Streams) (done : List (ℕ × Text))
-            → Stands None start (streams_at (S.left source.old) (T.taken sink.old) (O.taken out.old) (E.taken err.old) (E.has_failed err.old)) done (IsAt self.old.caller) → Sends start (streams_at (S.left source.new) (T.taken sink.new) (O.taken out.new) (E.taken err.new) (E.has_failed err.new)) done self.old.number self.old.begun.items self.new.caller result }
+            → Stands None start
+            (streams_of S.left T.taken O.taken E.taken E.has_failed source.old sink.old out.old err.old)
+            done (IsAt self.old.caller)
+            → Sends start
+            (streams_of S.left T.taken O.taken E.taken E.has_failed source.new sink.new out.new err.new)
+            done self.old.number self.old.begun.items self.new.caller result }
         ensures begun { self.new.begun ≡ self.old.begun }
         ensures number { self.new.number ≡ self.old.number }
         ensures read { IsErrOf result (Stop.Broken StreamFault.ReadFailed)
@@ -179,7 +208,7 @@ impl Conversation {
     }
 
     /// Submits the request of the line that was begun and asks for its answer, or prints why it is refused.
-    fn submit<S: Source, T: Sink, O: Sink, E: Sink>(
+    fn submit<S: Peer, T: Sink, O: Sink, E: Sink>(
         &mut self,
         request: ScriptRequest,
         source: &mut S,
@@ -187,9 +216,17 @@ impl Conversation {
         out: &mut O,
         err: &mut E,
     ) -> Result<(), StreamFault>
+        requires { LetsRead S.may_read (λ s. IsTurnAfter
+            (streams_of S.left T.taken O.taken E.taken E.has_failed source.old sink.old out.old err.old)
+            self.old.caller (S.left s)) }
         ensures submits { (start : Streams) (done : List (ℕ × Text)) (line : Text)
             → request_line_of line ≡ Some (script_request_view request)
-            → Stands None start (streams_at (S.left source.old) (T.taken sink.old) (O.taken out.old) (E.taken err.old) (E.has_failed err.old)) done (IsAt self.old.caller) → DoesLine start (streams_at (S.left source.new) (T.taken sink.new) (O.taken out.new) (E.taken err.new) (E.has_failed err.new)) done self.old.number line self.new.caller result }
+            → Stands None start
+            (streams_of S.left T.taken O.taken E.taken E.has_failed source.old sink.old out.old err.old)
+            done (IsAt self.old.caller)
+            → DoesLine start
+            (streams_of S.left T.taken O.taken E.taken E.has_failed source.new sink.new out.new err.new)
+            done self.old.number line self.new.caller result }
         ensures begun { self.new.begun ≡ self.old.begun }
         ensures number { self.new.number ≡ self.old.number }
         ensures read { IsErrOf result StreamFault.ReadFailed → S.has_failed source.new ≡ true }
@@ -211,7 +248,7 @@ impl Conversation {
 }
 
 /// Takes the input to its end.
-fn run<I: Source, S: Source, T: Sink, O: Sink, E: Sink>(
+fn run<I: Source, S: Peer, T: Sink, O: Sink, E: Sink>(
     alloc: Global,
     input: &mut I,
     source: &mut S,
@@ -219,7 +256,12 @@ fn run<I: Source, S: Source, T: Sink, O: Sink, E: Sink>(
     out: &mut O,
     err: &mut E,
 ) -> Result<(), Stop>
-    ensures runs { Runs (result_err result) (I.left input.old) (I.left input.new) (streams_at (S.left source.old) (T.taken sink.old) (O.taken out.old) (E.taken err.old) (E.has_failed err.old)) (streams_at (S.left source.new) (T.taken sink.new) (O.taken out.new) (E.taken err.new) (E.has_failed err.new)) }
+    requires { LetsRead S.may_read (λ s. IsServersTurn
+        (streams_of S.left T.taken O.taken E.taken E.has_failed source.old sink.old out.old err.old)
+        (S.left s)) }
+    ensures runs { Runs (result_err result) (I.left input.old) (I.left input.new)
+        (streams_of S.left T.taken O.taken E.taken E.has_failed source.old sink.old out.old err.old)
+        (streams_of S.left T.taken O.taken E.taken E.has_failed source.new sink.new out.new err.new) }
     ensures read { IsErrOf result (Stop.Broken StreamFault.ReadFailed)
         → (I.has_failed input.new ≡ true) ⊎ (S.has_failed source.new ≡ true) }
     ensures written { IsErrOf result (Stop.Broken StreamFault.WriteFailed)
@@ -268,7 +310,7 @@ fn run<I: Source, S: Source, T: Sink, O: Sink, E: Sink>(
 ///
 /// The exit status is 0; 1 for a stream that has failed (`fault I1` where it is a source, `fault I2` where it is a sink), 2 for an
 /// unreadable line, 3 for want of memory (`fault I3`).
-pub fn shell<I: Source, S: Source, T: Sink, O: Sink, E: Sink>(
+pub fn shell<I: Source, S: Peer, T: Sink, O: Sink, E: Sink>(
     alloc: Global,
     input: &mut I,
     source: &mut S,
@@ -276,11 +318,18 @@ pub fn shell<I: Source, S: Source, T: Sink, O: Sink, E: Sink>(
     out: &mut O,
     err: &mut E,
 ) -> u8
+    // A server that says when it may be read has to allow it where an answer is still to come after the bytes that were read, and it was sent all
+    // that is asked, for at most 4,096 bytes. No other read is made.
+    requires { LetsRead S.may_read (λ s. IsServersTurn
+        (streams_of S.left T.taken O.taken E.taken E.has_failed source.old sink.old out.old err.old)
+        (S.left s)) }
     // The status says why it stops. Its lines are those of the input, up to its end or to the first that can't be read, whose number is told;
     // what was sent, read, printed and told is what the conversation over them has, each outcome at a loss with it.
     ensures shells { Shells result ((I.has_failed input.new ≡ true) ⊎ (S.has_failed source.new ≡ true))
         ((T.has_failed sink.new ≡ true) ⊎ (O.has_failed out.new ≡ true)) (I.left input.old)
-        (I.left input.new) (streams_at (S.left source.old) (T.taken sink.old) (O.taken out.old) (E.taken err.old) (E.has_failed err.old)) (streams_at (S.left source.new) (T.taken sink.new) (O.taken out.new) (E.taken err.new) (E.has_failed err.new)) }
+        (I.left input.new)
+        (streams_of S.left T.taken O.taken E.taken E.has_failed source.old sink.old out.old err.old)
+        (streams_of S.left T.taken O.taken E.taken E.has_failed source.new sink.new out.new err.new) }
     // A stream that fails is told so, with status 1: none fails where another is answered.
     ensures sound { (result ≡ 1 → ⊥) → StaysSound (I.has_failed input.old) (I.has_failed input.new)
         × StaysSound (S.has_failed source.old) (S.has_failed source.new)
@@ -289,6 +338,6 @@ pub fn shell<I: Source, S: Source, T: Sink, O: Sink, E: Sink>(
 {
     match run(alloc, input, source, sink, out, err) {
         Ok(()) => 0,
-        Err(stop) => put_stop(alloc, stop, err),
+        Err(stop) => put_stop(stop, err),
     }
 }

@@ -1,9 +1,9 @@
 //! Why a program stops before its lines end.
-ghost use Rattle.std.specs.Prelude.{◌≡◌, string_bytes, IfOk};
-ghost use Rattle.programs.specs.Stopping.{Gets, TellsStop, stop_status, stop_text};
+ghost use Rattle.std.specs.Prelude.{◌≡◌};
+ghost use Rattle.programs.specs.Stopping.{Gets, stop_status, stop_text};
 
 use crate::errors::tell;
-use std::alloc::{AllocError, Global};
+use itoa::Buffer;
 use streams::{Sink, StreamFault};
 
 /// Why a program stops before its lines end.
@@ -15,35 +15,33 @@ pub(crate) enum Stop {
     Broken(StreamFault),
 }
 
-/// Writes why a program stops, of a line that can't be read also what is expected there, and answers its exit status: 2 for such a line, 1 for a stream that has failed, 3
-/// for want of memory. Where there is no memory for the text, that is why.
-pub(crate) fn put_stop<E: Sink>(alloc: Global, stop: Stop, err: &mut E) -> u8
-    ensures { TellsStop stop result (E.has_failed err.old) (E.has_failed err.new) (E.taken err.old)
-        (E.taken err.new) }
+/// Writes why a program stops, of a line that can't be read also what is expected there, and answers its exit status: 2 for such a line, 1 for a
+/// stream that has failed, 3 for want of memory. It takes no memory.
+pub(crate) fn put_stop<E: Sink>(stop: Stop, err: &mut E) -> u8
+    ensures status { result ≡ stop_status stop }
+    ensures text { Gets (E.has_failed err.old) (E.has_failed err.new) (E.taken err.old)
+        (E.taken err.new) (stop_text stop) }
 {
     match stop {
-        Stop::Unreadable(number) => put_unreadable(alloc, number, err),
+        Stop::Unreadable(number) => {
+            put_unreadable(number, err);
+            2
+        }
         Stop::Broken(fault) => put_fault(fault, err),
     }
 }
 
-fn put_unreadable<E: Sink>(alloc: Global, number: usize, err: &mut E) -> u8
-    ensures { TellsStop (Stop.Unreadable number) result (E.has_failed err.old)
-        (E.has_failed err.new) (E.taken err.old) (E.taken err.new) }
+fn put_unreadable<E: Sink>(number: usize, err: &mut E)
+    ensures { Gets (E.has_failed err.old) (E.has_failed err.new) (E.taken err.old)
+        (E.taken err.new) (stop_text (Stop.Unreadable number)) }
 {
-    match unreadable_text(alloc, number) {
-        Ok(text) => put(text.as_bytes(), 2, err),
-        Err(_) => put_fault(StreamFault::Memory, err),
-    }
-}
-
-fn unreadable_text(alloc: Global, number: usize) -> Result<String, AllocError>
-    ensures { IfOk result (λ t. string_bytes t ≡ stop_text (Stop.Unreadable number)) }
-{
-    let text = format!(in alloc;
-        "line {number} unreadable\nexpected hello, logon [bad], logoff, goodbye, reset, run TEXT HEX [r] [token T], begin [r] [token T], commit, rollback, discard N or pull N\n"
-    )?;
-    Ok(text)
+    let mut digits = Buffer::new();
+    tell(b"line ", err);
+    tell(digits.format(number).as_bytes(), err);
+    tell(
+        b" unreadable\nexpected hello, logon [bad], logoff, goodbye, reset, run TEXT HEX [r] [token T], begin [r] [token T], commit, rollback, discard N or pull N\n",
+        err,
+    );
 }
 
 /// Writes a fault on a line, `fault I1` and the like, and answers the exit status: 3 for want of memory, else 1. It takes no memory.

@@ -2,14 +2,15 @@
 ghost use Rattle.std.specs.Prelude.{◌≡◌, IfOk, string_bytes};
 ghost use Rattle.cells.specs.Shape.{shape, shapes};
 ghost use Rattle.messages.specs.View.{response_view};
-ghost use Rattle.client.specs.Notes.{note};
-ghost use Rattle.programs.specs.Telling.{IsSpelled, IsTold, IsRowLine, row_line, heard_line, fault_line, failure_line, failure_told};
+ghost use Rattle.programs.specs.Telling.{IsSpelled, IsRowLine, row_line, heard_line, fault_line, failure_line};
 ghost use Rattle.programs.specs.Names.{outcome_name, phase_name};
 
 use crate::escapes::escape;
 use crate::names::{outcome_name, phase_name};
+use arrayvec::ArrayString;
 use bytes::BytesMut;
-use client::{Heard, Outcome};
+use client::Outcome;
+use itoa::Buffer;
 use machine::Phase;
 use messages::Response;
 use packstream::encode;
@@ -17,24 +18,27 @@ use std::alloc::{AllocError, Global};
 use structures::{Cell, write};
 use wire::Version;
 
-/// `row HEX` or `heard ORDINAL OUTCOME PHASE` on a line, or nothing. A row that was heard at the version can be written.
-pub(crate) fn told(alloc: Global, version: Version, heard: Heard) -> Result<String, AllocError>
-    ensures { IfOk result (λ t. IsTold version (note heard) (string_bytes t)) }
+/// How many bytes the line of a summary has at most: it has 49 at the longest number and names.
+const LONGEST: usize = 64;
+
+/// `heard ORDINAL OUTCOME PHASE` on a line. It takes no memory.
+pub(crate) fn heard_line(ordinal: u64, outcome: Outcome, phase: Phase) -> ArrayString<LONGEST>
+    ensures { result.bytes ≡ heard_line ordinal (outcome_name outcome) (phase_name phase) }
 {
-    match heard {
-        Heard::Nothing => Ok(String::new(alloc)),
-        Heard::Version(_) => Ok(String::new(alloc)),
-        Heard::Row(cells) => row(alloc, version, cells),
-        Heard::Summary {
-            ordinal,
-            phase,
-            outcome,
-            ..
-        } => summary(alloc, ordinal, outcome, phase),
-    }
+    let mut digits = Buffer::new();
+    let mut line = ArrayString::new();
+    line.push_str("heard ");
+    line.push_str(digits.format(ordinal));
+    line.push_str(" ");
+    line.push_str(outcome_name(outcome));
+    line.push_str(" ");
+    line.push_str(phase_name(phase));
+    line.push_str("\n");
+    line
 }
 
-fn row(alloc: Global, version: Version, cells: Vec<Cell>) -> Result<String, AllocError>
+/// `row HEX` on a line. A row that was heard at the version can be written.
+pub(crate) fn row(alloc: Global, version: Version, cells: Vec<Cell>) -> Result<String, AllocError>
     ensures { IfOk result (λ t. IsRowLine version (shapes cells.items) (string_bytes t)) }
 {
     let list = Cell::List(cells);
@@ -91,17 +95,8 @@ fn summary_text(
     Ok(text)
 }
 
-/// `fault CODE MESSAGE` on a line, of the summary that is a FAILURE alone.
-pub(crate) fn failure_of(alloc: Global, heard: &Heard) -> Result<Vec<u8>, AllocError>
-    ensures { IfOk result (λ t. t.items ≡ failure_told (note heard.now)) }
-{
-    match heard {
-        Heard::Summary { response, .. } => failure(alloc, response),
-        _ => Ok(Vec::new(alloc)),
-    }
-}
-
-fn failure(alloc: Global, response: &Response) -> Result<Vec<u8>, AllocError>
+/// `fault CODE MESSAGE` on a line, of a FAILURE alone.
+pub(crate) fn failure(alloc: Global, response: &Response) -> Result<Vec<u8>, AllocError>
     ensures { IfOk result (λ t. t.items ≡ failure_line (response_view response.now)) }
 {
     match response {

@@ -85,7 +85,7 @@ const COMMITS: &[u8] = b"hello\nlogon\nbegin\ncommit\n";
 const GREETED: &str =
     "version 5.1; each line is a request: hello, logon [bad], logoff, goodbye, reset, run TEXT HEX [r] [token T], begin [r] [token T], commit, rollback, discard N or pull N\n";
 
-const NOT_GREETED: &str = "no conversation: no version was taken, or the server is gone\n";
+const NOT_GREETED: &str = "the server took no version\nno conversation\n";
 
 /// A shell: the answers of its server, how many of them come before its stream fails, what is told at the start, and the case.
 type Shell = (&'static [&'static [u8]], usize, &'static str, Case);
@@ -166,7 +166,7 @@ const SHELLS: [Shell; 12] = [
         Case {
             lines: COMMITS,
             out: BEGUN,
-            err: "lost 3 Unknown\n",
+            err: "lost 3 Unknown\nthe server is gone\n",
             status: 0,
         },
     ),
@@ -177,7 +177,7 @@ const SHELLS: [Shell; 12] = [
         Case {
             lines: COMMITS,
             out: BEGUN,
-            err: "lost 3 Unknown\n",
+            err: "lost 3 Unknown\nthe server is gone\n",
             status: 0,
         },
     ),
@@ -188,7 +188,7 @@ const SHELLS: [Shell; 12] = [
         Case {
             lines: COMMITS,
             out: BEGUN,
-            err: "lost 3 Unknown\n",
+            err: "lost 3 Unknown\nthe server's answer can't be: C6\n",
             status: 0,
         },
     ),
@@ -211,7 +211,7 @@ const SHELLS: [Shell; 12] = [
         Case {
             lines: b"hello\nlogon\nbegin\nrun PUT A0\ncommit\n",
             out: "heard 0 Done Unauth\nheard 1 Done Ready\nheard 2 Done TxReady\nline 5 C4\n",
-            err: "lost 3 Lost\n",
+            err: "lost 3 Lost\nthe server is gone\n",
             status: 0,
         },
     ),
@@ -361,19 +361,23 @@ fn serves_one_after_another(rt: HostRuntime) -> Result<(), Fail> {
     let mut out = Buffer::new(Vec::new(rt.alloc()));
     let mut broken = Pieces::new(&[], 0);
     let lost = serve_next(rt.alloc(), &mut server, &mut broken, &mut sink, &mut out);
-    let failed = ServedOne {
-        cause: Cause::Lost,
-        fault: Some(StreamFault::ReadFailed),
-    };
-    assert_eq!(rt; lost, Ok(failed));
+    assert_eq!(rt;
+        lost,
+        Ok(ServedOne {
+            cause: Cause::Lost,
+            fault: Some(StreamFault::ReadFailed)
+        })
+    );
     assert_eq!(rt; sink.bytes().len(), 0);
     let mut source = Slice::new(FAREWELL);
     let ended = serve_next(rt.alloc(), &mut server, &mut source, &mut sink, &mut out);
-    let left = ServedOne {
-        cause: Cause::Goodbye,
-        fault: None,
-    };
-    assert_eq!(rt; ended, Ok(left));
+    assert_eq!(rt;
+        ended,
+        Ok(ServedOne {
+            cause: Cause::Goodbye,
+            fault: None
+        })
+    );
     assert_eq!(rt; sink.bytes(), [0, 0, 4, 4].as_slice());
     assert_eq!(rt; out.bytes(), b"conn 0 E8\nconn 1 E7\n".as_slice());
     Ok(())

@@ -15,7 +15,7 @@ loop-one-preserved g c =
     record {
       client = c.in-Ok.ensures.client ∙ so.client;
       version = version_next v note c.loop-one.yielded c.in-Some.one c.loop-one.caller.version c.put_heard.new.self.version so.version c.in-Ok.ensures.version;
-      prints = notes_next v note c.loop-one.yielded c.in-Some.one c.loop-one.caller.version (g.O.Sink.taken c.args.out.now) (g.O.Sink.taken c.loop-one.out) (g.O.Sink.taken c.put_heard.new.out) so.version so.prints c.in-Ok.ensures.told;
+      prints = notes_next v note c.loop-one.yielded c.in-Some.one c.loop-one.caller.version (g.O.Sink.taken c.args.out.now) (g.O.Sink.taken c.loop-one.out) (g.O.Sink.taken c.put_heard.new.out) so.version so.prints c.in-Ok.ensures.puts;
       parts = append_assoc c.loop-one.yielded (c.in-Some.one ∷ []) c.next.new.self.rest.items ∙ ap (λ xs. c.loop-one.yielded ++ xs) (sym c.in-Some.ensures.steps.0) ∙ so.parts;
     }
 

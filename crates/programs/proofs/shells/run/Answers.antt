@@ -3,7 +3,7 @@ use Rattle.std.specs.Io.KnownBytes.{Consumes}
 use Rattle.std.proofs.KnownBytes.{Consumes-kept, Consumes-trans}
 use Rattle.streams.specs.declared.fault.StreamFault.TheVariants.{ReadFailed, WriteFailed}
 use Rattle.programs.specs.declared.stop.Stop.TheVariants.{Broken}
-use Rattle.programs.proofs.Followed.{at_end, nothing_done, runs_at_first, runs_to_end, stops_behind}
+use Rattle.programs.proofs.Followed.{at_end, nothing_done, runs_at_first, runs_to_end, stops_behind, turn_first}
 use Rattle.programs.proofs.Stops.{never_err, unless_so, unless_stops, unless_then}
 use Rattle.programs.proofs.shells.run.Goals as goal
 
@@ -89,3 +89,12 @@ returns-then-len-eq0-clause-input g c = unless_so c.send.result (Broken ReadFail
 
 pub returns-in-Err-take-clause-input : goal.returns-in-Err-take-clause-input
 returns-in-Err-take-clause-input g c = λ n h. absurd (never_err c.read.result _ c.in-Ok-read.is (c.read.ensures.failed.1 h))
+
+pub begin-requires : goal.begin-requires
+begin-requires g c = λ s taken n few turn. c.requires s taken n few (turn_first _ (g.S.Peer.left s) taken c.in-Ok.conversation.caller c.in-Ok.ensures.new.0 turn)
+
+pub send-requires : goal.send-requires
+send-requires g c = λ s taken n few turn. c.requires s taken n few (turn _ c.loop-len.invariant.2.done c.loop-len.invariant.2.stands)
+
+pub take-requires : goal.take-requires
+take-requires g c = λ s taken n few turn. c.requires s taken n few (turn _ c.loop-len.invariant.0 c.loop-len.invariant.2)

@@ -8,9 +8,9 @@ use Rattle.programs.proofs.shells.run.Given as goal
 abbrev pub invariant-loop-len : goal.invariant-loop-len
 invariant-loop-len g l =
     (script : List ℕ) × Consumes (g.I.Source.left l.fn.input) (g.I.Source.left l.input) script
-    × Progress (streams_at (g.S.Source.left l.fn.source) (g.T.Sink.taken l.fn.sink) (g.O.Sink.taken l.fn.out) (g.E.Sink.taken l.fn.err) (g.E.Sink.has_failed l.fn.err))
-    (streams_at (g.S.Source.left l.source) (g.T.Sink.taken l.sink) (g.O.Sink.taken l.out) (g.E.Sink.taken l.err) (g.E.Sink.has_failed l.err)) script l.conversation
-    × StaysSound (g.I.Source.has_failed l.fn.input) (g.I.Source.has_failed l.input) × StaysSound (g.S.Source.has_failed l.fn.source) (g.S.Source.has_failed l.source)
+    × Progress (streams_at (g.S.Peer.left l.fn.source) (g.T.Sink.taken l.fn.sink) (g.O.Sink.taken l.fn.out) (g.E.Sink.taken l.fn.err) (g.E.Sink.has_failed l.fn.err))
+    (streams_at (g.S.Peer.left l.source) (g.T.Sink.taken l.sink) (g.O.Sink.taken l.out) (g.E.Sink.taken l.err) (g.E.Sink.has_failed l.err)) script l.conversation
+    × StaysSound (g.I.Source.has_failed l.fn.input) (g.I.Source.has_failed l.input) × StaysSound (g.S.Peer.has_failed l.fn.source) (g.S.Peer.has_failed l.source)
     × StaysSound (g.T.Sink.has_failed l.fn.sink) (g.T.Sink.has_failed l.sink) × StaysSound (g.O.Sink.has_failed l.fn.out) (g.O.Sink.has_failed l.out)
 
 -- how many more reads may give bytes

@@ -9,13 +9,16 @@ pub returns-in-Ok-clause-shells : goal.returns-in-Ok-clause-shells
 returns-in-Ok-clause-shells g c = record { stop = None; ends = refl; cause = tt; told = g.E.Sink.taken c.run.new.err; deaf = g.E.Sink.has_failed c.run.new.err; runs = c.in-Ok.ensures.runs; said = gets_none _ _ }
 
 pub returns-in-Err-clause-shells : goal.returns-in-Err-clause-shells
-returns-in-Err-clause-shells g c = shell_stops (λ e. c.in-Err.ensures.read (ap Err e)) (λ e. c.in-Err.ensures.written (ap Err e)) c.in-Err.ensures.runs c.put_stop.ensures
+returns-in-Err-clause-shells g c = shell_stops (λ e. c.in-Err.ensures.read (ap Err e)) (λ e. c.in-Err.ensures.written (ap Err e)) c.in-Err.ensures.runs c.put_stop.ensures.status c.put_stop.ensures.text
 
 pub returns-in-Ok-clause-sound : goal.returns-in-Ok-clause-sound
 returns-in-Ok-clause-sound g c = λ n. (c.in-Ok.ensures.input, c.in-Ok.ensures.source, c.in-Ok.ensures.sink, c.in-Ok.ensures.out)
 
 pub returns-in-Err-clause-sound : goal.returns-in-Err-clause-sound
 returns-in-Err-clause-sound g c = λ n.
-    let read = never_failed ReadFailed refl c.put_stop.ensures n in
-    let written = never_failed WriteFailed refl c.put_stop.ensures n in
+    let read = never_failed ReadFailed refl c.put_stop.ensures.status n in
+    let written = never_failed WriteFailed refl c.put_stop.ensures.status n in
     (c.in-Err.ensures.input read, c.in-Err.ensures.source read, c.in-Err.ensures.sink written, c.in-Err.ensures.out written)
+
+pub run-requires : goal.run-requires
+run-requires g c = c.requires

@@ -1,11 +1,17 @@
-use Rattle.std.proofs.Common.{refl, inl, []}
-use Rattle.std.proofs.KnownBytes.{Appends-nil, Consumes-nil}
+use Rattle.std.proofs.Common.{refl, inl, sym, subst, [], None}
+use Rattle.std.specs.Io.KnownBytes.{Appends}
+use Rattle.std.proofs.KnownBytes.{Consumes-nil}
 use Rattle.streams.specs.declared.fault.StreamFault.TheVariants.{WriteFailed}
-use Rattle.programs.specs.Prelude.{sent_out}
+use Rattle.programs.specs.Prelude.{sent_out, outs_of}
 use Rattle.programs.proofs.Heard.{puts_out, written_then}
-use Rattle.programs.proofs.Printed.{prints_whole}
+use Rattle.programs.proofs.Printed.{nothing_heard}
 use Rattle.programs.proofs.Stops.{unless_so}
 use Rattle.programs.proofs.caller.Caller.converse.Goals as goal
+
+pub hear_all-requires : goal.hear_all-requires
+hear_all-requires g c = λ s taken n few turn. c.requires s taken n few (λ p at.
+    let out = c.in-Ok.ensures.out p.rest at.fits in
+    record { awaited = turn.1 (sent_out p out.0) (record { fits = out.2; version = at.version }); asked = subst (λ z. Appends (g.T.Sink.taken c.args.sink.now) z p.rest.unsent) (sym turn.0) out.1.0 })
 
 pub returns-in-Ok-clause-converses : goal.returns-in-Ok-clause-converses
 returns-in-Ok-clause-converses g c = λ p at.
@@ -16,17 +22,19 @@ returns-in-Ok-clause-converses g c = λ p at.
 pub returns-in-Err-clause-converses : goal.returns-in-Err-clause-converses
 returns-in-Err-clause-converses g c = λ p at.
     let h = c.in-Err.ensures.out p.rest at.fits in
-    let old = g.O.Sink.taken c.args.out.now in (
+    let old = outs_of g.O.Sink.taken g.E.Sink.taken g.E.Sink.has_failed c.args.out.now c.args.err.now in (
       h.0,
       puts_out p.rest h.0 (g.T.Sink.taken c.args.sink.now) (g.T.Sink.taken c.write_out.new.sink) c.in-Err.fault c.in-Err.ensures.fault h.1,
       record {
         fed = [];
         unheard = [];
-        input = Consumes-nil (g.S.Source.left c.args.source.now);
+        input = Consumes-nil (g.S.Peer.left c.args.source.now);
         needed = inl refl;
-        whole = λ _. inl refl;
+        broken = None;
+        breaks = inl refl;
+        whole = λ _. (refl, inl refl);
         now = h.2;
-        prints = prints_whole p.version [] [] _ old old refl (Appends-nil old);
+        prints = nothing_heard p.version old;
       },
     )
 

@@ -2,16 +2,22 @@ use Rattle.std.proofs.Common.{◌∙◌, sym, refl, []}
 use Rattle.std.proofs.KnownBytes.{Appends-nil}
 use Rattle.client.specs.Prelude.{Fits}
 use Rattle.streams.specs.Prelude.{after_all}
-use Rattle.streams.proofs.Asked.{reads_none}
+use Rattle.streams.proofs.Asked.{is_awaited, reads_none}
 use Rattle.programs.proofs.Heard.{all_heard, heard_at, heard_end, heard_more, heard_part, stands_so}
+use Rattle.programs.proofs.Moved.{gets_none}
 use Rattle.programs.proofs.caller.Caller.hear_all.Goals as goal
+
+pub hear_some-requires : goal.hear_some-requires
+hear_some-requires g c = λ n few.
+    c.requires c.loop-self.source (g.T.Sink.taken c.args.sink.now) n few
+    (refl, λ p stands. let so = c.loop-self.invariant.heard p stands in is_awaited so.reads (sym (c.awaits.ensures (after_all p.rest so.reads.fed) so.reads.now) ∙ c.loop-self-test.true))
 
 pub loop-self-init : goal.loop-self-init
 loop-self-init g c = record {
   heard = λ p at. record {
     notes = [];
-    reads = reads_none p.rest (g.S.Source.left c.args.source.now) [] (Fits c.args.self.now.client) at.fits;
-    prints = record { text = []; told = refl; printed = Appends-nil (g.O.Sink.taken c.args.out.now); version = at.version };
+    reads = reads_none p.rest (g.S.Peer.left c.args.source.now) [] (Fits c.args.self.now.client) at.fits;
+    prints = record { text = []; told = refl; printed = Appends-nil (g.O.Sink.taken c.args.out.now); quiet = gets_none (g.E.Sink.has_failed c.args.err.now) (g.E.Sink.taken c.args.err.now); version = at.version };
   };
   source = λ h. h;
   out = λ h. h;
@@ -38,7 +44,7 @@ returns-in-Err-clause-hears g c = λ p stands.
     let so = c.loop-self.invariant.heard p stands in
     let here = heard_at p so.reads.fed so.notes in
     let waits = sym (c.awaits.ensures here.rest so.reads.now) ∙ c.loop-self-test.true in
-    heard_part so c.in-Err.fault waits (c.in-Err.ensures.hears here (stands_so so))
+    heard_part so c.in-Err.fault (c.in-Err.ensures.hears here (stands_so so)) waits
 
 pub returns-clause-hears : goal.returns-clause-hears
 returns-clause-hears g c = λ p stands.

@@ -10,3 +10,6 @@ pub returns-clause-begins : goal.returns-clause-begins
 returns-clause-begins g c = λ at.
     let x = c.in-Ok.ensures.asks first_place at in
     begins _ _ x (greeted _ _ _ _ x.now (c.has_ended.ensures x.place.rest x.now.fits) c.greet.ensures)
+
+pub ask-requires : goal.ask-requires
+ask-requires g c = c.requires

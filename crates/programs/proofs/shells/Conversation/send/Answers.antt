@@ -19,3 +19,6 @@ returns-in-Err-clause-sink g c = unless_stops c.in-Err.fault WriteFailed _ c.in-
 
 pub returns-in-Err-clause-out : goal.returns-in-Err-clause-out
 returns-in-Err-clause-out g c = unless_stops c.in-Err.fault WriteFailed _ c.in-Err.ensures.out
+
+pub submit-requires : goal.submit-requires
+submit-requires g c = c.requires

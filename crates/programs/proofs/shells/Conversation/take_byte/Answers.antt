@@ -27,3 +27,6 @@ pub returns-clause-takes : goal.returns-clause-takes
 returns-clause-takes g c = λ start script p.
     let number : c.in-Some.next ≡ c.args.self.now.number + 1 = search rules in
     rw c.if-byte-ne10.false (next_line p (c.in-Ok-send.ensures.sends start p.done p.stands) number c.clear.ensures.items)
+
+pub send-requires : goal.send-requires
+send-requires g c = λ s taken n few turn. c.requires s taken n few (λ start script p. turn start p.done p.stands)
