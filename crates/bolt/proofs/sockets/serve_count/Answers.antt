@@ -16,5 +16,5 @@ pub loop-preserved : goal.loop-preserved
 loop-preserved g c =
     let s = c.loop.invariant.serving in
     let h : HasServed s.rest (Fits ledger_of c.serve_next.new.server) = c.in_ok-serve_next.ensures.ok s.rest s.fits s.idle in
-    let line = subst (λ (n : ℕ). Appends (g.O.Sink.taken c.loop.out) (g.O.Sink.taken c.serve_next.new.out) (conn_line n c.in_ok-serve_next.field-0)) s.number (c.in_ok-serve_next.ensures.told s.rest s.fits) in
-    record { serving = record { rest = _; fits = h.1; idle = refl; number = ap (λ (n : ℕ). n + 1) s.number }; told = served_one (g.O.Sink.taken c.args.out.now) (g.O.Sink.taken c.loop.out) (g.O.Sink.taken c.serve_next.new.out) c.args.port c.loop.counter c.in_ok-serve_next.field-0 c.loop.invariant.told line }
+    let line = subst (λ (n : ℕ). Appends (g.O.Sink.taken c.loop.out) (g.O.Sink.taken c.serve_next.new.out) (conn_line n c.in_ok-serve_next.field-0.cause)) s.number (c.in_ok-serve_next.ensures.told s.rest s.fits) in
+    record { serving = record { rest = _; fits = h.1; idle = refl; number = ap (λ (n : ℕ). n + 1) s.number }; told = served_one (g.O.Sink.taken c.args.out.now) (g.O.Sink.taken c.loop.out) (g.O.Sink.taken c.serve_next.new.out) c.args.port c.loop.counter c.in_ok-serve_next.field-0.cause c.loop.invariant.told line }
