@@ -23,7 +23,7 @@ use messages::Count;
 use std::alloc::AllocError;
 
 /// What the engine would answer to a commit of these writes under this token. A ledger that would be as long as it may not be is refused
-/// as want of memory, but only where an entry would be added.
+/// as want of memory.
 #[tactic(auto, using(crate::proofs::Commits::known_told, crate::proofs::Commits::added_told))]
 pub(crate) fn commit_of<E: Engine>(
     engine: &E,
