@@ -9,11 +9,9 @@ use wire::Wish;
 /// One end of a connection: it puts out an offer and the requests that it accepts, and tells what it hears of a server.
 ///
 /// ```rust
-/// let Ok(mut client) = Client::new(alloc, Wish::Only(Version::V51)) else {
-///     return Ok(());
-/// };
+/// let mut client = Client::new(alloc, Wish::Only(Version::V51))?;
 /// // The version has to be heard before the first request is submitted.
-/// let _version = ask_all(alloc, &mut client, &mut source, &mut sink);
+/// let told = ask_all(alloc, &mut client, &mut source, &mut sink);
 /// ```
 #[derive(Drop)]
 pub struct Client {
