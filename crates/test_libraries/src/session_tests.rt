@@ -415,26 +415,6 @@ const CONVERSATIONS: &[(&str, &[Turn])] = &[
     ),
     ("ends malformed", &[(0, 1, READY), (0, 1, ENDS_MALFORMED)]),
     ("claims too much", &[(0, 1, CLAIMS_TOO_MUCH)]),
-    (
-        "malformed in one piece",
-        &[
-            (0, 1, SHAKES),
-            (0, 1, TRAILING),
-            (0, 1, ENDS),
-            (1, 1, SHAKES),
-            (1, 1, NO_REQUEST),
-            (1, 1, ENDS),
-            (2, 1, SHAKES),
-            (2, 1, A_FIELD_TOO_MANY),
-            (2, 1, ENDS),
-            (3, 1, SHAKES),
-            (3, 1, NO_ROWS),
-            (3, 1, ENDS),
-            (4, 1, SHAKES),
-            (4, 1, UNKNOWN_CELL),
-            (4, 1, ENDS),
-        ],
-    ),
     ("commits a transaction", &[(0, 1, READY), (0, 1, COMMITS)]),
     (
         "a repeated transaction commits once",
@@ -473,6 +453,30 @@ fn converses(rt: HostRuntime) -> Result<(), Fail> {
         plays(&rt, rt.alloc(), name, turns)?;
     }
     Ok(())
+}
+
+/// Sessions one after the other, each ended by one of the messages that stand for no request.
+const GIVES_UP: &[Turn] = &[
+    (0, 1, SHAKES),
+    (0, 1, TRAILING),
+    (0, 1, ENDS),
+    (1, 1, SHAKES),
+    (1, 1, NO_REQUEST),
+    (1, 1, ENDS),
+    (2, 1, SHAKES),
+    (2, 1, A_FIELD_TOO_MANY),
+    (2, 1, ENDS),
+    (3, 1, SHAKES),
+    (3, 1, NO_ROWS),
+    (3, 1, ENDS),
+    (4, 1, SHAKES),
+    (4, 1, UNKNOWN_CELL),
+    (4, 1, ENDS),
+];
+
+#[test]
+fn gives_up_what_is_malformed_in_one_piece(rt: HostRuntime) -> Result<(), Fail> {
+    plays(&rt, rt.alloc(), "malformed in one piece", GIVES_UP)
 }
 
 /// HELLO of the older version in its chunk, and the end of its message.
