@@ -13,6 +13,8 @@ mod limit_tests;
 #[cfg(test)]
 mod machine_tests;
 #[cfg(test)]
+mod malformed_tests;
+#[cfg(test)]
 mod messages_tests;
 #[cfg(test)]
 mod outcome_tests;
