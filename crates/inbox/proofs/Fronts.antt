@@ -13,16 +13,15 @@ use Rattle.reader.specs.Prelude.{Point, Reads, MayGoOn}
 use Rattle.reader.proofs.Pieces.{nothing_goes_on}
 use Rattle.inbox.specs.declared.stream.Stream.{Stream}
 use Rattle.inbox.specs.Standing.{IsAt}
-use Rattle.inbox.specs.Taking.{UsesUpAt, WantsRoom}
+use Rattle.inbox.specs.Taking.{WantsRoom}
 use Rattle.inbox.specs.Scanning.{Comes, Scans}
 use Rattle.inbox.proofs.Coming.{comes_none, comes_on, comes_all, left_of, taken_as, from_here}
 use Rattle.inbox.proofs.Parts.{keeps_going}
-use Rattle.inbox.proofs.Taken.{empty_is, at_part, used_up}
+use Rattle.inbox.proofs.Taken.{empty_is, at_part, UsesUp, uses_up}
 
 -- where room is wanted of a piece
-pub wants : (s : Stream) (piece : List ℕ) → s.is_over ≡ false → ((u : Unfinished) → IsAt s u → MayGoOn u.body) → ((u : Unfinished) → IsAt s u → wants_room (length u.body) (answer_from u piece) ≡ true)
-    → (u : Unfinished) → IsAt s u → WantsRoom u piece
-wants s piece going good room u is = record { good = good u is; some = ap (wants_room (length u.body)) (from_here u piece (is.over ∙ going)) ∙ room u is }
+pub wants : (s : Stream) (u v : Unfinished) (piece : List ℕ) → u ≡ v → IsAt s u → s.is_over ≡ false → MayGoOn u.body → wants_room (length u.body) (answer_from u piece) ≡ true → WantsRoom v piece
+wants s u v piece same is going good room = subst (λ w. WantsRoom w piece) same (record { good = good; some = ap (wants_room (length u.body)) (from_here u piece (is.over ∙ going)) ∙ room })
 
 -- ---- data alone
 
@@ -43,16 +42,16 @@ module _ (u : Unfinished) (piece : List ℕ) (c : Cut) (small : u.too_big ≡ fa
       (λ b reads. subst (λ (w : Part). Reads there (with_data w c.used (take (length piece - 0) (drop 0 piece)) b)) (sym what) (subst (λ (x : List ℕ). Reads there (b ++ x)) (sym taken) (read b reads)))
       (inr what)
 
-  data_taken : (s : Stream) → s.is_over ≡ false → Comes u piece (0 + c.used) s.chunks s.reader.here → UsesUpAt (takes chunks u piece) piece s
+  data_taken : (s : Stream) → s.is_over ≡ false → Comes u piece (0 + c.used) s.chunks s.reader.here → UsesUp u piece s
   data_taken s going h =
       let all : 0 + c.used ≡ length piece = omega (arith, used) in
       let scan : Scans u piece (record { used = 0 + c.used; what = part.Head }) s = comes_all u piece (0 + c.used) s small h (omega (arith, used)) in
       let took : ℕ → Took Unfinished Item = λ n. record { used = n; item = None; rest = unfinished_at s.chunks scan.body } in
-      used_up (takes chunks u piece) piece (unfinished_at s.chunks scan.body) s (scan.takes ∙ ap took all) (at_part s scan.body going scan.after scan.reads)
+      uses_up u piece (unfinished_at s.chunks scan.body) s (scan.takes ∙ ap took all) (at_part s scan.body going scan.after scan.reads)
 
 -- the reader has read it, and the position is the one behind it
 pub alone_taken : (u : Unfinished) (piece : List ℕ) (old new : Stream) → IsAt old u → (old.is_over ≡ false) × IsData old.chunks piece new.chunks → new.is_over ≡ old.is_over → ((b : List ℕ) → Reads old.reader.here b → Reads new.reader.here (b ++ piece))
-    → UsesUpAt (takes chunks u piece) piece new
+    → UsesUp u piece new
 alone_taken u piece old new is alone same read =
     let small : u.too_big ≡ false = is.over ∙ alone.0 in
     let used : (cut_at old.chunks piece).cut.used ≡ length piece = ap (λ (x : Cut). x.used) alone.1.cut in
@@ -97,5 +96,5 @@ module _ (m piece : List ℕ) (begins : BeginsWith m piece) where
     pub first_stays : IsAt s fresh
     first_stays = subst (λ (v : Unfinished). IsAt s v) none_come is
 
-    pub first_wants : WantsRoom u piece
-    first_wants = subst (λ (v : Unfinished). WantsRoom v piece) (sym none_come) (record { good = nothing_goes_on; some = ap (wants_room 0) (takes_first m piece begins) })
+    pub first_wants : (v : Unfinished) → u ≡ v → WantsRoom v piece
+    first_wants v same = subst (λ (w : Unfinished). WantsRoom w piece) (sym none_come ∙ same) (record { good = nothing_goes_on; some = ap (wants_room 0) (takes_first m piece begins) })

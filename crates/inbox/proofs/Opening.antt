@@ -1,12 +1,9 @@
 -- What is taken of a stream that so many bytes open.
-use Rattle.std.proofs.Common.{◌≡◌, refl, sym, ◌∙◌, ap, ap₂, subst, ℕ, zero, suc, ◌+◌, ◌-◌, ◌<◌, ◌≤◌, min, true, false, eqb, Option, Some, None, List, [], ◌∷◌, ◌++◌, length, take, arith, append_assoc, append-nil, length-append, length-take}
+use Rattle.std.proofs.Common.{◌≡◌, refl, sym, ◌∙◌, ap, ap₂, ℕ, zero, suc, ◌+◌, ◌-◌, ◌<◌, ◌≤◌, min, true, false, eqb, ltb, Option, Some, None, List, [], ◌∷◌, ◌++◌, length, take, arith, append_assoc, append-nil, length-append, length-take}
 use Rattle.std.proofs.lemmas.Bool.Decides.{nat_tests}
 use Rattle.std.proofs.lemmas.List.{take_all}
 use Rattle.wire.specs.Prelude.{Unfinished, fresh, Took, takes, one_more, ends_at, Item, Opening, chunks, Opened, opening, reading, opening_reader}
-use Rattle.reader.specs.Prelude.{Point, Reads}
-use Rattle.inbox.specs.declared.inbox.Inbox.{Inbox}
-use Rattle.inbox.specs.Standing.{Stands}
-use Rattle.inbox.specs.Opening.{HasCome, data_of}
+use Rattle.inbox.specs.Opening.{come}
 
 -- what is taken of chunks, in a stream that is open
 abbrev pub opened : Took Unfinished Item → Took Opened Item
@@ -42,34 +39,31 @@ module _ (k : ℕ) where
       ap (λ t. ends_at (reading (chunks.byte u b)) (chunks.item u b) t) (follows (chunks.byte u b) more)
       ∙ ends_at-opened (chunks.byte u b) (chunks.item u b) (takes chunks (chunks.byte u b) more)
 
--- What holds of a piece, by what had come before it.
-module _ (k : ℕ) (held : List ℕ) (i : Inbox) (piece : List ℕ) (Holds : Opened → Took Opened Item → Type 0) where
+-- What is taken of a piece, by what had come before it.
+module _ (k : ℕ) (held : List ℕ) (u : Unfinished) (piece : List ℕ) where
   -- the stream was open
-  pub by_chunks : k ≤ length held → ((v : Unfinished) → Stands i v → Holds (reading v) (opened (takes chunks v piece))) → (u : Opened) → HasCome k held i u → Holds u (takes (opening_reader k) u piece)
-  by_chunks all holds (opening bytes) is = absurd (omega (arith, is.few))
-  by_chunks all holds (reading v) is = subst (Holds (reading v)) (sym (follows k v piece)) (holds v is.1)
+  pub takes_open : k ≤ length held → takes (opening_reader k) (come k held u) piece ≡ opened (takes chunks u piece)
+  takes_open all = let no : ltb (length held) k ≡ false = grind (arith, nat_tests) in rw no (follows k u piece)
+
+  pub come_open : k ≤ length held → come k held u ≡ reading u
+  come_open all = let no : ltb (length held) k ≡ false = grind (arith, nat_tests) in rw no refl
 
   module _ (more : List ℕ) (used : ℕ) (lacks : length held < k) (used_is : used ≡ min (k - length held) (length piece)) (more_is : more ≡ held ++ take used piece) where
     longer : length more ≡ length held + used
     longer = omega (arith, ap length more_is, length-append held (take used piece), length-take used piece, used_is)
 
+    pub come_part : come k held u ≡ opening held
+    come_part = let yes : ltb (length held) k ≡ true = grind (arith, nat_tests) in rw yes refl
+
     -- it isn't open then
-    pub by_part : length more < k → (Stands i fresh → Holds (opening held) (took used None (opening more))) → (u : Opened) → HasCome k held i u → Holds u (takes (opening_reader k) u piece)
-    by_part less holds (opening bytes) is =
+    pub takes_part : length more < k → takes (opening_reader k) (come k held u) piece ≡ took used None (come k more u)
+    takes_part less =
+        let yes : ltb (length more) k ≡ true = grind (arith, nat_tests) in
         let all : used ≡ length piece = omega (arith, longer, used_is) in
         let whole : held ++ piece ≡ more = ap (λ l. held ++ l) (sym (take_all used piece (omega arith))) ∙ sym more_is in
-        subst (λ b. Holds (opening b) (takes (opening_reader k) (opening b) piece)) (sym is.bytes_are)
-        (subst (Holds (opening held)) (sym (goes_on k held piece (omega (arith, longer)) ∙ ap₂ (λ n l. took n None (opening l)) (sym all) whole)) (holds is.unread))
-    by_part less holds (reading v) is = absurd (omega (arith, is.0))
+        ap (λ o. takes (opening_reader k) o piece) come_part ∙ goes_on k held piece (omega (arith, longer)) ∙ ap₂ (λ n l. took n None (opening l)) (sym all) whole ∙ rw yes refl
 
     -- it is opened by the piece
-    pub by_whole : k ≤ length more → (Stands i fresh → Holds (opening held) (took used (Some (Opening more)) (reading fresh))) → (u : Opened) → HasCome k held i u → Holds u (takes (opening_reader k) u piece)
-    by_whole all holds (opening bytes) is =
-        subst (λ b. Holds (opening b) (takes (opening_reader k) (opening b) piece)) (sym is.bytes_are)
-        (subst (Holds (opening held)) (sym (opens k held piece used (omega (arith, longer)) (omega (arith, used_is)) (omega (arith, longer, used_is)) ∙ ap (λ l. took used (Some (Opening l)) (reading fresh)) (sym more_is))) (holds is.unread))
-    by_whole all holds (reading v) is = absurd (omega (arith, is.0))
-
--- the data of what has come was read
-pub data_read : (k : ℕ) (held : List ℕ) (i : Inbox) (p : Point) → ((v : Unfinished) → Stands i v → Reads p v.body) → (u : Opened) → HasCome k held i u → Reads p (data_of u)
-data_read k held i p read (opening bytes) is = read fresh is.unread
-data_read k held i p read (reading v) is = read v is.1
+    pub takes_whole : k ≤ length more → takes (opening_reader k) (come k held u) piece ≡ took used (Some (Opening more)) (reading fresh)
+    takes_whole all =
+        ap (λ o. takes (opening_reader k) o piece) come_part ∙ opens k held piece used (omega (arith, longer)) (omega (arith, used_is)) (omega (arith, longer, used_is)) ∙ ap (λ l. took used (Some (Opening l)) (reading fresh)) (sym more_is)

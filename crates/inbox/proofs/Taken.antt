@@ -12,7 +12,7 @@ use Rattle.inbox.specs.declared.brought.Brought.{Brought}
 use Rattle.inbox.specs.declared.brought.Brought.TheVariants as brought
 use Rattle.inbox.specs.declared.stream.Stream.{Stream}
 use Rattle.inbox.specs.Standing.{IsAt}
-use Rattle.inbox.specs.Taking.{Brings, TakesAt, UsesUpAt}
+use Rattle.inbox.specs.Taking.{Brings, TakesAt, Takes, used_up}
 use Rattle.inbox.specs.Scanning.{Scans}
 
 pub empty_is : (b : List ℕ) → length b ≡ 0 → b ≡ []
@@ -56,9 +56,17 @@ takes_gone u (b ∷ more) big =
     let later = takes_gone (after_limit u.body) more refl in
     record { rest = later.rest; takes = rw (same, none) (ap one_more later.takes); over = later.over; body = later.body }
 
--- a piece with which nothing ends
-pub used_up : (t : Took Unfinished Item) (piece : List ℕ) (rest : Unfinished) (s : Stream) → t ≡ record { used = length piece; item = None; rest = rest } → IsAt s rest → UsesUpAt t piece s
-used_up t piece rest s e at = record { used = ap (λ x. x.used) e; none = ap (λ x. x.item) e; rest = subst (IsAt s) (sym (ap (λ x. x.rest) e)) at }
+-- A piece is used up, nothing ends with it, and the stream stands in what is unfinished then.
+abbrev pub UsesUp : Unfinished → List ℕ → Stream → Type 0
+UsesUp u piece s = (takes chunks u piece ≡ used_up piece (takes chunks u piece).rest) × IsAt s (takes chunks u piece).rest
+
+pub uses_up : (u : Unfinished) (piece : List ℕ) (rest : Unfinished) (s : Stream) → takes chunks u piece ≡ used_up piece rest → IsAt s rest → UsesUp u piece s
+uses_up u piece rest s e at = let same : rest ≡ (takes chunks u piece).rest = sym (ap (λ (x : Took Unfinished Item). x.rest) e) in (e ∙ ap (used_up piece) same, subst (IsAt s) same at)
+
+-- what is told of the item that an inbox stands in
+pub told : {M : Type 0} (reads : List ℕ → Result M MsgFault → Type 0) (u v : Unfinished) (piece : List ℕ) (used : ℕ) (x : Brought M) (s : Stream) (rest : Unfinished) → u ≡ v → TakesAt reads (takes chunks u piece) used x s → rest ≡ (takes chunks u piece).rest
+    → Takes reads (takes chunks v piece) used x rest
+told reads u v piece used x s rest same t is = subst (λ (w : Unfinished). Takes reads (takes chunks w piece) used x rest) same (record { used_is = t.used_is; item = t.item; rest_is = is })
 
 module _ {M : Type 0} (reads : List ℕ → Result M MsgFault → Type 0) (u : Unfinished) (piece : List ℕ) where
   abbrev Is : ℕ → Brought M → Stream → Type 0

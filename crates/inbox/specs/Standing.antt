@@ -1,10 +1,9 @@
--- In which item of a stream of chunks an inbox stands.
+-- In which item of a stream of chunks what an inbox holds stands. Private functions and proofs alone need it.
 use Rattle.std.specs.Prelude.{◌≡◌, false}
 use Rattle.wire.specs.Unfinished.{Unfinished, unfinished_at}
 use Rattle.wire.specs.Scanning.{Holds}
 use Rattle.reader.specs.Piecewise.{Reads}
 use Rattle.inbox.specs.declared.stream.Stream.{Stream}
-use Rattle.inbox.specs.declared.inbox.Inbox.{Inbox}
 
 -- The stream stands in this item: its reader has read the data, and while no message was refused its position is that of the item.
 pub record IsAt (s : Stream) (u : Unfinished) : Type 0 where
@@ -12,6 +11,8 @@ pub record IsAt (s : Stream) (u : Unfinished) : Type 0 where
   pub reads : Reads s.reader.here u.body
   pub place : u.too_big ≡ false → (u ≡ unfinished_at s.chunks u.body) × Holds u.body s.chunks
 
--- the same of the inbox that has the stream
-abbrev pub Stands : Inbox → Unfinished → Type 0
-Stands i u = IsAt i.stream u
+-- What an inbox keeps: its stream stands in the item begun, its reader where it holds, and no message past the limit goes on.
+pub record IsKept (s : Stream) (u : Unfinished) : Type 0 where
+  pub at : IsAt s u
+  pub still : s.reader.held ≡ s.reader.here
+  pub going : s.is_over ≡ false → s.chunks.too_big ≡ false

@@ -10,7 +10,6 @@ use Rattle.messages.specs.declared.fault.MsgFault.TheVariants as fault
 use Rattle.inbox.specs.declared.brought.Brought.{Brought}
 use Rattle.inbox.specs.declared.brought.Brought.TheVariants as brought
 use Rattle.inbox.specs.declared.stream.Stream.{Stream}
-use Rattle.inbox.specs.declared.inbox.Inbox.{Inbox}
 use Rattle.inbox.specs.Standing.{IsAt}
 
 -- What was brought is this item, or that none ended; and of a message, what may be told of its bytes.
@@ -30,20 +29,16 @@ pub record TakesAt {M : Type 0} (reads : List ℕ → Result M MsgFault → Type
   pub item : Brings reads t.item x
   pub rest : IsAt s t.rest
 
--- All of a piece was used, nothing ended, and the stream stands in what is unfinished then.
-pub record UsesUpAt (t : Took Unfinished Item) (piece : List ℕ) (s : Stream) : Type 0 where
-  pub used : t.used ≡ length piece
-  pub none : t.item ≡ None
-  pub rest : IsAt s t.rest
+-- So many bytes were used, this was brought, and this is unfinished then.
+pub record Takes {M : Type 0} (reads : List ℕ → Result M MsgFault → Type 0) (t : Took Unfinished Item)
+    (used : ℕ) (x : Brought M) (rest : Unfinished) : Type 0 where
+  pub used_is : used ≡ t.used
+  pub item : Brings reads t.item x
+  pub rest_is : rest ≡ t.rest
 
--- the same of the inbox that has the stream
-abbrev pub Takes : {M : Type 0} → (List ℕ → Result M MsgFault → Type 0) → Took Unfinished Item → ℕ
-    → Brought M → Inbox → Type 0
-Takes reads t used x i = TakesAt reads t used x i.stream
-
--- and of a piece that is used up
-abbrev pub UsesUp : Took Unfinished Item → List ℕ → Inbox → Type 0
-UsesUp t piece i = UsesUpAt t piece i.stream
+-- all of a piece was used, and nothing ended
+abbrev pub used_up : List ℕ → Unfinished → Took Unfinished Item
+used_up piece rest = record { used = length piece; item = None; rest = rest }
 
 -- A piece wants room: something of it is kept or read, and it isn't of a message that is bad already.
 pub record WantsRoom (u : Unfinished) (piece : List ℕ) : Type 0 where

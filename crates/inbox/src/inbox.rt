@@ -1,6 +1,7 @@
 //! What an end keeps of a stream of chunks.
 ghost use Rattle.std.specs.Prelude.{◌≡◌, false};
 
+use crate::begun::Begun;
 use crate::brought::Brought;
 use crate::readable::Readable;
 use crate::stream::Stream;
@@ -8,14 +9,25 @@ use crate::whole_message::read_bytes;
 use reader::Reader;
 use reader::laws::{good_may_go_on, reads_more, reads_nothing};
 use std::alloc::{AllocError, Global};
+use std::marker::Model;
 use wire::{Chunks, Version};
 
-/// What has come of the message that isn't whole: the position in the chunks, and what was read of its data.
+/// What has come of the message that isn't whole: the position in the chunks, and what was read of its data. A contract sees the item.
 #[derive(Drop)]
 pub struct Inbox {
     stream: Stream,
-    ghost still: { stream.reader.held ≡ stream.reader.here },
-    ghost going: { stream.is_over ≡ false → stream.chunks.too_big ≡ false },
+    begun: Begun,
+}
+
+impl Model for Inbox {
+    ghost use Rattle.wire.specs.Unfinished.{Unfinished};
+    ghost use Rattle.inbox.specs.Standing.{IsKept};
+
+    ghost Value = { Unfinished };
+
+    ghost view = { λ a. a.begun.item };
+
+    ghost invariant = { λ a. IsKept a.stream a.begun.item };
 }
 
 impl Inbox {
@@ -24,12 +36,11 @@ impl Inbox {
     ghost use Rattle.wire.specs.Framing.{chunks};
     ghost use Rattle.wire.specs.Reader.{takes};
     ghost use Rattle.reader.specs.Piecewise.{Reads};
-    ghost use Rattle.inbox.specs.Standing.{Stands};
-    ghost use Rattle.inbox.specs.Taking.{Takes, UsesUp, WantsRoom};
+    ghost use Rattle.inbox.specs.Taking.{Takes, used_up, WantsRoom};
 
     /// Before the first byte of the chunks. It takes no memory.
     pub fn new(alloc: Global) -> Inbox
-        ensures { Stands result fresh }
+        ensures { result ≡ fresh }
     {
         reads_nothing();
         Inbox {
@@ -38,6 +49,7 @@ impl Inbox {
                 reader: Reader::new(alloc),
                 is_over: false,
             },
+            begun: Begun::new(),
         }
     }
 
@@ -45,12 +57,10 @@ impl Inbox {
     /// nothing; a message that is known to be bad takes none.
     #[inline]
     pub fn take_data(&mut self, piece: &[u8]) -> Result<bool, AllocError>
-        ensures data { (u : Unfinished) → Stands self.old u → result ≡ Ok true
-            → UsesUp (takes chunks u piece.now) piece.now self.new }
-        ensures other { (u : Unfinished) → Stands self.old u → result ≡ Ok false
-            → Stands self.new u }
-        ensures err { (u : Unfinished) → Stands self.old u
-            → OnErr result (Stands self.new u × WantsRoom u piece.now) }
+        ensures data { result ≡ Ok true
+            → takes chunks self.old piece.now ≡ used_up piece.now self.new }
+        ensures other { result ≡ Ok false → self.new ≡ self.old }
+        ensures err { OnErr result ((self.new ≡ self.old) × WantsRoom self.old piece.now) }
     {
         reads_more();
         good_may_go_on(&self.stream.reader);
@@ -59,6 +69,7 @@ impl Inbox {
         };
         self.stream.reader.advance(piece)?;
         self.stream.chunks = behind;
+        self.begun.take(piece);
         Ok(true)
     }
 
@@ -73,20 +84,21 @@ impl Inbox {
         version: Version,
         piece: &[u8],
     ) -> Result<(usize, Brought<M>), AllocError>
-        ensures ok { (u : Unfinished) → Stands self.old u
-            → IfOk result (λ t. Takes (M.reads version) (takes chunks u piece.now) t.0 t.1
-            self.new) }
+        ensures ok { IfOk result
+            (λ t. Takes (M.reads version) (takes chunks self.old piece.now) t.0 t.1 self.new) }
         ensures within { IfOk result (λ t. t.0 ≤ length piece.now) }
         ensures some { 0 < length piece.now → IfOk result (λ t. 0 < t.0) }
-        ensures err { (u : Unfinished) → Stands self.old u
-            → OnErr result (Stands self.new u × WantsRoom u piece.now) }
+        ensures err { OnErr result ((self.new ≡ self.old) × WantsRoom self.old piece.now) }
     {
         if self.stream.is_over {
+            self.begun.take(piece);
             return Ok((piece.len(), Brought::Nothing));
         }
         if let Some(message) = self.stream.chunks.message_in(piece) {
             let brought = read_bytes(alloc, version, message)?;
-            return Ok((message.len() + 4, brought));
+            let used = message.len() + 4;
+            self.begun.take(piece);
+            return Ok((used, brought));
         }
         self.take_parts(alloc, version, piece)
     }
@@ -98,14 +110,12 @@ impl Inbox {
         version: Version,
         piece: &[u8],
     ) -> Result<(usize, Brought<M>), AllocError>
-        requires { self.old.stream.is_over ≡ false }
-        ensures ok { (u : Unfinished) → Stands self.old u
-            → IfOk result (λ t. Takes (M.reads version) (takes chunks u piece.now) t.0 t.1
-            self.new) }
+        requires { self.old.too_big ≡ false }
+        ensures ok { IfOk result
+            (λ t. Takes (M.reads version) (takes chunks self.old piece.now) t.0 t.1 self.new) }
         ensures within { IfOk result (λ t. t.0 ≤ length piece.now) }
         ensures some { 0 < length piece.now → IfOk result (λ t. 0 < t.0) }
-        ensures err { (u : Unfinished) → Stands self.old u
-            → OnErr result (Stands self.new u × WantsRoom u piece.now) }
+        ensures err { OnErr result ((self.new ≡ self.old) × WantsRoom self.old piece.now) }
     {
         good_may_go_on(&self.stream.reader);
         let place = self.stream.chunks;
@@ -115,13 +125,14 @@ impl Inbox {
             return Err(AllocError);
         };
         self.stream.reader.hold();
+        self.begun.take(piece);
         Ok(taken)
     }
 
     /// What was read of the message that isn't whole: its data, or a fault that each continuation of them has. The point that it holds is
     /// where it stands. It takes no memory.
     pub fn reader(&self) -> &Reader
-        ensures data { (u : Unfinished) → Stands self.now u → Reads result.now.here u.body }
+        ensures data { Reads result.now.here self.now.body }
         ensures held { result.now.held ≡ result.now.here }
     {
         &self.stream.reader

@@ -3,6 +3,7 @@
 //! An end reads what opens its stream itself; what follows is what an inbox takes.
 #![tactic(auto)]
 
+mod begun;
 mod brought;
 mod inbox;
 mod readable;

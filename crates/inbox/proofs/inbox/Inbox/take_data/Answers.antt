@@ -1,22 +1,41 @@
-use Rattle.std.proofs.Common.{ap, refl}
+use Rattle.std.proofs.Common.{◌≡◌, ap, refl, subst, sym, ◌∙◌}
 use Rattle.packstream.proofs.Ranges.{bytes_from_each}
-use Rattle.reader.specs.Prelude.{Points}
-use Rattle.inbox.proofs.Fronts.{alone_taken, alone_wants, wants}
-use Rattle.inbox.proofs.Taken.{at_held}
+use Rattle.wire.specs.Prelude.{Unfinished, takes, chunks}
+use Rattle.inbox.specs.declared.stream.Stream.{Stream}
+use Rattle.inbox.specs.Standing.{IsAt}
+use Rattle.inbox.specs.Taking.{used_up}
+use Rattle.inbox.proofs.Fronts.{alone_taken, alone_wants, alone_going, wants}
 use Rattle.inbox.proofs.Told.{err_holds}
 use Rattle.inbox.proofs.inbox.Inbox.take_data.Goals as goal
 
 pub returns-in_err-advance-clause-err : goal.returns-in_err-advance-clause-err
-returns-in_err-advance-clause-err c = λ u is.
-    let s = c.args.self.now.stream in
-    let piece = c.args.piece.now in
+returns-in_err-advance-clause-err c =
+    let i = c.self.inside in
+    let u = i.begun.item in
+    let at = c.self.invariant.at in
     err_holds c.from_residual.result _ (
-      at_held s _ u refl refl (ap (λ (p : Points). p.here) c.in_err-advance.ensures.err) is,
-      wants s piece c.in-Some.ensures.0 (λ v at. c.good_may_go_on.ensures v.body at.reads c.in_err-advance.ensures.memory) (alone_wants s piece c.in-Some.behind c.in-Some.ensures) u is,
+      c.self.view_is,
+      wants i.stream u c.args.self.now c.args.piece.now c.self.view_is at c.in-Some.ensures.0 (c.good_may_go_on.ensures u.body at.reads c.in_err-advance.ensures.memory) (alone_wants i.stream c.args.piece.now c.in-Some.behind c.in-Some.ensures u at),
     )
 
-pub returns-clause-data : goal.returns-clause-data
-returns-clause-data c = λ u is e.
-    let s = c.args.self.now.stream in
+pub invariant_of-self-2 : goal.invariant_of-self-2
+invariant_of-self-2 c =
+    let i = c.self.inside in
+    let s = i.stream in
     let piece = c.args.piece.now in
-    alone_taken u piece s _ is c.in-Some.ensures refl (λ b reads. c.reads_more.ensures s.reader.here c.advance.new.self.here b piece reads (bytes_from_each piece c.type_inv.piece) c.in_ok-advance.ensures.here)
+    let new : Stream = record { chunks = c.in-Some.behind; reader = c.advance.new.self; is_over = s.is_over } in
+    let all = alone_taken i.begun.item piece s new c.self.invariant.at c.in-Some.ensures refl (λ b reads. c.reads_more.ensures s.reader.here c.advance.new.self.here b piece reads (bytes_from_each piece c.type_inv.piece) c.in_ok-advance.ensures.here) in
+    record {
+      at = subst (IsAt new) (sym c.take.ensures) all.1;
+      still = c.in_ok-advance.ensures.held;
+      going = λ e. alone_going s.chunks c.in-Some.behind piece (c.self.invariant.going e) c.in-Some.ensures.1;
+    }
+
+pub returns-clause-data : goal.returns-clause-data
+returns-clause-data c = λ e.
+    let i = c.self.inside in
+    let s = i.stream in
+    let piece = c.args.piece.now in
+    let new : Stream = record { chunks = c.in-Some.behind; reader = c.advance.new.self; is_over = s.is_over } in
+    let all = alone_taken i.begun.item piece s new c.self.invariant.at c.in-Some.ensures refl (λ b reads. c.reads_more.ensures s.reader.here c.advance.new.self.here b piece reads (bytes_from_each piece c.type_inv.piece) c.in_ok-advance.ensures.here) in
+    subst (λ (v : Unfinished). takes chunks v piece ≡ used_up piece c.take.new.self.item) c.self.view_is (all.0 ∙ ap (used_up piece) (sym c.take.ensures))
