@@ -1,6 +1,5 @@
 -- What a piece does to the rest of a client's run.
-use Rattle.std.proofs.Common.{◌≡◌, refl, sym, ◌∙◌, ap, subst, ℕ, Bool, true, false, Option, Some, None, Result, Ok, Err, List, IsErrOf, if◌then◌else◌}
-use Rattle.wire.specs.declared.Wish.{Wish}
+use Rattle.std.proofs.Common.{◌≡◌, refl, sym, ◌∙◌, ap, subst, ℕ, Bool, true, false, Option, Some, None, Result, Ok, Err, List, if◌then◌else◌}
 use Rattle.wire.specs.Prelude.{Item, Opened, at_client, Took, takes}
 use Rattle.messages.specs.Prelude.{Heard as AnyHeard}
 use Rattle.client.specs.declared.heard.Heard.{Heard}
@@ -29,51 +28,37 @@ pub err_note : (used : ℕ) (e : ClientFault) (m : Note) (b : Bool) → ◌≡�
 err_note used e m true h = (cc, refl)
 err_note used e m false h = absurd cc
 
--- Now says where the client may stand.
-module _ (r : Rest) (m : Took Opened Item) (x : AnyHeard) (came : x ≡ came_in r.knows.version m.item) (Now : Rest → Type 0) (knows : Knows) (stands : (k : Knows) → knows ≡ k → Now (record r { item = m.rest; knows = k })) where
+-- What is heard of a piece, and what is known then.
+module _ (r : Rest) (m : Took Opened Item) (x : AnyHeard) (came : x ≡ came_in r.knows.version m.item) (knows : Knows) (new : Rest) (is : new ≡ record r { item = m.rest; knows = knows }) where
   abbrev heard : Hearing
   heard = hears_item r.wish r.knows x
 
   by_heard : fed_open r m ≡ fed_heard (record r { item = m.rest }) m.used x heard
   by_heard = fed_came (record r { item = m.rest }) m.used m.item ∙ ap (λ y. fed_heard (record r { item = m.rest }) m.used y (hears_item r.wish r.knows y)) (sym came)
 
-  there : knows ≡ heard.knows → Now (fed_open r m).rest
-  there e = subst (λ (f : Fed). Now f.rest) (sym by_heard) (stands heard.knows e)
+  there : knows ≡ heard.knows → new ≡ (fed_open r m).rest
+  there e = is ∙ ap (λ (k : Knows). record r { item = m.rest; knows = k }) e ∙ sym (ap (λ (f : Fed). f.rest) by_heard)
 
-  pub heard_feeds : (used : ℕ) (told : Heard) → used ≡ m.used → Hears heard x (Ok told) knows → Feeds Now r (fed_open r m) (Ok (used, told))
+  pub heard_feeds : (used : ℕ) (told : Heard) → used ≡ m.used → Hears heard x (Ok told) knows → Feeds new r (fed_open r m) (Ok (used, told))
   heard_feeds used told u k = (ap (λ n. Ok (n, note told)) u ∙ ok_note m.used (note told) (note_of x heard) heard.bad k.0 ∙ sym (ap (λ f. f.answer) by_heard), there k.1)
 
-  pub refused_feeds : (e : ClientFault) → Hears heard x (Err e) knows → Feeds Now r (fed_open r m) (Err e)
+  pub refused_feeds : (e : ClientFault) → Hears heard x (Err e) knows → Feeds new r (fed_open r m) (Err e)
   refused_feeds e k =
       let bad = err_note m.used e (note_of x heard) heard.bad k.0 in
-      subst (λ z. Feeds Now r (fed_open r m) (Err z)) (sym bad.0) (bad.1 ∙ sym (ap (λ f. f.answer) by_heard), there k.1)
+      subst (λ z. Feeds new r (fed_open r m) (Err z)) (sym bad.0) (bad.1 ∙ sym (ap (λ f. f.answer) by_heard), there k.1)
 
 -- a piece with which nothing ends
-pub quiet_feeds : (r : Rest) (m : Took Opened Item) (Now : Rest → Type 0) (used : ℕ) → AnyHeard.Quiet ≡ came_in r.knows.version m.item → Now (record r { item = m.rest }) → used ≡ m.used → Feeds Now r (fed_open r m) (Ok (used, Nothing))
-quiet_feeds r m Now used came there u =
-    heard_feeds r m AnyHeard.Quiet came Now r.knows (λ k e. subst (λ (z : Knows). Now (record r { item = m.rest; knows = z })) e there) used Nothing u (refl, refl)
+pub quiet_feeds : (r : Rest) (m : Took Opened Item) (new : Rest) (used : ℕ) → AnyHeard.Quiet ≡ came_in r.knows.version m.item → new ≡ record r { item = m.rest } → used ≡ m.used → Feeds new r (fed_open r m) (Ok (used, Nothing))
+quiet_feeds r m new used came there u = heard_feeds r m AnyHeard.Quiet came r.knows new there used Nothing u (refl, refl)
 
--- by what was told, or the fault
-pub result_feeds : (r : Rest) (m : Took Opened Item) (Now : Rest → Type 0) (result other : Result (ℕ × Heard) ClientFault) → result ≡ other → Feeds Now r (fed_open r m) other → Feeds Now r (fed_open r m) result
-result_feeds r m Now result other is there = subst (Feeds Now r (fed_open r m)) (sym is) there
-
--- what is heard, by what a rest has of the client
-pub hears_by : (wish other : Wish) (k l : Knows) (x : AnyHeard) (result : Result Heard ClientFault) (knows : Knows) → wish ≡ other → k ≡ l → Hears (hears_item wish k x) x result knows → Hears (hears_item other l x) x result knows
-hears_by wish other k l x result knows same known h =
-    subst (λ (w : Wish). Hears (hears_item w l x) x result knows) same (subst (λ (z : Knows). Hears (hears_item wish z x) x result knows) known h)
-
--- for every rest that the client fitted
+-- where it goes on
 same_open : (r : Rest) (piece : List ℕ) → r.knows.over ≡ false → feed_of r piece ≡ fed_open r (takes at_client r.item piece)
 same_open r piece o = rw o refl
 
-pub feeds_rests : (r : Rest) (piece : List ℕ) (result : Result (ℕ × Heard) ClientFault) (Now : Rest → Type 0) → r.knows.over ≡ false → Feeds Now r (fed_open r (takes at_client r.item piece)) result
-    → UnlessMemory result ((note_result result ≡ (feed_of r piece).answer) × Now (feed_of r piece).rest)
-feeds_rests r piece result Now o h = subst (λ (f : Fed). UnlessMemory result ((note_result result ≡ f.answer) × Now f.rest)) (sym (same_open r piece o)) (go result h)
+pub feeds_rests : (r : Rest) (piece : List ℕ) (result : Result (ℕ × Heard) ClientFault) (new : Rest) → r.knows.over ≡ false → Feeds new r (fed_open r (takes at_client r.item piece)) result
+    → UnlessMemory result ((note_result result ≡ (feed_of r piece).answer) × (new ≡ (feed_of r piece).rest))
+feeds_rests r piece result new o h = subst (λ (f : Fed). UnlessMemory result ((note_result result ≡ f.answer) × (new ≡ f.rest))) (sym (same_open r piece o)) (go result h)
   where
-    go : (x : Result (ℕ × Heard) ClientFault) → Feeds Now r (fed_open r (takes at_client r.item piece)) x → UnlessMemory x ((note_result x ≡ (fed_open r (takes at_client r.item piece)).answer) × Now (fed_open r (takes at_client r.item piece)).rest)
+    go : (x : Result (ℕ × Heard) ClientFault) → Feeds new r (fed_open r (takes at_client r.item piece)) x → UnlessMemory x ((note_result x ≡ (fed_open r (takes at_client r.item piece)).answer) × (new ≡ (fed_open r (takes at_client r.item piece)).rest))
     go (Err client_fault.Memory) k = tt
     go _ k = k
-
-pub keeps_rests : (r : Rest) (f : Fed) (result : Result (ℕ × Heard) ClientFault) (Now : Rest → Type 0) → Feeds Now r f result → IsErrOf result client_fault.Memory → Now r
-keeps_rests r f (Err client_fault.Memory) Now h m = h
-keeps_rests r f _ Now h m = absurd cc

@@ -1,16 +1,15 @@
 -- What a client holds of its stream: the bytes of a version answer, and what they are heard as; and then chunks.
-use Rattle.std.proofs.Common.{◌≡◌, refl, ◌∙◌, ap, ℕ, ◌+◌, ◌<◌, ◌≤◌, false, Some, None, List, [], ◌∷◌, length, drop, slice_index_or, arith, length-take, bytes_eq}
+use Rattle.std.proofs.Common.{◌≡◌, refl, sym, subst, ◌∙◌, ap, ℕ, ◌+◌, ◌<◌, ◌≤◌, false, Some, None, List, [], ◌∷◌, length, drop, slice_index_or, arith, length-take, bytes_eq}
 use Rattle.std.proofs.lemmas.Bool.{cond_both}
 use Rattle.std.proofs.lemmas.List.{drop_more}
 use Rattle.wire.specs.declared.Version.{Version}
 use Rattle.wire.specs.Prelude.{versions, version_answer, Unfinished, Opened}
 use Rattle.messages.specs.Prelude.{Chosen, Strange, heard_among, heard_version}
-use Rattle.inbox.specs.declared.Inbox.{Inbox}
-use Rattle.inbox.specs.Standing.{Stands}
 use Rattle.inbox.specs.Taking.{WantsRoom as ChunksWant}
-use Rattle.inbox.proofs.Opening.{by_chunks}
+use Rattle.inbox.specs.Opening.{come}
+use Rattle.inbox.proofs.Opening.{come_open}
 use Rattle.client.specs.declared.version_answer.Opening.{Opening}
-use Rattle.client.specs.Prelude.{held_bytes, IsHeld, WantsRoom, plain}
+use Rattle.client.specs.Prelude.{held_bytes, WantsRoom, plain}
 
 plain_among : (vs : List Version) (bytes : List ℕ) → plain (heard_among vs bytes) ≡ heard_among vs bytes
 plain_among [] bytes = cond_both (bytes_eq bytes (version_answer None)) (Chosen None) Strange (λ x. plain x ≡ x) (λ e. refl) (λ e. refl)
@@ -27,7 +26,6 @@ heard_later vs i v bytes l e = ap (λ us. heard_among us bytes) (drop_more vs i 
 pub held-length : (o : Opening) → length o.bytes ≡ 4 → o.len ≤ 4 → length (held_bytes o) ≡ o.len
 held-length o four most = omega (arith, length-take o.len o.bytes)
 
--- chunks stay, and want room
-pub chunks_stay : (o : Opening) (old new : Inbox) (piece : List ℕ) → 4 ≤ length (held_bytes o) → ((v : Unfinished) → Stands old v → Stands new v × ChunksWant v piece) → (item : Opened) → IsHeld o old item → IsHeld o new item × WantsRoom item piece
-chunks_stay o old new piece all stays =
-    by_chunks 4 (held_bytes o) old piece (λ u m. IsHeld o new u × WantsRoom u piece) all (λ v at. let s = stays v at in ((all, s.0), record { good = s.1.good; some = s.1.some }))
+-- chunks want room
+pub chunks_want : (o : Opening) (u : Unfinished) (piece : List ℕ) → 4 ≤ length (held_bytes o) → ChunksWant u piece → WantsRoom (come 4 (held_bytes o) u) piece
+chunks_want o u piece all w = subst (λ (x : Opened). WantsRoom x piece) (sym (come_open 4 (held_bytes o) u piece all)) (record { good = w.good; some = w.some })

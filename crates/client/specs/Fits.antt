@@ -1,4 +1,4 @@
--- What a client holds, and the rests of runs that it fits.
+-- What a client holds, as the rest of a run.
 use Rattle.std.specs.Prelude.{◌≡◌, ℕ, map, Option, Some, None, Result, Ok, Err}
 use Rattle.wire.specs.declared.Version.{Version}
 use Rattle.messages.specs.View.{RequestView, request_view}
@@ -7,7 +7,7 @@ use Rattle.client.specs.declared.pipeline.Pipeline.{Pipeline}
 use Rattle.client.specs.declared.client.Client.{Client}
 use Rattle.client.specs.declared.faults.ClientFault.{ClientFault}
 use Rattle.client.specs.declared.faults.ClientFault.TheVariants as client_fault
-use Rattle.client.specs.Held.{IsItem}
+use Rattle.client.specs.Held.{item_of}
 use Rattle.client.specs.Rest.{Knows, Rest, refuses, next_ordinal}
 
 -- what the fields of a pipeline say
@@ -20,12 +20,18 @@ knowledge_of p = record {
   waiting = map request_view p.waiting.items;
 }
 
--- The client may stand at this rest of a run.
-pub record Fits (c : Client) (r : Rest) : Type 0 where
-  pub wish : c.wish ≡ r.wish
-  pub knows : knowledge_of c.pipeline ≡ r.knows
-  pub item : IsItem c.stream r.item
-  pub unsent : c.out.items ≡ r.unsent
+-- what a client holds
+abbrev pub rest_of : Client → Rest
+rest_of c = record {
+  wish = c.wish;
+  knows = knowledge_of c.pipeline;
+  item = item_of c.stream;
+  unsent = c.out.items;
+}
+
+-- For the crates above that still speak of every rest: the client's rest is this one.
+abbrev pub Fits : Client → Rest → Type 0
+Fits c r = rest_of c ≡ r
 
 -- The request has a spelling at this version that stands for it.
 abbrev pub IsWrittenBy : Option Version → RequestView → Type 0

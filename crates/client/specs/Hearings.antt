@@ -46,9 +46,9 @@ came_as came.Bad = AnyHeard.Strange
 came_as (came.Version o) = AnyHeard.Chosen o
 came_as (came.Response response) = AnyHeard.Told (response_view response)
 
--- what a feed answers, and that the client stands at the rest after it; not for want of memory
-abbrev pub Feeds : (Rest → Type 0) → Rest → Fed → Result (ℕ × Heard) ClientFault → Type 0
-Feeds Now old f (Ok used) = (note_result (Ok used) ≡ f.answer) × Now f.rest
-Feeds Now old f (Err client_fault.Closed) = (Err client_fault.Closed ≡ f.answer) × Now f.rest
-Feeds Now old f (Err client_fault.BadPeer) = (Err client_fault.BadPeer ≡ f.answer) × Now f.rest
-Feeds Now old f (Err client_fault.Memory) = Now old
+-- what a feed answers, and the rest after it; the same rest for want of memory
+abbrev pub Feeds : Rest → Rest → Fed → Result (ℕ × Heard) ClientFault → Type 0
+Feeds new old f (Ok used) = (note_result (Ok used) ≡ f.answer) × (new ≡ f.rest)
+Feeds new old f (Err client_fault.Closed) = (Err client_fault.Closed ≡ f.answer) × (new ≡ f.rest)
+Feeds new old f (Err client_fault.BadPeer) = (Err client_fault.BadPeer ≡ f.answer) × (new ≡ f.rest)
+Feeds new old f (Err client_fault.Memory) = new ≡ old

@@ -5,22 +5,13 @@ use Rattle.wire.specs.Framing.{Item, Opened}
 use Rattle.wire.specs.Reader.{Took}
 use Rattle.client.specs.declared.data.Came.TheVariants as came
 use Rattle.client.specs.declared.data.Taken.{Taken}
-use Rattle.client.specs.declared.version_answer.Opening.{Opening}
-use Rattle.client.specs.declared.stream.Stream.{Stream}
-use Rattle.inbox.specs.declared.inbox.Inbox.{Inbox}
-use Rattle.client.specs.Held.{IsHeld}
 use Rattle.client.specs.Hearings.{came_as, came_in}
 
--- what came of a piece, and what is held of the stream after it
-pub record Comes (v : Option Version) (m : Took Opened Item) (t : Taken) (o : Opening) (i : Inbox)
-    : Type 0 where
+-- what came of a piece, and what is unfinished after it
+pub record Comes (v : Option Version) (m : Took Opened Item) (t : Taken) (rest : Opened) : Type 0 where
   pub used : t.used ≡ m.used
-  pub rest : IsHeld o i m.rest
+  pub rest_is : rest ≡ m.rest
   pub came : came_as t.came ≡ came_in v m.item
-
--- the same of the stream that has these
-abbrev pub TakesPiece : Option Version → Took Opened Item → Taken → Stream → Type 0
-TakesPiece v m t s = Comes v m t s.opening s.inbox
 
 -- all of a piece was used, and nothing ended
 abbrev pub all_of : List ℕ → Taken

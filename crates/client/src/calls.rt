@@ -2,7 +2,7 @@
 
 ghost use Rattle.std.specs.Prelude.{◌≡◌, ◌≤◌, ◌<◌, ◌^◌, false, take, length, IfOk, IfErr, OnErr, IsErrOf};
 ghost use Rattle.messages.specs.View.{request_view};
-ghost use Rattle.client.specs.Rest.{Rest, begun, refuses, refuses_at_once, after_submit, feed_of, fed_open, taken_out, losses, after_drop, awaits};
+ghost use Rattle.client.specs.Rest.{begun, refuses, refuses_at_once, after_submit, feed_of, fed_open, taken_out, losses, after_drop, awaits};
 ghost use Rattle.client.specs.Notes.{note_result};
 ghost use Rattle.wire.specs.Framing.{at_client};
 ghost use Rattle.wire.specs.Reader.{takes};
@@ -10,7 +10,7 @@ ghost use Rattle.reader.specs.Piecewise.{Reads};
 ghost use Rattle.client.specs.Hearings.{Feeds};
 ghost use Rattle.inbox.specs.Opening.{data_of};
 ghost use Rattle.client.specs.Held.{WantsRoom};
-ghost use Rattle.client.specs.Fits.{Fits, IsAccepted, UnlessMemory};
+ghost use Rattle.client.specs.Fits.{rest_of, IsAccepted, UnlessMemory};
 ghost use Rattle.machine.specs.Limits.{max_waiting};
 
 use crate::asking::append;
@@ -41,9 +41,8 @@ fn used_up(used: usize) -> Result<(usize, Heard), ClientFault>
 
 impl Client {
     /// Its offer is to be taken out. C5 for want of memory.
-    #[tactic(auto, unfolding(crate::specs::Held::IsItem))]
     pub fn new(alloc: Global, wish: Wish) -> Result<Client, ClientFault>
-        ensures new { IfOk result (λ client. Fits client (begun wish)) }
+        ensures new { IfOk result (λ client. rest_of client ≡ begun wish) }
         ensures fault { IfErr result (λ e. e ≡ ClientFault.Memory) }
     {
         let Ok(waiting) = VecDeque::with_capacity(alloc, MAX_WAITING) else {
@@ -79,15 +78,13 @@ impl Client {
     ///
     /// Else the first of C4, C1, C2, C7 and C3 that holds, or C5; C4, C1 and C2 take no memory. Nothing has changed then.
     pub fn submit(&mut self, request: Request) -> Result<u64, SubmitFault>
-        ensures ok { (r : Rest) → Fits self.old r
-            → IfOk result (λ n. IsAccepted r (request_view request) n
-            × Fits self.new (after_submit r (request_view request))) }
-        ensures err { (r : Rest) → Fits self.old r → OnErr result (Fits self.new r) }
-        ensures fault { (r : Rest) → Fits self.old r
-            → IfErr result (λ e. (e ≡ SubmitFault.Memory → ⊥)
-            → refuses r.knows (request_view request) ≡ Some e) }
-        ensures memory { (r : Rest) → Fits self.old r → IsErrOf result SubmitFault.Memory
-            → refuses_at_once r.knows (request_view request) ≡ None }
+        ensures ok { IfOk result (λ n. IsAccepted (rest_of self.old) (request_view request) n
+            × (rest_of self.new ≡ after_submit (rest_of self.old) (request_view request))) }
+        ensures err { OnErr result (rest_of self.new ≡ rest_of self.old) }
+        ensures fault { IfErr result (λ e. (e ≡ SubmitFault.Memory → ⊥)
+            → refuses (rest_of self.old).knows (request_view request) ≡ Some e) }
+        ensures memory { IsErrOf result SubmitFault.Memory
+            → refuses_at_once (rest_of self.old).knows (request_view request) ≡ None }
     {
         let version = self.pipeline.admit(&request)?;
         append(version, &request, &mut self.out)?;
@@ -97,13 +94,12 @@ impl Client {
     /// The next bytes that aren't taken out, the smaller of `max` and what waits, after the client's end too; where that is none, without
     /// memory. Or C5, and nothing has changed.
     pub fn take_out(&mut self, max: usize) -> Result<Bytes, ClientFault>
-        ensures ok { (r : Rest) → Fits self.old r
-            → IfOk result (λ bytes. (bytes ≡ take max r.unsent) × Fits self.new (taken_out r max)) }
-        ensures err { (r : Rest) → Fits self.old r → OnErr result (Fits self.new r) }
+        ensures ok { IfOk result (λ bytes. (bytes ≡ take max (rest_of self.old).unsent)
+            × (rest_of self.new ≡ taken_out (rest_of self.old) max)) }
+        ensures err { OnErr result (rest_of self.new ≡ rest_of self.old) }
         ensures fault { IfErr result (λ e. e ≡ ClientFault.Memory) }
         ensures short { IfOk result (λ bytes. length bytes < 2 ^ 63) }
-        ensures memory { (r : Rest) → Fits self.old r
-            → OnErr result (0 < length (take max r.unsent)) }
+        ensures memory { OnErr result (0 < length (take max (rest_of self.old).unsent)) }
     {
         let count = max.min(self.out.len());
         let Ok(bytes) = self.out.freeze_to(count) else {
@@ -121,11 +117,12 @@ impl Client {
     /// for the version answer, headers and no-ops, and never once the message that isn't whole is known to be bad.
     #[inline(always)]
     pub fn feed(&mut self, piece: &[u8]) -> Result<(usize, Heard), ClientFault>
-        ensures told { (r : Rest) → Fits self.old r
-            → UnlessMemory result ((note_result result ≡ (feed_of r piece.now).answer)
-            × Fits self.new (feed_of r piece.now).rest) }
-        ensures memory { (r : Rest) → Fits self.old r → IsErrOf result ClientFault.Memory
-            → Fits self.new r × (r.knows.over ≡ false) × WantsRoom r.item piece.now }
+        ensures told { UnlessMemory result
+            ((note_result result ≡ (feed_of (rest_of self.old) piece.now).answer)
+            × (rest_of self.new ≡ (feed_of (rest_of self.old) piece.now).rest)) }
+        ensures memory { IsErrOf result ClientFault.Memory → (rest_of self.new ≡ rest_of self.old)
+            × ((rest_of self.old).knows.over ≡ false)
+            × WantsRoom (rest_of self.old).item piece.now }
         ensures within { IfOk result (λ t. t.0 ≤ length piece.now) }
         ensures goes_on { 0 < length piece.now → IfOk result (λ t. 0 < t.0) }
     {
@@ -139,10 +136,10 @@ impl Client {
     #[inline(always)]
     fn feed_open(&mut self, piece: &[u8]) -> Result<(usize, Heard), ClientFault>
         requires { self.old.pipeline.over ≡ false }
-        ensures feeds { (r : Rest) → Fits self.old r
-            → Feeds (Fits self.new) r (fed_open r (takes at_client r.item piece.now)) result }
-        ensures room { (r : Rest) → Fits self.old r → IsErrOf result ClientFault.Memory
-            → WantsRoom r.item piece.now }
+        ensures feeds { Feeds (rest_of self.new) (rest_of self.old) (fed_open (rest_of self.old)
+            (takes at_client (rest_of self.old).item piece.now)) result }
+        ensures room { IsErrOf result ClientFault.Memory
+            → WantsRoom (rest_of self.old).item piece.now }
         ensures within { IfOk result (λ t. t.0 ≤ length piece.now) }
         ensures goes_on { 0 < length piece.now → IfOk result (λ t. 0 < t.0) }
     {
@@ -157,10 +154,10 @@ impl Client {
     #[inline(never)]
     fn feed_item(&mut self, piece: &[u8]) -> Result<(usize, Heard), ClientFault>
         requires { self.old.pipeline.over ≡ false }
-        ensures feeds { (r : Rest) → Fits self.old r
-            → Feeds (Fits self.new) r (fed_open r (takes at_client r.item piece.now)) result }
-        ensures room { (r : Rest) → Fits self.old r → IsErrOf result ClientFault.Memory
-            → WantsRoom r.item piece.now }
+        ensures feeds { Feeds (rest_of self.new) (rest_of self.old) (fed_open (rest_of self.old)
+            (takes at_client (rest_of self.old).item piece.now)) result }
+        ensures room { IsErrOf result ClientFault.Memory
+            → WantsRoom (rest_of self.old).item piece.now }
         ensures within { IfOk result (λ t. t.0 ≤ length piece.now) }
         ensures goes_on { 0 < length piece.now → IfOk result (λ t. 0 < t.0) }
     {
@@ -175,7 +172,7 @@ impl Client {
     /// What was read of the message that isn't whole: its data, or a fault that each continuation of them has. The point that it
     /// holds is where it stands. It takes no memory.
     pub fn reader(&self) -> &Reader
-        ensures data { (r : Rest) → Fits self.now r → Reads result.now.here (data_of r.item) }
+        ensures data { Reads result.now.here (data_of (rest_of self.now).item) }
         ensures held { result.now.held ≡ result.now.here }
     {
         self.stream.inbox.reader()
@@ -183,29 +180,29 @@ impl Client {
 
     /// The client is lost: no byte comes any more, and the outcome of each request that waited is known. It takes no memory.
     pub fn lost(&mut self) -> Losses
-        ensures { (r : Rest) → Fits self.old r
-            → (result ≡ losses r.knows) × Fits self.new (after_drop r) }
+        ensures { (result ≡ losses (rest_of self.old).knows)
+            × (rest_of self.new ≡ after_drop (rest_of self.old)) }
     {
         self.pipeline.lose()
     }
 
     /// The version that the server took, none before its answer. It takes no memory.
     pub fn version(&self) -> Option<Version>
-        ensures { (r : Rest) → Fits self.now r → result ≡ r.knows.version }
+        ensures { result ≡ (rest_of self.now).knows.version }
     {
         self.pipeline.version
     }
 
     /// The phase that the last summary told, Fresh before one. It takes no memory.
     pub fn phase(&self) -> Phase
-        ensures { (r : Rest) → Fits self.now r → result ≡ r.knows.phase }
+        ensures { result ≡ (rest_of self.now).knows.phase }
     {
         self.pipeline.phase
     }
 
     /// How many requests wait, none after `lost`. It takes no memory.
     pub fn pending(&self) -> usize
-        ensures count { (r : Rest) → Fits self.now r → result ≡ length r.knows.waiting }
+        ensures count { result ≡ length (rest_of self.now).knows.waiting }
         ensures few { result ≤ max_waiting }
     {
         self.pipeline.waiting.len()
@@ -213,14 +210,14 @@ impl Client {
 
     /// The ordinal of the first request that waits; where none does, that of the next. It takes no memory.
     pub fn first_waiting(&self) -> u64
-        ensures { (r : Rest) → Fits self.now r → result ≡ r.knows.first }
+        ensures { result ≡ (rest_of self.now).knows.first }
     {
         self.pipeline.first
     }
 
     /// Whether the client has ended: by itself, by a bad answer, or because it was lost. It takes no memory.
     pub fn has_ended(&self) -> bool
-        ensures { (r : Rest) → Fits self.now r → result ≡ r.knows.over }
+        ensures { result ≡ (rest_of self.now).knows.over }
     {
         self.pipeline.over
     }
@@ -228,7 +225,7 @@ impl Client {
     /// Whether an answer is still to come: the version, or the summary of a request that isn't GOODBYE, which has none. None comes
     /// after the client's end. It takes no memory.
     pub fn awaits(&self) -> bool
-        ensures { (r : Rest) → Fits self.now r → result ≡ awaits r.knows }
+        ensures { result ≡ awaits (rest_of self.now).knows }
     {
         self.pipeline.awaits()
     }

@@ -1,6 +1,7 @@
 //! What a client keeps of its server's bytes, and what it takes of a piece: the answer to its offer, then chunks.
 
-ghost use Rattle.std.specs.Prelude.{◌≡◌, ◌≤◌};
+ghost use Rattle.std.specs.Prelude.{◌≡◌, ◌<◌, ◌≤◌};
+ghost use Rattle.wire.specs.Unfinished.{fresh};
 
 use crate::data::{Came, Taken, answer_of, came_of};
 use crate::faults::ClientFault;
@@ -18,26 +19,26 @@ pub(crate) struct Stream {
     /// The chunks after it.
     pub inbox: Inbox,
     ghost answering: { opening.len ≤ 4 },
+    ghost unread: { opening.len < 4 → inbox ≡ fresh },
 }
 
 impl Stream {
-    ghost use Rattle.std.specs.Prelude.{◌<◌, length, true, false, Option, Ok, IfOk, IfErr, OnErr};
+    ghost use Rattle.std.specs.Prelude.{length, true, false, Option, Ok, IfOk, IfErr, OnErr};
     ghost use Rattle.wire.specs.declared.Version.{Version};
-    ghost use Rattle.wire.specs.Framing.{Opened, at_client};
+    ghost use Rattle.wire.specs.Framing.{at_client};
     ghost use Rattle.wire.specs.Reader.{takes};
-    ghost use Rattle.client.specs.Held.{IsItem, WantsRoom};
-    ghost use Rattle.client.specs.Taking.{TakesPiece, all_of};
+    ghost use Rattle.client.specs.Held.{item_of, WantsRoom};
+    ghost use Rattle.client.specs.Taking.{Comes, all_of};
 
     /// Takes a piece that is data alone, and answers whether it is; else, and for want of memory, nothing changes.
     pub fn take_data(&mut self, piece: &[u8]) -> Result<bool, ClientFault>
-        ensures data { (version : Option Version) (item : Opened) → IsItem self.old item
-            → result ≡ Ok true
-            → TakesPiece version (takes at_client item piece.now) (all_of piece.now) self.new }
-        ensures other { (item : Opened) → IsItem self.old item → result ≡ Ok false
-            → IsItem self.new item }
+        ensures data { (version : Option Version) → result ≡ Ok true
+            → Comes version (takes at_client (item_of self.old) piece.now) (all_of piece.now)
+            (item_of self.new) }
+        ensures other { result ≡ Ok false → item_of self.new ≡ item_of self.old }
         ensures fault { IfErr result (λ e. e ≡ ClientFault.Memory) }
-        ensures err { (item : Opened) → IsItem self.old item
-            → OnErr result (IsItem self.new item × WantsRoom item piece.now) }
+        ensures err { OnErr result ((item_of self.new ≡ item_of self.old)
+            × WantsRoom (item_of self.old) piece.now) }
     {
         if self.opening.len < LENGTH {
             return Ok(false);
@@ -55,13 +56,13 @@ impl Stream {
         version: Option<Version>,
         piece: &[u8],
     ) -> Result<Taken, ClientFault>
-        ensures ok { (item : Opened) → IsItem self.old item
-            → IfOk result (λ t. TakesPiece version (takes at_client item piece.now) t self.new) }
+        ensures ok { IfOk result (λ t. Comes version (takes at_client (item_of self.old) piece.now) t
+            (item_of self.new)) }
         ensures within { IfOk result (λ t. t.used ≤ length piece.now) }
         ensures some { 0 < length piece.now → IfOk result (λ t. 0 < t.used) }
         ensures fault { IfErr result (λ e. e ≡ ClientFault.Memory) }
-        ensures err { (item : Opened) → IsItem self.old item
-            → OnErr result (IsItem self.new item × WantsRoom item piece.now) }
+        ensures err { OnErr result ((item_of self.new ≡ item_of self.old)
+            × WantsRoom (item_of self.old) piece.now) }
     {
         if self.opening.len < LENGTH {
             Ok(self.take_answer(piece))
@@ -73,8 +74,8 @@ impl Stream {
     /// The answer to the offer comes first.
     fn take_answer(&mut self, piece: &[u8]) -> Taken
         requires { self.old.opening.len < 4 }
-        ensures ok { (version : Option Version) (item : Opened) → IsItem self.old item
-            → TakesPiece version (takes at_client item piece.now) result self.new }
+        ensures ok { (version : Option Version) → Comes version
+            (takes at_client (item_of self.old) piece.now) result (item_of self.new) }
         ensures within { result.used ≤ length piece.now }
         ensures some { 0 < length piece.now → 0 < result.used }
     {
@@ -100,13 +101,13 @@ impl Stream {
         piece: &[u8],
     ) -> Result<Taken, ClientFault>
         requires { 4 ≤ self.old.opening.len }
-        ensures ok { (item : Opened) → IsItem self.old item
-            → IfOk result (λ t. TakesPiece version (takes at_client item piece.now) t self.new) }
+        ensures ok { IfOk result (λ t. Comes version (takes at_client (item_of self.old) piece.now) t
+            (item_of self.new)) }
         ensures within { IfOk result (λ t. t.used ≤ length piece.now) }
         ensures some { 0 < length piece.now → IfOk result (λ t. 0 < t.used) }
         ensures fault { IfErr result (λ e. e ≡ ClientFault.Memory) }
-        ensures err { (item : Opened) → IsItem self.old item
-            → OnErr result (IsItem self.new item × WantsRoom item piece.now) }
+        ensures err { OnErr result ((item_of self.new ≡ item_of self.old)
+            × WantsRoom (item_of self.old) piece.now) }
     {
         let at = version.unwrap_or(Version::V51);
         let Ok((used, brought)) = self.inbox.take::<Response>(alloc, at, piece) else {

@@ -1,5 +1,5 @@
 -- It owns nothing, so any item may be noted: the one behind the piece is.
-use Rattle.std.proofs.Common.{[], ◌∷◌, refl, ℕ, List, length}
+use Rattle.std.proofs.Common.{[], ◌∷◌, refl}
 use Rattle.std.proofs.raw_atomic.Walks.{proved}
 use base.Logic.{id⊢}
 use base.Fml.{ftrue, flft}
