@@ -1,4 +1,5 @@
 pub mod Feeds
+pub mod Known
 pub mod Placed
 pub mod Calls
 pub mod Answered

@@ -18,12 +18,12 @@ pub(crate) struct Connected {
 
 impl Connected {
     ghost use Rattle.std.specs.Prelude.{◌≡◌, IfOk, OnErr};
-    ghost use Rattle.server.specs.Serving.{Live, fresh, fed_live, taken_from, noop_put, MayFeed, MayTakeOut, MayPutNoop, MayWork};
-    ghost use Rattle.session.specs.Rest.{IsCounted, work_kept};
-    ghost use Rattle.server.specs.Views.{IsLive, Gives, Works};
+    ghost use Rattle.server.specs.Serving.{fresh, with_kept, fed_live, taken_from, noop_put, MayFeed, MayTakeOut, MayPutNoop, MayWork};
+    ghost use Rattle.session.specs.Rest.{IsCounted, stepped};
+    ghost use Rattle.server.specs.Views.{live_of};
 
     pub(crate) fn new(alloc: Global, conn: u64) -> Result<Connected, AllocError>
-        ensures { IfOk result (λ s. IsLive s (fresh conn)) }
+        ensures { IfOk result (λ s. live_of s ≡ fresh conn) }
     {
         Ok(Connected {
             conn,
@@ -34,10 +34,9 @@ impl Connected {
 
     /// Takes at most one item of the piece, else all of it.
     pub(crate) fn feed(&mut self, piece: &[u8]) -> Result<Took, AllocError>
-        ensures ok { (l : Live) → IsLive self.old l
-            → IfOk result (λ took. Gives (fed_live l piece.now) took self.new) }
-        ensures err { (l : Live) → IsLive self.old l
-            → OnErr result (IsLive self.new l × MayFeed piece.now l) }
+        ensures ok { IfOk result (λ took. fed_live (live_of self.old) piece.now ≡ (took, live_of self.new)) }
+        ensures err { OnErr result ((live_of self.new ≡ live_of self.old)
+            × MayFeed piece.now (live_of self.old)) }
     {
         if self.session.is_shut() {
             return Ok(Took {
@@ -56,33 +55,31 @@ impl Connected {
 
     /// The smaller of `max` and what waits to go.
     pub(crate) fn take_out(&mut self, max: usize) -> Result<Bytes, AllocError>
-        ensures ok { (l : Live) → IsLive self.old l
-            → IfOk result (λ b. Gives (taken_from max l) b self.new) }
-        ensures err { (l : Live) → IsLive self.old l
-            → OnErr result (IsLive self.new l × MayTakeOut max l) }
+        ensures ok { IfOk result (λ b. taken_from max (live_of self.old) ≡ (b, live_of self.new)) }
+        ensures err { OnErr result ((live_of self.new ≡ live_of self.old)
+            × MayTakeOut max (live_of self.old)) }
     {
         self.session.take_out(max)
     }
 
     /// Puts a no-op where it may, and answers whether it did.
     pub(crate) fn noop(&mut self) -> Result<bool, AllocError>
-        ensures ok { (l : Live) → IsLive self.old l
-            → IfOk result (λ b. Gives (noop_put l) b self.new) }
-        ensures err { (l : Live) → IsLive self.old l
-            → OnErr result (IsLive self.new l × MayPutNoop l) }
+        ensures ok { IfOk result (λ b. noop_put (live_of self.old) ≡ (b, live_of self.new)) }
+        ensures err { OnErr result ((live_of self.new ≡ live_of self.old)
+            × MayPutNoop (live_of self.old)) }
     {
         self.session.noop()
     }
 
     pub(crate) fn state(&self) -> State
-        ensures { (l : Live) → IsLive self.now l → result ≡ l.kept.state }
+        ensures { result ≡ (live_of self.now).kept.state }
     {
         self.session.state()
     }
 
     /// Why it has ended.
     pub(crate) fn cause(&self) -> Option<Cause>
-        ensures { (l : Live) → IsLive self.now l → result ≡ l.kept.ended }
+        ensures { result ≡ (live_of self.now).kept.ended }
     {
         self.session.cause()
     }
@@ -93,13 +90,13 @@ impl Connected {
         engine: &mut E,
         gate: &G,
     ) -> Result<Worked, AllocError>
-        ensures ok { (l : Live) → IsLive self.old l
-            → IfOk result (λ w. Works
-            (work_kept (record { run = E.answer; check = G.accepts gate.now }) l.conn
-            (E.entries engine.old) l.kept l.kept.ended) l w self.new
-            (E.entries engine.old) (E.entries engine.new)) }
-        ensures err { (l : Live) → IsLive self.old l
-            → OnErr result (IsLive self.new l × MayWork l) }
+        ensures ok { IfOk result
+            (λ w. stepped (record { run = E.answer; check = G.accepts gate.now }) self.old.conn
+            (record { kept = (live_of self.old).kept; ledger = E.entries engine.old })
+            ≡ (w, record { kept = (live_of self.new).kept; ledger = E.entries engine.new })) }
+        ensures live { live_of self.new ≡ with_kept (live_of self.old) (live_of self.new).kept }
+        ensures err { OnErr result ((live_of self.new ≡ live_of self.old)
+            × MayWork (live_of self.old)) }
         ensures ledger { OnErr result (E.entries engine.new ≡ E.entries engine.old) }
         ensures counted { IfOk result IsCounted }
     {

@@ -1,5 +1,6 @@
 //! The items of the bytes that a session takes: the handshake, then no-ops and messages.
-ghost use Rattle.std.specs.Prelude.{◌≡◌, ◌≤◌, length};
+ghost use Rattle.std.specs.Prelude.{◌≡◌, ◌<◌, ◌≤◌, length};
+ghost use Rattle.wire.specs.Unfinished.{fresh};
 
 use crate::kinds::Took;
 use crate::receipt::receive;
@@ -31,20 +32,21 @@ struct Filled {
 pub(crate) struct Incoming {
     pub offer: Offer,
     pub inbox: Inbox,
+    ghost unread: { offer.len < 20 → inbox ≡ fresh },
 }
 
 impl Incoming {
-    ghost use Rattle.std.specs.Prelude.{◌<◌, false, IfOk, OnErr};
+    ghost use Rattle.std.specs.Prelude.{false, IfOk, OnErr};
     ghost use Rattle.session.specs.Rest.{full};
     ghost use Rattle.session.specs.Views.{kept_of};
-    ghost use Rattle.wire.specs.Framing.{Opened, at_server};
+    ghost use Rattle.wire.specs.Framing.{at_server};
     ghost use Rattle.wire.specs.Reader.{takes};
     ghost use Rattle.server.specs.Feeding.{takes_item, WantsRoom};
-    ghost use Rattle.server.specs.Incoming.{IsOpened, IsFed};
+    ghost use Rattle.server.specs.Incoming.{opened_of, fed};
 
     /// Before the first byte.
     pub(crate) fn new(alloc: Global) -> Incoming
-        ensures { IsOpened result at_server.start }
+        ensures { opened_of result ≡ at_server.start }
     {
         Incoming {
             offer: Offer {
@@ -58,13 +60,12 @@ impl Incoming {
     /// Takes a piece to the end of the item begun, else whole, and the session receives the item. An `Err` changes nothing.
     pub(crate) fn take(&mut self, session: &mut Session, piece: &[u8]) -> Result<Took, AllocError>
         requires { full (kept_of session.old) ≡ false }
-        ensures ok { (u : Opened) → IsOpened self.old u
-            → IfOk result (λ took. IsFed
-            (takes_item (kept_of session.old) (takes at_server u piece.now)) took
-            (kept_of session.new) self.new) }
-        ensures err { (u : Opened) → IsOpened self.old u
-            → OnErr result (IsOpened self.new u
-            × (kept_of session.new ≡ kept_of session.old) × WantsRoom u piece.now) }
+        ensures ok { IfOk result (λ took. takes_item (kept_of session.old)
+            (takes at_server (opened_of self.old) piece.now)
+            ≡ fed took (kept_of session.new) (opened_of self.new)) }
+        ensures err { OnErr result ((opened_of self.new ≡ opened_of self.old)
+            × (kept_of session.new ≡ kept_of session.old)
+            × WantsRoom (opened_of self.old) piece.now) }
     {
         if self.offer.len < HANDSHAKE {
             return self.take_offer(session, piece);
@@ -75,13 +76,12 @@ impl Incoming {
     /// Takes bytes of the handshake.
     fn take_offer(&mut self, session: &mut Session, piece: &[u8]) -> Result<Took, AllocError>
         requires { self.old.offer.len < 20 }
-        ensures ok { (u : Opened) → IsOpened self.old u
-            → IfOk result (λ took. IsFed
-            (takes_item (kept_of session.old) (takes at_server u piece.now)) took
-            (kept_of session.new) self.new) }
-        ensures err { (u : Opened) → IsOpened self.old u
-            → OnErr result (IsOpened self.new u
-            × (kept_of session.new ≡ kept_of session.old) × WantsRoom u piece.now) }
+        ensures ok { IfOk result (λ took. takes_item (kept_of session.old)
+            (takes at_server (opened_of self.old) piece.now)
+            ≡ fed took (kept_of session.new) (opened_of self.new)) }
+        ensures err { OnErr result ((opened_of self.new ≡ opened_of self.old)
+            × (kept_of session.new ≡ kept_of session.old)
+            × WantsRoom (opened_of self.old) piece.now) }
     {
         let Filled { used, offer } = self.offer.with(piece);
         if offer.len < HANDSHAKE {
@@ -100,13 +100,12 @@ impl Incoming {
     fn take_chunks(&mut self, session: &mut Session, piece: &[u8]) -> Result<Took, AllocError>
         requires room { full (kept_of session.old) ≡ false }
         requires whole { self.old.offer.len ≡ 20 }
-        ensures ok { (u : Opened) → IsOpened self.old u
-            → IfOk result (λ took. IsFed
-            (takes_item (kept_of session.old) (takes at_server u piece.now)) took
-            (kept_of session.new) self.new) }
-        ensures err { (u : Opened) → IsOpened self.old u
-            → OnErr result (IsOpened self.new u
-            × (kept_of session.new ≡ kept_of session.old) × WantsRoom u piece.now) }
+        ensures ok { IfOk result (λ took. takes_item (kept_of session.old)
+            (takes at_server (opened_of self.old) piece.now)
+            ≡ fed took (kept_of session.new) (opened_of self.new)) }
+        ensures err { OnErr result ((opened_of self.new ≡ opened_of self.old)
+            × (kept_of session.new ≡ kept_of session.old)
+            × WantsRoom (opened_of self.old) piece.now) }
     {
         if self.inbox.take_data(piece)? {
             return Ok(Took {
@@ -122,7 +121,7 @@ impl Incoming {
 }
 
 impl Offer {
-    ghost use Rattle.std.specs.Prelude.{◌+◌, ◌-◌, ◌<◌, ◌++◌, length, take, min};
+    ghost use Rattle.std.specs.Prelude.{◌+◌, ◌-◌, ◌++◌, take, min};
 
     /// With the bytes of a piece that it lacks.
     fn with(self, piece: &[u8]) -> Filled
