@@ -1,17 +1,16 @@
 -- What a call on the one session makes of a server: its place there, what each call does to it, and that it lives on while the ledger grows.
-use Rattle.std.proofs.Common.{◌≡◌, refl, ap, ℕ, List, [], ◌∷◌, eqb, cond, true, false, Bool, Some, sym, subst, ◌∙◌, ◌++◌, Option, None, Result, Ok, Err, ◌<◌, length, ◌≤◌, arith, append_assoc, append-nil, IsSome, option_map, unwrap_or, if◌then◌else◌}
+use Rattle.std.proofs.Common.{◌≡◌, refl, ap, ℕ, List, [], ◌∷◌, eqb, cond, true, false, Bool, Some, sym, subst, ◌∙◌, ◌++◌, Option, None, Result, Ok, Err, ◌<◌, length, ◌≤◌, arith, append_assoc, append-nil, IsSome, option_map, unwrap_or, if◌then◌else◌, inl, inr, take, drop}
 use Rattle.std.proofs.lemmas.Bool.{eq-eqb}
-use Rattle.server.specs.Prelude.{Live, Rest, find, replace, without, with_session, on_live, after_step, setting, work_at, taken_from, take_out_at, fed_live, feed_at, cause_or, lost_at, Feeding, feeding, takes_none, takes_item, arrival}
+use Rattle.server.specs.Prelude.{Live, Rest, find, replace, without, with_session, on_live, after_step, setting, work_at, take_out_at, fed_live, feed_at, cause_or, lost_at, Feeding, feeding, takes_none, takes_item, arrival}
 use Rattle.server.proofs.Runs.{find_replaced, find-conn}
 use Rattle.engine.specs.Prelude.{EntryView, WriteView, ParameterView, AnswerView, QueryFault}
 use Rattle.wire.specs.Prelude.{Opened, Item, at_server, Took as TookOf, takes}
-use Rattle.session.specs.Prelude.{Kept, worked_of, work_kept, commit_entries, take_kept, shut, full, after_item}
-use Rattle.streams.specs.Prelude.{with_talk, heard_out, without_talk, LeavesOthers, Grows, LivesOn}
+use Rattle.session.specs.Prelude.{Kept, worked_of, work_kept, commit_entries, shut, full, after_item}
+use Rattle.streams.specs.Prelude.{with_talk, heard_out, without_talk, LeavesOthers, Grows, LivesOn, Puts, said_by, Feeds, AppendsFront}
 use Rattle.engine.specs.declared.answer.Mode.{Mode as QueryMode}
-use Rattle.server.specs.declared.kinds.Refused.{Refused}
-use Rattle.server.specs.declared.kinds.Refused.TheVariants.{SessionsFull}
 use Rattle.session.specs.declared.kinds.Worked.{Worked}
-use Rattle.server.proofs.Answered.{Answers}
+use Rattle.std.specs.Io.KnownBytes.{Appends}
+use Rattle.streams.specs.declared.fault.StreamFault.{StreamFault}
 use Rattle.streams.proofs.Parts.{take_short}
 use Rattle.wire.proofs.Readers.{reads_pieces}
 use Rattle.server.specs.declared.kinds.Took.{Took}
@@ -65,53 +64,55 @@ some_first a x b y e = ap (λ o. (unwrap_or o (pair a b)).0) e
 pub some_second : {A B : Type 0} (a x : A) (b y : B) → Some (pair a b) ≡ Some (pair x y) → b ≡ y
 some_second a x b y e = ap (λ o. (unwrap_or o (pair a b)).1) e
 
--- a refused call changes nothing
-refused : {A G : Type 0} (e : Refused) (p : A × Rest G) (r : Rest G) (Now : Rest G → Type 0) → Answers (Err e) (Some p) r Now → Now r
-refused SessionsFull p r Now h = absurd h
-refused _ p r Now h = h.1
-
 module _ {G : Type 0} (r : Rest G) (conn : ℕ) (lives : IsSome (find conn r.sessions)) (u : Opened) (ledger : List EntryView) (k : Kept) where
   abbrev W : Rest G
   W = with_talk r conn u ledger k
 
-  -- the session after a call, and the ledger, where it wasn't refused
-  abbrev pub Called : {A : Type 0} → A → Opened → List EntryView → Kept → (Rest G → Type 0) → Result A Refused → Type 0
-  Called a v after l Now (Ok x) = (x ≡ a) × Now (with_talk r conn v after l)
-  Called a v after l Now (Err e) = Now W
-
-  by_answer : {A : Type 0} (a : A) (v : Opened) (after : List EntryView) (l : Kept) (o : Result A Refused) (Now : Rest G → Type 0) → Answers o (Some (a, with_talk r conn v after l)) W Now → Called a v after l Now o
-  by_answer a v after l (Ok x) Now h = (sym (some_first a x (with_talk r conn v after l) h.0 h.1), subst Now (sym (some_second a x (with_talk r conn v after l) h.0 h.1)) h.2)
-  by_answer a v after l (Err e) Now h = refused e (a, with_talk r conn v after l) W Now h
-
   seated : (v : Opened) (after : List EntryView) (l : Kept) → record { sessions = replace conn (record { conn = conn; kept = l; unfinished = v }) W.sessions; next = r.next; ledger = after; gate = r.gate } ≡ with_talk r conn v after l
   seated v after l = ap (λ (ss : List Live). record { sessions = ss; next = r.next; ledger = after; gate = r.gate }) (talk-replaced r conn lives u ledger k v after l)
 
-  pub called : {A : Type 0} (f : Live → A × Live) (v : Opened) (l : Kept) → (f (here r conn lives u ledger k)).1 ≡ record { conn = conn; kept = l; unfinished = v } → (o : Result A Refused) (Now : Rest G → Type 0) → Answers o (on_live f conn W) W Now
-      → Called (f (here r conn lives u ledger k)).0 v ledger l Now o
-  called f v l shape o Now h =
-      let model = ap (option_map (λ s. ((f s).0, with_session (f s).1 W))) (talk-found r conn lives u ledger k)
-      ∙ ap (λ t. Some ((f (here r conn lives u ledger k)).0, with_session t W)) shape
-      ∙ ap (λ x. Some ((f (here r conn lives u ledger k)).0, x)) (seated v ledger l) in
-      by_answer _ v ledger l o Now (subst (λ m. Answers o m W Now) model h)
+  -- what a call answers, and the session after it
+  pub called : {A : Type 0} (f : Live → A × Live) (v : Opened) (l : Kept) → (f (here r conn lives u ledger k)).1 ≡ record { conn = conn; kept = l; unfinished = v } → (x : A) (new : Rest G) → on_live f conn W ≡ Some (x, new)
+      → (x ≡ (f (here r conn lives u ledger k)).0) × (new ≡ with_talk r conn v ledger l)
+  called f v l shape x new e =
+      let told = (f (here r conn lives u ledger k)).0 in
+      let model = sym e ∙ ap (option_map (λ s. ((f s).0, with_session (f s).1 W))) (talk-found r conn lives u ledger k) ∙ ap (λ t. Some (told, with_session t W)) shape ∙ ap (λ z. Some (told, z)) (seated v ledger l) in
+      (some_first x told new (with_talk r conn v ledger l) model, some_second x told new (with_talk r conn v ledger l) model)
 
   -- a step
-  pub stepped_talk : (answer : List EntryView → List WriteView → List ℕ → List ParameterView → QueryMode → Result AnswerView QueryFault) (accepts : G → List ℕ → List ℕ → Bool) (o : Result Worked Refused) (Now : Rest G → Type 0)
-      → Answers o (work_at answer accepts conn W) W Now
-      → (let d = work_kept (setting answer accepts r) conn ledger k k.ended in Called (worked_of d.answer) u (ledger ++ commit_entries conn k.first d.commit) d.kept Now o)
-  stepped_talk answer accepts o Now h =
+  pub stepped_talk : (answer : List EntryView → List WriteView → List ℕ → List ParameterView → QueryMode → Result AnswerView QueryFault) (accepts : G → List ℕ → List ℕ → Bool) (x : Worked) (new : Rest G) → work_at answer accepts conn W ≡ Some (x, new)
+      → (let d = work_kept (setting answer accepts r) conn ledger k k.ended in (x ≡ worked_of d.answer) × (new ≡ with_talk r conn u (ledger ++ commit_entries conn k.first d.commit) d.kept))
+  stepped_talk answer accepts x new e =
       let d = work_kept (setting answer accepts r) conn ledger k k.ended in
       let after = ledger ++ commit_entries conn k.first d.commit in
-      let model = ap (option_map (λ (s : Live). after_step s (work_kept (setting answer accepts W) s.conn ledger s.kept s.kept.ended) W)) (talk-found r conn lives u ledger k)
-      ∙ ap (λ x. Some (pair (worked_of d.answer) x)) (seated u after d.kept) in
-      by_answer (worked_of d.answer) u after d.kept o Now (subst (λ m. Answers o m W Now) model h)
+      let model = sym e ∙ ap (option_map (λ (s : Live). after_step s (work_kept (setting answer accepts W) s.conn ledger s.kept s.kept.ended) W)) (talk-found r conn lives u ledger k) ∙ ap (λ z. Some (pair (worked_of d.answer) z)) (seated u after d.kept) in
+      (some_first x (worked_of d.answer) new (with_talk r conn u after d.kept) model, some_second x (worked_of d.answer) new (with_talk r conn u after d.kept) model)
 
-module _ {G : Type 0} (max conn : ℕ) (r : Rest G) (i : IsSome (find conn r.sessions)) (u : Opened) (ledger : List EntryView) (k : Kept) (Now : Rest G → Type 0) where
-  -- fewer than were asked for are all
-  pub out_whole : (x : List ℕ) → length x < max → Answers (Ok x) (take_out_at conn max (with_talk r conn u ledger k)) (with_talk r conn u ledger k) Now → (x ≡ k.unsent) × Now (with_talk r conn u ledger (heard_out k))
-  out_whole x l h =
-      let p = called r conn i u ledger k (taken_from max) u (take_kept max k) refl (Ok x) Now h in
-      let t = take_short max k.unsent (subst (λ (z : List ℕ). length z < max) p.0 l) in
-      (p.0 ∙ t.0, subst (λ (z : List ℕ). Now (with_talk r conn u ledger (record k { unsent = z }))) t.1 p.1)
+  -- all that the session has said is out, or a beginning of it
+  module _ (old new : Rest G) (before taken : Option (List ℕ)) (stood : old ≡ W) where
+    put : (out : List ℕ) → on_live said_by conn old ≡ Some (out, new) → (out ≡ k.unsent) × (new ≡ with_talk r conn u ledger (heard_out k))
+    put out e = called said_by u (heard_out k) refl out new (ap (on_live said_by conn) (sym stood) ∙ e)
+
+    pub put_whole : Puts conn old new before taken (Ok tt) → (new ≡ with_talk r conn u ledger (heard_out k)) × Appends before taken k.unsent
+    put_whole h = let p = put h.0 h.1 in (p.1, subst (Appends before taken) p.0 h.2)
+
+    pub put_front : (fault : StreamFault) → Puts conn old new before taken (Err fault) → (l : Kept) × (new ≡ with_talk r conn u ledger l) × AppendsFront before taken k.unsent
+    put_front fault (inl h) = (k, h.0 ∙ stood, ([], k.unsent, refl, h.1))
+    put_front fault (inr h) = let p = put h.0 h.1 in (heard_out k, p.1, subst (AppendsFront before taken) p.0 h.2)
+
+-- the server once a session has these bytes left
+abbrev left : {G : Type 0} → Rest G → Live → List ℕ → Rest G
+left r s z = with_session (record { conn = s.conn; kept = record s.kept { unsent = z }; unfinished = s.unfinished }) r
+
+-- fewer than were asked for are all
+pub all_out : {G : Type 0} (max conn : ℕ) (r new : Rest G) (x : List ℕ) → length x < max → take_out_at conn max r ≡ Some (x, new) → on_live said_by conn r ≡ Some (x, new)
+all_out {G = G} max conn r new x l e = go (find conn r.sessions) e
+  where
+    go : (o : Option Live) → option_map {U = List ℕ × Rest G} (λ (s : Live). (take max s.kept.unsent, left r s (drop max s.kept.unsent))) o ≡ Some (x, new) → option_map {U = List ℕ × Rest G} (λ (s : Live). (s.kept.unsent, left r s [])) o ≡ Some (x, new)
+    go None e = cc
+    go (Some s) e =
+        let t = take_short max s.kept.unsent (subst (λ (z : List ℕ). length z < max) (sym (some_first (take max s.kept.unsent) x (left r s (drop max s.kept.unsent)) new e)) l) in
+        sym (ap (λ z. Some (pair z (left r s (drop max s.kept.unsent)))) t.0 ∙ ap (λ z. Some (pair s.kept.unsent (left r s z))) t.1) ∙ e
 
 abbrev pub by_room : Bool → Bool → Opened → Kept → TookOf Opened Item → Feeding
 by_room shut full u k t = if shut then takes_none What.Closed k u else (if full then takes_none What.Full k u else takes_item k t)
@@ -121,32 +122,37 @@ room_within false false u k t n h = h
 room_within _ _ u k t n h = omega arith
 
 -- no more bytes are used than there are
-pub feed_within : {G : Type 0} (piece : List ℕ) (conn : ℕ) (r : Rest G) (took : Took) (Now : Rest G → Type 0) → IsSome (find conn r.sessions) → Answers (Ok took) (feed_at conn piece r) r Now → took.used ≤ length piece
-feed_within {G = G} piece conn r took Now i h = go (find conn r.sessions) i h
+pub feed_within : {G : Type 0} (piece : List ℕ) (conn : ℕ) (r new : Rest G) (took : Took) → feed_at conn piece r ≡ Some (took, new) → took.used ≤ length piece
+feed_within {G = G} piece conn r new took e = go (find conn r.sessions) e
   where
-    go : (o : Option Live) → IsSome o → Answers (Ok took) (option_map (λ (s : Live). ((fed_live s piece).0, with_session (fed_live s piece).1 r)) o) r Now → took.used ≤ length piece
-    go None i h = cc
-    go (Some s) i h =
-        let same : (fed_live s piece).0 ≡ took = some_first (fed_live s piece).0 took (with_session (fed_live s piece).1 r) h.0 h.1 in
+    go : (o : Option Live) → option_map {U = Took × Rest G} (λ (s : Live). ((fed_live s piece).0, with_session (fed_live s piece).1 r)) o ≡ Some (took, new) → took.used ≤ length piece
+    go None e = cc
+    go (Some s) e =
+        let same : (fed_live s piece).0 ≡ took = some_first (fed_live s piece).0 took (with_session (fed_live s piece).1 r) new e in
         let t = takes at_server s.unfinished piece in
         let few = (reads_pieces Opened Item at_server).within s.unfinished piece in
         subst (λ (x : Took). x.used ≤ length piece) same (room_within (shut s.kept) (full s.kept) s.unfinished s.kept t (length piece) few)
 
-module _ {G : Type 0} (r : Rest G) (conn : ℕ) (i : IsSome (find conn r.sessions)) (u : Opened) (ledger : List EntryView) (k : Kept) (piece : List ℕ) (took : Took) (Now : Rest G → Type 0) where
+module _ {G : Type 0} (r : Rest G) (conn : ℕ) (i : IsSome (find conn r.sessions)) (u : Opened) (ledger : List EntryView) (k : Kept) (piece : List ℕ) (old new : Rest G) (stood : old ≡ with_talk r conn u ledger k) where
   abbrev t : TookOf Opened Item
   t = takes at_server u piece
 
-  pub fed_there : Answers (Ok took) (feed_at conn piece (with_talk r conn u ledger k)) (with_talk r conn u ledger k) Now → (took ≡ (feeding u piece k).took) × Now (with_talk r conn (feeding u piece k).unfinished ledger (feeding u piece k).kept)
-  fed_there h = called r conn i u ledger k (λ s. fed_live s piece) (feeding u piece k).unfinished (feeding u piece k).kept refl (Ok took) Now h
+  fed_there : (took : Took) → feed_at conn piece old ≡ Some (took, new) → (took ≡ (feeding u piece k).took) × (new ≡ with_talk r conn (feeding u piece k).unfinished ledger (feeding u piece k).kept)
+  fed_there took e = called r conn i u ledger k (λ s. fed_live s piece) (feeding u piece k).unfinished (feeding u piece k).kept refl took new (ap (feed_at conn piece) (sym stood) ∙ e)
 
-  by_full : (a b : Bool) → a ≡ false → 0 < took.used → (took ≡ (by_room a b u k t).took) × Now (with_talk r conn (by_room a b u k t).unfinished ledger (by_room a b u k t).kept) → (took.used ≡ t.used) × Now (with_talk r conn t.rest ledger (after_item k (arrival k t.item)))
-  by_full true b e l h = cc
-  by_full false true e l h = let none : took.used ≡ 0 = ap (λ (x : Took). x.used) h.0 in absurd (omega arith)
-  by_full false false e l h = (ap (λ (x : Took). x.used) h.0, h.1)
+  by_full : (a b : Bool) (took : Took) → a ≡ false → 0 < took.used → (took ≡ (by_room a b u k t).took) × (new ≡ with_talk r conn (by_room a b u k t).unfinished ledger (by_room a b u k t).kept) → (took.used ≡ t.used) × (new ≡ with_talk r conn t.rest ledger (after_item k (arrival k t.item)))
+  by_full true b took e l h = cc
+  by_full false true took e l h = let none : took.used ≡ 0 = ap (λ (x : Took). x.used) h.0 in absurd (omega arith)
+  by_full false false took e l h = (ap (λ (x : Took). x.used) h.0, h.1)
 
-  -- and where it isn't shut and took bytes, it took an item at most
-  pub feed_takes : shut k ≡ false → 0 < took.used → Answers (Ok took) (feed_at conn piece (with_talk r conn u ledger k)) (with_talk r conn u ledger k) Now → (took.used ≡ t.used) × Now (with_talk r conn t.rest ledger (after_item k (arrival k t.item)))
-  feed_takes s l h = by_full (shut k) (full k) s l (fed_there h)
+  -- where the session isn't shut and took bytes, it took an item at most
+  pub fed_item : (used : ℕ) → shut k ≡ false → 0 < used → Feeds (feed_at conn piece) old new (Ok used) → (used ≡ t.used) × (new ≡ with_talk r conn t.rest ledger (after_item k (arrival k t.item)))
+  fed_item used s l h = let p = by_full (shut k) (full k) h.0 s (subst (λ (n : ℕ). 0 < n) (sym h.2) l) (fed_there h.0 h.1) in (sym h.2 ∙ p.0, p.1)
+
+  -- and else it stands somehow
+  pub fed_none : (fault : StreamFault) → Feeds (feed_at conn piece) old new (Err fault) → (v : Opened) × (l : Kept) × (new ≡ with_talk r conn v ledger l)
+  fed_none fault (inl same) = (u, k, same ∙ stood)
+  fed_none fault (inr h) = ((feeding u piece k).unfinished, (feeding u piece k).kept, (fed_there h.0 h.1).1)
 
 module _ {G : Type 0} (r : Rest G) (conn : ℕ) (i : IsSome (find conn r.sessions)) (u : Opened) (ledger : List EntryView) (k : Kept) where
   pub lost_cause : (lost_at conn (with_talk r conn u ledger k)).0 ≡ Some (cause_or k.ended)
@@ -198,24 +204,17 @@ module _ {G : Type 0} (conn : ℕ) where
       let joined = ap (λ (l : List EntryView). with_talk r conn b.0 l b.1) (append_assoc r.ledger a.2 b.2) in
       (b.0, b.1, a.2 ++ b.2, subst Now (seated ∙ joined) b.3)
 
-  by_called : {A : Type 0} (r : Rest G) (i : IsSome (find conn r.sessions)) (Now : Rest G → Type 0) (u v : Opened) (k l : Kept) (more : List EntryView) (a : A) (o : Result A Refused)
-      → Called r conn i u r.ledger k a v (r.ledger ++ more) l Now o → Grows r conn Now
-  by_called r i Now u v k l more a (Ok x) h = (v, l, more, h.1)
-  by_called r i Now u v k l more a (Err e) h = no_more r Now u k h
-
   -- a call on the session
-  pub lives_called : {A : Type 0} (f : Live → A × Live) → ((u : Opened) (k : Kept) → (f (record { conn = conn; kept = k; unfinished = u })).1.conn ≡ conn) → (Old Now : Rest G → Type 0) (o : Result A Refused) → ((r : Rest G) → Old r → Answers o (on_live f conn r) r Now) → LivesOn conn Old Now
-  lives_called f keeps Old Now o answers r old i = by_talk r Old Now i old (λ u k h.
+  pub lives_called : {A : Type 0} (f : Live → A × Live) → ((s : Live) → (f s).1.conn ≡ s.conn) → (old new : Rest G) (x : A) → on_live f conn old ≡ Some (x, new) → LivesOn conn (λ r. old ≡ r) (λ r. new ≡ r)
+  lives_called f keeps old new x e r was i = by_talk r (λ y. old ≡ y) (λ y. new ≡ y) i was (λ u k h.
       let s = (f (here r conn i u r.ledger k)).1 in
-      let shape : s ≡ record { conn = conn; kept = s.kept; unfinished = s.unfinished } = ap (λ (n : ℕ). record { conn = n; kept = s.kept; unfinished = s.unfinished }) (keeps u k) in
-      let c = called r conn i u r.ledger k f s.unfinished s.kept shape o Now (answers (with_talk r conn u r.ledger k) h) in
-      by_called r i Now u s.unfinished k s.kept [] (f (here r conn i u r.ledger k)).0 o (subst (λ (l : List EntryView). Called r conn i u r.ledger k (f (here r conn i u r.ledger k)).0 s.unfinished l s.kept Now o) (sym (append-nil r.ledger)) c))
+      let shape : s ≡ record { conn = conn; kept = s.kept; unfinished = s.unfinished } = ap (λ (n : ℕ). record { conn = n; kept = s.kept; unfinished = s.unfinished }) (keeps (here r conn i u r.ledger k)) in
+      no_more r (λ y. new ≡ y) s.unfinished s.kept (called r conn i u r.ledger k f s.unfinished s.kept shape x new (ap (on_live f conn) (sym h) ∙ e)).1)
 
-  pub lives_worked : (answer : List EntryView → List WriteView → List ℕ → List ParameterView → QueryMode → Result AnswerView QueryFault) (accepts : G → List ℕ → List ℕ → Bool) (Old Now : Rest G → Type 0) (o : Result Worked Refused)
-      → ((r : Rest G) → Old r → Answers o (work_at answer accepts conn r) r Now) → LivesOn conn Old Now
-  lives_worked answer accepts Old Now o answers r old i = by_talk r Old Now i old (λ u k h.
+  pub lives_worked : (answer : List EntryView → List WriteView → List ℕ → List ParameterView → QueryMode → Result AnswerView QueryFault) (accepts : G → List ℕ → List ℕ → Bool) (old new : Rest G) (x : Worked) → work_at answer accepts conn old ≡ Some (x, new) → LivesOn conn (λ r. old ≡ r) (λ r. new ≡ r)
+  lives_worked answer accepts old new x e r was i = by_talk r (λ y. old ≡ y) (λ y. new ≡ y) i was (λ u k h.
       let d = work_kept (setting answer accepts r) conn r.ledger k k.ended in
-      by_called r i Now u u k d.kept (commit_entries conn k.first d.commit) _ o (stepped_talk r conn i u r.ledger k answer accepts o Now (answers (with_talk r conn u r.ledger k) h)))
+      (u, d.kept, commit_entries conn k.first d.commit, (stepped_talk r conn i u r.ledger k answer accepts x new (ap (work_at answer accepts conn) (sym h) ∙ e)).1))
 
   -- so it is still found there
   pub live_then : (Old Now : Rest G → Type 0) → LivesOn conn Old Now → (r : Rest G) × Old r × IsSome (find conn r.sessions) → (r : Rest G) × Now r × IsSome (find conn r.sessions)

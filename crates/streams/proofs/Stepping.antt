@@ -1,17 +1,19 @@
 -- What is due of a session with one place at most, step by step, and what goes out of it.
-use Rattle.std.proofs.Common.{◌≡◌, ◌⊎◌, inl, inr, refl, sym, ap, subst, ◌∙◌, ℕ, zero, suc, ◌<◌, ◌≤◌, List, [], ◌∷◌, ◌++◌, length, append-nil, append_assoc, Bool, true, false, Option, Some, None, arith, Ok, ◌&&◌, ◌||◌, if◌then◌else◌, nat_le}
+use Rattle.std.proofs.Common.{◌≡◌, ◌⊎◌, inl, inr, refl, sym, ap, subst, ◌∙◌, ℕ, zero, suc, ◌<◌, ◌≤◌, List, [], ◌∷◌, ◌++◌, length, append-nil, append_assoc, Bool, true, false, Option, Some, None, arith, Result, Ok, IsSome, ◌&&◌, ◌||◌, if◌then◌else◌, nat_le}
 use Rattle.wire.specs.declared.Version.{Version}
 use Rattle.messages.specs.Prelude.{RequestView, Arrival, Asked, Unread, TooLong}
 use Rattle.machine.specs.declared.states.State.{State}
 use Rattle.machine.specs.Prelude.{kind_of, is_reset, interruptible}
-use Rattle.engine.specs.Prelude.{EntryView}
+use Rattle.engine.specs.Prelude.{EntryView, WriteView, ParameterView, AnswerView, QueryFault}
 use Rattle.session.specs.declared.kinds.Cause.{Cause}
 use Rattle.session.specs.Prelude.{Setting, Open, no_result, Tx, Reply, OneRow, Summary, Bye, no_tx, serve, Kept, rests, turns, serves, Done, Idle, Full, WroteRow, Wrote, Ended, Step, work_kept, replies, after_interrupt, version_of, commit_entries, worked_of}
 use Rattle.session.proofs.Served.{Served, writes_row, serving}
 use Rattle.machine.specs.declared.kinds.Kind.{Kind}
-use Rattle.streams.specs.Prelude.{Talk, silent, after_bytes, heard_out, step_then, steps, steps_due, with_talk, talk_of_due, IsSteps, IsPartOfDue, IsPlaced, due, outcome, standing_of, HasNothingDue, WorkStep, StepsOut, Breaks, SettlesWhole, Puts, AppendsFront}
+use Rattle.streams.specs.Prelude.{Talk, silent, after_bytes, heard_out, step_then, steps, steps_due, with_talk, talk_of_due, IsSteps, IsPartOfDue, IsPlaced, due, outcome, standing_of, HasNothingDue, WorkStep, Works, StepsOut, Breaks, SettlesWhole, AppendsFront}
 use Rattle.wire.specs.Prelude.{Opened}
-use Rattle.server.specs.Prelude.{Rest}
+use Rattle.server.specs.Prelude.{Rest, find, setting, work_at}
+use Rattle.engine.specs.declared.answer.Mode.{Mode as QueryMode}
+use Rattle.streams.proofs.Called.{stepped_talk}
 use Rattle.streams.specs.declared.fault.Standing.{Standing}
 use Rattle.streams.specs.declared.fault.Standing.TheVariants.{Open as Unended, Over}
 use Rattle.std.specs.Io.KnownBytes.{Appends}
@@ -176,6 +178,14 @@ module _ {G : Type 0} (r : Rest G) (conn : ℕ) (u : Opened) (S : Setting) (Now 
       subst (λ (x : Option Standing). WorkStep r conn u ledger k S (suc m) Now (Ok x)) (sym (outcome_put d.answer i))
       (record { less = m; after = ledger ++ commit_entries conn k.first d.commit; left = d.kept; one_less = refl; follows = λ n. steps_put S conn n ledger k d i; placed = q; enough = omega arith; now = h })
 
+-- A step of the model is one of so many at most.
+pub works_then : {G : Type 0} (r : Rest G) (conn : ℕ) (i : IsSome (find conn r.sessions)) (u : Opened) (ledger : List EntryView) (k : Kept) (n : ℕ) (answer : List EntryView → List WriteView → List ℕ → List ParameterView → QueryMode → Result AnswerView QueryFault) (accepts : G → List ℕ → List ℕ → Bool) (old new : Rest G)
+    → k.unsent ≡ [] → IsPlaced k.waiting → due k ≤ n → old ≡ with_talk r conn u ledger k → (o : Option Standing) → Works (work_at answer accepts conn) old new (Ok o) → WorkStep r conn u ledger k (setting answer accepts r) n (λ x. new ≡ x) (Ok o)
+works_then r conn i u ledger k n answer accepts old new s p l f o h =
+    let S = setting answer accepts r in
+    let t = stepped_talk r conn i u ledger k answer accepts h.0 new (ap (work_at answer accepts conn) (sym f) ∙ h.1) in
+    subst (λ (x : Option Standing). WorkStep r conn u ledger k S n (λ y. new ≡ y) (Ok x)) (sym (h.2 ∙ ap outcome t.0)) (works_by r conn u S (λ y. new ≡ y) n ledger k l t.1 (stepped S conn ledger k s p))
+
 -- what a sink took whole
 pub front_whole : (a b : Option (List ℕ)) (bs : List ℕ) → Appends a b bs → AppendsFront a b bs
 front_whole a b bs h = (bs, [], append-nil bs, h)
@@ -237,7 +247,7 @@ pub record GoesOn {G : Type 0} (r : Rest G) (conn : ℕ) (u : Opened) (S : Setti
   pub took : Appends before taken out
 
 -- What waits to go is out, and the steps follow.
-pub goes_first : {G : Type 0} {r : Rest G} {conn : ℕ} {u : Opened} {S : Setting} {Now : Rest G → Type 0} {old new : Option (List ℕ)} (ledger : List EntryView) (k : Kept) → IsPlaced k.waiting → Puts r conn u ledger k Now old new (Ok tt)
+pub goes_first : {G : Type 0} {r : Rest G} {conn : ℕ} {u : Opened} {S : Setting} {Now : Rest G → Type 0} {old new : Option (List ℕ)} (ledger : List EntryView) (k : Kept) → IsPlaced k.waiting → Now (with_talk r conn u ledger (heard_out k)) × Appends old new k.unsent
     → GoesOn r conn u S (talk_of_due S conn ledger k) (IsPartOfDue S conn ledger k) old Now new
 goes_first ledger k p h = record { most = due k; ledger = ledger; kept = heard_out k; out = k.unsent; follows = refl; comes = λ n. (n, refl); sent = refl; placed = p; enough = omega arith; now = h.0; took = h.1 }
 

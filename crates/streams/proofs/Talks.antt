@@ -7,7 +7,7 @@ use Rattle.engine.specs.Prelude.{EntryView}
 use Rattle.session.specs.declared.kinds.Cause.{Cause}
 use Rattle.session.specs.Prelude.{Setting, Kept, after_item, after_interrupt, version_of, begun, shut, unread_among, arrival_by}
 use Rattle.server.specs.Prelude.{arrives, arrival as arrival_of, Rest}
-use Rattle.streams.specs.Prelude.{Talk, silent, after_bytes, heard_out, steps, talk_of_due, unless_ended, talk_then, with_talk, talk_of_arrivals, conversation, IsPartOfDue, due_of, ComesTo, nothing_yet, part_of_first, after_first, as_it_is, ConversationComesTo, IsPlaced, due, as_item, item_talk, standing_of, Breaks, Settles, Feeds, told_by, told_to, BreaksIn, TakesOne, Stands, TakesFront, TakesPiece}
+use Rattle.streams.specs.Prelude.{Talk, silent, after_bytes, heard_out, steps, talk_of_due, unless_ended, talk_then, with_talk, talk_of_arrivals, conversation, IsPartOfDue, due_of, ComesTo, nothing_yet, part_of_first, after_first, as_it_is, ConversationComesTo, IsPlaced, due, as_item, item_talk, standing_of, Breaks, Settles, told_by, told_to, BreaksIn, TakesOne, Stands, TakesFront, TakesPiece}
 use Rattle.streams.proofs.Stepping.{Grown, Rested, RestsAs, after_twice, steps_grow, steps_none, steps_rest, breaks_after, front_whole}
 use Rattle.std.specs.Io.KnownBytes.{Appends}
 use Rattle.std.proofs.KnownBytes.{Appends-trans}
@@ -251,7 +251,7 @@ module _ {G : Type 0} (r : Rest G) (conn : ℕ) (S : Setting) where
           (breaks_more (up ++ take t.used piece) (drop t.used piece) Now before new b)
 
     -- where nothing was taken
-    pub none_taken : (Now : Rest G → Type 0) (before old : Option (List ℕ)) (fault : StreamFault) → Appends before old (told up).out → Feeds r conn (kept_at up) (told up).ledger (told up).kept piece Now (Err fault) → TakesOne r conn S Now before old up piece (Err fault)
+    pub none_taken : (Now : Rest G → Type 0) (before old : Option (List ℕ)) (fault : StreamFault) → Appends before old (told up).out → (v : Opened) × (l : Kept) × Now (with_talk r conn v (told up).ledger l) → TakesOne r conn S Now before old up piece (Err fault)
     none_taken Now before old fault said h = breaks_more up piece Now before old (breaks_whole up Now before old h.0 h.1 h.2 said)
 
 pub open_goes_on : (o : Option Cause) → Open ≡ standing_of o → o ≡ None

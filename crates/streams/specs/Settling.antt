@@ -1,17 +1,18 @@
 -- What parts of a conversation do to a server and to a sink, with or without a fault.
-use Rattle.std.specs.Prelude.{◌≡◌, ◌≤◌, ℕ, suc, length, Bool, true, List, [], ◌∷◌, ◌++◌, take, Option, Some, None, IsSome, Result, Ok, Err}
+use Rattle.std.specs.Prelude.{◌≡◌, ◌≤◌, ℕ, suc, length, Bool, true, List, [], ◌∷◌, ◌++◌, take, Option, Some, None, IsSome, ◌⊎◌, Result, Ok, Err}
 use Rattle.std.specs.Io.KnownBytes.{Appends}
-use Rattle.wire.specs.Reader.{state, takes}
+use Rattle.wire.specs.Reader.{state}
 use Rattle.wire.specs.Framing.{Item, Opened, at_server, items_received}
 use Rattle.messages.specs.Arrivals.{Arrival, Asked, Unread, TooLong}
 use Rattle.engine.specs.Views.{EntryView}
 use Rattle.session.specs.declared.kinds.Cause.{Cause}
 use Rattle.server.specs.declared.server.Server.{Server}
+use Rattle.server.specs.declared.kinds.Took.{Took}
 use Rattle.session.specs.declared.kinds.Worked.{Worked}
 use Rattle.session.specs.declared.kinds.Worked.TheVariants as worked
 use Rattle.session.specs.Session.{Setting}
 use Rattle.session.specs.Rest.{Kept, begun, after_item, version_of}
-use Rattle.server.specs.Feeding.{arrives, arrival}
+use Rattle.server.specs.Feeding.{arrives}
 use Rattle.server.specs.Serving.{Rest, find}
 use Rattle.server.specs.Views.{Fits}
 use Rattle.streams.specs.declared.fault.StreamFault.{StreamFault}
@@ -42,6 +43,22 @@ abbrev pub outcome : Worked → Option Standing
 outcome worked.Idle = Some Open
 outcome (worked.Ended cause) = Some Over
 outcome _ = None
+
+module _ {G : Type 0} where
+  -- A step was worked, which tells how the session stands; or nothing was done.
+  abbrev pub Works : (Rest G → Option (Worked × Rest G)) → Rest G → Rest G
+      → Result (Option Standing) StreamFault → Type 0
+  Works work r after (Ok standing) =
+      (w : Worked) × (work r ≡ Some (w, after)) × (standing ≡ outcome w)
+  Works work r after (Err fault) = after ≡ r
+
+  -- A piece was fed, and so many of its bytes were used; or none of them were; or nothing was done.
+  abbrev pub Feeds : (Rest G → Option (Took × Rest G)) → Rest G → Rest G → Result ℕ StreamFault
+      → Type 0
+  Feeds feed r after (Ok used) =
+      (took : Took) × (feed r ≡ Some (took, after)) × (took.used ≡ used)
+  Feeds feed r after (Err fault) = (after ≡ r)
+      ⊎ ((took : Took) × (feed r ≡ Some (took, after)) × (took.used ≡ 0))
 
 -- one at most waits, and it isn't what opens a stream
 abbrev pub IsPlaced : List Arrival → Type 0
@@ -148,15 +165,6 @@ module _ {G : Type 0} (r : Rest G) (conn : ℕ) where
   Steps u ledger k S n Now old new (Ok None) = StepsOut u ledger k S n Now old new
   Steps u ledger k S n Now old new (Err fault) =
       Breaks (steps S conn n ledger k) (IsSteps S conn ledger k) Now old new
-
-  -- An item at most was taken of a piece, which uses these of its bytes; or the session stands somehow.
-  abbrev pub Feeds : Opened → List EntryView → Kept → List ℕ → (Rest G → Type 0)
-      → Result ℕ StreamFault → Type 0
-  Feeds u ledger k piece Now (Ok used) = let t =
-      takes at_server u piece in (used ≡ t.used)
-      × Now (with_talk r conn t.rest ledger (after_item k (arrival k t.item)))
-  Feeds u ledger k piece Now (Err fault) =
-      (v : Opened) × (l : Kept) × Now (with_talk r conn v ledger l)
 
   module _ (S : Setting) where
     -- the conversation for these bytes of the client

@@ -3,11 +3,11 @@ ghost use Rattle.std.specs.Prelude.{◌≡◌, ◌≤◌, ℕ, List, [], IsSome,
 ghost use Rattle.wire.specs.Framing.{Opened};
 ghost use Rattle.engine.specs.Views.{EntryView};
 ghost use Rattle.session.specs.Rest.{Kept};
-ghost use Rattle.server.specs.Serving.{Rest, find, setting};
-ghost use Rattle.server.specs.Views.{Fits};
+ghost use Rattle.server.specs.Serving.{Rest, find, setting, work_at};
+ghost use Rattle.server.specs.Views.{rest_of, Fits};
 ghost use Rattle.streams.specs.Conversing.{talk_of_due, with_talk};
 ghost use Rattle.streams.specs.Breaking.{IsPartOfDue};
-ghost use Rattle.streams.specs.Settling.{IsDueTo, IsLive, LivesOn, IsPlaced, Settles, Steps, WorkStep, due, outcome};
+ghost use Rattle.streams.specs.Settling.{IsDueTo, IsLive, LivesOn, IsPlaced, Settles, Steps, Works, due, outcome};
 ghost use Rattle.streams.specs.Holding.{with_held, HasSent};
 ghost use Rattle.streams.specs.Putting.{Puts};
 
@@ -27,9 +27,8 @@ pub(crate) fn put_out<E: Engine, G: Gate, O: Sink>(
     requires { IsLive E.entries conn server.old }
     ensures live { IsLive E.entries conn server.new }
     ensures grows { LivesOn conn (Fits E.entries server.old) (Fits E.entries server.new) }
-    ensures puts { (r : Rest G) (u : Opened) (ledger : List EntryView) (k : Kept)
-        → IsSome (find conn r.sessions) → Fits E.entries server.old (with_talk r conn u ledger k)
-        → Puts r conn u ledger k (Fits E.entries server.new) (with_held (O.taken sink.old) held.old) (with_held (O.taken sink.new) held.new) result }
+    ensures puts { Puts conn (rest_of E.entries server.old) (rest_of E.entries server.new)
+        (with_held (O.taken sink.old) held.old) (with_held (O.taken sink.new) held.new) result }
     ensures sends { HasSent (O.taken sink.old) (O.taken sink.new) }
     ensures failed { IfErr result (λ e. IsDueTo e false (O.has_failed sink.new)) }
 {
@@ -58,7 +57,9 @@ pub(crate) fn settle<E: Engine, G: Gate, O: Sink>(
     ensures settles { (r : Rest G) (u : Opened) (ledger : List EntryView) (k : Kept)
         → IsSome (find conn r.sessions) → IsPlaced k.waiting
         → Fits E.entries server.old (with_talk r conn u ledger k)
-        → Settles r conn u (talk_of_due (setting E.answer G.accepts r) conn ledger k) (IsPartOfDue (setting E.answer G.accepts r) conn ledger k) (Fits E.entries server.new) (with_held (O.taken sink.old) held.old) (with_held (O.taken sink.new) held.new) result }
+        → Settles r conn u (talk_of_due (setting E.answer G.accepts r) conn ledger k)
+        (IsPartOfDue (setting E.answer G.accepts r) conn ledger k) (Fits E.entries server.new)
+        (with_held (O.taken sink.old) held.old) (with_held (O.taken sink.new) held.new) result }
     ensures sends { HasSent (O.taken sink.old) (O.taken sink.new) }
     ensures failed { IfErr result (λ e. IsDueTo e false (O.has_failed sink.new)) }
 {
@@ -89,7 +90,8 @@ fn work_once<E: Engine, G: Gate, O: Sink>(
     ensures steps { (r : Rest G) (u : Opened) (ledger : List EntryView) (k : Kept) (n : ℕ)
         → IsSome (find conn r.sessions) → k.unsent ≡ [] → IsPlaced k.waiting → due k ≤ n
         → Fits E.entries server.old (with_talk r conn u ledger k)
-        → Steps r conn u ledger k (setting E.answer G.accepts r) n (Fits E.entries server.new) (with_held (O.taken sink.old) held.old) (with_held (O.taken sink.new) held.new) result }
+        → Steps r conn u ledger k (setting E.answer G.accepts r) n (Fits E.entries server.new)
+        (with_held (O.taken sink.old) held.old) (with_held (O.taken sink.new) held.new) result }
     ensures sends { HasSent (O.taken sink.old) (O.taken sink.new) }
     ensures failed { IfErr result (λ e. IsDueTo e false (O.has_failed sink.new)) }
 {
@@ -112,10 +114,8 @@ fn work_step<E: Engine, G: Gate>(
     requires { IsLive E.entries conn server.old }
     ensures live { IsLive E.entries conn server.new }
     ensures grows { LivesOn conn (Fits E.entries server.old) (Fits E.entries server.new) }
-    ensures works { (r : Rest G) (u : Opened) (ledger : List EntryView) (k : Kept) (n : ℕ)
-        → IsSome (find conn r.sessions) → k.unsent ≡ [] → IsPlaced k.waiting → due k ≤ n
-        → Fits E.entries server.old (with_talk r conn u ledger k)
-        → WorkStep r conn u ledger k (setting E.answer G.accepts r) n (Fits E.entries server.new) result }
+    ensures works { Works (work_at E.answer G.accepts conn) (rest_of E.entries server.old)
+        (rest_of E.entries server.new) result }
     ensures memory { IfErr result (λ e. e ≡ StreamFault.Memory) }
 {
     let Ok(worked) = server.work(conn) else {

@@ -1,11 +1,7 @@
 //! A client's bytes are taken, one item at a time, and what they make due is put out.
 ghost use Rattle.std.specs.Prelude.{◌≡◌, ◌<◌, ◌≤◌, ℕ, List, [], Option, None, length, IsSome, IsOk, IfOk, IfErr, false};
-ghost use Rattle.wire.specs.Framing.{Opened};
-ghost use Rattle.engine.specs.Views.{EntryView};
-ghost use Rattle.session.specs.Rest.{Kept, shut};
-ghost use Rattle.server.specs.Serving.{Rest, find, setting};
-ghost use Rattle.server.specs.Views.{Fits};
-ghost use Rattle.streams.specs.Conversing.{with_talk};
+ghost use Rattle.server.specs.Serving.{Rest, find, feed_at, setting};
+ghost use Rattle.server.specs.Views.{rest_of, Fits};
 ghost use Rattle.streams.specs.Holding.{waits, with_held, HasSent};
 ghost use Rattle.streams.specs.Settling.{IsDueTo, IsLive, LivesOn, Feeds, Stands, TakesOne, TakesPiece, told_by};
 
@@ -40,7 +36,10 @@ pub fn take_piece<E: Engine, G: Gate, O: Sink>(
     ensures takes { (r : Rest G) (before : Option (List ℕ)) (up : List ℕ)
         → IsSome (find conn r.sessions)
         → (told_by r conn (setting E.answer G.accepts r) up).kept.ended ≡ None
-        → Stands r conn (setting E.answer G.accepts r) (Fits E.entries server.old) before (O.taken sink.old) up → TakesPiece r conn (setting E.answer G.accepts r) (Fits E.entries server.new) before (O.taken sink.new) up piece.now result }
+        → Stands r conn (setting E.answer G.accepts r) (Fits E.entries server.old) before
+        (O.taken sink.old) up
+        → TakesPiece r conn (setting E.answer G.accepts r) (Fits E.entries server.new) before
+        (O.taken sink.new) up piece.now result }
     ensures failed { IfErr result (λ e. IsDueTo e false (O.has_failed sink.new)) }
 {
     let mut held = Held::new(alloc);
@@ -62,7 +61,10 @@ pub(crate) fn take_held<E: Engine, G: Gate, O: Sink>(
     ensures takes { (r : Rest G) (before : Option (List ℕ)) (up : List ℕ)
         → IsSome (find conn r.sessions)
         → (told_by r conn (setting E.answer G.accepts r) up).kept.ended ≡ None
-        → Stands r conn (setting E.answer G.accepts r) (Fits E.entries server.old) before (O.taken sink.old) up → TakesPiece r conn (setting E.answer G.accepts r) (Fits E.entries server.new) before (O.taken sink.new) up piece.now result }
+        → Stands r conn (setting E.answer G.accepts r) (Fits E.entries server.old) before
+        (O.taken sink.old) up
+        → TakesPiece r conn (setting E.answer G.accepts r) (Fits E.entries server.new) before
+        (O.taken sink.new) up piece.now result }
     ensures none { IsOk result → waits held.new ≡ [] }
     ensures failed { IfErr result (λ e. IsDueTo e false (O.has_failed sink.new)) }
 {
@@ -92,7 +94,10 @@ fn take_items<E: Engine, G: Gate, O: Sink>(
     ensures takes { (r : Rest G) (before : Option (List ℕ)) (up : List ℕ)
         → IsSome (find conn r.sessions)
         → (told_by r conn (setting E.answer G.accepts r) up).kept.ended ≡ None
-        → Stands r conn (setting E.answer G.accepts r) (Fits E.entries server.old) before (with_held (O.taken sink.old) held.old) up → TakesPiece r conn (setting E.answer G.accepts r) (Fits E.entries server.new) before (with_held (O.taken sink.new) held.new) up piece.now result }
+        → Stands r conn (setting E.answer G.accepts r) (Fits E.entries server.old) before
+        (with_held (O.taken sink.old) held.old) up
+        → TakesPiece r conn (setting E.answer G.accepts r) (Fits E.entries server.new) before
+        (with_held (O.taken sink.new) held.new) up piece.now result }
     ensures sends { HasSent (O.taken sink.old) (O.taken sink.new) }
     ensures failed { IfErr result (λ e. IsDueTo e false (O.has_failed sink.new)) }
 {
@@ -127,7 +132,10 @@ fn take_one<E: Engine, G: Gate, O: Sink>(
     ensures takes { (r : Rest G) (before : Option (List ℕ)) (up : List ℕ)
         → IsSome (find conn r.sessions)
         → (told_by r conn (setting E.answer G.accepts r) up).kept.ended ≡ None
-        → Stands r conn (setting E.answer G.accepts r) (Fits E.entries server.old) before (with_held (O.taken sink.old) held.old) up → TakesOne r conn (setting E.answer G.accepts r) (Fits E.entries server.new) before (with_held (O.taken sink.new) held.new) up piece.now result }
+        → Stands r conn (setting E.answer G.accepts r) (Fits E.entries server.old) before
+        (with_held (O.taken sink.old) held.old) up
+        → TakesOne r conn (setting E.answer G.accepts r) (Fits E.entries server.new) before
+        (with_held (O.taken sink.new) held.new) up piece.now result }
     ensures sends { HasSent (O.taken sink.old) (O.taken sink.new) }
     ensures failed { IfErr result (λ e. IsDueTo e false (O.has_failed sink.new)) }
 {
@@ -151,10 +159,8 @@ fn feed_one<E: Engine, G: Gate>(
     ensures live { IsLive E.entries conn server.new }
     ensures grows { LivesOn conn (Fits E.entries server.old) (Fits E.entries server.new) }
     ensures bound { IfOk result (λ used. (0 < used) × (used ≤ length piece.now)) }
-    ensures feeds { (r : Rest G) (u : Opened) (ledger : List EntryView) (k : Kept)
-        → IsSome (find conn r.sessions) → shut k ≡ false
-        → Fits E.entries server.old (with_talk r conn u ledger k)
-        → Feeds r conn u ledger k piece.now (Fits E.entries server.new) result }
+    ensures feeds { Feeds (feed_at conn piece.now) (rest_of E.entries server.old)
+        (rest_of E.entries server.new) result }
     ensures memory { IfErr result (λ e. e ≡ StreamFault.Memory) }
 {
     let Ok(took) = server.feed(conn, piece) else {

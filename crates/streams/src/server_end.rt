@@ -42,7 +42,8 @@ pub fn serve_one<E: Engine, G: Gate, I: Peer, O: Sink>(
     // the sink took a beginning of what was put out by then, and the ledger is the one of then. The session lives no more.
     ensures serves { (r : Rest G) → Fits E.entries server.old r
         → find conn r.sessions ≡ Some (fresh conn)
-        → Serves r conn (setting E.answer G.accepts r) (Fits E.entries server.new) (I.left source.old) (I.left source.new) (O.taken sink.old) (O.taken sink.new) result }
+        → Serves r conn (setting E.answer G.accepts r) (Fits E.entries server.new) (I.left source.old)
+        (I.left source.new) (O.taken sink.old) (O.taken sink.new) result }
     // Of any session that lived: it lives no more, the others are as before, and the ledger has at most grown.
     ensures leaves { (r : Rest G) → Fits E.entries server.old r → IsSome (find conn r.sessions)
         → LeavesOthers r conn (Fits E.entries server.new) }
@@ -74,7 +75,8 @@ pub fn converse<E: Engine, G: Gate, I: Peer, O: Sink>(
     ensures grows { LivesOn conn (Fits E.entries server.old) (Fits E.entries server.new) }
     ensures converses { (r : Rest G) → Fits E.entries server.old r
         → find conn r.sessions ≡ Some (fresh conn)
-        → Converses r conn (setting E.answer G.accepts r) (Fits E.entries server.new) (I.left source.old) (I.left source.new) (O.taken sink.old) (O.taken sink.new) result }
+        → Converses r conn (setting E.answer G.accepts r) (Fits E.entries server.new)
+        (I.left source.old) (I.left source.new) (O.taken sink.old) (O.taken sink.new) result }
     ensures failed { IfErr result
         (λ e. IsDueTo e (I.has_failed source.new) (O.has_failed sink.new)) }
 {
@@ -105,7 +107,8 @@ fn converse_by<E: Engine, G: Gate, I: Peer, O: Sink>(
     ensures grows { LivesOn conn (Fits E.entries server.old) (Fits E.entries server.new) }
     ensures converses { (r : Rest G) → Fits E.entries server.old r
         → find conn r.sessions ≡ Some (fresh conn)
-        → Converses r conn (setting E.answer G.accepts r) (Fits E.entries server.new) (I.left source.old) (I.left source.new) (O.taken sink.old) (O.taken sink.new) result }
+        → Converses r conn (setting E.answer G.accepts r) (Fits E.entries server.new)
+        (I.left source.old) (I.left source.new) (O.taken sink.old) (O.taken sink.new) result }
     ensures failed { IfErr result
         (λ e. IsDueTo e (I.has_failed source.new) (O.has_failed sink.new)) }
 {

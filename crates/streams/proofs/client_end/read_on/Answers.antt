@@ -1,5 +1,5 @@
-use Rattle.std.proofs.Common.{refl, sym, ◌∙◌, map}
-use Rattle.client.specs.Prelude.{note, Fits}
+use Rattle.std.proofs.Common.{refl, sym, ap, ◌∙◌, map}
+use Rattle.client.specs.Prelude.{note, awaits, Fits, Rest}
 use Rattle.streams.specs.Prelude.{after_all}
 use Rattle.streams.proofs.Asked.{is_awaited, reads_none, stops_waiting, hears_more, hears_end, hears_fault}
 use Rattle.streams.proofs.client_end.read_on.Goals as goal
@@ -14,18 +14,18 @@ loop-client-init g c = record {
 pub hear_piece-requires : goal.hear_piece-requires
 hear_piece-requires g c = λ n few.
     c.requires c.loop-client.source (g.O.Sink.taken c.args.sink.now) n few
-    (refl, λ r f. let so = c.loop-client.invariant.reads r f in is_awaited so (sym (c.awaits.ensures (after_all r so.fed) so.now) ∙ c.loop-client-test.true))
+    (refl, λ r f. let so = c.loop-client.invariant.reads r f in is_awaited so (sym (c.awaits.ensures ∙ ap (λ (x : Rest). awaits x.knows) so.now) ∙ c.loop-client-test.true))
 
 pub returns-clause-reads : goal.returns-clause-reads
 returns-clause-reads g c = λ r f.
     let so = c.loop-client.invariant.reads r f in
-    stops_waiting so (sym (c.awaits.ensures (after_all r so.fed) so.now) ∙ c.loop-client-test.false)
+    stops_waiting so (sym (c.awaits.ensures ∙ ap (λ (x : Rest). awaits x.knows) so.now) ∙ c.loop-client-test.false)
 
 pub loop-client-preserved : goal.loop-client-preserved
 loop-client-preserved g c = record {
   reads = λ r f.
       let so = c.loop-client.invariant.reads r f in
-      let waits = sym (c.awaits.ensures (after_all r so.fed) so.now) ∙ c.loop-client-test.true in
+      let waits = sym (c.awaits.ensures ∙ ap (λ (x : Rest). awaits x.knows) so.now) ∙ c.loop-client-test.true in
       hears_more so waits (rw c.in-Ok-true.field-0-test at (c.in-Ok-true.ensures.hears (after_all r so.fed) so.now));
   sound = λ h. c.loop-client.invariant.sound (c.in-Ok-true.ensures.sound h);
   stays = λ h. c.hear_piece.ensures.stays (c.loop-client.invariant.stays h);
@@ -39,5 +39,5 @@ returns-in-Ok-false-clause-reads g c = λ r f.
 pub returns-in-Err-clause-reads : goal.returns-in-Err-clause-reads
 returns-in-Err-clause-reads g c = λ r f.
     let so = c.loop-client.invariant.reads r f in
-    let waits = sym (c.awaits.ensures (after_all r so.fed) so.now) ∙ c.loop-client-test.true in
+    let waits = sym (c.awaits.ensures ∙ ap (λ (x : Rest). awaits x.knows) so.now) ∙ c.loop-client-test.true in
     hears_fault so (g.I.Peer.left c.hear_piece.new.source) (map note c.hear_piece.new.heard.items) (Fits c.hear_piece.new.client) c.in-Err.fault waits (c.in-Err.ensures.hears (after_all r so.fed) so.now)

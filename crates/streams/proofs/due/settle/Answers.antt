@@ -2,13 +2,13 @@ use Rattle.server.specs.Prelude.{setting, Fits}
 use Rattle.std.proofs.Common.{refl}
 use Rattle.streams.specs.Prelude.{IsPartOfDue, heard_out, due}
 use Rattle.streams.proofs.Stepping.{breaks_steps, goes_first, goes_further, goes_no_further, goes_whole, goes_wrong}
-use Rattle.streams.proofs.Called.{lives_then}
+use Rattle.streams.proofs.Called.{lives_then, put_whole, put_front}
 use Rattle.streams.proofs.Conversings.{sent_then}
 use Rattle.streams.proofs.due.settle.Goals as goal
 
 pub returns-in-Err-clause-settles : goal.returns-in-Err-clause-settles
 returns-in-Err-clause-settles g c = λ r u ledger k i p f.
-    let h = c.in-Err.ensures.puts r u ledger k i f in
+    let h = put_front r c.args.conn i u ledger k _ _ _ _ f c.in-Err.fault c.in-Err.ensures.puts in
     let S = setting g.E.Engine.answer g.G.Gate.accepts r in
     breaks_steps (IsPartOfDue S c.args.conn ledger k) u S (due k) ledger (heard_out k) h.0 k.unsent (0, refl) h.1 h.2
 
@@ -17,7 +17,7 @@ loop-init g c = record {
   live = c.put_out.ensures.live;
   grows = c.put_out.ensures.grows;
   sends = c.put_out.ensures.sends;
-  goes = λ r u ledger k i p f. goes_first ledger k p (c.in-Ok.ensures.puts r u ledger k i f);
+  goes = λ r u ledger k i p f. goes_first ledger k p (put_whole r c.args.conn i u ledger k _ _ _ _ f c.in-Ok.ensures.puts);
 }
 
 pub work_once-requires : goal.work_once-requires

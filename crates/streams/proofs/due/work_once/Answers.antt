@@ -3,26 +3,26 @@ use Rattle.std.specs.Io.KnownBytes.{Appends}
 use Rattle.std.proofs.KnownBytes.{Appends-nil}
 use Rattle.server.specs.Prelude.{setting, Fits}
 use Rattle.streams.specs.Prelude.{Talk, IsSteps, heard_out, steps, with_held, Breaks}
-use Rattle.streams.proofs.Stepping.{breaks_steps}
-use Rattle.streams.proofs.Called.{lives_then}
+use Rattle.streams.proofs.Stepping.{breaks_steps, works_then}
+use Rattle.streams.proofs.Called.{lives_then, put_whole, put_front}
 use Rattle.streams.proofs.Conversings.{sent_none}
 use Rattle.streams.proofs.due.work_once.Goals as goal
 
 pub returns-in-Ok-Some-clause-steps : goal.returns-in-Ok-Some-clause-steps
 returns-in-Ok-Some-clause-steps g c = λ r u ledger k n i s p l f.
-    let h = rw c.in-Ok-Some.field-0-is at (c.in-Ok-Some.ensures.works r u ledger k n i s p l f) in
+    let h = rw c.in-Ok-Some.field-0-is at (works_then r c.args.conn i u ledger k n g.E.Engine.answer g.G.Gate.accepts _ _ s p l f _ c.in-Ok-Some.ensures.works) in
     let taken = with_held (g.O.Sink.taken c.args.sink.now) c.args.held.now in
     record { now = h.now; took = subst (Appends taken taken) (sym h.out) (Appends-nil taken); stands = h.stands }
 
 pub returns-in-Err-clause-steps : goal.returns-in-Err-clause-steps
 returns-in-Err-clause-steps g c = λ r u ledger k n i s p l f.
     let S = setting g.E.Engine.answer g.G.Gate.accepts r in
-    breaks_steps (IsSteps S c.args.conn ledger k) u S n ledger k k [] (0, refl) (c.in-Err.ensures.works r u ledger k n i s p l f) ([], [], refl, Appends-nil (with_held (g.O.Sink.taken c.args.sink.now) c.args.held.now))
+    breaks_steps (IsSteps S c.args.conn ledger k) u S n ledger k k [] (0, refl) (c.in-Err.ensures.works ∙ f) ([], [], refl, Appends-nil (with_held (g.O.Sink.taken c.args.sink.now) c.args.held.now))
 
 pub returns-in-Ok-clause-steps : goal.returns-in-Ok-clause-steps
 returns-in-Ok-clause-steps g c = λ r u ledger k n i s p l f.
-    let h = rw c.in-Ok-None.field-0-is at (c.in-Ok-None.ensures.works r u ledger k n i s p l f) in
-    let out = c.in-Ok.ensures.puts r u h.after h.left i h.now in
+    let h = rw c.in-Ok-None.field-0-is at (works_then r c.args.conn i u ledger k n g.E.Engine.answer g.G.Gate.accepts _ _ s p l f _ c.in-Ok-None.ensures.works) in
+    let out = put_whole r c.args.conn i u h.after h.left _ _ _ _ h.now c.in-Ok.ensures.puts in
     record {
       less = h.less;
       after = h.after;
@@ -39,8 +39,8 @@ returns-in-Ok-clause-steps g c = λ r u ledger k n i s p l f.
 
 pub returns-in-Err-put_out-clause-steps : goal.returns-in-Err-put_out-clause-steps
 returns-in-Err-put_out-clause-steps g c = λ r u ledger k n i s p l f.
-    let h = rw c.in-Ok-None.field-0-is at (c.in-Ok-None.ensures.works r u ledger k n i s p l f) in
-    let out = c.in-Err-put_out.ensures.puts r u h.after h.left i h.now in
+    let h = rw c.in-Ok-None.field-0-is at (works_then r c.args.conn i u ledger k n g.E.Engine.answer g.G.Gate.accepts _ _ s p l f _ c.in-Ok-None.ensures.works) in
+    let out = put_front r c.args.conn i u h.after h.left _ _ _ _ h.now c.in-Err-put_out.fault c.in-Err-put_out.ensures.puts in
     let S = setting g.E.Engine.answer g.G.Gate.accepts r in
     subst (λ (t : Talk). Breaks r c.args.conn t (IsSteps S c.args.conn ledger k) (Fits g.E.Engine.entries c.put_out.new.server) (with_held (g.O.Sink.taken c.args.sink.now) c.args.held.now) (with_held (g.O.Sink.taken c.put_out.new.sink) c.put_out.new.held))
     (sym (ap (λ (m : ℕ). steps S c.args.conn m ledger k) h.one_less ∙ h.follows h.less))
