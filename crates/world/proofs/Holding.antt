@@ -22,12 +22,15 @@ abbrev pub with_end : LinkHeld → End → LinkHeld
 with_end l e = record l { end = e }
 
 -- the rest of the client of an end
-pub held_client : {wish : Wish} {c : Client} {lost : Option (List (ℕ × Outcome))} (l : LinkHeld) → l.end ≡ end.Ours wish c lost → (x : Option asking.Rest) → FitsEnd l.end x → (y : asking.Rest) × (x ≡ Some y) × client.Fits c y
-held_client l is None f = absurd (subst (λ e. FitsEnd e None) is f)
-held_client l is (Some y) f = (y, refl, subst (λ e. FitsEnd e (Some y)) is f)
+pub held_is : {wish : Wish} {c : Client} {lost : Option (List (ℕ × Outcome))} (l : LinkHeld) → l.end ≡ end.Ours wish c lost → (x : Option asking.Rest) → FitsEnd l.end x → x ≡ Some (client.rest_of c)
+held_is l is None f = absurd (subst (λ e. FitsEnd e None) is f)
+held_is l is (Some y) f = ap (λ z. Some z) (sym (subst (λ e. FitsEnd e (Some y)) is f))
+
+abbrev pub held_client : {wish : Wish} {c : Client} {lost : Option (List (ℕ × Outcome))} (l : LinkHeld) → l.end ≡ end.Ours wish c lost → (x : Option asking.Rest) → FitsEnd l.end x → (y : asking.Rest) × (x ≡ Some y) × client.Fits c y
+held_client {c = c} l is x f = (client.rest_of c, held_is l is x f, refl)
 
 module _ (wish : Wish) (c : Client) (lost : Option (List (ℕ × Outcome))) where
-  pub holds_client : (l : LinkHeld) → l.end ≡ end.Ours wish c lost → (m : Link) → Holds l m
+  abbrev pub holds_client : (l : LinkHeld) → l.end ≡ end.Ours wish c lost → (m : Link) → Holds l m
       → (y : asking.Rest) × (m.client ≡ Some y) × client.Fits c y × (m ≡ link_of (with_end l (end.Ours wish c lost)) (Some y))
   holds_client l is m h =
       let r = held_client l is h.client h.ends in

@@ -227,9 +227,9 @@ answers_with S w e (Err Memory) P Q f a = record { may = a.may; after = a.after;
 answers_with S w e (Err _) P Q f a = (a.0, f w a.1)
 
 -- what a server holds that refused to open a session
-pub open_refused : {G : Type 0} (e : ServerRefused) (r : serving.Rest G) (P : serving.Rest G → Type 0) → serving.Opens (Err e) r P → P r
-open_refused server_refused.NoSuchConnection r P a = absurd a
-open_refused _ r P a = a.1
+pub open_refused : {G : Type 0} (e : ServerRefused) (old new : serving.Rest G) → serving.Opens (Err e) old new → new ≡ old
+open_refused server_refused.NoSuchConnection old new a = absurd a
+open_refused _ old new a = a.1
 
 -- a new server fits the world without connections
 pub new_fits : {G : Type 0} (gate : G) (es : List EntryView) → Fits (record { links = []; server = serving.empty es gate }) (empty es)

@@ -1,5 +1,5 @@
 -- The worlds that an object fits, and what an event does at the link of its connection.
-use Rattle.std.specs.Prelude.{◌≡◌, ℕ, Option, Some, Result, Ok, Err, List, [], ◌∷◌, slice_get, slice_set, Bool, true, false}
+use Rattle.std.specs.Prelude.{◌≡◌, ℕ, Option, Some, Result, Ok, Err, List, slice_get, slice_set, Bool, true, false}
 use Rattle.engine.specs.declared.Mode.{Mode as QueryMode}
 use Rattle.engine.specs.Views.{EntryView, WriteView, ParameterView, AnswerView, QueryFault}
 use Rattle.server.specs.declared.Server.{Server}

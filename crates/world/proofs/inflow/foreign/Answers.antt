@@ -1,4 +1,6 @@
-use Rattle.std.proofs.Common.{refl, sym, ap, subst}
+use Rattle.std.proofs.Common.{refl, sym, ◌∙◌, ap, subst}
+use Rattle.server.specs.Prelude.{feed_at}
+use Rattle.server.proofs.Known.{done}
 use Rattle.world.specs.Prelude.{Feeds, IsWrong, end_peer}
 use Rattle.world.proofs.Turning.{lacks, wrong}
 use Rattle.world.proofs.Turned.{fed_over, fed_cut, comes, foreign_done}
@@ -15,7 +17,7 @@ returns-then-link g c = λ r w b. fed_cut b refl tt c.args.bytes.now (comes b (a
 
 pub returns-in_default-feed : goal.returns-in_default-feed
 returns-in_default-feed g c = λ r w b.
-    lacks b refl _ (comes b (ap end_peer c.in-Foreign.is)) (λ h. h) refl c.args.link.now c.feed.new.self refl b.ends (c.in_default-feed.ensures.refused r.server b.server)
+    lacks b refl _ (comes b (ap end_peer c.in-Foreign.is)) (λ h. h) refl c.args.link.now c.feed.new.self refl b.ends (c.in_default-feed.ensures.refused ∙ b.server)
 
 pub returns : goal.returns
-returns g c = λ r w b. foreign_done b (ap end_peer c.in-Foreign.is) c.feed.new.self c.in-Ok.took c.in_default-gone.is c.if-link.false (c.in-Ok.ensures.done r.server b.server)
+returns g c = λ r w b. foreign_done b (ap end_peer c.in-Foreign.is) c.feed.new.self c.in-Ok.took c.in_default-gone.is c.if-link.false (done (feed_at c.args.conn c.args.bytes.now) _ _ _ c.in-Ok.ensures.done r.server b.server)

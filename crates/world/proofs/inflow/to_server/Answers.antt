@@ -3,6 +3,7 @@ use Rattle.session.specs.declared.What.{What}
 use Rattle.server.specs.Serving as serving
 use Rattle.server.proofs.Answered as answered
 use Rattle.server.specs.Views as server
+use Rattle.server.proofs.Known.{done}
 use Rattle.client.specs.Rest as asking
 use Rattle.world.specs.declared.link.End.TheVariants as end
 use Rattle.world.specs.Prelude.{ToServer, Fed, IsWrong, end_peer, flow_of}
@@ -32,7 +33,7 @@ returns-in_default-feed g c = λ r w b.
     let o = c.in-Ours in let y = held_client c.args.link.now o.is b.client b.ends in
     let d = c.in-Ok.ensures.ok y.0 y.2 in let j = c.args.max - length (flow_of c.args.link.now.up) in
     server_lacks b (ap end_peer o.is) y.0 y.1 j (record c.args.link.now { end = end.Ours o.wish c.draw_up.new.client o.lost; up = c.draw_up.new.up }) c.feed.new.self
-    (up_changed c.args.link.now o.is b.client (Some (asking.taken_out y.0 j)) c.draw_up.new.client c.draw_up.new.up _ d.1) d.0 (c.in_default-feed.ensures.refused r.server b.server)
+    (up_changed c.args.link.now o.is b.client (Some (asking.taken_out y.0 j)) c.draw_up.new.client c.draw_up.new.up _ d.1) d.0 (c.in_default-feed.ensures.refused ∙ b.server)
 
 pub returns : goal.returns
 returns g c = λ r w b.
@@ -42,4 +43,4 @@ returns g c = λ r w b.
     let Fed_ : List ℕ → Type 0 = λ p. answered.Answers (Ok took) (serving.feed_at c.args.conn p r.server) r.server (server.Fits g.E.Engine.entries c.feed.new.self) in
     server_done b (ap end_peer o.is) y.0 y.1 (record c.args.link.now { end = end.Ours o.wish c.draw_up.new.client o.lost; up = c.advance.new.self }) c.feed.new.self took c.in_default-gone.is c.if-link.false
     (up_changed c.args.link.now o.is b.client (Some (asking.taken_out y.0 j)) c.draw_up.new.client c.advance.new.self _ (c.advance.ensures ∙ ap (drop took.used) d.1)) d.0
-    (subst Fed_ (c.front.ensures ∙ ap (take c.args.max) d.1) (c.in-Ok-feed.ensures.done r.server b.server))
+    (subst Fed_ (c.front.ensures ∙ ap (take c.args.max) d.1) (done (serving.feed_at c.args.conn _) _ _ _ c.in-Ok-feed.ensures.done r.server b.server))

@@ -1,4 +1,6 @@
 use Rattle.std.proofs.Common.{refl, ◌∙◌, ◌++◌, ap, arith}
+use Rattle.server.specs.Prelude.{take_out_at}
+use Rattle.server.proofs.Known.{done}
 use Rattle.world.proofs.Turning.{link_at, lacks}
 use Rattle.world.proofs.Turned.{lost_before, goes, lost_done}
 use Rattle.world.proofs.session_loss.lose_server.Goals as goal
@@ -13,9 +15,9 @@ returns-then-is_err g c = λ r w b.
 pub returns-in_default-take_out : goal.returns-in_default-take_out
 returns-in_default-take_out g c = λ r w b.
     lacks b refl _ (goes b) (λ h. h) refl (record c.args.link.now { down = c.join.new.self }) c.take_out.new.self (ap (λ d. record (link_at b) { down = d }) c.join.ensures.same) b.ends
-    (c.in_default-take_out.ensures.refused r.server b.server)
+    (c.in_default-take_out.ensures.refused ∙ b.server)
 
 pub returns : goal.returns
 returns g c = λ r w b.
     lost_done b c.put.new.self c.give_up-link.result c.take_out.new.self c.give_up-link.new.server c.in-Ok.said 18446744073709551615
-    c.in_default.is (omega (arith, c.put.ensures.few)) (c.in-Ok.ensures.done r.server b.server) (λ x f. c.give_up-link.ensures x f) (c.put.ensures.held ∙ ap (λ z. z ++ c.in-Ok.said) c.join.ensures.same)
+    c.in_default.is (omega (arith, c.put.ensures.few)) (done (take_out_at c.args.conn 18446744073709551615) _ _ _ c.in-Ok.ensures.done r.server b.server) (λ x f. c.give_up-link.ensures x f) (c.put.ensures.held ∙ ap (λ z. z ++ c.in-Ok.said) c.join.ensures.same)
