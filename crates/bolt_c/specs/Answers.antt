@@ -11,7 +11,7 @@ use Rattle.client.specs.declared.faults.SubmitFault.TheVariants as submit_fault
 use Rattle.client.specs.declared.faults.ClientFault.{ClientFault}
 use Rattle.client.specs.declared.faults.ClientFault.TheVariants as client_fault
 use Rattle.client.specs.Rest.{Rest, Knows, Note, Nothing, Chose, Row, Summary, feed_of, refuses, after_submit, taken_out}
-use Rattle.client.specs.Fits.{Fits, IsAccepted, UnlessMemory}
+use Rattle.client.specs.Fits.{rest_of, IsAccepted, UnlessMemory}
 use Rattle.client.specs.Held.{WantsRoom}
 use Rattle.bolt_c.specs.declared.answers.Refusal.{Refusal}
 use Rattle.bolt_c.specs.declared.answers.Refusal.TheVariants as refusal
@@ -57,33 +57,36 @@ refuses_bytes k (Ok q) = option_map refusal_of (refuses k q)
 refuses_bytes k (Err e) = if k.over then Some refusal.Closed else Some e
 
 -- the request that the bytes stand for is accepted with this ordinal, and the client stands at the rest after it
-abbrev pub Accepts : Rest → ℕ → (Rest → Type 0) → Result RequestView Refusal → Type 0
-Accepts r n Now (Ok q) = IsAccepted r q n × Now (after_submit r q)
-Accepts r n Now (Err e) = ⊥
+abbrev pub Accepts : Rest → ℕ → Rest → Result RequestView Refusal → Type 0
+Accepts r n after (Ok q) = IsAccepted r q n × (after ≡ after_submit r q)
+Accepts r n after (Err e) = ⊥
+
+-- what the client of a handle holds
+abbrev pub held_rest : Held → Rest
+held_rest h = rest_of h.client
 
 -- `submit` of the bytes of a message
 pub record Submits (old : Held) (bytes : List ℕ) (result : Result ℕ Refusal) (new : Held)
     : Type 0 where
-  pub ok : (r : Rest) → Fits old.client r
-      → IfOk result (λ n. Accepts r n (Fits new.client) (asked r.knows.version bytes))
-  pub err : (r : Rest) → Fits old.client r → OnErr result (Fits new.client r)
-  pub fault : (r : Rest) → Fits old.client r → IfErr result (λ e. (e ≡ refusal.Memory → ⊥)
-      → refuses_bytes r.knows (asked r.knows.version bytes) ≡ Some e)
-  pub memory : (r : Rest) → Fits old.client r → IsErrOf result refusal.Memory
-      → (r.knows.over ≡ false) × (is_some r.knows.version ≡ true)
+  pub ok : IfOk result (λ n. Accepts (held_rest old) n (held_rest new)
+      (asked (held_rest old).knows.version bytes))
+  pub err : OnErr result (held_rest new ≡ held_rest old)
+  pub fault : IfErr result (λ e. (e ≡ refusal.Memory → ⊥)
+      → refuses_bytes (held_rest old).knows (asked (held_rest old).knows.version bytes) ≡ Some e)
+  pub memory : IsErrOf result refusal.Memory
+      → ((held_rest old).knows.over ≡ false) × (is_some (held_rest old).knows.version ≡ true)
   pub last : new.last ≡ old.last
 
 -- `take` into a buffer
 pub record Takes (old : Held) (before : List ℕ) (result : Result ℕ ClientFault) (after : List ℕ)
     (new : Held) : Type 0 where
-  pub ok : (r : Rest) → Fits old.client r
-      → IfOk result (λ n. (n ≡ min (length before) (length r.unsent))
-      × Writes r.unsent before after × Fits new.client (taken_out r (length before)))
-  pub err : (r : Rest) → Fits old.client r → OnErr result (Fits new.client r)
+  pub ok : IfOk result (λ n. (n ≡ min (length before) (length (held_rest old).unsent))
+      × Writes (held_rest old).unsent before after
+      × (held_rest new ≡ taken_out (held_rest old) (length before)))
+  pub err : OnErr result (held_rest new ≡ held_rest old)
   pub same : OnErr result (after ≡ before)
   pub fault : IfErr result (λ e. e ≡ client_fault.Memory)
-  pub memory : (r : Rest) → Fits old.client r
-      → OnErr result (0 < min (length before) (length r.unsent))
+  pub memory : OnErr result (0 < min (length before) (length (held_rest old).unsent))
   pub last : new.last ≡ old.last
 
 -- what ended, by what the client tells
@@ -116,13 +119,13 @@ kept_result (Err e) before = before
 -- `feed` of a piece
 pub record Feeds (old : Held) (piece : List ℕ) (result : Result (ℕ × Event) ClientFault)
     (new : Held) : Type 0 where
-  pub told : (r : Rest) → Fits old.client r
-      → UnlessMemory result ((result ≡ event_result (feed_of r piece).answer)
-      × Fits new.client (feed_of r piece).rest)
-  pub kept : (r : Rest) → Fits old.client r
-      → UnlessMemory result (last_of new ≡ kept_result (feed_of r piece).answer (last_of old))
-  pub memory : (r : Rest) → Fits old.client r → IsErrOf result client_fault.Memory
-      → Fits new.client r × (r.knows.over ≡ false) × WantsRoom r.item piece
+  pub told : UnlessMemory result
+      ((result ≡ event_result (feed_of (held_rest old) piece).answer)
+      × (held_rest new ≡ (feed_of (held_rest old) piece).rest))
+  pub kept : UnlessMemory result
+      (last_of new ≡ kept_result (feed_of (held_rest old) piece).answer (last_of old))
+  pub memory : IsErrOf result client_fault.Memory → (held_rest new ≡ held_rest old)
+      × ((held_rest old).knows.over ≡ false) × WantsRoom (held_rest old).item piece
   pub same : IsErrOf result client_fault.Memory → last_of new ≡ last_of old
   pub within : IfOk result (λ t. t.0 ≤ length piece)
   pub goes_on : 0 < length piece → IfOk result (λ t. 0 < t.0)

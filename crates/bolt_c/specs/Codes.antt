@@ -11,7 +11,7 @@ use Rattle.client.specs.declared.heard.Outcome.TheVariants as outcome
 use Rattle.client.specs.declared.faults.ClientFault.{ClientFault}
 use Rattle.client.specs.declared.faults.ClientFault.TheVariants as client_fault
 use Rattle.client.specs.Rest.{Rest, begun, losses, after_drop, awaits}
-use Rattle.client.specs.Fits.{Fits}
+use Rattle.client.specs.Fits.{rest_of}
 use Rattle.bolt_c.specs.declared.answers.Refusal.{Refusal}
 use Rattle.bolt_c.specs.declared.answers.Refusal.TheVariants as refusal
 use Rattle.bolt_c.specs.declared.answers.Event.{Event}
@@ -152,14 +152,13 @@ Feeding piece n before after old new =
 abbrev pub Messaging : List ℕ → ℕ → List ℕ → ℕ → ℕ → Held → Held → Type 0
 Messaging into n written before after old new =
     (answer : Result ℕ MessageFault) × (new ≡ old)
-    × ((r : Rest) → Fits old.client r
-    → Tells (message_of r.knows.version (last_of old)) into answer written)
+    × Tells (message_of (rest_of old.client).knows.version (last_of old)) into answer written
     × (n ≡ code_by message_fault_code answer) × (after ≡ filled (λ count. count) answer before)
 
 -- there is a new client for the wish
 abbrev pub Opened : Wish → Option Held → Type 0
 Opened w None = ⊥
-Opened w (Some new) = Fits new.client (begun w) × (new.last ≡ None)
+Opened w (Some new) = (rest_of new.client ≡ begun w) × (new.last ≡ None)
 
 -- `bolt_open`: a new client for the wish; else nothing has changed
 abbrev pub Opens : Option Held → Option Wish → ℕ → Option Held → Type 0
@@ -173,9 +172,10 @@ pub record Loses (old : Held) (before : List Loss) (count result : ℕ) (after :
   pub short : length before < max_waiting
       → (result ≡ 11) × (after ≡ before) × (told ≡ count) × (new ≡ old)
   pub done : max_waiting ≤ length before → (result ≡ 0) × (new.last ≡ old.last)
-  pub tells : (r : Rest) → Fits old.client r → max_waiting ≤ length before
-      → Fits new.client (after_drop r) × (told ≡ length (losses r.knows))
-      × (after ≡ map loss_of (losses r.knows) ++ drop told before)
+  pub tells : max_waiting ≤ length before
+      → (rest_of new.client ≡ after_drop (rest_of old.client))
+      × (told ≡ length (losses (rest_of old.client).knows))
+      × (after ≡ map loss_of (losses (rest_of old.client).knows) ++ drop told before)
 
 -- a truth as a number
 abbrev pub flag : Bool → ℕ

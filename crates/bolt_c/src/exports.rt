@@ -2,8 +2,7 @@
 //! `bolt_open` fills it and `bolt_close` leaves it so.
 
 ghost use Rattle.std.specs.Prelude.{◌≡◌, None};
-ghost use Rattle.client.specs.Rest.{Rest};
-ghost use Rattle.client.specs.Fits.{Fits};
+ghost use Rattle.client.specs.Fits.{rest_of};
 ghost use Rattle.bolt_c.specs.Codes.{wish_of, Submitting, Taking, Feeding, Messaging, OnHeld, Opens, Loses, StandsAt};
 
 use crate::codes::{
@@ -192,8 +191,7 @@ pub extern "C" fn bolt_lost(
 pub extern "C" fn bolt_state(alloc: Global, handle: &mut Handle, state: &mut Standing) -> u32
     ensures done { OnHeld handle.old.held handle.new.held
         ((result ≡ 100) × (state.new ≡ state.old))
-        (λ old new. (new ≡ old) × (result ≡ 0)
-        × ((r : Rest) → Fits old.client r → StandsAt r state.new)) }
+        (λ old new. (new ≡ old) × (result ≡ 0) × StandsAt (rest_of old.client) state.new) }
 {
     let Some(held) = handle.take(alloc) else {
         return NO_CLIENT;

@@ -1,12 +1,12 @@
 //! What a handle holds, and its calls in plain data.
 
 ghost use Rattle.std.specs.Prelude.{◌≡◌, ◌≤◌, ◌<◌, true, false, None, Some, Ok, Err, is_some, length, min, IfOk, IfErr, OnErr, IsErrOf};
-ghost use Rattle.client.specs.Rest.{Rest, begun, taken_out, feed_of};
-ghost use Rattle.client.specs.Fits.{Fits, UnlessMemory};
+ghost use Rattle.client.specs.Rest.{begun, taken_out, feed_of};
+ghost use Rattle.client.specs.Fits.{UnlessMemory};
 ghost use Rattle.client.specs.Notes.{note};
 ghost use Rattle.client.specs.Held.{WantsRoom};
 ghost use Rattle.bolt_c.specs.Codes.{StandsAt};
-ghost use Rattle.bolt_c.specs.Answers.{Writes, asked, Asks, refuses_bytes, Accepts, event_of, kept_of, last_of, event_result, kept_result, message_of, Tells};
+ghost use Rattle.bolt_c.specs.Answers.{Writes, asked, Asks, refuses_bytes, Accepts, held_rest, event_of, kept_of, last_of, event_result, kept_result, message_of, Tells};
 
 use crate::answers::{Event, MessageFault, Refusal, refusal_of};
 use crate::codes::{Standing, phase_code, version_code};
@@ -49,7 +49,7 @@ pub(crate) fn put(bytes: &[u8], into: &mut [u8])
 impl Held {
     /// Around a new client. C5 for want of memory.
     pub(crate) fn new(alloc: Global, wish: Wish) -> Result<Box<Held>, ClientFault>
-        ensures new { IfOk result (λ held. Fits held.value.client (begun wish)
+        ensures new { IfOk result (λ held. (held_rest held.value ≡ begun wish)
             × (held.value.last ≡ None)) }
         ensures fault { IfErr result (λ e. e ≡ ClientFault.Memory) }
     {
@@ -64,15 +64,15 @@ impl Held {
     /// Takes the request of the bytes of a message, and answers its ordinal. Else the first of C4, C1 before a version is known,
     /// bytes that are no request, and what the client refuses; or C5. Nothing has changed then.
     pub(crate) fn submit(&mut self, alloc: Global, message: &[u8]) -> Result<u64, Refusal>
-        ensures ok { (r : Rest) → Fits self.old.client r
-            → IfOk result (λ n. Accepts r n (Fits self.new.client)
-            (asked r.knows.version message.now)) }
-        ensures err { (r : Rest) → Fits self.old.client r → OnErr result (Fits self.new.client r) }
-        ensures fault { (r : Rest) → Fits self.old.client r
-            → IfErr result (λ e. (e ≡ Refusal.Memory → ⊥)
-            → refuses_bytes r.knows (asked r.knows.version message.now) ≡ Some e) }
-        ensures memory { (r : Rest) → Fits self.old.client r → IsErrOf result Refusal.Memory
-            → (r.knows.over ≡ false) × (is_some r.knows.version ≡ true) }
+        ensures ok { IfOk result (λ n. Accepts (held_rest self.old) n (held_rest self.new)
+            (asked (held_rest self.old).knows.version message.now)) }
+        ensures err { OnErr result (held_rest self.new ≡ held_rest self.old) }
+        ensures fault { IfErr result (λ e. (e ≡ Refusal.Memory → ⊥)
+            → refuses_bytes (held_rest self.old).knows
+            (asked (held_rest self.old).knows.version message.now) ≡ Some e) }
+        ensures memory { IsErrOf result Refusal.Memory
+            → ((held_rest self.old).knows.over ≡ false)
+            × (is_some (held_rest self.old).knows.version ≡ true) }
         ensures last { self.new.last ≡ self.old.last }
     {
         if self.client.has_ended() {
@@ -88,15 +88,15 @@ impl Held {
     /// Moves the next bytes that aren't taken out into the buffer, as many as there is room for, and answers how many. Where that is none it
     /// takes no memory. Or C5, and nothing has changed.
     pub(crate) fn take(&mut self, into: &mut [u8]) -> Result<usize, ClientFault>
-        ensures ok { (r : Rest) → Fits self.old.client r
-            → IfOk result (λ n. (n ≡ min (length into.old) (length r.unsent))
-            × Writes r.unsent into.old into.new
-            × Fits self.new.client (taken_out r (length into.old))) }
-        ensures err { (r : Rest) → Fits self.old.client r → OnErr result (Fits self.new.client r) }
+        ensures ok { IfOk result
+            (λ n. (n ≡ min (length into.old) (length (held_rest self.old).unsent))
+            × Writes (held_rest self.old).unsent into.old into.new
+            × (held_rest self.new ≡ taken_out (held_rest self.old) (length into.old))) }
+        ensures err { OnErr result (held_rest self.new ≡ held_rest self.old) }
         ensures same { OnErr result (into.new ≡ into.old) }
         ensures fault { IfErr result (λ e. e ≡ ClientFault.Memory) }
-        ensures memory { (r : Rest) → Fits self.old.client r
-            → OnErr result (0 < min (length into.old) (length r.unsent)) }
+        ensures memory { OnErr result
+            (0 < min (length into.old) (length (held_rest self.old).unsent)) }
         ensures last { self.new.last ≡ self.old.last }
     {
         let bytes = self.client.take_out(into.len())?;
@@ -106,14 +106,15 @@ impl Held {
 
     /// What the client's `feed` tells; a row or a summary is kept.
     pub(crate) fn feed(&mut self, piece: &[u8]) -> Result<(usize, Event), ClientFault>
-        ensures told { (r : Rest) → Fits self.old.client r
-            → UnlessMemory result ((result ≡ event_result (feed_of r piece.now).answer)
-            × Fits self.new.client (feed_of r piece.now).rest) }
-        ensures kept { (r : Rest) → Fits self.old.client r
-            → UnlessMemory result
-            (last_of self.new ≡ kept_result (feed_of r piece.now).answer (last_of self.old)) }
-        ensures memory { (r : Rest) → Fits self.old.client r → IsErrOf result ClientFault.Memory
-            → Fits self.new.client r × (r.knows.over ≡ false) × WantsRoom r.item piece.now }
+        ensures told { UnlessMemory result
+            ((result ≡ event_result (feed_of (held_rest self.old) piece.now).answer)
+            × (held_rest self.new ≡ (feed_of (held_rest self.old) piece.now).rest)) }
+        ensures kept { UnlessMemory result (last_of self.new
+            ≡ kept_result (feed_of (held_rest self.old) piece.now).answer (last_of self.old)) }
+        ensures memory { IsErrOf result ClientFault.Memory
+            → (held_rest self.new ≡ held_rest self.old)
+            × ((held_rest self.old).knows.over ≡ false)
+            × WantsRoom (held_rest self.old).item piece.now }
         ensures same { IsErrOf result ClientFault.Memory → last_of self.new ≡ last_of self.old }
         ensures within { IfOk result (λ t. t.0 ≤ length piece.now) }
         ensures goes_on { 0 < length piece.now → IfOk result (λ t. 0 < t.0) }
@@ -153,8 +154,8 @@ impl Held {
     /// The bytes of the row or summary that was heard last go into the buffer, as many as there is room for; how many there are.
     /// Where none was heard, or memory ran out, nothing has changed.
     pub(crate) fn message(&self, alloc: Global, into: &mut [u8]) -> Result<usize, MessageFault>
-        ensures { (r : Rest) → Fits self.now.client r
-            → Tells (message_of r.knows.version (last_of self.now)) into.old result into.new }
+        ensures { Tells (message_of (held_rest self.now).knows.version (last_of self.now))
+            into.old result into.new }
     {
         let text = self.text(alloc)?;
         put(text.as_slice(), into);
@@ -162,11 +163,10 @@ impl Held {
     }
 
     fn text(&self, alloc: Global) -> Result<BytesMut, MessageFault>
-        ensures ok { (r : Rest) → Fits self.now.client r
-            → IfOk result (λ text. message_of r.knows.version (last_of self.now) ≡ Ok text.items) }
-        ensures err { (r : Rest) → Fits self.now.client r
-            → IfErr result (λ e. (e ≡ MessageFault.Memory → ⊥)
-            → message_of r.knows.version (last_of self.now) ≡ Err e) }
+        ensures ok { IfOk result (λ text. message_of (held_rest self.now).knows.version
+            (last_of self.now) ≡ Ok text.items) }
+        ensures err { IfErr result (λ e. (e ≡ MessageFault.Memory → ⊥)
+            → message_of (held_rest self.now).knows.version (last_of self.now) ≡ Err e) }
     {
         let Some(version) = self.client.version() else {
             return Err(MessageFault::NotHeard);
@@ -184,7 +184,7 @@ impl Held {
 
     /// Where the client stands.
     pub(crate) fn standing(&self) -> Standing
-        ensures { (r : Rest) → Fits self.now.client r → StandsAt r result }
+        ensures { StandsAt (held_rest self.now) result }
     {
         Standing {
             first: self.client.first_waiting(),

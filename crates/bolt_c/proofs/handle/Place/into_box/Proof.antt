@@ -1,5 +1,5 @@
 -- The library makes a box of what lies there.
-use Rattle.std.proofs.Common.{◌≡◌, List, [], ◌∷◌, refl, ap}
+use Rattle.std.proofs.Common.{◌≡◌, List, [], ◌∷◌, refl}
 use Rattle.std.proofs.raw_atomic.Walks.{proved, leaves}
 use base.Fraction.{full_share}
 use base.Logic.{SProp, emp, id⊢}

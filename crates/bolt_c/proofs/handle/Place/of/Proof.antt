@@ -27,7 +27,6 @@ use contract.Running.{tables}
 use Rattle.core.proofs.alloc.Calls.{Goes-blank}
 use Rattle.std.proofs.impls.GlobalAllocator.TheImpl.Met as heap_met
 use Rattle.std.specs.contracts.impls.GlobalAllocator.TheImpl.{ghosts, dict}
-use Rattle.std.specs.contracts.alloc.Global as heap
 use Rattle.std_alloc.specs.contracts.boxed.Box.into_raw as callee
 use Rattle.std_alloc.proofs.boxed.Box.into_raw.Met.{met}
 use Rattle.bolt_c.proofs.Heap.{Heap, Heap_laws, let_go, goes}
