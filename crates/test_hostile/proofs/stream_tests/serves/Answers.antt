@@ -1,10 +1,12 @@
+use Rattle.std.proofs.Common.{ap, ◌∙◌}
 use Rattle.engine.specs.Prelude.{ledger_of}
-use Rattle.server.specs.Prelude.{empty}
+use Rattle.server.specs.Prelude.{opened}
 use Rattle.streams.proofs.Firsts.{one, one_lives}
 use Rattle.test_hostile.proofs.stream_tests.serves.Goals as goal
 
 pub serve_one-answer-requires : goal.serve_one-answer-requires
 serve_one-answer-requires c =
     let ledger = ledger_of c.new-2.result in
-    let o = c.in_ok-conn.ensures (empty ledger c.in_ok-gate.gate) c.new-server.ensures in
-    record { live = (one ledger c.in_ok-gate.gate c.in_ok-conn.conn o.number, o.now, one_lives ledger c.in_ok-gate.gate c.in_ok-conn.conn o.number); turns = λ s taken n few turn. tt }
+    let o = c.in_ok-conn.ensures in
+    let first = o.1 ∙ ap (λ r. r.next) c.new-server.ensures in
+    record { live = (one ledger c.in_ok-gate.gate c.in_ok-conn.conn first, o.2 ∙ ap opened c.new-server.ensures, one_lives ledger c.in_ok-gate.gate c.in_ok-conn.conn first); turns = λ s taken n few turn. tt }
