@@ -197,15 +197,19 @@ result_of_answer v s token a =
       token = if in_transaction s then None else token;
     }
 
+-- the reply to a RUN whose answer is opened, where the SUCCESS with its fields can be written
+abbrev pub opens : Version → State → Tx → Token → AnswerView → Reply
+opens v s tx token a = if_fits v (fields_said a.fields)
+    (Summary Verdict.Success (fields_said a.fields) (result_of_answer v s token a)
+    (if in_transaction s then with_write tx a.write else no_tx) None)
+
 -- the reply to a RUN, by what the engine answers
 abbrev pub reply_to_run : Version → State → Tx → Token → Result AnswerView QueryFault → Reply
 reply_to_run v s tx token (Err e) = fails (of_query e)
 reply_to_run v s tx token (Ok a) =
     if in_transaction s && (is_some a.write && nat_le max_writes (length tx.writes)) then
     fails fault.TooManyWrites
-    else if_fits v (fields_said a.fields)
-    (Summary Verdict.Success (fields_said a.fields) (result_of_answer v s token a)
-    (if in_transaction s then with_write tx a.write else no_tx) None)
+    else opens v s tx token a
 
 -- the reply to a HELLO that logs on, by who the client says it is
 abbrev pub reply_to_hello : Setting → Option AuthView → ResponseView → Reply
