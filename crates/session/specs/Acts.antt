@@ -15,8 +15,8 @@ use Rattle.engine.specs.declared.ledger.Commit.{Commit}
 use Rattle.engine.specs.declared.ledger.Commit.TheVariants.{Added, Repeat, Clash}
 use Rattle.engine.specs.Tokens.{Free, found_in}
 use Rattle.engine.specs.Views.{Token, WriteView, EntryView, token_view, answer_view}
-use Rattle.session.specs.declared.session.Waiting.{Waiting}
-use Rattle.session.specs.declared.session.Waiting.TheVariants as waiting
+use Rattle.session.specs.declared.waiting.Waiting.{Waiting}
+use Rattle.session.specs.declared.waiting.Waiting.TheVariants as waiting
 use Rattle.session.specs.declared.kinds.Cause.{Cause}
 use Rattle.session.specs.declared.kinds.Cause.TheVariants as cause
 use Rattle.session.specs.declared.kinds.Worked.{Worked}

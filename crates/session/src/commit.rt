@@ -1,10 +1,10 @@
 //! What is open after a summary, and the commit of it.
-ghost use Rattle.std.specs.Prelude.{◌≡◌, ◌+◌, ◌<◌, ◌≤◌, ◌++◌, [], length, drop, Some, option_to_list, IfOk, OnOk, OnErr};
+ghost use Rattle.std.specs.Prelude.{◌≡◌, ◌+◌, ◌<◌, ◌≤◌, ◌++◌, length, drop, Some, IfOk, OnOk, OnErr};
 ghost use Rattle.engine.specs.Tokens.{Free, found_in};
 ghost use Rattle.engine.specs.Views.{token_view, writes_view};
 ghost use Rattle.session.specs.Session.{no_result, change_alone};
 ghost use Rattle.session.specs.Rest.{commit_entries};
-ghost use Rattle.session.specs.Views.{first_of, open_of, tx_of};
+ghost use Rattle.session.specs.Views.{open_of, tx_of};
 ghost use Rattle.session.specs.Acts.{left_result, left_tx, left_entry, length_after, change_of, IsBelow, IsFree};
 ghost use Rattle.engine.specs.Limits.{ledger_bound};
 

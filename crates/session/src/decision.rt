@@ -2,7 +2,7 @@
 ghost use Rattle.std.specs.Prelude.{◌≡◌, ℕ, ◌≤◌, if◌then◌else◌, ◌&&◌, not, true, false, is_some, option_map, nat_le, ◌==◌, List, length, Ok, Result, IfOk, []};
 ghost use Rattle.messages.specs.View.{request_view, auth_view, auth_in};
 ghost use Rattle.messages.specs.Summaries.{response_of_summary};
-ghost use Rattle.machine.specs.Asks.{kind_of, is_reset as resets};
+ghost use Rattle.machine.specs.Asks.{kind_of};
 ghost use Rattle.machine.specs.Rows.{row_at};
 ghost use Rattle.wire.specs.declared.Version.{Version as AnyVersion};
 ghost use Rattle.machine.specs.declared.states.State.{State as AnyState};

@@ -20,7 +20,6 @@ use crate::commit::leave;
 use crate::decision::interrupted;
 use crate::kinds::{Cause, Worked};
 use crate::query_answer::{open_result, spell_fields};
-use crate::queue::{has_reset, request_in, turn_of};
 use crate::result::OpenResult;
 use crate::session::Session;
 use crate::spelling::{Unwritten, spell_response, spell_summary};
@@ -60,7 +59,7 @@ impl Session {
         if self.out.len() >= MAX_UNSENT {
             return Ok(Worked::Full);
         }
-        match turn_of(&self.queue) {
+        match self.queue.turn() {
             Turn::Nothing => Ok(Worked::Idle),
             Turn::Ends(cause) => {
                 self.end(cause);
@@ -93,7 +92,7 @@ impl Session {
             × (E.entries engine.new ≡ E.entries engine.old)) }
         ensures counted { IfOk result IsCounted }
     {
-        let request = request_in(&self.queue);
+        let request = self.queue.request();
         let asked = kind(request);
         if self.is_interrupted() {
             let act = interrupted(request);
@@ -111,7 +110,7 @@ impl Session {
         ensures { let k = kept_of self.now in result
             ≡ (reset_among k.waiting && interruptible k.state) }
     {
-        has_reset(&self.queue) && is_interruptible(self.state)
+        self.queue.has_reset() && is_interruptible(self.state)
     }
 
     /// Writes the row that is due, or the FAILURE where it can't be written.
@@ -121,7 +120,7 @@ impl Session {
         kind: Kind,
         engine: &mut E,
     ) -> Result<Worked, AllocError>
-        requires some { 0 < length self.old.queue.items }
+        requires some { 0 < length self.old.queue.waiting.items }
         requires row { 0 < length self.old.result.rows.items }
         ensures ok { let k = kept_of self.old in
             (q : RequestView) (later : List Arrival) → k.waiting ≡ Asked q ∷ later
@@ -169,7 +168,7 @@ impl Session {
         kind: Kind,
         engine: &mut E,
     ) -> Result<Worked, AllocError>
-        requires some { 0 < length self.old.queue.items }
+        requires some { 0 < length self.old.queue.waiting.items }
         requires free { let k = kept_of self.old in IsFree (E.entries engine.old)
             (entry_in (reply_of (version_of k) worked_in k.result k.tx act)) }
         ensures ok { let k = kept_of self.old in
@@ -211,7 +210,7 @@ impl Session {
         kind: Kind,
         engine: &mut E,
     ) -> Result<Worked, AllocError>
-        requires some { 0 < length self.old.queue.items }
+        requires some { 0 < length self.old.queue.waiting.items }
         requires fits { IsSized self.old.body.items }
         requires free { let k = kept_of self.old in
             IsFree (E.entries engine.old) (left_entry after k.result k.tx) }
@@ -255,7 +254,7 @@ impl Session {
         kind: Kind,
         entry: Option<u64>,
     ) -> Worked
-        requires some { 0 < length self.old.queue.items }
+        requires some { 0 < length self.old.queue.waiting.items }
         requires fits { IsSized self.old.body.items }
         requires room { length (written_run self.old.body.items) ≤ self.old.out.spare }
         ensures told { let k = kept_of self.old in
@@ -269,7 +268,7 @@ impl Session {
         let next = row(self.version(), worked_in, kind, verdict).unwrap_or(State::Defunct);
         let ordinal = self.first;
         put_reserved(&self.body, &mut self.out);
-        self.queue.pop_front();
+        self.queue.pop();
         self.first = ordinal + 1;
         self.state = next;
         self.cause = end_of(verdict, next);
@@ -290,7 +289,7 @@ impl Session {
         kind: Kind,
         engine: &mut E,
     ) -> Result<Worked, AllocError>
-        requires some { 0 < length self.old.queue.items }
+        requires some { 0 < length self.old.queue.waiting.items }
         ensures ok { let k = kept_of self.old in
             (q : RequestView) (later : List Arrival) → k.waiting ≡ Asked q ∷ later
             → kind ≡ kind_of q
@@ -333,7 +332,7 @@ impl Session {
 
     /// Opens a result, and writes the SUCCESS that is spelled.
     fn take(&mut self, worked_in: State, opening: Opening, kind: Kind) -> Result<Worked, AllocError>
-        requires some { 0 < length self.old.queue.items }
+        requires some { 0 < length self.old.queue.waiting.items }
         requires fits { IsSized self.old.body.items }
         ensures told { let k = kept_of self.old in
             let next = unwrap_or (row_at (version_of k) worked_in kind Verdict.Success) State.Defunct in

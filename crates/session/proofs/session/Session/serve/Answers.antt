@@ -12,9 +12,9 @@ returns-then-is_interrupted-clause-ok g c =
     let k = kept_of c.args.self.now in
     let S : Setting = record { run = g.E.Engine.answer; check = g.G.Gate.accepts c.args.gate.now } in
     let ledger = g.E.Engine.entries c.args.engine.now in
-    let q = request_view c.request_in-request.result.now in
+    let q = request_view c.request-request.result.now in
     let later = drop 1 k.waiting in
-    let first = c.request_in-request.ensures in
+    let first = c.request-request.ensures in
     steps_at (replies ledger (record k { state = State.Interrupted }) q later (reply_of (version_of k) State.Interrupted k.result k.tx c.interrupted-act.result)) (turns S c.args.conn ledger k k.waiting) c.args.conn k.first c.perform.result (kept_of c.perform.new.self) ledger (g.E.Engine.entries c.perform.new.engine)
     (ap (λ (r : Reply). replies ledger (record k { state = State.Interrupted }) q later r) (c.interrupted-act.ensures (version_of k) State.Interrupted k.result k.tx) ∙ turns_interrupted S c.args.conn ledger k k.waiting q later first (sym c.is_interrupted.ensures ∙ c.if-is_interrupted.true))
     (c.perform.ensures.ok q later first c.kind-asked.ensures)
@@ -24,9 +24,9 @@ returns-then-owes_row-clause-ok g c =
     let k = kept_of c.args.self.now in
     let S : Setting = record { run = g.E.Engine.answer; check = g.G.Gate.accepts c.args.gate.now } in
     let ledger = g.E.Engine.entries c.args.engine.now in
-    let q = request_view c.request_in-request.result.now in
+    let q = request_view c.request-request.result.now in
     let later = drop 1 k.waiting in
-    let first = c.request_in-request.ensures in
+    let first = c.request-request.ensures in
     steps_at (replies ledger k q later (row_reply (version_of k) k.result.rows k.result)) (turns S c.args.conn ledger k k.waiting) c.args.conn k.first c.send.result (kept_of c.send.new.self) ledger (g.E.Engine.entries c.send.new.engine)
     (ap (λ (r : Reply). replies ledger k q later r) (owed_served S (version_of k) c.args.conn ledger k.state k.result k.tx q (sym c.owes_row.ensures ∙ c.if-owes_row.true)) ∙ turns_served S c.args.conn ledger k k.waiting q later first (sym c.is_interrupted.ensures ∙ c.if-is_interrupted.false))
     (c.send.ensures.ok q later first c.kind-asked.ensures)
@@ -34,16 +34,16 @@ returns-then-owes_row-clause-ok g c =
 pub send-requires-clause-row : goal.send-requires-clause-row
 send-requires-clause-row g c =
     let k = kept_of c.args.self.now in
-    owed_some k.state k.result (request_view c.request_in-request.result.now) (sym c.owes_row.ensures ∙ c.if-owes_row.true)
+    owed_some k.state k.result (request_view c.request-request.result.now) (sym c.owes_row.ensures ∙ c.if-owes_row.true)
 
 pub returns-clause-ok : goal.returns-clause-ok
 returns-clause-ok g c =
     let k = kept_of c.args.self.now in
     let S : Setting = record { run = g.E.Engine.answer; check = g.G.Gate.accepts c.args.gate.now } in
     let ledger = g.E.Engine.entries c.args.engine.now in
-    let q = request_view c.request_in-request.result.now in
+    let q = request_view c.request-request.result.now in
     let later = drop 1 k.waiting in
-    let first = c.request_in-request.ensures in
+    let first = c.request-request.ensures in
     steps_at (replies ledger k q later (reply_of (version_of k) k.state k.result k.tx c.in_ok-act.act)) (turns S c.args.conn ledger k k.waiting) c.args.conn k.first c.perform-2.result (kept_of c.perform-2.new.self) ledger (g.E.Engine.entries c.perform-2.new.engine)
     (ap (λ (r : Reply). replies ledger k q later r) c.in_ok-act.ensures ∙ turns_served S c.args.conn ledger k k.waiting q later first (sym c.is_interrupted.ensures ∙ c.if-is_interrupted.false))
     (c.perform-2.ensures.ok q later first c.kind-asked.ensures)
@@ -53,4 +53,4 @@ perform-requires-2-clause-free g c =
     let k = kept_of c.args.self.now in
     let S : Setting = record { run = g.E.Engine.answer; check = g.G.Gate.accepts c.args.gate.now } in
     let ledger = g.E.Engine.entries c.args.engine.now in
-    subst (λ (r : Reply). IsFree ledger (entry_in r)) (sym c.in_ok-act.ensures) (serve_free S (version_of k) c.args.conn ledger k.state k.result k.tx (request_view c.request_in-request.result.now))
+    subst (λ (r : Reply). IsFree ledger (entry_in r)) (sym c.in_ok-act.ensures) (serve_free S (version_of k) c.args.conn ledger k.state k.result k.tx (request_view c.request-request.result.now))
