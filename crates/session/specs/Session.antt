@@ -12,7 +12,7 @@ use Rattle.messages.specs.declared.request.Mode.TheVariants.{Read, Write}
 use Rattle.messages.specs.declared.request.Count.{Count}
 use Rattle.messages.specs.declared.request.Count.TheVariants.{All, Of}
 use Rattle.messages.specs.View.{AuthView, RequestView, ResponseView}
-use Rattle.messages.specs.Summaries.{response_of_summary, Greeting, RowsLeft, Closing, Committed, Plain, Passed}
+use Rattle.messages.specs.Summaries.{Metadata, response_of_summary, Greeting, RowsLeft, Closing, Committed, Plain, Passed}
 use Rattle.messages.specs.Writing.{response_spelling}
 use Rattle.machine.specs.declared.states.State.{State}
 use Rattle.machine.specs.declared.rows.Verdict.{Verdict}
@@ -177,10 +177,14 @@ abbrev pub result_mode : QueryMode → Mode
 result_mode query.Read = Read
 result_mode query.Write = Write
 
+-- what the SUCCESS of a RUN tells
+abbrev pub fields_told : List (List ℕ) → Metadata
+fields_told names =
+    (codes "fields", list (trees_of (map text names))) ∷ (codes "t_first", int (pos 0)) ∷ []
+
 -- the SUCCESS of a RUN
 abbrev pub fields_said : List (List ℕ) → ResponseView
-fields_said names = ResponseView.Success
-    ((codes "fields", list (trees_of (map text names))) ∷ (codes "t_first", int (pos 0)) ∷ [])
+fields_said names = ResponseView.Success (fields_told names)
 
 -- rows with each cell fitted to a version
 abbrev pub rows_fitted : Version → List (List Tree) → List (List Tree)

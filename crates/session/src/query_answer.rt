@@ -1,10 +1,13 @@
 //! What a query's answer opens.
-ghost use Rattle.std.specs.Prelude.{◌≡◌, ◌≤◌, ◌++◌, true, if◌then◌else◌, length, map, option_map, option_to_list, IfOk, OnOk, OnErr, IfErr, string_bytes};
+ghost use Rattle.std.specs.Prelude.{◌≡◌, ◌+◌, ◌≤◌, ◌∷◌, [], ◌++◌, true, if◌then◌else◌, length, map, option_map, option_to_list, IfOk, OnOk, OnErr, IfErr, string_bytes};
 ghost use Rattle.messages.specs.View.{response_view};
 ghost use Rattle.cells.specs.Shape.{shapes};
-ghost use Rattle.packstream.specs.Tree.{text};
+ghost use Rattle.packstream.specs.Tree.{text, dict};
+ghost use Rattle.packstream.specs.Canon.{canon, canon_all};
+ghost use Rattle.packstream.specs.View.{entries_of, trees_of};
+ghost use Rattle.wire.specs.declared.Version.{Version as AnyVersion};
 ghost use Rattle.engine.specs.Views.{rows_view, token_view, write_view, writes_view, answer_view};
-ghost use Rattle.session.specs.Session.{fields_said, rows_fitted, result_of_answer, in_transaction, with_write, no_tx};
+ghost use Rattle.session.specs.Session.{fields_told, fields_said, rows_fitted, result_of_answer, in_transaction, with_write, no_tx};
 ghost use Rattle.session.specs.Views.{first_of, open_of, tx_of};
 ghost use Rattle.session.specs.Said.{fits};
 ghost use Rattle.session.specs.Acts.{IsBody, Refuses};
@@ -17,10 +20,14 @@ use bytes::BytesMut;
 use engine::Write;
 use machine::State;
 use messages::Response;
+use speller::{Adding, Unspelled, put_text};
 use std::alloc::{AllocError, Global};
 use std::collections::VecDeque;
 use structures::Cell;
-use wire::Version;
+use wire::{MAX_MESSAGE, Version};
+
+/// The most fields whose SUCCESS is spelled without a response: as many as a list of one byte before its members has.
+const FEW: usize = 15;
 
 /// Spells the SUCCESS of a RUN in place of what the body held, or tells why it wasn't written.
 pub(crate) fn spell_fields(
@@ -33,10 +40,68 @@ pub(crate) fn spell_fields(
         OnOk result (IsBody version said body.new.items × (fits version said ≡ true)) }
     ensures err { IfErr result (Refuses version (fields_said (map string_bytes fields.now))) }
 {
+    if fields.len() <= FEW && spell_few(fields, body) {
+        return Ok(());
+    }
     match fields_response(alloc, fields) {
         Ok(response) => spell_response(version, &response, body),
         Err(AllocError) => Err(Unwritten::Memory),
     }
+}
+
+/// Spells the SUCCESS of a RUN of few fields in place of what the body held, without a response; or says no, where it is past its limit or
+/// memory ran out.
+fn spell_few(fields: &[String], body: &mut BytesMut) -> bool
+    requires { length fields.now ≤ 15 }
+    ensures { result ≡ true → (v : AnyVersion) → let said = fields_said (map string_bytes fields.now) in
+        IsBody v said body.new.items × (fits v said ≡ true) }
+{
+    body.clear();
+    let mut adding = Adding::to(body);
+    match put_fields(fields, &mut adding) {
+        Ok(()) => *body = adding.keep(),
+        Err(_) => {
+            *body = adding.undo();
+            return false;
+        }
+    }
+    if body.len() > MAX_MESSAGE {
+        return false;
+    }
+    true
+}
+
+/// Adds the SUCCESS of a RUN of few fields.
+fn put_fields(fields: &[String], out: &mut Adding) -> Result<(), Unspelled>
+    requires { length fields.now ≤ 15 }
+    ensures before { out.new.before ≡ out.old.before }
+    ensures spelled { OnOk result (out.new.more
+        ≡ (out.old.more ++ 0xB1 ∷ 0x70 ∷ []) ++ canon (dict (entries_of (fields_told (map string_bytes fields.now))))) }
+{
+    out.extend_from_slice(b"\xB1\x70\xA2\x86fields")?;
+    out.push(head_of(fields.len()))?;
+    put_names(fields, out)?;
+    out.extend_from_slice(b"\x87t_first\x00")?;
+    Ok(())
+}
+
+/// The byte before a list of few members.
+fn head_of(count: usize) -> u8
+    requires { count ≤ 15 }
+    ensures { result ≡ 0x90 + count }
+{
+    0x90 + count as u8
+}
+
+fn put_names(names: &[String], out: &mut Adding) -> Result<(), Unspelled>
+    ensures before { out.new.before ≡ out.old.before }
+    ensures spelled { OnOk result (out.new.more
+        ≡ out.old.more ++ canon_all (trees_of (map text (map string_bytes names.now)))) }
+{
+    for name in names {
+        put_text(out, name.as_str())?;
+    }
+    Ok(())
 }
 
 /// The SUCCESS of a RUN.
