@@ -42,7 +42,7 @@ said_fits v m b e h =
     ∙ and_from (are_bytes b) (is_reading (response_of v b) m) (bytes_if b h.spelled.0)
     (ap (λ r. is_reading r m) (response_is v m b h) ∙ same_say-refl m)
 
-said_body : (v : Version) (m : ResponseView) (b : List ℕ) → response_spelling v m ≡ Ok b → Resp v m b → IsBody v m b
+pub said_body : (v : Version) (m : ResponseView) (b : List ℕ) → response_spelling v m ≡ Ok b → Resp v m b → IsBody v m b
 said_body v m b e h = let f = response_fits v m b e h in record { text = e; some = f.0; few = f.1 }
 
 -- what was appended to nothing

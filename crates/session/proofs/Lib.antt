@@ -8,3 +8,4 @@ pub mod Served
 pub mod Free
 pub mod Summed
 pub mod Listed
+pub mod Fielded

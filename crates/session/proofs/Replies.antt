@@ -1,68 +1,99 @@
--- What a decision is, as the model's reply.
-use Rattle.std.proofs.Common.{◌≡◌, ◌∙◌, ap, subst, refl, ℕ, ◌<◌, ◌≤◌, true, List, [], ◌∷◌, length, drop, None, Result, Ok, Err, arith, length-drop, IfOk}
+-- What is decided, as the model's reply.
+use Rattle.std.proofs.Common.{◌≡◌, ◌∙◌, ap, subst, refl, ℕ, suc, ◌<◌, ◌≤◌, Bool, true, false, not, ◌&&◌, ◌==◌, List, [], ◌∷◌, length, drop, None, arith, length-drop, is_some, Result, IfOk}
 use Rattle.std.specs.declared.alloc.AllocError.{AllocError}
+use Rattle.std.proofs.lemmas.Bool.Decides.{nat_tests}
+use Rattle.session.specs.declared.acts.Act.{Act}
 use Rattle.std.proofs.lemmas.List.{drop_all}
 use Rattle.packstream.specs.Prelude.{Tree}
 use Rattle.wire.specs.declared.Version.{Version}
 use Rattle.messages.specs.declared.request.Count.{Count}
 use Rattle.messages.specs.declared.request.Count.TheVariants as counts
-use Rattle.messages.specs.Prelude.{response_of_summary, RowsLeft, Closing}
+use Rattle.messages.specs.Prelude.{RequestView, ResponseView, response_of_summary, RowsLeft, Closing}
 use Rattle.machine.specs.declared.states.State.{State}
 use Rattle.machine.specs.declared.states.State.TheVariants as states
+use Rattle.machine.specs.declared.kinds.Kind.{Kind}
 use Rattle.machine.specs.declared.rows.Verdict.{Verdict}
+use Rattle.machine.specs.Prelude.{row_at}
 use Rattle.engine.specs.Prelude.{EntryView}
-use Rattle.session.specs.declared.acts.Act.{Act}
-use Rattle.session.specs.Prelude.{Open, no_result, Tx, Reply, Summary, close, close_last, used_up, count_at, left_after, pull, ActsAs, IsWritable}
-use Rattle.session.specs.declared.acts.Act.TheVariants as acts
+use Rattle.session.specs.Prelude.{Setting, Open, no_result, Tx, Reply, Summary, close, close_last, used_up, count_at, left_after, pull, serve, fits, IsBody, reply_of, streams, owes_row, row_reply}
 
 -- of an act whose reply is another name of the same
-pub acts_same : (v : Version) (left : Open) (tx : Tx) (b : List ℕ) (r : Result Act AllocError) (x y : Reply) → x ≡ y → IfOk r (λ act. ActsAs v left tx b act x) → IfOk r (λ act. ActsAs v left tx b act y)
-acts_same v left tx b r x y e h = subst (λ z. IfOk r (λ act. ActsAs v left tx b act z)) e h
+pub acts_same : (v : Version) (s : State) (left : Open) (tx : Tx) (r : Result Act AllocError) (x y : Reply) → x ≡ y → IfOk r (λ act. reply_of v s left tx act ≡ x) → IfOk r (λ act. reply_of v s left tx act ≡ y)
+acts_same v s left tx r x y e h = subst (λ (z : Reply). IfOk r (λ act. reply_of v s left tx act ≡ z)) e h
 
 -- with these rows left
 abbrev pub more_left : List (List Tree) → Open → Tx → Reply
 more_left rows left tx = Summary Verdict.More (response_of_summary RowsLeft) (record left { rows = rows; written = 0 }) tx None
 
--- the same, where the version has another name too
-pub acts_at : (v w : Version) (left : Open) (tx : Tx) (b : List ℕ) (r : Result Act AllocError) (x y : Reply) → v ≡ w → x ≡ y → IfOk r (λ act. ActsAs v left tx b act x) → IfOk r (λ act. ActsAs w left tx b act y)
-acts_at v w left tx b r x y e f h = acts_same w left tx b r x y f (subst (λ u. IfOk r (λ act. ActsAs u left tx b act x)) e h)
+some_left : (s : State) (ledger : List EntryView) (rows : List (List Tree)) (left : Open) (tx : Tx) → 0 < length rows → more_left rows left tx ≡ close s ledger rows left tx
+some_left s ledger [] left tx h = absurd (omega arith)
+some_left s ledger (r ∷ rs) left tx h = refl
 
-pub close_more : (s : State) (ledger : List EntryView) (rows : List (List Tree)) (left : Open) (tx : Tx) → 0 < length rows → more_left rows left tx ≡ close s ledger rows left tx
-close_more s ledger [] left tx h = absurd (omega arith)
-close_more s ledger (r ∷ rs) left tx h = refl
+none_left : (s : State) (ledger : List EntryView) (rows : List (List Tree)) (left : Open) (tx : Tx) → length rows ≡ 0 → close_last s ledger left tx ≡ close s ledger rows left tx
+none_left s ledger [] left tx h = refl
+none_left s ledger (r ∷ rs) left tx h = absurd (omega arith)
 
-pub close_none : (s : State) (ledger : List EntryView) (rows : List (List Tree)) (left : Open) (tx : Tx) → length rows ≡ 0 → close_last s ledger left tx ≡ close s ledger rows left tx
-close_none s ledger [] left tx h = refl
-close_none s ledger (r ∷ rs) left tx h = absurd (omega arith)
+-- a summary after which rows are left, and the last
+pub ends_some : (s : State) (ledger : List EntryView) (n : ℕ) (rows : List (List Tree)) (left : Open) (tx : Tx) → n < length rows → more_left (drop n rows) left tx ≡ close s ledger (drop n rows) left tx
+ends_some s ledger n rows left tx h = some_left s ledger (drop n rows) left tx (omega (arith, h, length-drop n rows))
 
-pub pull_used : (v : Version) (s : State) (ledger : List EntryView) (count : Count) (rows : List (List Tree)) (left : Open) (tx : Tx) → 0 < length rows → used_up count left.written ≡ true → more_left rows left tx ≡ pull v s ledger count rows left tx
-pull_used v s ledger count [] left tx h u = absurd (omega arith)
-pull_used v s ledger count (r ∷ rs) left tx h u = rw u refl
+pub ends_all : (s : State) (ledger : List EntryView) (n : ℕ) (rows : List (List Tree)) (left : Open) (tx : Tx) → length rows ≤ n → close_last s ledger left tx ≡ close s ledger (drop n rows) left tx
+ends_all s ledger n rows left tx h = none_left s ledger (drop n rows) left tx (omega (arith, h, length-drop n rows))
 
-left_is : (count : Count) (rows : List (List Tree)) (n : ℕ) → n ≡ count_at count (length rows) → drop n rows ≡ left_after count rows
+-- what a DISCARD leaves
+pub left_is : (count : Count) (rows : List (List Tree)) (n : ℕ) → n ≡ count_at count (length rows) → drop n rows ≡ left_after count rows
 left_is counts.All rows n e = ap (λ k. drop k rows) e ∙ drop_all (length rows) rows (omega arith)
 left_is (counts.Of z) rows n e = ap (λ k. drop k rows) e
 
--- a DISCARD that leaves rows, and one that leaves none
-pub discard_more : (s : State) (ledger : List EntryView) (n : ℕ) (count : Count) (rows : List (List Tree)) (left : Open) (tx : Tx) → n ≡ count_at count (length rows) → n < length rows → more_left (drop n rows) left tx ≡ close s ledger (left_after count rows) left tx
-discard_more s ledger n count rows left tx e h =
-    close_more s ledger (drop n rows) left tx (omega (arith, length-drop n rows)) ∙ ap (λ rs. close s ledger rs left tx) (left_is count rows n e)
-
-pub discard_last : (s : State) (ledger : List EntryView) (n : ℕ) (count : Count) (rows : List (List Tree)) (left : Open) (tx : Tx) → n ≡ count_at count (length rows) → length rows ≤ n → close_last s ledger left tx ≡ close s ledger (left_after count rows) left tx
-discard_last s ledger n count rows left tx e h =
-    close_none s ledger (drop n rows) left tx (omega (arith, length-drop n rows)) ∙ ap (λ rs. close s ledger rs left tx) (left_is count rows n e)
-
 -- the last summary of a result that commits nothing
-pub close_inside : (s : State) (ledger : List EntryView) (left : Open) (tx : Tx) → (s ≡ states.Streaming → ⊥) → Summary Verdict.Success (response_of_summary (Closing None left.mode)) no_result tx None ≡ close_last s ledger left tx
-close_inside states.Streaming ledger left tx other = absurd (other refl)
-close_inside _ ledger left tx other = refl
+pub inside_last : (s : State) (ledger : List EntryView) (left : Open) (tx : Tx) → (s ≡ states.Streaming → ⊥) → Summary Verdict.Success (response_of_summary (Closing None left.mode)) no_result tx None ≡ close_last s ledger left tx
+inside_last states.Streaming ledger left tx other = absurd (other refl)
+inside_last _ ledger left tx other = refl
 
--- what acts as a reply can be written
-pub acts_writable : (v : Version) (left : Open) (tx : Tx) (b : List ℕ) (a : Act) (reply : Reply) → ActsAs v left tx b a reply → IsWritable left.rows b a
-acts_writable v left tx b acts.Sends reply h = ((h.body.some, h.body.few), h.some)
-acts_writable v left tx b (acts.Says d l) reply h = (h.2.some, h.2.few)
-acts_writable v left tx b acts.Leaves reply h = tt
+-- A PULL that is owed no row is answered by a summary ..
+is_used : (u : Bool) (n : ℕ) → (not u && not (suc n == 0)) ≡ false → u ≡ true
+is_used true n h = refl
+is_used false n h = absurd (grind (arith, nat_tests))
 
-pub all_writable : (v : Version) (left : Open) (tx : Tx) (b : List ℕ) (r : Result Act AllocError) (reply : Reply) → IfOk r (λ a. ActsAs v left tx b a reply) → IfOk r (IsWritable left.rows b)
-all_writable v left tx b (Ok a) reply h = acts_writable v left tx b a reply h
-all_writable v left tx b (Err e) reply h = tt
+unowed_rows : (v : Version) (s : State) (ledger : List EntryView) (n : Count) (rows : List (List Tree)) (left : Open) (tx : Tx) → (not (used_up n left.written) && not (length rows == 0)) ≡ false → close s ledger rows left tx ≡ pull v s ledger n rows left tx
+unowed_rows v s ledger n [] left tx h = refl
+unowed_rows v s ledger n (r ∷ rs) left tx h = let u : used_up n left.written ≡ true = is_used (used_up n left.written) (length rs) h in rw u refl
+
+pub pull_unowed : (v : Version) (s : State) (ledger : List EntryView) (n : Count) (left : Open) (tx : Tx) → is_some (row_at v s Kind.Pull Verdict.Success) ≡ true → owes_row s left (RequestView.Pull n) ≡ false → close s ledger left.rows left tx ≡ pull v s ledger n left.rows left tx
+pull_unowed v states.Streaming ledger n left tx row h = unowed_rows v states.Streaming ledger n left.rows left tx h
+pull_unowed v states.TxStreaming ledger n left tx row h = unowed_rows v states.TxStreaming ledger n left.rows left tx h
+pull_unowed v s ledger n left tx row h = absurd cc
+
+-- .. and one that is owed a row, by the first.
+isnt_used : (u e : Bool) → (not u && not e) ≡ true → (u ≡ false) × (e ≡ false)
+isnt_used false false h = (refl, refl)
+isnt_used false true h = absurd cc
+isnt_used true e h = absurd cc
+
+owed_rows : (v : Version) (s : State) (ledger : List EntryView) (n : Count) (rows : List (List Tree)) (left : Open) (tx : Tx) → (not (used_up n left.written) && not (length rows == 0)) ≡ true → row_reply v rows left ≡ pull v s ledger n rows left tx
+owed_rows v s ledger n [] left tx h = let w = isnt_used (used_up n left.written) true h in absurd cc
+owed_rows v s ledger n (r ∷ rs) left tx h = let u : used_up n left.written ≡ false = (isnt_used (used_up n left.written) (length (r ∷ rs) == 0) h).0 in rw u refl
+
+pub owed_served : (S : Setting) (v : Version) (c : ℕ) (ledger : List EntryView) (s : State) (left : Open) (tx : Tx) (q : RequestView) → owes_row s left q ≡ true → row_reply v left.rows left ≡ serve S v c ledger s left tx q
+owed_served S v c ledger states.Streaming left tx (RequestView.Pull n) h = owed_rows v states.Streaming ledger n left.rows left tx h
+owed_served S v c ledger states.TxStreaming left tx (RequestView.Pull n) h = owed_rows v states.TxStreaming ledger n left.rows left tx h
+owed_served S v c ledger s left tx (RequestView.Pull n) h = absurd cc
+owed_served S v c ledger s left tx q h = absurd cc
+
+pub owed_some : (s : State) (left : Open) (q : RequestView) → owes_row s left q ≡ true → 0 < length left.rows
+owed_some s left (RequestView.Pull n) h = some (used_up n left.written) left.rows (both s _ h)
+  where
+    both : (s : State) (b : Bool) → (streams s && b) ≡ true → b ≡ true
+    both states.Streaming b h = h
+    both states.TxStreaming b h = h
+    both s b h = absurd cc
+
+    some : (u : Bool) (rows : List (List Tree)) → (not u && not (length rows == 0)) ≡ true → 0 < length rows
+    some u [] h = let w = isnt_used u true h in absurd cc
+    some u (r ∷ rs) h = omega arith
+owed_some s left q h = absurd cc
+
+-- what is spelled of the first row fits a message
+pub first_sized : (v : Version) (rows : List (List Tree)) (b : List ℕ) → 0 < length rows → ((row : List Tree) (rest : List (List Tree)) → rows ≡ row ∷ rest → IsBody v (ResponseView.Record row) b × (fits v (ResponseView.Record row) ≡ true)) → (0 < length b) × (length b ≤ 65536)
+first_sized v [] b h w = absurd (omega arith)
+first_sized v (r ∷ rs) b h w = let x = (w r rs refl).0 in (x.some, x.few)

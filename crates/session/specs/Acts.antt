@@ -1,26 +1,22 @@
 -- What a step decides before it changes anything, and what it leaves.
-use Rattle.std.specs.Prelude.{◌≡◌, if◌then◌else◌, ℕ, suc, ◌+◌, ◌<◌, ◌≤◌, List, [], ◌∷◌, ◌++◌, length, drop, Option, Some, None, option_map, Ok, false}
+use Rattle.std.specs.Prelude.{◌≡◌, if◌then◌else◌, ℕ, suc, ◌+◌, ◌<◌, ◌≤◌, List, [], ◌∷◌, ◌++◌, length, drop, Option, Some, None, option_map, Ok, Bool, true, false, not, ◌&&◌, ◌==◌}
 use Rattle.packstream.specs.Tree.{Tree}
 use Rattle.wire.specs.declared.Version.{Version}
-use Rattle.messages.specs.View.{ResponseView}
+use Rattle.messages.specs.View.{RequestView, ResponseView}
 use Rattle.messages.specs.Summaries as messages
+use Rattle.messages.specs.Summaries.{response_of_summary}
 use Rattle.messages.specs.Writing.{response_spelling}
 use Rattle.wire.specs.Texts.{written_run}
 use Rattle.messages.specs.Arrivals.{Arrival, Asked, Unread, TooLong}
 use Rattle.machine.specs.declared.states.State.{State}
 use Rattle.machine.specs.declared.kinds.Kind.{Kind}
 use Rattle.machine.specs.declared.rows.Verdict.{Verdict}
-use Rattle.std.specs.declared.alloc.Global.{Global}
-use Rattle.std.specs.declared.vec.Vec.{Vec}
-use Rattle.cells.specs.declared.cell.Cell.{Cell}
-use Rattle.engine.specs.declared.answer.Mode.{Mode as QueryMode}
-use Rattle.engine.specs.declared.ledger.Write.{Write}
 use Rattle.engine.specs.declared.ledger.Commit.{Commit}
 use Rattle.engine.specs.declared.ledger.Commit.TheVariants.{Added, Repeat, Clash}
 use Rattle.engine.specs.Tokens.{Free, found_in}
-use Rattle.engine.specs.Views.{Token, WriteView, EntryView, token_view, write_view, rows_view}
-use Rattle.session.specs.declared.session.Waiting.{Waiting}
-use Rattle.session.specs.declared.session.Waiting.TheVariants as waiting
+use Rattle.engine.specs.Views.{Token, WriteView, EntryView, token_view, answer_view}
+use Rattle.session.specs.declared.waiting.Waiting.{Waiting}
+use Rattle.session.specs.declared.waiting.Waiting.TheVariants as waiting
 use Rattle.session.specs.declared.kinds.Cause.{Cause}
 use Rattle.session.specs.declared.kinds.Cause.TheVariants as cause
 use Rattle.session.specs.declared.kinds.Worked.{Worked}
@@ -28,8 +24,8 @@ use Rattle.session.specs.declared.acts.Turn.{Turn}
 use Rattle.session.specs.declared.acts.Turn.TheVariants as turn
 use Rattle.session.specs.declared.acts.Act.{Act}
 use Rattle.session.specs.declared.acts.Act.TheVariants as act
-use Rattle.session.specs.declared.acts.Leaves.{Leaves}
-use Rattle.session.specs.declared.acts.Leaves.TheVariants as leaves
+use Rattle.session.specs.declared.acts.After.{After}
+use Rattle.session.specs.declared.acts.After.TheVariants as after
 use Rattle.session.specs.declared.summary.Summary.{Summary}
 use Rattle.session.specs.declared.summary.Summary.TheVariants as summary
 use Rattle.messages.specs.declared.fault.MsgFault.{MsgFault}
@@ -41,9 +37,8 @@ use Rattle.session.specs.declared.spelling.Unwritten.TheVariants as unwritten
 use Rattle.session.specs.Faults.{failure}
 use Rattle.session.specs.Said.{fits}
 use Rattle.machine.specs.Asks.{is_goodbye, is_reset}
-use Rattle.session.specs.Session.{Open, no_result, Tx, no_tx, Change, change_alone, change_inside, Reply, fails, with_write, unwritable, rows_fitted, result_mode, in_transaction, passed_over}
+use Rattle.session.specs.Session.{Open, no_result, Tx, no_tx, Change, change_alone, change_inside, Reply, fails, opens, if_fits, used_up, unwritable, passed_over}
 use Rattle.session.specs.Rest.{Kept, Step, worked_of, commit_entries}
-use Rattle.session.specs.Views.{open_of}
 use Rattle.wire.specs.Limits.{max_message}
 use Rattle.engine.specs.Limits.{ledger_bound}
 
@@ -80,37 +75,57 @@ Refuses v m unwritten.Memory = Unit {0}
 Refuses v m (unwritten.Because f) = IsRefused v m f
 
 -- the result that is open after a summary, by the one that was open before
-abbrev pub left_result : Leaves → Open → Open
-left_result leaves.Nothing left = no_result
-left_result (leaves.Begun mode token) left = no_result
-left_result (leaves.Opened r) left = open_of r
-left_result (leaves.Joined r) left = record (open_of r) { write = None }
-left_result (leaves.Rest n) left =
-    record left { rows = drop n left.rows; written = 0 }
-left_result leaves.Transaction left = no_result
-left_result leaves.CommitsResult left = no_result
-left_result leaves.CommitsTransaction left = no_result
+abbrev pub left_result : After → Open → Open
+left_result (after.Rest n) left = record left { rows = drop n left.rows; written = 0 }
+left_result _ left = no_result
 
 -- the transaction that is open after a summary, by the one that was open before
-abbrev pub left_tx : Leaves → Tx → Tx
-left_tx leaves.Nothing tx = no_tx
-left_tx (leaves.Begun mode token) tx = record { mode = mode; writes = []; token = token_view token }
-left_tx (leaves.Opened r) tx = no_tx
-left_tx (leaves.Joined r) tx = with_write tx (open_of r).write
-left_tx (leaves.Rest n) tx = tx
-left_tx leaves.Transaction tx = tx
-left_tx leaves.CommitsResult tx = no_tx
-left_tx leaves.CommitsTransaction tx = no_tx
+abbrev pub left_tx : After → Tx → Tx
+left_tx (after.Begun mode token) tx = record { mode = mode; writes = []; token = token_view token }
+left_tx (after.Rest n) tx = tx
+left_tx after.Transaction tx = tx
+left_tx _ tx = no_tx
 
 -- what a summary adds to the ledger, where it does: the change of the result or of the transaction open before
-abbrev pub left_entry : Leaves → Open → Tx → Option Change
-left_entry leaves.CommitsResult left tx = Some (change_alone left)
-left_entry leaves.CommitsTransaction left tx = Some (change_inside tx)
+abbrev pub left_entry : After → Open → Tx → Option Change
+left_entry after.CommitsResult left tx = Some (change_alone left)
+left_entry after.CommitsTransaction left tx = Some (change_inside tx)
 left_entry _ left tx = None
 
 -- these writes under this token, as a change
 abbrev pub change_of : List WriteView → Token → Change
 change_of writes token = record { writes = writes; token = token }
+
+-- what a request is answered, by what was decided in this state
+abbrev pub reply_of : Version → State → Open → Tx → Act → Reply
+reply_of v s left tx (act.Says d said after) =
+    Reply.Summary d (response_of_summary (summary_of said)) (left_result after left)
+    (left_tx after tx) (left_entry after left tx)
+reply_of v s left tx (act.Opens o) = opens v s tx (token_view o.token) (answer_view o.answer)
+reply_of v s left tx act.Goodbye = Reply.Bye
+
+-- the states in which a result is open
+abbrev pub streams : State → Bool
+streams State.Streaming = true
+streams State.TxStreaming = true
+streams _ = false
+
+-- a row is owed to a PULL whose count isn't used up, where one is left
+abbrev pub owes_row : State → Open → RequestView → Bool
+owes_row s left (RequestView.Pull n) =
+    streams s && (not (used_up n left.written) && not (length left.rows == 0))
+owes_row s left q = false
+
+-- the first of these rows, or the FAILURE where it can't be written
+abbrev pub row_reply : Version → List (List Tree) → Open → Reply
+row_reply v [] left = Reply.Bye
+row_reply v (r ∷ rs) left = if_fits v (ResponseView.Record r)
+    (Reply.OneRow r (record left { rows = rs; written = suc left.written }))
+
+-- what a reply adds to the ledger, where it does
+abbrev pub entry_in : Reply → Option Change
+entry_in (Reply.Summary d m left tx entry) = entry
+entry_in _ = None
 
 -- how a commit is answered, by what its engine would answer to it
 abbrev pub commits_by : Change → (ℕ → ResponseView) → Commit → Reply
@@ -123,41 +138,13 @@ abbrev pub IsFree : List EntryView → Option Change → Type 0
 IsFree ledger None = Unit {0}
 IsFree ledger (Some change) = found_in change.token change.writes ledger ≡ Free
 
--- the same of what an act adds
-abbrev pub AddsFree : List EntryView → Open → Tx → Act → Type 0
-AddsFree ledger left tx act.Sends = Unit {0}
-AddsFree ledger left tx (act.Says d l) = IsFree ledger (left_entry l left tx)
-AddsFree ledger left tx act.Leaves = Unit {0}
-
 -- one row fewer
 abbrev pub one_less : Open → Open
 one_less left = record left { rows = drop 1 left.rows; written = suc left.written }
 
--- A row is there, its text is this, and it is the reply.
-pub record IsRow (v : Version) (left : Open) (reply : Reply) (b : List ℕ) : Type 0 where
-  pub row : List Tree
-  pub is : reply ≡ Reply.OneRow row (one_less left)
-  pub body : IsBody v (ResponseView.Record row) b
-  pub some : 0 < length left.rows
-
--- an act, which writes this body, is this reply
-abbrev pub ActsAs : Version → Open → Tx → List ℕ → Act → Reply → Type 0
-ActsAs v left tx body act.Sends reply = IsRow v left reply body
-ActsAs v left tx body (act.Says d l) reply =
-    (m : ResponseView)
-    × (reply ≡ Reply.Summary d m (left_result l left) (left_tx l tx) (left_entry l left tx))
-    × IsBody v m body
-ActsAs v left tx body act.Leaves reply = reply ≡ Reply.Bye
-
 -- a message may have these bytes
 abbrev pub IsSized : List ℕ → Type 0
 IsSized b = (0 < length b) × (length b ≤ max_message)
-
--- what is written fits a message, and a row that is sent is there
-abbrev pub IsWritable : List (List Tree) → List ℕ → Act → Type 0
-IsWritable rows body act.Sends = IsSized body × (0 < length rows)
-IsWritable rows body (act.Says d l) = IsSized body
-IsWritable rows body act.Leaves = Unit {0}
 
 -- what the first that waits is for a step
 abbrev pub turn_in : List Arrival → Turn
@@ -203,27 +190,6 @@ length_after ledger entry = option_map (λ _. length ledger + 1) entry
 abbrev pub IsBelow : Option ℕ → Type 0
 IsBelow None = Unit {0}
 IsBelow (Some n) = n < ledger_bound
-
--- the result that an answer opens
-abbrev pub opened_by : Version → State → List (Vec Cell Global) → QueryMode → Option Write → Token → Open
-opened_by v s rows mode write token =
-    record {
-      rows = rows_fitted v (rows_view rows);
-      mode = result_mode mode;
-      write = if in_transaction s then None else option_map write_view write;
-      written = 0;
-      token = if in_transaction s then None else token;
-    }
-
--- Whatever was open before, this is left open; in a transaction its write is among the transaction's; nothing is committed.
-pub record LeavesOpen (v : Version) (s : State) (rows : List (Vec Cell Global)) (mode : QueryMode)
-    (write : Option Write) (token : Token) (l : Leaves) : Type 0 where
-  pub result : (left : Open) → left_result l left ≡ opened_by v s rows mode write token
-  pub tx :
-      (before : Tx)
-      → left_tx l before
-      ≡ (if in_transaction s then with_write before (option_map write_view write) else no_tx)
-  pub entry : (left : Open) (before : Tx) → left_entry l left before ≡ None
 
 -- what is answered to a request in Interrupted
 abbrev pub served_interrupted : Kind → Reply

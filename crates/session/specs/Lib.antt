@@ -4,6 +4,7 @@ pub mod Said
 pub mod Session
 pub mod Rest
 pub mod Rows
+pub mod Waits
 pub mod Views
 pub mod Acts
 pub mod Prelude

@@ -12,7 +12,7 @@ use Rattle.messages.specs.declared.request.Mode.TheVariants.{Read, Write}
 use Rattle.messages.specs.declared.request.Count.{Count}
 use Rattle.messages.specs.declared.request.Count.TheVariants.{All, Of}
 use Rattle.messages.specs.View.{AuthView, RequestView, ResponseView}
-use Rattle.messages.specs.Summaries.{response_of_summary, Greeting, RowsLeft, Closing, Committed, Plain, Passed}
+use Rattle.messages.specs.Summaries.{Metadata, response_of_summary, Greeting, RowsLeft, Closing, Committed, Plain, Passed}
 use Rattle.messages.specs.Writing.{response_spelling}
 use Rattle.machine.specs.declared.states.State.{State}
 use Rattle.machine.specs.declared.rows.Verdict.{Verdict}
@@ -177,10 +177,14 @@ abbrev pub result_mode : QueryMode → Mode
 result_mode query.Read = Read
 result_mode query.Write = Write
 
+-- what the SUCCESS of a RUN tells
+abbrev pub fields_told : List (List ℕ) → Metadata
+fields_told names =
+    (codes "fields", list (trees_of (map text names))) ∷ (codes "t_first", int (pos 0)) ∷ []
+
 -- the SUCCESS of a RUN
 abbrev pub fields_said : List (List ℕ) → ResponseView
-fields_said names = ResponseView.Success
-    ((codes "fields", list (trees_of (map text names))) ∷ (codes "t_first", int (pos 0)) ∷ [])
+fields_said names = ResponseView.Success (fields_told names)
 
 -- rows with each cell fitted to a version
 abbrev pub rows_fitted : Version → List (List Tree) → List (List Tree)
@@ -197,15 +201,19 @@ result_of_answer v s token a =
       token = if in_transaction s then None else token;
     }
 
+-- the reply to a RUN whose answer is opened, where the SUCCESS with its fields can be written
+abbrev pub opens : Version → State → Tx → Token → AnswerView → Reply
+opens v s tx token a = if_fits v (fields_said a.fields)
+    (Summary Verdict.Success (fields_said a.fields) (result_of_answer v s token a)
+    (if in_transaction s then with_write tx a.write else no_tx) None)
+
 -- the reply to a RUN, by what the engine answers
 abbrev pub reply_to_run : Version → State → Tx → Token → Result AnswerView QueryFault → Reply
 reply_to_run v s tx token (Err e) = fails (of_query e)
 reply_to_run v s tx token (Ok a) =
     if in_transaction s && (is_some a.write && nat_le max_writes (length tx.writes)) then
     fails fault.TooManyWrites
-    else if_fits v (fields_said a.fields)
-    (Summary Verdict.Success (fields_said a.fields) (result_of_answer v s token a)
-    (if in_transaction s then with_write tx a.write else no_tx) None)
+    else opens v s tx token a
 
 -- the reply to a HELLO that logs on, by who the client says it is
 abbrev pub reply_to_hello : Setting → Option AuthView → ResponseView → Reply

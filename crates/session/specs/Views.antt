@@ -1,14 +1,13 @@
 -- What contracts see of a session: what it keeps.
-use Rattle.std.specs.Prelude.{Bool, true, false, List, [], ◌∷◌, map, Option, Some, None, Result, Ok, Err}
+use Rattle.std.specs.Prelude.{List, [], ◌∷◌, map, Option, Some, None, Result, Ok, Err}
 use Rattle.messages.specs.declared.fault.MsgFault.{MsgFault}
 use Rattle.messages.specs.declared.request.Request.{Request}
 use Rattle.messages.specs.View.{request_view}
 use Rattle.messages.specs.Arrivals.{Arrival, Asked, Unread, TooLong}
-use Rattle.machine.specs.Asks.{kind_of, is_reset}
 use Rattle.engine.specs.Views.{EntryView, token_view, writes_view}
 use Rattle.session.specs.declared.session.Session.{Session}
-use Rattle.session.specs.declared.session.Waiting.{Waiting}
-use Rattle.session.specs.declared.session.Waiting.TheVariants as waiting
+use Rattle.session.specs.declared.waiting.Waiting.{Waiting}
+use Rattle.session.specs.declared.waiting.Waiting.TheVariants as waiting
 use Rattle.session.specs.declared.result.OpenResult.{OpenResult}
 use Rattle.session.specs.declared.result.Transaction.{Transaction}
 use Rattle.session.specs.Session.{Open, Tx}
@@ -24,18 +23,6 @@ arrival_of waiting.TooLong = TooLong
 abbrev pub arrival_told : Result Request MsgFault → Arrival
 arrival_told (Ok request) = Asked (request_view request)
 arrival_told (Err e) = Unread e
-
--- what waits stands for no request
-abbrev pub is_unread : Waiting → Bool
-is_unread (waiting.Asked request) = false
-is_unread (waiting.Unread e) = true
-is_unread waiting.TooLong = true
-
--- what waits is a RESET
-abbrev pub is_reset_in : Waiting → Bool
-is_reset_in (waiting.Asked request) = is_reset (kind_of (request_view request))
-is_reset_in (waiting.Unread e) = false
-is_reset_in waiting.TooLong = false
 
 -- all that waits, in its order
 abbrev pub waiting_in : List Waiting → List Arrival
@@ -68,7 +55,7 @@ kept_of x =
       state = x.state;
       ended = x.cause;
       first = x.first;
-      waiting = waiting_in x.queue.items;
+      waiting = waiting_in x.queue.waiting.items;
       result = open_of x.result;
       tx = tx_of x.tx;
       unsent = x.out.items;

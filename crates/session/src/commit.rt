@@ -1,14 +1,14 @@
 //! What is open after a summary, and the commit of it.
-ghost use Rattle.std.specs.Prelude.{◌≡◌, ◌+◌, ◌<◌, ◌≤◌, ◌++◌, [], length, drop, Some, option_to_list, IfOk, OnOk, OnErr};
+ghost use Rattle.std.specs.Prelude.{◌≡◌, ◌+◌, ◌<◌, ◌≤◌, ◌++◌, length, drop, Some, IfOk, OnOk, OnErr};
 ghost use Rattle.engine.specs.Tokens.{Free, found_in};
 ghost use Rattle.engine.specs.Views.{token_view, writes_view};
 ghost use Rattle.session.specs.Session.{no_result, change_alone};
 ghost use Rattle.session.specs.Rest.{commit_entries};
-ghost use Rattle.session.specs.Views.{first_of, open_of, tx_of};
+ghost use Rattle.session.specs.Views.{open_of, tx_of};
 ghost use Rattle.session.specs.Acts.{left_result, left_tx, left_entry, length_after, change_of, IsBelow, IsFree};
 ghost use Rattle.engine.specs.Limits.{ledger_bound};
 
-use crate::acts::Leaves;
+use crate::acts::After;
 use crate::result::{OpenResult, Row, Transaction};
 use engine::{Commit, Engine, EntryId, NoMemory, Write};
 use std::alloc::{AllocError, Global};
@@ -21,61 +21,51 @@ pub(crate) fn leave<E: Engine>(
     alloc: Global,
     open: &mut OpenResult,
     tx: &mut Transaction,
-    leaves: Leaves,
+    after: After,
     id: EntryId,
     engine: &mut E,
 ) -> Result<Option<u64>, AllocError>
     requires { IsFree (E.entries engine.old)
-        (left_entry leaves (open_of open.old) (tx_of tx.old)) }
-    ensures open { OnOk result (open_of open.new ≡ left_result leaves (open_of open.old)) }
-    ensures tx { OnOk result (tx_of tx.new ≡ left_tx leaves (tx_of tx.old)) }
+        (left_entry after (open_of open.old) (tx_of tx.old)) }
+    ensures open { OnOk result (open_of open.new ≡ left_result after (open_of open.old)) }
+    ensures tx { OnOk result (tx_of tx.new ≡ left_tx after (tx_of tx.old)) }
     ensures ledger { OnOk result
         (E.entries engine.new ≡ E.entries engine.old
         ++ commit_entries id.conn id.ordinal
-        (left_entry leaves (open_of open.old) (tx_of tx.old))) }
+        (left_entry after (open_of open.old) (tx_of tx.old))) }
     ensures len { IfOk result
         (λ n. n ≡ length_after (E.entries engine.old)
-        (left_entry leaves (open_of open.old) (tx_of tx.old))) }
+        (left_entry after (open_of open.old) (tx_of tx.old))) }
     ensures below { IfOk result IsBelow }
     ensures open_kept { OnErr result (open_of open.new ≡ open_of open.old) }
     ensures tx_kept { OnErr result (tx_of tx.new ≡ tx_of tx.old) }
     ensures ledger_kept { OnErr result (E.entries engine.new ≡ E.entries engine.old) }
 {
-    match leaves {
-        Leaves::Nothing => {
+    match after {
+        After::Nothing => {
             *open = OpenResult::closed(alloc);
             *tx = Transaction::none(alloc);
             Ok(None)
         }
-        Leaves::Begun(mode, token) => {
+        After::Begun(mode, token) => {
             *open = OpenResult::closed(alloc);
             *tx = Transaction::begun(alloc, mode, token);
             Ok(None)
         }
-        Leaves::Opened(next) => {
-            *open = next;
-            *tx = Transaction::none(alloc);
-            Ok(None)
-        }
-        Leaves::Joined(mut next) => {
-            join_write(&mut tx.writes, &mut next.writes)?;
-            *open = next;
-            Ok(None)
-        }
-        Leaves::Rest(count) => {
+        After::Rest(count) => {
             drop_rows(open, count);
             Ok(None)
         }
-        Leaves::Transaction => {
+        After::Transaction => {
             *open = OpenResult::closed(alloc);
             Ok(None)
         }
-        Leaves::CommitsResult => {
+        After::CommitsResult => {
             let len = commit_result(alloc, open, id, engine)?;
             *tx = Transaction::none(alloc);
             Ok(Some(len))
         }
-        Leaves::CommitsTransaction => {
+        After::CommitsTransaction => {
             let len = commit_writes(alloc, &mut tx.writes, &mut tx.token, id, engine)?;
             *open = OpenResult::closed(alloc);
             *tx = Transaction::none(alloc);
@@ -84,30 +74,9 @@ pub(crate) fn leave<E: Engine>(
     }
 }
 
-/// The transaction takes over the write of a result, where it has one.
-#[tactic(auto, using(std::proofs::lemmas::List::nil_from_length, crate::proofs::Writes::one_popped))]
-fn join_write(writes: &mut Vec<Write>, joined: &mut Vec<Write>) -> Result<(), AllocError>
-    requires { length joined.old.items ≤ 1 }
-    ensures ok { OnOk result
-        (writes_view writes.new.items
-        ≡ writes_view writes.old.items
-        ++ option_to_list (first_of (writes_view joined.old.items))) }
-    ensures none { OnOk result (joined.new.items ≡ []) }
-    ensures few { length joined.new.items ≤ 1 }
-    ensures err { OnErr result (writes_view writes.new.items ≡ writes_view writes.old.items) }
-{
-    match joined.pop() {
-        None => Ok(()),
-        Some(write) => {
-            writes.push(write)?;
-            Ok(())
-        }
-    }
-}
-
 /// Drops rows from the front of an open result. The count of written rows begins anew.
 fn drop_rows(open: &mut OpenResult, count: usize)
-    ensures { open_of open.new ≡ left_result (Leaves.Rest count) (open_of open.old) }
+    ensures { open_of open.new ≡ left_result (After.Rest count) (open_of open.old) }
 {
     drop_front(&mut open.rows, count);
     open.written = 0;

@@ -16,6 +16,7 @@ mod session;
 mod spelling;
 mod step;
 mod summary;
+mod waiting;
 mod words;
 
 pub use kinds::{Cause, What, Worked};

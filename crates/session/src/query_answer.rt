@@ -1,48 +1,112 @@
 //! What a query's answer opens.
-ghost use Rattle.std.specs.Prelude.{◌≡◌, ◌≤◌, true, length, map, option_map, IfOk, OnOk, IfErr, string_bytes};
+ghost use Rattle.std.specs.Prelude.{◌≡◌, ◌+◌, ◌≤◌, ◌∷◌, [], ◌++◌, true, if◌then◌else◌, length, map, option_map, option_to_list, IfOk, OnOk, OnErr, IfErr, string_bytes};
 ghost use Rattle.messages.specs.View.{response_view};
 ghost use Rattle.cells.specs.Shape.{shapes};
-ghost use Rattle.packstream.specs.Tree.{text};
-ghost use Rattle.engine.specs.Views.{rows_view, token_view, write_view, writes_view};
-ghost use Rattle.session.specs.Session.{fields_said, rows_fitted, result_mode as as_said};
-ghost use Rattle.session.specs.Views.{first_of, open_of};
+ghost use Rattle.packstream.specs.Tree.{text, dict};
+ghost use Rattle.packstream.specs.Canon.{canon, canon_all};
+ghost use Rattle.packstream.specs.View.{entries_of, trees_of};
+ghost use Rattle.wire.specs.declared.Version.{Version as AnyVersion};
+ghost use Rattle.engine.specs.Views.{rows_view, token_view, write_view, writes_view, answer_view};
+ghost use Rattle.session.specs.Session.{fields_told, fields_said, rows_fitted, result_of_answer, in_transaction, with_write, no_tx};
+ghost use Rattle.session.specs.Views.{first_of, open_of, tx_of};
 ghost use Rattle.session.specs.Said.{fits};
-ghost use Rattle.session.specs.Acts.{LeavesOpen, IsBody, Refuses};
-ghost use Rattle.engine.specs.Limits.{max_rows};
+ghost use Rattle.session.specs.Acts.{IsBody, Refuses};
 
-use crate::acts::Leaves;
-use crate::result::{OpenResult, Row};
+use crate::acts::Opening;
+use crate::result::{OpenResult, Row, Transaction};
 use crate::spelling::{Unwritten, spell_response};
 use crate::words::{is_in_transaction, result_mode};
 use bytes::BytesMut;
-use engine::{Mode as QueryMode, Write};
+use engine::Write;
 use machine::State;
 use messages::Response;
+use speller::{Adding, Unspelled, put_text};
 use std::alloc::{AllocError, Global};
 use std::collections::VecDeque;
 use structures::Cell;
-use wire::Version;
+use wire::{MAX_MESSAGE, Version};
+
+/// The most fields whose SUCCESS is spelled without a response: as many as a list of one byte before its members has.
+const FEW: usize = 15;
 
 /// Spells the SUCCESS of a RUN in place of what the body held, or tells why it wasn't written.
 pub(crate) fn spell_fields(
     alloc: Global,
     version: Version,
-    fields: Vec<String>,
+    fields: &[String],
     body: &mut BytesMut,
 ) -> Result<(), Unwritten>
-    ensures ok { let said = fields_said (map string_bytes fields.items) in
+    ensures ok { let said = fields_said (map string_bytes fields.now) in
         OnOk result (IsBody version said body.new.items × (fits version said ≡ true)) }
-    ensures err { IfErr result (Refuses version (fields_said (map string_bytes fields.items))) }
+    ensures err { IfErr result (Refuses version (fields_said (map string_bytes fields.now))) }
 {
+    if fields.len() <= FEW && spell_few(fields, body) {
+        return Ok(());
+    }
     match fields_response(alloc, fields) {
         Ok(response) => spell_response(version, &response, body),
         Err(AllocError) => Err(Unwritten::Memory),
     }
 }
 
+/// Spells the SUCCESS of a RUN of few fields in place of what the body held, without a response; or says no, where it is past its limit or
+/// memory ran out.
+fn spell_few(fields: &[String], body: &mut BytesMut) -> bool
+    requires { length fields.now ≤ 15 }
+    ensures { result ≡ true → (v : AnyVersion) → let said = fields_said (map string_bytes fields.now) in
+        IsBody v said body.new.items × (fits v said ≡ true) }
+{
+    body.clear();
+    let mut adding = Adding::to(body);
+    match put_fields(fields, &mut adding) {
+        Ok(()) => *body = adding.keep(),
+        Err(_) => {
+            *body = adding.undo();
+            return false;
+        }
+    }
+    if body.len() > MAX_MESSAGE {
+        return false;
+    }
+    true
+}
+
+/// Adds the SUCCESS of a RUN of few fields.
+fn put_fields(fields: &[String], out: &mut Adding) -> Result<(), Unspelled>
+    requires { length fields.now ≤ 15 }
+    ensures before { out.new.before ≡ out.old.before }
+    ensures spelled { OnOk result (out.new.more
+        ≡ (out.old.more ++ 0xB1 ∷ 0x70 ∷ []) ++ canon (dict (entries_of (fields_told (map string_bytes fields.now))))) }
+{
+    out.extend_from_slice(b"\xB1\x70\xA2\x86fields")?;
+    out.push(head_of(fields.len()))?;
+    put_names(fields, out)?;
+    out.extend_from_slice(b"\x87t_first\x00")?;
+    Ok(())
+}
+
+/// The byte before a list of few members.
+fn head_of(count: usize) -> u8
+    requires { count ≤ 15 }
+    ensures { result ≡ 0x90 + count }
+{
+    0x90 + count as u8
+}
+
+fn put_names(names: &[String], out: &mut Adding) -> Result<(), Unspelled>
+    ensures before { out.new.before ≡ out.old.before }
+    ensures spelled { OnOk result (out.new.more
+        ≡ out.old.more ++ canon_all (trees_of (map text (map string_bytes names.now)))) }
+{
+    for name in names {
+        put_text(out, name.as_str())?;
+    }
+    Ok(())
+}
+
 /// The SUCCESS of a RUN.
-fn fields_response(alloc: Global, fields: Vec<String>) -> Result<Response, AllocError>
-    ensures { IfOk result (λ r. response_view r ≡ fields_said (map string_bytes fields.items)) }
+fn fields_response(alloc: Global, fields: &[String]) -> Result<Response, AllocError>
+    ensures { IfOk result (λ r. response_view r ≡ fields_said (map string_bytes fields.now)) }
 {
     let names = Cell::List(texts(alloc, fields)?);
     let mut metadata = Vec::with_capacity(alloc, 2)?;
@@ -53,68 +117,73 @@ fn fields_response(alloc: Global, fields: Vec<String>) -> Result<Response, Alloc
     Ok(Response::Success(metadata))
 }
 
-fn texts(alloc: Global, names: Vec<String>) -> Result<Vec<Cell>, AllocError>
-    ensures { IfOk result (λ cells. shapes cells.items ≡ map text (map string_bytes names.items)) }
+fn texts(alloc: Global, names: &[String]) -> Result<Vec<Cell>, AllocError>
+    ensures { IfOk result (λ cells. shapes cells.items ≡ map text (map string_bytes names.now)) }
 {
     let mut cells = Vec::with_capacity(alloc, names.len())?;
     for name in names {
-        cells.push(Cell::Text(name))?;
+        cells.push(Cell::Text(name.clone()?))?;
     }
     Ok(cells)
 }
 
-/// What an answer leaves open: its result, and in a transaction its write among the transaction's. The token is that of its RUN: in a
-/// transaction it is ignored.
-pub(crate) fn leaves_open(
+/// Opens a result of these rows, of which none is written yet: in a transaction with its write among the transaction's, which has its
+/// own token. An `Err` changes nothing.
+pub(crate) fn open_result(
     alloc: Global,
     version: Version,
     state: State,
-    rows: Vec<Vec<Cell>>,
-    mode: QueryMode,
-    write: Option<Write>,
-    token: &Option<String>,
-) -> Result<Leaves, AllocError>
-    requires { length rows.items ≤ max_rows }
-    ensures { IfOk result
-        (LeavesOpen version state rows.items mode write (token_view token.now)) }
+    opening: Opening,
+    left: &mut OpenResult,
+    tx: &mut Transaction,
+) -> Result<(), AllocError>
+    ensures open { OnOk result (open_of left.new
+        ≡ result_of_answer version state (token_view opening.token) (answer_view opening.answer)) }
+    ensures tx { OnOk result (tx_of tx.new ≡ (if in_transaction state
+        then with_write (tx_of tx.old) (option_map write_view opening.answer.write) else no_tx)) }
+    ensures open_kept { OnErr result (open_of left.new ≡ open_of left.old) }
+    ensures tx_kept { OnErr result (tx_of tx.new ≡ tx_of tx.old) }
 {
-    let writes = writes_of(alloc, write)?;
+    let Opening { answer, token } = opening;
+    let rows = fitted_rows(alloc, version, answer.rows)?;
+    let mode = result_mode(answer.mode);
     if is_in_transaction(state) {
-        let joined = opened(alloc, version, rows, mode, writes, None)?;
-        return Ok(Leaves::Joined(joined));
+        join_write(&mut tx.writes, answer.write)?;
+        *left = OpenResult {
+            rows,
+            mode,
+            writes: Vec::new(alloc),
+            token: None,
+            written: 0,
+        };
+        return Ok(());
     }
-    let token = copy_token(token)?;
-    let open = opened(alloc, version, rows, mode, writes, token)?;
-    Ok(Leaves::Opened(open))
-}
-
-/// A result of these rows, of which none is written yet.
-fn opened(
-    alloc: Global,
-    version: Version,
-    rows: Vec<Vec<Cell>>,
-    mode: QueryMode,
-    writes: Vec<Write>,
-    token: Option<String>,
-) -> Result<OpenResult, AllocError>
-    requires few { length rows.items ≤ max_rows }
-    requires one { length writes.items ≤ 1 }
-    ensures { IfOk result (λ r. open_of r
-        ≡ record {
-          rows = rows_fitted version (rows_view rows.items);
-          mode = as_said mode;
-          write = first_of (writes_view writes.items);
-          written = 0;
-          token = token_view token;
-        }) }
-{
-    Ok(OpenResult {
-        rows: fitted_rows(alloc, version, rows)?,
-        mode: result_mode(mode),
+    let writes = writes_of(alloc, answer.write)?;
+    *left = OpenResult {
+        rows,
+        mode,
         writes,
         token,
         written: 0,
-    })
+    };
+    *tx = Transaction::none(alloc);
+    Ok(())
+}
+
+/// The transaction takes over the write of a result, where it has one.
+fn join_write(writes: &mut Vec<Write>, write: Option<Write>) -> Result<(), AllocError>
+    ensures ok { OnOk result
+        (writes_view writes.new.items
+        ≡ writes_view writes.old.items ++ option_to_list (option_map write_view write)) }
+    ensures err { OnErr result (writes_view writes.new.items ≡ writes_view writes.old.items) }
+{
+    match write {
+        None => Ok(()),
+        Some(write) => {
+            writes.push(write)?;
+            Ok(())
+        }
+    }
 }
 
 /// A copy of a token, where there is one.

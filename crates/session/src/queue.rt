@@ -1,52 +1,101 @@
-//! What is told of the slots that wait.
-ghost use Rattle.std.specs.Prelude.{◌≡◌, ◌∷◌, drop, option_copied};
+//! The queue of what waits.
+ghost use Rattle.std.specs.Prelude.{◌≡◌, ◌<◌, ◌∷◌, [], ◌++◌, drop, length, option_copied, IfOk};
 ghost use Rattle.std.specs.List.{list_any};
 ghost use Rattle.messages.specs.View.{request_view};
 ghost use Rattle.messages.specs.Arrivals.{Asked};
+ghost use Rattle.machine.specs.Limits.{max_waiting};
 ghost use Rattle.session.specs.Rest.{unread_among, reset_among};
-ghost use Rattle.session.specs.Views.{waiting_in, is_unread, is_reset_in, first_of};
+ghost use Rattle.session.specs.Waits.{is_unread};
+ghost use Rattle.session.specs.Views.{waiting_in, first_of};
 ghost use Rattle.session.specs.Acts.{turn_in, turn_by};
 
 use crate::acts::Turn;
-use crate::kinds::Cause;
-use crate::session::Waiting;
+use crate::waiting::{Queue, Waiting};
+use machine::MAX_WAITING;
 use messages::Request;
+use std::alloc::{AllocError, Global};
 use std::collections::VecDeque;
 
-/// Whether something stands for no request.
-#[tactic(auto, using(crate::proofs::Queues::any_unread))]
-pub(crate) fn has_unread(queue: &VecDeque<Waiting>) -> bool
-    ensures { result ≡ unread_among (waiting_in queue.now.items) }
-{
-    any_unread(queue)
+impl Queue {
+    /// Nothing waits. Room is made for the 32 slots; `Err` is want of memory.
+    pub(crate) fn new(alloc: Global) -> Result<Queue, AllocError>
+        ensures { IfOk result (λ q. q.waiting.items ≡ []) }
+    {
+        Ok(Queue {
+            waiting: VecDeque::with_capacity(alloc, MAX_WAITING)?,
+            resets: 0,
+        })
+    }
+
+    pub(crate) fn len(&self) -> usize
+        ensures { result ≡ length self.now.waiting.items }
+    {
+        self.waiting.len()
+    }
+
+    /// Takes a slot, of which one is left. It takes no memory.
+    #[tactic(auto, using(crate::proofs::Queues::resets_pushed, crate::proofs::Queues::resets_few))]
+    pub(crate) fn push(&mut self, waiting: Waiting)
+        requires { length self.old.waiting.items < max_waiting }
+        ensures { self.new.waiting.items ≡ self.old.waiting.items ++ waiting ∷ [] }
+    {
+        self.resets += waiting.resets();
+        self.waiting.push_back_reserved(waiting);
+    }
+
+    /// The first leaves, where something waits.
+    #[tactic(auto, using(crate::proofs::Queues::first_gone))]
+    pub(crate) fn pop(&mut self)
+        ensures items { self.new.waiting.items ≡ drop 1 self.old.waiting.items }
+        ensures waiting { waiting_in self.new.waiting.items
+            ≡ drop 1 (waiting_in self.old.waiting.items) }
+    {
+        if let Some(first) = self.waiting.pop_front() {
+            self.resets -= first.resets();
+        }
+    }
+
+    /// Whether something stands for no request.
+    #[tactic(auto, using(crate::proofs::Queues::any_unread))]
+    pub(crate) fn has_unread(&self) -> bool
+        ensures { result ≡ unread_among (waiting_in self.now.waiting.items) }
+    {
+        any_unread(&self.waiting)
+    }
+
+    /// Whether a RESET waits.
+    #[tactic(auto, using(crate::proofs::Queues::some_reset))]
+    pub(crate) fn has_reset(&self) -> bool
+        ensures { result ≡ reset_among (waiting_in self.now.waiting.items) }
+    {
+        self.resets > 0
+    }
+
+    /// What the first that waits is for a step.
+    #[tactic(auto, using(crate::proofs::Queues::first_turn))]
+    pub(crate) fn turn(&self) -> Turn
+        ensures { result ≡ turn_in (waiting_in self.now.waiting.items) }
+    {
+        first_turn(&self.waiting)
+    }
+
+    /// The first request that waits.
+    pub(crate) fn request(&self) -> &Request
+        requires { turn_in (waiting_in self.now.waiting.items) ≡ Turn.Serves }
+        ensures { waiting_in self.now.waiting.items
+            ≡ Asked (request_view result.now) ∷ drop 1 (waiting_in self.now.waiting.items) }
+    {
+        match first_in(&self.waiting) {
+            Some(Waiting::Asked(request)) => request,
+            _ => unreachable!(),
+        }
+    }
 }
 
 fn any_unread(queue: &VecDeque<Waiting>) -> bool
     ensures { result ≡ list_any is_unread queue.now.items }
 {
     queue.iter().any(|waiting| waiting.is_unread())
-}
-
-/// Whether a RESET waits.
-#[tactic(auto, using(crate::proofs::Queues::any_reset))]
-pub(crate) fn has_reset(queue: &VecDeque<Waiting>) -> bool
-    ensures { result ≡ reset_among (waiting_in queue.now.items) }
-{
-    any_reset(queue)
-}
-
-fn any_reset(queue: &VecDeque<Waiting>) -> bool
-    ensures { result ≡ list_any is_reset_in queue.now.items }
-{
-    queue.iter().any(|waiting| waiting.is_reset())
-}
-
-/// What the first that waits is for a step.
-#[tactic(auto, using(crate::proofs::Queues::first_turn))]
-pub(crate) fn turn_of(queue: &VecDeque<Waiting>) -> Turn
-    ensures { result ≡ turn_in (waiting_in queue.now.items) }
-{
-    first_turn(queue)
 }
 
 fn first_turn(queue: &VecDeque<Waiting>) -> Turn
@@ -62,16 +111,4 @@ fn first_in(queue: &VecDeque<Waiting>) -> Option<&Waiting>
     ensures { option_copied result ≡ first_of queue.now.items }
 {
     queue.front()
-}
-
-/// The first request that waits.
-pub(crate) fn request_in(queue: &VecDeque<Waiting>) -> &Request
-    requires { turn_in (waiting_in queue.now.items) ≡ Turn.Serves }
-    ensures { waiting_in queue.now.items
-        ≡ Asked (request_view result.now) ∷ drop 1 (waiting_in queue.now.items) }
-{
-    match first_in(queue) {
-        Some(Waiting::Asked(request)) => request,
-        _ => unreachable!(),
-    }
 }

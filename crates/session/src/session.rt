@@ -1,30 +1,17 @@
 //! What a session was asked and what it answers.
-ghost use Rattle.std.specs.Prelude.{◌+◌, ◌≤◌};
-ghost use Rattle.std.specs.VecDeque.{deque_len, deque_capacity};
+ghost use Rattle.std.specs.Prelude.{◌+◌, ◌≤◌, length};
 ghost use Rattle.machine.specs.Limits.{max_ordinals, max_waiting};
 
 use crate::MAX_UNSENT;
-use crate::acts::Turn;
 use crate::kinds::{Cause, What};
-use crate::queue::has_unread;
 use crate::result::{OpenResult, Transaction};
+use crate::waiting::{Queue, Waiting};
 use crate::words::{answer_of, is_interruptible};
 use bytes::{Bytes, BytesMut};
 use machine::{MAX_ORDINALS, MAX_WAITING, State, is_reset};
 use messages::{MsgFault, Request};
 use std::alloc::{AllocError, Global};
-use std::collections::VecDeque;
 use wire::{Version, choose};
-
-/// What waits for its turn.
-#[derive(Drop)]
-pub(crate) enum Waiting {
-    Asked(Request),
-    /// Bytes that stand for no request. Nothing comes after them.
-    Unread(MsgFault),
-    /// A message past its limit. Nothing comes after it.
-    TooLong,
-}
 
 /// A conversation with a client: what waits, how it stands, what is open, and what waits to go.
 #[derive(Drop)]
@@ -34,51 +21,14 @@ pub struct Session {
     pub(crate) cause: Option<Cause>,
     /// The ordinal of the first request that waits.
     pub(crate) first: u64,
-    pub(crate) queue: VecDeque<Waiting>,
+    pub(crate) queue: Queue,
     pub(crate) result: OpenResult,
     pub(crate) tx: Transaction,
     pub(crate) out: BytesMut,
     /// Room for what a step writes, kept from one to the next.
     pub(crate) body: BytesMut,
     pub(crate) alloc: Global,
-    ghost places: { deque_len queue ≤ max_waiting },
-    ghost room: { max_waiting ≤ deque_capacity queue },
-    ghost numbered: { first + deque_len queue ≤ max_ordinals },
-}
-
-impl Waiting {
-    ghost use Rattle.std.specs.Prelude.{◌≡◌};
-    ghost use Rattle.session.specs.Views.{is_unread, is_reset_in};
-    ghost use Rattle.session.specs.Acts.{turn_of_one};
-
-    /// What it is for a step, where it is the first.
-    pub(crate) fn turn(&self) -> Turn
-        ensures { result ≡ turn_of_one self.now }
-    {
-        match self {
-            Waiting::Asked(_) => Turn::Serves,
-            Waiting::Unread(_) => Turn::Ends(Cause::Malformed),
-            Waiting::TooLong => Turn::Ends(Cause::TooBig),
-        }
-    }
-
-    pub(crate) fn is_reset(&self) -> bool
-        ensures { result ≡ is_reset_in self.now }
-    {
-        match self {
-            Waiting::Asked(request) => is_reset(request),
-            Waiting::Unread(_) | Waiting::TooLong => false,
-        }
-    }
-
-    pub(crate) fn is_unread(&self) -> bool
-        ensures { result ≡ is_unread self.now }
-    {
-        match self {
-            Waiting::Asked(_) => false,
-            Waiting::Unread(_) | Waiting::TooLong => true,
-        }
-    }
+    ghost numbered: { first + length queue.waiting.items ≤ max_ordinals },
 }
 
 impl Session {
@@ -97,7 +47,7 @@ impl Session {
             state: State::Fresh,
             cause: None,
             first: 0,
-            queue: VecDeque::with_capacity(alloc, MAX_WAITING)?,
+            queue: Queue::new(alloc)?,
             result: OpenResult::closed(alloc),
             tx: Transaction::none(alloc),
             out: BytesMut::new(alloc),
@@ -110,7 +60,7 @@ impl Session {
     pub fn is_shut(&self) -> bool
         ensures { result ≡ shut (kept_of self.now) }
     {
-        self.cause.is_some() || has_unread(&self.queue)
+        self.cause.is_some() || self.queue.has_unread()
     }
 
     /// Whether nothing more can be received: 32 slots wait, or no ordinal below 2^63 is left. Takes no memory.
@@ -185,8 +135,8 @@ impl Session {
 
     /// What was asked goes into the queue.
     fn take_asked(&mut self, asked: Result<Request, MsgFault>) -> Result<What, AllocError>
-        requires place { length self.old.queue.items < max_waiting }
-        requires ordinal { self.old.first + length self.old.queue.items < max_ordinals }
+        requires place { length self.old.queue.waiting.items < max_waiting }
+        requires ordinal { self.old.first + length self.old.queue.waiting.items < max_ordinals }
         ensures taken { IfOk result
             (λ what. Receives what (kept_of self.old) (kept_of self.new) (arrival_told asked)) }
         ensures wants { asked ≡ Err MsgFault.Memory → IsErr result }
@@ -196,7 +146,7 @@ impl Session {
         match asked {
             Ok(request) => {
                 let interrupts = is_reset(&request) && is_interruptible(self.state);
-                self.queue.push_back_reserved(Waiting::Asked(request));
+                self.queue.push(Waiting::Asked(request));
                 if interrupts {
                     self.interrupt();
                 }
@@ -204,7 +154,7 @@ impl Session {
             }
             Err(MsgFault::Memory) => Err(AllocError),
             Err(fault) => {
-                self.queue.push_back_reserved(Waiting::Unread(fault));
+                self.queue.push(Waiting::Unread(fault));
                 Ok(What::Malformed)
             }
         }
@@ -220,11 +170,11 @@ impl Session {
 
     /// A message past its limit goes into the queue.
     fn take_refused(&mut self) -> What
-        requires place { length self.old.queue.items < max_waiting }
-        requires ordinal { self.old.first + length self.old.queue.items < max_ordinals }
+        requires place { length self.old.queue.waiting.items < max_waiting }
+        requires ordinal { self.old.first + length self.old.queue.waiting.items < max_ordinals }
         ensures { Receives result (kept_of self.old) (kept_of self.new) TooLong }
     {
-        self.queue.push_back_reserved(Waiting::TooLong);
+        self.queue.push(Waiting::TooLong);
         What::Malformed
     }
 

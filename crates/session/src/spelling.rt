@@ -1,7 +1,7 @@
 //! The spellings of responses.
 ghost use Rattle.std.specs.Prelude.{◌≡◌, true, Ok, OnOk, IfErr};
 ghost use Rattle.messages.specs.View.{response_view};
-ghost use Rattle.messages.specs.Summaries.{response_of_summary, IsShort};
+ghost use Rattle.messages.specs.Summaries.{response_of_summary};
 ghost use Rattle.session.specs.Said.{fits};
 ghost use Rattle.session.specs.Acts.{IsBody, Refuses, summary_of, unwritten_of};
 
@@ -56,7 +56,6 @@ pub(crate) fn spell_summary(
     summary: Summary,
     body: &mut BytesMut,
 ) -> Result<(), AllocError>
-    requires { IsShort (summary_of summary) }
     ensures { OnOk result
         (IsBody version (response_of_summary (summary_of summary)) body.new.items) }
 {

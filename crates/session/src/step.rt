@@ -1,31 +1,35 @@
 //! A work step: what the first that waits does to a session, and to the ledger.
-ghost use Rattle.std.specs.Prelude.{◌≡◌, ◌<◌, ◌++◌, ◌∷◌, ◌&&◌, List, length, None, unwrap_or, IfOk, OnOk, OnErr};
-ghost use Rattle.messages.specs.View.{RequestView};
+ghost use Rattle.std.specs.Prelude.{◌≡◌, ◌<◌, ◌≤◌, ◌++◌, ◌∷◌, ◌&&◌, if◌then◌else◌, List, length, None, true, unwrap_or, IfOk, OnOk, IfErr, OnErr};
+ghost use Rattle.packstream.specs.Tree.{Tree};
+ghost use Rattle.messages.specs.View.{RequestView, Record};
 ghost use Rattle.messages.specs.Arrivals.{Arrival, Asked};
+ghost use Rattle.wire.specs.Texts.{written_run};
 ghost use Rattle.machine.specs.Asks.{kind_of};
 ghost use Rattle.machine.specs.Rows.{row_at};
 ghost use Rattle.machine.specs.Following.{interruptible};
-ghost use Rattle.messages.specs.Summaries.{response_of_summary, IsShort};
-ghost use Rattle.session.specs.Session.{Reply, Summary as Replies, no_result, no_tx};
-ghost use Rattle.session.specs.Rest.{version_of, cause_of, replies, reset_among, after_interrupt, turns, stepped, commit_entries, IsCounted, MayStep};
+ghost use Rattle.engine.specs.Views.{token_view, answer_view};
+ghost use Rattle.session.specs.Said.{fits};
+ghost use Rattle.session.specs.Session.{no_tx, opens, result_of_answer, in_transaction, with_write};
+ghost use Rattle.session.specs.Rest.{version_of, cause_of, replies, reset_among, turns, stepped, commit_entries, IsCounted, MayStep};
 ghost use Rattle.session.specs.Views.{kept_of, snapshot_of};
-ghost use Rattle.session.specs.Acts.{ActsAs, AddsFree, IsFree, IsSized, IsWritable, Steps, served_interrupted, summary_of, length_after, left_result, left_tx, left_entry, after_bytes, after_summary, turn_in};
+ghost use Rattle.session.specs.Acts.{IsBody, Refuses, IsFree, IsSized, Steps, reply_of, row_reply, entry_in, length_after, left_result, left_tx, left_entry, after_bytes, after_summary, turn_in};
 
 use crate::MAX_UNSENT;
-use crate::acts::{Act, Leaves, Turn};
+use crate::acts::{Act, After, Opening, Turn};
 use crate::commit::leave;
+use crate::decision::interrupted;
 use crate::kinds::{Cause, Worked};
-use crate::queue::{has_reset, request_in, turn_of};
+use crate::query_answer::{open_result, spell_fields};
+use crate::result::OpenResult;
 use crate::session::Session;
-use crate::spelling::spell_summary;
+use crate::spelling::{Unwritten, spell_response, spell_summary};
 use crate::summary::Summary;
 use crate::words::is_interruptible;
 use bytes::BytesMut;
 use engine::{Engine, EntryId, Gate};
-use machine::{Kind, State, Verdict, is_goodbye, is_reset, kind, row};
+use machine::{Kind, State, Verdict, kind, row};
 use std::alloc::AllocError;
-use std::mem;
-use wire::{put_message, put_reserved, written_len};
+use wire::{Version, put_message, put_reserved, written_len};
 
 /// The most room of a body that is kept for the next.
 const MAX_KEPT: usize = 8192;
@@ -55,17 +59,16 @@ impl Session {
         if self.out.len() >= MAX_UNSENT {
             return Ok(Worked::Full);
         }
-        match turn_of(&self.queue) {
+        match self.queue.turn() {
             Turn::Nothing => Ok(Worked::Idle),
             Turn::Ends(cause) => {
                 self.end(cause);
                 Ok(Worked::Ended(cause))
             }
             Turn::Serves => {
-                let mut body = mem::replace(&mut self.body, BytesMut::new(self.alloc));
-                let worked = self.serve(conn, engine, gate, &mut body);
-                if body.capacity() <= MAX_KEPT {
-                    self.body = body;
+                let worked = self.serve(conn, engine, gate);
+                if self.body.capacity() > MAX_KEPT {
+                    self.body = BytesMut::new(self.alloc);
                 }
                 worked
             }
@@ -78,7 +81,6 @@ impl Session {
         conn: u64,
         engine: &mut E,
         gate: &G,
-        body: &mut BytesMut,
     ) -> Result<Worked, AllocError>
         requires { turn_in (kept_of self.old).waiting ≡ Turn.Serves }
         ensures ok { let k = kept_of self.old in IfOk result
@@ -90,13 +92,17 @@ impl Session {
             × (E.entries engine.new ≡ E.entries engine.old)) }
         ensures counted { IfOk result IsCounted }
     {
-        if self.is_interrupted() {
-            return self.serve_interrupted(conn, engine, body);
-        }
-        let request = request_in(&self.queue);
+        let request = self.queue.request();
         let asked = kind(request);
-        let act = self.decide(conn, request, engine, gate, body)?;
-        self.perform(act, body, conn, asked, engine)
+        if self.is_interrupted() {
+            let act = interrupted(request);
+            return self.perform(State::Interrupted, act, conn, asked, engine);
+        }
+        if self.owes_row(request) {
+            return self.send(conn, asked, engine);
+        }
+        let act = self.decide(conn, request, engine, gate)?;
+        self.perform(self.state, act, conn, asked, engine)
     }
 
     /// Whether a RESET waits that interrupts the state.
@@ -104,179 +110,266 @@ impl Session {
         ensures { let k = kept_of self.now in result
             ≡ (reset_among k.waiting && interruptible k.state) }
     {
-        has_reset(&self.queue) && is_interruptible(self.state)
+        self.queue.has_reset() && is_interruptible(self.state)
     }
 
-    /// Writes what the first request does, and changes the session by it.
-    fn perform<E: Engine>(
+    /// Writes the row that is due, or the FAILURE where it can't be written.
+    fn send<E: Engine>(
         &mut self,
-        act: Act,
-        body: &[u8],
         conn: u64,
         kind: Kind,
         engine: &mut E,
     ) -> Result<Worked, AllocError>
-        requires some { 0 < length self.old.queue.items }
-        requires writable { IsWritable self.old.result.rows.items body.now act }
-        requires free { let k = kept_of self.old in
-            AddsFree (E.entries engine.old) k.result k.tx act }
+        requires some { 0 < length self.old.queue.waiting.items }
+        requires row { 0 < length self.old.result.rows.items }
         ensures ok { let k = kept_of self.old in
-            (q : RequestView) (later : List Arrival) (reply : Reply) → k.waiting ≡ Asked q ∷ later
-            → kind ≡ kind_of q → ActsAs (version_of k) k.result k.tx body.now act reply
-            → IfOk result (λ w. Steps (replies (E.entries engine.old) k q later reply) conn k.first
-            w (kept_of self.new) (E.entries engine.old) (E.entries engine.new)) }
+            (q : RequestView) (later : List Arrival) → k.waiting ≡ Asked q ∷ later
+            → kind ≡ kind_of q
+            → IfOk result (λ w. Steps (replies (E.entries engine.old) k q later
+            (row_reply (version_of k) k.result.rows k.result)) conn k.first w (kept_of self.new)
+            (E.entries engine.old) (E.entries engine.new)) }
         ensures err { OnErr result
             ((kept_of self.new ≡ kept_of self.old)
             × (E.entries engine.new ≡ E.entries engine.old)) }
         ensures counted { IfOk result IsCounted }
     {
-        match act {
-            Act::Sends => self.send(body),
-            Act::Says { verdict, leaves } => {
-                self.summarize(self.state, verdict, body, leaves, conn, kind, engine)
-            }
-            Act::Leaves => {
-                self.end(Cause::Goodbye);
-                Ok(Worked::Ended(Cause::Goodbye))
+        match spell_first(self.version(), &self.result, &mut self.body) {
+            Ok(()) => self.put_row(),
+            Err(Unwritten::Memory) => Err(AllocError),
+            Err(Unwritten::Because(fault)) => {
+                let act = Act::failure(fault);
+                self.perform(self.state, act, conn, kind, engine)
             }
         }
     }
 
-    /// Writes the first row.
-    fn send(&mut self, body: &[u8]) -> Result<Worked, AllocError>
-        requires fits { IsSized body.now }
+    /// Puts the row that is spelled, the first of the open result.
+    fn put_row(&mut self) -> Result<Worked, AllocError>
+        requires fits { IsSized self.old.body.items }
         requires row { 0 < length self.old.result.rows.items }
         ensures ok { IfOk result
             (λ w. (w ≡ Worked.Row)
-            × (kept_of self.new ≡ after_bytes body.now (kept_of self.old))) }
+            × (kept_of self.new ≡ after_bytes self.old.body.items (kept_of self.old))) }
         ensures err { OnErr result (kept_of self.new ≡ kept_of self.old) }
     {
-        if put_message(body, &mut self.out).is_err() {
+        if put_message(&self.body, &mut self.out).is_err() {
             return Err(AllocError);
         }
         self.result.pass();
         Ok(Worked::Row)
     }
 
-    /// Writes the summary of the first request, worked in this state. Room for it is made before anything is committed.
+    /// Does what the first request is answered, worked in this state.
+    fn perform<E: Engine>(
+        &mut self,
+        worked_in: State,
+        act: Act,
+        conn: u64,
+        kind: Kind,
+        engine: &mut E,
+    ) -> Result<Worked, AllocError>
+        requires some { 0 < length self.old.queue.waiting.items }
+        requires free { let k = kept_of self.old in IsFree (E.entries engine.old)
+            (entry_in (reply_of (version_of k) worked_in k.result k.tx act)) }
+        ensures ok { let k = kept_of self.old in
+            (q : RequestView) (later : List Arrival) → k.waiting ≡ Asked q ∷ later
+            → kind ≡ kind_of q
+            → IfOk result (λ w. Steps
+            (replies (E.entries engine.old) (record k { state = worked_in }) q later
+            (reply_of (version_of k) worked_in k.result k.tx act)) conn k.first w
+            (kept_of self.new) (E.entries engine.old) (E.entries engine.new)) }
+        ensures err { OnErr result
+            ((kept_of self.new ≡ kept_of self.old)
+            × (E.entries engine.new ≡ E.entries engine.old)) }
+        ensures counted { IfOk result IsCounted }
+    {
+        match act {
+            Act::Says {
+                verdict,
+                summary,
+                after,
+            } => {
+                spell_summary(self.alloc, self.version(), summary, &mut self.body)?;
+                self.summarize(worked_in, verdict, after, conn, kind, engine)
+            }
+            Act::Opens(opening) => self.open(worked_in, opening, conn, kind, engine),
+            Act::Goodbye => {
+                self.end(Cause::Goodbye);
+                Ok(Worked::Ended(Cause::Goodbye))
+            }
+        }
+    }
+
+    /// Writes the summary that is spelled, of the first request, worked in this state. Room for it is made before anything is committed.
     fn summarize<E: Engine>(
         &mut self,
         worked_in: State,
         verdict: Verdict,
-        body: &[u8],
-        leaves: Leaves,
+        after: After,
         conn: u64,
         kind: Kind,
         engine: &mut E,
     ) -> Result<Worked, AllocError>
-        requires some { 0 < length self.old.queue.items }
-        requires fits { IsSized body.now }
+        requires some { 0 < length self.old.queue.waiting.items }
+        requires fits { IsSized self.old.body.items }
         requires free { let k = kept_of self.old in
-            IsFree (E.entries engine.old) (left_entry leaves k.result k.tx) }
+            IsFree (E.entries engine.old) (left_entry after k.result k.tx) }
         ensures told { let k = kept_of self.old in
             let next = unwrap_or (row_at (version_of k) worked_in kind verdict) State.Defunct in
             IfOk result (λ w. w ≡ Worked.Wrote k.first kind next
-            (length_after (E.entries engine.old) (left_entry leaves k.result k.tx))) }
+            (length_after (E.entries engine.old) (left_entry after k.result k.tx))) }
         ensures kept { let k = kept_of self.old in
             let next = unwrap_or (row_at (version_of k) worked_in kind verdict) State.Defunct in
             OnOk result (kept_of self.new ≡ after_summary next (cause_of verdict next)
-            (left_result leaves k.result) (left_tx leaves k.tx) body.now k) }
+            (left_result after k.result) (left_tx after k.tx) self.old.body.items k) }
         ensures ledger { let k = kept_of self.old in OnOk result
             (E.entries engine.new ≡ E.entries engine.old
-            ++ commit_entries conn k.first (left_entry leaves k.result k.tx)) }
+            ++ commit_entries conn k.first (left_entry after k.result k.tx)) }
         ensures err { OnErr result
             ((kept_of self.new ≡ kept_of self.old)
             × (E.entries engine.new ≡ E.entries engine.old)) }
         ensures counted { IfOk result IsCounted }
     {
-        let next = row(self.version(), worked_in, kind, verdict).unwrap_or(State::Defunct);
-        let ordinal = self.first;
-        self.out.reserve(written_len(body))?;
-        let id = EntryId { conn, ordinal };
+        self.out.reserve(written_len(&self.body))?;
+        let id = EntryId {
+            conn,
+            ordinal: self.first,
+        };
         let entry = leave(
             self.alloc,
             &mut self.result,
             &mut self.tx,
-            leaves,
+            after,
             id,
             engine,
         )?;
-        put_reserved(body, &mut self.out);
-        self.queue.pop_front();
+        Ok(self.finish(worked_in, verdict, kind, entry))
+    }
+
+    /// Puts the summary that is spelled, for which there is room: the first request has its answer.
+    fn finish(
+        &mut self,
+        worked_in: State,
+        verdict: Verdict,
+        kind: Kind,
+        entry: Option<u64>,
+    ) -> Worked
+        requires some { 0 < length self.old.queue.waiting.items }
+        requires fits { IsSized self.old.body.items }
+        requires room { length (written_run self.old.body.items) ≤ self.old.out.spare }
+        ensures told { let k = kept_of self.old in
+            let next = unwrap_or (row_at (version_of k) worked_in kind verdict) State.Defunct in
+            result ≡ Worked.Wrote k.first kind next entry }
+        ensures kept { let k = kept_of self.old in
+            let next = unwrap_or (row_at (version_of k) worked_in kind verdict) State.Defunct in
+            kept_of self.new ≡ after_summary next (cause_of verdict next) k.result k.tx
+            self.old.body.items k }
+    {
+        let next = row(self.version(), worked_in, kind, verdict).unwrap_or(State::Defunct);
+        let ordinal = self.first;
+        put_reserved(&self.body, &mut self.out);
+        self.queue.pop();
         self.first = ordinal + 1;
         self.state = next;
         self.cause = end_of(verdict, next);
-        Ok(Worked::Wrote {
+        Worked::Wrote {
             ordinal,
             kind,
             state: next,
             entry,
-        })
+        }
     }
 
-    /// A RESET waits, so the first request is worked in Interrupted.
-    fn serve_interrupted<E: Engine>(
+    /// Opens a result and writes the SUCCESS with its fields, or the FAILURE where that can't be written.
+    fn open<E: Engine>(
         &mut self,
-        conn: u64,
-        engine: &mut E,
-        body: &mut BytesMut,
-    ) -> Result<Worked, AllocError>
-        requires { turn_in (kept_of self.old).waiting ≡ Turn.Serves }
-        ensures ok { let k = kept_of self.old in
-            (q : RequestView) (later : List Arrival) → k.waiting ≡ Asked q ∷ later
-            → IfOk result (λ w. Steps
-            (replies (E.entries engine.old) (after_interrupt k) q later (served_interrupted (kind_of q)))
-            conn k.first w (kept_of self.new) (E.entries engine.old) (E.entries engine.new)) }
-        ensures err { OnErr result
-            ((kept_of self.new ≡ kept_of self.old)
-            × (E.entries engine.new ≡ E.entries engine.old)) }
-        ensures counted { IfOk result IsCounted }
-    {
-        let request = request_in(&self.queue);
-        let asked = kind(request);
-        if is_goodbye(request) {
-            self.end(Cause::Goodbye);
-            return Ok(Worked::Ended(Cause::Goodbye));
-        }
-        if is_reset(request) {
-            return self.pass(Verdict::Success, Summary::Plain, conn, asked, engine, body);
-        }
-        self.pass(Verdict::Ignored, Summary::Passed, conn, asked, engine, body)
-    }
-
-    /// Answers the first request in Interrupted.
-    fn pass<E: Engine>(
-        &mut self,
-        verdict: Verdict,
-        summary: Summary,
+        worked_in: State,
+        opening: Opening,
         conn: u64,
         kind: Kind,
         engine: &mut E,
-        body: &mut BytesMut,
     ) -> Result<Worked, AllocError>
-        requires some { 0 < length self.old.queue.items }
-        requires short { IsShort (summary_of summary) }
+        requires some { 0 < length self.old.queue.waiting.items }
         ensures ok { let k = kept_of self.old in
             (q : RequestView) (later : List Arrival) → k.waiting ≡ Asked q ∷ later
             → kind ≡ kind_of q
-            → IfOk result (λ w. Steps (replies (E.entries engine.old) (after_interrupt k) q later
-            (Replies verdict (response_of_summary (summary_of summary)) no_result no_tx None))
-            conn k.first w (kept_of self.new) (E.entries engine.old) (E.entries engine.new)) }
+            → IfOk result (λ w. Steps
+            (replies (E.entries engine.old) (record k { state = worked_in }) q later
+            (opens (version_of k) worked_in k.tx (token_view opening.token)
+            (answer_view opening.answer))) conn k.first w (kept_of self.new)
+            (E.entries engine.old) (E.entries engine.new)) }
         ensures err { OnErr result
             ((kept_of self.new ≡ kept_of self.old)
             × (E.entries engine.new ≡ E.entries engine.old)) }
         ensures counted { IfOk result IsCounted }
     {
-        spell_summary(self.alloc, self.version(), summary, body)?;
-        self.summarize(
-            State::Interrupted,
-            verdict,
-            body,
-            Leaves::Nothing,
-            conn,
-            kind,
-            engine,
-        )
+        match spell_fields(
+            self.alloc,
+            self.version(),
+            &opening.answer.fields,
+            &mut self.body,
+        ) {
+            Ok(()) => self.take(worked_in, opening, kind),
+            Err(Unwritten::Memory) => Err(AllocError),
+            Err(Unwritten::Because(fault)) => {
+                spell_summary(
+                    self.alloc,
+                    self.version(),
+                    Summary::Failure(fault),
+                    &mut self.body,
+                )?;
+                self.summarize(
+                    worked_in,
+                    Verdict::Failure,
+                    After::Nothing,
+                    conn,
+                    kind,
+                    engine,
+                )
+            }
+        }
+    }
+
+    /// Opens a result, and writes the SUCCESS that is spelled.
+    fn take(&mut self, worked_in: State, opening: Opening, kind: Kind) -> Result<Worked, AllocError>
+        requires some { 0 < length self.old.queue.waiting.items }
+        requires fits { IsSized self.old.body.items }
+        ensures told { let k = kept_of self.old in
+            let next = unwrap_or (row_at (version_of k) worked_in kind Verdict.Success) State.Defunct in
+            IfOk result (λ w. w ≡ Worked.Wrote k.first kind next None) }
+        ensures kept { let k = kept_of self.old in
+            let next = unwrap_or (row_at (version_of k) worked_in kind Verdict.Success) State.Defunct in
+            let a = answer_view opening.answer in
+            OnOk result (kept_of self.new ≡ after_summary next (cause_of Verdict.Success next)
+            (result_of_answer (version_of k) worked_in (token_view opening.token) a)
+            (if in_transaction worked_in then with_write k.tx a.write else no_tx)
+            self.old.body.items k) }
+        ensures err { OnErr result (kept_of self.new ≡ kept_of self.old) }
+    {
+        self.out.reserve(written_len(&self.body))?;
+        open_result(
+            self.alloc,
+            self.version(),
+            worked_in,
+            opening,
+            &mut self.result,
+            &mut self.tx,
+        )?;
+        Ok(self.finish(worked_in, Verdict::Success, kind, None))
+    }
+}
+
+/// Spells the first row of a result in place of what the body held, or tells why it wasn't written.
+fn spell_first(version: Version, left: &OpenResult, body: &mut BytesMut) -> Result<(), Unwritten>
+    requires { 0 < length left.now.rows.items }
+    ensures ok { (row : List Tree) (rest : List (List Tree)) → left.now.rows.items ≡ row ∷ rest
+        → OnOk result (IsBody version (Record row) body.new.items × (fits version (Record row) ≡ true)) }
+    ensures err { (row : List Tree) (rest : List (List Tree)) → left.now.rows.items ≡ row ∷ rest
+        → IfErr result (Refuses version (Record row)) }
+{
+    match left.rows.front() {
+        Some(row) => spell_response(version, row.record(), body),
+        None => unreachable!(),
     }
 }
 

@@ -40,6 +40,7 @@ impl Summary {
         ensures before { out.new.before ≡ out.old.before }
         ensures spelled { OnOk result (out.new.more
             ≡ out.old.more ++ canon (form_of (summary_of self))) }
+        ensures short { IsShort (summary_of self) }
     {
         match self {
             Summary::Greeting(conn) => put_greeting(alloc, out, conn),
@@ -98,6 +99,7 @@ fn put_numbered(
 fn put_greeting(alloc: Global, out: &mut Adding, conn: u64) -> Result<(), AllocError>
     ensures before { out.new.before ≡ out.old.before }
     ensures spelled { OnOk result (out.new.more ≡ out.old.more ++ canon (form_of (Greeting conn))) }
+    ensures short { IsShort (Greeting conn) }
 {
     put_success(out, 2)?;
     put_entry(out, "server", "BoltTable/1")?;
@@ -155,6 +157,7 @@ fn put_last_at(alloc: Global, out: &mut Adding, place: u64, mode: Mode) -> Resul
     ensures before { out.new.before ≡ out.old.before }
     ensures spelled { OnOk result (out.new.more
         ≡ out.old.more ++ canon (form_of (Closing (Some place) mode))) }
+    ensures short { IsShort (Closing (Some place) mode) }
 {
     put_success(out, 3)?;
     put_numbered(alloc, out, "bookmark", "bk:", place)?;
@@ -171,6 +174,7 @@ fn put_closing(
     ensures before { out.new.before ≡ out.old.before }
     ensures spelled { OnOk result (out.new.more
         ≡ out.old.more ++ canon (form_of (Closing place mode))) }
+    ensures short { IsShort (Closing place mode) }
 {
     match place {
         None => put_last(out, mode),
@@ -182,6 +186,7 @@ fn put_committed(alloc: Global, out: &mut Adding, place: u64) -> Result<(), Allo
     ensures before { out.new.before ≡ out.old.before }
     ensures spelled { OnOk result (out.new.more
         ≡ out.old.more ++ canon (form_of (Committed place))) }
+    ensures short { IsShort (Committed place) }
 {
     put_success(out, 1)?;
     put_numbered(alloc, out, "bookmark", "bk:", place)?;
@@ -192,6 +197,7 @@ fn put_committed(alloc: Global, out: &mut Adding, place: u64) -> Result<(), Allo
 fn put_failure(out: &mut Adding, fault: Fault) -> Result<(), AllocError>
     ensures before { out.new.before ≡ out.old.before }
     ensures spelled { OnOk result (out.new.more ≡ out.old.more ++ canon (form_of (failure fault))) }
+    ensures short { IsShort (failure fault) }
 {
     out.extend_from_slice(&[0xB1, 0x7F, 0xA2])?;
     put_entry(out, "code", fault.code())?;

@@ -3,6 +3,7 @@ ghost use Rattle.std.specs.Prelude.{◌≡◌};
 ghost use Rattle.wire.specs.Offers.{version_answer};
 ghost use Rattle.machine.specs.Following.{interruptible};
 ghost use Rattle.session.specs.Session.{is_halted, in_transaction, used_up, count_at, query_mode, result_mode};
+ghost use Rattle.session.specs.Acts.{streams};
 
 use engine::Mode as QueryMode;
 use machine::State;
@@ -41,6 +42,13 @@ pub(crate) fn is_in_transaction(state: State) -> bool
     ensures { result ≡ in_transaction state }
 {
     matches!(state, State::TxReady | State::TxStreaming)
+}
+
+/// Whether a result is open.
+pub(crate) fn is_streaming(state: State) -> bool
+    ensures { result ≡ streams state }
+{
+    matches!(state, State::Streaming | State::TxStreaming)
 }
 
 /// Whether a PULL that has so many rows written has its count.

@@ -10,4 +10,4 @@ returns c =
     let body = canon (form_of (summary_of c.args.summary)) in
     let none = c.put.ensures.before ∙ c.to-adding.ensures.before ∙ c.clear.ensures.items in
     let whole = c.keep.ensures ∙ ap (λ x. x ++ c.put.new.out.more) none ∙ c.in_ok-put.ensures.spelled ∙ ap (λ x. x ++ body) c.to-adding.ensures.more in
-    summary_body c.args.version (summary_of c.args.summary) c.keep.result.items c.requires whole
+    summary_body c.args.version (summary_of c.args.summary) c.keep.result.items c.put.ensures.short whole

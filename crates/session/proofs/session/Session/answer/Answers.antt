@@ -1,23 +1,19 @@
 use Rattle.std.proofs.Common.{◌∙◌, ap, length}
 use Rattle.messages.specs.Prelude.{response_of_summary, Committed}
 use Rattle.engine.specs.Prelude.{found_in, commit_by, writes_view}
-use Rattle.session.specs.Prelude.{change_inside, kept_of}
+use Rattle.session.specs.Prelude.{change_inside, version_of, kept_of}
 use Rattle.session.proofs.Commits.{commits_told}
 use Rattle.session.proofs.session.Session.answer.Goals as goal
 
 pub returns-in-Logon : goal.returns-in-Logon
 returns-in-Logon g c =
     let k = kept_of c.args.self.now in
-    rw (c.in-Logon.is, ← c.version-version.ensures) (c.admit.ensures k.result k.tx g.E.Engine.answer)
+    rw c.in-Logon.is (c.admit.ensures (version_of k) k.state k.result k.tx g.E.Engine.answer)
 
 pub returns-in_ok-commit-in-Commit : goal.returns-in_ok-commit-in-Commit
 returns-in_ok-commit-in-Commit g c =
-    let ledger = g.E.Engine.entries c.args.engine.now in
-    let change = change_inside (kept_of c.args.self.now).tx in
-    let is = c.in_ok-commit-in-Commit.ensures ∙ ap (λ ws. commit_by (length ledger) (found_in change.token (writes_view ws) ledger)) c.deref.ensures.value in
-    rw (c.in-Commit.is, ← commits_told ledger change (λ n. response_of_summary (Committed n)) c.in_ok-commit-in-Commit.commit is) c.committed.ensures
-
-pub returns-in_ok-copy_token-in-Begin : goal.returns-in_ok-copy_token-in-Begin
-returns-in_ok-copy_token-in-Begin g c =
     let k = kept_of c.args.self.now in
-    rw (c.in-Begin.is, ← c.in_ok-copy_token-in-Begin.ensures, ← c.version-version.ensures) (c.says.ensures.acts k.result k.tx)
+    let ledger = g.E.Engine.entries c.args.engine.now in
+    let change = change_inside k.tx in
+    let is = c.in_ok-commit-in-Commit.ensures ∙ ap (λ ws. commit_by (length ledger) (found_in change.token (writes_view ws) ledger)) c.deref.ensures.value in
+    rw (c.in-Commit.is, ← commits_told ledger change (λ n. response_of_summary (Committed n)) c.in_ok-commit-in-Commit.commit is) (c.committed.ensures (version_of k) k.state k.result k.tx)
