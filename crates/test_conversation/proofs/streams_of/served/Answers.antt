@@ -1,10 +1,10 @@
 use Rattle.engine.specs.Prelude.{ledger_of}
 use Rattle.server.specs.Prelude.{empty}
 use Rattle.streams.proofs.Firsts.{one, one_lives}
-use Rattle.test_conversation.proofs.serve_tests.served.Goals as goal
+use Rattle.test_conversation.proofs.streams_of.served.Goals as goal
 
-pub serve_one-requires : goal.serve_one-requires
-serve_one-requires c =
+pub serve_one-ended-requires : goal.serve_one-ended-requires
+serve_one-ended-requires c =
     let ledger = ledger_of c.new-2.result in
     let o = c.in_ok-conn.ensures (empty ledger c.in_ok-gate.gate) c.new-server.ensures in
     record { live = (one ledger c.in_ok-gate.gate c.in_ok-conn.conn o.number, o.now, one_lives ledger c.in_ok-gate.gate c.in_ok-conn.conn o.number); turns = λ s taken n few turn. tt }
