@@ -57,7 +57,7 @@ fn a_loss_after_each_line(rt: HostRuntime) -> Result<(), Fail> {
 }
 
 /// What is wrong in a report of connection 0.
-#[derive(Clone, Copy)]
+#[derive(Clone, Copy, Debug)]
 enum Lie {
     /// The outcome of a summary that was read, by its place.
     Outcome(usize, Outcome),
@@ -244,11 +244,9 @@ fn judged(alloc: Global, wrong: &Wrong) -> Result<(Option<Broken>, Option<Broken
 
 #[test]
 fn wrong_reports(rt: HostRuntime) -> Result<(), Fail> {
-    for (row, wrong) in lies().iter().enumerate() {
-        assert!(rt;
-            judged(rt.alloc(), wrong)? == (None, Some(wrong.broken)),
-            "lie {row}"
-        );
+    for wrong in &lies() {
+        let judged = judged(rt.alloc(), wrong)?;
+        assert_eq!(rt; judged, (None, Some(wrong.broken)), "{:?}", wrong.lie);
     }
     Ok(())
 }
@@ -278,7 +276,7 @@ fn wrong_rows(rt: HostRuntime) -> Result<(), Fail> {
         let mut row = Vec::new(alloc);
         row.push(Cell::Int(number))?;
         play.hears(0, &Heard::Row(row));
-        assert!(rt; fault_in(alloc, &play) == broken, "{number}");
+        assert_eq!(rt; fault_in(alloc, &play), broken, "{number}");
     }
     Ok(())
 }
