@@ -12,7 +12,7 @@ pub enum Said {
     Summary(u64, Outcome, Phase),
 }
 
-pub fn said(heard: &Heard) -> Said {
+pub fn shown(heard: &Heard) -> Said {
     match heard {
         Heard::Nothing => Said::Nothing,
         Heard::Version(version) => Said::Version(*version),
@@ -29,7 +29,7 @@ pub fn said(heard: &Heard) -> Said {
 /// Whether this was heard, and nothing else.
 pub fn are_heard(heard: &[Heard], wanted: &[Said]) -> bool {
     for (one, other) in heard.iter().zip(wanted) {
-        if said(one) != *other {
+        if shown(one) != *other {
             return false;
         }
     }

@@ -77,17 +77,23 @@ fn moved(end: Result<usize, ErrorKind>, why: Option<ErrorKind>) -> Result<usize,
 fn is_read(interrupts: usize, case: &Case) -> bool {
     let (end, why, _) = *case;
     let mut source = Over::new(Stopped { interrupts, end });
-    let is_first = source.read(&mut [0; 4]) == moved(end, why);
-    let is_again = source.read(&mut [0; 4]) == moved(end, why);
-    is_first && is_again && source.error().map(|e| e.kind()) == why
+    let mut are_so = true;
+    for _ in 0..2 {
+        let is_moved = source.read(&mut [0; 4]) == moved(end, why);
+        are_so &= is_moved && source.error().map(|e| e.kind()) == why;
+    }
+    are_so
 }
 
 fn is_written(interrupts: usize, case: &Case) -> bool {
     let (end, _, why) = *case;
     let mut sink = Over::new(Stopped { interrupts, end });
-    let is_first = sink.write(&[0; 4]) == moved(end, why);
-    let is_again = sink.write(&[0; 4]) == moved(end, why);
-    is_first && is_again && sink.error().map(|e| e.kind()) == why
+    let mut are_so = true;
+    for _ in 0..2 {
+        let is_moved = sink.write(&[0; 4]) == moved(end, why);
+        are_so &= is_moved && sink.error().map(|e| e.kind()) == why;
+    }
+    are_so
 }
 
 /// What a signal interrupts is tried again; every other failure is kept with its reason.

@@ -1,6 +1,6 @@
 //! Streams that fail at each call.
 
-use crate::heard::{Said, are_heard, said};
+use crate::heard::{Said, are_heard, shown};
 use crate::streams_of::{Drip, MANY, Trickle, served};
 use client::Losses;
 use server::{Cause, Worked};
@@ -210,8 +210,8 @@ fn hears(alloc: Global, bytes: &[u8]) -> Result<(Vec<Said>, Losses), Fail> {
         }
         let (used, item) = client.feed(&bytes[rest..])?;
         rest = rest.wrapping_add(used);
-        if said(&item) != Said::Nothing {
-            heard.push(said(&item))?;
+        if shown(&item) != Said::Nothing {
+            heard.push(shown(&item))?;
         }
     }
     Ok((heard, client.lost()))
