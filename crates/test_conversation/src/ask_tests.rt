@@ -1,9 +1,9 @@
+use crate::heard::{Said, are_heard};
 use crate::streams_of::{Drip, MANY, Trickle};
 use crate::world_scripts::{Asked, request};
-use client::{Client, Heard, Outcome};
+use client::{Client, Outcome};
 use machine::Phase;
 use std::alloc::Global;
-use std::process::Abort;
 use std::test::*;
 use streams::{StreamFault, ask_all};
 use wire::{Version, Wish};
@@ -20,14 +20,6 @@ const ALL: &[u8] = &[
 const ROW: &[u8] = &[
     0, 3, 0xB1, 0x70, 0xA0, 0, 0, 0, 4, 0xB1, 0x71, 0x91, 1, 0, 0,
 ];
-
-/// What was heard. Nothing else is wanted.
-#[derive(Clone, Copy, Debug, PartialEq, Eq)]
-enum Said {
-    Else,
-    Version(Option<Version>),
-    Summary(u64, Outcome, Phase),
-}
 
 /// What a client does before it asks.
 enum Before {
@@ -197,25 +189,8 @@ fn prepare(alloc: Global, client: &mut Client, before: &[Before]) -> Result<(), 
     Ok(())
 }
 
-fn is_heard(rt: &impl Abort, heard: &[Heard], wanted: &[Said]) {
-    assert_eq!(rt; heard.len(), wanted.len());
-    for (one, other) in heard.iter().zip(wanted) {
-        let said = match one {
-            Heard::Nothing | Heard::Row(_) => Said::Else,
-            Heard::Version(version) => Said::Version(*version),
-            Heard::Summary {
-                ordinal,
-                phase,
-                outcome,
-                ..
-            } => Said::Summary(*ordinal, *outcome, *phase),
-        };
-        assert_eq!(rt; said, *other);
-    }
-}
-
-/// Asks over a case's streams.
-fn asks(rt: &(impl Abort + AllocGlobal), client: &mut Client, case: &Case) {
+/// Whether asking over a case's streams tells what it has to.
+fn asks(alloc: Global, client: &mut Client, case: &Case) -> bool {
     let mut source = Trickle {
         rest: case.input,
         step: case.step,
@@ -223,25 +198,25 @@ fn asks(rt: &(impl Abort + AllocGlobal), client: &mut Client, case: &Case) {
         failed: false,
     };
     let mut sink = Drip {
-        bytes: Vec::new(rt.alloc()),
+        bytes: Vec::new(alloc),
         step: MANY,
         writes: MANY,
         room: case.room,
         failed: false,
     };
-    let told = ask_all(rt.alloc(), client, &mut source, &mut sink);
-    is_heard(rt, told.heard.as_slice(), case.heard);
-    assert_eq!(rt; told.losses.as_slice(), case.losses);
-    assert_eq!(rt; told.fault, case.fault);
-    assert_eq!(rt; sink.bytes.len(), case.written);
+    let told = ask_all(alloc, client, &mut source, &mut sink);
+    are_heard(told.heard.as_slice(), case.heard)
+        && told.losses.as_slice() == case.losses
+        && told.fault == case.fault
+        && sink.bytes.len() == case.written
 }
 
 #[test]
 fn tells_what_came_of_asking(rt: HostRuntime) -> Result<(), Fail> {
-    for case in &CASES {
+    for (row, case) in CASES.iter().enumerate() {
         let mut client = Client::new(rt.alloc(), case.wish)?;
         prepare(rt.alloc(), &mut client, case.before)?;
-        asks(&rt, &mut client, case);
+        assert!(rt; asks(rt.alloc(), &mut client, case), "row {row}");
     }
     Ok(())
 }

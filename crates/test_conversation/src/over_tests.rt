@@ -2,7 +2,6 @@ ghost use Rattle.std.specs.Prelude.{◌≤◌, IfOk};
 
 use std::io;
 use std::io::{ErrorKind, Read, Write};
-use std::process::Abort;
 use std::test::*;
 use streams::{Failed, Over, Sink, Source};
 
@@ -75,31 +74,41 @@ fn moved(end: Result<usize, ErrorKind>, why: Option<ErrorKind>) -> Result<usize,
     }
 }
 
-fn is_read(rt: &impl Abort, interrupts: usize, case: &Case) {
+fn is_read(interrupts: usize, case: &Case) -> bool {
     let (end, why, _) = *case;
     let mut source = Over::new(Stopped { interrupts, end });
+    let mut are_so = true;
     for _ in 0..2 {
-        assert_eq!(rt; source.read(&mut [0; 4]), moved(end, why));
-        assert_eq!(rt; source.error().map(|e| e.kind()), why);
+        let is_moved = source.read(&mut [0; 4]) == moved(end, why);
+        are_so &= is_moved && source.error().map(|e| e.kind()) == why;
     }
+    are_so
 }
 
-fn is_written(rt: &impl Abort, interrupts: usize, case: &Case) {
+fn is_written(interrupts: usize, case: &Case) -> bool {
     let (end, _, why) = *case;
     let mut sink = Over::new(Stopped { interrupts, end });
+    let mut are_so = true;
     for _ in 0..2 {
-        assert_eq!(rt; sink.write(&[0; 4]), moved(end, why));
-        assert_eq!(rt; sink.error().map(|e| e.kind()), why);
+        let is_moved = sink.write(&[0; 4]) == moved(end, why);
+        are_so &= is_moved && sink.error().map(|e| e.kind()) == why;
     }
+    are_so
 }
 
 /// What a signal interrupts is tried again; every other failure is kept with its reason.
 #[test]
 fn tries_again_what_a_signal_interrupts(rt: HostRuntime) {
     for interrupts in [0, 1, 3] {
-        for case in &CASES {
-            is_read(&rt, interrupts, case);
-            is_written(&rt, interrupts, case);
+        for (row, case) in CASES.iter().enumerate() {
+            assert!(rt;
+                is_read(interrupts, case),
+                "row {row}, {interrupts} interrupts"
+            );
+            assert!(rt;
+                is_written(interrupts, case),
+                "row {row}, {interrupts} interrupts"
+            );
         }
     }
 }

@@ -1,9 +1,13 @@
 //! Streams that give and take a little at once, and fail.
 
-use streams::{Failed, Sink, Source};
+use engine::{Engine, FixedTable, OneUser};
+use server::{Cause, Server};
+use std::alloc::Global;
+use std::test::Fail;
+use streams::{Failed, Sink, Source, StreamFault, serve_one};
 
 /// So often, or so much, that it isn't reached.
-pub const MANY: usize = 1000;
+pub const MANY: usize = 100_000;
 
 /// A source that gives at most so many bytes at once, and fails once it was read so often.
 #[derive(Drop)]
@@ -68,4 +72,17 @@ impl Sink for Drip {
         self.room -= n;
         Ok(n)
     }
+}
+
+/// Serves a client of a server of its own: what came of it, and how many entries the ledger has then.
+pub fn served(
+    alloc: Global,
+    source: &mut Trickle<'_>,
+    sink: &mut Drip,
+) -> Result<(Result<Cause, StreamFault>, usize), Fail> {
+    let gate = OneUser::new(alloc, "user", "pass")?;
+    let mut server = Server::new(alloc, FixedTable::new(alloc), gate);
+    let conn = server.open()?;
+    let ended = serve_one(alloc, &mut server, conn, source, sink);
+    Ok((ended, server.engine().ledger().len()))
 }

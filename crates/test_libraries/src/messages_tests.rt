@@ -357,9 +357,7 @@ fn credentials_are_not_printed(rt: HostRuntime) -> Result<(), Fail> {
         return Err(Fail::from("refused"));
     };
     let text = format!(in rt.alloc(); "{request:?}")?;
-    assert_eq!(rt;
-        text.as_str(),
-        "Logon(Auth { scheme: \"basic\", principal: \"user\", .. })"
-    );
+    let wanted = "Logon(Auth { scheme: \"basic\", principal: \"user\", .. })";
+    assert!(rt; text.as_str() == wanted);
     Ok(())
 }

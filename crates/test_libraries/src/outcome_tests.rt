@@ -336,34 +336,3 @@ fn answers_at_5_0(rt: HostRuntime) -> Result<(), Fail> {
     }
     Ok(())
 }
-
-/// Refusals of a submit, and their texts.
-const REFUSALS: &[(SubmitFault, &str)] = &[
-    (SubmitFault::NotAllowed, "C1"),
-    (SubmitFault::PipelineFull, "C2"),
-    (SubmitFault::Size, "C3"),
-    (SubmitFault::Closed, "C4"),
-    (SubmitFault::Memory, "out of memory"),
-    (
-        SubmitFault::Unwritable(Unwritable::Pack(packstream::Reason::Depth, 33)),
-        "P6 at 33",
-    ),
-    (SubmitFault::Unwritable(Unwritable::Extra), "M5"),
-    (
-        SubmitFault::Unwritable(Unwritable::Cell(structures::Reason::NotInVersion, 1)),
-        "S6 at 1",
-    ),
-    (
-        SubmitFault::Unwritable(Unwritable::CellPack(packstream::Reason::KeyTwice, 3)),
-        "P5 at 3",
-    ),
-];
-
-#[test]
-fn texts_of_refusals(rt: HostRuntime) -> Result<(), Fail> {
-    for (refusal, wanted) in REFUSALS {
-        let text = format!(in rt.alloc(); "{refusal}")?;
-        assert_eq!(rt; text.as_str(), *wanted);
-    }
-    Ok(())
-}

@@ -5,24 +5,20 @@ use packstream::*;
 use std::alloc::{AllocError, Global};
 use std::test::*;
 
-/// Whether both makers tell this.
-fn is_unmade(
-    alloc: Global,
-    value: Value,
-    reason: Reason,
-    place: usize,
-) -> Result<bool, AllocError> {
-    let copy = value.clone()?;
-    let is_alone = is_refused(Packed::new(value), reason, place);
-    let is_with_set = is_refused(Packed::new_in(alloc, copy), reason, place);
-    Ok(is_alone && is_with_set)
+/// A value that can't be packed: a dictionary of pairs, a structure of so many fields, and an empty list in so many lists.
+enum Bad {
+    Pairs(&'static [(&'static str, i64)]),
+    Fields(usize),
+    Nested(usize),
 }
 
-/// The pairs of dictionaries with a key twice, and the number of the value under the second of the two.
-const KEYS_TWICE: &[(&[(&str, i64)], usize)] = &[
-    (&[("a", 1), ("a", 2)], 2),
+/// Why each can't be, and where; of a dictionary with a key twice, the number of the value under the second of the two.
+const UNMADE: &[(Bad, Reason, usize)] = &[
+    (Bad::Fields(16), Reason::Size, 0),
+    (Bad::Nested(32), Reason::Depth, 32),
+    (Bad::Pairs(&[("a", 1), ("a", 2)]), Reason::KeyTwice, 2),
     (
-        &[
+        Bad::Pairs(&[
             ("k0", 0),
             ("k1", 1),
             ("k2", 2),
@@ -43,7 +39,8 @@ const KEYS_TWICE: &[(&[(&str, i64)], usize)] = &[
             ("k17", 17),
             ("k2", 2),
             ("k19", 19),
-        ],
+        ]),
+        Reason::KeyTwice,
         19,
     ),
 ];
@@ -56,7 +53,6 @@ fn dict_of(alloc: Global, pairs: &[(&str, i64)]) -> Result<Value, AllocError> {
     Ok(Value::Dict(held))
 }
 
-/// An empty list in so many lists.
 fn nested(alloc: Global, depth: usize) -> Result<Value, AllocError> {
     let mut value = Value::List(Vec::new(alloc));
     for _ in 0..depth {
@@ -65,17 +61,27 @@ fn nested(alloc: Global, depth: usize) -> Result<Value, AllocError> {
     Ok(value)
 }
 
-#[test]
-fn unmade_values(rt: HostRuntime) -> Result<(), Fail> {
-    let alloc = rt.alloc();
-    for (pairs, place) in KEYS_TWICE {
-        let told = is_unmade(alloc, dict_of(alloc, pairs)?, Reason::KeyTwice, *place)?;
-        assert!(rt; told, "at {pairs:?}");
+fn made(alloc: Global, bad: &Bad) -> Result<Value, AllocError> {
+    match bad {
+        Bad::Pairs(pairs) => dict_of(alloc, pairs),
+        Bad::Fields(count) => Ok(Value::Struct(0, vec![in alloc; Value::Null; *count]?)),
+        Bad::Nested(depth) => nested(alloc, *depth),
     }
-    let fields = vec![in alloc; Value::Null; 16]?;
-    assert!(rt; is_unmade(alloc, Value::Struct(0, fields), Reason::Size, 0)?);
-    assert!(rt; is_unmade(alloc, nested(alloc, 32)?, Reason::Depth, 32)?);
-    Ok(())
+}
+
+/// Whether both makers tell this.
+fn is_unmade(alloc: Global, bad: &Bad, reason: Reason, place: usize) -> Result<bool, AllocError> {
+    let is_alone = is_refused(Packed::new(made(alloc, bad)?), reason, place);
+    let is_with_set = is_refused(Packed::new_in(alloc, made(alloc, bad)?), reason, place);
+    Ok(is_alone && is_with_set)
+}
+
+#[test]
+fn unmade_values(rt: HostRuntime) {
+    for (row, (bad, reason, place)) in UNMADE.iter().enumerate() {
+        let told = is_unmade(rt.alloc(), bad, *reason, *place);
+        assert!(rt; told == Ok(true), "row {row}");
+    }
 }
 
 /// Bytes as a value, so many.
@@ -84,24 +90,36 @@ fn bytes_of(alloc: Global, count: usize) -> Result<Packed, Fail> {
     Ok(Packed::new(Value::Bytes(bytes))?)
 }
 
-#[test]
-fn the_largest_size(rt: HostRuntime) -> Result<(), Fail> {
-    let packed = bytes_of(rt.alloc(), 65_533)?;
-    let mut out = BytesMut::new(rt.alloc());
-    assert!(rt; encode(&packed, &mut out).is_ok());
-    assert_eq!(rt; out.len(), 65_536);
-    assert_eq!(rt; size(&packed), 65_536);
-    Ok(())
+/// A list of twice so many.
+fn both(alloc: Global, count: usize) -> Result<Packed, Fail> {
+    let bytes = vec![in alloc; 7u8; count]?;
+    let copy = bytes.clone()?;
+    let both = vec![in alloc; Value::Bytes(bytes), Value::Bytes(copy)]?;
+    Ok(Packed::new(Value::List(both))?)
 }
 
+/// Whether the value has this size, 65,537 where it is too large, and is put behind what there is; or is refused, and what there is stays.
+fn is_put(packed: &Packed, out: &mut BytesMut, bytes: usize) -> bool {
+    let before = out.len();
+    let is_told = match encode(packed, out) {
+        Ok(()) => bytes <= 65_536 && out.len() == before.saturating_add(bytes),
+        Err(PackFault::Refused(Reason::Size, 0)) => bytes > 65_536 && out.len() == before,
+        Err(_) => false,
+    };
+    is_told && size(packed) == bytes
+}
+
+/// The largest size; then, behind a byte, sizes past the limit, and one that is none.
 #[test]
-fn a_size_past_the_limit(rt: HostRuntime) -> Result<(), Fail> {
-    let packed = bytes_of(rt.alloc(), 65_534)?;
-    let mut out = BytesMut::copy_from_slice(rt.alloc(), &[7])?;
-    let told = encode(&packed, &mut out);
-    assert!(rt; matches!(told, Err(PackFault::Refused(Reason::Size, 0))));
-    assert_eq!(rt; size(&packed), 65_537);
-    assert_eq!(rt; out.len(), 1);
+fn sizes(rt: HostRuntime) -> Result<(), Fail> {
+    let mut out = BytesMut::new(rt.alloc());
+    assert!(rt; is_put(&bytes_of(rt.alloc(), 65_533)?, &mut out, 65_536));
+    out.truncate(1);
+    assert!(rt; is_put(&bytes_of(rt.alloc(), 65_534)?, &mut out, 65_537));
+    assert!(rt; is_put(&both(rt.alloc(), 40_000)?, &mut out, 65_537));
+    assert!(rt; out.as_slice() == [0xCD].as_slice());
+    assert!(rt; is_put(&bytes_of(rt.alloc(), 40_000)?, &mut out, 40_003));
+    assert!(rt; out.as_slice().starts_with(&[0xCD, 0xCD, 0x9C, 0x40, 7]));
     Ok(())
 }
 
@@ -118,56 +136,8 @@ fn appended(rt: HostRuntime) -> Result<(), Fail> {
     for _ in 0..2 {
         out.clear();
         for wanted in APPENDED {
-            assert!(rt; encode(&packed, &mut out).is_ok());
-            assert_eq!(rt; out.as_slice(), *wanted);
+            assert!(rt; encode(&packed, &mut out).is_ok() && out.as_slice() == *wanted);
         }
-    }
-    Ok(())
-}
-
-/// A list of twice so many Bytes.
-fn both(alloc: Global, count: usize) -> Result<Packed, Fail> {
-    let bytes = vec![in alloc; 9u8; count]?;
-    let copy = bytes.clone()?;
-    let both = vec![in alloc; Value::Bytes(bytes), Value::Bytes(copy)]?;
-    Ok(Packed::new(Value::List(both))?)
-}
-
-/// Whether the value is put behind what there is.
-fn is_put(packed: Packed, out: &mut BytesMut) -> bool {
-    encode(&packed, out).is_ok()
-}
-
-/// What is refused leaves what was written before as it was.
-#[test]
-fn put_back(rt: HostRuntime) -> Result<(), Fail> {
-    let mut out = BytesMut::copy_from_slice(rt.alloc(), &[8])?;
-    assert!(rt; !is_put(both(rt.alloc(), 40_000)?, &mut out));
-    assert_eq!(rt; out.as_slice(), [8].as_slice());
-    assert!(rt; is_put(bytes_of(rt.alloc(), 40_000)?, &mut out));
-    assert_eq!(rt; out.len(), 40_004);
-    assert!(rt; out.as_slice().starts_with(&[8, 0xCD, 0x9C, 0x40, 7]));
-    Ok(())
-}
-
-/// Faults, and their texts.
-const TEXTS: &[(PackFault, &str)] = &[
-    (PackFault::Refused(Reason::Short, 4), "P1 at 4"),
-    (PackFault::Refused(Reason::Marker, 4), "P2 at 4"),
-    (PackFault::Refused(Reason::Utf8, 4), "P3 at 4"),
-    (PackFault::Refused(Reason::KeyKind, 4), "P4 at 4"),
-    (PackFault::Refused(Reason::KeyTwice, 4), "P5 at 4"),
-    (PackFault::Refused(Reason::Depth, 4), "P6 at 4"),
-    (PackFault::Refused(Reason::Trailing, 4), "P7 at 4"),
-    (PackFault::Refused(Reason::Size, 4), "P9 at 4"),
-    (PackFault::Memory, "out of memory"),
-];
-
-#[test]
-fn texts_of_faults(rt: HostRuntime) -> Result<(), Fail> {
-    for (fault, wanted) in TEXTS {
-        let text = format!(in rt.alloc(); "{fault}")?;
-        assert_eq!(rt; text.as_str(), *wanted);
     }
     Ok(())
 }

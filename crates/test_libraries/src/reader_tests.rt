@@ -272,12 +272,11 @@ fn refusals(rt: HostRuntime) -> Result<(), Fail> {
 /// A dictionary of 400 pairs, of which the last key is this one.
 fn many_keys(alloc: Global, last: [u8; 2]) -> Result<Vec<u8>, AllocError> {
     let mut bytes = Vec::from_slice(alloc, &[0xD9, 0x01, 0x90])?;
-    for number in 0u16..399 {
-        let low = (number % 100) as u8;
-        let high = (number / 100) as u8;
+    for number in 0u16..400 {
+        let own = [(number / 100) as u8, (number % 100) as u8];
+        let [high, low] = if number == 399 { last } else { own };
         bytes.extend_from_slice(&[0x82, high, low, 0xC0])?;
     }
-    bytes.extend_from_slice(&[0x82, last[0], last[1], 0xC0])?;
     Ok(bytes)
 }
 
@@ -296,33 +295,26 @@ fn keys_of_a_stranger(rt: HostRuntime) -> Result<(), Fail> {
 }
 
 /// Whether HELLO is read of three pieces. The point behind the first is held, and the reader returns to it from another piece.
-fn is_read_in_three(
-    alloc: Global,
-    first: &[u8],
-    second: &[u8],
-    third: &[u8],
-) -> Result<bool, AllocError> {
+fn is_read_in_three(alloc: Global, first: &[u8], second: &[u8], third: &[u8]) -> bool {
     let mut reader = Reader::new(alloc);
-    reader.feed(first)?;
+    let is_begun = reader.feed(first).is_ok();
     reader.hold();
-    reader.feed(&[0x84, 0x61, 0xD0, 0xA1, 0x81, 0x61])?;
+    let is_left = reader.feed(&[0x84, 0x61, 0xD0, 0xA1, 0x81, 0x61]).is_ok();
     reader.back();
-    reader.feed(second)?;
-    reader.feed(third)?;
-    Ok(gives(alloc, reader.finish(), HELLO))
+    let is_fed = reader.feed(second).is_ok() && reader.feed(third).is_ok();
+    is_begun && is_left && is_fed && gives(alloc, reader.finish(), HELLO)
 }
 
 #[test]
-fn every_cutting(rt: HostRuntime) -> Result<(), Fail> {
+fn every_cutting(rt: HostRuntime) {
     for one in 0..HELLO.len() {
         let (first, rest) = HELLO.split_at(one);
         for two in 0..=rest.len() {
             let (second, third) = rest.split_at(two);
             assert!(rt;
-                is_read_in_three(rt.alloc(), first, second, third)?,
+                is_read_in_three(rt.alloc(), first, second, third),
                 "at {one}, {two}"
             );
         }
     }
-    Ok(())
 }

@@ -288,24 +288,3 @@ fn cells_without_bytes(rt: HostRuntime) -> Result<(), Fail> {
     assert!(rt; is_unwritten(alloc, Version::V51, twice(alloc)?, KEY_TWICE));
     Ok(())
 }
-
-/// Faults, and their texts.
-const TEXTS: &[(CellFault, &str)] = &[
-    (CellFault::Refused(Reason::UnknownTag, 4), "S1 at 4"),
-    (CellFault::Refused(Reason::FieldCount, 4), "S2 at 4"),
-    (CellFault::Refused(Reason::FieldKind, 4), "S3 at 4"),
-    (CellFault::Refused(Reason::Range, 4), "S4 at 4"),
-    (CellFault::Refused(Reason::PathShape, 4), "S5 at 4"),
-    (CellFault::Refused(Reason::NotInVersion, 4), "S6 at 4"),
-    (CellFault::Pack(packstream::Reason::KeyTwice, 2), "P5 at 2"),
-    (CellFault::Memory, "out of memory"),
-];
-
-#[test]
-fn texts_of_faults(rt: HostRuntime) -> Result<(), Fail> {
-    for (fault, wanted) in TEXTS {
-        let text = format!(in rt.alloc(); "{fault}")?;
-        assert_eq!(rt; text.as_str(), *wanted);
-    }
-    Ok(())
-}

@@ -2,10 +2,10 @@ use Rattle.std.proofs.Common.{ap, ◌∙◌}
 use Rattle.engine.specs.Prelude.{ledger_of}
 use Rattle.server.specs.Prelude.{opened}
 use Rattle.streams.proofs.Firsts.{one, one_lives}
-use Rattle.test_conversation.proofs.serve_tests.served.Goals as goal
+use Rattle.test_conversation.proofs.streams_of.served.Goals as goal
 
-pub serve_one-requires : goal.serve_one-requires
-serve_one-requires c =
+pub serve_one-ended-requires : goal.serve_one-ended-requires
+serve_one-ended-requires c =
     let ledger = ledger_of c.new-2.result in
     let o = c.in_ok-conn.ensures in
     let first = o.1 ∙ ap (λ r. r.next) c.new-server.ensures in

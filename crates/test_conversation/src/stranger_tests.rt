@@ -7,10 +7,10 @@ use test_chance::{hears, plays};
 #[test]
 fn events_by_chance(rt: HostRuntime) -> Result<(), Fail> {
     for seed in 0..30 {
-        assert_eq!(rt; plays(rt.alloc(), seed, 300), 0, "seed {seed}");
+        assert!(rt; plays(rt.alloc(), seed, 300) == 0, "seed {seed}");
     }
     for seed in 0..1000 {
-        assert_eq!(rt; hears(rt.alloc(), seed), 0, "seed {seed}");
+        assert!(rt; hears(rt.alloc(), seed) == 0, "seed {seed}");
     }
     Ok(())
 }
