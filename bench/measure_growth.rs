@@ -3,13 +3,8 @@
 //!   bench_records_read(keys, turns), bench_records_written(keys, turns): a record of one dictionary, answers its bytes
 //!   bench_pieces_taken(bytes, turns): a piece of small messages and no-ops, answers the messages in all
 //!   bench_puts(keys, count), bench_puts_under_tokens(keys, count): a client's transactions of one put each, over keys in turn
-#[allow(dead_code)]
-mod session_twin;
-#[allow(dead_code)]
-mod session_work;
-#[allow(dead_code)]
-mod twin;
-use session_work::now;
+mod clock;
+use clock::now;
 use std::hint::black_box;
 
 unsafe extern "C" {
