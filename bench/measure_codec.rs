@@ -53,7 +53,7 @@ fn appended(sample: &Sample, turns: u32) -> u64 {
 }
 
 fn line(name: &str, sample: &Rc<Sample>, part: &str, sides: Sides) -> Line {
-    let (sample, turns) = (sample.clone(), (400_000 / sample.bytes.len() as u32).clamp(10, 4_000));
+    let (sample, turns) = (sample.clone(), (2_000_000 / sample.bytes.len() as u32).clamp(25, 10_000));
     let ready = move |times| -> Run {
         let sample = sample.clone();
         Box::new(move |side| if side == 0 { unsafe { sides.0(sample.bytes.as_ptr(), sample.bytes.len(), times) } } else { sides.1(&sample, times) })

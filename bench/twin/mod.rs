@@ -12,6 +12,7 @@ pub mod machine;
 pub mod requests;
 pub mod responses;
 pub mod server;
+mod session;
 pub mod structures;
 pub mod table;
 pub mod walk;

@@ -66,12 +66,14 @@ impl Params for Spelled<'_> {
     }
 }
 
+fn named<'a>(entries: &'a Dict, key: &str) -> Option<&'a Value> { entries.iter().find(|(name, _)| name == key).map(|(_, value)| value) }
+
 impl Params for Dict {
-    fn text(&self, key: &str) -> Option<&str> { self.iter().find_map(|(name, value)| if let (true, Value::Text(text)) = (name == key, value) { Some(&text[..]) } else { None }) }
+    fn text(&self, key: &str) -> Option<&str> { if let Value::Text(text) = named(self, key)? { Some(text) } else { None } }
 
-    fn int(&self, key: &str) -> Option<i64> { self.iter().find_map(|(name, value)| if let (true, Value::Int(number)) = (name == key, value) { Some(*number) } else { None }) }
+    fn int(&self, key: &str) -> Option<i64> { if let Value::Int(number) = named(self, key)? { Some(*number) } else { None } }
 
-    fn value(&self, key: &str) -> Option<Value> { self.iter().find(|(name, _)| name == key).map(|(_, value)| value.clone()) }
+    fn value(&self, key: &str) -> Option<Value> { named(self, key).cloned() }
 }
 
 /// The rows of a result, which are made as they are asked for.
