@@ -4,7 +4,7 @@ use super::chunks::{Dechunk, Out, Piece, Version, Wish, offer, quad, wished};
 use super::cursor::Bad;
 use super::machine::{Kind, Phase, PhaseSet, State, Tables, Verdict, only};
 use super::requests::{Ask, Unwritten, put_request};
-use super::responses::{Reply, Response, Row, read_response};
+use super::responses::{RECORD, Reply, Row, read_record, read_reply};
 use std::collections::VecDeque;
 
 #[derive(Debug, Clone, Copy, PartialEq, Eq)]
@@ -150,11 +150,8 @@ impl Places {
     #[inline]
     fn hear<'a>(&mut self, version: Version, message: &'a [u8]) -> Result<Heard<'a>, Bad> {
         let first = *self.waiting.front().ok_or(Bad)?;
-        match read_response(version, message)? {
-            Response::Record(row) if first.kind == Kind::Pull => Ok(Heard::Row(row)),
-            Response::Record(_) => Err(Bad),
-            Response::Reply(reply) => self.conclude(first, reply),
-        }
+        if message.get(1) != Some(&RECORD) { return self.conclude(first, read_reply(version, message)?); }
+        if first.kind == Kind::Pull { read_record(version, message).map(Heard::Row) } else { Err(Bad) }
     }
 
     /// Takes the summary of the first request that waits, where it is accepted.

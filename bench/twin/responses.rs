@@ -6,6 +6,9 @@ use super::cursor::Bad;
 use super::structures::admit;
 use super::walk::{Lent, Walk, lent, owned};
 
+/// The tag of a record.
+pub const RECORD: u8 = 0x71;
+
 /// The cells of a row: how many, and the bytes that spell them; or, where structures stand in them, the cells.
 pub enum Row<'a> {
     Plain { count: usize, bytes: &'a [u8] },
@@ -51,34 +54,31 @@ impl Reply<'_> {
     }
 }
 
-pub enum Response<'a> {
-    Record(Row<'a>),
-    Reply(Reply<'a>),
-}
-
-/// Reads a response of a version.
+/// Reads a record of a version.
 #[inline]
-pub fn read_response(version: Version, message: &[u8]) -> Result<Response<'_>, Bad> {
-    let mut walk = Walk::over(message);
-    let head = (walk.cursor.byte()?, walk.cursor.byte()?);
-    let response = match head {
-        (0xB1, 0x71) => Response::Record(read_record(version, message, &mut walk)?),
-        (0xB1, 0x70) => Response::Reply(read_success(version, message, &mut walk)?),
-        (0xB1, 0x7F) => Response::Reply(read_failure(&mut walk)?),
-        (0xB0, 0x7E) => Response::Reply(Reply::Ignored),
-        _ => return Err(Bad),
-    };
-    if walk.cursor.left.is_empty() { Ok(response) } else { Err(Bad) }
-}
-
-#[inline]
-fn read_record<'a>(version: Version, message: &'a [u8], walk: &mut Walk<'a>) -> Result<Row<'a>, Bad> {
+pub fn read_record(version: Version, message: &[u8]) -> Result<Row<'_>, Bad> {
+    let [0xB1, RECORD, fields @ ..] = message else { return Err(Bad) };
+    let mut walk = Walk::over(fields);
     let count = walk.cursor.list_head()?;
     let bytes = walk.cursor.left;
     for _ in 0..count { walk.skip(CELL_DEPTH)?; }
+    if !walk.cursor.left.is_empty() { return Err(Bad); }
     if !walk.has_structures { return Ok(Row::Plain { count, bytes }); }
     let Value::List(cells) = admitted(version, message)? else { return Err(Bad) };
     Ok(Row::Typed(cells))
+}
+
+/// Reads a response of a version that isn't a record.
+#[inline]
+pub fn read_reply(version: Version, message: &[u8]) -> Result<Reply<'_>, Bad> {
+    let mut walk = Walk::over(message);
+    let reply = match (walk.cursor.byte()?, walk.cursor.byte()?) {
+        (0xB1, 0x70) => read_success(version, message, &mut walk)?,
+        (0xB1, 0x7F) => read_failure(&mut walk)?,
+        (0xB0, 0x7E) => Reply::Ignored,
+        _ => return Err(Bad),
+    };
+    if walk.cursor.left.is_empty() { Ok(reply) } else { Err(Bad) }
 }
 
 /// The field of a response, in which structures stand, as cells.

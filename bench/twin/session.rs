@@ -335,11 +335,12 @@ impl Session {
 
     #[inline]
     fn run(&mut self, table: &Table, place: &Place) -> Step {
+        let version = self.version.unwrap_or(Version::V51);
         let token = if self.transaction.is_none() { self.token_of(place) } else { None };
         let mut walk = Walk::over(&self.held[place.held.clone()][2..]);
         let (Ok(text), Ok(count)) = (walk.cursor.text(), walk.cursor.dict_head()) else { return Step::Failure(INVALID) };
         let (own, mode) = self.transaction.as_ref().map_or((&[][..], place.mode), |it| (&it.writes[..], it.mode));
-        let mut answer = match table.run(own, text, &Spelled { count, bytes: walk.cursor.left }, mode) {
+        let mut answer = match table.run(own, text, &Spelled { version, count, bytes: walk.cursor.left }, mode) {
             Ok(answer) => answer,
             Err(fault) => return Step::Failure(fault_of(fault)),
         };

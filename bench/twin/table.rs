@@ -1,6 +1,8 @@
 //! The fixed table: a ledger of writes, and the queries that are asked of it.
+use super::chunks::Version;
 use super::codec::{Dict, Value};
 use super::requests::Mode;
+use super::structures::admit;
 use super::walk::{Lent, Walk, lent, owned};
 use super::{CELL_DEPTH, MAX_ROWS};
 use std::collections::{HashMap, HashSet};
@@ -30,9 +32,10 @@ pub trait Params {
     fn value(&self, key: &str) -> Option<Value>;
 }
 
-/// Parameters in bytes that were checked.
+/// Parameters in bytes of a version that were checked.
 #[derive(Clone, Copy)]
 pub struct Spelled<'a> {
+    pub version: Version,
     pub count: usize,
     pub bytes: &'a [u8],
 }
@@ -62,7 +65,10 @@ impl Params for Spelled<'_> {
         let from = self.get(key)?;
         let mut walk = Walk::over(from);
         walk.skip(CELL_DEPTH).ok()?;
-        Some(owned(&from[..from.len() - walk.cursor.left.len()]))
+        let mut value = owned(&from[..from.len() - walk.cursor.left.len()]);
+        // From 5.0 on a cell is spelled as it is kept.
+        if self.version == Version::V44 { admit(self.version, &mut value).ok()?; }
+        Some(value)
     }
 }
 
