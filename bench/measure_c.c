@@ -82,7 +82,11 @@ static double least(int line, int own, int rounds) {
 int main(int argc, char **argv) {
     const char *word = argc > 1 ? argv[1] : "";
     if (!strcmp(word, "sides")) { puts("C calls\nown calls"); return 0; }
-    if (!strcmp(word, "lines")) { printf("a row of one integer\trows alone\tmessage\t%d\nthe same\twith the bytes of each\tmessage\t%d\n", ROWS + 2, ROWS + 2); return 0; }
+    if (!strcmp(word, "lines")) {
+        printf("a row of one integer\trows alone\tmessage\t%d\n", ROWS + 2);
+        printf("a row of one integer\twith the bytes of each\tmessage\t%d\n", ROWS + 2);
+        return 0;
+    }
     prepare();
     if (!strcmp(word, "one") && argc == 5) { counted(atoi(argv[2]), !strcmp(argv[3], "own calls"), atoi(argv[4])); return 0; }
     if (strcmp(word, "times") || argc != 3) { fprintf(stderr, "measure_c times ROUNDS | sides | lines | one LINE SIDE TIMES\n"); return 2; }
