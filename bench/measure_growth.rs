@@ -2,25 +2,28 @@
 //! workspace:
 //!   bench_records_read(keys, turns), bench_records_written(keys, turns): a record of one dictionary, answers its bytes
 //!   bench_pieces_taken(bytes, turns): a piece of small messages and no-ops, answers the messages in all
+//!   bench_pieces_to_server(marker, bytes, piece, turns): a message of so many bytes with a list, or a byte string, fed to a server in pieces
 //!   bench_puts(keys, count), bench_puts_under_tokens(keys, count): a client's transactions of one put each, over keys in turn
-#[allow(dead_code)]
-mod session_twin;
-#[allow(dead_code)]
-mod session_work;
-#[allow(dead_code)]
-mod twin;
-use session_work::now;
+mod clock;
+use clock::now;
 use std::hint::black_box;
 
 unsafe extern "C" {
     fn bench_records_read(keys: u32, turns: u32) -> u64;
     fn bench_records_written(keys: u32, turns: u32) -> u64;
     fn bench_pieces_taken(bytes: u32, turns: u32) -> u64;
+    fn bench_pieces_to_server(marker: u8, bytes: u32, piece: u32, turns: u32) -> u64;
     fn bench_puts(keys: u32, count: u32) -> u64;
     fn bench_puts_under_tokens(keys: u32, count: u32) -> u64;
 }
 
 type Call = unsafe extern "C" fn(u32, u32) -> u64;
+
+/// A list of small integers, in pieces of 64 bytes.
+unsafe extern "C" fn integers(bytes: u32, turns: u32) -> u64 { unsafe { bench_pieces_to_server(0xD5, bytes, 64, turns) } }
+
+/// A byte string, byte by byte.
+unsafe extern "C" fn byte_string(bytes: u32, turns: u32) -> u64 { unsafe { bench_pieces_to_server(0xCD, bytes, 1, turns) } }
 
 /// A call at two sizes.
 struct Line { name: &'static str, call: Call, small: Size, large: Size, most: f64 }
@@ -80,6 +83,8 @@ fn main() {
     let lines = [
         records("reading a record, 100 keys and 9,000", bench_records_read),
         records("writing a record, 100 keys and 9,000", bench_records_written),
+        Line { name: "a list of integers at a server by 64, 16,250 and 65,000", call: integers, small: piece(16_250, 80), large: piece(65_000, 20), most: 1.2 },
+        Line { name: "a byte string at a server by 1, 16,250 and 65,000", call: byte_string, small: piece(16_250, 8), large: piece(65_000, 2), most: 1.2 },
         Line { name: "small messages in a piece, 4 KB and 64 KB", call: bench_pieces_taken, small: piece(4096, 320), large: piece(65_536, 20), most: 1.5 },
     ];
     println!("| what | ns a byte, small | ns a byte, large | ratio | at most |");

@@ -52,7 +52,8 @@ pub(crate) fn echo(alloc: Global, pair: &mut Pair, bytes: u32, turns: u32) -> Re
     Ok(())
 }
 
-fn sevens(alloc: Global, count: u32) -> Result<Vec<u8>, AllocError> {
+/// So many bytes of 7.
+pub(crate) fn sevens(alloc: Global, count: u32) -> Result<Vec<u8>, AllocError> {
     vec![in alloc; 7u8; count as usize]
 }
 

@@ -8,6 +8,7 @@ mod batches;
 mod growth;
 mod link;
 mod pieces;
+mod played;
 mod requests;
 mod tally;
 mod tokens;
@@ -18,6 +19,7 @@ use crate::answers::rows_heard;
 use crate::batches::sessions;
 use crate::growth::{pieces_taken, records_read, records_written};
 use crate::pieces::Long;
+use crate::played::{Pipeline, Watch, client_alone, server_alone};
 use crate::tokens::Tokens;
 use crate::workload::{Workload, run};
 use std::alloc::Global;
@@ -98,6 +100,35 @@ pub extern "C" fn bench_pieces_to_client(
 #[unsafe(no_mangle)]
 pub extern "C" fn bench_sessions(alloc: Global, count: u32, requests: u32) -> u64 {
     sessions(alloc, count, requests).unwrap_or(0)
+}
+
+/// A server alone works the requests of a recording with so many sessions; it answers as many bytes as are recorded.
+#[unsafe(no_mangle)]
+pub extern "C" fn bench_server_alone(alloc: Global, sessions: u32, recording: &[u8]) -> u64 {
+    server_alone(alloc, sessions, recording, Watch::Lengths).unwrap_or(0)
+}
+
+/// The same, where it has to answer the bytes that are recorded.
+#[unsafe(no_mangle)]
+pub extern "C" fn bench_server_as_recorded(alloc: Global, sessions: u32, recording: &[u8]) -> u64 {
+    server_alone(alloc, sessions, recording, Watch::Bytes).unwrap_or(0)
+}
+
+/// A client alone asks pipelines of a kind and size, and hears the answers of a recording; it asks by as many bytes as are recorded.
+#[unsafe(no_mangle)]
+pub extern "C" fn bench_client_alone(alloc: Global, kind: u8, size: u32, recording: &[u8]) -> u64 {
+    client_alone(alloc, Pipeline::of(kind, size), recording, Watch::Lengths).unwrap_or(0)
+}
+
+/// The same, where it has to ask by the bytes that are recorded.
+#[unsafe(no_mangle)]
+pub extern "C" fn bench_client_as_recorded(
+    alloc: Global,
+    kind: u8,
+    size: u32,
+    recording: &[u8],
+) -> u64 {
+    client_alone(alloc, Pipeline::of(kind, size), recording, Watch::Bytes).unwrap_or(0)
 }
 
 /// Reads a record of one dictionary with so many keys so many times, and answers the bytes of its text.

@@ -45,14 +45,14 @@ fn log_on(
     exchange(server, link, tally)
 }
 
-fn hello(alloc: Global) -> Result<Request, AllocError> {
+pub(crate) fn hello(alloc: Global) -> Result<Request, AllocError> {
     Ok(Request::Hello {
         agent: String::from_str(alloc, "t/1")?,
         auth: None,
     })
 }
 
-fn logon(alloc: Global) -> Result<Request, AllocError> {
+pub(crate) fn logon(alloc: Global) -> Result<Request, AllocError> {
     Ok(Request::Logon(Auth {
         scheme: String::from_str(alloc, "basic")?,
         principal: String::from_str(alloc, "user")?,

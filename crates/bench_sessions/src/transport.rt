@@ -21,9 +21,14 @@ const MAX_TURNS: usize = 64;
 pub(crate) fn up(server: &mut Ours, link: &mut Link, tally: &mut Tally) -> Result<(), Stopped> {
     let piece = link.client.take_out(PIECE)?;
     tally.add_up(piece.len());
-    let mut rest: &[u8] = &piece;
+    feed_piece(server, link.conn, &piece)
+}
+
+/// The server reads a piece.
+pub(crate) fn feed_piece(server: &mut Ours, conn: u64, piece: &[u8]) -> Result<(), Stopped> {
+    let mut rest = piece;
     while !rest.is_empty() {
-        let took = server.feed(link.conn, rest)?;
+        let took = server.feed(conn, rest)?;
         rest = after(rest, took.used)?;
     }
     Ok(())
@@ -43,7 +48,7 @@ pub(crate) fn down(server: &mut Ours, link: &mut Link, tally: &mut Tally) -> Res
 }
 
 /// The client reads a piece.
-fn hear(link: &mut Link, piece: &[u8], tally: &mut Tally) -> Result<(), Stopped> {
+pub(crate) fn hear(link: &mut Link, piece: &[u8], tally: &mut Tally) -> Result<(), Stopped> {
     let mut rest = piece;
     while !rest.is_empty() {
         let (used, heard) = link.client.feed(rest)?;
