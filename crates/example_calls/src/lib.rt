@@ -1,0 +1,8 @@
+//! Callers of a client and of a server that are proved from the contracts of these alone.
+#![tactic(auto)]
+
+mod answers;
+mod asks;
+
+pub use answers::answer;
+pub use asks::{AskFault, ask};
