@@ -2,12 +2,12 @@
 use Rattle.std.specs.Prelude.{◌≡◌, ℕ, ◌+◌, List, [], ◌∷◌, ◌++◌, codes, length, Option}
 use Rattle.std.specs.Fmt.{decimal}
 use Rattle.std.specs.Io.KnownBytes.{Appends}
-use Rattle.engine.specs.Kept.{ledger_of}
+use Rattle.engine.specs.Kept.{AcceptsOnly, is_user, ledger_of}
 use Rattle.engine.specs.declared.fixed_table.FixedTable.{FixedTable}
 use Rattle.engine.specs.declared.one_user.OneUser.{OneUser}
 use Rattle.session.specs.declared.kinds.Cause.{Cause}
 use Rattle.server.specs.declared.server.Server.{Server}
-use Rattle.server.specs.Serving.{Rest}
+use Rattle.server.specs.Serving.{Rest, empty}
 use Rattle.server.specs.Views.{Fits}
 use Rattle.programs.specs.Serving.{conn_line}
 
@@ -32,3 +32,10 @@ pub record IsServing (s : Server FixedTable OneUser) (next : ℕ) : Type 0 where
   pub fits : Fits ledger_of s rest
   pub idle : rest.sessions ≡ []
   pub number : rest.next ≡ next
+
+-- The server of the program at first: no session lives and none has, its ledger is empty, and its gate lets in the user `user` by `pass`, and
+-- no one else.
+pub record IsAtFirst (s : Server FixedTable OneUser) : Type 0 where
+  pub gate : OneUser
+  pub fits : Fits ledger_of s (empty [] gate)
+  pub user : AcceptsOnly (is_user gate) (codes "user") (codes "pass")

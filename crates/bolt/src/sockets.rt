@@ -3,11 +3,11 @@ ghost use Rattle.std.specs.Prelude.{◌≡◌, true, None, string_bytes, IfOk, I
 ghost use Rattle.std.specs.Io.KnownBytes.{Appends};
 ghost use Rattle.scripts.specs.Rows.{request_line_of};
 ghost use Rattle.scripts.specs.Script.{filled_lines, unreadable};
-ghost use Rattle.bolt.specs.Served.{IsServing, HasServedAll, listening_line};
+ghost use Rattle.bolt.specs.Served.{IsAtFirst, HasServedAll, listening_line};
 
 use crate::reasons::{put_connected, put_failed, put_lost, put_unreached, put_unread};
 use engine::{FixedTable, OneUser};
-use programs::{Channel, drain, put_fault, run_loop, serve_next, shell};
+use programs::{BothWays, OneWay, drain, put_fault, run_loop, serve_next, shell};
 use server::Server;
 use std::alloc::{AllocError, Global};
 use std::io::{Read, Write};
@@ -105,7 +105,7 @@ fn serve_count<O: Sink>(
 
 /// A server with the one user of the program, over an empty table.
 fn server_of(alloc: Global) -> Result<Server<FixedTable, OneUser>, StreamFault>
-    ensures new { IfOk result (λ s. IsServing s 0) }
+    ensures new { IfOk result (λ s. IsAtFirst s) }
     ensures memory { IfErr result (λ e. e ≡ StreamFault.Memory) }
 {
     let Ok(gate) = OneUser::new(alloc, "user", "pass") else {
@@ -146,17 +146,17 @@ fn listening_text(alloc: Global, port: u16) -> Result<String, AllocError>
 /// Runs the request lines of a file with both ends in this process, over a connection to this machine itself. A file that can't be read,
 /// and a connection that can't be had, is `fault I1`.
 pub(crate) fn loop_through(rt: &HostRuntime, file: &str) -> u8 {
-    let mut out = Over::new(rt.stdout());
+    let out = Over::new(rt.stdout());
     let mut err = Over::new(rt.stderr());
     let script = match fs::read(rt, file) {
         Ok(script) => script,
         Err(error) => return put_unread(rt.alloc(), file, &error, &mut err),
     };
-    loop_lines(rt, script.as_slice(), &mut out, &mut err)
+    loop_lines(rt, script.as_slice(), out, &mut err)
 }
 
 /// The same of the lines themselves.
-fn loop_lines<O: Sink, E: Sink>(rt: &HostRuntime, script: &[u8], out: &mut O, err: &mut E) -> u8
+fn loop_lines<O: Sink + Drop, E: Sink>(rt: &HostRuntime, script: &[u8], out: O, err: &mut E) -> u8
     // 0 is only for lines that can all be read.
     ensures readable { result ≡ 0 → unreadable request_line_of (filled_lines script.now) ≡ None }
 {
@@ -169,15 +169,18 @@ fn loop_lines<O: Sink, E: Sink>(rt: &HostRuntime, script: &[u8], out: &mut O, er
         Ok(server) => server,
         Err(fault) => return put_fault(fault, err),
     };
-    let mut near = Channel {
-        source: Over::new(&near),
-        sink: Over::new(&near),
+    let mut ways = BothWays {
+        up: OneWay {
+            sink: Over::new(&near),
+            source: Over::new(&far),
+        },
+        down: OneWay {
+            sink: Over::new(&far),
+            source: Over::new(&near),
+        },
+        out,
     };
-    let mut far = Channel {
-        source: Over::new(&far),
-        sink: Over::new(&far),
-    };
-    run_loop(alloc, &mut server, script, &mut near, &mut far, out, err)
+    run_loop(alloc, &mut server, script, &mut ways, err)
 }
 
 /// The two ends of a connection of this machine with itself.

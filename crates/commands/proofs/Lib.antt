@@ -2,3 +2,4 @@ pub mod Digits
 pub mod Checkings
 pub mod Inputs
 pub mod Flags
+pub mod Vectored

@@ -1,21 +1,10 @@
 -- What the program's server puts out for the bytes that its first client sends, and how the session stands then: the whole of them,
 -- however they came.
-use Rattle.std.specs.Prelude.{◌≡◌, ◌&&◌, ℕ, Bool, List, [], codes}
-use Rattle.std.specs.Str.{bytes_eq}
-use Rattle.engine.specs.Queries.{fixed_answer}
-use Rattle.session.specs.Session.{Setting}
+use Rattle.std.specs.Prelude.{◌≡◌, ℕ, List, []}
 use Rattle.streams.specs.declared.response.End.{End}
 use Rattle.streams.specs.Conversing.{Talk, conversation}
 use Rattle.streams.specs.Responding.{end_of}
-
--- the one user that is let in
-abbrev pub lets_in : List ℕ → List ℕ → Bool
-lets_in principal credentials =
-    bytes_eq principal (codes "user") && bytes_eq credentials (codes "pass")
-
--- over a fixed table
-abbrev pub serving : Setting
-serving = record { run = fixed_answer; check = lets_in }
+use Rattle.replays.specs.Running.{serving}
 
 -- the conversation of the first connection over an empty ledger
 abbrev pub talk_of : List ℕ → Talk

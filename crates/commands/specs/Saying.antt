@@ -1,5 +1,7 @@
 -- What is said to what words ask for, and put on the streams.
-use Rattle.std.specs.Prelude.{◌≡◌, ◌≤◌, ℕ, Bool, true, false, List, [], ◌∷◌, ◌++◌, Option, Result, Ok, Err, string_bytes, codes}
+use Rattle.std.specs.Prelude.{◌≡◌, ℕ, ◌+◌, Bool, true, false, if◌then◌else◌, List, [], ◌∷◌, ◌++◌, length, Option, Result, Ok, Err, string_bytes, codes}
+use Rattle.std.specs.Fmt.{decimal}
+use Rattle.std.specs.List.{list_all}
 use Rattle.std.specs.Io.KnownBytes.{Appends}
 use Rattle.streams.specs.Fronts.{AppendsFront}
 use Rattle.replays.specs.declared.script.Replayed.{Replayed}
@@ -21,9 +23,25 @@ abbrev pub SaysReplay : Passage → Said → Type 0
 SaysReplay source s = (r : Replayed) × SaysSource source.has_failed source.before source.after r
     × Says (string_bytes r.out) (string_bytes r.err) r.status s
 
--- This is said by the test vectors: nothing on standard error, with status 0 or 1.
-abbrev pub SaysVectors : Said → Type 0
-SaysVectors s = (s.err.items ≡ []) × (s.status ≤ 1)
+-- how many test vectors there are
+abbrev pub vector_count : ℕ
+vector_count = 16
+
+-- the line of a test vector, by its number and whether it passes
+abbrev pub vector_line : ℕ → Bool → List ℕ
+vector_line n true = codes "pass V" ++ decimal n ++ 10 ∷ []
+vector_line n false = codes "fail V" ++ decimal n ++ 10 ∷ []
+
+-- the lines of vectors from this number on
+abbrev pub vector_lines : ℕ → List Bool → List ℕ
+vector_lines n [] = []
+vector_lines n (p ∷ ps) = vector_line n p ++ vector_lines (n + 1) ps
+
+-- This is said by the test vectors: a line for each of them, in order, and nothing on standard error; the status is 0 where all pass, and else 1.
+pub record SaysVectors (s : Said) : Type 0 where
+  pub passed : List Bool
+  pub all : length passed ≡ vector_count
+  pub says : Says (vector_lines 1 passed) [] (if list_all (λ p. p) passed then 0 else 1) s
 
 -- This is said to commands that speak to a socket, which the streams here aren't.
 abbrev pub SaysElsewhere : Said → Type 0

@@ -3,7 +3,7 @@ ghost use Rattle.std.specs.Prelude.{◌≡◌, ◌≤◌, ◌⊎◌, ℕ, List, 
 ghost use Rattle.std.specs.Io.KnownBytes.{Appends, Consumes};
 ghost use Rattle.streams.specs.Fronts.{AppendsFront};
 ghost use Rattle.commands.specs.Asked.{ask_of, asked_words, wrong_of};
-ghost use Rattle.commands.specs.Saying.{IsPut, Passage, SaysCommand, SaysElsewhere, SaysNoCommand, SaysReplay, SaysTo, SaysVectors, is_replay, reads};
+ghost use Rattle.commands.specs.Saying.{IsPut, Passage, SaysCommand, SaysElsewhere, SaysNoCommand, SaysReplay, SaysTo, SaysVectors, is_replay, reads, vector_line};
 ghost use Rattle.commands.specs.Commands.{Says, IsBadHex, SaysAnswer, SaysCheck, SaysChecked, SaysRefused};
 
 use crate::answers::{AnswerFault, answer};
@@ -282,20 +282,30 @@ fn say_replay<S: Source>(alloc: Global, input: &mut S) -> Result<Said, AllocErro
 
 /// `pass V1` or `fail V1`, and so on.
 fn say_vectors(alloc: Global) -> Result<Said, AllocError>
-    ensures { IfOk result (λ s. SaysVectors s) }
+    ensures says { IfOk result (λ s. SaysVectors s) }
+    ensures status { IfOk result (λ s. s.status ≤ 2) }
 {
+    let vectors = vectors();
     let mut out = String::new(alloc);
     let mut all_pass = true;
-    for vector in vectors() {
-        if passes(alloc, vector)? {
-            out.push_str("pass ")?;
-        } else {
-            out.push_str("fail ")?;
-            all_pass = false;
-        }
-        out.push_str(vector.name)?;
-        out.push_str("\n")?;
+    for at in 0..vectors.len() {
+        let passed = passes(alloc, vectors[at])?;
+        let text = vector_text(alloc, at + 1, passed)?;
+        out.push_str(text.as_str())?;
+        all_pass = all_pass && passed;
     }
     let status = if all_pass { 0 } else { REFUSED };
     Ok(say_out(alloc, out, status))
+}
+
+/// The line of a vector, by its number from 1.
+fn vector_text(alloc: Global, number: usize, passed: bool) -> Result<String, AllocError>
+    ensures { IfOk result (λ t. string_bytes t ≡ vector_line number passed) }
+{
+    if passed {
+        let text = format!(in alloc; "pass V{number}\n")?;
+        return Ok(text);
+    }
+    let text = format!(in alloc; "fail V{number}\n")?;
+    Ok(text)
 }

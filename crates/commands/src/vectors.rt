@@ -30,79 +30,65 @@ enum Expected {
 /// Bytes, and what they are.
 #[derive(Clone, Copy)]
 pub(crate) struct Vector {
-    pub name: &'static str,
     bytes: &'static [u8],
     expected: Expected,
 }
 
-/// The vectors of PackStream 1, of structures and of messages.
+/// The vectors of PackStream 1, of structures and of messages, V1 to V16 in order.
 pub(crate) fn vectors() -> [Vector; 16] {
     [
-        no_value("V1", &[0x81, 0xFF], Reason::Utf8, 0),
-        no_value("V2", &[0xA1, 0x01, 0x01], Reason::KeyKind, 1),
-        no_value("V3", &[0xC4], Reason::Marker, 0),
-        no_value("V4", &[0x92, 0x01], Reason::Short, 2),
-        no_value("V5", &[0xA1, 0x81, 0x61], Reason::Short, 3),
+        no_value(&[0x81, 0xFF], Reason::Utf8, 0),
+        no_value(&[0xA1, 0x01, 0x01], Reason::KeyKind, 1),
+        no_value(&[0xC4], Reason::Marker, 0),
+        no_value(&[0x92, 0x01], Reason::Short, 2),
+        no_value(&[0xA1, 0x81, 0x61], Reason::Short, 3),
         bytes_are(
-            "V6",
             &[0xB3, 0x50, 0x90, 0x90, 0x90],
             Expected::NoCell(Version::V44, CellReason::PathShape, 0),
         ),
         bytes_are(
-            "V7",
             b"\xB3\x50\x91\xB3\x4E\x01\x90\xA0\x90\x92\x01\x00",
             Expected::NoCell(Version::V44, CellReason::PathShape, 0),
         ),
         bytes_are(
-            "V8",
             b"\xB2\x54\xCB\x00\x00\x4E\x94\x91\x4F\x00\x00\x00",
             Expected::NoCell(Version::V51, CellReason::Range, 0),
         ),
-        bytes_are("V9", b"\xB3\x66\x00\x00\x83UTC", Expected::LocalZone),
+        bytes_are(b"\xB3\x66\x00\x00\x83UTC", Expected::LocalZone),
         bytes_are(
-            "V10",
             b"\xB1\x01\xA4\x8Auser_agent\x83t/1\x86scheme\x85basic\x89principal\x84user\x8Bcredentials\x84pass",
             Expected::Request(Version::V44),
         ),
         bytes_are(
-            "V11",
             b"\xB1j\xA3\x86scheme\x85basic\x89principal\x84user\x8Bcredentials\x84pass",
             Expected::Request(Version::V51),
         ),
         bytes_are(
-            "V12",
             b"\xB1p\xA2\x86fields\x91\x81i\x87t_first\x00",
             Expected::Success,
         ),
         bytes_are(
-            "V13",
             b"\xB1\x7F\xA2\x84code\xD0%Neo.ClientError.Statement.UnknownText\x87message\x8Cunknown text",
             Expected::Failure,
         ),
         bytes_are(
-            "V14",
             b"\xB1q\x91\xB3P\x92\xB3N\x01\x91\x81A\xA0\xB3N\x02\x91\x81B\xA0\x91\xB3r\x07\x82TO\xA0\x92\x01\x01",
             Expected::Walk(Version::V44),
         ),
         bytes_are(
-            "V15",
             b"\xB1q\x91\xB3P\x92\xB4N\x01\x91\x81A\xA0\x811\xB4N\x02\x91\x81B\xA0\x812\x91\xB4r\x07\x82TO\xA0\x817\x92\x01\x01",
             Expected::Walk(Version::V51),
         ),
-        bytes_are("V16", b"\xA2\x83key\x81a\x85value\x01", Expected::Value),
+        bytes_are(b"\xA2\x83key\x81a\x85value\x01", Expected::Value),
     ]
 }
 
-fn bytes_are(name: &'static str, bytes: &'static [u8], expected: Expected) -> Vector {
-    Vector {
-        name,
-        bytes,
-        expected,
-    }
+fn bytes_are(bytes: &'static [u8], expected: Expected) -> Vector {
+    Vector { bytes, expected }
 }
 
-fn no_value(name: &'static str, bytes: &'static [u8], reason: Reason, place: usize) -> Vector {
-    bytes_are(name, bytes, Expected::NoValue(reason, place))
+fn no_value(bytes: &'static [u8], reason: Reason, place: usize) -> Vector {
+    bytes_are(bytes, Expected::NoValue(reason, place))
 }
 
 /// Whether the bytes are what is expected.

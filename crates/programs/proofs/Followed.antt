@@ -13,8 +13,8 @@ use Rattle.streams.specs.declared.fault.StreamFault.TheVariants.{ReadFailed, Wri
 use Rattle.scripts.specs.Prelude.{Text, ScriptRequestView, is_empty, lines, filled_from, filled_lines, meant, request_line_of}
 use Rattle.programs.specs.declared.caller.Caller.{Caller}
 use Rattle.programs.specs.declared.shells.Conversation.{Conversation}
-use Rattle.programs.specs.declared.stop.Stop.{Stop}
-use Rattle.programs.specs.declared.stop.Stop.TheVariants.{Unreadable, Broken}
+use Rattle.programs.specs.declared.stop.StopReason.{StopReason}
+use Rattle.programs.specs.declared.stop.StopReason.TheVariants.{Unreadable, Broken}
 use Rattle.programs.specs.Prelude.{refusal_code, Gets, stop_status, stop_text, refused_line, Place, IsAt, submitted, first_place, IsPart, greeting, greeting_after, greeting_of, told_more, printed_more, and_then, Log, Exchanges, Talked, opens, refuses_line, answers_line, Streams, IsUsedUp, Stands, Anywhere, no_log, asks_version, asks_answer, IsServersTurn, IsAsked, Asked, Asks, Submits, DoesLine, Sends, if_filled, Progress, Does, Runs, Shells}
 use Rattle.programs.proofs.Heard.{asked_by, outs_in}
 use Rattle.programs.proofs.Printed.{nothing_heard}
@@ -130,7 +130,7 @@ begins {fault = fault} {before = before} {after = after} told deaf x h = record 
 filled_one : (n : ℕ) (l : Text) → is_empty l ≡ false → if_filled n l ≡ (n, l) ∷ []
 filled_one n l e = rw e refl
 
-pub stops_at : {start now : Streams} {script : List ℕ} (done after : List (ℕ × Text)) (n : ℕ) (l : Text) (c : Caller) (stop : Stop) → filled_lines script ≡ done ++ (if_filled n l ++ after) → Sends start now done n l c (Err stop) → Does (Some stop) start now script
+pub stops_at : {start now : Streams} {script : List ℕ} (done after : List (ℕ × Text)) (n : ℕ) (l : Text) (c : Caller) (stop : StopReason) → filled_lines script ≡ done ++ (if_filled n l ++ after) → Sends start now done n l c (Err stop) → Does (Some stop) start now script
 stops_at done after n l c (Unreadable m) e h =
     record {
       done = done;
@@ -181,7 +181,7 @@ module _ {start now : Streams} {script : List ℕ} {b : Conversation} (p : Progr
 
 -- ---- the whole
 
-pub shell_stops : {stop : Stop} {status : ℕ} {A B : Type 0} {before after told : Option (List ℕ)} {start mid : Streams} {deaf : Bool} → (stop ≡ Broken ReadFailed → A) → (stop ≡ Broken WriteFailed → B)
+pub shell_stops : {stop : StopReason} {status : ℕ} {A B : Type 0} {before after told : Option (List ℕ)} {start mid : Streams} {deaf : Bool} → (stop ≡ Broken ReadFailed → A) → (stop ≡ Broken WriteFailed → B)
     → Runs (Some stop) before after start mid → status ≡ stop_status stop → Gets mid.deaf deaf mid.told told (stop_text stop) → Shells status A B before after start (record mid { told = told; deaf = deaf })
 shell_stops {stop = stop} {A = A} {B = B} {mid = mid} a b r ends said = record {
   stop = Some stop;
@@ -241,7 +241,7 @@ pub runs_at_first : {input : Option (List ℕ)} {start now : Streams} (fault : S
 runs_at_first {input = input} fault s = record { script = []; read = Consumes-nil input; end = λ z. absurd cc; does = record { done = []; lines = (filled_lines [], refl); stands = s } }
 
 -- the input is at its end
-pub runs_to_end : {before after : Option (List ℕ)} {start now next : Streams} {script : List ℕ} {b : Conversation} (c : Caller) (result : Result (Unit {0}) Stop) → Consumes before after script → IsAtEnd after → (p : Progress start now script b)
+pub runs_to_end : {before after : Option (List ℕ)} {start now next : Streams} {script : List ℕ} {b : Conversation} (c : Caller) (result : Result (Unit {0}) StopReason) → Consumes before after script → IsAtEnd after → (p : Progress start now script b)
     → Sends start next p.done b.number b.begun.items c result → Runs (result_err result) before after start next
 runs_to_end {script = script} {b = b} c (Ok x) r e p s = record {
   script = script;

@@ -5,7 +5,9 @@ pub mod Printed
 pub mod Lined
 pub mod Heard
 pub mod Followed
+pub mod Accounted
 pub mod Taken
 pub mod Turned
 pub mod Looped
+pub mod Broken
 pub mod Served

@@ -1,5 +1,5 @@
 -- What two ends have come to: the streams between them, the session, and both.
-use Rattle.std.proofs.Common.{◌≡◌, refl, sym, ap, subst, ◌∙◌, ℕ, ◌+◌, Bool, List, [], ◌∷◌, ◌++◌, length, drop, append_assoc, append-nil, Option, Some, None, Result, Ok, Err, ◌⊎◌, inl, inr, ⊎_elim, IsSome, OnOk}
+use Rattle.std.proofs.Common.{◌≡◌, refl, sym, ap, subst, ◌∙◌, ℕ, ◌+◌, Bool, List, [], ◌∷◌, ◌++◌, length, drop, append_assoc, append-nil, length-append, arith, Option, Some, None, Result, Ok, Err, ◌⊎◌, inl, inr, ⊎_elim, IsSome, OnOk, OnErr}
 use Rattle.std.proofs.lemmas.List.{append_cancel_left}
 use Rattle.std.specs.Io.KnownBytes.{Appends}
 use Rattle.std.proofs.KnownBytes.{Appends-nil, Appends-trans, Consumes-nil, Consumes-trans}
@@ -17,10 +17,11 @@ use Rattle.streams.specs.Prelude.{Talk, with_talk, Stands, TakesPiece, standing_
 use Rattle.streams.proofs.Talks.{open_goes_on, over_ended, talk_by_items, told_over}
 use Rattle.streams.proofs.Called.{replace-itself}
 use Rattle.scripts.specs.Prelude.{ScriptRequestView, meant}
-use Rattle.programs.specs.declared.caller.Caller.{Caller}
-use Rattle.programs.specs.declared.stop.Stop.{Stop}
-use Rattle.programs.specs.declared.stop.Stop.TheVariants.{Unreadable, Broken}
-use Rattle.programs.specs.Prelude.{Alters, Comes, Loops, entries_text, Numbers, Passes, Prints, Sits, StandsAt, TellsLine, Way, Ways, Gets, stop_status, stop_text, refusal_code, IsAt, first_place, refused_line, OfRefusal, Turns, IsQuiet, AreQuiet, all_sent, after_line, answer_to, exchanged, given, line_by, no_turns, place_after, shown_of, talk_for, turns_of, with_request}
+use Rattle.streams.specs.declared.memory.Buffer.{Buffer}
+use Rattle.programs.specs.declared.loops.Pair.{Pair}
+use Rattle.programs.specs.declared.stop.StopReason.{StopReason}
+use Rattle.programs.specs.declared.stop.StopReason.TheVariants.{Unreadable, Broken}
+use Rattle.programs.specs.Prelude.{Alters, BreaksAtSource, Comes, FailsToRead, LetsReadWaiting, Loops, Passed, entries_text, Numbers, Passes, Prints, Sits, StandsAt, TellsLine, Way, Ways, end, whole_talk, Gets, stop_status, stop_text, refusal_code, IsAt, first_place, refused_line, OfRefusal, Turns, IsQuiet, AreQuiet, all_sent, after_line, answer_to, exchanged, given, line_by, no_turns, place_after, shown_of, talk_for, turns_of, with_request}
 use Rattle.programs.proofs.Stops.{broken_stops}
 use Rattle.programs.proofs.Turned.{answer_is, given_more, given_none, prints_none, prints_one, prints_then, with_item}
 
@@ -50,14 +51,27 @@ Went a b = (bytes : List ℕ) × Passes a b bytes
 pub went_none : {a : Way} → Went a a
 went_none = ([], passes_none)
 
-pub passed_then : {a b c x y z : Way} → Went a b × Went x y → Went b c × Went y z → Went a c × Went x z
-passed_then h k = ((h.0.0 ++ k.0.0, passes_then h.0.1 k.0.1), (h.1.0 ++ k.1.0, passes_then h.1.1 k.1.1))
+pub passed_then : (a b c : Ways) → Passed a b → Passed b c → Passed a c
+passed_then a b c h k = ((h.0.0 ++ k.0.0, passes_then h.0.1 k.0.1), (h.1.0 ++ k.1.0, passes_then h.1.1 k.1.1))
 
-pub fails_after : {N F : Type 0} {a b c x y z : Way} → Went a b × Went x y → N ⊎ F ⊎ Alters b c ⊎ Alters y z → N ⊎ F ⊎ Alters a c ⊎ Alters x z
-fails_after h (inl k) = inl k
-fails_after h (inr (inl k)) = inr (inl k)
-fails_after h (inr (inr (inl k))) = inr (inr (inl (alters_after h.0.1 k)))
-fails_after h (inr (inr (inr k))) = inr (inr (inr (alters_after h.1.1 k)))
+pub source_after : {a b c : Way} → Went a b → BreaksAtSource b c → BreaksAtSource a c
+source_after h (inl k) = inl k
+source_after h (inr k) = inr (alters_after h.1 k)
+
+pub fails_after : (a b c : Ways) → Passed a b → FailsToRead b c → FailsToRead a c
+fails_after a b c h (inl k) = inl (source_after h.0 k)
+fails_after a b c h (inr k) = inr (source_after h.1 k)
+
+-- what passed is read, and waits no more
+pub lets_after : {I : Type 0} {left : I → Option (List ℕ)} {may_read : I → Option (List ℕ) → ℕ → Type 0} {a b : Way} → Went a b → LetsReadWaiting left may_read a → LetsReadWaiting left may_read b
+lets_after {left = left} {a = a} {b = b} h lets s taken count k =
+    lets s taken count (record {
+      written = h.0 ++ k.written;
+      read = h.0 ++ k.read;
+      took = Appends-trans a.taken b.taken taken h.0 k.written h.1.took k.took;
+      gave = Consumes-trans a.left b.left (left s) h.0 k.read h.1.gave k.gave;
+      enough = omega (arith, length-append h.0 k.read, length-append h.0 k.written, k.enough);
+    })
 
 module _ {G : Type 0} {r : Rest G} {conn : ℕ} {S : Setting} where
   -- the session
@@ -103,15 +117,17 @@ module _ {G : Type 0} {r : Rest G} {conn : ℕ} {S : Setting} where
       over_by (Some c) e = refl
       over_by None e = cc
 
+  -- what is put out for a piece is the answer to it
+  pub answer_due : {Now Then : Rest G → Type 0} {up old new : List ℕ} {was is : Standing} (piece answer : List ℕ) → Sits r conn S Now up old was → Sits r conn S Then (up ++ piece) new is → answer ≡ drop (length old) new → answer ≡ answer_to S conn r.ledger up piece
+  answer_due {up = up} {new = new} piece answer h s e = e ∙ ap (λ z. drop (length z) new) h.out ∙ ap (drop (length (talk_for S conn r.ledger up).out)) s.out
+
   -- both: a piece of the client was passed, answered and heard
-  pub comes_given : {start a b : Ways} {t : Turns} {x y : Caller} {Now Then : Rest G → Type 0} {old new piece : List ℕ} {was is : Standing} (answer : List ℕ) → Comes r conn S start a t x Now old was → Passes a.up b.up piece → Sits r conn S Then (t.sent ++ piece) new is → answer ≡ drop (length old) new
-      → Passes a.down b.down answer → StandsAt y (place_after t.place answer) × Prints (shown_of t.place answer) a.out b.out → Comes r conn S start b (given S conn r.ledger t piece) y Then new is
-  comes_given {start = start} {a = a} {b = b} {t = t} {y = y} {old = old} {new = new} {piece = piece} answer h up s e down heard =
-      let due = answer_to S conn r.ledger t.sent piece in
-      let same : answer ≡ due = e ∙ ap (λ z. drop (length z) new) h.session.out ∙ ap (drop (length (talk_for S conn r.ledger t.sent).out)) s.out in
-      let all : old ++ answer ≡ new = ap (λ z. z ++ answer) h.session.out ∙ ap (λ z. (talk_for S conn r.ledger t.sent).out ++ z) same ∙ sym (answer_is S conn r.ledger t.sent piece) ∙ sym s.out in
+  pub comes_given : {start a b : Ways} {t : Turns} {x y : Pair} {Now Then : Rest G → Type 0} {piece : List ℕ} (answer : List ℕ) → Comes r conn S start a t x Now → Passes a.up b.up piece → Sits r conn S Then (t.sent ++ piece) y.said.bytes.items y.standing
+      → answer ≡ answer_to S conn r.ledger t.sent piece → Passes a.down b.down answer → StandsAt y.caller (place_after t.place answer) × Prints (shown_of t.place answer) a.out b.out → Comes r conn S start b (given S conn r.ledger t piece) y Then
+  comes_given {start = start} {a = a} {b = b} {t = t} {x = x} {y = y} {piece = piece} answer h up s same down heard =
+      let all : x.said.bytes.items ++ answer ≡ y.said.bytes.items = ap (λ z. z ++ answer) h.session.out ∙ ap (λ z. (talk_for S conn r.ledger t.sent).out ++ z) same ∙ sym (answer_is S conn r.ledger t.sent piece) ∙ sym s.out in
       record {
-        client = subst (λ (z : List ℕ). StandsAt y (place_after t.place z)) same heard.0;
+        client = subst (λ (z : List ℕ). StandsAt y.caller (place_after t.place z)) same heard.0;
         session = s;
         up = passes_then h.up up;
         down = subst (Passes start.down b.down) all (passes_then h.down down);
@@ -119,13 +135,14 @@ module _ {G : Type 0} {r : Rest G} {conn : ℕ} {S : Setting} where
       }
 
   -- where the client alone moves on, and no bytes pass
-  pub comes_at : {start a b : Ways} {t n : Turns} {x y : Caller} {Now : Rest G → Type 0} {out : List ℕ} {standing : Standing} → Comes r conn S start a t x Now out standing → b.up ≡ a.up → b.down ≡ a.down → n.sent ≡ t.sent → StandsAt y n.place → Prints n.shown start.out b.out
-      → Comes r conn S start b n y Now out standing
-  comes_at {start = start} {a = a} {n = n} {Now = Now} {out = out} {standing = standing} h e f g stands prints = record {
+  pub comes_at : {start a b : Ways} {t n : Turns} {x y : Pair} {Now : Rest G → Type 0} → Comes r conn S start a t x Now → b.up ≡ a.up → b.down ≡ a.down → n.sent ≡ t.sent → y.said ≡ x.said → y.standing ≡ x.standing → StandsAt y.caller n.place → Prints n.shown start.out b.out
+      → Comes r conn S start b n y Now
+  comes_at {start = start} {a = a} {b = b} {n = n} {x = x} {y = y} {Now = Now} h e f g same still stands prints = record {
     client = stands;
-    session = subst (λ (z : List ℕ). Sits r conn S Now z out standing) (sym g) h.session;
+    session = subst (λ (s : Standing). Sits r conn S Now n.sent y.said.bytes.items s) (sym still)
+        (subst (λ (s : Buffer). Sits r conn S Now n.sent s.bytes.items x.standing) (sym same) (subst (λ (z : List ℕ). Sits r conn S Now z x.said.bytes.items x.standing) (sym g) h.session));
     up = subst (λ (w : Way). Passes start.up w n.sent) (sym e) (subst (Passes start.up a.up) (sym g) h.up);
-    down = subst (λ (w : Way). Passes start.down w out) (sym f) h.down;
+    down = subst (λ (s : Buffer). Passes start.down b.down s.bytes.items) (sym same) (subst (λ (w : Way). Passes start.down w x.said.bytes.items) (sym f) h.down);
     printed = prints;
   }
 
@@ -134,96 +151,100 @@ pub on_ok_both : {T E : Type 0} (x : Result T E) (P Q N : Type 0) → (P → Q �
 on_ok_both (Ok t) P Q N f h k = f h k
 on_ok_both (Err e) P Q N f h k = h
 
+pub on_err_so : {T E : Type 0} (x : Result T E) {P : Type 0} → P → OnErr x P
+on_err_so (Ok t) h = tt
+on_err_so (Err e) h = h
+
 -- what a client has to send was taken out
 abbrev pub all_out : Turns → Turns
 all_out t = record { place = all_sent t.place; sent = t.sent; shown = t.shown }
 
 -- some of it was given, and the rest is still to be
-pub record PartGiven {G : Type 0} (r : Rest G) (conn : ℕ) (S : Setting) (start now : Ways) (t : Turns) (c : Caller) (Now : Rest G → Type 0) (put_out : List ℕ) (standing : Standing) (rest : List ℕ) : Type 0 where
+pub record PartGiven {G : Type 0} (r : Rest G) (conn : ℕ) (S : Setting) (start now : Ways) (t : Turns) (p : Pair) (Now : Rest G → Type 0) (rest : List ℕ) : Type 0 where
   pub done : List ℕ
   pub parts : done ++ rest ≡ t.place.rest.unsent
-  pub comes : Comes r conn S start now (given S conn r.ledger (all_out t) done) c Now put_out standing
+  pub comes : Comes r conn S start now (given S conn r.ledger (all_out t) done) p Now
 
 module _ {G : Type 0} {r : Rest G} {conn : ℕ} {S : Setting} {start : Ways} {t : Turns} where
-  pub part_begun : {a : Ways} {b c : Caller} {Now : Rest G → Type 0} {out rest : List ℕ} {standing : Standing} (max : ℕ) → (h : Comes r conn S start a t b Now out standing) → Fits c.client (taken_out (with_item t.place.rest h.client.item) max) → drop max t.place.rest.unsent ≡ [] → c.version ≡ b.version → rest ≡ t.place.rest.unsent
-      → PartGiven r conn S start a t c Now out standing rest
-  part_begun {a = a} {c = c} {Now = Now} {out = out} {standing = standing} max h f none v e = record {
+  pub part_begun : {a : Ways} {b c : Pair} {Now : Rest G → Type 0} {rest : List ℕ} (max : ℕ) → (h : Comes r conn S start a t b Now) → Fits c.caller.client (taken_out (with_item t.place.rest h.client.item) max) → drop max t.place.rest.unsent ≡ [] → c.caller.version ≡ b.caller.version → c.said ≡ b.said
+      → c.standing ≡ b.standing → rest ≡ t.place.rest.unsent → PartGiven r conn S start a t c Now rest
+  part_begun {a = a} {c = c} {Now = Now} max h f none v same still e = record {
     done = [];
     parts = e;
-    comes = subst (λ (z : Turns). Comes r conn S start a z c Now out standing) (sym (given_none S conn r.ledger (all_out t))) (comes_at h refl refl refl (record {
+    comes = subst (λ (z : Turns). Comes r conn S start a z c Now) (sym (given_none S conn r.ledger (all_out t))) (comes_at h refl refl refl same still (record {
       item = h.client.item;
       at = record {
-        fits = subst (λ (z : List ℕ). Fits c.client (record { wish = t.place.rest.wish; knows = t.place.rest.knows; item = h.client.item; unsent = z })) none f;
+        fits = subst (λ (z : List ℕ). Fits c.caller.client (record { wish = t.place.rest.wish; knows = t.place.rest.knows; item = h.client.item; unsent = z })) none f;
         version = v ∙ h.client.at.version;
       };
       same = h.client.same;
     }) h.printed);
   }
 
-  pub part_more : {a b : Ways} {x y : Caller} {Now Then : Rest G → Type 0} {old new rest after : List ℕ} {was is : Standing} (piece : List ℕ) → (p : PartGiven r conn S start a t x Now old was rest) → piece ++ after ≡ rest
-      → Comes r conn S start b (given S conn r.ledger (given S conn r.ledger (all_out t) p.done) piece) y Then new is → PartGiven r conn S start b t y Then new is after
-  part_more {b = b} {y = y} {Then = Then} {new = new} {after = after} {is = is} piece p e h = record {
+  pub part_more : {a b : Ways} {x y : Pair} {Now Then : Rest G → Type 0} {rest after : List ℕ} (piece : List ℕ) → (p : PartGiven r conn S start a t x Now rest) → piece ++ after ≡ rest → Comes r conn S start b (given S conn r.ledger (given S conn r.ledger (all_out t) p.done) piece) y Then
+      → PartGiven r conn S start b t y Then after
+  part_more {b = b} {y = y} {Then = Then} {after = after} piece p e h = record {
     done = p.done ++ piece;
     parts = append_assoc p.done piece after ∙ ap (λ (z : List ℕ). p.done ++ z) e ∙ p.parts;
-    comes = subst (λ (z : Turns). Comes r conn S start b z y Then new is) (sym (given_more S conn r.ledger (all_out t) p.done piece)) h;
+    comes = subst (λ (z : Turns). Comes r conn S start b z y Then) (sym (given_more S conn r.ledger (all_out t) p.done piece)) h;
   }
 
-  pub part_whole : {a : Ways} {c : Caller} {Now : Rest G → Type 0} {out rest : List ℕ} {standing : Standing} → PartGiven r conn S start a t c Now out standing rest → rest ≡ [] → Comes r conn S start a (exchanged S conn r.ledger t) c Now out standing
-  part_whole {a = a} {c = c} {Now = Now} {out = out} {standing = standing} p e =
+  pub part_whole : {a : Ways} {c : Pair} {Now : Rest G → Type 0} {rest : List ℕ} → PartGiven r conn S start a t c Now rest → rest ≡ [] → Comes r conn S start a (exchanged S conn r.ledger t) c Now
+  part_whole {a = a} {c = c} {Now = Now} p e =
       let all : p.done ≡ t.place.rest.unsent = sym (append-nil p.done) ∙ ap (λ (z : List ℕ). p.done ++ z) (sym e) ∙ p.parts in
-      subst (λ (z : List ℕ). Comes r conn S start a (given S conn r.ledger (all_out t) z) c Now out standing) all p.comes
+      subst (λ (z : List ℕ). Comes r conn S start a (given S conn r.ledger (all_out t) z) c Now) all p.comes
 
 -- where both stand after a line
-abbrev Goes : {G : Type 0} (r : Rest G) (conn : ℕ) (S : Setting) (start b : Ways) (t : Turns) (y : Caller) (Then : Rest G → Type 0) (new : List ℕ) (is : Standing) (l : ℕ × ScriptRequestView) → Option SubmitFault → Type 0
-Goes r conn S start b t y Then new is l o = let n = line_by S conn r.ledger o t l.0 (meant t.place.version l.1) in Comes r conn S start b n y Then new is × (IsQuiet t → IsQuiet n)
+abbrev Goes : {G : Type 0} (r : Rest G) (conn : ℕ) (S : Setting) (start b : Ways) (t : Turns) (y : Pair) (Then : Rest G → Type 0) (l : ℕ × ScriptRequestView) → Option SubmitFault → Type 0
+Goes r conn S start b t y Then l o = let n = line_by S conn r.ledger o t l.0 (meant t.place.version l.1) in Comes r conn S start b n y Then × (IsQuiet t → IsQuiet n)
 
-module _ {G : Type 0} {r : Rest G} {conn : ℕ} {S : Setting} {start b : Ways} {y : Caller} {Then : Rest G → Type 0} {new : List ℕ} {is : Standing} where
+module _ {G : Type 0} {r : Rest G} {conn : ℕ} {S : Setting} {start b : Ways} {y : Pair} {Then : Rest G → Type 0} where
   -- its request was accepted
-  pub line_sent : (t : Turns) (l : ℕ × ScriptRequestView) → refuses t.place.rest.knows (meant t.place.version l.1) ≡ None → (let n = exchanged S conn r.ledger (with_request t (meant t.place.version l.1)) in Comes r conn S start b n y Then new is × IsQuiet n)
-      → Comes r conn S start b (after_line S conn r.ledger t l) y Then new is × (IsQuiet t → IsQuiet (after_line S conn r.ledger t l))
-  line_sent t l e h = subst (Goes r conn S start b t y Then new is l) (sym e) (h.0, λ q. h.1)
+  pub line_sent : (t : Turns) (l : ℕ × ScriptRequestView) → refuses t.place.rest.knows (meant t.place.version l.1) ≡ None → (let n = exchanged S conn r.ledger (with_request t (meant t.place.version l.1)) in Comes r conn S start b n y Then × IsQuiet n)
+      → Comes r conn S start b (after_line S conn r.ledger t l) y Then × (IsQuiet t → IsQuiet (after_line S conn r.ledger t l))
+  line_sent t l e h = subst (Goes r conn S start b t y Then l) (sym e) (h.0, λ q. h.1)
 
   -- or refused
-  pub line_refused : {a : Ways} {t : Turns} {x : Caller} (l : ℕ × ScriptRequestView) (why : SubmitFault) (code : List ℕ) → refuses t.place.rest.knows (meant t.place.version l.1) ≡ Some why → refusal_code why ≡ Some code → (h : Comes r conn S start a t x Then new is) → b.up ≡ a.up → b.down ≡ a.down
-      → Appends a.out b.out (refused_line l.0 code) → IsAt y (record { rest = with_item t.place.rest h.client.item; version = t.place.version }) → Comes r conn S start b (after_line S conn r.ledger t l) y Then new is × (IsQuiet t → IsQuiet (after_line S conn r.ledger t l))
-  line_refused {a = a} {t = t} l why code e f h u d k at = subst (Goes r conn S start b t y Then new is l) (sym e) (
-    comes_at h u d refl (record { item = h.client.item; at = at; same = h.client.same })
+  pub line_refused : {a : Ways} {t : Turns} {x : Pair} (l : ℕ × ScriptRequestView) (why : SubmitFault) (code : List ℕ) → refuses t.place.rest.knows (meant t.place.version l.1) ≡ Some why → refusal_code why ≡ Some code → (h : Comes r conn S start a t x Then) → b.up ≡ a.up → b.down ≡ a.down → y.said ≡ x.said
+      → y.standing ≡ x.standing → Appends a.out b.out (refused_line l.0 code) → IsAt y.caller (record { rest = with_item t.place.rest h.client.item; version = t.place.version }) → Comes r conn S start b (after_line S conn r.ledger t l) y Then × (IsQuiet t → IsQuiet (after_line S conn r.ledger t l))
+  line_refused {a = a} {t = t} l why code e f h u d same still k at = subst (Goes r conn S start b t y Then l) (sym e) (
+    comes_at h u d refl same still (record { item = h.client.item; at = at; same = h.client.same })
         (prints_then t.shown (OfRefusal l.0 why ∷ []) start.out a.out b.out h.printed (prints_one (OfRefusal l.0 why) a.out b.out (refused_line l.0 code) (code, f, refl) k)),
     λ q. q,
   )
 
 -- the whole of a loop, on a server on which no session lives
 module _ {G : Type 0} (r : Rest G) (S : Setting) where
-  pub comes_begun : {a : Ways} {c : Caller} {Now : Rest G → Type 0} {out : List ℕ} (conn : ℕ) → out ≡ [] → find conn (opened r).sessions ≡ Some (fresh conn) → Now (opened r) → IsAt c first_place → Comes (opened r) conn S a a no_turns c Now out Open
-  comes_begun {a = a} {Now = Now} conn e f now at =
+  pub comes_begun : {a : Ways} {p : Pair} {Now : Rest G → Type 0} (conn : ℕ) → p.said.bytes.items ≡ [] → p.standing ≡ Open → find conn (opened r).sessions ≡ Some (fresh conn) → Now (opened r) → IsAt p.caller first_place → Comes (opened r) conn S a a no_turns p Now
+  comes_begun {a = a} {p = p} {Now = Now} conn e g f now at =
       let same : with_talk (opened r) conn at_server.start r.ledger begun ≡ opened r = ap (λ (ss : List Live). record { sessions = ss; next = r.next + 1; ledger = r.ledger; gate = r.gate }) (replace-itself conn (fresh conn) (opened r).sessions f) in
       record {
         client = record { item = first_place.rest.item; at = at; same = λ e. refl };
-        session = sits_by at_server.start (told_by (opened r) conn S []) (sym (talk_by_items S conn r.ledger [])) (subst Now (sym same) now) e refl (λ o. refl);
+        session = sits_by at_server.start (told_by (opened r) conn S []) (sym (talk_by_items S conn r.ledger [])) (subst Now (sym same) now) e g (λ o. refl);
         up = passes_none;
         down = subst (Passes a.down a.down) (sym e) passes_none;
         printed = prints_none a.out;
       }
 
   -- the entries that are printed are those of the ledger then
-  pub loops_whole : {start b : Ways} {c : Caller} {Now : Rest G → Type 0} {out : List ℕ} {standing : Standing} (last : Option (List ℕ)) (lines : List (ℕ × ScriptRequestView)) (conn : ℕ) → conn ≡ r.next → Comes (opened r) conn S start b (turns_of S conn r.ledger lines) c Now out standing × AreQuiet S conn r.ledger (exchanged S conn r.ledger no_turns) lines
-      → (es : List EntryView) → Appends b.out last (entries_text es) → ((x : Rest G) → Now x → es ≡ x.ledger) → Loops r S lines Now start (record { up = b.up; down = b.down; out = last })
-  loops_whole {start = start} {b = b} {c = c} {Now = Now} {out = out} {standing = standing} last lines conn e came es k same =
-      let h = subst (λ (n : ℕ). Comes (opened r) n S start b (turns_of S n r.ledger lines) c Now out standing × AreQuiet S n r.ledger (exchanged S n r.ledger no_turns) lines) e came in
+  pub loops_whole : {start b : Ways} {p : Pair} {Now : Rest G → Type 0} (last : Ways) (lines : List (ℕ × ScriptRequestView)) (conn : ℕ) → conn ≡ r.next → Comes (opened r) conn S start b (turns_of S conn r.ledger lines) p Now × AreQuiet S conn r.ledger (exchanged S conn r.ledger no_turns) lines
+      → (es : List EntryView) → Appends b.out last.out (entries_text es) → ((x : Rest G) → Now x → es ≡ x.ledger) → last.up ≡ b.up → last.down ≡ b.down → Loops r S lines Now start last
+  loops_whole {start = start} {b = b} {p = p} {Now = Now} last lines conn e came es k same u d =
+      let h = subst (λ (n : ℕ). Comes (opened r) n S start b (turns_of S n r.ledger lines) p Now × AreQuiet S n r.ledger (exchanged S n r.ledger no_turns) lines) e came in
       let t = h.0.session in
       let text = h.0.printed in
       record {
         unfinished = t.unfinished;
         text = text.0;
         shown = text.1;
-        printed = Appends-trans start.out b.out last text.0 _ text.2 (subst (λ (z : List EntryView). Appends b.out last (entries_text z)) (same _ t.now) k);
-        up = h.0.up;
-        down = subst (Passes start.down b.down) t.out h.0.down;
+        printed = Appends-trans start.out b.out last.out text.0 _ text.2 (subst (λ (z : List EntryView). Appends b.out last.out (entries_text z)) (same _ t.now) k);
+        up = subst (λ (w : Way). Passes start.up w (end r S lines).sent) (sym u) h.0.up;
+        down = subst (λ (w : Way). Passes start.down w (whole_talk r S lines).out) (sym d) (subst (Passes start.down b.down) t.out h.0.down);
         quiet = h.1;
         now = t.now;
       }
 
 -- the number that is told is that of the stop
-pub tells_line : (script : List ℕ) (stop : Stop) (had has : Bool) (before after : Option (List ℕ)) → Gets had has before after (stop_text stop) → stop_status stop ≡ 2 → Numbers script stop → TellsLine script had has before after
+pub tells_line : (script : List ℕ) (stop : StopReason) (had has : Bool) (before after : Option (List ℕ)) → Gets had has before after (stop_text stop) → stop_status stop ≡ 2 → Numbers script stop → TellsLine script had has before after
 tells_line script (Unreadable n) had has before after text q h = (n, h, text)
 tells_line script (Broken fault) had has before after text q h = absurd (broken_stops fault q)

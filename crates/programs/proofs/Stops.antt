@@ -3,18 +3,18 @@ use Rattle.std.proofs.Common.{◌≡◌, refl, ap, ◌∙◌, ℕ, Option, Some,
 use Rattle.streams.specs.declared.fault.StreamFault.{StreamFault}
 use Rattle.streams.specs.declared.fault.StreamFault.TheVariants.{ReadFailed, WriteFailed, Memory}
 use Rattle.streams.specs.Prelude.{UnlessTold}
-use Rattle.programs.specs.declared.stop.Stop.{Stop}
-use Rattle.programs.specs.declared.stop.Stop.TheVariants.{Unreadable, Broken}
+use Rattle.programs.specs.declared.stop.StopReason.{StopReason}
+use Rattle.programs.specs.declared.stop.StopReason.TheVariants.{Unreadable, Broken}
 use Rattle.programs.specs.Prelude.{IsStopOf, stop_status}
 
-pub stop_of : (stop : Stop) (A B : Type 0) → (stop ≡ Broken ReadFailed → A) → (stop ≡ Broken WriteFailed → B) → IsStopOf stop A B
+pub stop_of : (stop : StopReason) (A B : Type 0) → (stop ≡ Broken ReadFailed → A) → (stop ≡ Broken WriteFailed → B) → IsStopOf stop A B
 stop_of (Unreadable n) A B a b = tt
 stop_of (Broken ReadFailed) A B a b = a refl
 stop_of (Broken WriteFailed) A B a b = b refl
 stop_of (Broken Memory) A B a b = tt
 
 -- a status of 0 is that of no stop
-pub never_well : (stop : Stop) → stop_status stop ≡ 0 → ⊥
+pub never_well : (stop : StopReason) → stop_status stop ≡ 0 → ⊥
 never_well (Unreadable n) e = absurd cc
 never_well (Broken ReadFailed) e = absurd cc
 never_well (Broken WriteFailed) e = absurd cc
@@ -31,7 +31,7 @@ some_of f None n e = absurd cc
 some_of f (Some a) n e = refl
 
 -- a fault of a stream is told with status 1
-pub never_failed : {stop : Stop} {status : ℕ} (fault : StreamFault) → stop_status (Broken fault) ≡ 1 → status ≡ stop_status stop → (status ≡ 1 → ⊥) → stop ≡ Broken fault → ⊥
+pub never_failed : {stop : StopReason} {status : ℕ} (fault : StreamFault) → stop_status (Broken fault) ≡ 1 → status ≡ stop_status stop → (status ≡ 1 → ⊥) → stop ≡ Broken fault → ⊥
 never_failed fault one ends n e = n (ends ∙ ap stop_status e ∙ one)
 
 -- what holds unless a fault is told, and what follows of it

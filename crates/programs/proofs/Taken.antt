@@ -1,5 +1,5 @@
 -- Bytes that were read into the rest of a buffer, and parts of bytes.
-use Rattle.std.proofs.Common.{◌≡◌, ◌∙◌, ◌++◌, ◌+◌, ◌≤◌, ℕ, Bool, true, false, true≢false, List, length, take, drop, take-append-drop, refl, sym, ap, not, Decides, bytes_eq}
+use Rattle.std.proofs.Common.{◌≡◌, ◌∙◌, ◌++◌, ◌+◌, ◌≤◌, ℕ, Bool, true, false, true≢false, List, length, take, drop, take-append-drop, length-take, min, arith, refl, sym, ap, not, Decides, bytes_eq}
 use Rattle.std.proofs.lemmas.Slice.Eq.{bytes_eq-Decides}
 use Rattle.std.proofs.Math.Seq.{take-append-add}
 use Rattle.std.proofs.lemmas.List.{length-take-le, take-append-le}
@@ -27,3 +27,7 @@ other_then xs ys e = go (bytes_eq xs ys) (bytes_eq-Decides xs ys) e
 -- the parts before and behind a place
 pub split_whole : (n : ℕ) (front back xs : List ℕ) → front ≡ take n xs → back ≡ drop n xs → front ++ back ≡ xs
 split_whole n front back xs f b = ap (λ z. z ++ back) f ∙ ap (λ z. take n xs ++ z) b ∙ take-append-drop n xs
+
+-- a front of a number of bytes
+pub short_part : (n most : ℕ) (part xs : List ℕ) → part ≡ take n xs → n ≤ most → length part ≤ most
+short_part n most part xs e few = rw e (omega (arith, few, length-take n xs))

@@ -1,5 +1,5 @@
 -- What a client and a session make of one piece after another, and of one line after another.
-use Rattle.std.proofs.Common.{◌≡◌, refl, sym, ap, subst, ◌∙◌, ℕ, Bool, true, false, true≢false, List, [], ◌∷◌, ◌++◌, length, drop, append_assoc, append-nil, map, Option, Some, ◌⊎◌, inl, inr}
+use Rattle.std.proofs.Common.{◌≡◌, refl, sym, ap, subst, ◌∙◌, ℕ, Bool, true, false, true≢false, List, [], ◌∷◌, ◌++◌, length, drop, append_assoc, append-nil, map, Option, Some, Result, Ok, Err, OnOk, OnErr, is_ok, ◌⊎◌, inl, inr}
 use Rattle.std.proofs.Math.Seq.{drop-append_seam}
 use Rattle.std.proofs.lemmas.List.{map-append}
 use Rattle.std.specs.Io.KnownBytes.{Appends}
@@ -13,12 +13,14 @@ use Rattle.wire.proofs.Readers.{outputs-append}
 use Rattle.engine.specs.Prelude.{EntryView}
 use Rattle.session.specs.Prelude.{Setting, begun}
 use Rattle.client.specs.Prelude.{Note, Nothing, Chose, Row, Summary, Rest, Fits}
+use Rattle.streams.specs.declared.fault.StreamFault.{StreamFault}
+use Rattle.streams.specs.declared.fault.StreamFault.TheVariants.{ReadFailed, WriteFailed, Memory}
 use Rattle.streams.specs.Prelude.{Tale, after_notes, hears_all, after_all, FeedsPiece, Talk, item_talk}
 use Rattle.streams.proofs.Talks.{item_talk-append, talk_by_items}
 use Rattle.streams.proofs.Tales.{hears_all-append, after_all-append, over_tale}
 use Rattle.scripts.specs.Prelude.{ScriptRequestView}
 use Rattle.programs.specs.declared.caller.Caller.{Caller}
-use Rattle.programs.specs.Prelude.{Prints, StandsAt, IsTold, refused_line, row_line, version_after, versions_after, Place, Shown, OfNote, OfRefusal, IsShown, AreShown, notes_shown, place_after, shown_of, Turns, IsQuiet, talk_for, answer_to, given, after_line, after_lines, AreQuiet}
+use Rattle.programs.specs.Prelude.{HearsFront, Prints, PrintsPart, PrintsUpTo, StandsAt, IsFront, IsTold, PutsLine, refused_line, row_line, version_after, versions_after, Place, Shown, OfNote, OfRefusal, IsShown, AreShown, notes_shown, place_after, shown_of, Turns, IsQuiet, talk_for, answer_to, given, after_line, after_lines, AreQuiet}
 use Rattle.programs.proofs.Printed.{versions_more}
 
 -- what is shown has one text
@@ -59,6 +61,46 @@ prints_one x a b t h k = (t, (t, [], h, refl, sym (append-nil t)), k)
 
 pub prints_then : (xs ys : List Shown) (a b c : Option (List ℕ)) → Prints xs a b → Prints ys b c → Prints (xs ++ ys) a c
 prints_then xs ys a b c h k = (h.0 ++ k.0, shown_then xs ys h.0 k.0 h.1 k.1, Appends-trans a b c h.0 k.0 h.2 k.2)
+
+-- some are printed, and then some of others
+pub prints_some : (xs ys : List Shown) (a b c : Option (List ℕ)) → Prints xs a b → PrintsPart ys b c → PrintsPart (xs ++ ys) a c
+prints_some xs ys a b c h (inl k) = inl (prints_then xs ys a b c h k)
+prints_some xs ys a b c h (inr k) = inr (record {
+  done = xs ++ k.done;
+  next = k.next;
+  rest = k.rest;
+  text = h.0 ++ k.text;
+  begun = k.begun;
+  parts = ap (λ (z : List Shown). xs ++ z) k.parts ∙ sym (append_assoc xs k.done (k.next ∷ k.rest));
+  shown = shown_then xs k.done h.0 k.text h.1 k.shown;
+  front = k.front;
+  printed = subst (Appends a c) (sym (append_assoc h.0 k.text k.begun)) (Appends-trans a b c h.0 (k.text ++ k.begun) h.2 k.printed);
+})
+
+-- what is printed of a line that is cut
+line_cut : (IsLine : List ℕ → Type 0) (a b : Option (List ℕ)) (fault : StreamFault) → PutsLine IsLine a b (Err fault) → (begun : List ℕ) × ((begun ≡ []) ⊎ ((line : List ℕ) × IsLine line × IsFront begun line)) × Appends a b begun
+line_cut IsLine a b Memory e = ([], inl refl, subst (λ (z : Option (List ℕ)). Appends a z []) (sym e) (Appends-nil a))
+line_cut IsLine a b WriteFailed h = let cut = h.2 in (cut.0, inr (h.0, h.1, (cut.1, cut.2)), cut.3)
+line_cut IsLine a b ReadFailed h = absurd h
+
+-- a fault came at a note
+pub notes_cut : {X : Type 0} (v : Version) (see : X → Note) (xs : List X) (x : X) (ys : List X) (w : Version) (fault : StreamFault) (a b c : Option (List ℕ)) → w ≡ versions_after v (map see xs) → Prints (notes_shown v (map see xs)) a b → PutsLine (IsTold (version_after w (see x)) (see x)) b c (Err fault)
+    → PrintsUpTo (notes_shown v (map see (xs ++ x ∷ ys))) a c
+notes_cut v see xs x ys w fault a b c e h k =
+    let ns = map see xs in
+    let later = map see ys in
+    let cut = line_cut (IsTold (version_after w (see x)) (see x)) b c fault k in
+    record {
+      done = notes_shown v ns;
+      next = OfNote (version_after w (see x)) (see x);
+      rest = notes_shown (version_after w (see x)) later;
+      text = h.0;
+      begun = cut.0;
+      parts = ap (notes_shown v) (map-append see xs (x ∷ ys)) ∙ notes_more v ns (see x ∷ later) ∙ ap (λ (u : Version). notes_shown v ns ++ notes_shown u (see x ∷ later)) (sym e);
+      shown = h.1;
+      front = cut.1;
+      printed = Appends-trans a b c h.0 cut.0 h.2 cut.2;
+    }
 
 -- one note more
 pub notes_next : {X : Type 0} (v : Version) (see : X → Note) (xs : List X) (x : X) (w : Version) (a b c : Option (List ℕ)) → w ≡ versions_after v (map see xs) → Prints (notes_shown v (map see xs)) a b
@@ -126,13 +168,32 @@ module _ {b : Caller} {p : Place} {piece : List ℕ} {notes : List Note} {Now : 
     same = same_item;
   }
 
+-- the same of some of a piece, where a fault comes
+module _ {b : Caller} {p : Place} {piece : List ℕ} {notes : List Note} {whole : Bool} {Now : Rest → Type 0} (s : StandsAt b p) (h : FeedsPiece (with_item p.rest s.item) piece [] notes whole Now) where
+  told_some : notes_shown b.version notes ≡ shown_of p h.fed
+  told_some = ap (λ (v : Version). notes_shown v notes) s.at.version ∙ ap (notes_shown p.version) (h.told ∙ ap (λ (t : Tale). t.notes) (hears_alike p.rest s.item h.fed s.same))
+
+  pub heard_front : (x y : Option (List ℕ)) → PrintsPart (notes_shown b.version notes) x y → HearsFront p piece x y
+  heard_front x y k = record { heard = h.fed; rest = h.unheard; parts = sym h.parts; prints = subst (λ (z : List Shown). PrintsPart z x y) told_some k }
+
+-- a piece was heard as far as it was fed
+pub heard_ok : {b c : Caller} {p : Place} {piece : List ℕ} {notes : List Note} {Now : Rest → Type 0} (x y : Option (List ℕ)) (fed : Result (Unit {0}) StreamFault) → (s : StandsAt b p) → FeedsPiece (with_item p.rest s.item) piece [] notes (is_ok fed) Now → ((r : Rest) → Now r → Fits c.client r)
+    → c.version ≡ versions_after b.version notes → Prints (notes_shown b.version notes) x y → OnOk fed (StandsAt c (place_after p piece) × Prints (shown_of p piece) x y)
+heard_ok {c = c} x y (Ok done) s h now v k = (stands_heard s h {c = c} (now _ h.now) v, rw (← same_notes s h, ← s.at.version) k)
+heard_ok x y (Err fault) s h now v k = tt
+
+pub heard_err : {b : Caller} {p : Place} {piece : List ℕ} {notes : List Note} {Now : Rest → Type 0} (x y : Option (List ℕ)) (fed : Result (Unit {0}) StreamFault) → (s : StandsAt b p) → FeedsPiece (with_item p.rest s.item) piece [] notes (is_ok fed) Now → Prints (notes_shown b.version notes) x y
+    → OnErr fed (HearsFront p piece x y)
+heard_err x y (Ok done) s h k = tt
+heard_err x y (Err fault) s h k = heard_front s h x y (inl k)
+
 -- one piece after another
 place_more : (p : Place) (a b : List ℕ) → place_after p (a ++ b) ≡ place_after (place_after p a) b
 place_more p a b =
     ap (λ (v : Version). record p { rest = after_all p.rest (a ++ b); version = v }) (ap (λ (t : Tale). versions_after p.version t.notes) (hears_all-append p.rest a b) ∙ versions_more p.version (hears_all p.rest a).notes (hears_all (after_all p.rest a) b).notes)
     ∙ ap (λ (r : Rest). record p { rest = r; version = versions_after (versions_after p.version (hears_all p.rest a).notes) (hears_all (after_all p.rest a) b).notes }) (after_all-append p.rest a b)
 
-shown_more : (p : Place) (a b : List ℕ) → shown_of p (a ++ b) ≡ shown_of p a ++ shown_of (place_after p a) b
+pub shown_more : (p : Place) (a b : List ℕ) → shown_of p (a ++ b) ≡ shown_of p a ++ shown_of (place_after p a) b
 shown_more p a b =
     ap (λ (t : Tale). notes_shown p.version t.notes) (hears_all-append p.rest a b) ∙ notes_more p.version (hears_all p.rest a).notes (hears_all (after_all p.rest a) b).notes
 
@@ -160,7 +221,7 @@ module _ (S : Setting) (conn : ℕ) (ledger : List EntryView) where
       let more = said_more a b in
       more.1 ∙ ap (λ z. out ++ z) (sym (ap (drop (length out)) more.1 ∙ drop-append_seam out more.0))
 
-  answer_more : (s a b : List ℕ) → answer_to S conn ledger s (a ++ b) ≡ answer_to S conn ledger s a ++ answer_to S conn ledger (s ++ a) b
+  pub answer_more : (s a b : List ℕ) → answer_to S conn ledger s (a ++ b) ≡ answer_to S conn ledger s a ++ answer_to S conn ledger (s ++ a) b
   answer_more s a b =
       let out = (talk_for S conn ledger s).out in
       let first = answer_to S conn ledger s a in

@@ -4,7 +4,11 @@ pub mod Telling
 pub mod Stopping
 pub mod Talking
 pub mod Shelling
+pub mod Accounting
 pub mod Serving
 pub mod Turns
+pub mod Ways
+pub mod Passing
 pub mod Looping
+pub mod Breaking
 pub mod Prelude

@@ -1,8 +1,8 @@
 -- What a client and a server in one process print and leave.
-use Rattle.std.specs.Prelude.{◌≡◌, ◌⊎◌, ℕ, Bool, true, false, List, [], ◌∷◌, ◌++◌, codes, length, Option, Some, None, IsSome}
+use Rattle.std.specs.Prelude.{◌≡◌, ◌⊎◌, ◌≤◌, ℕ, Bool, false, List, [], ◌∷◌, ◌++◌, codes, length, Option, Some, None, IsSome}
 use Rattle.std.specs.Fmt.{decimal}
 use Rattle.std.specs.List.{flat_map}
-use Rattle.std.specs.Io.KnownBytes.{Appends, Consumes, IsAtEnd}
+use Rattle.std.specs.Io.KnownBytes.{Appends, Consumes}
 use Rattle.hex.specs.Hex.{encode_lower}
 use Rattle.wire.specs.Framing.{Opened, at_server}
 use Rattle.wire.specs.Reader.{state}
@@ -13,15 +13,20 @@ use Rattle.scripts.specs.Views.{ScriptRequestView}
 use Rattle.scripts.specs.declared.fault.ScriptFault.{ScriptFault}
 use Rattle.scripts.specs.Script.{filled_lines, unreadable, IsRefused}
 use Rattle.programs.specs.declared.caller.Caller.{Caller}
-use Rattle.programs.specs.declared.stop.Stop.{Stop}
-use Rattle.programs.specs.declared.stop.Stop.TheVariants.{Unreadable, Broken}
+use Rattle.programs.specs.declared.loops.Pair.{Pair}
+use Rattle.programs.specs.declared.stop.StopReason.{StopReason}
+use Rattle.programs.specs.declared.stop.StopReason.TheVariants.{Unreadable, Broken}
 use Rattle.programs.specs.Stopping.{Gets, stop_text}
 use Rattle.programs.specs.Talking.{Place, IsAt}
-use Rattle.programs.specs.Turns.{Shown, AreShown, Turns, AreQuiet, talk_for, turns_of}
+use Rattle.programs.specs.Telling.{IsFront}
+use Rattle.programs.specs.Turns.{Shown, IsShown, AreShown, shown_of, Turns, AreQuiet, talk_for, turns_of}
+use Rattle.programs.specs.Ways.{Ways}
+use Rattle.programs.specs.Passing.{Passes}
 use Rattle.server.specs.Serving.{Rest, opened}
 use Rattle.streams.specs.declared.fault.Standing.{Standing}
 use Rattle.streams.specs.declared.fault.Standing.TheVariants.{Open}
 use Rattle.streams.specs.Conversing.{Talk, with_talk}
+use Rattle.streams.specs.Limits.{max_piece}
 use Rattle.streams.specs.Settling.{Grows, standing_of}
 
 -- what ends the line of an entry: its token in hex, where it has one
@@ -39,7 +44,7 @@ abbrev pub entries_text : List EntryView → List ℕ
 entries_text es = flat_map entry_line es
 
 -- a stop at a line that can't be read has the number of the first such line
-abbrev pub Numbers : List ℕ → Stop → Type 0
+abbrev pub Numbers : List ℕ → StopReason → Type 0
 Numbers script (Unreadable n) = IsRefused request_line_of script (ScriptFault.Unreadable n)
 Numbers script (Broken fault) = Unit {0}
 
@@ -49,74 +54,56 @@ TellsLine script had_failed has_failed before after = (n : ℕ)
     × IsRefused request_line_of script (ScriptFault.Unreadable n)
     × Gets had_failed has_failed before after (stop_text (Unreadable n))
 
--- a source that gives no more: it has failed, or nothing is left of it
-abbrev pub GivesNoMore : Bool → Option (List ℕ) → Type 0
-GivesNoMore failed left = (failed ≡ true) ⊎ IsAtEnd left
-
 -- A line of the script can't be read, and nothing was run: all is as it was before.
-pub record RunsNothing {S A B O : Type 0} (script : List ℕ) (server server_now : S)
-    (near near_now : A) (far far_now : B) (out out_now : O) : Type 0 where
+pub record RunsNothing {S W : Type 0} (script : List ℕ) (server server_now : S) (ways ways_now : W)
+    : Type 0 where
   pub line : IsSome (unreadable request_line_of (filled_lines script))
   pub same_server : server_now ≡ server
-  pub same_near : near_now ≡ near
-  pub same_far : far_now ≡ far
-  pub same_out : out_now ≡ out
+  pub same_ways : ways_now ≡ ways
 
 -- No session was opened, or one, which lives on; the ledger has grown by some entries, or by none.
 abbrev pub HasLooped : {G : Type 0} → Rest G → (Rest G → Type 0) → Type 0
 HasLooped r Now = Now r ⊎ Grows (opened r) r.next Now
 
--- One way of a connection: the bytes that its sink took, and those that are left of its source, at the other end.
-pub record Way : Type 0 where
-  pub taken : Option (List ℕ)
-  pub left : Option (List ℕ)
-
--- a way on which so much was taken by the sink, and so much is left of the source
-abbrev pub way_at : Option (List ℕ) → Option (List ℕ) → Way
-way_at taken left = record { taken = taken; left = left }
-
--- The sink took these bytes, and the source gave them.
-pub record Passes (before after : Way) (bytes : List ℕ) : Type 0 where
-  pub took : Appends before.taken after.taken bytes
-  pub gave : Consumes before.left after.left bytes
-
--- The source gave other bytes than the sink took.
-pub record Alters (before after : Way) : Type 0 where
-  pub written : List ℕ
-  pub read : List ℕ
-  pub took : Appends before.taken after.taken written
-  pub gave : Consumes before.left after.left read
-  pub other : read ≡ written → ⊥
-
--- The streams of a loop: the way from the client to the session, the way back, and what is printed.
-pub record Ways : Type 0 where
-  pub up : Way
-  pub down : Way
-  pub out : Option (List ℕ)
-
--- both ways between the ends, and what was printed
-abbrev pub ways_at : Option (List ℕ) → Option (List ℕ) → Option (List ℕ) → Option (List ℕ)
-    → Option (List ℕ) → Ways
-ways_at near_taken far_left far_taken near_left out = record {
-  up = way_at near_taken far_left;
-  down = way_at far_taken near_left;
-  out = out;
-}
-
--- Bytes passed on both ways.
-abbrev pub Passed : Ways → Ways → Type 0
-Passed before after = ((bytes : List ℕ) × Passes before.up after.up bytes)
-    × ((bytes : List ℕ) × Passes before.down after.down bytes)
-
--- a source failed or gives no more, or other bytes came than were written
-abbrev pub FailsToRead : Bool → Bool → Ways → Ways → Type 0
-FailsToRead near_failed far_failed before after =
-    GivesNoMore near_failed after.down.left ⊎ GivesNoMore far_failed after.up.left
-    ⊎ Alters before.up after.up ⊎ Alters before.down after.down
-
 -- these are printed
 abbrev pub Prints : List Shown → Option (List ℕ) → Option (List ℕ) → Type 0
 Prints xs before after = (text : List ℕ) × AreShown xs text × Appends before after text
+
+-- so much is put out of what is to be printed next: nothing, or a beginning of its line
+abbrev pub IsFrontOf : Shown → List ℕ → Type 0
+IsFrontOf x begun = (begun ≡ []) ⊎ ((line : List ℕ) × IsShown x line × IsFront begun line)
+
+-- The first of these are printed, and a beginning of the next one's line: a fault came then.
+pub record PrintsUpTo (xs : List Shown) (before after : Option (List ℕ)) : Type 0 where
+  pub done : List Shown
+  pub next : Shown
+  pub rest : List Shown
+  pub text : List ℕ
+  pub begun : List ℕ
+  pub parts : xs ≡ done ++ next ∷ rest
+  pub shown : AreShown done text
+  pub front : IsFrontOf next begun
+  pub printed : Appends before after (text ++ begun)
+
+-- all of these are printed, or a fault came on the way
+abbrev pub PrintsPart : List Shown → Option (List ℕ) → Option (List ℕ) → Type 0
+PrintsPart xs before after = Prints xs before after ⊎ PrintsUpTo xs before after
+
+-- A fault came while a client heard these bytes: it has heard a beginning of them, and what is shown of that is printed, unless the fault came
+-- on the way.
+pub record HearsFront (p : Place) (bytes : List ℕ) (before after : Option (List ℕ)) : Type 0 where
+  pub heard : List ℕ
+  pub rest : List ℕ
+  pub parts : heard ++ rest ≡ bytes
+  pub prints : PrintsPart (shown_of p heard) before after
+
+-- The same of bytes that it read: at most 4,096 of them weren't heard.
+pub record ReadsFront (p : Place) (bytes : List ℕ) (left left_now before after : Option (List ℕ))
+    : Type 0 where
+  pub hears : HearsFront p bytes before after
+  pub unheard : List ℕ
+  pub read : Consumes left left_now (hears.heard ++ unheard)
+  pub few : length unheard ≤ max_piece
 
 -- The client stands there; of one that has ended it isn't said which item of its bytes isn't whole.
 pub record StandsAt (c : Caller) (p : Place) : Type 0 where
@@ -143,13 +130,13 @@ module _ {G : Type 0} (r : Rest G) (conn : ℕ) (S : Setting) where
     pub goes_on : standing ≡ Open → unfinished ≡ state at_server at_server.start sent
 
   -- Both have come so far, and all passed over the streams and is printed.
-  pub record Comes (start now : Ways) (t : Turns) (c : Caller) (Now : Rest G → Type 0)
-      (put_out : List ℕ) (standing : Standing) : Type 0 where
-    pub client : StandsAt c t.place
-    pub session : Sits Now t.sent put_out standing
-    pub up : Passes start.up now.up t.sent
-    pub down : Passes start.down now.down put_out
-    pub printed : Prints t.shown start.out now.out
+  pub record Comes (start now : Ways) (t : Turns) (pair : Pair) (Now : Rest G → Type 0) : Type 0
+    where
+      pub client : StandsAt pair.caller t.place
+      pub session : Sits Now t.sent pair.said.bytes.items pair.standing
+      pub up : Passes start.up now.up t.sent
+      pub down : Passes start.down now.down pair.said.bytes.items
+      pub printed : Prints t.shown start.out now.out
 
 module _ {G : Type 0} (r : Rest G) (S : Setting) (lines : List (ℕ × ScriptRequestView)) where
   -- how far a client comes with these lines, and a session on a server on which no other lives

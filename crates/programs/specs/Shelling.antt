@@ -16,8 +16,8 @@ use Rattle.scripts.specs.Script.{lines, filled_from, filled_lines}
 use Rattle.scripts.specs.Rows.{request_line_of}
 use Rattle.programs.specs.declared.caller.Caller.{Caller}
 use Rattle.programs.specs.declared.shells.Conversation.{Conversation}
-use Rattle.programs.specs.declared.stop.Stop.{Stop}
-use Rattle.programs.specs.declared.stop.Stop.TheVariants.{Unreadable, Broken}
+use Rattle.programs.specs.declared.stop.StopReason.{StopReason}
+use Rattle.programs.specs.declared.stop.StopReason.TheVariants.{Unreadable, Broken}
 use Rattle.programs.specs.Names.{refusal_code}
 use Rattle.programs.specs.Stopping.{Gets, IsStopOf, ends_with, said_of}
 use Rattle.programs.specs.Telling.{AreTold, IsBegun, IsCut, IsExplained, IsFront, refused_line, versions_after}
@@ -202,7 +202,7 @@ DoesLine start now done n line c (Err fault) =
 
 -- A line was done, unless it is empty; or it can't be read, and nothing was done; or a fault came.
 abbrev pub Sends : Streams → Streams → List (ℕ × Text) → ℕ → Text → Caller
-    → Result (Unit {0}) Stop → Type 0
+    → Result (Unit {0}) StopReason → Type 0
 Sends start now done n line c (Ok x) = Stands None start now (done ++ if_filled n line) (IsAt c)
 Sends start now done n line c (Err (Unreadable m)) =
     (m ≡ n) × (is_empty line ≡ false) × (request_line_of line ≡ None)
@@ -218,13 +218,13 @@ pub record Progress (start now : Streams) (script : List ℕ) (c : Conversation)
       ≡ done ++ filled_from c.number (lines (c.begun.items ++ more))
 
 -- the fault by which a conversation is broken off
-abbrev pub fault_in : Option Stop → Option StreamFault
+abbrev pub fault_in : Option StopReason → Option StreamFault
 fault_in None = None
 fault_in (Some (Unreadable n)) = None
 fault_in (Some (Broken fault)) = Some fault
 
 -- which lines of a script are done: all; or those before the first that can't be read; or a beginning of them
-abbrev pub AreDone : Option Stop → List (ℕ × Text) → List (ℕ × Text) → Type 0
+abbrev pub AreDone : Option StopReason → List (ℕ × Text) → List (ℕ × Text) → Type 0
 AreDone None all done = all ≡ done
 AreDone (Some (Unreadable n)) all done =
     (line : Text) × (rest : List (ℕ × Text)) × (all ≡ done ++ (n, line) ∷ rest)
@@ -232,26 +232,26 @@ AreDone (Some (Unreadable n)) all done =
 AreDone (Some (Broken fault)) all done = (rest : List (ℕ × Text)) × (all ≡ done ++ rest)
 
 -- So it went on the lines of a script, up to its end or to a stop.
-pub record Does (stop : Option Stop) (start now : Streams) (script : List ℕ) : Type 0 where
+pub record Does (stop : Option StopReason) (start now : Streams) (script : List ℕ) : Type 0 where
   pub done : List (ℕ × Text)
   pub lines : AreDone stop (filled_lines script) done
   pub stands : Stands (fault_in stop) start now done Anywhere
 
 -- A byte more of the input was done; or it stopped at it, before the bytes after it were looked at.
-abbrev pub TakesByte : Streams → Streams → List ℕ → ℕ → Conversation → Result (Unit {0}) Stop
+abbrev pub TakesByte : Streams → Streams → List ℕ → ℕ → Conversation → Result (Unit {0}) StopReason
     → Type 0
 TakesByte start now script byte c (Ok x) = Progress start now (script ++ byte ∷ []) c
 TakesByte start now script byte c (Err stop) =
     (more : List ℕ) → Does (Some stop) start now (script ++ byte ∷ more)
 
 -- a piece more of the input was done, or it stopped in it
-abbrev pub Takes : Streams → Streams → List ℕ → List ℕ → Conversation → Result (Unit {0}) Stop
+abbrev pub Takes : Streams → Streams → List ℕ → List ℕ → Conversation → Result (Unit {0}) StopReason
     → Type 0
 Takes start now script piece c (Ok x) = Progress start now (script ++ piece) c
 Takes start now script piece c (Err stop) = Does (Some stop) start now (script ++ piece)
 
 -- the input was read, to its end where nothing stops before, and its lines were done
-pub record Runs (stop : Option Stop) (before after : Option (List ℕ)) (start now : Streams)
+pub record Runs (stop : Option StopReason) (before after : Option (List ℕ)) (start now : Streams)
     : Type 0 where
   pub script : List ℕ
   pub read : Consumes before after script
@@ -263,7 +263,7 @@ pub record Runs (stop : Option Stop) (before after : Option (List ℕ)) (start n
 -- as the conversation over these lines has it. A stream is told to have failed only where one of them has.
 pub record Shells (status : ℕ) (read written : Type 0) (before after : Option (List ℕ))
     (start now : Streams) : Type 0 where
-  pub stop : Option Stop
+  pub stop : Option StopReason
   pub ends : status ≡ ends_with stop
   pub cause : IfSome stop (λ s. IsStopOf s read written)
   pub told : Option (List ℕ)

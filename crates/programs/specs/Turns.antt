@@ -87,6 +87,10 @@ module _ (S : Setting) (conn : ℕ) (ledger : List EntryView) where
   abbrev pub answer_to : List ℕ → List ℕ → List ℕ
   answer_to sent more = drop (length (talk_for sent).out) (talk_for (sent ++ more)).out
 
+  -- what it puts out for all that its client has to send
+  abbrev pub due : Turns → List ℕ
+  due t = answer_to t.sent t.place.rest.unsent
+
   -- The client has sent these bytes more, and hears what the session answers to them.
   abbrev pub given : Turns → List ℕ → Turns
   given t more = record {

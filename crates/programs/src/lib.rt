@@ -15,12 +15,14 @@ mod serves;
 mod shells;
 mod stop;
 mod summaries;
+mod ways;
 
 pub use escapes::escape;
-pub use loops::{Channel, run_loop};
+pub use loops::run_loop;
 pub use names::{cause_code, outcome_name, phase_name, refusal_code, state_name, version_name};
 pub use printed_lines::entry_text;
 pub use serves::{ServedOne, drain, serve_next};
 pub use shells::shell;
 pub use stop::put_fault;
 pub use summaries::summary;
+pub use ways::{BothWays, OneWay};

@@ -214,6 +214,8 @@ pub(crate) fn put_entries<O: Sink>(
 ) -> Result<(), StreamFault>
     ensures told { OnOk result (Appends (O.taken out.old) (O.taken out.new)
         (entries_text (entries_view entries.now))) }
+    ensures front { OnErr result (AppendsFront (O.taken out.old) (O.taken out.new)
+        (entries_text (entries_view entries.now))) }
     ensures read { IsErrOf result StreamFault.ReadFailed → ⊥ }
     ensures written { IsErrOf result StreamFault.WriteFailed → O.has_failed out.new ≡ true }
 {
@@ -229,6 +231,8 @@ pub(crate) fn put_entries<O: Sink>(
 fn put_entry<O: Sink>(alloc: Global, entry: &Entry, out: &mut O) -> Result<(), StreamFault>
     ensures told { OnOk result
         (Appends (O.taken out.old) (O.taken out.new) (entry_line (entry_view entry.now))) }
+    ensures front { OnErr result
+        (AppendsFront (O.taken out.old) (O.taken out.new) (entry_line (entry_view entry.now))) }
     ensures read { IsErrOf result StreamFault.ReadFailed → ⊥ }
     ensures written { IsErrOf result StreamFault.WriteFailed → O.has_failed out.new ≡ true }
 {

@@ -6,11 +6,12 @@ ghost use Rattle.scripts.specs.Views.{Text, script_request_view};
 ghost use Rattle.streams.specs.Failing.{StaysSound, UnlessTold};
 ghost use Rattle.streams.specs.Serving.{LetsRead};
 ghost use Rattle.programs.specs.Talking.{IsAt, IsServersTurn, Stands, Streams, first_place, streams_of};
+ghost use Rattle.programs.specs.Accounting.{Accounts};
 ghost use Rattle.programs.specs.Shelling.{Begins, DoesLine, IsAsked, IsTurnAfter, IsTurnWithin, Progress, Runs, Sends, Shells, Takes, TakesByte};
 
 use crate::caller::Caller;
 use crate::errors::greet;
-use crate::stop::{Stop, put_stop};
+use crate::stop::{StopReason, put_stop};
 use scripts::{LineFault, ScriptRequest, read_request};
 use std::alloc::Global;
 use streams::{MAX_PIECE, Peer, Sink, Source, StreamFault};
@@ -83,7 +84,7 @@ impl Conversation {
         sink: &mut T,
         out: &mut O,
         err: &mut E,
-    ) -> Result<(), Stop>
+    ) -> Result<(), StopReason>
         requires { LetsRead S.may_read (λ s. IsTurnWithin
             (streams_of S.left T.taken O.taken E.taken E.has_failed source.old sink.old out.old err.old)
             self.old (S.left s)) }
@@ -94,15 +95,15 @@ impl Conversation {
             → Takes start
             (streams_of S.left T.taken O.taken E.taken E.has_failed source.new sink.new out.new err.new)
             script piece.now self.new result }
-        ensures read { IsErrOf result (Stop.Broken StreamFault.ReadFailed)
+        ensures read { IsErrOf result (StopReason.Broken StreamFault.ReadFailed)
             → S.has_failed source.new ≡ true }
-        ensures written { IsErrOf result (Stop.Broken StreamFault.WriteFailed)
+        ensures written { IsErrOf result (StopReason.Broken StreamFault.WriteFailed)
             → (T.has_failed sink.new ≡ true) ⊎ (O.has_failed out.new ≡ true) }
-        ensures source { UnlessTold result (Stop.Broken StreamFault.ReadFailed)
+        ensures source { UnlessTold result (StopReason.Broken StreamFault.ReadFailed)
             (StaysSound (S.has_failed source.old) (S.has_failed source.new)) }
-        ensures sink { UnlessTold result (Stop.Broken StreamFault.WriteFailed)
+        ensures sink { UnlessTold result (StopReason.Broken StreamFault.WriteFailed)
             (StaysSound (T.has_failed sink.old) (T.has_failed sink.new)) }
-        ensures out { UnlessTold result (Stop.Broken StreamFault.WriteFailed)
+        ensures out { UnlessTold result (StopReason.Broken StreamFault.WriteFailed)
             (StaysSound (O.has_failed out.old) (O.has_failed out.new)) }
     {
         for byte in piece {
@@ -122,7 +123,7 @@ impl Conversation {
         sink: &mut T,
         out: &mut O,
         err: &mut E,
-    ) -> Result<(), Stop>
+    ) -> Result<(), StopReason>
         requires { LetsRead S.may_read (λ s. IsTurnWithin
             (streams_of S.left T.taken O.taken E.taken E.has_failed source.old sink.old out.old err.old)
             self.old (S.left s)) }
@@ -133,21 +134,21 @@ impl Conversation {
             → TakesByte start
             (streams_of S.left T.taken O.taken E.taken E.has_failed source.new sink.new out.new err.new)
             script byte self.new result }
-        ensures read { IsErrOf result (Stop.Broken StreamFault.ReadFailed)
+        ensures read { IsErrOf result (StopReason.Broken StreamFault.ReadFailed)
             → S.has_failed source.new ≡ true }
-        ensures written { IsErrOf result (Stop.Broken StreamFault.WriteFailed)
+        ensures written { IsErrOf result (StopReason.Broken StreamFault.WriteFailed)
             → (T.has_failed sink.new ≡ true) ⊎ (O.has_failed out.new ≡ true) }
-        ensures source { UnlessTold result (Stop.Broken StreamFault.ReadFailed)
+        ensures source { UnlessTold result (StopReason.Broken StreamFault.ReadFailed)
             (StaysSound (S.has_failed source.old) (S.has_failed source.new)) }
-        ensures sink { UnlessTold result (Stop.Broken StreamFault.WriteFailed)
+        ensures sink { UnlessTold result (StopReason.Broken StreamFault.WriteFailed)
             (StaysSound (T.has_failed sink.old) (T.has_failed sink.new)) }
-        ensures out { UnlessTold result (Stop.Broken StreamFault.WriteFailed)
+        ensures out { UnlessTold result (StopReason.Broken StreamFault.WriteFailed)
             (StaysSound (O.has_failed out.old) (O.has_failed out.new)) }
     {
         if byte != b'\n' {
             return match self.begun.push(byte) {
                 Ok(()) => Ok(()),
-                Err(_) => Err(Stop::Broken(StreamFault::Memory)),
+                Err(_) => Err(StopReason::Broken(StreamFault::Memory)),
             };
         }
         match self.send(source, sink, out, err) {
@@ -155,7 +156,7 @@ impl Conversation {
             Err(stop) => return Err(stop),
         }
         let Some(next) = self.number.checked_add(1) else {
-            return Err(Stop::Broken(StreamFault::Memory));
+            return Err(StopReason::Broken(StreamFault::Memory));
         };
         self.begun.clear();
         self.number = next;
@@ -169,7 +170,7 @@ impl Conversation {
         sink: &mut T,
         out: &mut O,
         err: &mut E,
-    ) -> Result<(), Stop>
+    ) -> Result<(), StopReason>
         requires { LetsRead S.may_read (λ s. IsTurnAfter
             (streams_of S.left T.taken O.taken E.taken E.has_failed source.old sink.old out.old err.old)
             self.old.caller (S.left s)) }
@@ -182,15 +183,15 @@ impl Conversation {
             done self.old.number self.old.begun.items self.new.caller result }
         ensures begun { self.new.begun ≡ self.old.begun }
         ensures number { self.new.number ≡ self.old.number }
-        ensures read { IsErrOf result (Stop.Broken StreamFault.ReadFailed)
+        ensures read { IsErrOf result (StopReason.Broken StreamFault.ReadFailed)
             → S.has_failed source.new ≡ true }
-        ensures written { IsErrOf result (Stop.Broken StreamFault.WriteFailed)
+        ensures written { IsErrOf result (StopReason.Broken StreamFault.WriteFailed)
             → (T.has_failed sink.new ≡ true) ⊎ (O.has_failed out.new ≡ true) }
-        ensures source { UnlessTold result (Stop.Broken StreamFault.ReadFailed)
+        ensures source { UnlessTold result (StopReason.Broken StreamFault.ReadFailed)
             (StaysSound (S.has_failed source.old) (S.has_failed source.new)) }
-        ensures sink { UnlessTold result (Stop.Broken StreamFault.WriteFailed)
+        ensures sink { UnlessTold result (StopReason.Broken StreamFault.WriteFailed)
             (StaysSound (T.has_failed sink.old) (T.has_failed sink.new)) }
-        ensures out { UnlessTold result (Stop.Broken StreamFault.WriteFailed)
+        ensures out { UnlessTold result (StopReason.Broken StreamFault.WriteFailed)
             (StaysSound (O.has_failed out.old) (O.has_failed out.new)) }
     {
         if self.begun.is_empty() {
@@ -198,12 +199,12 @@ impl Conversation {
         }
         let request = match read_request(self.alloc, self.begun.as_slice()) {
             Ok(request) => request,
-            Err(LineFault::Unreadable) => return Err(Stop::Unreadable(self.number)),
-            Err(LineFault::Memory) => return Err(Stop::Broken(StreamFault::Memory)),
+            Err(LineFault::Unreadable) => return Err(StopReason::Unreadable(self.number)),
+            Err(LineFault::Memory) => return Err(StopReason::Broken(StreamFault::Memory)),
         };
         match self.submit(request, source, sink, out, err) {
             Ok(()) => Ok(()),
-            Err(fault) => Err(Stop::Broken(fault)),
+            Err(fault) => Err(StopReason::Broken(fault)),
         }
     }
 
@@ -255,38 +256,38 @@ fn run<I: Source, S: Peer, T: Sink, O: Sink, E: Sink>(
     sink: &mut T,
     out: &mut O,
     err: &mut E,
-) -> Result<(), Stop>
+) -> Result<(), StopReason>
     requires { LetsRead S.may_read (λ s. IsServersTurn
         (streams_of S.left T.taken O.taken E.taken E.has_failed source.old sink.old out.old err.old)
         (S.left s)) }
     ensures runs { Runs (result_err result) (I.left input.old) (I.left input.new)
         (streams_of S.left T.taken O.taken E.taken E.has_failed source.old sink.old out.old err.old)
         (streams_of S.left T.taken O.taken E.taken E.has_failed source.new sink.new out.new err.new) }
-    ensures read { IsErrOf result (Stop.Broken StreamFault.ReadFailed)
+    ensures read { IsErrOf result (StopReason.Broken StreamFault.ReadFailed)
         → (I.has_failed input.new ≡ true) ⊎ (S.has_failed source.new ≡ true) }
-    ensures written { IsErrOf result (Stop.Broken StreamFault.WriteFailed)
+    ensures written { IsErrOf result (StopReason.Broken StreamFault.WriteFailed)
         → (T.has_failed sink.new ≡ true) ⊎ (O.has_failed out.new ≡ true) }
-    ensures input { UnlessTold result (Stop.Broken StreamFault.ReadFailed)
+    ensures input { UnlessTold result (StopReason.Broken StreamFault.ReadFailed)
         (StaysSound (I.has_failed input.old) (I.has_failed input.new)) }
-    ensures source { UnlessTold result (Stop.Broken StreamFault.ReadFailed)
+    ensures source { UnlessTold result (StopReason.Broken StreamFault.ReadFailed)
         (StaysSound (S.has_failed source.old) (S.has_failed source.new)) }
-    ensures sink { UnlessTold result (Stop.Broken StreamFault.WriteFailed)
+    ensures sink { UnlessTold result (StopReason.Broken StreamFault.WriteFailed)
         (StaysSound (T.has_failed sink.old) (T.has_failed sink.new)) }
-    ensures out { UnlessTold result (Stop.Broken StreamFault.WriteFailed)
+    ensures out { UnlessTold result (StopReason.Broken StreamFault.WriteFailed)
         (StaysSound (O.has_failed out.old) (O.has_failed out.new)) }
 {
     let mut conversation = match Conversation::new(alloc) {
         Ok(conversation) => conversation,
-        Err(fault) => return Err(Stop::Broken(fault)),
+        Err(fault) => return Err(StopReason::Broken(fault)),
     };
     match conversation.begin(source, sink, out, err) {
         Ok(()) => {}
-        Err(fault) => return Err(Stop::Broken(fault)),
+        Err(fault) => return Err(StopReason::Broken(fault)),
     }
     let mut buffer = [0; MAX_PIECE];
     loop {
         let Ok(len) = input.read(&mut buffer) else {
-            return Err(Stop::Broken(StreamFault::ReadFailed));
+            return Err(StopReason::Broken(StreamFault::ReadFailed));
         };
         if len == 0 {
             return conversation.send(source, sink, out, err);
@@ -328,6 +329,11 @@ pub fn shell<I: Source, S: Peer, T: Sink, O: Sink, E: Sink>(
     ensures shells { Shells result ((I.has_failed input.new ≡ true) ⊎ (S.has_failed source.new ≡ true))
         ((T.has_failed sink.new ≡ true) ⊎ (O.has_failed out.new ≡ true)) (I.left input.old)
         (I.left input.new)
+        (streams_of S.left T.taken O.taken E.taken E.has_failed source.old sink.old out.old err.old)
+        (streams_of S.left T.taken O.taken E.taken E.has_failed source.new sink.new out.new err.new) }
+    // Whatever ends it, each request that was sent has one line, `heard` or `lost` with its ordinal, on standard output or on standard error;
+    // but for a GOODBYE to which no answer is awaited.
+    ensures accounts { Accounts
         (streams_of S.left T.taken O.taken E.taken E.has_failed source.old sink.old out.old err.old)
         (streams_of S.left T.taken O.taken E.taken E.has_failed source.new sink.new out.new err.new) }
     // A stream that fails is told so, with status 1: none fails where another is answered.

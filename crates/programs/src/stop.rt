@@ -8,32 +8,43 @@ use streams::{Sink, StreamFault};
 
 /// Why a program stops before its lines end.
 #[derive(Clone, Copy, Debug, PartialEq, Eq)]
-pub(crate) enum Stop {
+pub(crate) enum StopReason {
     /// The line of this number, from 1, can't be read.
     Unreadable(usize),
     /// A stream has failed, or there is no memory.
     Broken(StreamFault),
 }
 
+impl From<StreamFault> for StopReason {
+    ghost use Rattle.std.specs.Prelude.{◌≡◌};
+    ghost use Rattle.programs.specs.declared.stop.StopReason.{StopReason};
+
+    ghost from_gives = { λ fault stop. stop ≡ StopReason.Broken fault };
+
+    fn from(fault: StreamFault) -> StopReason {
+        StopReason::Broken(fault)
+    }
+}
+
 /// Writes why a program stops, of a line that can't be read also what is expected there, and answers its exit status: 2 for such a line, 1 for a
 /// stream that has failed, 3 for want of memory. It takes no memory.
-pub(crate) fn put_stop<E: Sink>(stop: Stop, err: &mut E) -> u8
+pub(crate) fn put_stop<E: Sink>(stop: StopReason, err: &mut E) -> u8
     ensures status { result ≡ stop_status stop }
     ensures text { Gets (E.has_failed err.old) (E.has_failed err.new) (E.taken err.old)
         (E.taken err.new) (stop_text stop) }
 {
     match stop {
-        Stop::Unreadable(number) => {
+        StopReason::Unreadable(number) => {
             put_unreadable(number, err);
             2
         }
-        Stop::Broken(fault) => put_fault(fault, err),
+        StopReason::Broken(fault) => put_fault(fault, err),
     }
 }
 
 fn put_unreadable<E: Sink>(number: usize, err: &mut E)
     ensures { Gets (E.has_failed err.old) (E.has_failed err.new) (E.taken err.old)
-        (E.taken err.new) (stop_text (Stop.Unreadable number)) }
+        (E.taken err.new) (stop_text (StopReason.Unreadable number)) }
 {
     let mut digits = Buffer::new();
     tell(b"line ", err);
@@ -46,9 +57,9 @@ fn put_unreadable<E: Sink>(number: usize, err: &mut E)
 
 /// Writes a fault on a line, `fault I1` and the like, and answers the exit status: 3 for want of memory, else 1. It takes no memory.
 pub fn put_fault<E: Sink>(fault: StreamFault, err: &mut E) -> u8
-    ensures status { result ≡ stop_status (Stop.Broken fault) }
+    ensures status { result ≡ stop_status (StopReason.Broken fault) }
     ensures text { Gets (E.has_failed err.old) (E.has_failed err.new) (E.taken err.old)
-        (E.taken err.new) (stop_text (Stop.Broken fault)) }
+        (E.taken err.new) (stop_text (StopReason.Broken fault)) }
 {
     match fault {
         StreamFault::ReadFailed => put(b"fault I1\n", 1, err),

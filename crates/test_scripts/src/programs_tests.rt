@@ -314,28 +314,22 @@ fn loops(
     far: &TcpStream,
     case: &Case,
 ) -> Result<(), Fail> {
-    let mut near = Channel {
-        source: Over::new(near),
-        sink: Over::new(near),
-    };
-    let mut far = Channel {
-        source: Over::new(far),
-        sink: Over::new(far),
+    let mut ways = BothWays {
+        up: OneWay {
+            sink: Over::new(near),
+            source: Over::new(far),
+        },
+        down: OneWay {
+            sink: Over::new(far),
+            source: Over::new(near),
+        },
+        out: Buffer::new(Vec::new(rt.alloc())),
     };
     let mut server = served(rt.alloc())?;
-    let mut out = Buffer::new(Vec::new(rt.alloc()));
     let mut err = Buffer::new(Vec::new(rt.alloc()));
-    let status = run_loop(
-        rt.alloc(),
-        &mut server,
-        case.lines,
-        &mut near,
-        &mut far,
-        &mut out,
-        &mut err,
-    );
+    let status = run_loop(rt.alloc(), &mut server, case.lines, &mut ways, &mut err);
     assert_eq!(rt; status, case.status);
-    assert_eq!(rt; out.bytes(), case.out.as_bytes());
+    assert_eq!(rt; ways.out.bytes(), case.out.as_bytes());
     assert_eq!(rt; err.bytes(), case.err.as_bytes());
     Ok(())
 }

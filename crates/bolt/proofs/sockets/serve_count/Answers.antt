@@ -7,7 +7,7 @@ use Rattle.bolt.proofs.Served.{served_none, served_one}
 use Rattle.bolt.proofs.sockets.serve_count.Goals as goal
 
 pub loop-init : goal.loop-init
-loop-init g c = record { serving = c.in_ok-server.ensures.new; told = served_none (g.O.Sink.taken c.args.out.now) (g.O.Sink.taken c.put_listening.new.out) c.args.port c.in_ok-put_listening.ensures.told }
+loop-init g c = let s = c.in_ok-server.ensures.new in record { serving = record { rest = _; fits = s.fits; idle = refl; number = refl }; told = served_none (g.O.Sink.taken c.args.out.now) (g.O.Sink.taken c.put_listening.new.out) c.args.port c.in_ok-put_listening.ensures.told }
 
 pub serve_next-requires : goal.serve_next-requires
 serve_next-requires g c = let s = c.loop.invariant.serving in (s.rest, s.fits, s.idle)

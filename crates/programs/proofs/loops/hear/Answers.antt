@@ -1,11 +1,23 @@
-use Rattle.std.proofs.Common.{◌≡◌, [], ap, map}
+use Rattle.std.proofs.Common.{◌≡◌, [], ap, map, inr}
 use Rattle.client.specs.Prelude.{note}
-use Rattle.programs.proofs.Looped.{on_ok_both}
-use Rattle.programs.proofs.Turned.{same_notes, stands_heard, with_item}
+use Rattle.programs.proofs.Looped.{on_err_so}
+use Rattle.programs.proofs.Turned.{heard_err, heard_front, heard_ok, with_item}
 use Rattle.programs.proofs.loops.hear.Goals as goal
+
+pub returns-in_err-put_all-clause-breaks : goal.returns-in_err-put_all-clause-breaks
+returns-in_err-put_all-clause-breaks g c = λ p s.
+    let none : map note c.new-heard.result.items ≡ [] = ap (map note) c.new-heard.ensures.items in
+    let h = rw none at (c.feed_piece-fed.ensures.feeds (with_item p.rest s.item) s.at.fits) in
+    on_err_so c.from_residual.result (heard_front s h (g.O.Sink.taken c.args.out.now) (g.O.Sink.taken c.put_all.new.out) (inr c.in_err-put_all.ensures.breaks))
 
 pub returns-clause-hears : goal.returns-clause-hears
 returns-clause-hears g c = λ p s.
     let none : map note c.new-heard.result.items ≡ [] = ap (map note) c.new-heard.ensures.items in
-    let h = rw none at (c.in-Ok.ensures.feeds (with_item p.rest s.item) s.at.fits) in
-    on_ok_both c.put_all.result _ _ _ (λ k v. (stands_heard s h {c = c.put_all.new.caller} (rw c.put_all.ensures.client h.now) v, rw (← same_notes s h, ← s.at.version) k)) c.put_all.ensures.prints c.put_all.ensures.version
+    let h = rw none at (c.feed_piece-fed.ensures.feeds (with_item p.rest s.item) s.at.fits) in
+    heard_ok {c = c.put_all.new.caller} (g.O.Sink.taken c.args.out.now) (g.O.Sink.taken c.put_all.new.out) c.feed_piece-fed.result s h (λ r f. rw c.put_all.ensures.client f) c.in_ok-put_all.ensures.version c.in_ok-put_all.ensures.prints
+
+pub returns-clause-breaks : goal.returns-clause-breaks
+returns-clause-breaks g c = λ p s.
+    let none : map note c.new-heard.result.items ≡ [] = ap (map note) c.new-heard.ensures.items in
+    let h = rw none at (c.feed_piece-fed.ensures.feeds (with_item p.rest s.item) s.at.fits) in
+    heard_err (g.O.Sink.taken c.args.out.now) (g.O.Sink.taken c.put_all.new.out) c.feed_piece-fed.result s h c.in_ok-put_all.ensures.prints

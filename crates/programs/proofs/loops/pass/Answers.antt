@@ -6,18 +6,18 @@ use Rattle.programs.proofs.loops.pass.Goals as goal
 pub returns-clause-passes : goal.returns-clause-passes
 returns-clause-passes g c =
     let read : c.as_slice.result.now ≡ c.read_known.new.buffer = c.as_slice.ensures.value ∙ take_at c.read_known.new.buffer _ c.in-Ok.part.len (search rules) in
-    record {
+    rw (← c.way.view_is) (record {
       took = search rules;
-      gave = subst (Consumes (g.S.Source.left c.args.source.now) (g.S.Source.left c.read_known.new.source)) (sym read ∙ same_then c.as_slice.result.now c.args.bytes.now (sym c.ne.ensures ∙ c.if-ne.false)) c.in-Ok-read_known.ensures.reads;
-    }
+      gave = subst (Consumes (g.S.Peer.left c.way.inside.source) (g.S.Peer.left c.read_known.new.source)) (sym read ∙ same_then c.as_slice.result.now c.args.bytes.now (sym c.ne.ensures ∙ c.if-ne.false)) c.in_ok-read_known.ensures.reads;
+    })
 
 pub returns-then-ne-clause-read : goal.returns-then-ne-clause-read
 returns-then-ne-clause-read g c = λ e.
     let read : c.as_slice.result.now ≡ c.read_known.new.buffer = c.as_slice.ensures.value ∙ take_at c.read_known.new.buffer _ c.in-Ok.part.len (search rules) in
-    inr (record {
+    rw (← c.way.view_is) (inr (record {
       written = c.args.bytes.now;
       read = c.as_slice.result.now;
       took = search rules;
-      gave = subst (Consumes (g.S.Source.left c.args.source.now) (g.S.Source.left c.read_known.new.source)) (sym read) c.in-Ok-read_known.ensures.reads;
+      gave = subst (Consumes (g.S.Peer.left c.way.inside.source) (g.S.Peer.left c.read_known.new.source)) (sym read) c.in_ok-read_known.ensures.reads;
       other = other_then c.as_slice.result.now c.args.bytes.now (sym c.ne.ensures ∙ c.if-ne.true);
-    })
+    }))

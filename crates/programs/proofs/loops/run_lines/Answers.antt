@@ -1,25 +1,34 @@
-use Rattle.std.proofs.Common.{◌∙◌, ◌++◌, ◌∷◌, [], append_assoc, rules, sym, ap, subst, List, ℕ}
+use Rattle.std.proofs.Common.{◌≡◌, ◌∙◌, ◌++◌, ◌∷◌, [], append_assoc, rules, sym, ap, subst, List, ℕ, Err}
 use Rattle.std.proofs.lemmas.List.{map-append, nil_from_length}
 use Rattle.server.specs.Prelude.{setting, Fits}
 use Rattle.scripts.specs.Prelude.{said_requests, ScriptRequestView, script_request_view}
 use Rattle.streams.proofs.Called.{lives_then}
 use Rattle.streams.proofs.Parts.{all_done}
-use Rattle.programs.specs.Prelude.{Comes, ways_at, AreQuiet, Turns, after_lines, exchanged}
-use Rattle.programs.proofs.Looped.{fails_after, passed_then}
+use Rattle.programs.specs.Prelude.{Comes, AreQuiet, Turns, after_lines, at_first, at_line, exchanged, no_turns, turns_of}
+use Rattle.programs.proofs.Looped.{fails_after, lets_after, on_err_so, passed_then}
 use Rattle.programs.proofs.Turned.{lines_more, quiet_last, quiet_more}
 use Rattle.programs.proofs.loops.run_lines.Goals as goal
+
+pub returns-in_err-exchange-clause-breaks : goal.returns-in_err-exchange-clause-breaks
+returns-in_err-exchange-clause-breaks g c = λ r start i h. on_err_so c.from_residual.result (at_first (c.in_err-exchange.ensures.breaks r start no_turns i h))
 
 pub loop-line-init : goal.loop-line-init
 loop-line-init g c = record {
   live = c.exchange.ensures.live;
   grows = c.exchange.ensures.grows;
-  passed = c.in-Ok.ensures.passed;
+  passed = c.in_ok-exchange.ensures.passed;
   parts = c.into_iter-line-iterator.ensures.into_iter_gives.0;
-  comes = λ r start t i h. c.in-Ok.ensures.comes r start t i h;
+  comes = λ r start i h. c.in_ok-exchange.ensures.comes r start no_turns i h;
 }
 
-pub run_line-requires : goal.run_line-requires
-run_line-requires g c = c.loop-line.invariant.live
+pub run_line-requires-clause-live : goal.run_line-requires-clause-live
+run_line-requires-clause-live g c = c.loop-line.invariant.live
+
+pub run_line-requires-clause-near : goal.run_line-requires-clause-near
+run_line-requires-clause-near g c = lets_after c.loop-line.invariant.passed.1 c.requires.near
+
+pub run_line-requires-clause-far : goal.run_line-requires-clause-far
+run_line-requires-clause-far g c = lets_after c.loop-line.invariant.passed.0 c.requires.far
 
 pub loop-line-preserved : goal.loop-line-preserved
 loop-line-preserved g c =
@@ -28,27 +37,42 @@ loop-line-preserved g c =
     record {
       live = c.run_line.ensures.live;
       grows = lives_then c.args.conn (Fits g.E.Engine.entries c.args.server.now) (Fits g.E.Engine.entries c.loop-line.server) (Fits g.E.Engine.entries c.run_line.new.server) so.grows c.run_line.ensures.grows;
-      passed = passed_then so.passed c.in-Ok-run_line.ensures.passed;
+      passed = passed_then c.args.ways.now.at c.loop-line.ways.at c.run_line.new.ways.at so.passed c.in_ok-run_line.ensures.passed;
       parts = append_assoc done (c.in-Some.line ∷ []) c.next.new.self.rest.items ∙ ap (λ xs. done ++ xs) (sym c.in-Some.ensures.steps.0) ∙ so.parts;
-      comes = λ r start t i h.
-          let p = so.comes r start t i h in
+      comes = λ r start i h.
+          let p = so.comes r start i h in
           let S = setting g.E.Engine.answer g.G.Gate.accepts r in
-          let is = ways_at (g.B.Sink.taken c.run_line.new.near.sink) (g.C.Source.left c.run_line.new.far.source) (g.D.Sink.taken c.run_line.new.far.sink) (g.A.Source.left c.run_line.new.near.source) (g.O.Sink.taken c.run_line.new.out) in
-          let Came = λ (n : Turns). Comes r c.args.conn S start is n c.run_line.new.pair.caller (Fits g.E.Engine.entries c.run_line.new.server) c.run_line.new.pair.said.bytes.items c.run_line.new.pair.standing in
-          let first = exchanged S c.args.conn r.ledger t in
+          let Came = λ (n : Turns). Comes r c.args.conn S start c.run_line.new.ways.at n c.run_line.new.pair (Fits g.E.Engine.entries c.run_line.new.server) in
+          let first = exchanged S c.args.conn r.ledger no_turns in
           let ls = said_requests done in
           let one : ℕ × ScriptRequestView = (c.in-Some.line.number, script_request_view c.in-Some.line.said) in
-          let n = c.in-Ok-run_line.ensures.comes r start (after_lines S c.args.conn r.ledger first ls) i p.0 in
+          let n = c.in_ok-run_line.ensures.comes r start (after_lines S c.args.conn r.ledger first ls) i p.0 in
           subst (λ (z : List (ℕ × ScriptRequestView)). Came (after_lines S c.args.conn r.ledger first z) × AreQuiet S c.args.conn r.ledger first z) (sym (map-append (λ l. (l.number, script_request_view l.said)) done (c.in-Some.line ∷ [])))
           (subst Came (sym (lines_more S c.args.conn r.ledger first ls one)) n.0, quiet_more S c.args.conn r.ledger first ls one p.1 (n.1 (quiet_last S c.args.conn r.ledger first ls p.1)));
     }
 
-pub returns-in-Err-run_line-clause-grows : goal.returns-in-Err-run_line-clause-grows
-returns-in-Err-run_line-clause-grows g c = lives_then c.args.conn (Fits g.E.Engine.entries c.args.server.now) (Fits g.E.Engine.entries c.loop-line.server) (Fits g.E.Engine.entries c.run_line.new.server) c.loop-line.invariant.grows c.run_line.ensures.grows
+pub returns-in_err-run_line-clause-grows : goal.returns-in_err-run_line-clause-grows
+returns-in_err-run_line-clause-grows g c = lives_then c.args.conn (Fits g.E.Engine.entries c.args.server.now) (Fits g.E.Engine.entries c.loop-line.server) (Fits g.E.Engine.entries c.run_line.new.server) c.loop-line.invariant.grows c.run_line.ensures.grows
 
-pub returns-in-Err-run_line-clause-read : goal.returns-in-Err-run_line-clause-read
-returns-in-Err-run_line-clause-read g c = λ e. fails_after c.loop-line.invariant.passed (c.in-Err-run_line.ensures.read e)
+pub returns-in_err-run_line-clause-read : goal.returns-in_err-run_line-clause-read
+returns-in_err-run_line-clause-read g c = λ e.
+    let q : c.from_residual-in_err-run_line.result ≡ Err c.in_err-run_line.field-0.0 = search rules in
+    fails_after c.args.ways.now.at c.loop-line.ways.at c.run_line.new.ways.at c.loop-line.invariant.passed (c.in_err-run_line.ensures.read (sym q ∙ e))
+
+pub returns-in_err-run_line-clause-breaks : goal.returns-in_err-run_line-clause-breaks
+returns-in_err-run_line-clause-breaks g c = λ r start i h.
+    let so = c.loop-line.invariant in
+    let done = c.loop-line.yielded in
+    let p = so.comes r start i h in
+    let S = setting g.E.Engine.answer g.G.Gate.accepts r in
+    let line = c.in-Some.line in
+    let rest = c.next.new.self.rest.items in
+    let all : done ++ (line ∷ rest) ≡ c.args.lines.items = ap (λ xs. done ++ xs) (sym c.in-Some.ensures.steps.0) ∙ so.parts in
+    on_err_so c.from_residual-in_err-run_line.result (at_line (said_requests done) (line.number, script_request_view line.said) (said_requests rest)
+    (ap said_requests (sym all) ∙ map-append (λ l. (l.number, script_request_view l.said)) done (line ∷ rest))
+    (c.in_err-run_line.ensures.breaks r start (turns_of S c.args.conn r.ledger (said_requests done)) i p.0))
 
 pub returns-clause-comes : goal.returns-clause-comes
-returns-clause-comes g c = λ r start t i h.
-    rw (← all_done c.loop-line.yielded c.loop-line.line-iterator.rest.items c.args.lines.items (nil_from_length c.loop-line.line-iterator.rest.items (search rules)) c.loop-line.invariant.parts) (c.loop-line.invariant.comes r start t i h)
+returns-clause-comes g c = λ r start i h.
+    let so = c.loop-line.invariant in
+    rw (← all_done c.loop-line.yielded c.loop-line.line-iterator.rest.items c.args.lines.items (nil_from_length c.loop-line.line-iterator.rest.items (search rules)) so.parts) (so.comes r start i h)

@@ -2,7 +2,7 @@ use Rattle.std.proofs.Common.{◌++◌, [], ◌<◌, append-nil, length, subst, 
 use Rattle.std.specs.Io.KnownBytes.{Consumes}
 use Rattle.std.proofs.KnownBytes.{Consumes-kept, Consumes-trans}
 use Rattle.streams.specs.declared.fault.StreamFault.TheVariants.{ReadFailed, WriteFailed}
-use Rattle.programs.specs.declared.stop.Stop.TheVariants.{Broken}
+use Rattle.programs.specs.declared.stop.StopReason.TheVariants.{Broken}
 use Rattle.programs.proofs.Followed.{at_end, nothing_done, runs_at_first, runs_to_end, stops_behind, turn_first}
 use Rattle.programs.proofs.Stops.{never_err, unless_so, unless_stops, unless_then}
 use Rattle.programs.proofs.shells.run.Goals as goal
