@@ -85,42 +85,45 @@ fn unmade_values(rt: HostRuntime) {
 }
 
 /// Bytes as a value, so many.
-fn bytes_of(alloc: Global, count: usize) -> Result<Packed, Fail> {
-    let bytes = vec![in alloc; 7u8; count]?;
-    Ok(Packed::new(Value::Bytes(bytes))?)
+fn bytes_of(alloc: Global, count: usize) -> Option<Packed> {
+    let bytes = vec![in alloc; 7u8; count].ok()?;
+    Packed::new(Value::Bytes(bytes)).ok()
 }
 
 /// A list of twice so many.
-fn both(alloc: Global, count: usize) -> Result<Packed, Fail> {
-    let bytes = vec![in alloc; 7u8; count]?;
-    let copy = bytes.clone()?;
-    let both = vec![in alloc; Value::Bytes(bytes), Value::Bytes(copy)]?;
-    Ok(Packed::new(Value::List(both))?)
+fn both(alloc: Global, count: usize) -> Option<Packed> {
+    let bytes = vec![in alloc; 7u8; count].ok()?;
+    let copy = bytes.clone().ok()?;
+    let both = vec![in alloc; Value::Bytes(bytes), Value::Bytes(copy)].ok()?;
+    Packed::new(Value::List(both)).ok()
 }
 
 /// Whether the value has this size, 65,537 where it is too large, and is put behind what there is; or is refused, and what there is stays.
-fn is_put(packed: &Packed, out: &mut BytesMut, bytes: usize) -> bool {
+fn is_put(made: Option<Packed>, out: &mut BytesMut, bytes: usize) -> bool {
+    let Some(packed) = made else {
+        return false;
+    };
     let before = out.len();
-    let is_told = match encode(packed, out) {
+    let is_told = match encode(&packed, out) {
         Ok(()) => bytes <= 65_536 && out.len() == before.saturating_add(bytes),
         Err(PackFault::Refused(Reason::Size, 0)) => bytes > 65_536 && out.len() == before,
         Err(_) => false,
     };
-    is_told && size(packed) == bytes
+    is_told && size(&packed) == bytes
 }
 
 /// The largest size; then, behind a byte, sizes past the limit, and one that is none.
 #[test]
-fn sizes(rt: HostRuntime) -> Result<(), Fail> {
-    let mut out = BytesMut::new(rt.alloc());
-    assert!(rt; is_put(&bytes_of(rt.alloc(), 65_533)?, &mut out, 65_536));
+fn sizes(rt: HostRuntime) {
+    let alloc = rt.alloc();
+    let mut out = BytesMut::new(alloc);
+    assert!(rt; is_put(bytes_of(alloc, 65_533), &mut out, 65_536));
     out.truncate(1);
-    assert!(rt; is_put(&bytes_of(rt.alloc(), 65_534)?, &mut out, 65_537));
-    assert!(rt; is_put(&both(rt.alloc(), 40_000)?, &mut out, 65_537));
+    assert!(rt; is_put(bytes_of(alloc, 65_534), &mut out, 65_537));
+    assert!(rt; is_put(both(alloc, 40_000), &mut out, 65_537));
     assert!(rt; out.as_slice() == [0xCD].as_slice());
-    assert!(rt; is_put(&bytes_of(rt.alloc(), 40_000)?, &mut out, 40_003));
+    assert!(rt; is_put(bytes_of(alloc, 40_000), &mut out, 40_003));
     assert!(rt; out.as_slice().starts_with(&[0xCD, 0xCD, 0x9C, 0x40, 7]));
-    Ok(())
 }
 
 /// A value written behind nothing, and again behind itself.
