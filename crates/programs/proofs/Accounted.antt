@@ -2,7 +2,6 @@
 use Rattle.std.proofs.Common.{◌≡◌, refl, sym, ap, subst, ◌∙◌, ℕ, suc, ◌+◌, ◌==◌, Bool, true, false, not, ◌&&◌, ◌||◌, cond, true≢false, List, [], ◌∷◌, ◌++◌, length, drop, append_assoc, append-nil, Option, Some, None, is_none, unwrap_or, length-append, ◌⊎◌, inl, inr, arith}
 use Rattle.std.proofs.lemmas.Bool.{cond_both}
 use Rattle.std.specs.List.{flat_map}
-use Rattle.std.specs.Io.KnownBytes.{Appends}
 use Rattle.wire.specs.declared.Version.{Version}
 use Rattle.wire.specs.declared.Version.TheVariants.{V51}
 use Rattle.wire.specs.declared.Wish.{Wish}
@@ -13,7 +12,7 @@ use Rattle.messages.specs.Prelude.{RequestView, ResponseView, Heard}
 use Rattle.machine.specs.declared.Phase.{Phase}
 use Rattle.machine.specs.Prelude.{kind_of, is_goodbye}
 use Rattle.client.specs.declared.Outcome.{Outcome}
-use Rattle.client.specs.Prelude.{Knows, Hearing, Note, Summary, Row, Rest, asking_bytes, asks_summary, awaits, after_drop, losses, losses_from, lost_outcome, taken_out, heard_as, hears_item, refuses}
+use Rattle.client.specs.Prelude.{Knows, Hearing, Note, Summary, Rest, asking_bytes, asks_summary, awaits, after_drop, losses, losses_from, lost_outcome, taken_out, heard_as, hears_item}
 use Rattle.client.proofs.Makes.{Makes, makes, tells_summary}
 use Rattle.client.proofs.Refusing.{accepted_facts}
 use Rattle.streams.specs.declared.fault.StreamFault.{StreamFault}
@@ -21,7 +20,7 @@ use Rattle.streams.specs.Asking.{losses_then}
 use Rattle.streams.specs.Prelude.{AppendsFront, Tale, after_all, after_notes, all_answered, given_up, hears_all, notes_of, tale_of}
 use Rattle.scripts.specs.Prelude.{Text, meant}
 use Rattle.programs.specs.Names.{outcome_name, phase_name}
-use Rattle.programs.specs.Prelude.{AtLoss, AreFates, AreTold, Accounts, EachHasALine, Exchanges, Fate, Gets, Holds, IsBegun, IsCut, Log, OnErrors, OnOutput, Place, Puts, Sending, Stands, Streams, Talked, Unanswered, answers_line, asked_bytes, behind_line, failure_told, first_place, in_line, is_printed, lines_from, lost_line, lost_of, losses_text, why_text, opens, printed_line, refuses_line, summaries_text, summary_line, told_line, unmade, version_after, versions_after}
+use Rattle.programs.specs.Prelude.{AtLoss, AreFates, AreTold, Accounts, EachHasALine, Exchanges, Fate, Gets, Holds, IsBegun, IsCut, Log, OnErrors, OnOutput, Place, Puts, Sending, Stands, Streams, Talked, Unanswered, answers_line, asked_bytes, behind_line, failure_told, in_line, is_printed, lines_from, lost_line, lost_of, losses_text, why_text, opens, printed_line, refuses_line, summaries_text, summary_line, told_line, unmade, version_after, versions_after}
 use Rattle.programs.specs.Talking.{is_settled}
 use Rattle.programs.specs.Telling.{heard_line}
 use Rattle.programs.proofs.Moved.{gets_then}

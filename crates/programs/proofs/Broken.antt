@@ -1,5 +1,5 @@
 -- How far a loop has come where a fault breaks it off.
-use Rattle.std.proofs.Common.{◌≡◌, refl, sym, ap, subst, ◌∙◌, ℕ, ◌≤◌, List, [], ◌∷◌, ◌++◌, length, append_assoc, append-nil, Option, Some, None, Err, ◌⊎◌, inl, inr, length-append, arith}
+use Rattle.std.proofs.Common.{◌≡◌, refl, sym, ap, subst, ◌∙◌, ℕ, ◌≤◌, List, [], ◌∷◌, ◌++◌, length, append_assoc, append-nil, Option, Some, None, Err, inl, inr, length-append, arith}
 use Rattle.std.specs.Io.KnownBytes.{Appends, Consumes}
 use Rattle.std.proofs.KnownBytes.{Appends-nil, Appends-trans, Consumes-nil, Consumes-trans}
 use Rattle.engine.specs.Prelude.{EntryView}
@@ -12,11 +12,10 @@ use Rattle.streams.specs.Limits.{max_piece}
 use Rattle.streams.specs.Prelude.{AppendsFront, Talk}
 use Rattle.streams.proofs.Talks.{talk_by_items}
 use Rattle.scripts.specs.Prelude.{ScriptRequestView, meant}
-use Rattle.programs.specs.declared.caller.Caller.{Caller}
 use Rattle.programs.specs.declared.loops.Pair.{Pair}
-use Rattle.programs.specs.Prelude.{Passes, Breaks, BreaksBehind, BreaksIn, BreaksLine, BreaksLines, Comes, HearsFront, IsFrontOfNext, IsInLine, Place, Prints, PrintsFront, PrintsPart, ReadsFront, Shown, OfRefusal, Submits, Turns, Ways, after_line, after_lines, answer_to, asked, at_first, at_line, due, end, entries_text, exchanged, given, line_by, no_turns, place_after, refused, refused_line, shown_of, talk_for, turns_of, unbegun, whole_talk, with_refusal, with_request}
+use Rattle.programs.specs.Prelude.{Passes, Breaks, BreaksIn, BreaksLine, BreaksLines, Comes, HearsFront, IsFrontOfNext, IsInLine, Place, Prints, PrintsFront, PrintsPart, ReadsFront, Shown, OfRefusal, Submits, Turns, Ways, after_line, after_lines, answer_to, asked, at_first, at_line, due, end, entries_text, exchanged, given, line_by, no_turns, place_after, refused, refused_line, shown_of, talk_for, turns_of, unbegun, whole_talk, with_refusal, with_request}
 use Rattle.programs.proofs.Looped.{all_out}
-use Rattle.programs.proofs.Turned.{answer_is, answer_more, given_none, prints_some, shown_more}
+use Rattle.programs.proofs.Turned.{answer_is, answer_more, prints_some, shown_more}
 
 -- ---- while bytes are heard
 

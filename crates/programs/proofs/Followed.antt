@@ -1,5 +1,5 @@
 -- The lines of a shell, one after the other, and how it stops.
-use Rattle.std.proofs.Common.{◌≡◌, refl, sym, ap, subst, ◌∙◌, ℕ, ◌+◌, ◌==◌, ◌||◌, Bool, true, false, List, [], ◌∷◌, ◌++◌, append_assoc, append-nil, true≢false, Option, Some, None, Result, Ok, Err, ◌⊎◌, inl, inr, ⊎_elim, All, not-suc-le-zero, length, take, drop, get_or, ◌<◌, drop-cons, add-one, take-append-drop}
+use Rattle.std.proofs.Common.{◌≡◌, refl, sym, ap, subst, ◌∙◌, ℕ, ◌+◌, ◌==◌, ◌||◌, Bool, true, false, List, [], ◌∷◌, ◌++◌, append_assoc, append-nil, true≢false, Option, Some, None, Result, Ok, Err, inl, inr, ⊎_elim, All, not-suc-le-zero, length, take, drop, get_or, ◌<◌, drop-cons, add-one, take-append-drop}
 use Rattle.std.specs.Io.KnownBytes.{Appends, Consumes, IsAtEnd}
 use Rattle.std.proofs.KnownBytes.{Appends-trans, Consumes-nil, Consumes-trans}
 use Rattle.std.proofs.lemmas.List.Splits.{slice_split_at, slice_split_none}

@@ -1,5 +1,5 @@
 -- What two ends have come to: the streams between them, the session, and both.
-use Rattle.std.proofs.Common.{◌≡◌, refl, sym, ap, subst, ◌∙◌, ℕ, ◌+◌, Bool, List, [], ◌∷◌, ◌++◌, length, drop, append_assoc, append-nil, length-append, arith, Option, Some, None, Result, Ok, Err, ◌⊎◌, inl, inr, ⊎_elim, IsSome, OnOk, OnErr}
+use Rattle.std.proofs.Common.{◌≡◌, refl, sym, ap, subst, ◌∙◌, ℕ, ◌+◌, Bool, List, [], ◌∷◌, ◌++◌, length, take, drop, append_assoc, append-nil, length-append, arith, Option, Some, None, Result, Ok, Err, inl, inr, IsSome, OnOk, OnErr}
 use Rattle.std.proofs.lemmas.List.{append_cancel_left}
 use Rattle.std.specs.Io.KnownBytes.{Appends}
 use Rattle.std.proofs.KnownBytes.{Appends-nil, Appends-trans, Consumes-nil, Consumes-trans}
@@ -10,9 +10,9 @@ use Rattle.engine.specs.Prelude.{EntryView}
 use Rattle.server.specs.Prelude.{Live, Rest, find, fresh, opened}
 use Rattle.client.specs.declared.SubmitFault.{SubmitFault}
 use Rattle.client.specs.Prelude.{Fits, refuses, taken_out}
+use Rattle.client.specs.Rest.{Rest as ClientRest}
 use Rattle.streams.specs.declared.fault.Standing.{Standing}
 use Rattle.streams.specs.declared.fault.Standing.TheVariants.{Open, Over}
-use Rattle.streams.specs.declared.fault.StreamFault.TheVariants.{Memory}
 use Rattle.streams.specs.Prelude.{Talk, with_talk, Stands, TakesPiece, standing_of, told_by}
 use Rattle.streams.proofs.Talks.{open_goes_on, over_ended, talk_by_items, told_over}
 use Rattle.streams.proofs.Called.{replace-itself}
@@ -193,6 +193,10 @@ module _ {G : Type 0} {r : Rest G} {conn : ℕ} {S : Setting} {start : Ways} {t 
   part_whole {a = a} {c = c} {Now = Now} p e =
       let all : p.done ≡ t.place.rest.unsent = sym (append-nil p.done) ∙ ap (λ (z : List ℕ). p.done ++ z) (sym e) ∙ p.parts in
       subst (λ (z : List ℕ). Comes r conn S start a (given S conn r.ledger (all_out t) z) c Now) all p.comes
+
+-- what was taken out of a client that stood so
+pub took_out : (max : ℕ) (bytes : List ℕ) (old new : ClientRest) → (bytes ≡ take max old.unsent) × (new ≡ taken_out old max) → (r : ClientRest) → old ≡ r → (bytes ≡ take max r.unsent) × (new ≡ taken_out r max)
+took_out max bytes old new h r f = (h.0 ∙ ap (λ (z : ClientRest). take max z.unsent) f, h.1 ∙ ap (λ (z : ClientRest). taken_out z max) f)
 
 -- where both stand after a line
 abbrev Goes : {G : Type 0} (r : Rest G) (conn : ℕ) (S : Setting) (start b : Ways) (t : Turns) (y : Pair) (Then : Rest G → Type 0) (l : ℕ × ScriptRequestView) → Option SubmitFault → Type 0

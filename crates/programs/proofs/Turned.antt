@@ -177,10 +177,10 @@ module _ {b : Caller} {p : Place} {piece : List ℕ} {notes : List Note} {whole 
   heard_front x y k = record { heard = h.fed; rest = h.unheard; parts = sym h.parts; prints = subst (λ (z : List Shown). PrintsPart z x y) told_some k }
 
 -- a piece was heard as far as it was fed
-pub heard_ok : {b c : Caller} {p : Place} {piece : List ℕ} {notes : List Note} {Now : Rest → Type 0} (x y : Option (List ℕ)) (fed : Result (Unit {0}) StreamFault) → (s : StandsAt b p) → FeedsPiece (with_item p.rest s.item) piece [] notes (is_ok fed) Now → ((r : Rest) → Now r → Fits c.client r)
+pub heard_ok : {b : Caller} (c : Caller) {p : Place} {piece : List ℕ} {notes : List Note} {Now : Rest → Type 0} (x y : Option (List ℕ)) (fed : Result (Unit {0}) StreamFault) → (s : StandsAt b p) → FeedsPiece (with_item p.rest s.item) piece [] notes (is_ok fed) Now → ((r : Rest) → Now r → Fits c.client r)
     → c.version ≡ versions_after b.version notes → Prints (notes_shown b.version notes) x y → OnOk fed (StandsAt c (place_after p piece) × Prints (shown_of p piece) x y)
-heard_ok {c = c} x y (Ok done) s h now v k = (stands_heard s h {c = c} (now _ h.now) v, rw (← same_notes s h, ← s.at.version) k)
-heard_ok x y (Err fault) s h now v k = tt
+heard_ok c x y (Ok done) s h now v k = (stands_heard s h {c = c} (now _ h.now) v, rw (← same_notes s h, ← s.at.version) k)
+heard_ok c x y (Err fault) s h now v k = tt
 
 pub heard_err : {b : Caller} {p : Place} {piece : List ℕ} {notes : List Note} {Now : Rest → Type 0} (x y : Option (List ℕ)) (fed : Result (Unit {0}) StreamFault) → (s : StandsAt b p) → FeedsPiece (with_item p.rest s.item) piece [] notes (is_ok fed) Now → Prints (notes_shown b.version notes) x y
     → OnErr fed (HearsFront p piece x y)

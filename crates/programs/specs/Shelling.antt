@@ -9,7 +9,7 @@ use Rattle.client.specs.Rest.{Note, Rest, refuses}
 use Rattle.client.specs.Fits.{Fits}
 use Rattle.streams.specs.declared.fault.StreamFault.{StreamFault}
 use Rattle.streams.specs.Fronts.{AppendsFront}
-use Rattle.streams.specs.Asking.{hears_all, after_all, given_up, IsNeeded, HearsPiece, IsAwaited, IsTurn, ReadsAll}
+use Rattle.streams.specs.Asking.{hears_all, after_all, given_up, IsNeeded, HearsPiece, IsTurn, ReadsAll}
 use Rattle.scripts.specs.Views.{Text}
 use Rattle.scripts.specs.Words.{is_empty}
 use Rattle.scripts.specs.Script.{lines, filled_from, filled_lines}
@@ -20,8 +20,8 @@ use Rattle.programs.specs.declared.stop.StopReason.{StopReason}
 use Rattle.programs.specs.declared.stop.StopReason.TheVariants.{Unreadable, Broken}
 use Rattle.programs.specs.Names.{refusal_code}
 use Rattle.programs.specs.Stopping.{Gets, IsStopOf, ends_with, said_of}
-use Rattle.programs.specs.Telling.{AreTold, IsBegun, IsCut, IsExplained, IsFront, refused_line, versions_after}
-use Rattle.programs.specs.Talking.{Place, IsAt, first_place, submitted, sent_out, is_printed, lost_of, losses_text, why_text, Log, Exchanges, IsServersTurn, Streams, Puts, Moves, IsUsedUp, Stands, Anywhere}
+use Rattle.programs.specs.Telling.{AreTold, IsBegun, IsCut, IsExplained, refused_line, versions_after}
+use Rattle.programs.specs.Talking.{Place, IsAt, submitted, sent_out, is_printed, lost_of, losses_text, why_text, Log, Exchanges, IsServersTurn, Streams, Puts, Moves, IsUsedUp, Stands, Anywhere}
 
 -- Where a client's words go: what standard output and standard error took, and whether standard error has failed.
 pub record Outs : Type 0 where

@@ -1,5 +1,5 @@
 -- What a client at a shell does with numbered lines: what it sends and reads, what is printed and told, and where it stands then.
-use Rattle.std.specs.Prelude.{◌≡◌, ◌⊎◌, ℕ, Bool, true, false, not, ◌&&◌, if◌then◌else◌, List, [], ◌∷◌, ◌++◌, drop, codes, Option, Some, None, Result, Ok, Err}
+use Rattle.std.specs.Prelude.{◌≡◌, ◌⊎◌, ℕ, Bool, true, false, not, ◌&&◌, if◌then◌else◌, List, [], ◌∷◌, ◌++◌, drop, codes, Option, Some, None}
 use Rattle.std.specs.List.{flat_map}
 use Rattle.std.specs.Io.KnownBytes.{Appends, Consumes, IsAtEnd}
 use Rattle.wire.specs.declared.Version.{Version}
@@ -15,7 +15,7 @@ use Rattle.client.specs.Fits.{Fits}
 use Rattle.streams.specs.declared.fault.StreamFault.{StreamFault}
 use Rattle.streams.specs.declared.fault.StreamFault.TheVariants.{ReadFailed, WriteFailed, Memory}
 use Rattle.streams.specs.Fronts.{AppendsFront}
-use Rattle.streams.specs.Asking.{hears_all, after_all, IsNeeded, given_up, losses_then, HearsPiece, ReadsAll}
+use Rattle.streams.specs.Asking.{hears_all, after_all, IsNeeded, given_up, losses_then}
 use Rattle.scripts.specs.Views.{Text, ScriptRequestView}
 use Rattle.scripts.specs.Meant.{meant}
 use Rattle.scripts.specs.Rows.{request_line_of}

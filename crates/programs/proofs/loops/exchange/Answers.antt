@@ -1,11 +1,13 @@
 use Rattle.std.proofs.Common.{◌≡◌, ◌∙◌, ◌++◌, [], refl, sym, ap, append-nil, arith, rules, Err, ℕ, List}
+use Rattle.client.specs.Fits.{rest_of}
+use Rattle.client.specs.Prelude.{Rest, awaits}
 use Rattle.server.specs.Prelude.{setting, Fits}
 use Rattle.streams.proofs.Asked.{all_taken}
 use Rattle.streams.proofs.Called.{lives_same, lives_then}
 use Rattle.streams.proofs.Parts.{empty_nil}
 use Rattle.programs.proofs.Taken.{split_whole}
 use Rattle.programs.proofs.Broken.{breaks_before, breaks_more}
-use Rattle.programs.proofs.Looped.{all_out, fails_after, lets_after, on_err_so, part_begun, part_more, part_whole, passed_then, went_none}
+use Rattle.programs.proofs.Looped.{all_out, fails_after, lets_after, on_err_so, part_begun, part_more, part_whole, passed_then, took_out, went_none}
 use Rattle.programs.specs.Prelude.{answer_to, due, given}
 use Rattle.programs.proofs.Turned.{with_item}
 use Rattle.programs.proofs.loops.exchange.Goals as goal
@@ -16,7 +18,7 @@ loop-rest-init g c = record {
   grows = lives_same c.args.conn (Fits g.E.Engine.entries c.args.server.now);
   passed = (went_none, went_none);
   comes = λ r start t i h.
-      let k = c.in-Ok.ensures.ok (with_item t.place.rest h.client.item) h.client.at.fits in
+      let k = took_out 18446744073709551615 c.in-Ok.bytes (rest_of c.args.pair.now.caller.client) (rest_of c.take_out.new.self) c.in-Ok.ensures.ok (with_item t.place.rest h.client.item) h.client.at.fits in
       let all = all_taken 18446744073709551615 t.place.rest.unsent c.in-Ok.bytes k.0 (omega (arith, c.in-Ok.ensures.short)) in
       part_begun 18446744073709551615 h k.1 all.1 refl refl refl (c.as_slice-rest.ensures ∙ all.0);
 }
@@ -64,7 +66,7 @@ returns-in_err-turn-clause-breaks g c = λ r start t i h.
 pub returns-clause-comes : goal.returns-clause-comes
 returns-clause-comes g c = λ r start t i h.
     let p = part_whole (c.loop-rest.invariant.comes r start t i h) (empty_nil c.loop-rest.rest.now c.is_empty.result c.is_empty.ensures c.loop-rest-test.false) in
-    (p, sym (c.awaits.ensures _ p.client.at.fits) ∙ c.if-awaits.false)
+    (p, sym (c.awaits.ensures ∙ ap (λ (r : Rest). awaits r.knows) p.client.at.fits) ∙ c.if-awaits.false)
 
 pub returns-then-awaits-clause-breaks : goal.returns-then-awaits-clause-breaks
 returns-then-awaits-clause-breaks g c = λ r start t i h.

@@ -1,4 +1,4 @@
-use Rattle.std.proofs.Common.{◌≡◌, ◌≤◌, ◌++◌, ◌∙◌, [], append_assoc, refl, sym, ap, ⊎_elim, inl, inr, List, ℕ, length, min, arith, rules, Err}
+use Rattle.std.proofs.Common.{◌≡◌, ◌≤◌, ◌++◌, ◌∙◌, [], append_assoc, refl, sym, ap, List, ℕ, length, arith, rules, Err}
 use Rattle.programs.specs.Prelude.{place_after}
 use Rattle.programs.proofs.Broken.{reads_part, reads_so_far}
 use Rattle.programs.proofs.Looped.{lets_after, on_err_so, passes_none, passes_then, source_after}

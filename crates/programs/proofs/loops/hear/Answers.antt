@@ -1,5 +1,6 @@
-use Rattle.std.proofs.Common.{◌≡◌, [], ap, map, inr}
-use Rattle.client.specs.Prelude.{note}
+use Rattle.std.proofs.Common.{◌≡◌, [], ap, map, inr, subst, sym}
+use Rattle.client.specs.declared.client.Client.{Client}
+use Rattle.client.specs.Prelude.{Fits, note}
 use Rattle.programs.proofs.Looped.{on_err_so}
 use Rattle.programs.proofs.Turned.{heard_err, heard_front, heard_ok, with_item}
 use Rattle.programs.proofs.loops.hear.Goals as goal
@@ -14,7 +15,7 @@ pub returns-clause-hears : goal.returns-clause-hears
 returns-clause-hears g c = λ p s.
     let none : map note c.new-heard.result.items ≡ [] = ap (map note) c.new-heard.ensures.items in
     let h = rw none at (c.feed_piece-fed.ensures.feeds (with_item p.rest s.item) s.at.fits) in
-    heard_ok {c = c.put_all.new.caller} (g.O.Sink.taken c.args.out.now) (g.O.Sink.taken c.put_all.new.out) c.feed_piece-fed.result s h (λ r f. rw c.put_all.ensures.client f) c.in_ok-put_all.ensures.version c.in_ok-put_all.ensures.prints
+    heard_ok c.put_all.new.caller (g.O.Sink.taken c.args.out.now) (g.O.Sink.taken c.put_all.new.out) c.feed_piece-fed.result s h (λ r f. subst (λ (k : Client). Fits k r) (sym c.put_all.ensures.client) f) c.in_ok-put_all.ensures.version c.in_ok-put_all.ensures.prints
 
 pub returns-clause-breaks : goal.returns-clause-breaks
 returns-clause-breaks g c = λ p s.

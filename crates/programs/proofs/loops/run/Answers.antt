@@ -1,9 +1,9 @@
-use Rattle.std.proofs.Common.{◌≡◌, ◌∙◌, refl, rules, Err, sym}
+use Rattle.std.proofs.Common.{refl}
 use Rattle.std.proofs.lemmas.Result.{err_from_is_err_and}
 use Rattle.server.specs.Prelude.{setting}
 use Rattle.scripts.specs.Prelude.{filled_lines, lines_read, request_line_of}
 use Rattle.programs.proofs.Broken.{breaks_none}
-use Rattle.programs.proofs.Stops.{some_of, broken_stops}
+use Rattle.programs.proofs.Stops.{some_of}
 use Rattle.programs.proofs.loops.run.Goals as goal
 
 pub returns-in-Err-Unreadable-clause-unreadable : goal.returns-in-Err-Unreadable-clause-unreadable

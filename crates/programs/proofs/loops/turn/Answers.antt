@@ -1,9 +1,9 @@
-use Rattle.std.proofs.Common.{◌≡◌, ◌∙◌, ℕ, List, length, drop, min, sym, ap, subst, refl, inl, inr}
+use Rattle.std.proofs.Common.{◌≡◌, ◌∙◌, ℕ, List, length, drop, min, sym, ap, refl}
 use Rattle.std.proofs.lemmas.Result.{on_ok_weaker, on_err_weaker}
 use Rattle.std.proofs.lemmas.List.{drop_min}
 use Rattle.server.specs.Prelude.{Fits, setting}
 use Rattle.streams.proofs.Called.{lives_same}
-use Rattle.programs.specs.Prelude.{Comes, Ways, answer_to}
+use Rattle.programs.specs.Prelude.{Ways, answer_to}
 use Rattle.programs.proofs.Broken.{breaks_before, breaks_within}
 use Rattle.programs.proofs.Looped.{answer_due, comes_given, on_err_so, on_ok_both}
 use Rattle.programs.proofs.loops.turn.Goals as goal

@@ -1,4 +1,4 @@
-use Rattle.std.proofs.Common.{◌≡◌, ◌∙◌, ap, subst, ℕ, List}
+use Rattle.std.proofs.Common.{◌∙◌, subst, ℕ, List}
 use Rattle.messages.specs.View.{response_view}
 use Rattle.streams.specs.Prelude.{AppendsFront}
 use Rattle.std.specs.Io.KnownBytes.{Appends}

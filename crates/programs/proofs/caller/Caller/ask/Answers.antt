@@ -1,4 +1,4 @@
-use Rattle.std.proofs.Common.{refl, sym, subst, Option}
+use Rattle.std.proofs.Common.{refl, subst, Option}
 use Rattle.client.specs.Prelude.{Fits}
 use Rattle.streams.specs.declared.fault.StreamFault.{StreamFault}
 use Rattle.programs.specs.Prelude.{Parts, outs_of}

@@ -1,6 +1,5 @@
 use Rattle.cells.specs.Prelude.{shapes}
-use Rattle.client.specs.Prelude.{note}
-use Rattle.programs.specs.Prelude.{PrintsOne, outs_of, version_after}
+use Rattle.programs.specs.Prelude.{outs_of}
 use Rattle.programs.proofs.Lined.{row_printed}
 use Rattle.programs.proofs.Moved.{gets_none}
 use Rattle.programs.proofs.caller.Caller.put_explained.Goals as goal

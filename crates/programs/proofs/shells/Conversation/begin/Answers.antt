@@ -1,3 +1,5 @@
+use Rattle.std.proofs.Common.{◌∙◌, ap}
+use Rattle.client.specs.Prelude.{Rest}
 use Rattle.programs.specs.Prelude.{first_place}
 use Rattle.programs.proofs.Followed.{begins, greeted}
 use Rattle.programs.proofs.Moved.{gets_none}
@@ -9,7 +11,7 @@ returns-in-Err-clause-begins g c = λ at. begins _ _ (c.in-Err.ensures.asks firs
 pub returns-clause-begins : goal.returns-clause-begins
 returns-clause-begins g c = λ at.
     let x = c.in-Ok.ensures.asks first_place at in
-    begins _ _ x (greeted _ _ _ _ x.now (c.has_ended.ensures x.place.rest x.now.fits) c.greet.ensures)
+    begins _ _ x (greeted _ _ _ _ x.now (c.has_ended.ensures ∙ ap (λ (r : Rest). r.knows.over) x.now.fits) c.greet.ensures)
 
 pub ask-requires : goal.ask-requires
 ask-requires g c = c.requires
