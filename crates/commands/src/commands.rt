@@ -292,7 +292,7 @@ fn say_vectors(alloc: Global) -> Result<Said, AllocError>
         let passed = passes(alloc, vectors[at])?;
         let text = vector_text(alloc, at + 1, passed)?;
         out.push_str(text.as_str())?;
-        all_pass = all_pass && passed;
+        all_pass &= passed;
     }
     let status = if all_pass { 0 } else { REFUSED };
     Ok(say_out(alloc, out, status))
