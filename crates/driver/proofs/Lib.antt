@@ -1,0 +1,6 @@
+pub mod Fates
+pub mod Accounts
+pub mod Joined
+pub mod FewRows
+pub mod Sure
+pub mod Taking

@@ -1,0 +1,85 @@
+//! What an attempt tells, by the outcomes of its requests.
+ghost use Rattle.std.specs.Prelude.{◌≡◌};
+ghost use Rattle.driver.specs.Account.{outcome_of, failure_of};
+ghost use Rattle.driver.specs.Telling.{adds_nothing, is_committed, is_refused, all_nothing, any_refused, is_clash, tells_of};
+ghost use Rattle.driver.specs.Holding.{account_of};
+
+use crate::attempts::Tells;
+use crate::tracking::TrackingClient;
+use client::Outcome;
+
+fn adds_nothing(outcome: Option<Outcome>) -> bool
+    ensures { result ≡ adds_nothing outcome }
+{
+    matches!(
+        outcome,
+        Some(Outcome::Done | Outcome::Refused | Outcome::Ignored | Outcome::Lost)
+    )
+}
+
+fn is_committed(outcome: Option<Outcome>) -> bool
+    ensures { result ≡ is_committed outcome }
+{
+    matches!(outcome, Some(Outcome::Committed))
+}
+
+fn is_refused(outcome: Option<Outcome>) -> bool
+    ensures { result ≡ is_refused outcome }
+{
+    matches!(outcome, Some(Outcome::Refused))
+}
+
+impl TrackingClient {
+    /// Whether each of the first requests is told to have committed nothing.
+    fn all_nothing(&self, count: u64) -> bool
+        ensures { result ≡ all_nothing (outcome_of (account_of self.now)) count }
+    {
+        let mut all = true;
+        for i in 0..count {
+            all = adds_nothing(self.outcome(i)) && all;
+        }
+        all
+    }
+
+    /// Whether one of the first requests is refused.
+    fn any_refused(&self, count: u64) -> bool
+        ensures { result ≡ any_refused (outcome_of (account_of self.now)) count }
+    {
+        let mut any = false;
+        for i in 0..count {
+            any = is_refused(self.outcome(i)) || any;
+        }
+        any
+    }
+
+    /// Whether its FAILURE says that other writes stand under the token.
+    fn is_clash(&self, ordinal: u64) -> bool
+        ensures { result ≡ is_clash (failure_of (account_of self.now) ordinal) }
+    {
+        match self.failure(ordinal) {
+            Some((code, _)) => code == "Neo.ClientError.Transaction.TokenClash",
+            None => false,
+        }
+    }
+
+    /// What an attempt of one transaction tells that asked so many requests, of which this is the COMMIT's ordinal: a doubt, where nothing else is
+    /// sure. It takes no memory.
+    pub fn tells(&self, commit: u64, count: u64) -> Tells
+        ensures { result ≡ tells_of (account_of self.now) commit count }
+    {
+        let last = self.outcome(commit);
+        if is_committed(last) {
+            return Tells::Stands;
+        }
+        if is_refused(last) && self.is_clash(commit) {
+            return Tells::Clash;
+        }
+        if !self.all_nothing(count) {
+            return Tells::Doubt;
+        }
+        if self.any_refused(count) {
+            return Tells::Refused;
+        }
+        Tells::Nothing
+    }
+}
