@@ -1,13 +1,13 @@
 -- How many rows an account holds.
-use Rattle.std.proofs.Common.{◌≡◌, refl, sym, ◌∙◌, ap, subst, ℕ, zero, suc, ◌+◌, ◌<◌, ◌≤◌, ◌==◌, Bool, true, false, if◌then◌else◌, Option, Some, None, Result, Ok, Err, List, [], ◌∷◌, ◌++◌, length, nat_lt, arith, length-append}
+use Rattle.std.proofs.Common.{◌≡◌, refl, ℕ, ◌+◌, ◌<◌, ◌≤◌, ◌==◌, Bool, true, false, if◌then◌else◌, Option, Some, None, Result, Ok, Err, List, [], ◌∷◌, ◌++◌, length, nat_lt, arith, length-append}
 use Rattle.std.proofs.lemmas.Bool.{cond_both, and_parts}
 use Rattle.std.proofs.lemmas.Bool.Decides.{nat_tests}
 use Rattle.packstream.specs.Tree.{Tree}
 use Rattle.client.specs.declared.ClientFault.{ClientFault}
 use Rattle.client.specs.declared.Outcome.{Outcome}
-use Rattle.client.specs.Prelude.{Note, Nothing, Chose, Row, Summary, feed_of, losses, call, Feeds}
-use Rattle.driver.specs.Account.{Account, ReplyView, keeps_row, with_row, with_note, with_losses, reply_in, without_rows, taken_or, rows_taken}
-use Rattle.driver.specs.Feeding.{is_full, Tracked, with_answer, used_by, tracked_feed}
+use Rattle.client.specs.Prelude.{Note, Nothing, Chose, Row, Summary, feed_of, losses}
+use Rattle.driver.specs.Account.{Account, ReplyView, keeps_row, with_row, with_note, with_losses, reply_in, without_rows, taken_or}
+use Rattle.driver.specs.Feeding.{is_full, Tracked, with_answer, used_by}
 use Rattle.driver.specs.declared.faults.FeedFault.TheVariants as feed_fault
 use Rattle.driver.specs.Runs.{TrackedCall, Asks, Hears, Sends, TakesRows, IsLost, TrackedRun, tracking, tracked_call, tracked_calls, FewRows, KeepsFewRows}
 

@@ -1,5 +1,5 @@
 -- What an account tells is what the attempt tells.
-use Rattle.std.proofs.Common.{◌≡◌, refl, ap, ap₂, ◌∙◌, ℕ, zero, suc, Bool, true, not, ◌&&◌, ◌||◌, if◌then◌else◌, Option, List, length}
+use Rattle.std.proofs.Common.{◌≡◌, refl, ap, ap₂, ◌∙◌, ℕ, zero, suc, Bool, not, ◌&&◌, ◌||◌, if◌then◌else◌, Option, length}
 use Rattle.client.specs.declared.Outcome.{Outcome}
 use Rattle.driver.specs.declared.attempts.Tells.{Tells}
 use Rattle.driver.specs.Account.{outcome_of, failure_of}

@@ -1,8 +1,8 @@
 -- What each fate says of what was told.
-use Rattle.std.proofs.Common.{◌≡◌, refl, sym, ◌∙◌, ap, subst, ℕ, zero, suc, ◌≤◌, Bool, true, false, Option, Some, None, List, [], ◌∷◌, ◌++◌, length, arith}
+use Rattle.std.proofs.Common.{◌≡◌, refl, ap, subst, ℕ, zero, suc, Bool, true, false, Some, List, [], ◌∷◌, length, arith}
 use Rattle.driver.specs.declared.attempts.Tells.{Tells}
 use Rattle.driver.specs.declared.attempts.Fate.{Fate}
-use Rattle.driver.specs.Fates.{fate_of, AllOpen, AllNothing, HasDoubt, EndsWith, Says, FatesSay}
+use Rattle.driver.specs.Fates.{fate_of, AllOpen, AllNothing, EndsWith, Says, FatesSay}
 
 -- the same behind an attempt, or none, that may have committed
 abbrev Known : Bool → ℕ → List Tells → Fate → Type 0

@@ -1,10 +1,9 @@
 -- Rows that are taken from the replies, and what is lost.
-use Rattle.std.proofs.Common.{◌≡◌, refl, sym, ◌∙◌, ap, ap₂, ℕ, zero, suc, ◌+◌, ◌<◌, ◌≤◌, ◌==◌, Bool, true, false, if◌then◌else◌, Option, Some, None, option_map, List, [], ◌∷◌, ◌++◌, map, take, drop, length, slice_index_or, slice_set, eq-eqb, subst, arith}
+use Rattle.std.proofs.Common.{◌≡◌, refl, sym, ◌∙◌, ap, ap₂, ℕ, zero, suc, ◌+◌, ◌<◌, ◌≤◌, ◌==◌, Bool, true, false, if◌then◌else◌, Option, Some, None, option_map, List, [], ◌∷◌, map, take, length, slice_index_or, slice_set, eq-eqb, subst, arith}
 use Rattle.std.proofs.lemmas.Bool.{cond_both, cond-true, cond-false}
 use Rattle.std.proofs.lemmas.List.{take_all}
 use Rattle.wire.specs.declared.Version.{Version}
 use Rattle.messages.specs.Prelude.{RequestView}
-use Rattle.client.specs.declared.Outcome.{Outcome}
 use Rattle.client.specs.Prelude.{Knows, losses, losses_from}
 use Rattle.driver.specs.declared.replies.Reply.{Reply}
 use Rattle.driver.specs.Holding.{reply_view}

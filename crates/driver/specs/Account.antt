@@ -1,6 +1,6 @@
 -- What is known of the requests that a client was asked: a reply for each that has its summary, the rows of the one that waits first, and the
 -- outcomes of those that were lost.
-use Rattle.std.specs.Prelude.{ℕ, suc, Bool, true, false, not, ◌&&◌, ◌==◌, ◌-◌, ◌^◌, if◌then◌else◌, nat_lt, Option, Some, None, option_map, List, [], ◌∷◌, ◌++◌, length}
+use Rattle.std.specs.Prelude.{ℕ, suc, Bool, true, false, ◌&&◌, ◌==◌, ◌-◌, ◌^◌, if◌then◌else◌, nat_lt, Option, Some, None, option_map, List, [], ◌∷◌, ◌++◌, length}
 use Rattle.std.specs.Option.{option_or}
 use Rattle.packstream.specs.Tree.{Tree}
 use Rattle.messages.specs.View.{ResponseView}

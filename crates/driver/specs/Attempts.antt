@@ -1,5 +1,5 @@
 -- An attempt of a transaction as its caller saw it, and what it tells.
-use Rattle.std.specs.Prelude.{◌≡◌, ℕ, Bool, true, false, ◌==◌, if◌then◌else◌, Option, Some, None, List, [], ◌∷◌, ◌++◌, length, map}
+use Rattle.std.specs.Prelude.{◌≡◌, ℕ, Bool, false, ◌==◌, if◌then◌else◌, Option, Some, None, List, [], ◌∷◌, ◌++◌, length, map}
 use Rattle.std.specs.Option.{option_or}
 use Rattle.wire.specs.declared.Wish.{Wish}
 use Rattle.messages.specs.View.{RequestView}

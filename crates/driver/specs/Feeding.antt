@@ -1,8 +1,8 @@
 -- What a piece makes of a client and of the account of what it told.
-use Rattle.std.specs.Prelude.{◌≡◌, ℕ, Bool, true, false, not, ◌&&◌, ◌==◌, if◌then◌else◌, nat_lt, nat_le, Result, Ok, Err, List, length}
+use Rattle.std.specs.Prelude.{ℕ, Bool, not, ◌&&◌, ◌==◌, if◌then◌else◌, nat_lt, nat_le, Result, Ok, Err, List, length}
 use Rattle.client.specs.declared.ClientFault.{ClientFault}
 use Rattle.client.specs.declared.ClientFault.TheVariants as client_fault
-use Rattle.client.specs.Rest.{Knows, Rest, Fed, Note, feed_of}
+use Rattle.client.specs.Rest.{Knows, Rest, Note, feed_of}
 use Rattle.driver.specs.declared.faults.FeedFault.{FeedFault}
 use Rattle.driver.specs.declared.faults.FeedFault.TheVariants as feed_fault
 use Rattle.driver.specs.Account.{Account, with_note}

@@ -1,5 +1,5 @@
 -- What a tracking client holds: a client at a rest of its run, and the account of what it told.
-use Rattle.std.specs.Prelude.{ℕ, map, List, Vec}
+use Rattle.std.specs.Prelude.{map, List, Vec}
 use Rattle.std.specs.declared.alloc.Global.{Global}
 use Rattle.packstream.specs.Tree.{Tree}
 use Rattle.cells.specs.Shape.{shapes}

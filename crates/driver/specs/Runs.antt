@@ -7,7 +7,7 @@ use Rattle.client.specs.Moments.{Run, Submits, Feeds, TakesOut, Loses, starts, c
 use Rattle.driver.specs.Account.{Account, ReplyView, untold, with_losses, rows_taken, outcome_of, failure_of}
 use Rattle.driver.specs.Feeding.{is_full, tracked_feed}
 use Rattle.driver.specs.Telling.{is_clash, tells_of}
-use Rattle.driver.specs.Attempts.{Attempt, Made, told_of, tells}
+use Rattle.driver.specs.Attempts.{Attempt, told_of, tells}
 
 -- one call: a request, a piece, how many bytes may be taken out, the rows of a request, or the loss
 pub data TrackedCall : Type 0 where

@@ -1,4 +1,4 @@
-use Rattle.std.proofs.Common.{rules, ◌≡◌, refl, sym, ◌∙◌, ap, subst, ◌<◌, ◌==◌, false, arith, Some, map, option_map, slice_index_or, slice_set}
+use Rattle.std.proofs.Common.{rules, ◌≡◌, sym, ◌∙◌, ap, Some, map, option_map, slice_index_or, slice_set}
 use Rattle.std.proofs.lemmas.Bool.{ne_eqb}
 use Rattle.driver.specs.Account.{ReplyView}
 use Rattle.driver.specs.Holding.{reply_view, row_view}

@@ -1,4 +1,4 @@
-use Rattle.std.proofs.Common.{rules, ◌≡◌, sym, ◌∙◌, ap, ◌<◌, length}
+use Rattle.std.proofs.Common.{rules, sym, ◌∙◌, ap, ◌<◌, length}
 use Rattle.driver.specs.Holding.{rest_in, account_of}
 use Rattle.driver.proofs.Taking.{some_lost}
 use Rattle.driver.proofs.tracking.TrackingClient.lost.Goals as goal

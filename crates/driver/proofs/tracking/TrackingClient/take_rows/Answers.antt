@@ -1,8 +1,8 @@
-use Rattle.std.proofs.Common.{rules, ◌≡◌, sym, ◌∙◌, ap, ap₂, Bool, true, false, ◌==◌, None, List, eq-eqb}
+use Rattle.std.proofs.Common.{rules, ◌≡◌, sym, ◌∙◌, ap, ap₂, true, false, ◌==◌, None, List, eq-eqb}
 use Rattle.std.proofs.lemmas.Bool.{ne_eqb}
 use Rattle.packstream.specs.Tree.{Tree}
 use Rattle.driver.specs.Account.{ReplyView, reply_in, taken_or}
-use Rattle.driver.specs.Holding.{rest_in, account_of, row_view}
+use Rattle.driver.specs.Holding.{rest_in, account_of}
 use Rattle.driver.proofs.Taking.{none_of, not_found, untaken}
 use Rattle.driver.proofs.tracking.TrackingClient.take_rows.Goals as goal
 
