@@ -4,3 +4,4 @@ pub mod Joined
 pub mod FewRows
 pub mod Sure
 pub mod Taking
+pub mod Idle

@@ -1,10 +1,11 @@
 //! A client that keeps track of its requests.
-ghost use Rattle.std.specs.Prelude.{◌≡◌, Some, None, ◌≤◌, ◌<◌, IfOk, IfErr, OnErr, IsErrOf, take, length, true, false};
+ghost use Rattle.std.specs.Prelude.{◌≡◌, ◌⊎◌, [], Some, None, ◌≤◌, ◌<◌, IfOk, IfErr, OnErr, IsErrOf, take, length, true, false};
 ghost use Rattle.messages.specs.View.{request_view};
-ghost use Rattle.client.specs.Rest.{begun, refuses, refuses_at_once, after_submit, taken_out, losses, after_drop, awaits};
+ghost use Rattle.client.specs.Rest.{begun, refuses, refuses_at_once, after_submit, feed_of, taken_out, losses, after_drop, awaits};
 ghost use Rattle.client.specs.Fits.{IsAccepted};
+ghost use Rattle.client.specs.Held.{WantsRoom};
 ghost use Rattle.driver.specs.Account.{untold, keeps_row, with_losses, settled};
-ghost use Rattle.driver.specs.Feeding.{is_idle, is_full, tracked_feed, UnlessMemory};
+ghost use Rattle.driver.specs.Feeding.{is_idle, is_full, used_by, tracked_feed, UnlessMemory};
 ghost use Rattle.driver.specs.Holding.{rest_in, account_of};
 
 use crate::faults::{FeedFault, fault_of};
@@ -103,11 +104,32 @@ impl TrackingClient {
         self.left == 0 && 0 < self.rows.len() && self.limit <= self.rows.len()
     }
 
+    /// Feeds a piece where no request waits: then neither a row nor a summary can come, and the account stays.
+    fn feed_idle(&mut self, piece: &[u8]) -> Result<usize, FeedFault>
+        requires { (rest_in self.old).knows.waiting ≡ [] }
+        ensures fed { let f = feed_of (rest_in self.old) piece.now in
+            UnlessMemory result ((result ≡ used_by f.answer) × (rest_in self.new ≡ f.rest)) }
+        ensures account { account_of self.new ≡ account_of self.old }
+        ensures memory { IsErrOf result FeedFault.Memory → (rest_in self.new ≡ rest_in self.old)
+            × ((rest_in self.old).knows.over ≡ false)
+            × WantsRoom (rest_in self.old).item piece.now }
+        ensures within { IfOk result (λ used. used ≤ length piece.now) }
+        ensures goes_on { 0 < length piece.now → IfOk result (λ used. 0 < used) }
+    {
+        let (used, _nothing) = match self.client.feed(piece) {
+            Ok(fed) => fed,
+            Err(fault) => return Err(fault_of(fault)),
+        };
+        Ok(used)
+    }
+
     /// Feeds a piece to the end of the item begun, else all of it, as `Client::feed` does, and answers how much; what is told is in the account.
     ///
     /// C4 and C6 as there. `Full` where `limit` rows of the one request that waits are held: nothing was used and nothing has changed, and it goes on
     /// once some are taken. Where others wait behind it, or a row was left out before, rows past the limit are counted and not kept. So one who pulls n
-    /// rows at a time names a limit above n. C5 for want of memory, in an open client that isn't full: nothing was used, nothing has changed.
+    /// rows at a time names a limit above n. C5 for want of memory, in an open client that isn't full, where a request waits or the piece wants room as in `Client::feed`: nothing
+    /// was used, nothing has changed.
+    #[tactic(auto, using(crate::proofs::Idle::idle_feed))]
     pub fn feed(&mut self, piece: &[u8]) -> Result<usize, FeedFault>
         ensures fed { let t = tracked_feed (rest_in self.old) (account_of self.old) piece.now in
             UnlessMemory result ((result ≡ t.answer) × ((rest_in self.new ≡ t.rest)
@@ -116,11 +138,17 @@ impl TrackingClient {
             → (rest_in self.new ≡ rest_in self.old) × (account_of self.new ≡ account_of self.old) }
         ensures open { IsErrOf result FeedFault.Memory → ((rest_in self.old).knows.over ≡ false)
             × (is_full (rest_in self.old).knows (account_of self.old) ≡ false) }
+        ensures room { IsErrOf result FeedFault.Memory
+            → (0 < length (rest_in self.old).knows.waiting)
+            ⊎ WantsRoom (rest_in self.old).item piece.now }
         ensures within { IfOk result (λ used. used ≤ length piece.now) }
         ensures goes_on { 0 < length piece.now → IfOk result (λ used. 0 < used) }
     {
         if self.client.has_ended() {
             return Err(FeedFault::Closed);
+        }
+        if self.client.pending() == 0 {
+            return self.feed_idle(piece);
         }
         if self.is_full() {
             return Err(FeedFault::Full);
