@@ -6,7 +6,7 @@ use Rattle.engine.specs.Tokens.{under_token}
 use Rattle.client.specs.declared.Outcome.{Outcome}
 use Rattle.session.specs.Session.{Setting}
 use Rattle.world.specs.Connections.{Ours, Connection, bytes_delivered}
-use Rattle.world.specs.World.{World, ledger, Reached}
+use Rattle.world.specs.World.{World, Event, Seen, WStep, ledger, Reached}
 use Rattle.world.specs.Good.{Each, outcome, change}
 use Rattle.driver.specs.Telling.{adds_nothing}
 use Rattle.driver.specs.Attempts.{Attempt, told_of}
@@ -47,3 +47,11 @@ AttemptAddsNone =
     (S : Setting) (brought : List EntryView) (w : World) → Reached S brought w
     → (c : ℕ) (k : Connection) (a : Attempt) → IsAt w c k a → IsRefused a
     → Each (λ e. e.conn ≡ c → ⊥) w.since
+
+-- An attempt whose client was lost is the same connection after each further event: it is told nothing more, and sends nothing more.
+abbrev pub LostStays : Type 0
+LostStays =
+    (S : Setting) (brought : List EntryView) (w : World) → Reached S brought w
+    → (c : ℕ) (k : Connection) (a : Attempt) → IsAt w c k a → a.lost ≡ true
+    → (e : Event) (seen : Seen) (w2 : World) → WStep S w e seen w2
+    → (k2 : Connection) × IsAt w2 c k2 a

@@ -3,7 +3,7 @@
 
 ghost use Rattle.known.specs.Attempts.{CommittedStands, RefusedAddsNone, StaysKnown};
 ghost use Rattle.known.specs.OneCaller.{OneCallerMayRely};
-ghost use Rattle.known.specs.Tied.{TellsOutcomes, AttemptStands, AttemptAddsNone};
+ghost use Rattle.known.specs.Tied.{TellsOutcomes, AttemptStands, AttemptAddsNone, LostStays};
 
 /// A COMMIT that its client reports Committed, on a connection on which each BEGIN was sent under the token: exactly one entry of the
 /// whole ledger has the token, with the writes of its transaction, whoever added it.
@@ -34,6 +34,11 @@ pub fn attempt_stands()
 /// An attempt that was told of each request that it committed nothing added no entry.
 pub fn attempt_adds_none()
     ensures { AttemptAddsNone }
+{}
+
+/// An attempt whose client was lost is the same connection after each further event: what it tells stays, and what that means.
+pub fn lost_stays()
+    ensures { LostStays }
 {}
 
 /// The headline for one caller: in every reached world in which the attempts are connections of ours, whoever else uses the token, Stands
