@@ -1,9 +1,9 @@
 -- What an account tells is what the attempt tells.
-use Rattle.std.proofs.Common.{◌≡◌, refl, ap, ap₂, ◌∙◌, ℕ, zero, suc, Bool, not, ◌&&◌, ◌||◌, if◌then◌else◌, Option, length}
+use Rattle.std.proofs.Common.{◌≡◌, refl, ap₂, ℕ, zero, suc, Bool, not, ◌&&◌, if◌then◌else◌, Option, length}
 use Rattle.client.specs.declared.Outcome.{Outcome}
 use Rattle.driver.specs.declared.attempts.Tells.{Tells}
 use Rattle.driver.specs.Account.{outcome_of, failure_of}
-use Rattle.driver.specs.Telling.{adds_nothing, is_committed, is_refused, all_nothing, any_refused, is_clash, tells_by}
+use Rattle.driver.specs.Telling.{adds_nothing, is_committed, is_refused, all_nothing, is_clash, any_final, tells_by}
 use Rattle.driver.specs.Attempts.{told_of}
 use Rattle.driver.specs.Runs.{tracking, tracked_calls, attempt_of, AccountTells}
 use Rattle.driver.proofs.Accounts.{accounts_by_bytes}
@@ -17,16 +17,11 @@ module _ (told other : ℕ → Option Outcome) (same : (i : ℕ) → told i ≡ 
   same_nothing zero = refl
   same_nothing (suc n) = ap₂ (λ (o : Option Outcome) (b : Bool). adds_nothing o && b) (same n) (same_nothing n)
 
-  same_refused : (n : ℕ) → any_refused told n ≡ any_refused other n
-  same_refused zero = refl
-  same_refused (suc n) = ap₂ (λ (o : Option Outcome) (b : Bool). is_refused o || b) (same n) (same_refused n)
-
-  pub same_tells : (commit : ℕ) (clash : Bool) (n : ℕ) → tells_by told commit clash n ≡ tells_by other commit clash n
-  same_tells commit clash n =
-      ap₂ (λ (o : Option Outcome) (b : Bool). by_tests (is_committed o) (is_refused o && clash) b (any_refused told n)) (same commit) (same_nothing n)
-      ∙ ap (λ b. by_tests (is_committed (other commit)) (is_refused (other commit) && clash) (all_nothing other n) b) (same_refused n)
+  pub same_tells : (commit : ℕ) (clash final : Bool) (n : ℕ) → tells_by told commit clash final n ≡ tells_by other commit clash final n
+  same_tells commit clash final n = ap₂ (λ (o : Option Outcome) (b : Bool). by_tests (is_committed o) (is_refused o && clash) b final) (same commit) (same_nothing n)
 
 pub account_tells : AccountTells
 account_tells wish limit cs commit conn =
     let x = tracked_calls (tracking wish limit) cs in
-    same_tells (outcome_of x.account) (told_of (attempt_of wish x.run)) (accounts_by_bytes wish limit cs) commit (is_clash (failure_of x.account commit)) (length x.run.sent)
+    let n = length x.run.sent in
+    same_tells (outcome_of x.account) (told_of (attempt_of wish x.run)) (accounts_by_bytes wish limit cs) commit (is_clash (failure_of x.account commit)) (any_final x.account n) n

@@ -39,17 +39,18 @@ outcome_heard i (Got j p o x ∷ ts) = if j == i then Some o else outcome_heard 
 abbrev pub told_of : Attempt → ℕ → Option Outcome
 told_of a i = option_or (outcome_heard i (read a).told) (outcome_lost i (told_lost a))
 
--- an attempt that was made: the ordinal of its COMMIT, whether that was refused since other writes stand, and the number of the connection
--- that it was
+-- an attempt that was made: the ordinal of its COMMIT, whether that was refused since other writes stand, whether a request was refused for
+-- good, and the number of the connection that it was
 pub record Made : Type 0 where
   pub attempt : Attempt
   pub commit : ℕ
   pub clash : Bool
+  pub final : Bool
   pub conn : ℕ
 
 -- what it tells
 abbrev pub tells : Made → Tells
-tells m = tells_by (told_of m.attempt) m.commit m.clash (length m.attempt.sent)
+tells m = tells_by (told_of m.attempt) m.commit m.clash m.final (length m.attempt.sent)
 
 -- what an attempt tells: nothing, where no connection could be opened for it
 abbrev pub tells_in : Option Made → Tells

@@ -6,7 +6,7 @@ use Rattle.client.specs.Rest.{losses}
 use Rattle.client.specs.Moments.{Run, Submits, Feeds, TakesOut, Loses, starts, call}
 use Rattle.driver.specs.Account.{Account, ReplyView, untold, with_losses, rows_taken, outcome_of, failure_of}
 use Rattle.driver.specs.Feeding.{is_full, tracked_feed}
-use Rattle.driver.specs.Telling.{is_clash, tells_of}
+use Rattle.driver.specs.Telling.{is_clash, any_final, tells_of}
 use Rattle.driver.specs.Attempts.{Attempt, told_of, tells}
 
 -- one call: a request, a piece, how many bytes may be taken out, the rows of a request, or the loss
@@ -67,6 +67,7 @@ AccountTells =
       attempt = attempt_of wish x.run;
       commit = commit;
       clash = is_clash (failure_of x.account commit);
+      final = any_final x.account (length x.run.sent);
       conn = conn;
     })
 

@@ -1,5 +1,6 @@
 -- What an attempt tells, by the outcomes of its requests.
-use Rattle.std.specs.Prelude.{ℕ, zero, suc, Bool, true, false, not, ◌&&◌, ◌||◌, if◌then◌else◌, Option, Some, None, List, codes}
+use Rattle.std.specs.Prelude.{nat_eq, ℕ, zero, suc, Bool, true, false, not, ◌&&◌, ◌||◌, if◌then◌else◌, Option, Some, None, List, codes}
+use Rattle.std.specs.List.{starts_with}
 use Rattle.std.specs.Str.{bytes_eq}
 use Rattle.client.specs.declared.Outcome.{Outcome}
 use Rattle.client.specs.declared.Outcome.TheVariants as outcome
@@ -28,18 +29,14 @@ abbrev pub all_nothing : (ℕ → Option Outcome) → ℕ → Bool
 all_nothing told zero = true
 all_nothing told (suc n) = adds_nothing (told n) && all_nothing told n
 
--- one of the first n is refused
-abbrev pub any_refused : (ℕ → Option Outcome) → ℕ → Bool
-any_refused told zero = false
-any_refused told (suc n) = is_refused (told n) || any_refused told n
-
--- What n requests tell of which this is the COMMIT's ordinal; clash: it was refused for other writes. Where nothing else is sure, a doubt.
-abbrev pub tells_by : (ℕ → Option Outcome) → ℕ → Bool → ℕ → Tells
-tells_by told commit clash n =
+-- What n requests tell of which this is the COMMIT's ordinal; clash: it was refused for other writes; final: one was refused for good. Where
+-- nothing else is sure, a doubt.
+abbrev pub tells_by : (ℕ → Option Outcome) → ℕ → Bool → Bool → ℕ → Tells
+tells_by told commit clash final n =
     if is_committed (told commit) then tells.Stands
     else (if is_refused (told commit) && clash then tells.Clash
     else (if not (all_nothing told n) then tells.Doubt
-    else (if any_refused told n then tells.Refused
+    else (if final then tells.Refused
     else tells.Nothing)))
 
 -- the FAILURE says that other writes stand under the token
@@ -47,6 +44,17 @@ abbrev pub is_clash : Option (List ℕ × List ℕ) → Bool
 is_clash (Some failure) = bytes_eq failure.0 (codes "Neo.ClientError.Transaction.TokenClash")
 is_clash None = false
 
--- the same by the account, where the COMMIT's FAILURE says whether it was for other writes
+-- the FAILURE is of the client's making, and comes each time (Neo4j status codes, the class ClientError)
+abbrev pub is_final : Option (List ℕ × List ℕ) → Bool
+is_final (Some failure) = starts_with nat_eq failure.0 (codes "Neo.ClientError.")
+is_final None = false
+
+-- one of the first n is refused for good
+abbrev pub any_final : Account → ℕ → Bool
+any_final a zero = false
+any_final a (suc n) = is_final (failure_of a n) || any_final a n
+
+-- the same by the account, where the FAILUREs say what they are for
 abbrev pub tells_of : Account → ℕ → ℕ → Tells
-tells_of a commit n = tells_by (outcome_of a) commit (is_clash (failure_of a commit)) n
+tells_of a commit n =
+    tells_by (outcome_of a) commit (is_clash (failure_of a commit)) (any_final a n) n

@@ -9,9 +9,9 @@ pub enum Tells {
     Stands,
     /// Its COMMIT was refused, since other writes stand under the token.
     Clash,
-    /// A request was refused, and nothing of it may have committed.
+    /// A request was refused for good, and nothing of it may have committed.
     Refused,
-    /// Nothing of it may have committed, and nothing was refused; or no connection could be opened for it.
+    /// Nothing of it may have committed, and nothing was refused for good; or no connection could be opened for it.
     Nothing,
     /// It may have committed: an outcome is Unknown, or not known yet.
     Doubt,
@@ -24,7 +24,7 @@ pub enum Fate {
     Stands,
     /// Other writes stand under the token: of an earlier attempt, which saw other data, or of whoever took the token first.
     Clash,
-    /// A request was refused, and no attempt may have committed.
+    /// A request was refused for good, and no attempt may have committed.
     Refused,
     /// The tries are used up, and an attempt may have committed.
     Open,

@@ -1,7 +1,7 @@
 //! What an attempt tells, by the outcomes of its requests.
 ghost use Rattle.std.specs.Prelude.{◌≡◌};
 ghost use Rattle.driver.specs.Account.{outcome_of, failure_of};
-ghost use Rattle.driver.specs.Telling.{adds_nothing, is_committed, is_refused, all_nothing, any_refused, is_clash, tells_of};
+ghost use Rattle.driver.specs.Telling.{adds_nothing, is_committed, is_refused, all_nothing, is_clash, is_final, any_final, tells_of};
 ghost use Rattle.driver.specs.Holding.{account_of};
 
 use crate::attempts::Tells;
@@ -41,13 +41,23 @@ impl TrackingClient {
         all
     }
 
-    /// Whether one of the first requests is refused.
-    fn any_refused(&self, count: u64) -> bool
-        ensures { result ≡ any_refused (outcome_of (account_of self.now)) count }
+    /// Whether its FAILURE comes each time: its code says that the request has to be changed.
+    fn is_final(&self, ordinal: u64) -> bool
+        ensures { result ≡ is_final (failure_of (account_of self.now) ordinal) }
+    {
+        match self.failure(ordinal) {
+            Some((code, _)) => code.as_bytes().starts_with("Neo.ClientError.".as_bytes()),
+            None => false,
+        }
+    }
+
+    /// Whether one of the first requests is refused for good.
+    fn any_final(&self, count: u64) -> bool
+        ensures { result ≡ any_final (account_of self.now) count }
     {
         let mut any = false;
         for i in 0..count {
-            any = is_refused(self.outcome(i)) || any;
+            any = self.is_final(i) || any;
         }
         any
     }
@@ -63,7 +73,8 @@ impl TrackingClient {
     }
 
     /// What an attempt of one transaction tells that asked so many requests, of which this is the COMMIT's ordinal: a doubt, where nothing else is
-    /// sure. It takes no memory.
+    /// sure. Of FAILUREs alone whose code begins with `Neo.ClientError.` it tells Refused; another may not come again, and adds nothing as well. It
+    /// takes no memory.
     pub fn tells(&self, commit: u64, count: u64) -> Tells
         ensures { result ≡ tells_of (account_of self.now) commit count }
     {
@@ -77,7 +88,7 @@ impl TrackingClient {
         if !self.all_nothing(count) {
             return Tells::Doubt;
         }
-        if self.any_refused(count) {
+        if self.any_final(count) {
             return Tells::Refused;
         }
         Tells::Nothing

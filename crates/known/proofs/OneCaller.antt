@@ -8,7 +8,7 @@ use Rattle.world.specs.Prelude.{World, Reached, Each}
 use Rattle.driver.specs.declared.Tells.{Tells}
 use Rattle.driver.specs.declared.Fate.{Fate}
 use Rattle.driver.specs.Fates.{fate_of}
-use Rattle.driver.specs.Telling.{adds_nothing, is_committed, is_refused, all_nothing, any_refused}
+use Rattle.driver.specs.Telling.{adds_nothing, is_committed, is_refused, all_nothing}
 use Rattle.driver.specs.Attempts.{told_of, Made, tells, tells_in}
 use Rattle.known.specs.OneCaller.{IsMade, IsTry, OneStands, AddsNone, NoneAdded, OneCallerMayRely}
 use Rattle.known.proofs.Tied.{attempt_stands, attempt_adds_none}
@@ -42,7 +42,7 @@ told_by false false true false x h = ((λ e. let no = h ∙ e in cc), (λ e. ref
 module _ (S : Setting) (brought : List EntryView) (w : World) (r : Reached S brought w) (t : List ℕ) where
   module _ (m : Made) where
     abbrev tests : (x : Tells) → tells m ≡ x → (x ≡ Tells.Stands → is_committed (told_of m.attempt m.commit) ≡ true) × (x ≡ Tells.Refused → all_nothing (told_of m.attempt) (length m.attempt.sent) ≡ true) × (x ≡ Tells.Nothing → all_nothing (told_of m.attempt) (length m.attempt.sent) ≡ true)
-    tests x h = told_by (is_committed (told_of m.attempt m.commit)) (is_refused (told_of m.attempt m.commit) && m.clash) (all_nothing (told_of m.attempt) (length m.attempt.sent)) (any_refused (told_of m.attempt) (length m.attempt.sent)) x h
+    tests x h = told_by (is_committed (told_of m.attempt m.commit)) (is_refused (told_of m.attempt m.commit) && m.clash) (all_nothing (told_of m.attempt) (length m.attempt.sent)) m.final x h
 
     made_stands : IsMade t w m → tells m ≡ Tells.Stands → OneStands S t w (Some m ∷ [])
     made_stands is h = record {
