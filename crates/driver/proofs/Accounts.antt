@@ -20,11 +20,11 @@ use Rattle.driver.specs.Attempts.{outcome_heard, told_of}
 use Rattle.driver.specs.Runs.{TrackedCall, Asks, Hears, Sends, TakesRows, IsLost, TrackedRun, tracking, tracked_call, tracked_calls, attempt_of, AccountsByBytes}
 
 -- A summary is of the first that waits, and then the next is the first; else none is answered.
-abbrev NoteStep : ℕ → Note → ℕ → Type 0
+abbrev pub NoteStep : ℕ → Note → ℕ → Type 0
 NoteStep n (Summary j p o x) m = (j ≡ n) × (m ≡ suc n)
 NoteStep n x m = m ≡ n
 
-abbrev Step : ℕ → Result (ℕ × Note) ClientFault → ℕ → Type 0
+abbrev pub Step : ℕ → Result (ℕ × Note) ClientFault → ℕ → Type 0
 Step n (Ok used) m = NoteStep n used.1 m
 Step n (Err e) m = m ≡ n
 
@@ -36,7 +36,7 @@ made_step wish k used x h tells_none = refl
 made_step wish k used x h (tells_row cells n later w) = refl
 made_step wish k used x h (tells_summary a s) = (refl, refl)
 
-feed_step : (r : Rest) (piece : List ℕ) → Step r.knows.first (feed_of r piece).answer (feed_of r piece).rest.knows.first
+pub feed_step : (r : Rest) (piece : List ℕ) → Step r.knows.first (feed_of r piece).answer (feed_of r piece).rest.knows.first
 feed_step r piece =
     cond_both r.knows.over (let f : Fed = record { rest = r; answer = Err client_fault.Closed } in f) (fed_open r (takes at_client r.item piece)) (λ (f : Fed). Step r.knows.first f.answer f.rest.knows.first) (λ _. refl)
     (λ _. by_item (record r { item = (takes at_client r.item piece).rest }) (takes at_client r.item piece).used (takes at_client r.item piece).item)
@@ -89,7 +89,7 @@ taken_keeps None true a rs = refl
 taken_keeps None false a rs = refl
 
 -- a row leaves the replies
-row_replies : (a : Account) (cells : List Tree) → (with_row a cells).replies ≡ a.replies
+pub row_replies : (a : Account) (cells : List Tree) → (with_row a cells).replies ≡ a.replies
 row_replies a cells = cond_both (keeps_row a) _ _ (λ (z : Account). z.replies ≡ a.replies) (λ _. refl) (λ _. refl)
 
 -- what is kept of an account and of what was told

@@ -5,3 +5,4 @@ pub mod FewRows
 pub mod Sure
 pub mod Taking
 pub mod Idle
+pub mod HeldRows

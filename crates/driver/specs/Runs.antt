@@ -1,10 +1,12 @@
 -- A tracking client of which calls are made in any order.
-use Rattle.std.specs.Prelude.{◌≡◌, ◌≤◌, ℕ, if◌then◌else◌, List, [], ◌∷◌, length}
+use Rattle.std.specs.Prelude.{◌≡◌, ◌≤◌, ◌==◌, ℕ, suc, if◌then◌else◌, List, [], ◌∷◌, ◌++◌, length, take}
+use Rattle.packstream.specs.Tree.{Tree}
 use Rattle.wire.specs.declared.Wish.{Wish}
 use Rattle.messages.specs.View.{RequestView}
+use Rattle.client.specs.Verdicts.{Told, GotRow, Got}
 use Rattle.client.specs.Rest.{losses}
 use Rattle.client.specs.Moments.{Run, Submits, Feeds, TakesOut, Loses, starts, call}
-use Rattle.driver.specs.Account.{Account, ReplyView, untold, with_losses, rows_taken, outcome_of, failure_of}
+use Rattle.driver.specs.Account.{Account, ReplyView, untold, with_losses, rows_taken, rows_of, outcome_of, failure_of}
 use Rattle.driver.specs.Feeding.{is_full, tracked_feed}
 use Rattle.driver.specs.Telling.{is_clash, any_final, tells_of}
 use Rattle.driver.specs.Attempts.{Attempt, told_of, tells}
@@ -82,3 +84,29 @@ KeepsFewRows =
     (wish : Wish) (limit : ℕ) (cs : List TrackedCall)
     → let a = (tracked_calls (tracking wish limit) cs).account in
     (length a.rows ≤ limit) × FewRows limit a.replies
+
+-- no rows are taken
+abbrev pub NoneTaken : List TrackedCall → Type 0
+NoneTaken [] = Unit {0}
+NoneTaken (TakesRows i ∷ cs) = ⊥
+NoneTaken (c ∷ cs) = NoneTaken cs
+
+-- how many summaries were told, the newest first
+abbrev pub summaries_in : List Told → ℕ
+summaries_in [] = 0
+summaries_in (GotRow row ∷ ts) = summaries_in ts
+summaries_in (Got j p o x ∷ ts) = suc (summaries_in ts)
+
+-- The rows of a request, in order: those that were told behind as many summaries as its ordinal says.
+abbrev pub rows_told : ℕ → List Told → List (List Tree)
+rows_told i [] = []
+rows_told i (GotRow row ∷ ts) = if summaries_in ts == i then rows_told i ts ++ row ∷ []
+    else rows_told i ts
+rows_told i (Got j p o x ∷ ts) = rows_told i ts
+
+-- After every list of calls by which no rows are taken, the rows that are held of each request are the first of its own.
+abbrev pub HoldsItsRows : Type 0
+HoldsItsRows =
+    (wish : Wish) (limit : ℕ) (cs : List TrackedCall) → NoneTaken cs → (i : ℕ)
+    → let x = tracked_calls (tracking wish limit) cs in
+    rows_of x.run.rest.knows.first x.account i ≡ take limit (rows_told i x.run.told)
