@@ -92,6 +92,7 @@ abbrev pub failure_in : ResponseView → Option (List ℕ × List ℕ)
 failure_in (ResponseView.Failure code message) = Some (code, message)
 failure_in x = None
 
+-- the same of a response, where there is one
 abbrev pub failure_by : Option ResponseView → Option (List ℕ × List ℕ)
 failure_by None = None
 failure_by (Some x) = failure_in x
@@ -110,12 +111,13 @@ rows_or None false rows = []
 abbrev pub rows_of : ℕ → Account → ℕ → List (List Tree)
 rows_of first a i = rows_or (reply_in i a.replies) (first == i) a.rows
 
--- the number of its rows that aren't kept
+-- how many rows of a request came behind those that were kept, by its reply, or by what waits first
 abbrev pub left_or : Option ReplyView → Bool → ℕ → ℕ
 left_or (Some r) waits left = r.left
 left_or None true left = left
 left_or None false left = 0
 
+-- the same by the account; first: the ordinal of the one that waits first
 abbrev pub left_of : ℕ → Account → ℕ → ℕ
 left_of first a i = left_or (reply_in i a.replies) (first == i) a.left
 

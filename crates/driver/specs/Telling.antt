@@ -16,10 +16,12 @@ adds_nothing (Some outcome.Ignored) = true
 adds_nothing (Some outcome.Lost) = true
 adds_nothing o = false
 
+-- COMMIT, or what else commits, was answered SUCCESS
 abbrev pub is_committed : Option Outcome → Bool
 is_committed (Some outcome.Committed) = true
 is_committed o = false
 
+-- it has a FAILURE
 abbrev pub is_refused : Option Outcome → Bool
 is_refused (Some outcome.Refused) = true
 is_refused o = false

@@ -8,6 +8,7 @@ use crate::attempts::Tells;
 use crate::tracking::TrackingClient;
 use client::Outcome;
 
+/// Whether it says for sure that nothing was committed.
 fn adds_nothing(outcome: Option<Outcome>) -> bool
     ensures { result ≡ adds_nothing outcome }
 {
@@ -17,12 +18,14 @@ fn adds_nothing(outcome: Option<Outcome>) -> bool
     )
 }
 
+/// Whether it says that this committed.
 fn is_committed(outcome: Option<Outcome>) -> bool
     ensures { result ≡ is_committed outcome }
 {
     matches!(outcome, Some(Outcome::Committed))
 }
 
+/// Whether it says that there was a FAILURE.
 fn is_refused(outcome: Option<Outcome>) -> bool
     ensures { result ≡ is_refused outcome }
 {

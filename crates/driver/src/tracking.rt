@@ -1,9 +1,10 @@
 //! A client that keeps track of its requests.
-ghost use Rattle.std.specs.Prelude.{◌≡◌, ◌⊎◌, [], Some, None, ◌≤◌, ◌<◌, IfOk, IfErr, OnErr, IsErrOf, take, length, true, false};
+ghost use Rattle.std.specs.Prelude.{◌≡◌, ◌⊎◌, ◌^◌, [], Some, None, ◌≤◌, ◌<◌, IfOk, IfErr, OnErr, IsErrOf, take, length, true, false};
 ghost use Rattle.messages.specs.View.{request_view};
 ghost use Rattle.client.specs.Rest.{begun, refuses, refuses_at_once, after_submit, feed_of, taken_out, losses, after_drop, awaits};
 ghost use Rattle.client.specs.Fits.{IsAccepted};
 ghost use Rattle.client.specs.Held.{WantsRoom};
+ghost use Rattle.machine.specs.Limits.{max_waiting};
 ghost use Rattle.driver.specs.Account.{untold, keeps_row, with_losses, settled};
 ghost use Rattle.driver.specs.Feeding.{is_idle, is_full, used_by, tracked_feed, UnlessMemory};
 ghost use Rattle.driver.specs.Holding.{rest_in, account_of};
@@ -81,6 +82,7 @@ impl TrackingClient {
             × (rest_in self.new ≡ taken_out (rest_in self.old) max)) }
         ensures err { OnErr result (rest_in self.new ≡ rest_in self.old) }
         ensures fault { IfErr result (λ e. e ≡ ClientFault.Memory) }
+        ensures short { IfOk result (λ bytes. length bytes < 2 ^ 63) }
         ensures memory { OnErr result (0 < length (take max (rest_in self.old).unsent)) }
         ensures account { account_of self.new ≡ account_of self.old }
     {
@@ -125,10 +127,12 @@ impl TrackingClient {
 
     /// Feeds a piece to the end of the item begun, else all of it, as `Client::feed` does, and answers how much; what is told is in the account.
     ///
-    /// C4 and C6 as there. `Full` where `limit` rows of the one request that waits are held: nothing was used and nothing has changed, and it goes on
-    /// once some are taken. Where others wait behind it, or a row was left out before, rows past the limit are counted and not kept. So one who pulls n
-    /// rows at a time names a limit above n. C5 for want of memory, in an open client that isn't full, where a request waits or the piece wants room as in `Client::feed`: nothing
-    /// was used, nothing has changed.
+    /// `Full` where `limit` rows of the one request that waits are held: nothing was used and nothing has changed, and it goes on once some are
+    /// taken. Where others wait behind it, or a row was left out before, rows past the limit are counted and not kept. So one who pulls n rows at
+    /// a time names a limit above n.
+    ///
+    /// C4 and C6 as there; C5 for want of memory, in an open client that isn't full, where a request waits or the piece wants room as in
+    /// `Client::feed`: nothing was used, nothing has changed.
     #[tactic(auto, using(crate::proofs::Idle::idle_feed))]
     pub fn feed(&mut self, piece: &[u8]) -> Result<usize, FeedFault>
         ensures fed { let t = tracked_feed (rest_in self.old) (account_of self.old) piece.now in
@@ -240,9 +244,10 @@ impl TrackingClient {
         self.client.phase()
     }
 
-    /// How many requests wait, none after `lost`. It takes no memory.
+    /// How many requests wait, at most 32, and none after `lost`. It takes no memory.
     pub fn pending(&self) -> usize
-        ensures { result ≡ length (rest_in self.now).knows.waiting }
+        ensures count { result ≡ length (rest_in self.now).knows.waiting }
+        ensures few { result ≤ max_waiting }
     {
         self.client.pending()
     }
