@@ -1,0 +1,4 @@
+pub mod Attempts
+pub mod Tied
+pub mod OneCaller
+pub mod Staying

@@ -1,0 +1,57 @@
+-- An attempt as its caller saw it, and the connection of a world that it is.
+use Rattle.std.specs.Prelude.{◌≡◌, ℕ, ◌<◌, true, Some, List, [], ◌∷◌, length, slice_get}
+use Rattle.messages.specs.View.{RequestView}
+use Rattle.engine.specs.Views.{EntryView}
+use Rattle.engine.specs.Tokens.{under_token}
+use Rattle.client.specs.declared.Outcome.{Outcome}
+use Rattle.session.specs.Session.{Setting}
+use Rattle.world.specs.Connections.{Ours, Connection, bytes_delivered}
+use Rattle.world.specs.World.{World, Event, Seen, WStep, ledger, Reached}
+use Rattle.world.specs.Good.{Each, outcome, change}
+use Rattle.driver.specs.Telling.{adds_nothing}
+use Rattle.driver.specs.Attempts.{Attempt, told_of}
+use Rattle.known.specs.Attempts.{BeginsUnder}
+
+-- The connection of this number in the world is the attempt: its client is one of ours, of this wish, submitted these requests, and was
+-- given these bytes.
+pub record IsAt (w : World) (c : ℕ) (k : Connection) (a : Attempt) : Type 0 where
+  pub here : slice_get w.conns c ≡ Some k
+  pub ours : k.peer ≡ Ours a.wish
+  pub sent : k.sent ≡ a.sent
+  pub took : bytes_delivered k ≡ a.took
+  pub lost : k.client_lost ≡ a.lost
+
+-- What a caller was told of a request is what its connection reports.
+abbrev pub TellsOutcomes : Type 0
+TellsOutcomes =
+    (S : Setting) (brought : List EntryView) (w : World) → Reached S brought w
+    → (c : ℕ) (k : Connection) (a : Attempt) → IsAt w c k a
+    → (i : ℕ) (o : Outcome) → told_of a i ≡ Some o → outcome k i ≡ Some o
+
+-- An attempt was told that its COMMIT committed: exactly one entry of the whole ledger has the token, with its transaction's writes.
+abbrev pub AttemptStands : Type 0
+AttemptStands =
+    (S : Setting) (brought : List EntryView) (w : World) → Reached S brought w → (t : List ℕ)
+    → (c : ℕ) (k : Connection) (a : Attempt) → IsAt w c k a → BeginsUnder t a.sent
+    → (i : ℕ) → slice_get a.sent i ≡ Some RequestView.Commit
+    → told_of a i ≡ Some Outcome.Committed
+    → under_token t (ledger w) ≡ (change S w k i).writes ∷ []
+
+-- each request of the attempt was told to have committed nothing
+abbrev pub IsRefused : Attempt → Type 0
+IsRefused a = (i : ℕ) → i < length a.sent → adds_nothing (told_of a i) ≡ true
+
+-- Such an attempt added no entry.
+abbrev pub AttemptAddsNone : Type 0
+AttemptAddsNone =
+    (S : Setting) (brought : List EntryView) (w : World) → Reached S brought w
+    → (c : ℕ) (k : Connection) (a : Attempt) → IsAt w c k a → IsRefused a
+    → Each (λ e. e.conn ≡ c → ⊥) w.since
+
+-- An attempt whose client was lost is the same connection after each further event: it is told nothing more, and sends nothing more.
+abbrev pub LostStays : Type 0
+LostStays =
+    (S : Setting) (brought : List EntryView) (w : World) → Reached S brought w
+    → (c : ℕ) (k : Connection) (a : Attempt) → IsAt w c k a → a.lost ≡ true
+    → (e : Event) (seen : Seen) (w2 : World) → WStep S w e seen w2
+    → (k2 : Connection) × IsAt w2 c k2 a
