@@ -54,6 +54,14 @@ summary_of summary.Plain = messages.Plain
 summary_of (summary.Failure fault) = failure fault
 summary_of summary.Passed = messages.Passed
 
+-- a summary that always tells the same: no number, and no failure
+abbrev pub is_ready : Summary → Bool
+is_ready summary.RowsLeft = true
+is_ready (summary.Closing None mode) = true
+is_ready summary.Plain = true
+is_ready summary.Passed = true
+is_ready _ = false
+
 -- the spelling of a response, as a message of the wire
 pub record IsBody (v : Version) (m : ResponseView) (b : List ℕ) : Type 0 where
   pub text : response_spelling v m ≡ Ok b

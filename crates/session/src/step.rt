@@ -278,7 +278,7 @@ impl Session {
                 summary,
                 after,
             } => {
-                spell_summary(self.alloc, self.version(), summary, &mut self.body)?;
+                spell_summary(self.version(), summary, &mut self.body)?;
                 self.summarize(worked_in, verdict, after, conn, kind, engine)
             }
             Act::Goodbye => {
