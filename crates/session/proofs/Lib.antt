@@ -9,3 +9,4 @@ pub mod Free
 pub mod Summed
 pub mod Listed
 pub mod Fielded
+pub mod Sent

@@ -1,5 +1,5 @@
 -- What is decided, as the model's reply.
-use Rattle.std.proofs.Common.{◌≡◌, ◌∙◌, ap, subst, refl, ℕ, suc, ◌<◌, ◌≤◌, Bool, true, false, not, ◌&&◌, ◌==◌, List, [], ◌∷◌, length, drop, None, arith, length-drop, is_some, Result, IfOk}
+use Rattle.std.proofs.Common.{◌≡◌, ◌∙◌, ap, sym, subst, refl, ℕ, suc, ◌<◌, ◌≤◌, Bool, true, false, not, ◌&&◌, ◌==◌, List, [], ◌∷◌, length, drop, None, arith, length-drop, is_some, Result, IfOk}
 use Rattle.std.specs.declared.alloc.AllocError.{AllocError}
 use Rattle.std.proofs.lemmas.Bool.Decides.{nat_tests}
 use Rattle.session.specs.declared.acts.Act.{Act}
@@ -8,14 +8,17 @@ use Rattle.packstream.specs.Prelude.{Tree}
 use Rattle.wire.specs.declared.Version.{Version}
 use Rattle.messages.specs.declared.request.Count.{Count}
 use Rattle.messages.specs.declared.request.Count.TheVariants as counts
-use Rattle.messages.specs.Prelude.{RequestView, ResponseView, response_of_summary, RowsLeft, Closing}
+use Rattle.messages.specs.Prelude.{RequestView, ResponseView, response_of_summary, response_spelling, RowsLeft, Closing}
 use Rattle.machine.specs.declared.states.State.{State}
 use Rattle.machine.specs.declared.states.State.TheVariants as states
 use Rattle.machine.specs.declared.kinds.Kind.{Kind}
 use Rattle.machine.specs.declared.rows.Verdict.{Verdict}
 use Rattle.machine.specs.Prelude.{row_at}
 use Rattle.engine.specs.Prelude.{EntryView}
-use Rattle.session.specs.Prelude.{Setting, Open, no_result, Tx, Reply, Summary, close, close_last, used_up, count_at, left_after, pull, serve, fits, IsBody, reply_of, streams, owes_row, row_reply}
+use Rattle.session.specs.declared.fault.Fault.{Fault}
+use Rattle.session.specs.declared.spelling.Unwritten.{Unwritten}
+use Rattle.session.specs.declared.spelling.Unwritten.TheVariants as unwritten
+use Rattle.session.specs.Prelude.{Setting, Open, no_result, Tx, Reply, Summary, close, close_last, used_up, count_at, left_after, pull, serve, fits, fails, if_fits, unwritable, IsBody, IsRefused, Refuses, reply_of, streams, owes_row, runs, asked_by, token_of_run, reply_to_run, row_reply}
 
 -- of an act whose reply is another name of the same
 pub acts_same : (v : Version) (s : State) (left : Open) (tx : Tx) (r : Result Act AllocError) (x y : Reply) → x ≡ y → IfOk r (λ act. reply_of v s left tx act ≡ x) → IfOk r (λ act. reply_of v s left tx act ≡ y)
@@ -97,3 +100,22 @@ owed_some s left q h = absurd cc
 pub first_sized : (v : Version) (rows : List (List Tree)) (b : List ℕ) → 0 < length rows → ((row : List Tree) (rest : List (List Tree)) → rows ≡ row ∷ rest → IsBody v (ResponseView.Record row) b × (fits v (ResponseView.Record row) ≡ true)) → (0 < length b) × (length b ≤ 65536)
 first_sized v [] b h w = absurd (omega arith)
 first_sized v (r ∷ rs) b h w = let x = (w r rs refl).0 in (x.some, x.few)
+
+-- A RUN that has a row in its state is answered by what its engine answers.
+pub run_served : (S : Setting) (v : Version) (c : ℕ) (ledger : List EntryView) (s : State) (left : Open) (tx : Tx) (q : RequestView) → runs v s q ≡ true → reply_to_run v s tx (token_of_run q) (asked_by S.run ledger s tx q) ≡ serve S v c ledger s left tx q
+run_served S v c ledger states.Ready left tx (RequestView.Run query params mode token) h = refl
+run_served S v c ledger states.TxReady left tx (RequestView.Run query params mode token) h = refl
+run_served S v c ledger s left tx (RequestView.Run query params mode token) h = absurd cc
+run_served S v c ledger s left tx q h = absurd cc
+
+-- What can't be written is answered by a FAILURE.
+pub unfit : (w v : Version) (m n : ResponseView) (reply : Reply) (f : Fault) (u : Unwritten) → w ≡ v → m ≡ n → Refuses w m u → u ≡ unwritten.Because f → fails f ≡ if_fits v n reply
+unfit w v m n reply f u e d h is =
+    let r : IsRefused w m f = subst (Refuses w m) is h in
+    let misfit : fits v n ≡ false = ap (fits v) (sym d) ∙ ap (λ x. fits x m) (sym e) ∙ r.misfit in
+    let why : unwritable (response_spelling v n) ≡ f = ap (λ x. unwritable (response_spelling v x)) (sym d) ∙ ap (λ x. unwritable (response_spelling x m)) (sym e) ∙ r.why in
+    rw misfit (ap fails (sym why))
+
+pub row_unfit : (w v : Version) (rows : List (List Tree)) (left : Open) (f : Fault) (u : Unwritten) → w ≡ v → 0 < length rows → ((row : List Tree) (rest : List (List Tree)) → rows ≡ row ∷ rest → Refuses w (ResponseView.Record row) u) → u ≡ unwritten.Because f → fails f ≡ row_reply v rows left
+row_unfit w v [] left f u e some h is = absurd (omega arith)
+row_unfit w v (r ∷ rs) left f u e some h is = unfit w v (ResponseView.Record r) (ResponseView.Record r) _ f u e refl (h r rs refl) is

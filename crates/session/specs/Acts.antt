@@ -1,5 +1,5 @@
 -- What a step decides before it changes anything, and what it leaves.
-use Rattle.std.specs.Prelude.{◌≡◌, if◌then◌else◌, ℕ, suc, ◌+◌, ◌<◌, ◌≤◌, List, [], ◌∷◌, ◌++◌, length, drop, Option, Some, None, option_map, Ok, Bool, true, false, not, ◌&&◌, ◌==◌}
+use Rattle.std.specs.Prelude.{◌≡◌, if◌then◌else◌, ℕ, suc, ◌+◌, ◌<◌, ◌≤◌, List, [], ◌∷◌, ◌++◌, length, drop, Option, Some, None, option_map, is_some, Result, Ok, Err, Bool, true, false, not, ◌&&◌, ◌==◌}
 use Rattle.packstream.specs.Tree.{Tree}
 use Rattle.wire.specs.declared.Version.{Version}
 use Rattle.messages.specs.View.{RequestView, ResponseView}
@@ -13,8 +13,9 @@ use Rattle.machine.specs.declared.kinds.Kind.{Kind}
 use Rattle.machine.specs.declared.rows.Verdict.{Verdict}
 use Rattle.engine.specs.declared.ledger.Commit.{Commit}
 use Rattle.engine.specs.declared.ledger.Commit.TheVariants.{Added, Repeat, Clash}
+use Rattle.engine.specs.declared.answer.Mode.{Mode as QueryMode}
 use Rattle.engine.specs.Tokens.{Free, found_in}
-use Rattle.engine.specs.Views.{Token, WriteView, EntryView, token_view, answer_view}
+use Rattle.engine.specs.Views.{Token, WriteView, ParameterView, EntryView, AnswerView, QueryFault, unknown_text, token_view}
 use Rattle.session.specs.declared.waiting.Waiting.{Waiting}
 use Rattle.session.specs.declared.waiting.Waiting.TheVariants as waiting
 use Rattle.session.specs.declared.kinds.Cause.{Cause}
@@ -37,8 +38,9 @@ use Rattle.session.specs.declared.spelling.Unwritten.TheVariants as unwritten
 use Rattle.session.specs.Faults.{failure}
 use Rattle.session.specs.Said.{fits}
 use Rattle.machine.specs.Asks.{is_goodbye, is_reset}
-use Rattle.session.specs.Session.{Open, no_result, Tx, no_tx, Change, change_alone, change_inside, Reply, fails, opens, if_fits, used_up, unwritable, passed_over}
-use Rattle.session.specs.Rest.{Kept, Step, worked_of, commit_entries}
+use Rattle.machine.specs.Rows.{row_at}
+use Rattle.session.specs.Session.{Open, no_result, Tx, no_tx, Change, change_alone, change_inside, Reply, fails, if_fits, used_up, unwritable, passed_over, in_transaction, query_mode}
+use Rattle.session.specs.Rest.{Kept, Step, version_of, worked_of, commit_entries}
 use Rattle.wire.specs.Limits.{max_message}
 use Rattle.engine.specs.Limits.{ledger_bound}
 
@@ -52,11 +54,26 @@ summary_of summary.Plain = messages.Plain
 summary_of (summary.Failure fault) = failure fault
 summary_of summary.Passed = messages.Passed
 
+-- a summary that always tells the same: no number, and no failure
+abbrev pub is_ready : Summary → Bool
+is_ready summary.RowsLeft = true
+is_ready (summary.Closing None mode) = true
+is_ready summary.Plain = true
+is_ready summary.Passed = true
+is_ready _ = false
+
 -- the spelling of a response, as a message of the wire
 pub record IsBody (v : Version) (m : ResponseView) (b : List ℕ) : Type 0 where
   pub text : response_spelling v m ≡ Ok b
   pub some : 0 < length b
   pub few : length b ≤ max_message
+
+-- A response was said: what fits is its spelling, whose written run stands behind what was there.
+pub record IsPut (v : Version) (m : ResponseView) (old new : List ℕ) : Type 0 where
+  pub body : List ℕ
+  pub spelled : IsBody v m body
+  pub fits : fits v m ≡ true
+  pub run : new ≡ old ++ written_run body
 
 -- why a writer wrote nothing
 abbrev pub unwritten_of : MsgFault → Unwritten
@@ -101,7 +118,6 @@ abbrev pub reply_of : Version → State → Open → Tx → Act → Reply
 reply_of v s left tx (act.Says d said after) =
     Reply.Summary d (response_of_summary (summary_of said)) (left_result after left)
     (left_tx after tx) (left_entry after left tx)
-reply_of v s left tx (act.Opens o) = opens v s tx (token_view o.token) (answer_view o.answer)
 reply_of v s left tx act.Goodbye = Reply.Bye
 
 -- the states in which a result is open
@@ -115,6 +131,25 @@ abbrev pub owes_row : State → Open → RequestView → Bool
 owes_row s left (RequestView.Pull n) =
     streams s && (not (used_up n left.written) && not (length left.rows == 0))
 owes_row s left q = false
+
+-- the request is a RUN that has a row in the state
+abbrev pub runs : Version → State → RequestView → Bool
+runs v s (RequestView.Run query params mode token) = is_some (row_at v s Kind.Run Verdict.Success)
+runs v s q = false
+
+-- what a RUN asks of the engine: over a transaction's own writes and in its mode, or over none in the mode of the RUN
+abbrev pub asked_by : (List EntryView → List WriteView → List ℕ → List ParameterView → QueryMode
+    → Result AnswerView QueryFault) → List EntryView → State → Tx → RequestView
+    → Result AnswerView QueryFault
+asked_by run ledger s tx (RequestView.Run query params mode token) =
+    if in_transaction s then run ledger tx.writes query params (query_mode tx.mode)
+    else run ledger [] query params (query_mode mode)
+asked_by run ledger s tx q = Err unknown_text
+
+-- the token of a RUN
+abbrev pub token_of_run : RequestView → Token
+token_of_run (RequestView.Run query params mode token) = token
+token_of_run q = None
 
 -- the first of these rows, or the FAILURE where it can't be written
 abbrev pub row_reply : Version → List (List Tree) → Open → Reply
@@ -181,6 +216,12 @@ after_summary state ended left tx body k =
 -- a row was written
 abbrev pub after_bytes : List ℕ → Kept → Kept
 after_bytes body k = record k { result = one_less k.result; unsent = k.unsent ++ written_run body }
+
+-- the first row was sent
+abbrev pub SendsRow : Kept → Kept → Type 0
+SendsRow old new = (row : List Tree) (rest : List (List Tree)) → old.result.rows ≡ row ∷ rest
+    → (IsPut (version_of old) (ResponseView.Record row) old.unsent new.unsent)
+    × (new ≡ record old { result = one_less old.result; unsent = new.unsent })
 
 -- the ledger's length after it, where it commits
 abbrev pub length_after : List EntryView → Option Change → Option ℕ

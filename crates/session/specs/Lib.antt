@@ -3,7 +3,6 @@ pub mod Faults
 pub mod Said
 pub mod Session
 pub mod Rest
-pub mod Rows
 pub mod Waits
 pub mod Views
 pub mod Acts

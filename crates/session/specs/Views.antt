@@ -4,7 +4,7 @@ use Rattle.messages.specs.declared.fault.MsgFault.{MsgFault}
 use Rattle.messages.specs.declared.request.Request.{Request}
 use Rattle.messages.specs.View.{request_view}
 use Rattle.messages.specs.Arrivals.{Arrival, Asked, Unread, TooLong}
-use Rattle.engine.specs.Views.{EntryView, token_view, writes_view}
+use Rattle.engine.specs.Views.{EntryView, rows_view, token_view, writes_view}
 use Rattle.session.specs.declared.session.Session.{Session}
 use Rattle.session.specs.declared.waiting.Waiting.{Waiting}
 use Rattle.session.specs.declared.waiting.Waiting.TheVariants as waiting
@@ -36,7 +36,7 @@ first_of (x ∷ xs) = Some x
 -- the open result, by what is held of it
 abbrev pub open_of : OpenResult → Open
 open_of r = record {
-  rows = r.rows.items;
+  rows = rows_view r.rows.items;
   mode = r.mode;
   write = first_of (writes_view r.writes.items);
   written = r.written;

@@ -9,11 +9,12 @@ ghost use Rattle.session.specs.Acts.{left_result, left_tx, left_entry, length_af
 ghost use Rattle.engine.specs.Limits.{ledger_bound};
 
 use crate::acts::After;
-use crate::result::{OpenResult, Row, Transaction};
+use crate::result::{OpenResult, Transaction};
 use engine::{Commit, Engine, EntryId, NoMemory, Write};
 use std::alloc::{AllocError, Global};
 use std::collections::VecDeque;
 use std::mem;
+use structures::Cell;
 
 /// Leaves open what is to be left, and commits what is to be committed, of which the ledger has nothing: the ledger's length where
 /// it did. An `Err` changes nothing.
@@ -75,6 +76,7 @@ pub(crate) fn leave<E: Engine>(
 }
 
 /// Drops rows from the front of an open result. The count of written rows begins anew.
+#[tactic(auto, using(crate::proofs::Listed::rows_gone))]
 fn drop_rows(open: &mut OpenResult, count: usize)
     ensures { open_of open.new ≡ left_result (After.Rest count) (open_of open.old) }
 {
@@ -82,7 +84,7 @@ fn drop_rows(open: &mut OpenResult, count: usize)
     open.written = 0;
 }
 
-fn drop_front(rows: &mut VecDeque<Row>, count: usize)
+fn drop_front(rows: &mut VecDeque<Vec<Cell>>, count: usize)
     ensures items { rows.new.items ≡ drop count rows.old.items }
     ensures few { length rows.new.items ≤ length rows.old.items }
 {

@@ -12,12 +12,12 @@ ghost use Rattle.engine.specs.Views.{WriteView, ParameterView, EntryView, Answer
 ghost use Rattle.session.specs.Session.{Open, Tx, serve, perform, greets, reply_to_login, passed_over, reply_to_run, query_mode, in_transaction, used_up};
 ghost use Rattle.session.specs.Rest.{version_of};
 ghost use Rattle.session.specs.Views.{kept_of};
-ghost use Rattle.session.specs.Acts.{reply_of, streams, owes_row, served_interrupted, summary_of};
+ghost use Rattle.session.specs.Acts.{reply_of, streams, owes_row, runs, asked_by, token_of_run, served_interrupted, summary_of};
 ghost use Rattle.session.specs.Limits.{max_writes};
 ghost use Rattle.engine.specs.Limits.{max_rows};
 
 use crate::MAX_WRITES;
-use crate::acts::{Act, After, Opening};
+use crate::acts::{Act, After};
 use crate::fault::Fault;
 use crate::query_answer::copy_token;
 use crate::result_end::{commit_of, committed};
@@ -25,10 +25,9 @@ use crate::session::Session;
 use crate::summary::Summary;
 use crate::words::{count_of, is_halted, is_in_transaction, is_streaming, is_used_up, query_mode};
 use engine::{Answer, Engine, EngineFault, Gate, Write};
-use machine::{Verdict, is_goodbye, is_reset, kind, row};
-use messages::{Auth, Count, Mode, Request};
+use machine::{Kind, Verdict, is_goodbye, is_reset, kind, row};
+use messages::{Auth, Count, Request};
 use std::alloc::AllocError;
-use structures::Cell;
 use wire::Version;
 
 impl Session {
@@ -52,6 +51,31 @@ impl Session {
         }
     }
 
+    /// Whether the request is a RUN that has a row in the state.
+    pub(crate) fn runs(&self, request: &Request) -> bool
+        ensures { let k = kept_of self.now in result
+            ≡ runs (version_of k) k.state (request_view request.now) }
+    {
+        match request {
+            Request::Run { .. } => row(
+                self.version(),
+                self.state,
+                Kind::Run,
+                Verdict::Success,
+            ).is_some(),
+            Request::Hello { .. }
+            | Request::Logon(_)
+            | Request::Logoff
+            | Request::Goodbye
+            | Request::Reset
+            | Request::Begin { .. }
+            | Request::Commit
+            | Request::Rollback
+            | Request::Discard(_)
+            | Request::Pull(_) => false,
+        }
+    }
+
     fn has_row_for(&self, count: Count) -> bool
         ensures { let k = kept_of self.now in result
             ≡ (streams k.state
@@ -61,7 +85,7 @@ impl Session {
             && (!is_used_up(count, self.result.written) && !self.result.rows.is_empty())
     }
 
-    /// What the first request is answered, where it is owed no row.
+    /// What the first request is answered, where it is owed no row and runs no query.
     pub(crate) fn decide<E: Engine, G: Gate>(
         &self,
         conn: u64,
@@ -69,8 +93,10 @@ impl Session {
         engine: &E,
         gate: &G,
     ) -> Result<Act, AllocError>
-        requires { let k = kept_of self.now in
+        requires unowed { let k = kept_of self.now in
             owes_row k.state k.result (request_view request.now) ≡ false }
+        requires unrun { let k = kept_of self.now in
+            runs (version_of k) k.state (request_view request.now) ≡ false }
         ensures { let k = kept_of self.now in IfOk result
             (λ act. reply_of (version_of k) k.state k.result k.tx act
             ≡ serve (record { run = E.answer; check = G.accepts gate.now }) (version_of k) conn
@@ -105,6 +131,8 @@ impl Session {
             ≡ true }
         requires unowed { let k = kept_of self.now in
             owes_row k.state k.result (request_view request.now) ≡ false }
+        requires unrun { let k = kept_of self.now in
+            runs (version_of k) k.state (request_view request.now) ≡ false }
         ensures { let k = kept_of self.now in IfOk result
             (λ act. reply_of (version_of k) k.state k.result k.tx act
             ≡ perform (record { run = E.answer; check = G.accepts gate.now }) (version_of k) conn
@@ -113,12 +141,7 @@ impl Session {
         match request {
             Request::Hello { auth, .. } => Ok(greet(self.version(), conn, auth, gate)),
             Request::Logon(auth) => Ok(admit(auth, Summary::Plain, gate)),
-            Request::Run {
-                text,
-                params,
-                mode,
-                token,
-            } => self.run(text.as_str(), params.as_slice(), *mode, token, engine),
+            Request::Run { .. } => unreachable!(),
             Request::Begin { mode, token } => {
                 let after = After::Begun(*mode, copy_token(token)?);
                 Ok(Act::success(Summary::Plain, after))
@@ -137,77 +160,58 @@ impl Session {
         }
     }
 
-    fn run<E: Engine>(
+    /// What the engine answers to a RUN: over the transaction's own writes and in its mode, or over none in the mode of the RUN.
+    pub(crate) fn ask<E: Engine>(
         &self,
-        text: &str,
-        params: &[(String, Cell)],
-        mode: Mode,
-        token: &Option<String>,
+        request: &Request,
         engine: &E,
-    ) -> Result<Act, AllocError>
-        ensures { let k = kept_of self.now in
-            let asked = parameters_view params.now in
-            IfOk result (λ act. reply_of (version_of k) k.state k.result k.tx act ≡ (
-            if in_transaction k.state
-            then reply_to_run (version_of k) k.state k.tx (token_view token.now)
-            (E.answer (E.entries engine.now) k.tx.writes text.now asked (query_mode k.tx.mode))
-            else reply_to_run (version_of k) k.state k.tx (token_view token.now)
-            (E.answer (E.entries engine.now) [] text.now asked (query_mode mode)))) }
+    ) -> Result<Answer, EngineFault>
+        requires { let k = kept_of self.now in
+            runs (version_of k) k.state (request_view request.now) ≡ true }
+        ensures runs { let k = kept_of self.now in Runs result
+            (asked_by E.answer (E.entries engine.now) k.state k.tx (request_view request.now)) }
+        ensures few { IfOk result (λ a. length a.rows.items ≤ max_rows) }
     {
+        let Request::Run {
+            text,
+            params,
+            mode,
+            token: _,
+        } = request
+        else {
+            unreachable!()
+        };
         if is_in_transaction(self.state) {
             let own = self.tx.writes.as_slice();
-            let answered = engine.run(own, text, params, query_mode(self.tx.mode));
-            return self.ran(answered, token);
+            return engine.run(
+                own,
+                text.as_str(),
+                params.as_slice(),
+                query_mode(self.tx.mode),
+            );
         }
-        let answered = engine.run(&[], text, params, query_mode(mode));
-        self.ran(answered, token)
-    }
-
-    /// What an engine's answer opens, or the failure of its refusal.
-    fn ran(
-        &self,
-        answered: Result<Answer, EngineFault>,
-        token: &Option<String>,
-    ) -> Result<Act, AllocError>
-        requires { IfOk answered (λ a. length a.rows.items ≤ max_rows) }
-        ensures { (defined : Result AnswerView QueryFault) → Runs answered defined
-            → let k = kept_of self.now in IfOk result
-            (λ act. reply_of (version_of k) k.state k.result k.tx act
-            ≡ reply_to_run (version_of k) k.state k.tx (token_view token.now) defined) }
-    {
-        match answered {
-            Ok(answer) => self.opening(answer, token),
-            Err(EngineFault::UnknownText) => Ok(Act::failure(Fault::UnknownText)),
-            Err(EngineFault::Parameter) => Ok(Act::failure(Fault::Parameter)),
-            Err(EngineFault::ReadOnly) => Ok(Act::failure(Fault::ReadOnly)),
-            Err(EngineFault::TooManyRows) => Ok(Act::failure(Fault::TooManyRows)),
-            Err(EngineFault::Memory) => Err(AllocError),
-        }
-    }
-
-    fn opening(&self, answer: Answer, token: &Option<String>) -> Result<Act, AllocError>
-        requires { length answer.rows.items ≤ max_rows }
-        ensures { let k = kept_of self.now in IfOk result
-            (λ act. reply_of (version_of k) k.state k.result k.tx act
-            ≡ reply_to_run (version_of k) k.state k.tx (token_view token.now)
-            (Ok (answer_view answer))) }
-    {
-        if self.has_too_many(&answer.write) {
-            return Ok(Act::failure(Fault::TooManyWrites));
-        }
-        let token = copy_token(token)?;
-        Ok(Act::Opens(Opening { answer, token }))
+        engine.run(&[], text.as_str(), params.as_slice(), query_mode(*mode))
     }
 
     /// Whether the transaction would have too many writes with this one.
     #[tactic(auto, using(crate::proofs::Writes::length_view))]
-    fn has_too_many(&self, write: &Option<Write>) -> bool
+    pub(crate) fn has_too_many(&self, write: &Option<Write>) -> bool
         ensures { let k = kept_of self.now in result
             ≡ (in_transaction k.state
             && (is_some (option_map write_view write.now)
             && nat_le max_writes (length k.tx.writes))) }
     {
         is_in_transaction(self.state) && write.is_some() && self.tx.writes.len() >= MAX_WRITES
+    }
+}
+
+/// A copy of the token of a RUN, where it has one.
+pub(crate) fn token_of(request: &Request) -> Result<Option<String>, AllocError>
+    ensures { IfOk result (λ t. token_view t ≡ token_of_run (request_view request.now)) }
+{
+    match request {
+        Request::Run { token, .. } => copy_token(token),
+        _ => Ok(None),
     }
 }
 

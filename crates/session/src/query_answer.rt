@@ -9,20 +9,20 @@ ghost use Rattle.wire.specs.declared.Version.{Version as AnyVersion};
 ghost use Rattle.engine.specs.Views.{rows_view, token_view, write_view, writes_view, answer_view};
 ghost use Rattle.session.specs.Session.{fields_told, fields_said, rows_fitted, result_of_answer, in_transaction, with_write, no_tx};
 ghost use Rattle.session.specs.Views.{first_of, open_of, tx_of};
+ghost use Rattle.engine.specs.Limits.{max_rows};
 ghost use Rattle.session.specs.Said.{fits};
 ghost use Rattle.session.specs.Acts.{IsBody, Refuses};
 
-use crate::acts::Opening;
-use crate::result::{OpenResult, Row, Transaction};
+use crate::result::{OpenResult, Transaction};
+use crate::rows::fitted_rows;
 use crate::spelling::{Unwritten, spell_response};
 use crate::words::{is_in_transaction, result_mode};
 use bytes::BytesMut;
-use engine::Write;
+use engine::{Answer, Write};
 use machine::State;
 use messages::Response;
 use speller::{Adding, Unspelled, put_text};
 use std::alloc::{AllocError, Global};
-use std::collections::VecDeque;
 use structures::Cell;
 use wire::{MAX_MESSAGE, Version};
 
@@ -133,18 +133,19 @@ pub(crate) fn open_result(
     alloc: Global,
     version: Version,
     state: State,
-    opening: Opening,
+    answer: Answer,
+    token: Option<String>,
     left: &mut OpenResult,
     tx: &mut Transaction,
 ) -> Result<(), AllocError>
+    requires { length answer.rows.items ≤ max_rows }
     ensures open { OnOk result (open_of left.new
-        ≡ result_of_answer version state (token_view opening.token) (answer_view opening.answer)) }
+        ≡ result_of_answer version state (token_view token) (answer_view answer)) }
     ensures tx { OnOk result (tx_of tx.new ≡ (if in_transaction state
-        then with_write (tx_of tx.old) (option_map write_view opening.answer.write) else no_tx)) }
+        then with_write (tx_of tx.old) (option_map write_view answer.write) else no_tx)) }
     ensures open_kept { OnErr result (open_of left.new ≡ open_of left.old) }
     ensures tx_kept { OnErr result (tx_of tx.new ≡ tx_of tx.old) }
 {
-    let Opening { answer, token } = opening;
     let rows = fitted_rows(alloc, version, answer.rows)?;
     let mode = result_mode(answer.mode);
     if is_in_transaction(state) {
@@ -209,21 +210,4 @@ fn writes_of(alloc: Global, write: Option<Write>) -> Result<Vec<Write>, AllocErr
             Ok(writes)
         }
     }
-}
-
-/// The rows in the form of a version.
-fn fitted_rows(
-    alloc: Global,
-    version: Version,
-    rows: Vec<Vec<Cell>>,
-) -> Result<VecDeque<Row>, AllocError>
-    ensures rows { IfOk result
-        (λ fitted. fitted.items ≡ rows_fitted version (rows_view rows.items)) }
-    ensures len { IfOk result (λ fitted. length fitted.items ≡ length rows.items) }
-{
-    let mut fitted = Vec::with_capacity(alloc, rows.len())?;
-    for row in rows {
-        fitted.push(Row::fitted(alloc, version, row)?)?;
-    }
-    Ok(VecDeque::from_vec(fitted))
 }

@@ -1,16 +1,16 @@
 //! The spellings of responses.
-ghost use Rattle.std.specs.Prelude.{◌≡◌, true, Ok, OnOk, IfErr};
+ghost use Rattle.std.specs.Prelude.{◌≡◌, [], true, false, Ok, OnOk, IfErr};
 ghost use Rattle.messages.specs.View.{response_view};
 ghost use Rattle.messages.specs.Summaries.{response_of_summary};
 ghost use Rattle.session.specs.Said.{fits};
-ghost use Rattle.session.specs.Acts.{IsBody, Refuses, summary_of, unwritten_of};
+ghost use Rattle.session.specs.Acts.{IsBody, Refuses, summary_of, is_ready, unwritten_of};
 
 use crate::fault::Fault;
 use crate::summary::Summary;
 use bytes::BytesMut;
 use messages::{MsgFault, Response, write_response};
 use speller::Adding;
-use std::alloc::{AllocError, Global};
+use std::alloc::AllocError;
 use wire::Version;
 
 /// Why a response wasn't written.
@@ -51,7 +51,6 @@ fn why_unwritten(fault: MsgFault) -> Unwritten
 
 /// Spells a summary, which always fits, in place of what the body held.
 pub(crate) fn spell_summary(
-    alloc: Global,
     version: Version,
     summary: Summary,
     body: &mut BytesMut,
@@ -60,8 +59,21 @@ pub(crate) fn spell_summary(
         (IsBody version (response_of_summary (summary_of summary)) body.new.items) }
 {
     body.clear();
+    match summary.ready() {
+        Some(text) => body.extend_from_slice(text),
+        None => spell_made(version, summary, body),
+    }
+}
+
+/// Spells a summary that tells a number or a failure, behind nothing.
+fn spell_made(version: Version, summary: Summary, body: &mut BytesMut) -> Result<(), AllocError>
+    requires empty { body.old.items ≡ [] }
+    requires made { is_ready summary ≡ false }
+    ensures { OnOk result
+        (IsBody version (response_of_summary (summary_of summary)) body.new.items) }
+{
     let mut adding = Adding::to(body);
-    summary.put(alloc, &mut adding)?;
+    summary.put(&mut adding)?;
     *body = adding.keep();
     Ok(())
 }

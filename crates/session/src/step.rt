@@ -1,35 +1,32 @@
 //! A work step: what the first that waits does to a session, and to the ledger.
-ghost use Rattle.std.specs.Prelude.{◌≡◌, ◌<◌, ◌≤◌, ◌++◌, ◌∷◌, ◌&&◌, if◌then◌else◌, List, length, None, true, unwrap_or, IfOk, OnOk, IfErr, OnErr};
-ghost use Rattle.packstream.specs.Tree.{Tree};
-ghost use Rattle.messages.specs.View.{RequestView, Record};
+ghost use Rattle.std.specs.Prelude.{◌≡◌, ◌<◌, ◌≤◌, ◌++◌, ◌∷◌, ◌&&◌, List, length, true, false, unwrap_or, IfOk, OnOk, OnErr};
+ghost use Rattle.messages.specs.View.{RequestView};
 ghost use Rattle.messages.specs.Arrivals.{Arrival, Asked};
 ghost use Rattle.wire.specs.Texts.{written_run};
 ghost use Rattle.machine.specs.Asks.{kind_of};
 ghost use Rattle.machine.specs.Rows.{row_at};
 ghost use Rattle.machine.specs.Following.{interruptible};
-ghost use Rattle.engine.specs.Views.{token_view, answer_view};
-ghost use Rattle.session.specs.Said.{fits};
-ghost use Rattle.session.specs.Session.{no_tx, opens, result_of_answer, in_transaction, with_write};
-ghost use Rattle.session.specs.Rest.{version_of, cause_of, replies, reset_among, turns, stepped, commit_entries, IsCounted, MayStep};
+ghost use Rattle.session.specs.Session.{fails};
+ghost use Rattle.session.specs.Rest.{version_of, cause_of, replies, reset_among, serves, turns, stepped, commit_entries, IsCounted, MayStep};
 ghost use Rattle.session.specs.Views.{kept_of, snapshot_of};
-ghost use Rattle.session.specs.Acts.{IsBody, Refuses, IsFree, IsSized, Steps, reply_of, row_reply, entry_in, length_after, left_result, left_tx, left_entry, after_bytes, after_summary, turn_in};
+ghost use Rattle.session.specs.Acts.{IsFree, IsSized, SendsRow, Steps, reply_of, owes_row, row_reply, entry_in, length_after, left_result, left_tx, left_entry, after_bytes, after_summary, turn_in};
 
 use crate::MAX_UNSENT;
-use crate::acts::{Act, After, Opening, Turn};
+use crate::acts::{Act, After, Turn};
 use crate::commit::leave;
-use crate::decision::interrupted;
+use crate::decision::{interrupted, token_of};
+use crate::fault::Fault;
 use crate::kinds::{Cause, Worked};
-use crate::query_answer::{open_result, spell_fields};
-use crate::result::OpenResult;
+use crate::rows::{put_first, spell_first};
 use crate::session::Session;
-use crate::spelling::{Unwritten, spell_response, spell_summary};
+use crate::spelling::{Unwritten, spell_summary};
 use crate::summary::Summary;
 use crate::words::is_interruptible;
 use bytes::BytesMut;
 use engine::{Engine, EntryId, Gate};
 use machine::{Kind, State, Verdict, kind, row};
 use std::alloc::AllocError;
-use wire::{Version, put_message, put_reserved, written_len};
+use wire::{put_message, put_reserved, written_len};
 
 /// The most room of a body that is kept for the next.
 const MAX_KEPT: usize = 8192;
@@ -101,6 +98,37 @@ impl Session {
         if self.owes_row(request) {
             return self.send(conn, asked, engine);
         }
+        self.answer_next(conn, engine, gate)
+    }
+
+    /// Answers the first request, where no RESET interrupts and no row is owed to it.
+    #[inline(never)]
+    fn answer_next<E: Engine, G: Gate>(
+        &mut self,
+        conn: u64,
+        engine: &mut E,
+        gate: &G,
+    ) -> Result<Worked, AllocError>
+        requires turn { turn_in (kept_of self.old).waiting ≡ Turn.Serves }
+        requires unowed { let k = kept_of self.old in (q : RequestView) (later : List Arrival)
+            → k.waiting ≡ Asked q ∷ later → owes_row k.state k.result q ≡ false }
+        ensures ok { let k = kept_of self.old in
+            (q : RequestView) (later : List Arrival) → k.waiting ≡ Asked q ∷ later
+            → IfOk result (λ w. Steps (serves (record { run = E.answer; check = G.accepts gate.now })
+            conn (E.entries engine.old) k q later) conn k.first w (kept_of self.new)
+            (E.entries engine.old) (E.entries engine.new)) }
+        ensures err { OnErr result
+            ((kept_of self.new ≡ kept_of self.old)
+            × (E.entries engine.new ≡ E.entries engine.old)) }
+        ensures counted { IfOk result IsCounted }
+    {
+        let request = self.queue.request();
+        let asked = kind(request);
+        if self.runs(request) {
+            let token = token_of(request)?;
+            let answered = self.ask(request, engine);
+            return self.ran(answered, token, conn, asked, engine);
+        }
         let act = self.decide(conn, request, engine, gate)?;
         self.perform(self.state, act, conn, asked, engine)
     }
@@ -133,14 +161,75 @@ impl Session {
             × (E.entries engine.new ≡ E.entries engine.old)) }
         ensures counted { IfOk result IsCounted }
     {
-        match spell_first(self.version(), &self.result, &mut self.body) {
+        if self.put_first() {
+            return Ok(Worked::Row);
+        }
+        self.send_spelled(conn, kind, engine)
+    }
+
+    /// Puts the first row of the open result, spelled where it goes out; or says no, and changes nothing.
+    fn put_first(&mut self) -> bool
+        requires row { 0 < length self.old.result.rows.items }
+        ensures sent { result ≡ true → SendsRow (kept_of self.old) (kept_of self.new) }
+        ensures other { result ≡ false → kept_of self.new ≡ kept_of self.old }
+    {
+        let result = &self.result;
+        if !put_first(&result.rows, &mut self.out) {
+            return false;
+        }
+        self.result.pass();
+        true
+    }
+
+    /// Writes the row that is due by way of its text, or the FAILURE where it can't be written.
+    #[inline(never)]
+    fn send_spelled<E: Engine>(
+        &mut self,
+        conn: u64,
+        kind: Kind,
+        engine: &mut E,
+    ) -> Result<Worked, AllocError>
+        requires some { 0 < length self.old.queue.waiting.items }
+        requires row { 0 < length self.old.result.rows.items }
+        ensures ok { let k = kept_of self.old in
+            (q : RequestView) (later : List Arrival) → k.waiting ≡ Asked q ∷ later
+            → kind ≡ kind_of q
+            → IfOk result (λ w. Steps (replies (E.entries engine.old) k q later
+            (row_reply (version_of k) k.result.rows k.result)) conn k.first w (kept_of self.new)
+            (E.entries engine.old) (E.entries engine.new)) }
+        ensures err { OnErr result
+            ((kept_of self.new ≡ kept_of self.old)
+            × (E.entries engine.new ≡ E.entries engine.old)) }
+        ensures counted { IfOk result IsCounted }
+    {
+        match spell_first(self.version(), &mut self.result.rows, &mut self.body) {
             Ok(()) => self.put_row(),
             Err(Unwritten::Memory) => Err(AllocError),
-            Err(Unwritten::Because(fault)) => {
-                let act = Act::failure(fault);
-                self.perform(self.state, act, conn, kind, engine)
-            }
+            Err(Unwritten::Because(fault)) => self.fail(fault, conn, kind, engine),
         }
+    }
+
+    /// Answers the first request by a FAILURE.
+    pub(crate) fn fail<E: Engine>(
+        &mut self,
+        fault: Fault,
+        conn: u64,
+        kind: Kind,
+        engine: &mut E,
+    ) -> Result<Worked, AllocError>
+        requires some { 0 < length self.old.queue.waiting.items }
+        ensures ok { let k = kept_of self.old in
+            (q : RequestView) (later : List Arrival) → k.waiting ≡ Asked q ∷ later
+            → kind ≡ kind_of q
+            → IfOk result (λ w. Steps (replies (E.entries engine.old) k q later
+            (fails fault)) conn k.first w (kept_of self.new)
+            (E.entries engine.old) (E.entries engine.new)) }
+        ensures err { OnErr result
+            ((kept_of self.new ≡ kept_of self.old)
+            × (E.entries engine.new ≡ E.entries engine.old)) }
+        ensures counted { IfOk result IsCounted }
+    {
+        self.perform(self.state, Act::failure(fault), conn, kind, engine)
     }
 
     /// Puts the row that is spelled, the first of the open result.
@@ -189,10 +278,9 @@ impl Session {
                 summary,
                 after,
             } => {
-                spell_summary(self.alloc, self.version(), summary, &mut self.body)?;
+                spell_summary(self.version(), summary, &mut self.body)?;
                 self.summarize(worked_in, verdict, after, conn, kind, engine)
             }
-            Act::Opens(opening) => self.open(worked_in, opening, conn, kind, engine),
             Act::Goodbye => {
                 self.end(Cause::Goodbye);
                 Ok(Worked::Ended(Cause::Goodbye))
@@ -247,7 +335,7 @@ impl Session {
     }
 
     /// Puts the summary that is spelled, for which there is room: the first request has its answer.
-    fn finish(
+    pub(crate) fn finish(
         &mut self,
         worked_in: State,
         verdict: Verdict,
@@ -278,98 +366,6 @@ impl Session {
             state: next,
             entry,
         }
-    }
-
-    /// Opens a result and writes the SUCCESS with its fields, or the FAILURE where that can't be written.
-    fn open<E: Engine>(
-        &mut self,
-        worked_in: State,
-        opening: Opening,
-        conn: u64,
-        kind: Kind,
-        engine: &mut E,
-    ) -> Result<Worked, AllocError>
-        requires some { 0 < length self.old.queue.waiting.items }
-        ensures ok { let k = kept_of self.old in
-            (q : RequestView) (later : List Arrival) → k.waiting ≡ Asked q ∷ later
-            → kind ≡ kind_of q
-            → IfOk result (λ w. Steps
-            (replies (E.entries engine.old) (record k { state = worked_in }) q later
-            (opens (version_of k) worked_in k.tx (token_view opening.token)
-            (answer_view opening.answer))) conn k.first w (kept_of self.new)
-            (E.entries engine.old) (E.entries engine.new)) }
-        ensures err { OnErr result
-            ((kept_of self.new ≡ kept_of self.old)
-            × (E.entries engine.new ≡ E.entries engine.old)) }
-        ensures counted { IfOk result IsCounted }
-    {
-        match spell_fields(
-            self.alloc,
-            self.version(),
-            &opening.answer.fields,
-            &mut self.body,
-        ) {
-            Ok(()) => self.take(worked_in, opening, kind),
-            Err(Unwritten::Memory) => Err(AllocError),
-            Err(Unwritten::Because(fault)) => {
-                spell_summary(
-                    self.alloc,
-                    self.version(),
-                    Summary::Failure(fault),
-                    &mut self.body,
-                )?;
-                self.summarize(
-                    worked_in,
-                    Verdict::Failure,
-                    After::Nothing,
-                    conn,
-                    kind,
-                    engine,
-                )
-            }
-        }
-    }
-
-    /// Opens a result, and writes the SUCCESS that is spelled.
-    fn take(&mut self, worked_in: State, opening: Opening, kind: Kind) -> Result<Worked, AllocError>
-        requires some { 0 < length self.old.queue.waiting.items }
-        requires fits { IsSized self.old.body.items }
-        ensures told { let k = kept_of self.old in
-            let next = unwrap_or (row_at (version_of k) worked_in kind Verdict.Success) State.Defunct in
-            IfOk result (λ w. w ≡ Worked.Wrote k.first kind next None) }
-        ensures kept { let k = kept_of self.old in
-            let next = unwrap_or (row_at (version_of k) worked_in kind Verdict.Success) State.Defunct in
-            let a = answer_view opening.answer in
-            OnOk result (kept_of self.new ≡ after_summary next (cause_of Verdict.Success next)
-            (result_of_answer (version_of k) worked_in (token_view opening.token) a)
-            (if in_transaction worked_in then with_write k.tx a.write else no_tx)
-            self.old.body.items k) }
-        ensures err { OnErr result (kept_of self.new ≡ kept_of self.old) }
-    {
-        self.out.reserve(written_len(&self.body))?;
-        open_result(
-            self.alloc,
-            self.version(),
-            worked_in,
-            opening,
-            &mut self.result,
-            &mut self.tx,
-        )?;
-        Ok(self.finish(worked_in, Verdict::Success, kind, None))
-    }
-}
-
-/// Spells the first row of a result in place of what the body held, or tells why it wasn't written.
-fn spell_first(version: Version, left: &OpenResult, body: &mut BytesMut) -> Result<(), Unwritten>
-    requires { 0 < length left.now.rows.items }
-    ensures ok { (row : List Tree) (rest : List (List Tree)) → left.now.rows.items ≡ row ∷ rest
-        → OnOk result (IsBody version (Record row) body.new.items × (fits version (Record row) ≡ true)) }
-    ensures err { (row : List Tree) (rest : List (List Tree)) → left.now.rows.items ≡ row ∷ rest
-        → IfErr result (Refuses version (Record row)) }
-{
-    match left.rows.front() {
-        Some(row) => spell_response(version, row.record(), body),
-        None => unreachable!(),
     }
 }
 

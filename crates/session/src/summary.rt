@@ -1,19 +1,20 @@
 //! The responses of a session but its rows and the SUCCESS of a RUN.
-ghost use Rattle.std.specs.Prelude.{◌≡◌, ◌≤◌, ◌+◌, ◌∷◌, [], ◌++◌, length, OnOk, Some, None};
+ghost use Rattle.std.specs.Prelude.{◌≡◌, ◌≤◌, ◌+◌, ◌∷◌, [], ◌++◌, length, OnOk, Some, IfSome, IsNone, false};
 ghost use Rattle.std.specs.Fmt.{decimal};
-ghost use Rattle.packstream.specs.Canon.{text_bytes, canon, canon_entries};
+ghost use Rattle.packstream.specs.Canon.{head, text_bytes, canon, canon_entries};
 ghost use Rattle.packstream.specs.Limits.{max_size};
 ghost use Rattle.packstream.specs.Tree.{text};
 ghost use Rattle.packstream.specs.View.{entries_of};
 ghost use Rattle.messages.specs.Reading.{mode_tree};
-ghost use Rattle.messages.specs.Summaries.{Greeting, RowsLeft, Closing, Committed, ending, form_of, IsShort};
-ghost use Rattle.session.specs.Acts.{summary_of};
+ghost use Rattle.messages.specs.Summaries.{Greeting, Closing, Committed, ending, form_of, IsShort};
+ghost use Rattle.session.specs.Acts.{summary_of, is_ready};
 ghost use Rattle.session.specs.Faults.{failure};
 
 use crate::fault::Fault;
+use itoa::Buffer;
 use messages::Mode;
 use speller::{Adding, put_int, put_short_text};
-use std::alloc::{AllocError, Global};
+use std::alloc::AllocError;
 
 #[derive(Clone, Copy)]
 pub(crate) enum Summary {
@@ -34,22 +35,39 @@ pub(crate) enum Summary {
 }
 
 impl Summary {
-    /// Adds the text of the response.
-    #[tactic(auto, unfolding(packstream::specs::Canon::head))]
-    pub(crate) fn put(self, alloc: Global, out: &mut Adding) -> Result<(), AllocError>
+    /// The text of the response, where it is always the same.
+    #[tactic(auto, unfolding(packstream::specs::Canon::head, packstream::specs::Canon::int_bytes))]
+    pub(crate) fn ready(self) -> Option<&'static [u8]>
+        ensures text { IfSome result (λ b. b.now ≡ canon (form_of (summary_of self))) }
+        ensures short { IfSome result (λ _. IsShort (summary_of self)) }
+        ensures made { IsNone result → is_ready self ≡ false }
+    {
+        match self {
+            Summary::Plain => Some(b"\xB1\x70\xA0"),
+            Summary::Passed => Some(b"\xB0\x7E"),
+            Summary::RowsLeft => Some(b"\xB1\x70\xA1\x88has_more\xC3"),
+            Summary::Closing(None, Mode::Read) => Some(b"\xB1\x70\xA2\x84type\x81r\x86t_last\x00"),
+            Summary::Closing(None, Mode::Write) => Some(b"\xB1\x70\xA2\x84type\x81w\x86t_last\x00"),
+            _ => None,
+        }
+    }
+
+    /// Adds the text of the response, where it tells a number or a failure.
+    pub(crate) fn put(self, out: &mut Adding) -> Result<(), AllocError>
+        requires { is_ready self ≡ false }
         ensures before { out.new.before ≡ out.old.before }
         ensures spelled { OnOk result (out.new.more
             ≡ out.old.more ++ canon (form_of (summary_of self))) }
         ensures short { IsShort (summary_of self) }
     {
         match self {
-            Summary::Greeting(conn) => put_greeting(alloc, out, conn),
-            Summary::RowsLeft => put_rows_left(out),
-            Summary::Closing(place, mode) => put_closing(alloc, out, place, mode),
-            Summary::Committed(place) => put_committed(alloc, out, place),
-            Summary::Plain => put_success(out, 0),
+            Summary::Greeting(conn) => put_greeting(out, conn),
+            Summary::Closing(Some(place), mode) => put_last_at(out, place, mode),
+            Summary::Committed(place) => put_committed(out, place),
             Summary::Failure(fault) => put_failure(out, fault),
-            Summary::Passed => out.extend_from_slice(&[0xB0, 0x7E]),
+            Summary::RowsLeft | Summary::Closing(None, _) | Summary::Plain | Summary::Passed => {
+                unreachable!()
+            }
         }
     }
 }
@@ -77,43 +95,54 @@ fn put_entry(out: &mut Adding, key: &str, text: &str) -> Result<(), AllocError>
     put_short_text(out, text)
 }
 
+/// The head of a text of so many bytes.
+#[tactic(auto, unfolding(packstream::specs::Canon::head, packstream::specs::Canon::long_head))]
+fn put_text_head(out: &mut Adding, count: usize) -> Result<(), AllocError>
+    requires { count ≤ 255 }
+    ensures before { out.new.before ≡ out.old.before }
+    ensures ok { OnOk result (out.new.more ≡ out.old.more ++ head 0x80 0xD0 count) }
+{
+    if count < 16 {
+        return out.push(0x80 + count as u8);
+    }
+    out.push(0xD0)?;
+    out.push(count as u8)
+}
+
+/// A text in two parts.
+#[tactic(auto, using(packstream::proofs::Putting::three_parts))]
+fn put_parts(out: &mut Adding, front: &str, back: &str) -> Result<(), AllocError>
+    requires { length front.now + length back.now ≤ 255 }
+    ensures before { out.new.before ≡ out.old.before }
+    ensures ok { OnOk result (out.new.more
+        ≡ out.old.more ++ text_bytes (front.now ++ back.now)) }
+{
+    put_text_head(out, front.len() + back.len())?;
+    out.extend_from_slice(front.as_bytes())?;
+    out.extend_from_slice(back.as_bytes())
+}
+
 /// An entry that holds a word with a number.
-#[tactic(auto, using(crate::proofs::Summed::numbered_short))]
-fn put_numbered(
-    alloc: Global,
-    out: &mut Adding,
-    key: &str,
-    word: &str,
-    number: u64,
-) -> Result<(), AllocError>
+fn put_numbered(out: &mut Adding, key: &str, word: &str, number: u64) -> Result<(), AllocError>
     requires key { length key.now ≤ 16 }
     requires word { length word.now ≤ 16 }
     ensures before { out.new.before ≡ out.old.before }
     ensures ok { OnOk result (out.new.more
         ≡ out.old.more ++ (text_bytes key.now ++ text_bytes (word.now ++ decimal number))) }
 {
-    let text = format!(in alloc; "{word}{number}")?;
-    put_entry(out, key, text.as_str())
+    let mut buffer = Buffer::new();
+    put_short_text(out, key)?;
+    put_parts(out, word, buffer.format(number))
 }
 
-fn put_greeting(alloc: Global, out: &mut Adding, conn: u64) -> Result<(), AllocError>
+fn put_greeting(out: &mut Adding, conn: u64) -> Result<(), AllocError>
     ensures before { out.new.before ≡ out.old.before }
     ensures spelled { OnOk result (out.new.more ≡ out.old.more ++ canon (form_of (Greeting conn))) }
     ensures short { IsShort (Greeting conn) }
 {
     put_success(out, 2)?;
     put_entry(out, "server", "BoltTable/1")?;
-    put_numbered(alloc, out, "connection_id", "bolt-", conn)?;
-    Ok(())
-}
-
-fn put_rows_left(out: &mut Adding) -> Result<(), AllocError>
-    ensures before { out.new.before ≡ out.old.before }
-    ensures spelled { OnOk result (out.new.more ≡ out.old.more ++ canon (form_of RowsLeft)) }
-{
-    put_success(out, 1)?;
-    put_short_text(out, "has_more")?;
-    out.push(0xC3)?;
+    put_numbered(out, "connection_id", "bolt-", conn)?;
     Ok(())
 }
 
@@ -142,54 +171,26 @@ fn put_ending(out: &mut Adding, mode: Mode) -> Result<(), AllocError>
     Ok(())
 }
 
-#[tactic(auto, using(crate::proofs::Summed::added), unfolding(packstream::specs::Canon::head))]
-fn put_last(out: &mut Adding, mode: Mode) -> Result<(), AllocError>
-    ensures before { out.new.before ≡ out.old.before }
-    ensures spelled { OnOk result (out.new.more
-        ≡ out.old.more ++ canon (form_of (Closing None mode))) }
-{
-    put_success(out, 2)?;
-    put_ending(out, mode)?;
-    Ok(())
-}
-
-fn put_last_at(alloc: Global, out: &mut Adding, place: u64, mode: Mode) -> Result<(), AllocError>
+fn put_last_at(out: &mut Adding, place: u64, mode: Mode) -> Result<(), AllocError>
     ensures before { out.new.before ≡ out.old.before }
     ensures spelled { OnOk result (out.new.more
         ≡ out.old.more ++ canon (form_of (Closing (Some place) mode))) }
     ensures short { IsShort (Closing (Some place) mode) }
 {
     put_success(out, 3)?;
-    put_numbered(alloc, out, "bookmark", "bk:", place)?;
+    put_numbered(out, "bookmark", "bk:", place)?;
     put_ending(out, mode)?;
     Ok(())
 }
 
-fn put_closing(
-    alloc: Global,
-    out: &mut Adding,
-    place: Option<u64>,
-    mode: Mode,
-) -> Result<(), AllocError>
-    ensures before { out.new.before ≡ out.old.before }
-    ensures spelled { OnOk result (out.new.more
-        ≡ out.old.more ++ canon (form_of (Closing place mode))) }
-    ensures short { IsShort (Closing place mode) }
-{
-    match place {
-        None => put_last(out, mode),
-        Some(place) => put_last_at(alloc, out, place, mode),
-    }
-}
-
-fn put_committed(alloc: Global, out: &mut Adding, place: u64) -> Result<(), AllocError>
+fn put_committed(out: &mut Adding, place: u64) -> Result<(), AllocError>
     ensures before { out.new.before ≡ out.old.before }
     ensures spelled { OnOk result (out.new.more
         ≡ out.old.more ++ canon (form_of (Committed place))) }
     ensures short { IsShort (Committed place) }
 {
     put_success(out, 1)?;
-    put_numbered(alloc, out, "bookmark", "bk:", place)?;
+    put_numbered(out, "bookmark", "bk:", place)?;
     Ok(())
 }
 

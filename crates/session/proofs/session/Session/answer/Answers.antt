@@ -5,6 +5,11 @@ use Rattle.session.specs.Prelude.{change_inside, version_of, kept_of}
 use Rattle.session.proofs.Commits.{commits_told}
 use Rattle.session.proofs.session.Session.answer.Goals as goal
 
+pub returns-in-Hello : goal.returns-in-Hello
+returns-in-Hello g c =
+    let k = kept_of c.args.self.now in
+    rw (c.in-Hello.is, ← c.version.ensures) (c.greet.ensures k.state k.result k.tx g.E.Engine.answer)
+
 pub returns-in-Logon : goal.returns-in-Logon
 returns-in-Logon g c =
     let k = kept_of c.args.self.now in
