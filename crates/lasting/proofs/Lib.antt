@@ -1,0 +1,7 @@
+pub mod Alone
+pub mod Enduring
+pub mod Front
+pub mod Keeping
+pub mod Rowed
+pub mod Spelling
+pub mod Texts

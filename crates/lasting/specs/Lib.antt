@@ -1,0 +1,4 @@
+pub mod Kept
+pub mod Ledger
+pub mod Spelled
+pub mod Table
