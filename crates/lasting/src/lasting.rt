@@ -5,7 +5,8 @@ ghost use Rattle.engine.specs.Views.{entry_of, token_view, writes_view};
 ghost use Rattle.lasting.specs.Kept.{Endures, ledger_of};
 ghost use Rattle.lasting.specs.Ledger.{HoldsLedger, LeavesLedger};
 ghost use Rattle.sqlite.specs.Held.{state};
-ghost use Rattle.sqlite.specs.State.{Survives};
+ghost use Rattle.lasting.specs.Shown.{IsOpenedFrom};
+ghost use Rattle.sqlite.specs.State.{HasCleanDisk, Survives};
 
 use crate::adding::{add_to_both, row_key};
 use crate::codec::bytes_of;
@@ -46,14 +47,18 @@ impl<E: Engine + Drop, S: Alter + Drop> Model for Lasting<E, S> {
 }
 
 impl<E: Engine + Drop, S: Alter + Drop> Lasting<E, S> {
-    /// The engine `empty`, with the ledger that the database has. A database without the table of entries gets one.
+    /// The engine `empty`, with the entries that the database shows: each of its rows, in order, numbered from 1. A database without the table of entries gets
+    /// one. Refuses a row that is no entry, by its number: a hole in the numbers, a number or a connection out of range, bytes that spell no writes, a token
+    /// that stood before.
     pub fn open(
         alloc: Global,
         empty: E,
         mut conn: Connection<S>,
     ) -> Result<Lasting<E, S>, OpenFault>
         requires { E.entries empty ≡ [] }
-        ensures { IfOk result (λ l. l.is_stopped ≡ false) }
+        ensures runs { IfOk result (λ l. l.is_stopped ≡ false) }
+        ensures opened { IfOk result (λ l. HasCleanDisk (state S.Store l.conn)
+            → IsOpenedFrom S.Store conn l.conn (ledger_of E.entries l) l.opening) }
     {
         let mut inner = empty;
         conn.execute(TABLE, &[])?;
