@@ -1,0 +1,10 @@
+use Rattle.std.proofs.Common.{◌∙◌, string_bytes, subst, sym}
+use Rattle.cells.specs.Shape.{shape}
+use Rattle.lasting.specs.Spelled.{TakesValue}
+use Rattle.lasting.proofs.Spelling.{one_taken}
+use Rattle.lasting.proofs.codec.take_write.Goals as goal
+
+pub returns : goal.returns
+returns c =
+    let key = subst (λ t. TakesValue t c.args.bytes.now c.in_ok-key.rest.now) (sym c.into_value.ensures ∙ c.in_ok-key-2.ensures) c.in_ok-key.ensures in
+    one_taken (string_bytes c.in_ok-key-2.key) (shape c.in_ok-value-2.value) _ _ _ _ c.in_ok-value-2.ensures key c.in_ok-value.ensures

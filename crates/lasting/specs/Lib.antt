@@ -1,0 +1,5 @@
+pub mod Kept
+pub mod Ledger
+pub mod Shown
+pub mod Spelled
+pub mod Table
