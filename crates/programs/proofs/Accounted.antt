@@ -20,7 +20,7 @@ use Rattle.streams.specs.Asking.{losses_then}
 use Rattle.streams.specs.Prelude.{AppendsFront, Tale, after_all, after_notes, all_answered, given_up, hears_all, notes_of, tale_of}
 use Rattle.scripts.specs.Prelude.{Text, meant}
 use Rattle.programs.specs.Names.{outcome_name, phase_name}
-use Rattle.programs.specs.Prelude.{AtLoss, AreFates, AreTold, Accounts, EachHasALine, Exchanges, Fate, Gets, Holds, IsBegun, IsCut, Log, OnErrors, OnOutput, Place, Puts, Sending, Stands, Streams, Talked, Unanswered, answers_line, asked_bytes, behind_line, failure_told, in_line, is_printed, lines_from, lost_line, lost_of, losses_text, why_text, opens, printed_line, refuses_line, summaries_text, summary_line, told_line, unmade, version_after, versions_after}
+use Rattle.programs.specs.Prelude.{AtLoss, AreFates, AreTold, Accounts, EachHasALine, Exchanges, Fate, Gets, HeardUpTo, Holds, IsBegun, IsCut, Log, OnErrors, OnOutput, Place, Printed, Puts, Sending, Stands, Streams, Talked, TalksLine, Unanswered, and_then, answers_line, asked_bytes, behind_line, failure_told, first_place, greeting_after, in_line, is_printed, lines_from, lost_line, lost_of, losses_text, next_line, opens, printed_line, refuses_line, summaries_text, summary_line, told_line, told_more, unmade, version_after, versions_after, why_text}
 use Rattle.programs.specs.Talking.{is_settled}
 use Rattle.programs.specs.Telling.{heard_line}
 use Rattle.programs.proofs.Moved.{gets_then}
@@ -112,6 +112,9 @@ lines_last line n (g ∷ gs) f =
 
 lines_more : (line : ℕ → Fate → List (List ℕ)) (fs : List Fate) (f : Fate) → lines_from line 0 (fs ++ f ∷ []) ≡ lines_from line 0 fs ++ line (length fs) f
 lines_more line fs f = lines_last line 0 fs f ∙ ap (λ (m : ℕ). lines_from line 0 fs ++ line m f) (omega arith)
+
+holds_last : (line : ℕ → Fate → List (List ℕ)) (fs : List Fate) (f : Fate) (text rest : List ℕ) → Holds (lines_from line 0 fs) text → Holds (line (length fs) f) rest → Holds (lines_from line 0 (fs ++ f ∷ [])) (text ++ rest)
+holds_last line fs f text rest h k = subst (λ (ls : List (List ℕ)). Holds ls (text ++ rest)) (sym (lines_more line fs f)) (holds_then (lines_from line 0 fs) (line (length fs) f) text rest h k)
 
 fates_last : (qs : List Sending) (fs : List Fate) (q : Sending) (f : Fate) → AreFates qs fs → (f ≡ Unanswered → is_goodbye (kind_of q.said) ≡ true) → AreFates (qs ++ q ∷ []) (fs ++ f ∷ [])
 fates_last [] [] q f h k = (k, tt)
@@ -223,46 +226,52 @@ goes_on r = cond_both (all_answered r.knows) r (after_drop r) (λ (z : Rest). z.
 none_unsent : (r : Rest) → r.unsent ≡ [] → (given_up r).unsent ≡ []
 none_unsent r e = cond_both (all_answered r.knows) r (after_drop r) (λ (z : Rest). z.unsent ≡ []) (λ _. e) (λ _. e)
 
-module _ {gone : Bool} {fault : Option StreamFault} {p q : Place} {log : Log} (x : Exchanges gone fault p log q) where
+module _ {Gone : Type 0} {fault : Option StreamFault} {p q : Place} {log : Log} (x : Exchanges Gone fault p log q) where
+  abbrev did : HeardUpTo fault p
+  did = x.heard
+
+  abbrev lines : Printed p.version (hears_all p.rest did.fed).notes did.broken
+  lines = did.printed
+
   abbrev knows : Knows
-  knows = (hears_all p.rest x.fed).knows
+  knows = (hears_all p.rest did.fed).knows
 
   sent_all : fault ≡ None → q.rest.unsent ≡ []
-  sent_all e = ap (λ (z : Place). z.rest.unsent) x.after ∙ none_unsent (after_all (taken_out p.rest x.out) x.fed) (x.ends e).0
+  sent_all e = ap (λ (z : Place). z.rest.unsent) x.after ∙ none_unsent (after_all (taken_out p.rest x.out) did.fed) (x.ends e).0
 
   module _ (o : q.rest.knows.over ≡ false) where
     on : (q.rest.knows ≡ knows) × (all_answered knows ≡ true)
-    on = let g = goes_on (after_all (taken_out p.rest x.out) x.fed) (sym (ap (λ (z : Place). z.rest.knows.over) x.after) ∙ o) in (ap (λ (z : Place). z.rest.knows) x.after ∙ g.0, g.1)
+    on = let g = goes_on (after_all (taken_out p.rest x.out) did.fed) (sym (ap (λ (z : Place). z.rest.knows.over) x.after) ∙ o) in (ap (λ (z : Place). z.rest.knows) x.after ∙ g.0, g.1)
 
     then_none : (n : ℕ) → NoneWaits n knows → NoneWaits n q.rest.knows
     then_none n h = subst (NoneWaits n) (sym on.0) h
 
   -- nothing waited
   first_exchange : NoneWaits 0 p.rest.knows → q.rest.knows.over ≡ false → NoneWaits 0 q.rest.knows
-  first_exchange w o = let t = tale_none p.rest.wish p.rest.knows (outputs at_client p.rest.item x.fed) w.0 in then_none o 0 (t.0, t.1 ∙ w.1)
+  first_exchange w o = let t = tale_none p.rest.wish p.rest.knows (outputs at_client p.rest.item did.fed) w.0 in then_none o 0 (t.0, t.1 ∙ w.1)
 
   -- its summary came
-  answered : (n : ℕ) (a : RequestView) → IsSummed n (hears_all p.rest x.fed) → HasFate n a log
-  answered n a s = place (in_part s.before x.shown (Summary n s.phase s.outcome s.said) s.after x.unshown (sym s.notes ∙ x.heard))
+  answered : (n : ℕ) (a : RequestView) → IsSummed n (hears_all p.rest did.fed) → HasFate n a log
+  answered n a s = place (in_part s.before lines.shown (Summary n s.phase s.outcome s.said) s.after lines.unshown (sym s.notes ∙ lines.parts))
     where
       one : List (List ℕ)
       one = heard_line n (outcome_name s.outcome) (phase_name s.phase) ∷ []
 
-      on_output : Holds one (x.text ++ x.begun) → HasFate n a log
-      on_output h = record { fate = OnOutput s.phase s.outcome; ends = λ e. absurd cc; on_output = subst (Holds one) (sym x.printed) h; on_errors = tt }
+      on_output : Holds one (lines.text ++ lines.begun) → HasFate n a log
+      on_output h = record { fate = OnOutput s.phase s.outcome; ends = λ e. absurd cc; on_output = subst (Holds one) (sym (ap (λ (l : Log). l.printed) x.moved)) h; on_errors = tt }
 
-      told : Holds one x.begun ⊎ Holds one x.told → HasFate n a log
-      told (inl h) = on_output (holds_before one x.text x.begun h)
+      told : Holds one lines.begun ⊎ Holds one lines.told → HasFate n a log
+      told (inl h) = on_output (holds_before one lines.text lines.begun h)
       told (inr h) = record {
         fate = OnErrors s.phase s.outcome;
         ends = λ e. absurd cc;
         on_output = tt;
-        on_errors = subst (Holds one) (sym x.losses) (holds_behind one x.told (losses_text (lost_of knows) ++ why_text fault knows) h);
+        on_errors = subst (Holds one) (sym (ap (λ (l : Log). l.told) x.moved)) (holds_behind one lines.told (losses_text (lost_of knows) ++ why_text fault knows) h);
       }
 
-      place : ((rest : List Note) × (x.shown ≡ s.before ++ Summary n s.phase s.outcome s.said ∷ rest)) ⊎ ((front : List Note) × (x.unshown ≡ front ++ Summary n s.phase s.outcome s.said ∷ s.after)) → HasFate n a log
-      place (inl h) = on_output (holds_behind one x.text x.begun (holds_told n s.phase s.outcome s.said p.version s.before h.0 x.text (subst (λ (ns : List Note). AreTold p.version ns x.text) h.1 x.prints)))
-      place (inr h) = told (holds_begun n s.phase s.outcome s.said x.broken (versions_after p.version x.shown) h.0 s.after x.begun x.told (subst (λ (ns : List Note). IsBegun x.broken (versions_after p.version x.shown) ns x.begun x.told) h.1 x.next))
+      place : ((rest : List Note) × (lines.shown ≡ s.before ++ Summary n s.phase s.outcome s.said ∷ rest)) ⊎ ((front : List Note) × (lines.unshown ≡ front ++ Summary n s.phase s.outcome s.said ∷ s.after)) → HasFate n a log
+      place (inl h) = on_output (holds_behind one lines.text lines.begun (holds_told n s.phase s.outcome s.said p.version s.before h.0 lines.text (subst (λ (ns : List Note). AreTold p.version ns lines.text) h.1 lines.prints)))
+      place (inr h) = told (holds_begun n s.phase s.outcome s.said did.broken (versions_after p.version lines.shown) h.0 s.after lines.begun lines.told (subst (λ (ns : List Note). IsBegun did.broken (versions_after p.version lines.shown) ns lines.begun lines.told) h.1 lines.next))
 
   -- none came
   unanswered : (n : ℕ) (a : RequestView) → OneWaits n a knows → HasFate n a log
@@ -277,15 +286,15 @@ module _ {gone : Bool} {fault : Option StreamFault} {p q : Place} {log : Log} (x
             fate = AtLoss o;
             ends = λ e. absurd cc;
             on_output = tt;
-            on_errors = subst (Holds (lost_line (n, o) ∷ [])) (sym (x.losses ∙ ap (λ ls. x.told ++ (losses_text ls ++ why)) (lost_is knows n a w e)))
-                (holds_before (lost_line (n, o) ∷ []) x.told ((lost_line (n, o) ++ []) ++ why) ([], why, ap (λ (z : List ℕ). z ++ why) (append-nil (lost_line (n, o))), tt));
+            on_errors = subst (Holds (lost_line (n, o) ∷ [])) (sym (ap (λ (l : Log). l.told) x.moved ∙ ap (λ ls. lines.told ++ (losses_text ls ++ why)) (lost_is knows n a w e)))
+                (holds_before (lost_line (n, o) ∷ []) lines.told ((lost_line (n, o) ++ []) ++ why) ([], why, ap (λ (z : List ℕ). z ++ why) (append-nil (lost_line (n, o))), tt));
           }
 
   -- one of the two, and where the client stands then
   one_exchange : (n : ℕ) (a : RequestView) → OneWaits n a p.rest.knows → HasFate n a log × (q.rest.knows.over ≡ false → NoneWaits (suc n) q.rest.knows)
-  one_exchange n a w = go (subst (λ (m : ℕ). OneWaits m a knows ⊎ IsSummed m (hears_all p.rest x.fed)) w.1 (tale_one p.rest.wish p.rest.knows (outputs at_client p.rest.item x.fed) a w.0))
+  one_exchange n a w = go (subst (λ (m : ℕ). OneWaits m a knows ⊎ IsSummed m (hears_all p.rest did.fed)) w.1 (tale_one p.rest.wish p.rest.knows (outputs at_client p.rest.item did.fed) a w.0))
     where
-      go : OneWaits n a knows ⊎ IsSummed n (hears_all p.rest x.fed) → HasFate n a log × (q.rest.knows.over ≡ false → NoneWaits (suc n) q.rest.knows)
+      go : OneWaits n a knows ⊎ IsSummed n (hears_all p.rest did.fed) → HasFate n a log × (q.rest.knows.over ≡ false → NoneWaits (suc n) q.rest.knows)
       go (inl h) = (unanswered n a h, λ o. absurd (true≢false (sym (on o).1 ∙ not_answered knows n a h)))
       go (inr h) = (answered n a h, λ o. then_none o (suc n) h.now)
 
@@ -297,40 +306,46 @@ record SoFar (fault : Option StreamFault) (log : Log) (p : Place) : Type 0 where
   next : fault ≡ None → p.rest.knows.over ≡ false → NoneWaits (length lines.fates) p.rest.knows
   unsent : fault ≡ None → p.rest.unsent ≡ []
 
-so_far : {gone : Bool} {fault : Option StreamFault} {lines : List (ℕ × Text)} {log : Log} {p : Place} → Talked gone fault lines log p → SoFar fault log p
-so_far (opens fault log p x) = record {
-  lines = record { requests = []; fates = []; asked = x.sent ∙ sym (append-nil (offer_of Newest)); ends = tt; on_output = tt; on_errors = tt };
+first_so_far : {Gone : Type 0} {fault : Option StreamFault} {log : Log} {p : Place} (told : List ℕ) → Exchanges Gone fault first_place log p → SoFar fault (told_more log told) p
+first_so_far told x = record {
+  lines = record { requests = []; fates = []; asked = ap (λ (l : Log). l.sent) x.moved ∙ sym (append-nil (offer_of Newest)); ends = tt; on_output = tt; on_errors = tt };
   next = λ e o. first_exchange x (refl, refl) o;
   unsent = λ e. sent_all x e;
 }
-so_far (refuses_line fault lines log p n l q why code part h e d c some) =
-    let so = so_far h in
+
+line_so_far : {Gone : Type 0} {fault : Option StreamFault} {l : ℕ × Text} {log more : Log} {p r : Place} → SoFar None log p → TalksLine Gone fault p l more r → SoFar fault (and_then log more) r
+line_so_far {log = log} so (refuses_line q why code part e d c some) =
+    let each = so.lines in
     record {
-      lines = record { requests = so.lines.requests; fates = so.lines.fates; asked = so.lines.asked; ends = so.lines.ends; on_output = holds_behind (lines_from printed_line 0 so.lines.fates) log.printed part so.lines.on_output; on_errors = so.lines.on_errors };
+      lines = record { requests = each.requests; fates = each.fates; asked = append-nil log.sent ∙ each.asked; ends = each.ends; on_output = holds_behind (lines_from printed_line 0 each.fates) log.printed part each.on_output; on_errors = holds_behind (lines_from told_line 0 each.fates) log.told [] each.on_errors };
       next = λ _. so.next refl;
       unsent = λ _. so.unsent refl;
     }
-so_far (answers_line fault lines log more p r n l q h e d x) =
-    let so = so_far h in
+line_so_far {log = log} {p = p} so (answers_line q more r e d x) =
+    let each = so.lines in
     let said = meant p.version q in
     let known = p.rest.knows.version in
-    let count = length so.lines.fates in
     let w = so.next refl (accepted_facts p.rest.knows said d).0 in
-    let did = one_exchange x count said (ap (λ (ws : List RequestView). ws ++ said ∷ []) w.0, w.1) in
+    let did = one_exchange x (length each.fates) said (ap (λ (ws : List RequestView). ws ++ said ∷ []) w.0, w.1) in
     let f = did.0 in
     let sending : Sending = record { version = known; said = said } in
+    let sent = ap (λ (l : Log). l.sent) x.moved ∙ ap (λ (z : List ℕ). z ++ asking_bytes known said) (so.unsent refl) in
     record {
       lines = record {
-        requests = so.lines.requests ++ sending ∷ [];
-        fates = so.lines.fates ++ f.fate ∷ [];
-        asked = ap (λ (z : List ℕ). z ++ more.sent) so.lines.asked ∙ ap (λ (z : List ℕ). asked_bytes so.lines.requests ++ z) (x.sent ∙ ap (λ (z : List ℕ). z ++ asking_bytes known said) (so.unsent refl)) ∙ sym (bytes_last so.lines.requests sending);
-        ends = fates_last so.lines.requests so.lines.fates sending f.fate so.lines.ends f.ends;
-        on_output = subst (λ (ls : List (List ℕ)). Holds ls (log.printed ++ more.printed)) (sym (lines_more printed_line so.lines.fates f.fate)) (holds_then (lines_from printed_line 0 so.lines.fates) (printed_line count f.fate) log.printed more.printed so.lines.on_output f.on_output);
-        on_errors = subst (λ (ls : List (List ℕ)). Holds ls (log.told ++ more.told)) (sym (lines_more told_line so.lines.fates f.fate)) (holds_then (lines_from told_line 0 so.lines.fates) (told_line count f.fate) log.told more.told so.lines.on_errors f.on_errors);
+        requests = each.requests ++ sending ∷ [];
+        fates = each.fates ++ f.fate ∷ [];
+        asked = ap (λ (z : List ℕ). z ++ more.sent) each.asked ∙ ap (λ (z : List ℕ). asked_bytes each.requests ++ z) sent ∙ sym (bytes_last each.requests sending);
+        ends = fates_last each.requests each.fates sending f.fate each.ends f.ends;
+        on_output = holds_last printed_line each.fates f.fate log.printed more.printed each.on_output f.on_output;
+        on_errors = holds_last told_line each.fates f.fate log.told more.told each.on_errors f.on_errors;
       };
-      next = λ e o. subst (λ (m : ℕ). NoneWaits m r.rest.knows) (sym (length-append so.lines.fates (f.fate ∷ []) ∙ omega arith)) (did.1 o);
+      next = λ e o. subst (λ (m : ℕ). NoneWaits m r.rest.knows) (sym (length-append each.fates (f.fate ∷ []) ∙ omega arith)) (did.1 o);
       unsent = λ e. sent_all x e;
     }
+
+so_far : {Gone : Type 0} {fault : Option StreamFault} {ls : List (ℕ × Text)} {log : Log} {p : Place} → Talked Gone fault ls log p → SoFar fault log p
+so_far (opens fault log p x) = first_so_far (greeting_after fault p) x
+so_far (next_line fault ls l log more p r h x) = line_so_far (so_far h) x
 
 put_front : (whole : Bool) (a b : Option (List ℕ)) (xs : List ℕ) → Puts whole a b xs → AppendsFront a b xs
 put_front true a b xs h = front_whole a b xs h
