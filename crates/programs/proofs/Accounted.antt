@@ -1,6 +1,7 @@
 -- Each request of a conversation has one line.
-use Rattle.std.proofs.Common.{◌≡◌, refl, sym, ap, subst, ◌∙◌, ℕ, suc, ◌+◌, ◌==◌, Bool, true, false, not, ◌&&◌, ◌||◌, cond, true≢false, List, [], ◌∷◌, ◌++◌, length, drop, append_assoc, append-nil, Option, Some, None, is_none, unwrap_or, length-append, ◌⊎◌, inl, inr, arith}
+use Rattle.std.proofs.Common.{◌≡◌, refl, sym, ap, subst, ◌∙◌, ℕ, suc, ◌+◌, ◌==◌, Bool, true, false, not, ◌&&◌, ◌||◌, cond, true≢false, List, [], ◌∷◌, ◌++◌, length, drop, append_assoc, append-nil, Option, Some, None, is_none, unwrap_or, length-append, ◌⊎◌, ⊎_elim, inl, inr, arith}
 use Rattle.std.proofs.lemmas.Bool.{cond_both}
+use Rattle.std.proofs.lemmas.Grind.{flat_map-append}
 use Rattle.std.specs.List.{flat_map}
 use Rattle.wire.specs.declared.Version.{Version}
 use Rattle.wire.specs.declared.Version.TheVariants.{V51}
@@ -20,10 +21,11 @@ use Rattle.streams.specs.Asking.{losses_then}
 use Rattle.streams.specs.Prelude.{AppendsFront, Tale, after_all, after_notes, all_answered, given_up, hears_all, notes_of, tale_of}
 use Rattle.scripts.specs.Prelude.{Text, meant}
 use Rattle.programs.specs.Names.{outcome_name, phase_name}
-use Rattle.programs.specs.Prelude.{AtLoss, AreFates, AreTold, Accounts, EachHasALine, Exchanges, Fate, Gets, HeardUpTo, Holds, IsBegun, IsCut, Log, OnErrors, OnOutput, Place, Printed, Puts, Sending, Stands, Streams, Talked, TalksLine, Unanswered, and_then, answers_line, asked_bytes, behind_line, failure_told, first_place, greeting_after, in_line, is_printed, lines_from, lost_line, lost_of, losses_text, next_line, opens, printed_line, refuses_line, summaries_text, summary_line, told_line, told_more, unmade, version_after, versions_after, why_text}
+use Rattle.programs.specs.Prelude.{AtLoss, AreFates, AreTold, Accounts, EachHasALine, Exchanges, Fate, Gets, HeardUpTo, Holds, IsBegun, IsCut, IsExplained, Log, OnErrors, OnOutput, Place, Printed, Puts, Sending, Stands, Streams, Talked, TalksLine, Unanswered, and_then, answers_line, asked_bytes, behind_line, failure_told, first_place, greeting_after, in_line, is_printed, lines_from, lost_line, lost_of, losses_text, next_line, opens, parting, printed_line, refuses_line, summaries_text, summary_line, told_line, told_more, unmade, version_after, versions_after, why_text}
 use Rattle.programs.specs.Talking.{is_settled}
 use Rattle.programs.specs.Telling.{heard_line}
 use Rattle.programs.proofs.Moved.{gets_then}
+use Rattle.streams.proofs.Asked.{unanswered_waits}
 use Rattle.streams.proofs.Stepping.{front_whole}
 
 -- ---- what a client makes of items, while at most one request waits
@@ -123,26 +125,11 @@ fates_last (r ∷ rs) [] q f h k = absurd h
 fates_last (r ∷ rs) (g ∷ gs) q f h k = (h.0, fates_last rs gs q f h.1 k)
 
 bytes_last : (qs : List Sending) (q : Sending) → asked_bytes (qs ++ q ∷ []) ≡ asked_bytes qs ++ asking_bytes q.version q.said
-bytes_last qs q = ap (λ (z : List ℕ). offer_of Newest ++ z) (go qs) ∙ sym (append_assoc (offer_of Newest) (flat_map (λ (q : Sending). asking_bytes q.version q.said) qs) (asking_bytes q.version q.said))
-  where
-    go : (qs : List Sending) → flat_map (λ (q : Sending). asking_bytes q.version q.said) (qs ++ q ∷ []) ≡ flat_map (λ (q : Sending). asking_bytes q.version q.said) qs ++ asking_bytes q.version q.said
-    go [] = append-nil (asking_bytes q.version q.said)
-    go (r ∷ rs) = ap (λ (z : List ℕ). asking_bytes r.version r.said ++ z) (go rs) ∙ sym (append_assoc (asking_bytes r.version r.said) (flat_map (λ (q : Sending). asking_bytes q.version q.said) rs) (asking_bytes q.version q.said))
+bytes_last qs q =
+    let each = λ (q : Sending). asking_bytes q.version q.said in
+    ap (λ (z : List ℕ). offer_of Newest ++ z) (flat_map-append each qs (q ∷ []) ∙ ap (λ (z : List ℕ). flat_map each qs ++ z) (append-nil (each q))) ∙ sym (append_assoc (offer_of Newest) (flat_map each qs) (each q))
 
 -- ---- where a summary's line is
-
--- among the notes that are printed, or among the others
-in_part : (before shown : List Note) (s : Note) (after unshown : List Note) → before ++ s ∷ after ≡ shown ++ unshown → ((rest : List Note) × (shown ≡ before ++ s ∷ rest)) ⊎ ((front : List Note) × (unshown ≡ front ++ s ∷ after))
-in_part before [] s after unshown e = inr (before, sym e)
-in_part [] (x ∷ xs) s after unshown e = let same : x ≡ s = cc in inl (xs, ap (λ (z : Note). z ∷ xs) same)
-in_part (b ∷ bs) (x ∷ xs) s after unshown e =
-    let same : x ≡ b = cc in
-    let tail : bs ++ s ∷ after ≡ xs ++ unshown = cc in
-    go same (in_part bs xs s after unshown tail)
-  where
-    go : x ≡ b → ((rest : List Note) × (xs ≡ bs ++ s ∷ rest)) ⊎ ((front : List Note) × (unshown ≡ front ++ s ∷ after)) → ((rest : List Note) × (x ∷ xs ≡ b ∷ (bs ++ s ∷ rest))) ⊎ ((front : List Note) × (unshown ≡ front ++ s ∷ after))
-    go same (inl h) = inl (h.0, ap (λ (z : List Note). x ∷ z) h.1 ∙ ap (λ (z : Note). z ∷ (bs ++ s ∷ h.0)) same)
-    go same (inr h) = inr h
 
 module _ (n : ℕ) (phase : Phase) (outcome : Outcome) (said : ResponseView) where
   abbrev summary : Note
@@ -150,12 +137,6 @@ module _ (n : ℕ) (phase : Phase) (outcome : Outcome) (said : ResponseView) whe
 
   abbrev line : List ℕ
   line = heard_line n (outcome_name outcome) (phase_name phase)
-
-  holds_told : (v : Version) (before rest : List Note) (text : List ℕ) → AreTold v (before ++ summary ∷ rest) text → Holds (line ∷ []) text
-  holds_told v [] rest text h =
-      let first = h.2 in
-      ([], failure_told summary ++ h.1, h.4 ∙ ap (λ (z : List ℕ). z ++ h.1) (first.2 ∙ ap (λ (z : List ℕ). z ++ failure_told summary) first.1) ∙ append_assoc line (failure_told summary) h.1, tt)
-  holds_told v (b ∷ bs) rest text h = subst (Holds (line ∷ [])) (sym h.4) (holds_before (line ∷ []) h.0 h.1 (holds_told (version_after v b) bs rest h.1 h.3))
 
   holds_summaries : (front rest : List Note) → Holds (line ∷ []) (summaries_text (front ++ summary ∷ rest))
   holds_summaries [] rest = ([], summaries_text rest, refl, tt)
@@ -176,34 +157,35 @@ module _ (n : ℕ) (phase : Phase) (outcome : Outcome) (said : ResponseView) whe
       go (inr k) = inr (subst (Holds (line ∷ [])) (sym h.2) (holds_behind (line ∷ []) h.0 (summaries_text rest) k))
   holds_begun (Some fault) v (x ∷ xs) rest begun told h = inr (subst (Holds (line ∷ [])) (sym h.2) (holds_before (line ∷ []) h.0 (summaries_text (xs ++ summary ∷ rest)) (holds_summaries xs rest)))
 
+  -- among the notes that are printed, or among the others
+  holds_line : (broken : Option StreamFault) (v : Version) (before after shown unshown : List Note) (text begun told : List ℕ) → before ++ summary ∷ after ≡ shown ++ unshown → AreTold v shown text → IsBegun broken (versions_after v shown) unshown begun told
+      → Holds (line ∷ []) (text ++ begun) ⊎ Holds (line ∷ []) told
+  holds_line broken v before after [] unshown text begun told e h k = subst (λ (t : List ℕ). Holds (line ∷ []) (t ++ begun) ⊎ Holds (line ∷ []) told) (sym h) (holds_begun broken v before after begun told (subst (λ (ns : List Note). IsBegun broken v ns begun told) (sym e) k))
+  holds_line broken v [] after (x ∷ xs) unshown text begun told e h k =
+      let same : x ≡ summary = cc in
+      let first : IsExplained (version_after v summary) summary h.0 = subst (λ (z : Note). IsExplained (version_after v z) z h.0) same h.2 in
+      inl (holds_behind (line ∷ []) text begun ([], failure_told summary ++ h.1, h.4 ∙ ap (λ (z : List ℕ). z ++ h.1) (first.2 ∙ ap (λ (z : List ℕ). z ++ failure_told summary) first.1) ∙ append_assoc line (failure_told summary) h.1, tt))
+  holds_line broken v (b ∷ bs) after (x ∷ xs) unshown text begun told e h k =
+      let tail : bs ++ summary ∷ after ≡ xs ++ unshown = cc in
+      ⊎_elim (λ z. inl (subst (λ (t : List ℕ). Holds (line ∷ []) (t ++ begun)) (sym h.4) (subst (Holds (line ∷ [])) (sym (append_assoc h.0 h.1 begun)) (holds_before (line ∷ []) h.0 (h.1 ++ begun) z)))) inr (holds_line broken (version_after v x) bs after xs unshown h.1 begun told tail h.3 k)
+
 -- ---- a request that has no answer
 
-both_false : (a b : Bool) → (not a && not b) ≡ true → (a ≡ false) × (b ≡ false)
-both_false false false e = (refl, refl)
-both_false false true e = absurd cc
-both_false true b e = absurd cc
+settled : (over none asks : Bool) → (not (cond over false (cond none true asks)) && not over) ≡ true → asks ≡ false
+settled true none asks e = absurd cc
+settled false true asks e = absurd cc
+settled false false true e = absurd cc
+settled false false false e = refl
 
-otherwise : (b c : Bool) → cond b true c ≡ false → c ≡ false
-otherwise true c e = absurd cc
-otherwise false c e = e
-
-and_false : (b : Bool) → (b && false) ≡ false
-and_false true = refl
-and_false false = refl
+goodbye : (b : Bool) → (not b || false) ≡ false → b ≡ true
+goodbye true e = refl
+goodbye false e = absurd cc
 
 parted : (k : Knows) (n : ℕ) (q : RequestView) → OneWaits n q k → is_settled k ≡ true → is_goodbye (kind_of q) ≡ true
-parted k n q w e =
-    let parts = both_false (awaits k) k.over e in
-    let asks : Bool = cond (is_none k.version) true (asks_summary k.waiting) in
-    let none : asks ≡ false = ap (λ (b : Bool). cond b false asks) (sym parts.1) ∙ parts.0 in
-    go (is_goodbye (kind_of q)) (ap asks_summary (sym w.0) ∙ otherwise (is_none k.version) (asks_summary k.waiting) none)
-  where
-    go : (b : Bool) → (not b || false) ≡ false → b ≡ true
-    go true e = refl
-    go false e = absurd cc
+parted k n q w e = goodbye (is_goodbye (kind_of q)) (ap asks_summary (sym w.0) ∙ settled k.over (is_none k.version) (asks_summary k.waiting) e)
 
 not_answered : (k : Knows) (n : ℕ) (q : RequestView) → OneWaits n q k → all_answered k ≡ false
-not_answered k n q w = ap (λ (ws : List RequestView). not (awaits k) && (length ws == 0)) w.0 ∙ and_false (not (awaits k))
+not_answered k n q w = unanswered_waits k (rw w.0 (omega arith))
 
 lost_is : (k : Knows) (n : ℕ) (q : RequestView) → OneWaits n q k → is_settled k ≡ false → lost_of k ≡ (n, lost_outcome (unwrap_or k.version V51) k 0) ∷ []
 lost_is k n q w e =
@@ -252,26 +234,12 @@ module _ {Gone : Type 0} {fault : Option StreamFault} {p q : Place} {log : Log} 
 
   -- its summary came
   answered : (n : ℕ) (a : RequestView) → IsSummed n (hears_all p.rest did.fed) → HasFate n a log
-  answered n a s = place (in_part s.before lines.shown (Summary n s.phase s.outcome s.said) s.after lines.unshown (sym s.notes ∙ lines.parts))
+  answered n a s = ⊎_elim (λ h. record { fate = OnOutput s.phase s.outcome; ends = λ e. absurd cc; on_output = subst (Holds one) (sym (ap (λ (l : Log). l.printed) x.moved)) h; on_errors = tt })
+      (λ h. record { fate = OnErrors s.phase s.outcome; ends = λ e. absurd cc; on_output = tt; on_errors = subst (Holds one) (sym (ap (λ (l : Log). l.told) x.moved)) (holds_behind one lines.told (parting fault knows) h) })
+      (holds_line n s.phase s.outcome s.said did.broken p.version s.before s.after lines.shown lines.unshown lines.text lines.begun lines.told (sym s.notes ∙ lines.parts) lines.prints lines.next)
     where
       one : List (List ℕ)
       one = heard_line n (outcome_name s.outcome) (phase_name s.phase) ∷ []
-
-      on_output : Holds one (lines.text ++ lines.begun) → HasFate n a log
-      on_output h = record { fate = OnOutput s.phase s.outcome; ends = λ e. absurd cc; on_output = subst (Holds one) (sym (ap (λ (l : Log). l.printed) x.moved)) h; on_errors = tt }
-
-      told : Holds one lines.begun ⊎ Holds one lines.told → HasFate n a log
-      told (inl h) = on_output (holds_before one lines.text lines.begun h)
-      told (inr h) = record {
-        fate = OnErrors s.phase s.outcome;
-        ends = λ e. absurd cc;
-        on_output = tt;
-        on_errors = subst (Holds one) (sym (ap (λ (l : Log). l.told) x.moved)) (holds_behind one lines.told (losses_text (lost_of knows) ++ why_text fault knows) h);
-      }
-
-      place : ((rest : List Note) × (lines.shown ≡ s.before ++ Summary n s.phase s.outcome s.said ∷ rest)) ⊎ ((front : List Note) × (lines.unshown ≡ front ++ Summary n s.phase s.outcome s.said ∷ s.after)) → HasFate n a log
-      place (inl h) = on_output (holds_behind one lines.text lines.begun (holds_told n s.phase s.outcome s.said p.version s.before h.0 lines.text (subst (λ (ns : List Note). AreTold p.version ns lines.text) h.1 lines.prints)))
-      place (inr h) = told (holds_begun n s.phase s.outcome s.said did.broken (versions_after p.version lines.shown) h.0 s.after lines.begun lines.told (subst (λ (ns : List Note). IsBegun did.broken (versions_after p.version lines.shown) ns lines.begun lines.told) h.1 lines.next))
 
   -- none came
   unanswered : (n : ℕ) (a : RequestView) → OneWaits n a knows → HasFate n a log

@@ -16,7 +16,7 @@ use Rattle.programs.specs.declared.caller.Caller.{Caller}
 use Rattle.programs.specs.declared.shells.Conversation.{Conversation}
 use Rattle.programs.specs.declared.stop.StopReason.{StopReason}
 use Rattle.programs.specs.declared.stop.StopReason.TheVariants.{Unreadable, Broken}
-use Rattle.programs.specs.Prelude.{AreDone, Anywhere, Asks, Converses, Does, DoesAll, Exchanges, Gets, IsAsked, IsAt, IsPart, IsServersTurn, IsUsedUp, Log, Moves, Place, Progress, Runs, Shells, Stands, Streams, Submits, Talked, TalksLine, and_then, answers_line, asks_answer, asks_version, fault_in, first_place, greeting, greeting_after, greeting_of, if_filled, next_line, opens, parting, refusal_code, refused_line, refuses_line, said, stop_status, stop_text, submitted}
+use Rattle.programs.specs.Prelude.{AreDone, Anywhere, Asks, Does, DoesAll, Exchanges, Gets, IsAsked, IsAt, IsPart, IsServersTurn, IsUsedUp, Log, Moves, Place, Progress, Runs, Shells, Stands, Streams, Submits, Talked, TalksLine, and_then, answers_line, asks_answer, asks_version, fault_in, first_place, greeting, greeting_after, greeting_of, if_filled, next_line, opens, refusal_code, refused_line, refuses_line, said, stop_status, stop_text, submitted}
 use Rattle.programs.proofs.Heard.{nothing_heard}
 use Rattle.programs.proofs.Stops.{stop_of}
 use Rattle.programs.proofs.Moved.{gets_none, moves_none, moves_printed, moves_then, moves_told, moves_weak, used_before, used_stays}

@@ -1,20 +1,20 @@
 -- What is heard of a server, a piece after another, and what an exchange with it does.
-use Rattle.std.proofs.Common.{◌≡◌, refl, sym, ap, subst, ◌∙◌, ℕ, Bool, true, false, List, [], ◌∷◌, ◌++◌, drop, length, append_assoc, append-nil, true≢false, Option, Some, None, Result, Ok, Err, IfOk, ◌⊎◌, inl, inr, ⊎_elim}
+use Rattle.std.proofs.Common.{◌≡◌, refl, sym, ap, subst, ◌∙◌, ℕ, Bool, true, false, List, [], ◌∷◌, ◌++◌, drop, append_assoc, append-nil, true≢false, Option, Some, None, Result, Ok, Err, IfOk, ◌⊎◌, inl, inr, ⊎_elim}
 use Rattle.std.specs.Io.KnownBytes.{Appends, Consumes, IsAtEnd}
 use Rattle.std.specs.Result.{result_err}
-use Rattle.std.proofs.KnownBytes.{Appends-nil, Consumes-kept, Consumes-nil}
+use Rattle.std.proofs.KnownBytes.{Consumes-kept, Consumes-nil}
 use Rattle.wire.specs.declared.Version.{Version}
 use Rattle.client.specs.Prelude.{Fits, Knows, Note, Rest, awaits, taken_out}
 use Rattle.streams.specs.declared.fault.StreamFault.{StreamFault}
 use Rattle.streams.specs.declared.fault.StreamFault.TheVariants.{ReadFailed, WriteFailed, Memory}
-use Rattle.streams.specs.Prelude.{AppendsFront, HearsPiece, IsAwaited, IsNeeded, ReadsPiece, StaysSound, Tale, Writes, after_all, after_notes, given_up, hears_all}
+use Rattle.streams.specs.Prelude.{HearsPiece, IsAwaited, IsNeeded, ReadsPiece, StaysSound, Tale, Writes, after_all, after_notes, given_up, hears_all}
 use Rattle.streams.proofs.Asked.{needed_taken}
-use Rattle.streams.proofs.Tales.{after_all-append, hears_all-append}
+use Rattle.streams.proofs.Tales.{hears_all-append}
 use Rattle.programs.specs.declared.caller.Caller.{Caller}
-use Rattle.programs.specs.Prelude.{Asks, Converses, Gets, HeardUpTo, Hears, HearsAll, IsAt, IsBegun, Log, Moves, Place, Printed, Puts, Streams, and_then, heard_log, is_printed, parting, place_after, said, sent_out, versions_after}
+use Rattle.programs.specs.Prelude.{Asks, Converses, Gets, HeardUpTo, Hears, HearsAll, IsAt, IsBegun, Log, Moves, Place, Printed, Puts, Streams, heard_log, is_printed, parting, place_after, sent_out, versions_after}
 use Rattle.programs.specs.Shelling.{PrintsNotes}
-use Rattle.programs.proofs.Moved.{gets_none, moves_by, moves_none, moves_read, moves_then, moves_told, moves_weak, used_at_end}
-use Rattle.programs.proofs.Printed.{printed_all, printed_none, printed_then, versions_more}
+use Rattle.programs.proofs.Moved.{moves_by, moves_none, moves_read, moves_then, moves_told, moves_weak, used_at_end}
+use Rattle.programs.proofs.Printed.{printed_all, printed_none, printed_then}
 use Rattle.programs.proofs.Turned.{place_more}
 
 -- where no fault came while notes were printed none is left

@@ -23,7 +23,7 @@ use Rattle.streams.specs.declared.memory.Buffer.{Buffer}
 use Rattle.programs.specs.declared.loops.Pair.{Pair}
 use Rattle.programs.specs.declared.stop.StopReason.{StopReason}
 use Rattle.programs.specs.declared.stop.StopReason.TheVariants.{Unreadable, Broken}
-use Rattle.programs.specs.Prelude.{Alters, BreaksAtSource, Comes, ComesOn, FailsToRead, GoesOn, IsHeardAll, LetsReadWaiting, Loops, Passed, entries_text, Numbers, Passes, Prints, Sits, StandsAt, TellsLine, Way, Ways, end, whole_talk, Gets, stop_status, stop_text, refusal_code, IsAt, first_place, refused_line, OfRefusal, Turns, IsQuiet, AreQuiet, all_sent, after_line, answer_to, exchanged, given, line_by, no_turns, place_after, shown_of, talk_for, turns_of, with_request}
+use Rattle.programs.specs.Prelude.{Alters, BreaksAtSource, Comes, ComesOn, FailsToRead, GoesOn, IsHeardAll, LetsReadWaiting, Loops, Passed, entries_text, Numbers, Passes, Prints, Sits, StandsAt, TellsLine, Way, Ways, end, whole_talk, Gets, stop_status, stop_text, refusal_code, IsAt, first_place, refused_line, OfRefusal, Turns, IsQuiet, AreQuiet, all_sent, answer_to, exchanged, given, line_by, no_turns, place_after, shown_of, talk_for, turns_of, with_request}
 use Rattle.programs.proofs.Stops.{broken_stops}
 use Rattle.programs.proofs.Turned.{answer_is, given_more, given_none, prints_none, prints_one, prints_then, with_item}
 

@@ -1,10 +1,10 @@
 -- What streams get, one thing after another.
-use Rattle.std.proofs.Common.{◌≡◌, refl, sym, subst, ◌∙◌, ℕ, Bool, true, false, List, [], ◌∷◌, ◌++◌, append-nil, Option, Some, None, ◌⊎◌, inl, inr}
+use Rattle.std.proofs.Common.{◌≡◌, sym, subst, ◌∙◌, ℕ, Bool, true, false, List, [], ◌∷◌, ◌++◌, append-nil, Option, Some, None, ◌⊎◌, inl, inr}
 use Rattle.std.specs.Io.KnownBytes.{Appends, Consumes, IsAtEnd}
 use Rattle.std.proofs.KnownBytes.{Appends-nil, Appends-trans, Consumes-nil, Consumes-trans}
 use Rattle.streams.specs.declared.fault.StreamFault.{StreamFault}
 use Rattle.streams.specs.declared.fault.StreamFault.TheVariants.{ReadFailed, WriteFailed}
-use Rattle.streams.specs.Prelude.{AppendsFront, StaysSound}
+use Rattle.streams.specs.Prelude.{StaysSound}
 use Rattle.streams.proofs.Stepping.{front_after, front_whole}
 use Rattle.programs.specs.Prelude.{Gets, Log, and_then, said, is_printed, IsUsedUp, Streams, Puts, Moves}
 

@@ -1,9 +1,10 @@
 -- Notes that are printed, one piece after another.
-use Rattle.std.proofs.Common.{◌≡◌, refl, sym, ap, subst, ◌∙◌, ℕ, Bool, List, [], ◌∷◌, ◌++◌, append_assoc, append-nil, Option, Some, None}
+use Rattle.std.proofs.Common.{◌≡◌, refl, sym, ap, subst, ◌∙◌, ℕ, List, [], ◌∷◌, ◌++◌, append_assoc, append-nil, Option, Some, None}
+use Rattle.std.proofs.lemmas.Grind.{flat_map-append}
 use Rattle.wire.specs.declared.Version.{Version}
 use Rattle.client.specs.Prelude.{Note}
 use Rattle.streams.specs.declared.fault.StreamFault.{StreamFault}
-use Rattle.programs.specs.Prelude.{AreTold, IsBegun, IsCut, IsExplained, Log, Moves, Printed, Streams, TellsMore, and_then, said, summaries_text, summary_line, version_after, versions_after}
+use Rattle.programs.specs.Prelude.{AreTold, IsBegun, IsCut, IsExplained, Moves, Printed, Streams, TellsMore, and_then, said, summaries_text, summary_line, version_after, versions_after}
 use Rattle.programs.specs.Shelling.{PrintsNotes}
 use Rattle.programs.proofs.Moved.{moves_none, moves_then, moves_told}
 
@@ -18,8 +19,7 @@ told_then v (n ∷ ns) ms t u h k =
 
 -- what standard error gets of one summary more
 summaries_more : (ns : List Note) (n : Note) → summaries_text (ns ++ n ∷ []) ≡ summaries_text ns ++ summary_line n
-summaries_more [] n = append-nil (summary_line n)
-summaries_more (m ∷ ms) n = ap (λ (z : List ℕ). summary_line m ++ z) (summaries_more ms n) ∙ sym (append_assoc (summary_line m) (summaries_text ms) (summary_line n))
+summaries_more ns n = flat_map-append summary_line ns (n ∷ []) ∙ ap (λ (z : List ℕ). summaries_text ns ++ z) (append-nil (summary_line n))
 
 begun_more : (f : StreamFault) (v : Version) (ns : List Note) (n : Note) (begun told : List ℕ) → IsBegun (Some f) v ns begun told → IsBegun (Some f) v (ns ++ n ∷ []) begun (told ++ summary_line n)
 begun_more f v [] n begun told h = absurd h

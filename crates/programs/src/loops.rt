@@ -110,13 +110,12 @@ fn hear<O: Sink>(caller: &mut Caller, part: &[u8], out: &mut O) -> Result<(), St
 }
 
 fn put_all<O: Sink>(caller: &mut Caller, heard: Vec<Heard>, out: &mut O) -> Result<(), StreamFault>
-    ensures prints { OnOk result (Prints (notes_shown caller.old.version (map note heard.items))
-        (O.taken out.old) (O.taken out.new)) }
-    ensures breaks { OnErr result
-        (PrintsUpTo (notes_shown caller.old.version (map note heard.items)) (O.taken out.old)
+    ensures prints { MatchResult result
+        (λ _. Prints (notes_shown caller.old.version (map note heard.items)) (O.taken out.old)
+        (O.taken out.new)
+        × (caller.new.version ≡ versions_after caller.old.version (map note heard.items)))
+        (λ _. PrintsUpTo (notes_shown caller.old.version (map note heard.items)) (O.taken out.old)
         (O.taken out.new)) }
-    ensures version { OnOk result
-        (caller.new.version ≡ versions_after caller.old.version (map note heard.items)) }
     ensures client { caller.new.client ≡ caller.old.client }
     ensures read { IsErrOf result StreamFault.ReadFailed → ⊥ }
     ensures written { IsErrOf result StreamFault.WriteFailed → O.has_failed out.new ≡ true }

@@ -1,6 +1,5 @@
 use Rattle.std.proofs.Common.{◌≡◌, ◌≤◌, ◌++◌, ◌∙◌, [], append_assoc, refl, sym, ap, List, ℕ, length, arith, rules, Err}
-use Rattle.std.proofs.lemmas.Result.{MatchResult-at_ok, MatchResult-at_err}
-use Rattle.programs.specs.Prelude.{HearsFront, IsHeardAll, place_after}
+use Rattle.programs.specs.Prelude.{place_after}
 use Rattle.programs.proofs.Broken.{reads_part, reads_so_far}
 use Rattle.programs.proofs.Looped.{lets_after, passes_none, passes_then, source_after}
 use Rattle.programs.proofs.Turned.{heard_more, heard_none}

@@ -21,8 +21,8 @@ loop-one-preserved g c =
       parts = append_assoc c.loop-one.yielded (c.in-Some.one ∷ []) c.next.new.self.rest.items ∙ ap (λ xs. c.loop-one.yielded ++ xs) (sym c.in-Some.ensures.steps.0) ∙ so.parts;
     }
 
-pub returns-in_err-put_heard-clause-breaks : goal.returns-in_err-put_heard-clause-breaks
-returns-in_err-put_heard-clause-breaks g c =
+pub returns-in_err-put_heard-clause-prints : goal.returns-in_err-put_heard-clause-prints
+returns-in_err-put_heard-clause-prints g c =
     let so = c.loop-one.invariant in
     let v = c.args.caller.now.version in
     let all : c.loop-one.yielded ++ (c.in-Some.one ∷ c.next.new.self.rest.items) ≡ c.args.heard.items = ap (λ xs. c.loop-one.yielded ++ xs) (sym c.in-Some.ensures.steps.0) ∙ so.parts in
@@ -32,8 +32,5 @@ returns-in_err-put_heard-clause-breaks g c =
 
 pub returns-clause-prints : goal.returns-clause-prints
 returns-clause-prints g c =
-    rw (← all_done c.loop-one.yielded c.loop-one.one-iterator.rest.items c.args.heard.items (nil_from_length c.loop-one.one-iterator.rest.items (search rules)) c.loop-one.invariant.parts) c.loop-one.invariant.prints
-
-pub returns-clause-version : goal.returns-clause-version
-returns-clause-version g c =
-    rw (← all_done c.loop-one.yielded c.loop-one.one-iterator.rest.items c.args.heard.items (nil_from_length c.loop-one.one-iterator.rest.items (search rules)) c.loop-one.invariant.parts) c.loop-one.invariant.version
+    let so = c.loop-one.invariant in
+    rw (← all_done c.loop-one.yielded c.loop-one.one-iterator.rest.items c.args.heard.items (nil_from_length c.loop-one.one-iterator.rest.items (search rules)) so.parts) (so.prints, so.version)

@@ -1,4 +1,4 @@
-use Rattle.std.proofs.Common.{◌≡◌, refl, rules, sym, subst, inl, inr, Err, None, Option, List, ℕ}
+use Rattle.std.proofs.Common.{◌≡◌, refl, rules, sym, subst, inr, Err, None, Option, List, ℕ}
 use Rattle.std.proofs.lemmas.Result.{MatchResult-weaker}
 use Rattle.server.specs.Prelude.{setting, Fits}
 use Rattle.scripts.specs.Prelude.{meant, script_request_view}

@@ -1,4 +1,4 @@
-use Rattle.std.proofs.Common.{◌≡◌, ◌++◌, [], ◌<◌, append-nil, length, subst, take, rules, Some}
+use Rattle.std.proofs.Common.{◌++◌, [], ◌<◌, append-nil, length, subst, take, rules, Some}
 use Rattle.std.specs.Io.KnownBytes.{Consumes}
 use Rattle.std.proofs.KnownBytes.{Consumes-kept, Consumes-trans}
 use Rattle.streams.specs.declared.fault.StreamFault.TheVariants.{ReadFailed}

@@ -1,6 +1,3 @@
-use Rattle.std.proofs.Common.{sym, subst, Option}
-use Rattle.streams.specs.declared.fault.StreamFault.{StreamFault}
-use Rattle.programs.specs.Prelude.{Gets, parting}
 use Rattle.programs.proofs.Heard.{asked}
 use Rattle.programs.proofs.caller.Caller.ask.Goals as goal
 

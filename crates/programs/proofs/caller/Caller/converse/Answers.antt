@@ -1,4 +1,4 @@
-use Rattle.std.proofs.Common.{[], append-nil, refl, subst, ◌++◌}
+use Rattle.std.proofs.Common.{[], append-nil, subst}
 use Rattle.std.specs.Io.KnownBytes.{Appends}
 use Rattle.std.proofs.KnownBytes.{Appends-trans}
 use Rattle.programs.specs.Prelude.{sent_out}

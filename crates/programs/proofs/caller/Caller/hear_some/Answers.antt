@@ -1,4 +1,4 @@
-use Rattle.std.proofs.Common.{◌≡◌, ap, refl, inl, inr, sym, subst, true≢false, ◌∙◌, ◌<◌, ℕ, Err, Some, None, [], map}
+use Rattle.std.proofs.Common.{◌≡◌, ap, refl, inl, inr, sym, subst, true≢false, ◌∙◌, ◌<◌, ℕ, Err, [], map}
 use Rattle.std.proofs.KnownBytes.{Appends-nil}
 use Rattle.client.specs.declared.client.Client.{Client}
 use Rattle.client.specs.Prelude.{note, Fits}

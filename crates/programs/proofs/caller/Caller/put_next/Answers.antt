@@ -1,4 +1,4 @@
-use Rattle.std.proofs.Common.{refl, sym, ap, subst, ◌∙◌}
+use Rattle.std.proofs.Common.{ap, ◌∙◌}
 use Rattle.client.specs.Prelude.{note}
 use Rattle.programs.specs.Prelude.{Streams, version_after}
 use Rattle.programs.specs.Shelling.{server_side}

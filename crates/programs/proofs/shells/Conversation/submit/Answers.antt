@@ -1,6 +1,4 @@
 use Rattle.std.proofs.Common.{ap, Some}
-use Rattle.streams.specs.declared.fault.StreamFault.TheVariants.{WriteFailed}
-use Rattle.streams.proofs.Asked.{unless_err}
 use Rattle.programs.proofs.Followed.{submit_failed, submit_refused, submit_taken, turn_answer}
 use Rattle.programs.proofs.shells.Conversation.submit.Goals as goal
 
