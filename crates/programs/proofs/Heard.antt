@@ -17,10 +17,6 @@ use Rattle.programs.proofs.Moved.{moves_by, moves_none, moves_read, moves_then, 
 use Rattle.programs.proofs.Printed.{printed_all, printed_none, printed_then}
 use Rattle.programs.proofs.Turned.{place_more}
 
--- where no fault came while notes were printed none is left
-none_unshown : {v : Version} {ns : List Note} {broken : Option StreamFault} (x : Printed v ns broken) → broken ≡ None → x.unshown ≡ []
-none_unshown {v = v} x e = (subst (λ (f : Option StreamFault). IsBegun f (versions_after v x.shown) x.unshown x.begun x.told) e x.next).0
-
 -- a client that awaits an answer goes on
 awaits_open : (k : Knows) → awaits k ≡ true → k.over ≡ true → ⊥
 awaits_open k e o = let f : awaits k ≡ false = rw o refl in true≢false (sym e ∙ f)
@@ -92,7 +88,7 @@ hears_piece {p = p} {a = a} {c = c} {notes = notes} {broken = broken} left reads
         broken = broken;
         breaks = breaks;
         printed = record { shown = x.shown; unshown = x.unshown; text = x.text; begun = x.begun; told = x.told; parts = sym r.told ∙ x.parts; prints = x.prints; next = x.next };
-        whole = λ e. let w = whole e in (none_unshown x w.1, r.all w.0);
+        whole = λ e. let w = whole e in ((printed_all x w.1).3, r.all w.0);
       };
       moves = moves_read left reads failed (r.fed ++ r.unheard) r.input sound (moves_by breaks pr.moves) refl;
       at = record { fits = r.now; version = version ∙ ap (λ (v : Version). versions_after v notes) same ∙ ap (versions_after p.version) r.told };

@@ -37,10 +37,10 @@ abbrev pub printed_cut : {v : Version} {n : Note} (f : StreamFault) (begun told 
 printed_cut {n = n} f begun told h = record { shown = []; unshown = n ∷ []; text = []; begun = begun; told = told; parts = refl; prints = refl; next = (told, h, sym (append-nil told)) }
 
 -- where no fault comes all are printed
-pub printed_all : {v : Version} {ns : List Note} {broken : Option StreamFault} (x : Printed v ns broken) → broken ≡ None → (x.shown ≡ ns) × (x.begun ≡ []) × (x.told ≡ [])
+pub printed_all : {v : Version} {ns : List Note} {broken : Option StreamFault} (x : Printed v ns broken) → broken ≡ None → (x.shown ≡ ns) × (x.begun ≡ []) × (x.told ≡ []) × (x.unshown ≡ [])
 printed_all {v = v} x e =
     let k = subst (λ (f : Option StreamFault). IsBegun f (versions_after v x.shown) x.unshown x.begun x.told) e x.next in
-    (sym (x.parts ∙ ap (λ (z : List Note). x.shown ++ z) k.0 ∙ append-nil x.shown), k.1, k.2)
+    (sym (x.parts ∙ ap (λ (z : List Note). x.shown ++ z) k.0 ∙ append-nil x.shown), k.1, k.2, k.0)
 
 -- one piece after another
 abbrev pub printed_then : {v : Version} {ns ms all : List Note} {quiet broken : Option StreamFault} (x : Printed v ns quiet) → quiet ≡ None → Printed (versions_after v ns) ms broken → all ≡ ns ++ ms → Printed v all broken
