@@ -1,5 +1,5 @@
 -- Each request of a conversation has one line.
-use Rattle.std.proofs.Common.{◌≡◌, refl, sym, ap, subst, ◌∙◌, ℕ, suc, ◌+◌, ◌==◌, Bool, true, false, not, ◌&&◌, ◌||◌, cond, true≢false, List, [], ◌∷◌, ◌++◌, length, drop, append_assoc, append-nil, Option, Some, None, is_none, unwrap_or, length-append, ◌⊎◌, ⊎_elim, inl, inr, arith}
+use Rattle.std.proofs.Common.{◌≡◌, refl, sym, ap, subst, ◌∙◌, ℕ, suc, ◌+◌, Bool, true, false, not, ◌&&◌, ◌||◌, cond, true≢false, List, [], ◌∷◌, ◌++◌, length, drop, append_assoc, append-nil, Option, Some, None, is_none, unwrap_or, length-append, ◌⊎◌, ⊎_elim, inl, inr, arith}
 use Rattle.std.proofs.lemmas.Bool.{cond_both}
 use Rattle.std.proofs.lemmas.Grind.{flat_map-append}
 use Rattle.std.specs.List.{flat_map}
@@ -13,7 +13,7 @@ use Rattle.messages.specs.Prelude.{RequestView, ResponseView, Heard}
 use Rattle.machine.specs.declared.Phase.{Phase}
 use Rattle.machine.specs.Prelude.{kind_of, is_goodbye}
 use Rattle.client.specs.declared.Outcome.{Outcome}
-use Rattle.client.specs.Prelude.{Knows, Hearing, Note, Summary, Rest, asking_bytes, asks_summary, awaits, after_drop, losses, losses_from, lost_outcome, taken_out, heard_as, hears_item}
+use Rattle.client.specs.Prelude.{Knows, Hearing, Note, Summary, Rest, asking_bytes, asks_summary, after_drop, losses, losses_from, lost_outcome, taken_out, heard_as, hears_item}
 use Rattle.client.proofs.Makes.{Makes, makes, tells_summary}
 use Rattle.client.proofs.Refusing.{accepted_facts}
 use Rattle.streams.specs.declared.fault.StreamFault.{StreamFault}
@@ -69,26 +69,19 @@ tale_one wish k [] q e = inl (e, refl)
 tale_one wish k (x ∷ xs) q e =
     let said = heard_as k.version x in
     let h = hears_item wish k said in
-    cond_both k.over (record { knows = k; notes = [] }) (after_notes (notes_of said h) (tale_of wish h.knows xs)) (λ (t : Tale). OneWaits k.first q t.knows ⊎ IsSummed k.first t) (λ _. inl (e, refl)) (λ _. go said h (step_one wish k said h q (makes wish k said) e) (tale_one wish h.knows xs q))
-  where
-    go : (said : Heard) (h : Hearing) → OneWaits k.first q h.knows ⊎ ((phase : Phase) × (outcome : Outcome) × (a : ResponseView) × (notes_of said h ≡ Summary k.first phase outcome a ∷ []) × NoneWaits (suc k.first) h.knows)
-        → (h.knows.waiting ≡ q ∷ [] → OneWaits h.knows.first q (tale_of wish h.knows xs).knows ⊎ IsSummed h.knows.first (tale_of wish h.knows xs)) → (let t = after_notes (notes_of said h) (tale_of wish h.knows xs) in OneWaits k.first q t.knows ⊎ IsSummed k.first t)
-    go said h (inl s) more = later (more s.0)
-      where
-        later : OneWaits h.knows.first q (tale_of wish h.knows xs).knows ⊎ IsSummed h.knows.first (tale_of wish h.knows xs) → (let t = after_notes (notes_of said h) (tale_of wish h.knows xs) in OneWaits k.first q t.knows ⊎ IsSummed k.first t)
-        later (inl w) = inl (w.0, w.1 ∙ s.1)
-        later (inr w) = inr (record {
-          before = notes_of said h ++ w.before;
-          after = w.after;
-          phase = w.phase;
-          outcome = w.outcome;
-          said = w.said;
-          notes = ap (λ (z : List Note). notes_of said h ++ z) w.notes ∙ ap (λ (n : ℕ). notes_of said h ++ (w.before ++ Summary n w.phase w.outcome w.said ∷ w.after)) s.1 ∙ sym (append_assoc (notes_of said h) w.before (Summary k.first w.phase w.outcome w.said ∷ w.after));
-          now = (w.now.0, w.now.1 ∙ ap suc s.1);
-        })
-    go said h (inr s) more =
-        let rest = tale_none wish h.knows xs s.4.0 in
-        inr (record { before = []; after = (tale_of wish h.knows xs).notes; phase = s.0; outcome = s.1; said = s.2; notes = ap (λ (z : List Note). z ++ (tale_of wish h.knows xs).notes) s.3; now = (rest.0, rest.1 ∙ s.4.1) })
+    let notes = notes_of said h in
+    let rest = tale_of wish h.knows xs in
+    cond_both k.over (record { knows = k; notes = [] }) (after_notes notes rest) (λ (t : Tale). OneWaits k.first q t.knows ⊎ IsSummed k.first t) (λ _. inl (e, refl)) (λ _. ⊎_elim
+    (λ s. ⊎_elim (λ w. inl (w.0, w.1 ∙ s.1)) (λ w. inr (record {
+      before = notes ++ w.before;
+      after = w.after;
+      phase = w.phase;
+      outcome = w.outcome;
+      said = w.said;
+      notes = ap (λ (z : List Note). notes ++ z) w.notes ∙ ap (λ (n : ℕ). notes ++ (w.before ++ Summary n w.phase w.outcome w.said ∷ w.after)) s.1 ∙ sym (append_assoc notes w.before (Summary k.first w.phase w.outcome w.said ∷ w.after));
+      now = (w.now.0, w.now.1 ∙ ap suc s.1);
+    })) (tale_one wish h.knows xs q s.0))
+    (λ s. let none = tale_none wish h.knows xs s.4.0 in inr (record { before = []; after = rest.notes; phase = s.0; outcome = s.1; said = s.2; notes = ap (λ (z : List Note). z ++ rest.notes) s.3; now = (none.0, none.1 ∙ s.4.1) })) (step_one wish k said h q (makes wish k said) e))
 
 -- ---- lines that texts hold
 
@@ -150,11 +143,7 @@ module _ (n : ℕ) (phase : Phase) (outcome : Outcome) (said : ResponseView) whe
   holds_begun : (broken : Option StreamFault) (v : Version) (front rest : List Note) (begun told : List ℕ) → IsBegun broken v (front ++ summary ∷ rest) begun told → Holds (line ∷ []) begun ⊎ Holds (line ∷ []) told
   holds_begun None v [] rest begun told h = absurd cc
   holds_begun None v (x ∷ xs) rest begun told h = absurd cc
-  holds_begun (Some fault) v [] rest begun told h = go (holds_cut (version_after v summary) fault begun h.0 h.1)
-    where
-      go : Holds (line ∷ []) begun ⊎ Holds (line ∷ []) h.0 → Holds (line ∷ []) begun ⊎ Holds (line ∷ []) told
-      go (inl k) = inl k
-      go (inr k) = inr (subst (Holds (line ∷ [])) (sym h.2) (holds_behind (line ∷ []) h.0 (summaries_text rest) k))
+  holds_begun (Some fault) v [] rest begun told h = ⊎_elim inl (λ k. inr (subst (Holds (line ∷ [])) (sym h.2) (holds_behind (line ∷ []) h.0 (summaries_text rest) k))) (holds_cut (version_after v summary) fault begun h.0 h.1)
   holds_begun (Some fault) v (x ∷ xs) rest begun told h = inr (subst (Holds (line ∷ [])) (sym h.2) (holds_before (line ∷ []) h.0 (summaries_text (xs ++ summary ∷ rest)) (holds_summaries xs rest)))
 
   -- among the notes that are printed, or among the others
@@ -260,11 +249,8 @@ module _ {Gone : Type 0} {fault : Option StreamFault} {p q : Place} {log : Log} 
 
   -- one of the two, and where the client stands then
   one_exchange : (n : ℕ) (a : RequestView) → OneWaits n a p.rest.knows → HasFate n a log × (q.rest.knows.over ≡ false → NoneWaits (suc n) q.rest.knows)
-  one_exchange n a w = go (subst (λ (m : ℕ). OneWaits m a knows ⊎ IsSummed m (hears_all p.rest did.fed)) w.1 (tale_one p.rest.wish p.rest.knows (outputs at_client p.rest.item did.fed) a w.0))
-    where
-      go : OneWaits n a knows ⊎ IsSummed n (hears_all p.rest did.fed) → HasFate n a log × (q.rest.knows.over ≡ false → NoneWaits (suc n) q.rest.knows)
-      go (inl h) = (unanswered n a h, λ o. absurd (true≢false (sym (on o).1 ∙ not_answered knows n a h)))
-      go (inr h) = (answered n a h, λ o. then_none o (suc n) h.now)
+  one_exchange n a w = ⊎_elim (λ h. (unanswered n a h, λ o. absurd (true≢false (sym (on o).1 ∙ not_answered knows n a h)))) (λ h. (answered n a h, λ o. then_none o (suc n) h.now))
+      (subst (λ (m : ℕ). OneWaits m a knows ⊎ IsSummed m (hears_all p.rest did.fed)) w.1 (tale_one p.rest.wish p.rest.knows (outputs at_client p.rest.item did.fed) a w.0))
 
 -- ---- a conversation
 

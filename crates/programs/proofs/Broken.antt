@@ -1,5 +1,5 @@
 -- How far a loop has come where a fault breaks it off.
-use Rattle.std.proofs.Common.{◌≡◌, refl, sym, ap, subst, ◌∙◌, ℕ, ◌≤◌, List, [], ◌∷◌, ◌++◌, length, append_assoc, append-nil, Option, Some, None, Err, inl, inr, length-append, arith}
+use Rattle.std.proofs.Common.{◌≡◌, refl, sym, ap, subst, ◌∙◌, ℕ, ◌≤◌, List, [], ◌∷◌, ◌++◌, length, append_assoc, append-nil, Option, Some, None, Err, ⊎_elim, inl, inr, length-append, arith}
 use Rattle.std.specs.Io.KnownBytes.{Appends, Consumes}
 use Rattle.std.proofs.KnownBytes.{Appends-nil, Appends-trans, Consumes-nil, Consumes-trans}
 use Rattle.engine.specs.Prelude.{EntryView}
@@ -169,20 +169,9 @@ module _ (S : Setting) (conn : ℕ) (ledger : List EntryView) where
 
   -- what is printed then is a beginning of what is shown in the end
   begins_in : {start now : Ways} {at : Turns} {answer : List ℕ} (all : List Shown) (behind : List ℕ) (b : BreaksIn S conn ledger start now at answer) (more : List Shown) → all ≡ (at.shown ++ shown_of at.place b.heard) ++ more → PrintsFront all behind start.out now.out
-  begins_in {start = start} {now = now} {at = at} all behind b more e = go b.prints
-    where
-      go : PrintsPart (at.shown ++ shown_of at.place b.heard) start.out now.out → PrintsFront all behind start.out now.out
-      go (inl p) = record {
-        done = at.shown ++ shown_of at.place b.heard;
-        rest = more;
-        text = p.0;
-        begun = [];
-        parts = e;
-        shown = p.1;
-        front = front_nothing more behind;
-        printed = subst (Appends start.out now.out) (sym (append-nil p.0)) p.2;
-      }
-      go (inr p) = record {
+  begins_in {start = start} {now = now} {at = at} all behind b more e = ⊎_elim
+      (λ p. record { done = at.shown ++ shown_of at.place b.heard; rest = more; text = p.0; begun = []; parts = e; shown = p.1; front = front_nothing more behind; printed = subst (Appends start.out now.out) (sym (append-nil p.0)) p.2 })
+      (λ p. record {
         done = p.done;
         rest = p.next ∷ (p.rest ++ more);
         text = p.text;
@@ -191,7 +180,7 @@ module _ (S : Setting) (conn : ℕ) (ledger : List EntryView) where
         shown = p.shown;
         front = p.front;
         printed = p.printed;
-      }
+      }) b.prints
 
   begins_behind : {start now : Ways} {at : Turns} {answer : List ℕ} {shown all : List Shown} (behind : List ℕ) (b : BreaksIn S conn ledger start now at answer) → (more : List Shown) × (shown ≡ (at.shown ++ shown_of at.place b.heard) ++ more) → (later : List Shown) × (all ≡ shown ++ later) → PrintsFront all behind start.out now.out
   begins_behind {at = at} behind b first later = begins_in _ behind b (first.0 ++ later.0) (later.1 ∙ ap (λ (z : List Shown). z ++ later.0) first.1 ∙ append_assoc (at.shown ++ shown_of at.place b.heard) first.0 later.0)

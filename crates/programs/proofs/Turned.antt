@@ -1,6 +1,7 @@
 -- What a client and a session make of one piece after another, and of one line after another.
-use Rattle.std.proofs.Common.{◌≡◌, refl, sym, ap, subst, ◌∙◌, ℕ, Bool, true, false, true≢false, List, [], ◌∷◌, ◌++◌, length, drop, append_assoc, append-nil, map, Option, Some, Result, Ok, Err, MatchResult, is_ok, ◌⊎◌, inl, inr}
+use Rattle.std.proofs.Common.{◌≡◌, refl, sym, ap, subst, ◌∙◌, ℕ, Bool, true, false, true≢false, List, [], ◌∷◌, ◌++◌, length, drop, append_assoc, append-nil, map, Option, Some, Result, Ok, Err, MatchResult, is_ok, ◌⊎◌, ⊎_elim, inl, inr}
 use Rattle.std.proofs.Math.Seq.{drop-append_seam}
+use Rattle.std.proofs.lemmas.Bool.{false_from_ne_true}
 use Rattle.std.proofs.lemmas.List.{map-append}
 use Rattle.std.specs.Io.KnownBytes.{Appends}
 use Rattle.std.proofs.KnownBytes.{Appends-nil, Appends-trans}
@@ -148,15 +149,9 @@ module _ {b : Caller} {p : Place} {piece : List ℕ} {notes : List Note} {Now : 
 
   -- the item that isn't whole
   same_item : (hears_all p.rest piece).knows.over ≡ false → state at_client s.item h.fed ≡ state at_client p.rest.item piece
-  same_item e = go (h.ends refl)
-    where
-      open_before : (b : Bool) → p.rest.knows.over ≡ b → p.rest.knows.over ≡ false
-      open_before true o = absurd (true≢false (sym (stays_over p.rest piece o) ∙ e))
-      open_before false o = o
-
-      go : (h.unheard ≡ []) ⊎ ((hears_all (with_item p.rest s.item) h.fed).knows.over ≡ true) → state at_client s.item h.fed ≡ state at_client p.rest.item piece
-      go (inl none) = ap (λ (z : Opened). state at_client z h.fed) (s.same (open_before p.rest.knows.over refl)) ∙ ap (state at_client p.rest.item) (sym (h.parts ∙ ap (λ z. h.fed ++ z) none ∙ append-nil h.fed))
-      go (inr over) = absurd (true≢false (sym over ∙ ap (λ (t : Tale). t.knows.over) same_tale ∙ e))
+  same_item e = ⊎_elim
+      (λ none. ap (λ (z : Opened). state at_client z h.fed) (s.same (false_from_ne_true p.rest.knows.over (λ o. true≢false (sym (stays_over p.rest piece o) ∙ e)))) ∙ ap (state at_client p.rest.item) (sym (h.parts ∙ ap (λ z. h.fed ++ z) none ∙ append-nil h.fed)))
+      (λ over. absurd (true≢false (sym over ∙ ap (λ (t : Tale). t.knows.over) same_tale ∙ e))) (h.ends refl)
 
   pub stands_heard : {c : Caller} → Fits c.client (after_all (with_item p.rest s.item) h.fed) → c.version ≡ versions_after b.version notes → StandsAt c (place_after p piece)
   stands_heard {c = c} fits v = record {

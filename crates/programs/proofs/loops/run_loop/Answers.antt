@@ -1,4 +1,4 @@
-use Rattle.std.proofs.Common.{◌≡◌, sym, ◌∙◌, ap, refl, Some, None, Err, ⊎_elim, ℕ}
+use Rattle.std.proofs.Common.{sym, ◌∙◌, ap, refl, Some, None, Err, ⊎_elim}
 use Rattle.std.proofs.KnownBytes.{Appends-nil}
 use Rattle.programs.proofs.Stops.{never_well, stop_of}
 use Rattle.programs.proofs.Looped.{tells_line}
