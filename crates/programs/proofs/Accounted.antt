@@ -1,6 +1,7 @@
 -- Each request of a conversation has one line.
-use Rattle.std.proofs.Common.{◌≡◌, refl, sym, ap, subst, ◌∙◌, ℕ, suc, ◌+◌, ◌==◌, Bool, true, false, not, ◌&&◌, ◌||◌, cond, true≢false, List, [], ◌∷◌, ◌++◌, length, drop, append_assoc, append-nil, Option, Some, None, is_none, unwrap_or, length-append, ◌⊎◌, inl, inr, arith}
+use Rattle.std.proofs.Common.{◌≡◌, refl, sym, ap, subst, ◌∙◌, ℕ, suc, ◌+◌, Bool, true, false, not, ◌&&◌, ◌||◌, cond, true≢false, List, [], ◌∷◌, ◌++◌, length, drop, append_assoc, append-nil, Option, Some, None, is_none, unwrap_or, length-append, ◌⊎◌, ⊎_elim, inl, inr, arith}
 use Rattle.std.proofs.lemmas.Bool.{cond_both}
+use Rattle.std.proofs.lemmas.Grind.{flat_map-append}
 use Rattle.std.specs.List.{flat_map}
 use Rattle.wire.specs.declared.Version.{Version}
 use Rattle.wire.specs.declared.Version.TheVariants.{V51}
@@ -12,7 +13,7 @@ use Rattle.messages.specs.Prelude.{RequestView, ResponseView, Heard}
 use Rattle.machine.specs.declared.Phase.{Phase}
 use Rattle.machine.specs.Prelude.{kind_of, is_goodbye}
 use Rattle.client.specs.declared.Outcome.{Outcome}
-use Rattle.client.specs.Prelude.{Knows, Hearing, Note, Summary, Rest, asking_bytes, asks_summary, awaits, after_drop, losses, losses_from, lost_outcome, taken_out, heard_as, hears_item}
+use Rattle.client.specs.Prelude.{Knows, Hearing, Note, Summary, Rest, asking_bytes, asks_summary, after_drop, losses, losses_from, lost_outcome, taken_out, heard_as, hears_item}
 use Rattle.client.proofs.Makes.{Makes, makes, tells_summary}
 use Rattle.client.proofs.Refusing.{accepted_facts}
 use Rattle.streams.specs.declared.fault.StreamFault.{StreamFault}
@@ -20,10 +21,11 @@ use Rattle.streams.specs.Asking.{losses_then}
 use Rattle.streams.specs.Prelude.{AppendsFront, Tale, after_all, after_notes, all_answered, given_up, hears_all, notes_of, tale_of}
 use Rattle.scripts.specs.Prelude.{Text, meant}
 use Rattle.programs.specs.Names.{outcome_name, phase_name}
-use Rattle.programs.specs.Prelude.{AtLoss, AreFates, AreTold, Accounts, EachHasALine, Exchanges, Fate, Gets, Holds, IsBegun, IsCut, Log, OnErrors, OnOutput, Place, Puts, Sending, Stands, Streams, Talked, Unanswered, answers_line, asked_bytes, behind_line, failure_told, in_line, is_printed, lines_from, lost_line, lost_of, losses_text, why_text, opens, printed_line, refuses_line, summaries_text, summary_line, told_line, unmade, version_after, versions_after}
+use Rattle.programs.specs.Prelude.{AtLoss, AreFates, AreTold, Accounts, EachHasALine, Exchanges, Fate, Gets, HeardUpTo, Holds, IsBegun, IsCut, IsExplained, Log, OnErrors, OnOutput, Place, Printed, Puts, Sending, Stands, Streams, Talked, TalksLine, Unanswered, and_then, answers_line, asked_bytes, behind_line, failure_told, first_place, greeting_after, in_line, is_printed, lines_from, lost_line, lost_of, losses_text, next_line, opens, parting, printed_line, refuses_line, summaries_text, summary_line, told_line, told_more, unmade, version_after, versions_after, why_text}
 use Rattle.programs.specs.Talking.{is_settled}
 use Rattle.programs.specs.Telling.{heard_line}
 use Rattle.programs.proofs.Moved.{gets_then}
+use Rattle.streams.proofs.Asked.{unanswered_waits}
 use Rattle.streams.proofs.Stepping.{front_whole}
 
 -- ---- what a client makes of items, while at most one request waits
@@ -67,26 +69,19 @@ tale_one wish k [] q e = inl (e, refl)
 tale_one wish k (x ∷ xs) q e =
     let said = heard_as k.version x in
     let h = hears_item wish k said in
-    cond_both k.over (record { knows = k; notes = [] }) (after_notes (notes_of said h) (tale_of wish h.knows xs)) (λ (t : Tale). OneWaits k.first q t.knows ⊎ IsSummed k.first t) (λ _. inl (e, refl)) (λ _. go said h (step_one wish k said h q (makes wish k said) e) (tale_one wish h.knows xs q))
-  where
-    go : (said : Heard) (h : Hearing) → OneWaits k.first q h.knows ⊎ ((phase : Phase) × (outcome : Outcome) × (a : ResponseView) × (notes_of said h ≡ Summary k.first phase outcome a ∷ []) × NoneWaits (suc k.first) h.knows)
-        → (h.knows.waiting ≡ q ∷ [] → OneWaits h.knows.first q (tale_of wish h.knows xs).knows ⊎ IsSummed h.knows.first (tale_of wish h.knows xs)) → (let t = after_notes (notes_of said h) (tale_of wish h.knows xs) in OneWaits k.first q t.knows ⊎ IsSummed k.first t)
-    go said h (inl s) more = later (more s.0)
-      where
-        later : OneWaits h.knows.first q (tale_of wish h.knows xs).knows ⊎ IsSummed h.knows.first (tale_of wish h.knows xs) → (let t = after_notes (notes_of said h) (tale_of wish h.knows xs) in OneWaits k.first q t.knows ⊎ IsSummed k.first t)
-        later (inl w) = inl (w.0, w.1 ∙ s.1)
-        later (inr w) = inr (record {
-          before = notes_of said h ++ w.before;
-          after = w.after;
-          phase = w.phase;
-          outcome = w.outcome;
-          said = w.said;
-          notes = ap (λ (z : List Note). notes_of said h ++ z) w.notes ∙ ap (λ (n : ℕ). notes_of said h ++ (w.before ++ Summary n w.phase w.outcome w.said ∷ w.after)) s.1 ∙ sym (append_assoc (notes_of said h) w.before (Summary k.first w.phase w.outcome w.said ∷ w.after));
-          now = (w.now.0, w.now.1 ∙ ap suc s.1);
-        })
-    go said h (inr s) more =
-        let rest = tale_none wish h.knows xs s.4.0 in
-        inr (record { before = []; after = (tale_of wish h.knows xs).notes; phase = s.0; outcome = s.1; said = s.2; notes = ap (λ (z : List Note). z ++ (tale_of wish h.knows xs).notes) s.3; now = (rest.0, rest.1 ∙ s.4.1) })
+    let notes = notes_of said h in
+    let rest = tale_of wish h.knows xs in
+    cond_both k.over (record { knows = k; notes = [] }) (after_notes notes rest) (λ (t : Tale). OneWaits k.first q t.knows ⊎ IsSummed k.first t) (λ _. inl (e, refl)) (λ _. ⊎_elim
+    (λ s. ⊎_elim (λ w. inl (w.0, w.1 ∙ s.1)) (λ w. inr (record {
+      before = notes ++ w.before;
+      after = w.after;
+      phase = w.phase;
+      outcome = w.outcome;
+      said = w.said;
+      notes = ap (λ (z : List Note). notes ++ z) w.notes ∙ ap (λ (n : ℕ). notes ++ (w.before ++ Summary n w.phase w.outcome w.said ∷ w.after)) s.1 ∙ sym (append_assoc notes w.before (Summary k.first w.phase w.outcome w.said ∷ w.after));
+      now = (w.now.0, w.now.1 ∙ ap suc s.1);
+    })) (tale_one wish h.knows xs q s.0))
+    (λ s. let none = tale_none wish h.knows xs s.4.0 in inr (record { before = []; after = rest.notes; phase = s.0; outcome = s.1; said = s.2; notes = ap (λ (z : List Note). z ++ rest.notes) s.3; now = (none.0, none.1 ∙ s.4.1) })) (step_one wish k said h q (makes wish k said) e))
 
 -- ---- lines that texts hold
 
@@ -113,6 +108,9 @@ lines_last line n (g ∷ gs) f =
 lines_more : (line : ℕ → Fate → List (List ℕ)) (fs : List Fate) (f : Fate) → lines_from line 0 (fs ++ f ∷ []) ≡ lines_from line 0 fs ++ line (length fs) f
 lines_more line fs f = lines_last line 0 fs f ∙ ap (λ (m : ℕ). lines_from line 0 fs ++ line m f) (omega arith)
 
+holds_last : (line : ℕ → Fate → List (List ℕ)) (fs : List Fate) (f : Fate) (text rest : List ℕ) → Holds (lines_from line 0 fs) text → Holds (line (length fs) f) rest → Holds (lines_from line 0 (fs ++ f ∷ [])) (text ++ rest)
+holds_last line fs f text rest h k = subst (λ (ls : List (List ℕ)). Holds ls (text ++ rest)) (sym (lines_more line fs f)) (holds_then (lines_from line 0 fs) (line (length fs) f) text rest h k)
+
 fates_last : (qs : List Sending) (fs : List Fate) (q : Sending) (f : Fate) → AreFates qs fs → (f ≡ Unanswered → is_goodbye (kind_of q.said) ≡ true) → AreFates (qs ++ q ∷ []) (fs ++ f ∷ [])
 fates_last [] [] q f h k = (k, tt)
 fates_last [] (g ∷ gs) q f h k = absurd h
@@ -120,26 +118,11 @@ fates_last (r ∷ rs) [] q f h k = absurd h
 fates_last (r ∷ rs) (g ∷ gs) q f h k = (h.0, fates_last rs gs q f h.1 k)
 
 bytes_last : (qs : List Sending) (q : Sending) → asked_bytes (qs ++ q ∷ []) ≡ asked_bytes qs ++ asking_bytes q.version q.said
-bytes_last qs q = ap (λ (z : List ℕ). offer_of Newest ++ z) (go qs) ∙ sym (append_assoc (offer_of Newest) (flat_map (λ (q : Sending). asking_bytes q.version q.said) qs) (asking_bytes q.version q.said))
-  where
-    go : (qs : List Sending) → flat_map (λ (q : Sending). asking_bytes q.version q.said) (qs ++ q ∷ []) ≡ flat_map (λ (q : Sending). asking_bytes q.version q.said) qs ++ asking_bytes q.version q.said
-    go [] = append-nil (asking_bytes q.version q.said)
-    go (r ∷ rs) = ap (λ (z : List ℕ). asking_bytes r.version r.said ++ z) (go rs) ∙ sym (append_assoc (asking_bytes r.version r.said) (flat_map (λ (q : Sending). asking_bytes q.version q.said) rs) (asking_bytes q.version q.said))
+bytes_last qs q =
+    let each = λ (q : Sending). asking_bytes q.version q.said in
+    ap (λ (z : List ℕ). offer_of Newest ++ z) (flat_map-append each qs (q ∷ []) ∙ ap (λ (z : List ℕ). flat_map each qs ++ z) (append-nil (each q))) ∙ sym (append_assoc (offer_of Newest) (flat_map each qs) (each q))
 
 -- ---- where a summary's line is
-
--- among the notes that are printed, or among the others
-in_part : (before shown : List Note) (s : Note) (after unshown : List Note) → before ++ s ∷ after ≡ shown ++ unshown → ((rest : List Note) × (shown ≡ before ++ s ∷ rest)) ⊎ ((front : List Note) × (unshown ≡ front ++ s ∷ after))
-in_part before [] s after unshown e = inr (before, sym e)
-in_part [] (x ∷ xs) s after unshown e = let same : x ≡ s = cc in inl (xs, ap (λ (z : Note). z ∷ xs) same)
-in_part (b ∷ bs) (x ∷ xs) s after unshown e =
-    let same : x ≡ b = cc in
-    let tail : bs ++ s ∷ after ≡ xs ++ unshown = cc in
-    go same (in_part bs xs s after unshown tail)
-  where
-    go : x ≡ b → ((rest : List Note) × (xs ≡ bs ++ s ∷ rest)) ⊎ ((front : List Note) × (unshown ≡ front ++ s ∷ after)) → ((rest : List Note) × (x ∷ xs ≡ b ∷ (bs ++ s ∷ rest))) ⊎ ((front : List Note) × (unshown ≡ front ++ s ∷ after))
-    go same (inl h) = inl (h.0, ap (λ (z : List Note). x ∷ z) h.1 ∙ ap (λ (z : Note). z ∷ (bs ++ s ∷ h.0)) same)
-    go same (inr h) = inr h
 
 module _ (n : ℕ) (phase : Phase) (outcome : Outcome) (said : ResponseView) where
   abbrev summary : Note
@@ -147,12 +130,6 @@ module _ (n : ℕ) (phase : Phase) (outcome : Outcome) (said : ResponseView) whe
 
   abbrev line : List ℕ
   line = heard_line n (outcome_name outcome) (phase_name phase)
-
-  holds_told : (v : Version) (before rest : List Note) (text : List ℕ) → AreTold v (before ++ summary ∷ rest) text → Holds (line ∷ []) text
-  holds_told v [] rest text h =
-      let first = h.2 in
-      ([], failure_told summary ++ h.1, h.4 ∙ ap (λ (z : List ℕ). z ++ h.1) (first.2 ∙ ap (λ (z : List ℕ). z ++ failure_told summary) first.1) ∙ append_assoc line (failure_told summary) h.1, tt)
-  holds_told v (b ∷ bs) rest text h = subst (Holds (line ∷ [])) (sym h.4) (holds_before (line ∷ []) h.0 h.1 (holds_told (version_after v b) bs rest h.1 h.3))
 
   holds_summaries : (front rest : List Note) → Holds (line ∷ []) (summaries_text (front ++ summary ∷ rest))
   holds_summaries [] rest = ([], summaries_text rest, refl, tt)
@@ -166,41 +143,38 @@ module _ (n : ℕ) (phase : Phase) (outcome : Outcome) (said : ResponseView) whe
   holds_begun : (broken : Option StreamFault) (v : Version) (front rest : List Note) (begun told : List ℕ) → IsBegun broken v (front ++ summary ∷ rest) begun told → Holds (line ∷ []) begun ⊎ Holds (line ∷ []) told
   holds_begun None v [] rest begun told h = absurd cc
   holds_begun None v (x ∷ xs) rest begun told h = absurd cc
-  holds_begun (Some fault) v [] rest begun told h = go (holds_cut (version_after v summary) fault begun h.0 h.1)
-    where
-      go : Holds (line ∷ []) begun ⊎ Holds (line ∷ []) h.0 → Holds (line ∷ []) begun ⊎ Holds (line ∷ []) told
-      go (inl k) = inl k
-      go (inr k) = inr (subst (Holds (line ∷ [])) (sym h.2) (holds_behind (line ∷ []) h.0 (summaries_text rest) k))
+  holds_begun (Some fault) v [] rest begun told h = ⊎_elim inl (λ k. inr (subst (Holds (line ∷ [])) (sym h.2) (holds_behind (line ∷ []) h.0 (summaries_text rest) k))) (holds_cut (version_after v summary) fault begun h.0 h.1)
   holds_begun (Some fault) v (x ∷ xs) rest begun told h = inr (subst (Holds (line ∷ [])) (sym h.2) (holds_before (line ∷ []) h.0 (summaries_text (xs ++ summary ∷ rest)) (holds_summaries xs rest)))
+
+  -- among the notes that are printed, or among the others
+  holds_line : (broken : Option StreamFault) (v : Version) (before after shown unshown : List Note) (text begun told : List ℕ) → before ++ summary ∷ after ≡ shown ++ unshown → AreTold v shown text → IsBegun broken (versions_after v shown) unshown begun told
+      → Holds (line ∷ []) (text ++ begun) ⊎ Holds (line ∷ []) told
+  holds_line broken v before after [] unshown text begun told e h k = subst (λ (t : List ℕ). Holds (line ∷ []) (t ++ begun) ⊎ Holds (line ∷ []) told) (sym h) (holds_begun broken v before after begun told (subst (λ (ns : List Note). IsBegun broken v ns begun told) (sym e) k))
+  holds_line broken v [] after (x ∷ xs) unshown text begun told e h k =
+      let same : x ≡ summary = cc in
+      let first : IsExplained (version_after v summary) summary h.0 = subst (λ (z : Note). IsExplained (version_after v z) z h.0) same h.2 in
+      inl (holds_behind (line ∷ []) text begun ([], failure_told summary ++ h.1, h.4 ∙ ap (λ (z : List ℕ). z ++ h.1) (first.2 ∙ ap (λ (z : List ℕ). z ++ failure_told summary) first.1) ∙ append_assoc line (failure_told summary) h.1, tt))
+  holds_line broken v (b ∷ bs) after (x ∷ xs) unshown text begun told e h k =
+      let tail : bs ++ summary ∷ after ≡ xs ++ unshown = cc in
+      ⊎_elim (λ z. inl (subst (λ (t : List ℕ). Holds (line ∷ []) (t ++ begun)) (sym h.4) (subst (Holds (line ∷ [])) (sym (append_assoc h.0 h.1 begun)) (holds_before (line ∷ []) h.0 (h.1 ++ begun) z)))) inr (holds_line broken (version_after v x) bs after xs unshown h.1 begun told tail h.3 k)
 
 -- ---- a request that has no answer
 
-both_false : (a b : Bool) → (not a && not b) ≡ true → (a ≡ false) × (b ≡ false)
-both_false false false e = (refl, refl)
-both_false false true e = absurd cc
-both_false true b e = absurd cc
+settled : (over none asks : Bool) → (not (cond over false (cond none true asks)) && not over) ≡ true → asks ≡ false
+settled true none asks e = absurd cc
+settled false true asks e = absurd cc
+settled false false true e = absurd cc
+settled false false false e = refl
 
-otherwise : (b c : Bool) → cond b true c ≡ false → c ≡ false
-otherwise true c e = absurd cc
-otherwise false c e = e
-
-and_false : (b : Bool) → (b && false) ≡ false
-and_false true = refl
-and_false false = refl
+goodbye : (b : Bool) → (not b || false) ≡ false → b ≡ true
+goodbye true e = refl
+goodbye false e = absurd cc
 
 parted : (k : Knows) (n : ℕ) (q : RequestView) → OneWaits n q k → is_settled k ≡ true → is_goodbye (kind_of q) ≡ true
-parted k n q w e =
-    let parts = both_false (awaits k) k.over e in
-    let asks : Bool = cond (is_none k.version) true (asks_summary k.waiting) in
-    let none : asks ≡ false = ap (λ (b : Bool). cond b false asks) (sym parts.1) ∙ parts.0 in
-    go (is_goodbye (kind_of q)) (ap asks_summary (sym w.0) ∙ otherwise (is_none k.version) (asks_summary k.waiting) none)
-  where
-    go : (b : Bool) → (not b || false) ≡ false → b ≡ true
-    go true e = refl
-    go false e = absurd cc
+parted k n q w e = goodbye (is_goodbye (kind_of q)) (ap asks_summary (sym w.0) ∙ settled k.over (is_none k.version) (asks_summary k.waiting) e)
 
 not_answered : (k : Knows) (n : ℕ) (q : RequestView) → OneWaits n q k → all_answered k ≡ false
-not_answered k n q w = ap (λ (ws : List RequestView). not (awaits k) && (length ws == 0)) w.0 ∙ and_false (not (awaits k))
+not_answered k n q w = unanswered_waits k (rw w.0 (omega arith))
 
 lost_is : (k : Knows) (n : ℕ) (q : RequestView) → OneWaits n q k → is_settled k ≡ false → lost_of k ≡ (n, lost_outcome (unwrap_or k.version V51) k 0) ∷ []
 lost_is k n q w e =
@@ -223,46 +197,38 @@ goes_on r = cond_both (all_answered r.knows) r (after_drop r) (λ (z : Rest). z.
 none_unsent : (r : Rest) → r.unsent ≡ [] → (given_up r).unsent ≡ []
 none_unsent r e = cond_both (all_answered r.knows) r (after_drop r) (λ (z : Rest). z.unsent ≡ []) (λ _. e) (λ _. e)
 
-module _ {gone : Bool} {fault : Option StreamFault} {p q : Place} {log : Log} (x : Exchanges gone fault p log q) where
+module _ {Gone : Type 0} {fault : Option StreamFault} {p q : Place} {log : Log} (x : Exchanges Gone fault p log q) where
+  abbrev did : HeardUpTo fault p
+  did = x.heard
+
+  abbrev lines : Printed p.version (hears_all p.rest did.fed).notes did.broken
+  lines = did.printed
+
   abbrev knows : Knows
-  knows = (hears_all p.rest x.fed).knows
+  knows = (hears_all p.rest did.fed).knows
 
   sent_all : fault ≡ None → q.rest.unsent ≡ []
-  sent_all e = ap (λ (z : Place). z.rest.unsent) x.after ∙ none_unsent (after_all (taken_out p.rest x.out) x.fed) (x.ends e).0
+  sent_all e = ap (λ (z : Place). z.rest.unsent) x.after ∙ none_unsent (after_all (taken_out p.rest x.out) did.fed) (x.ends e).0
 
   module _ (o : q.rest.knows.over ≡ false) where
     on : (q.rest.knows ≡ knows) × (all_answered knows ≡ true)
-    on = let g = goes_on (after_all (taken_out p.rest x.out) x.fed) (sym (ap (λ (z : Place). z.rest.knows.over) x.after) ∙ o) in (ap (λ (z : Place). z.rest.knows) x.after ∙ g.0, g.1)
+    on = let g = goes_on (after_all (taken_out p.rest x.out) did.fed) (sym (ap (λ (z : Place). z.rest.knows.over) x.after) ∙ o) in (ap (λ (z : Place). z.rest.knows) x.after ∙ g.0, g.1)
 
     then_none : (n : ℕ) → NoneWaits n knows → NoneWaits n q.rest.knows
     then_none n h = subst (NoneWaits n) (sym on.0) h
 
   -- nothing waited
   first_exchange : NoneWaits 0 p.rest.knows → q.rest.knows.over ≡ false → NoneWaits 0 q.rest.knows
-  first_exchange w o = let t = tale_none p.rest.wish p.rest.knows (outputs at_client p.rest.item x.fed) w.0 in then_none o 0 (t.0, t.1 ∙ w.1)
+  first_exchange w o = let t = tale_none p.rest.wish p.rest.knows (outputs at_client p.rest.item did.fed) w.0 in then_none o 0 (t.0, t.1 ∙ w.1)
 
   -- its summary came
-  answered : (n : ℕ) (a : RequestView) → IsSummed n (hears_all p.rest x.fed) → HasFate n a log
-  answered n a s = place (in_part s.before x.shown (Summary n s.phase s.outcome s.said) s.after x.unshown (sym s.notes ∙ x.heard))
+  answered : (n : ℕ) (a : RequestView) → IsSummed n (hears_all p.rest did.fed) → HasFate n a log
+  answered n a s = ⊎_elim (λ h. record { fate = OnOutput s.phase s.outcome; ends = λ e. absurd cc; on_output = subst (Holds one) (sym (ap (λ (l : Log). l.printed) x.moved)) h; on_errors = tt })
+      (λ h. record { fate = OnErrors s.phase s.outcome; ends = λ e. absurd cc; on_output = tt; on_errors = subst (Holds one) (sym (ap (λ (l : Log). l.told) x.moved)) (holds_behind one lines.told (parting fault knows) h) })
+      (holds_line n s.phase s.outcome s.said did.broken p.version s.before s.after lines.shown lines.unshown lines.text lines.begun lines.told (sym s.notes ∙ lines.parts) lines.prints lines.next)
     where
       one : List (List ℕ)
       one = heard_line n (outcome_name s.outcome) (phase_name s.phase) ∷ []
-
-      on_output : Holds one (x.text ++ x.begun) → HasFate n a log
-      on_output h = record { fate = OnOutput s.phase s.outcome; ends = λ e. absurd cc; on_output = subst (Holds one) (sym x.printed) h; on_errors = tt }
-
-      told : Holds one x.begun ⊎ Holds one x.told → HasFate n a log
-      told (inl h) = on_output (holds_before one x.text x.begun h)
-      told (inr h) = record {
-        fate = OnErrors s.phase s.outcome;
-        ends = λ e. absurd cc;
-        on_output = tt;
-        on_errors = subst (Holds one) (sym x.losses) (holds_behind one x.told (losses_text (lost_of knows) ++ why_text fault knows) h);
-      }
-
-      place : ((rest : List Note) × (x.shown ≡ s.before ++ Summary n s.phase s.outcome s.said ∷ rest)) ⊎ ((front : List Note) × (x.unshown ≡ front ++ Summary n s.phase s.outcome s.said ∷ s.after)) → HasFate n a log
-      place (inl h) = on_output (holds_behind one x.text x.begun (holds_told n s.phase s.outcome s.said p.version s.before h.0 x.text (subst (λ (ns : List Note). AreTold p.version ns x.text) h.1 x.prints)))
-      place (inr h) = told (holds_begun n s.phase s.outcome s.said x.broken (versions_after p.version x.shown) h.0 s.after x.begun x.told (subst (λ (ns : List Note). IsBegun x.broken (versions_after p.version x.shown) ns x.begun x.told) h.1 x.next))
 
   -- none came
   unanswered : (n : ℕ) (a : RequestView) → OneWaits n a knows → HasFate n a log
@@ -277,17 +243,14 @@ module _ {gone : Bool} {fault : Option StreamFault} {p q : Place} {log : Log} (x
             fate = AtLoss o;
             ends = λ e. absurd cc;
             on_output = tt;
-            on_errors = subst (Holds (lost_line (n, o) ∷ [])) (sym (x.losses ∙ ap (λ ls. x.told ++ (losses_text ls ++ why)) (lost_is knows n a w e)))
-                (holds_before (lost_line (n, o) ∷ []) x.told ((lost_line (n, o) ++ []) ++ why) ([], why, ap (λ (z : List ℕ). z ++ why) (append-nil (lost_line (n, o))), tt));
+            on_errors = subst (Holds (lost_line (n, o) ∷ [])) (sym (ap (λ (l : Log). l.told) x.moved ∙ ap (λ ls. lines.told ++ (losses_text ls ++ why)) (lost_is knows n a w e)))
+                (holds_before (lost_line (n, o) ∷ []) lines.told ((lost_line (n, o) ++ []) ++ why) ([], why, ap (λ (z : List ℕ). z ++ why) (append-nil (lost_line (n, o))), tt));
           }
 
   -- one of the two, and where the client stands then
   one_exchange : (n : ℕ) (a : RequestView) → OneWaits n a p.rest.knows → HasFate n a log × (q.rest.knows.over ≡ false → NoneWaits (suc n) q.rest.knows)
-  one_exchange n a w = go (subst (λ (m : ℕ). OneWaits m a knows ⊎ IsSummed m (hears_all p.rest x.fed)) w.1 (tale_one p.rest.wish p.rest.knows (outputs at_client p.rest.item x.fed) a w.0))
-    where
-      go : OneWaits n a knows ⊎ IsSummed n (hears_all p.rest x.fed) → HasFate n a log × (q.rest.knows.over ≡ false → NoneWaits (suc n) q.rest.knows)
-      go (inl h) = (unanswered n a h, λ o. absurd (true≢false (sym (on o).1 ∙ not_answered knows n a h)))
-      go (inr h) = (answered n a h, λ o. then_none o (suc n) h.now)
+  one_exchange n a w = ⊎_elim (λ h. (unanswered n a h, λ o. absurd (true≢false (sym (on o).1 ∙ not_answered knows n a h)))) (λ h. (answered n a h, λ o. then_none o (suc n) h.now))
+      (subst (λ (m : ℕ). OneWaits m a knows ⊎ IsSummed m (hears_all p.rest did.fed)) w.1 (tale_one p.rest.wish p.rest.knows (outputs at_client p.rest.item did.fed) a w.0))
 
 -- ---- a conversation
 
@@ -297,40 +260,46 @@ record SoFar (fault : Option StreamFault) (log : Log) (p : Place) : Type 0 where
   next : fault ≡ None → p.rest.knows.over ≡ false → NoneWaits (length lines.fates) p.rest.knows
   unsent : fault ≡ None → p.rest.unsent ≡ []
 
-so_far : {gone : Bool} {fault : Option StreamFault} {lines : List (ℕ × Text)} {log : Log} {p : Place} → Talked gone fault lines log p → SoFar fault log p
-so_far (opens fault log p x) = record {
-  lines = record { requests = []; fates = []; asked = x.sent ∙ sym (append-nil (offer_of Newest)); ends = tt; on_output = tt; on_errors = tt };
+first_so_far : {Gone : Type 0} {fault : Option StreamFault} {log : Log} {p : Place} (told : List ℕ) → Exchanges Gone fault first_place log p → SoFar fault (told_more log told) p
+first_so_far told x = record {
+  lines = record { requests = []; fates = []; asked = ap (λ (l : Log). l.sent) x.moved ∙ sym (append-nil (offer_of Newest)); ends = tt; on_output = tt; on_errors = tt };
   next = λ e o. first_exchange x (refl, refl) o;
   unsent = λ e. sent_all x e;
 }
-so_far (refuses_line fault lines log p n l q why code part h e d c some) =
-    let so = so_far h in
+
+line_so_far : {Gone : Type 0} {fault : Option StreamFault} {l : ℕ × Text} {log more : Log} {p r : Place} → SoFar None log p → TalksLine Gone fault p l more r → SoFar fault (and_then log more) r
+line_so_far {log = log} so (refuses_line q why code part e d c some) =
+    let each = so.lines in
     record {
-      lines = record { requests = so.lines.requests; fates = so.lines.fates; asked = so.lines.asked; ends = so.lines.ends; on_output = holds_behind (lines_from printed_line 0 so.lines.fates) log.printed part so.lines.on_output; on_errors = so.lines.on_errors };
+      lines = record { requests = each.requests; fates = each.fates; asked = append-nil log.sent ∙ each.asked; ends = each.ends; on_output = holds_behind (lines_from printed_line 0 each.fates) log.printed part each.on_output; on_errors = holds_behind (lines_from told_line 0 each.fates) log.told [] each.on_errors };
       next = λ _. so.next refl;
       unsent = λ _. so.unsent refl;
     }
-so_far (answers_line fault lines log more p r n l q h e d x) =
-    let so = so_far h in
+line_so_far {log = log} {p = p} so (answers_line q more r e d x) =
+    let each = so.lines in
     let said = meant p.version q in
     let known = p.rest.knows.version in
-    let count = length so.lines.fates in
     let w = so.next refl (accepted_facts p.rest.knows said d).0 in
-    let did = one_exchange x count said (ap (λ (ws : List RequestView). ws ++ said ∷ []) w.0, w.1) in
+    let did = one_exchange x (length each.fates) said (ap (λ (ws : List RequestView). ws ++ said ∷ []) w.0, w.1) in
     let f = did.0 in
     let sending : Sending = record { version = known; said = said } in
+    let sent = ap (λ (l : Log). l.sent) x.moved ∙ ap (λ (z : List ℕ). z ++ asking_bytes known said) (so.unsent refl) in
     record {
       lines = record {
-        requests = so.lines.requests ++ sending ∷ [];
-        fates = so.lines.fates ++ f.fate ∷ [];
-        asked = ap (λ (z : List ℕ). z ++ more.sent) so.lines.asked ∙ ap (λ (z : List ℕ). asked_bytes so.lines.requests ++ z) (x.sent ∙ ap (λ (z : List ℕ). z ++ asking_bytes known said) (so.unsent refl)) ∙ sym (bytes_last so.lines.requests sending);
-        ends = fates_last so.lines.requests so.lines.fates sending f.fate so.lines.ends f.ends;
-        on_output = subst (λ (ls : List (List ℕ)). Holds ls (log.printed ++ more.printed)) (sym (lines_more printed_line so.lines.fates f.fate)) (holds_then (lines_from printed_line 0 so.lines.fates) (printed_line count f.fate) log.printed more.printed so.lines.on_output f.on_output);
-        on_errors = subst (λ (ls : List (List ℕ)). Holds ls (log.told ++ more.told)) (sym (lines_more told_line so.lines.fates f.fate)) (holds_then (lines_from told_line 0 so.lines.fates) (told_line count f.fate) log.told more.told so.lines.on_errors f.on_errors);
+        requests = each.requests ++ sending ∷ [];
+        fates = each.fates ++ f.fate ∷ [];
+        asked = ap (λ (z : List ℕ). z ++ more.sent) each.asked ∙ ap (λ (z : List ℕ). asked_bytes each.requests ++ z) sent ∙ sym (bytes_last each.requests sending);
+        ends = fates_last each.requests each.fates sending f.fate each.ends f.ends;
+        on_output = holds_last printed_line each.fates f.fate log.printed more.printed each.on_output f.on_output;
+        on_errors = holds_last told_line each.fates f.fate log.told more.told each.on_errors f.on_errors;
       };
-      next = λ e o. subst (λ (m : ℕ). NoneWaits m r.rest.knows) (sym (length-append so.lines.fates (f.fate ∷ []) ∙ omega arith)) (did.1 o);
+      next = λ e o. subst (λ (m : ℕ). NoneWaits m r.rest.knows) (sym (length-append each.fates (f.fate ∷ []) ∙ omega arith)) (did.1 o);
       unsent = λ e. sent_all x e;
     }
+
+so_far : {Gone : Type 0} {fault : Option StreamFault} {ls : List (ℕ × Text)} {log : Log} {p : Place} → Talked Gone fault ls log p → SoFar fault log p
+so_far (opens fault log p x) = first_so_far (greeting_after fault p) x
+so_far (next_line fault ls l log more p r h x) = line_so_far (so_far h) x
 
 put_front : (whole : Bool) (a b : Option (List ℕ)) (xs : List ℕ) → Puts whole a b xs → AppendsFront a b xs
 put_front true a b xs h = front_whole a b xs h

@@ -1,5 +1,5 @@
 -- How far a loop has come where a fault breaks it off.
-use Rattle.std.proofs.Common.{◌≡◌, refl, sym, ap, subst, ◌∙◌, ℕ, ◌≤◌, List, [], ◌∷◌, ◌++◌, length, append_assoc, append-nil, Option, Some, None, Err, inl, inr, length-append, arith}
+use Rattle.std.proofs.Common.{◌≡◌, refl, sym, ap, subst, ◌∙◌, ℕ, ◌≤◌, List, [], ◌∷◌, ◌++◌, length, append_assoc, append-nil, Option, Some, None, Err, ⊎_elim, inl, inr, length-append, arith}
 use Rattle.std.specs.Io.KnownBytes.{Appends, Consumes}
 use Rattle.std.proofs.KnownBytes.{Appends-nil, Appends-trans, Consumes-nil, Consumes-trans}
 use Rattle.engine.specs.Prelude.{EntryView}
@@ -7,13 +7,14 @@ use Rattle.session.specs.Prelude.{Setting}
 use Rattle.server.specs.Prelude.{Rest, opened}
 use Rattle.client.specs.declared.SubmitFault.{SubmitFault}
 use Rattle.client.specs.Prelude.{refuses}
+use Rattle.messages.specs.View.{RequestView}
 use Rattle.streams.specs.declared.fault.StreamFault.{StreamFault}
 use Rattle.streams.specs.Limits.{max_piece}
 use Rattle.streams.specs.Prelude.{AppendsFront, Talk}
 use Rattle.streams.proofs.Talks.{talk_by_items}
 use Rattle.scripts.specs.Prelude.{ScriptRequestView, meant}
 use Rattle.programs.specs.declared.loops.Pair.{Pair}
-use Rattle.programs.specs.Prelude.{Passes, Breaks, BreaksIn, BreaksLine, BreaksLines, Comes, HearsFront, IsFrontOfNext, IsInLine, Place, Prints, PrintsFront, PrintsPart, ReadsFront, Shown, OfRefusal, Submits, Turns, Ways, after_line, after_lines, answer_to, asked, at_first, at_line, due, end, entries_text, exchanged, given, line_by, no_turns, place_after, refused, refused_line, shown_of, talk_for, turns_of, unbegun, whole_talk, with_refusal, with_request}
+use Rattle.programs.specs.Prelude.{Passes, Breaks, BreaksAt, BreaksIn, Comes, HearsFront, IsFrontOfNext, Place, Prints, PrintsFront, PrintsPart, ReadsFront, Shown, OfRefusal, Submits, Turns, Ways, after_line, after_lines, answer_to, due, end, entries_text, exchanged, given, line_by, line_stages, no_turns, place_after, refused_line, shown_of, stage_by, stages, stages_of, talk_for, turns_of, whole_talk, with_refusal, with_request}
 use Rattle.programs.proofs.Looped.{all_out}
 use Rattle.programs.proofs.Turned.{answer_is, answer_more, prints_some, shown_more}
 
@@ -95,40 +96,42 @@ module _ {S : Setting} {conn : ℕ} {ledger : List EntryView} {start now : Ways}
 
 -- ---- in a line
 
+-- while it is done
+pub stage_broken : (S : Setting) (conn : ℕ) (ledger : List EntryView) (start b : Ways) (t : Turns) (l : ℕ × ScriptRequestView) (o : Option SubmitFault) → refuses t.place.rest.knows (meant t.place.version l.1) ≡ o
+    → (let s = stage_by S conn ledger o t l.0 (meant t.place.version l.1) in BreaksIn S conn ledger start b s.0 s.1) → BreaksAt S conn ledger start b (line_stages S conn ledger t l)
+stage_broken S conn ledger start b t l o e k =
+    inr (inl (subst (λ (o : Option SubmitFault). let s = stage_by S conn ledger o t l.0 (meant t.place.version l.1) in BreaksIn S conn ledger start b s.0 s.1) (sym e) k))
+
 module _ {G : Type 0} {r : Rest G} {conn : ℕ} {S : Setting} {start a b : Ways} {t : Turns} {x : Pair} {Now : Rest G → Type 0} (h : Comes r conn S start a t x Now) (l : ℕ × ScriptRequestView) where
   -- it isn't submitted, or the line of its refusal is cut
-  pub breaks_submit : (Then : Place → Type 0) (here : Place) (fault : StreamFault) → here.rest.knows ≡ t.place.rest.knows → here.version ≡ t.place.version → Submits here (meant here.version l.1) l.0 a.out b.out Then (Err fault) → b.down.left ≡ a.down.left → BreaksLine S conn r.ledger start b t l
+  pub breaks_submit : (Then : Place → Type 0) (here : Place) (fault : StreamFault) → here.rest.knows ≡ t.place.rest.knows → here.version ≡ t.place.version → Submits here (meant here.version l.1) l.0 a.out b.out Then (Err fault) → b.down.left ≡ a.down.left → BreaksAt S conn r.ledger start b (line_stages S conn r.ledger t l)
   unfolding breaks_before
-  breaks_submit Then here fault k v (inl e) d = record { at = t; answer = []; inside = unbegun; breaks = breaks_before h [] d e }
-  breaks_submit Then here fault k v (inr s) d =
+  breaks_submit Then here fault k v (at, inl e) d = inl (breaks_before h [] d e)
+  breaks_submit Then here fault k v (at, inr s) d =
       let why = s.0 in
       let cut = s.4 in
       let e : refuses t.place.rest.knows (meant t.place.version l.1) ≡ Some why = rw (← k, ← v) s.2 in
       let was = breaks_before {b = record b { out = a.out }} h [] d refl in
-      record {
-        at = with_refusal t l.0 why;
-        answer = [];
-        inside = refused why e;
-        breaks = record {
-          heard = [];
+      let broken : BreaksIn S conn r.ledger start b (with_refusal t l.0 why) [] = record {
+        heard = [];
+        rest = [];
+        unheard = [];
+        parts = refl;
+        read = was.read;
+        few = was.few;
+        prints = inr (record {
+          done = t.shown;
+          next = OfRefusal l.0 why;
           rest = [];
-          unheard = [];
-          parts = refl;
-          read = was.read;
-          few = was.few;
-          prints = inr (record {
-            done = t.shown;
-            next = OfRefusal l.0 why;
-            rest = [];
-            text = h.printed.0;
-            begun = cut.0;
-            parts = append-nil (t.shown ++ OfRefusal l.0 why ∷ []);
-            shown = h.printed.1;
-            front = inr (refused_line l.0 s.1, (s.1, s.3, refl), (cut.1, cut.2));
-            printed = Appends-trans start.out a.out b.out h.printed.0 cut.0 h.printed.2 cut.3;
-          });
-        };
-      }
+          text = h.printed.0;
+          begun = cut.0;
+          parts = append-nil (t.shown ++ OfRefusal l.0 why ∷ []);
+          shown = h.printed.1;
+          front = inr (refused_line l.0 s.1, (s.1, s.3, refl), (cut.1, cut.2));
+          printed = Appends-trans start.out a.out b.out h.printed.0 cut.0 h.printed.2 cut.3;
+        });
+      } in
+      stage_broken S conn r.ledger start b t l (Some why) e broken
 
 -- ---- in a whole run
 
@@ -149,10 +152,6 @@ module _ (S : Setting) (conn : ℕ) (ledger : List EntryView) where
       let rest = lines_show (after_line S conn ledger t l) ls in
       (first.0 ++ rest.0, rest.1 ∙ ap (λ (z : List Shown). z ++ rest.0) first.1 ∙ append_assoc t.shown first.0 rest.0)
 
-  lines_then : (t : Turns) (done more : List (ℕ × ScriptRequestView)) → after_lines S conn ledger t (done ++ more) ≡ after_lines S conn ledger (after_lines S conn ledger t done) more
-  lines_then t [] more = refl
-  lines_then t (l ∷ ls) more = lines_then (after_line S conn ledger t l) ls more
-
   -- of an answer first what is heard of its beginning
   due_shows : (t : Turns) (heard rest : List ℕ) → heard ++ rest ≡ due S conn ledger t → (more : List Shown) × ((exchanged S conn ledger t).shown ≡ (t.shown ++ shown_of t.place heard) ++ more)
   due_shows t heard rest parts = (
@@ -160,37 +159,19 @@ module _ (S : Setting) (conn : ℕ) (ledger : List EntryView) where
     ap (λ (z : List ℕ). t.shown ++ shown_of t.place z) (sym parts) ∙ ap (λ (z : List Shown). t.shown ++ z) (shown_more t.place heard rest) ∙ sym (append_assoc t.shown (shown_of t.place heard) (shown_of (place_after t.place heard) rest)),
   )
 
-  nothing_heard : (heard rest : List ℕ) → heard ++ rest ≡ [] → heard ≡ []
-  nothing_heard [] rest e = refl
-  nothing_heard (x ∷ xs) rest e = absurd cc
+  none_shows : (t : Turns) (heard rest : List ℕ) → heard ++ rest ≡ [] → t.shown ++ shown_of t.place heard ≡ t.shown
+  none_shows t [] rest e = append-nil t.shown
+  none_shows t (x ∷ xs) rest e = absurd cc
 
-  in_line_shows : {t at : Turns} {l : ℕ × ScriptRequestView} {answer : List ℕ} → IsInLine S conn ledger t l at answer → (heard rest : List ℕ) → heard ++ rest ≡ answer → (more : List Shown) × ((after_line S conn ledger t l).shown ≡ (at.shown ++ shown_of at.place heard) ++ more)
-  in_line_shows {t = t} {l = l} unbegun heard rest parts =
-      let first = line_shows (refuses t.place.rest.knows (meant t.place.version l.1)) t l in
-      (first.0, first.1 ∙ ap (λ (z : List Shown). z ++ first.0) (sym (append-nil t.shown) ∙ ap (λ (z : List ℕ). t.shown ++ shown_of t.place z) (sym (nothing_heard heard rest parts))))
-  in_line_shows {t = t} {l = l} (refused why e) heard rest parts =
-      let at = with_refusal t l.0 why in
-      ([], ap (λ (o : Option SubmitFault). (line_by S conn ledger o t l.0 (meant t.place.version l.1)).shown) e ∙ sym (append-nil at.shown) ∙ ap (λ (z : List ℕ). at.shown ++ shown_of at.place z) (sym (nothing_heard heard rest parts)) ∙ sym (append-nil _))
-  in_line_shows {t = t} {l = l} (asked e) heard rest parts =
-      let shows = due_shows (with_request t (meant t.place.version l.1)) heard rest parts in
-      (shows.0, ap (λ (o : Option SubmitFault). (line_by S conn ledger o t l.0 (meant t.place.version l.1)).shown) e ∙ shows.1)
+  stage_shows : (o : Option SubmitFault) (t : Turns) (n : ℕ) (q : RequestView) (heard rest : List ℕ) → (let s = stage_by S conn ledger o t n q in heard ++ rest ≡ s.1 → (more : List Shown) × ((line_by S conn ledger o t n q).shown ≡ (s.0.shown ++ shown_of s.0.place heard) ++ more))
+  stage_shows None t n q heard rest parts = due_shows (with_request t q) heard rest parts
+  stage_shows (Some why) t n q heard rest parts = ([], sym (append-nil _ ∙ none_shows (with_refusal t n why) heard rest parts))
 
   -- what is printed then is a beginning of what is shown in the end
   begins_in : {start now : Ways} {at : Turns} {answer : List ℕ} (all : List Shown) (behind : List ℕ) (b : BreaksIn S conn ledger start now at answer) (more : List Shown) → all ≡ (at.shown ++ shown_of at.place b.heard) ++ more → PrintsFront all behind start.out now.out
-  begins_in {start = start} {now = now} {at = at} all behind b more e = go b.prints
-    where
-      go : PrintsPart (at.shown ++ shown_of at.place b.heard) start.out now.out → PrintsFront all behind start.out now.out
-      go (inl p) = record {
-        done = at.shown ++ shown_of at.place b.heard;
-        rest = more;
-        text = p.0;
-        begun = [];
-        parts = e;
-        shown = p.1;
-        front = front_nothing more behind;
-        printed = subst (Appends start.out now.out) (sym (append-nil p.0)) p.2;
-      }
-      go (inr p) = record {
+  begins_in {start = start} {now = now} {at = at} all behind b more e = ⊎_elim
+      (λ p. record { done = at.shown ++ shown_of at.place b.heard; rest = more; text = p.0; begun = []; parts = e; shown = p.1; front = front_nothing more behind; printed = subst (Appends start.out now.out) (sym (append-nil p.0)) p.2 })
+      (λ p. record {
         done = p.done;
         rest = p.next ∷ (p.rest ++ more);
         text = p.text;
@@ -199,30 +180,43 @@ module _ (S : Setting) (conn : ℕ) (ledger : List EntryView) where
         shown = p.shown;
         front = p.front;
         printed = p.printed;
-      }
+      }) b.prints
 
-  pub begins_lines : {start now : Ways} {lines : List (ℕ × ScriptRequestView)} (behind : List ℕ) → BreaksLines S conn ledger start now lines → PrintsFront (turns_of S conn ledger lines).shown behind start.out now.out
-  begins_lines {lines = lines} behind (at_first b) =
-      let first = due_shows no_turns b.heard b.rest b.parts in
-      let later = lines_show (exchanged S conn ledger no_turns) lines in
-      begins_in _ behind b (first.0 ++ later.0) (later.1 ∙ ap (λ (z : List Shown). z ++ later.0) first.1 ∙ append_assoc (no_turns.shown ++ shown_of no_turns.place b.heard) first.0 later.0)
-  begins_lines behind (at_line done l rest e b) =
-      let t = turns_of S conn ledger done in
-      let first = in_line_shows b.inside b.breaks.heard b.breaks.rest b.breaks.parts in
-      let later = lines_show (after_line S conn ledger t l) rest in
-      begins_in _ behind b.breaks (first.0 ++ later.0) (ap (λ (ls : List (ℕ × ScriptRequestView)). (turns_of S conn ledger ls).shown) e ∙ ap (λ (z : Turns). z.shown) (lines_then (exchanged S conn ledger no_turns) done (l ∷ rest))
-      ∙ later.1 ∙ ap (λ (z : List Shown). z ++ later.0) first.1 ∙ append_assoc (b.at.shown ++ shown_of b.at.place b.breaks.heard) first.0 later.0)
+  begins_behind : {start now : Ways} {at : Turns} {answer : List ℕ} {shown all : List Shown} (behind : List ℕ) (b : BreaksIn S conn ledger start now at answer) → (more : List Shown) × (shown ≡ (at.shown ++ shown_of at.place b.heard) ++ more) → (later : List Shown) × (all ≡ shown ++ later) → PrintsFront all behind start.out now.out
+  begins_behind {at = at} behind b first later = begins_in _ behind b (first.0 ++ later.0) (later.1 ∙ ap (λ (z : List Shown). z ++ later.0) first.1 ∙ append_assoc (at.shown ++ shown_of at.place b.heard) first.0 later.0)
+
+  begins_at : (start now : Ways) (behind : List ℕ) (t : Turns) (ls : List (ℕ × ScriptRequestView)) → BreaksAt S conn ledger start now (stages S conn ledger t ls) → PrintsFront (after_lines S conn ledger t ls).shown behind start.out now.out
+  begins_at start now behind t [] h = absurd h
+  begins_at start now behind t (l ∷ ls) (inl b) =
+      let all = lines_show t (l ∷ ls) in
+      begins_in _ behind b all.0 (all.1 ∙ ap (λ (z : List Shown). z ++ all.0) (sym (none_shows t b.heard b.rest b.parts)))
+  begins_at start now behind t (l ∷ ls) (inr (inl b)) =
+      let q = meant t.place.version l.1 in
+      let first = stage_shows (refuses t.place.rest.knows q) t l.0 q b.heard b.rest b.parts in
+      begins_behind behind b first (lines_show (after_line S conn ledger t l) ls)
+  begins_at start now behind t (l ∷ ls) (inr (inr h)) = begins_at start now behind (after_line S conn ledger t l) ls h
+
+  pub begins_lines : (start now : Ways) (lines : List (ℕ × ScriptRequestView)) (behind : List ℕ) → BreaksAt S conn ledger start now (stages_of S conn ledger lines) → PrintsFront (turns_of S conn ledger lines).shown behind start.out now.out
+  begins_lines start now lines behind (inl b) = begins_behind behind b (due_shows no_turns b.heard b.rest b.parts) (lines_show (exchanged S conn ledger no_turns) lines)
+  begins_lines start now lines behind (inr h) = begins_at start now behind (exchanged S conn ledger no_turns) lines h
+
+-- a fault in a line comes in the lines
+pub breaks_in_line : (S : Setting) (conn : ℕ) (ledger : List EntryView) {start now : Ways} (t : Turns) (done : List (ℕ × ScriptRequestView)) (l : ℕ × ScriptRequestView) (rest : List (ℕ × ScriptRequestView)) → BreaksAt S conn ledger start now (line_stages S conn ledger (after_lines S conn ledger t done) l) → BreaksAt S conn ledger start now (stages S conn ledger t (done ++ l ∷ rest))
+breaks_in_line S conn ledger t [] l rest (inl b) = inl b
+breaks_in_line S conn ledger t [] l rest (inr (inl b)) = inr (inl b)
+breaks_in_line S conn ledger t [] l rest (inr (inr b)) = absurd b
+breaks_in_line S conn ledger t (x ∷ xs) l rest h = inr (inr (breaks_in_line S conn ledger (after_line S conn ledger t x) xs l rest h))
 
 module _ {G : Type 0} (r : Rest G) (S : Setting) (lines : List (ℕ × ScriptRequestView)) {start last : Ways} where
   -- in the lines
-  pub breaks_lines : (conn : ℕ) → conn ≡ r.next → BreaksLines S conn r.ledger start last lines → Breaks r S lines start last
+  pub breaks_lines : (conn : ℕ) → conn ≡ r.next → BreaksAt S conn r.ledger start last (stages_of S conn r.ledger lines) → Breaks r S lines start last
   breaks_lines conn e h =
-      let b = subst (λ (n : ℕ). BreaksLines S n r.ledger start last lines) e h in
-      record { begins = begins_lines S r.next r.ledger _ b; printed = inl b }
+      let b = subst (λ (n : ℕ). BreaksAt S n r.ledger start last (stages_of S n r.ledger lines)) e h in
+      record { begins = begins_lines S r.next r.ledger start last lines _ b; printed = inl b }
 
   -- before them
   pub breaks_none : last ≡ start → Breaks r S lines start last
-  breaks_none e = breaks_lines r.next refl (at_first (record {
+  breaks_none e = breaks_lines r.next refl (inl (record {
     heard = [];
     rest = _;
     unheard = [];

@@ -5,7 +5,7 @@ use Rattle.std.specs.Fmt.{digits, digits_onto, digit_glyph}
 use Rattle.std.specs.Str.{chars, encode_utf8_all, all_scalars}
 use Rattle.std.specs.Char.{encode_utf8}
 use Rattle.std.proofs.Math.Utf8.{scalar}
-use Rattle.std.proofs.lemmas.Bool.{and_parts, ltb-true, agree_below_at, false≢true}
+use Rattle.std.proofs.lemmas.Bool.{and_parts, cond_both, ltb-true, agree_below_at, false≢true}
 use Rattle.std.proofs.lemmas.List.Folds.{list_all-append}
 use Rattle.std.proofs.lemmas.Str.{chars-encodes, encodes-chars, encodes-append, scalars-chars, encode_ascii, chars_past_char, chars-nil}
 use Rattle.programs.specs.Prelude.{is_unprintable, hex_number, escape, shown, escaped, is_clean}
@@ -23,31 +23,22 @@ joined p xs ys e f = list_all-append p xs ys ∙ both (list_all p xs) (list_all 
 glyph_plain : (d : ℕ) → d < 16 → is_plain (digit_glyph false d) ≡ true
 glyph_plain d h = agree_below_at (λ d. is_plain (digit_glyph false d)) (λ d. true) 16 d refl h
 
-digits_step : (last : Bool) (front rest : List ℕ) → list_all is_plain front ≡ true → list_all is_plain rest ≡ true → list_all is_plain (cond last front rest) ≡ true
-digits_step true front rest e f = e
-digits_step false front rest e f = f
-
 digits_plain : (k n : ℕ) (acc : List ℕ) → list_all is_plain acc ≡ true → list_all is_plain (digits_onto k 16 false n acc) ≡ true
 digits_plain zero n acc h = h
 digits_plain (suc k) n acc h =
     let more : list_all is_plain (digit_glyph false (n % 16) ∷ acc) ≡ true = both (is_plain (digit_glyph false (n % 16))) (list_all is_plain acc) (glyph_plain (n % 16) (omega arith)) h in
-    digits_step (n / 16 == 0) _ _ more (digits_plain k (n / 16) (digit_glyph false (n % 16) ∷ acc) more)
+    cond_both (n / 16 == 0) _ _ (λ (ds : List ℕ). list_all is_plain ds ≡ true) (λ _. more) (λ _. digits_plain k (n / 16) (digit_glyph false (n % 16) ∷ acc) more)
 
 all_digits_plain : (n : ℕ) → list_all is_plain (digits 16 false n) ≡ true
 unfolding digits
 all_digits_plain n = digits_plain 64 n [] refl
 
-number_step : (small : Bool) (ds : List ℕ) → list_all is_plain ds ≡ true → list_all is_plain (cond small (48 ∷ ds) ds) ≡ true
-number_step true ds h = h
-number_step false ds h = h
-
-escape_step : (end : Bool) (ds : List ℕ) → list_all is_plain ds ≡ true → list_all is_plain (cond end (92 ∷ 110 ∷ []) (92 ∷ 117 ∷ 123 ∷ ds ++ 125 ∷ [])) ≡ true
-escape_step true ds h = refl
-escape_step false ds h = joined is_plain ds (125 ∷ []) h refl
-
 -- a character by its number is spelled in ASCII that may be printed
 escape_plain : (c : ℕ) → list_all is_plain (escape c) ≡ true
-escape_plain c = escape_step (c == 10) (hex_number c) (number_step (nat_lt c 16) (digits 16 false c) (all_digits_plain c))
+escape_plain c =
+    let plain = all_digits_plain c in
+    let number = cond_both (nat_lt c 16) (48 ∷ digits 16 false c) (digits 16 false c) (λ (ds : List ℕ). list_all is_plain ds ≡ true) (λ _. plain) (λ _. plain) in
+    cond_both (c == 10) (92 ∷ 110 ∷ []) (92 ∷ 117 ∷ 123 ∷ hex_number c ++ 125 ∷ []) (λ (ds : List ℕ). list_all is_plain ds ≡ true) (λ _. refl) (λ _. joined is_plain (hex_number c) (125 ∷ []) number refl)
 
 encoded_plain : (xs : List ℕ) → list_all is_plain xs ≡ true → encode_utf8_all xs ≡ xs
 encoded_plain [] h = refl

@@ -1,25 +1,25 @@
 -- The lines of a shell, one after the other, and how it stops.
-use Rattle.std.proofs.Common.{◌≡◌, refl, sym, ap, subst, ◌∙◌, ℕ, ◌+◌, ◌==◌, ◌||◌, Bool, true, false, List, [], ◌∷◌, ◌++◌, append_assoc, append-nil, true≢false, Option, Some, None, Result, Ok, Err, inl, inr, ⊎_elim, All, not-suc-le-zero, length, take, drop, get_or, ◌<◌, drop-cons, add-one, take-append-drop}
+use Rattle.std.proofs.Common.{◌≡◌, refl, sym, ap, subst, ◌∙◌, ℕ, ◌+◌, ◌==◌, Bool, true, false, List, [], ◌∷◌, ◌++◌, append_assoc, append-nil, Option, Some, None, Result, Ok, Err, ◌⊎◌, inl, inr, ⊎_elim, All, not-suc-le-zero, length, take, drop, get_or, ◌<◌, drop-cons, add-one, take-append-drop}
 use Rattle.std.specs.Io.KnownBytes.{Appends, Consumes, IsAtEnd}
-use Rattle.std.proofs.KnownBytes.{Appends-trans, Consumes-nil, Consumes-trans}
+use Rattle.std.proofs.KnownBytes.{Appends-nil, Appends-trans, Consumes-nil, Consumes-trans}
 use Rattle.std.proofs.lemmas.List.Splits.{slice_split_at, slice_split_none}
+use Rattle.std.specs.Option.{option_map}
 use Rattle.std.specs.Result.{result_err}
-use Rattle.wire.specs.declared.Version.{Version}
 use Rattle.client.specs.declared.SubmitFault.{SubmitFault}
 use Rattle.messages.specs.View.{RequestView}
 use Rattle.client.specs.Prelude.{refuses}
 use Rattle.streams.specs.declared.fault.StreamFault.{StreamFault}
 use Rattle.streams.specs.declared.fault.StreamFault.TheVariants.{ReadFailed, WriteFailed, Memory}
+use Rattle.streams.specs.Prelude.{StaysSound}
 use Rattle.scripts.specs.Prelude.{Text, ScriptRequestView, is_empty, lines, filled_from, filled_lines, meant, request_line_of}
 use Rattle.programs.specs.declared.caller.Caller.{Caller}
 use Rattle.programs.specs.declared.shells.Conversation.{Conversation}
 use Rattle.programs.specs.declared.stop.StopReason.{StopReason}
 use Rattle.programs.specs.declared.stop.StopReason.TheVariants.{Unreadable, Broken}
-use Rattle.programs.specs.Prelude.{refusal_code, Gets, stop_status, stop_text, refused_line, Place, IsAt, submitted, first_place, IsPart, greeting, greeting_after, greeting_of, told_more, printed_more, and_then, Log, Exchanges, Talked, opens, refuses_line, answers_line, Streams, IsUsedUp, Stands, Anywhere, no_log, asks_version, asks_answer, IsServersTurn, IsAsked, Asked, Asks, Submits, DoesLine, Sends, if_filled, Progress, Does, Runs, Shells}
-use Rattle.programs.proofs.Heard.{asked_by, outs_in}
-use Rattle.programs.proofs.Printed.{nothing_heard}
+use Rattle.programs.specs.Prelude.{AreDone, Anywhere, Asks, Does, DoesAll, Exchanges, Gets, IsAsked, IsAt, IsPart, IsServersTurn, IsUsedUp, Log, Moves, Place, Progress, Runs, Shells, Stands, Streams, Submits, Talked, TalksLine, and_then, answers_line, asks_answer, asks_version, fault_in, first_place, greeting, greeting_after, greeting_of, if_filled, next_line, opens, refusal_code, refused_line, refuses_line, said, stop_status, stop_text, submitted}
+use Rattle.programs.proofs.Heard.{nothing_heard}
 use Rattle.programs.proofs.Stops.{stop_of}
-use Rattle.programs.proofs.Moved.{moves_then, moves_weak, moves_told, moves_printed, front_same, gets_none, used_before, used_stays}
+use Rattle.programs.proofs.Moved.{gets_none, moves_none, moves_printed, moves_then, moves_told, moves_weak, used_before, used_stays}
 
 -- ---- lines
 
@@ -28,125 +28,126 @@ filled_first n [] ls = refl
 filled_first n (x ∷ xs) ls = refl
 
 -- a line that has ended, and those after it
-pub line_ended : (n : ℕ) (begun more : List ℕ) → All (λ b. (b == 10) ≡ false) begun → filled_from n (lines (begun ++ 10 ∷ more)) ≡ if_filled n begun ++ filled_from (n + 1) (lines more)
+line_ended : (n : ℕ) (begun more : List ℕ) → All (λ b. (b == 10) ≡ false) begun → filled_from n (lines (begun ++ 10 ∷ more)) ≡ if_filled n begun ++ filled_from (n + 1) (lines more)
 line_ended n begun more plain = ap (filled_from n) (slice_split_at (λ b. b == 10) begun 10 more plain refl) ∙ filled_first n begun (lines more)
 
 -- the last line
-pub line_last : (n : ℕ) (begun : List ℕ) → All (λ b. (b == 10) ≡ false) begun → filled_from n (lines (begun ++ [])) ≡ if_filled n begun
+line_last : (n : ℕ) (begun : List ℕ) → All (λ b. (b == 10) ≡ false) begun → filled_from n (lines (begun ++ [])) ≡ if_filled n begun
 line_last n begun plain =
     ap (λ (z : List ℕ). filled_from n (lines z)) (append-nil begun)
     ∙ ap (filled_from n) (slice_split_none (λ b. b == 10) begun plain)
     ∙ filled_first n begun [] ∙ append-nil (if_filled n begun)
 
+-- ---- a conversation, by what holds where the server is gone
+
+module _ {G H : Type 0} (f : G → H) where
+  gone_exchange : {fault : Option StreamFault} {p : Place} {l : Log} {q : Place} → Exchanges G fault p l q → Exchanges H fault p l q
+  gone_exchange x = record { out = x.out; heard = x.heard; moved = x.moved; ends = λ e. let h = x.ends e in (h.0, ⊎_elim (λ g. inl (f g)) inr h.1); after = x.after }
+
+  gone_line : {fault : Option StreamFault} {p : Place} {l : ℕ × Text} {m : Log} {q : Place} → TalksLine G fault p l m q → TalksLine H fault p l m q
+  gone_line (refuses_line q why code part r e c some) = refuses_line q why code part r e c some
+  gone_line (answers_line q m p r e x) = answers_line q m p r e (gone_exchange x)
+
+  gone_talked : {fault : Option StreamFault} {ls : List (ℕ × Text)} {l : Log} {q : Place} → Talked G fault ls l q → Talked H fault ls l q
+  gone_talked (opens fault l p x) = opens fault l p (gone_exchange x)
+  gone_talked (next_line fault ls l log more p q t x) = next_line fault ls l log more p q (gone_talked t) (gone_line x)
+
 -- ---- what was done before a line
 
 module _ {start now : Streams} {done : List (ℕ × Text)} {Now : Place → Type 0} (s : Stands None start now done Now) where
-  pub talked_whole : Talked s.gone None done s.log s.place
-  talked_whole = subst (λ (b : Option StreamFault). Talked s.gone b done s.log s.place) (⊎_elim (λ e. e) (λ e. e) s.breaks) s.talked
+  talked_whole : Talked (IsUsedUp start.left now.left) None done s.log s.place
+  talked_whole = subst (λ (b : Option StreamFault). Talked (IsUsedUp start.left now.left) b done s.log s.place) (⊎_elim (λ e. e) (λ e. e) s.breaks) s.talked
 
-  -- a fault comes behind it
-  pub stands_broken : (fault : Option StreamFault) → Stands fault start now done Anywhere
-  stands_broken fault = record {
-    gone = s.gone;
-    log = s.log;
-    place = s.place;
-    broken = None;
-    breaks = inl refl;
-    talked = talked_whole;
-    moves = moves_weak fault start now s.log s.moves;
-    end = s.end;
-    at = tt;
-  }
+  -- a fault comes behind it, or none
+  pub stands_still : {More : Place → Type 0} (fault : Option StreamFault) → More s.place → Stands fault start now done More
+  stands_still fault more = record { log = s.log; place = s.place; broken = None; breaks = inl refl; talked = talked_whole; moves = moves_weak fault s.moves; at = more }
 
-  -- the next line is refused
-  pub line_refused : {More : Place → Type 0} (printed : Option (List ℕ)) (fault : Option StreamFault) (n : ℕ) (l : Text) (q : ScriptRequestView) (why : SubmitFault) (code part : List ℕ) → request_line_of l ≡ Some q
-      → refuses s.place.rest.knows (meant s.place.version q) ≡ Some why → refusal_code why ≡ Some code → IsPart fault (refused_line n code) part → Appends now.printed printed part → More s.place
-      → Stands fault start (record now { printed = printed }) (done ++ (n, l) ∷ []) More
-  line_refused printed fault n l q why code part r e k some h m = record {
-    gone = s.gone;
-    log = printed_more s.log part;
-    place = s.place;
+  -- the next line
+  line_done : {More : Place → Type 0} {fault : Option StreamFault} {next : Streams} {l : ℕ × Text} {log : Log} {q : Place} → TalksLine (IsUsedUp now.left next.left) fault s.place l log q → Moves fault now next log → More q → Stands fault start next (done ++ l ∷ []) More
+  line_done {fault = fault} {next = next} {l = l} {log = log} {q = q} x m more = record {
+    log = and_then s.log log;
+    place = q;
     broken = fault;
     breaks = inr refl;
-    talked = refuses_line fault done s.log s.place n l q why code part talked_whole r e k some;
-    moves = moves_printed fault start now s.log printed part s.moves h;
-    end = s.end;
-    at = m;
+    talked = next_line fault done l s.log log s.place q (gone_talked (used_stays start.left now.left next.left s.log.read log.read s.moves.read m.read) talked_whole) (gone_line (used_before start.left now.left next.left s.log.read s.moves.read) x);
+    moves = moves_then s.moves m;
+    at = more;
   }
 
--- ---- the next line is answered
+  -- it is the server's turn where its answer is asked for
+  pub turn_answer : (q : RequestView) (left taken : Option (List ℕ)) (c : Caller) → refuses s.place.rest.knows q ≡ None → IsAt c (submitted s.place q) → IsAsked now c left taken → IsServersTurn start left taken
+  turn_answer q left taken c e at turn =
+      let p = submitted s.place q in
+      let t = turn p at in
+      record {
+        log = s.log;
+        place = p;
+        asking = asks_answer done s.log s.place q (gone_talked (λ _. tt) talked_whole) e;
+        read = t.awaited.0;
+        input = Consumes-trans start.left now.left left s.log.read t.awaited.0 s.moves.read t.awaited.1;
+        awaited = t.awaited.2;
+        asked = Appends-trans start.written now.written taken s.log.sent p.rest.unsent s.moves.sent t.asked;
+      }
 
--- the same, where the server may be gone
-gone_exchange : {gone : Bool} {f : Option StreamFault} {a : Place} {l : Log} {r : Place} → Exchanges gone f a l r → Exchanges true f a l r
-gone_exchange x = record { out = x.out; fed = x.fed; unheard = x.unheard; shown = x.shown; unshown = x.unshown; text = x.text; begun = x.begun; told = x.told; broken = x.broken; breaks = x.breaks; sent = x.sent; read = x.read; needed = x.needed; heard = x.heard; prints = x.prints; next = x.next; printed = x.printed; whole = x.whole; ends = λ e. ((x.ends e).0, inl refl); losses = x.losses; after = x.after }
+-- ---- the beginning
 
-gone_talked : {f : Option StreamFault} {ls : List (ℕ × Text)} {l : Log} {r : Place} → Talked false f ls l r → Talked true f ls l r
-gone_talked (opens f l r x) = opens f l r (gone_exchange x)
-gone_talked (refuses_line f ls l r n t q why code part h e d c some) = refuses_line f ls l r n t q why code part (gone_talked h) e d c some
-gone_talked (answers_line f ls l m a r n t q h e d x) = answers_line f ls l m a r n t q (gone_talked h) e d (gone_exchange x)
+pub begins : {fault : Option StreamFault} {a b : Streams} {Now : Place → Type 0} (told : Option (List ℕ)) (deaf : Bool) (x : Asks fault first_place a b Now) → Gets b.deaf deaf b.told told (greeting_after fault x.place) → Stands fault a (record b { told = told; deaf = deaf }) [] Now
+begins {fault = fault} told deaf x h = record { log = _; place = x.place; broken = fault; breaks = inr refl; talked = opens fault x.log x.place x.exchange; moves = moves_told told deaf (greeting_after fault x.place) x.moves h; at = x.at }
 
-answered : (g h : Bool) (fault : Option StreamFault) (done : List (ℕ × Text)) (log more : Log) (p r : Place) (n : ℕ) (l : Text) (q : ScriptRequestView) → Talked g None done log p → request_line_of l ≡ Some q → refuses p.rest.knows (meant p.version q) ≡ None
-    → Exchanges h fault (submitted p (meant p.version q)) more r → Talked (g || h) fault (done ++ (n, l) ∷ []) (and_then log more) r
-answered true h fault done log more p r n l q t e k x = answers_line fault done log more p r n l q t e k (gone_exchange x)
-answered false true fault done log more p r n l q t e k x = answers_line fault done log more p r n l q (gone_talked t) e k x
-answered false false fault done log more p r n l q t e k x = answers_line fault done log more p r n l q t e k x
+pub greeted : {c : Caller} {p : Place} {ended : Bool} (d e : Bool) (a b : Option (List ℕ)) → IsAt c p → ended ≡ p.rest.knows.over → Gets d e a b (greeting_of ended c.version) → Gets d e a b (greeting p)
+greeted d e a b at same h = rw (← same, ← at.version) h
 
-used_or : (g h : Bool) (a b c : Option (List ℕ)) (xs ys : List ℕ) → Consumes a b xs → Consumes b c ys → (g ≡ true → IsUsedUp a b) → (h ≡ true → IsUsedUp b c) → (g || h) ≡ true → IsUsedUp a c
-used_or true h a b c xs ys x y i j e = used_stays a b c xs ys x y (i refl)
-used_or false h a b c xs ys x y i j e = used_before a b c xs x (j e)
+pub turn_first : (start : Streams) (left taken : Option (List ℕ)) (c : Caller) → IsAt c first_place → IsAsked start c left taken → IsServersTurn start left taken
+turn_first start left taken c at turn =
+    let t = turn first_place at in
+    record { log = said [] []; place = first_place; asking = asks_version; read = t.awaited.0; input = t.awaited.1; awaited = t.awaited.2; asked = t.asked }
 
-pub line_asked : {fault : Option StreamFault} {start now next : Streams} {done : List (ℕ × Text)} {Now More : Place → Type 0} (s : Stands None start now done Now) (n : ℕ) (l : Text) (q : ScriptRequestView) → request_line_of l ≡ Some q → refuses s.place.rest.knows (meant s.place.version q) ≡ None
-    → Asked fault (submitted s.place (meant s.place.version q)) now next More → Stands fault start next (done ++ (n, l) ∷ []) More
-line_asked {fault = fault} {start = start} {now = now} {next = next} {done = done} s n l q r k x = record {
-  gone = s.gone || x.gone;
-  log = and_then s.log x.log;
-  place = x.place;
-  broken = fault;
-  breaks = inr refl;
-  talked = answered s.gone x.gone fault done s.log x.log s.place x.place n l q (talked_whole s) r k x.exchange;
-  moves = moves_then fault start now next s.log x.log s.moves x.moves;
-  end = used_or s.gone x.gone start.left now.left next.left s.log.read x.log.read s.moves.read x.moves.read s.end x.end;
-  at = x.now;
-}
+-- nothing was done, for want of memory
+pub nothing_done : (fault : StreamFault) (now : Streams) → fault ≡ Memory → Stands (Some fault) now now [] Anywhere
+nothing_done ReadFailed now e = absurd cc
+nothing_done WriteFailed now e = absurd cc
+nothing_done Memory now e =
+    let here = moves_weak (Some Memory) (moves_none now) in
+    let h = nothing_heard (Some Memory) first_place in
+    begins now.told now.deaf
+    (record {
+      log = record { sent = first_place.rest.unsent; read = []; printed = []; told = [] };
+      place = _;
+      exchange = record { out = 0; heard = h; moved = refl; ends = λ z. absurd cc; after = refl };
+      moves = record { read = here.read; sent = ([], first_place.rest.unsent, refl, Appends-nil now.written); printed = here.printed; told = here.told; source = here.source; sinks = here.sinks };
+      at = tt;
+    }) (gets_none now.deaf now.told)
 
--- ---- the beginning, with or without a fault
+-- ---- lines of which as many are done as a stop leaves
 
-pub begins : {fault : Option StreamFault} {before after : Streams} {Now : Place → Type 0} (told : Option (List ℕ)) (deaf : Bool) (x : Asked fault first_place before after Now) → Gets after.deaf deaf after.told told (greeting_after fault x.place) → Stands fault before (record after { told = told; deaf = deaf }) [] Now
-begins {fault = fault} {before = before} {after = after} told deaf x h = record {
-  gone = x.gone;
-  log = told_more x.log (greeting_after fault x.place);
-  place = x.place;
-  broken = fault;
-  breaks = inr refl;
-  talked = opens fault x.log x.place x.exchange;
-  moves = moves_told fault before after x.log told deaf (greeting_after fault x.place) x.moves h;
-  end = x.end;
-  at = x.now;
-}
+pub does : {stop : Option StopReason} {start now : Streams} {before all : List (ℕ × Text)} {Now : Place → Type 0} (done : List (ℕ × Text)) → AreDone stop all done → Stands (fault_in stop) start now (before ++ done) Now → Does stop start now before all Now
+does done e s = record { done = done; lines = e; stands = s }
 
--- ---- a line of the input
-
--- what is left of the input's lines where it stops at one
-filled_one : (n : ℕ) (l : Text) → is_empty l ≡ false → if_filled n l ≡ (n, l) ∷ []
+pub filled_one : (n : ℕ) (l : Text) → is_empty l ≡ false → if_filled n l ≡ (n, l) ∷ []
 filled_one n l e = rw e refl
 
-pub stops_at : {start now : Streams} {script : List ℕ} (done after : List (ℕ × Text)) (n : ℕ) (l : Text) (c : Caller) (stop : StopReason) → filled_lines script ≡ done ++ (if_filled n l ++ after) → Sends start now done n l c (Err stop) → Does (Some stop) start now script
-stops_at done after n l c (Unreadable m) e h =
-    record {
-      done = done;
-      lines = (l, after, e ∙ ap (λ (z : List (ℕ × Text)). done ++ (z ++ after)) (filled_one n l h.1 ∙ ap (λ (k : ℕ). (k, l) ∷ []) (sym h.0)), h.2);
-      stands = h.3;
-    }
-stops_at done after n l c (Broken fault) e (inl s) = record { done = done; lines = (if_filled n l ++ after, e); stands = s }
-stops_at done after n l c (Broken fault) e (inr s) = record {
-  done = done ++ (n, l) ∷ [];
-  lines = (after, e ∙ ap (λ (z : List (ℕ × Text)). done ++ (z ++ after)) (filled_one n l s.0) ∙ sym (append_assoc done ((n, l) ∷ []) after));
-  stands = s.1;
-}
+-- none of them
+pub does_none : {start now : Streams} {before : List (ℕ × Text)} {Now More : Place → Type 0} (stop : Option StopReason) (all : List (ℕ × Text)) → AreDone stop all [] → (s : Stands None start now before Now) → More s.place → Does stop start now before all More
+does_none {start = start} {now = now} {before = before} {More = More} stop all e s more =
+    does [] e (subst (λ (z : List (ℕ × Text)). Stands (fault_in stop) start now z More) (sym (append-nil before)) (stands_still s (fault_in stop) more))
 
--- a fault behind what was done
-pub stops_behind : {start now : Streams} {script : List ℕ} {done : List (ℕ × Text)} {Now : Place → Type 0} (after : List (ℕ × Text)) (fault : StreamFault) → filled_lines script ≡ done ++ after → Stands None start now done Now → Does (Some (Broken fault)) start now script
-stops_behind {done = done} after fault e s = record { done = done; lines = (after, e); stands = stands_broken s (Some fault) }
+-- a line
+pub does_one : {fault : Option StreamFault} {start now : Streams} {before : List (ℕ × Text)} {l : ℕ × Text} {Now : Place → Type 0} → Stands fault start now (before ++ l ∷ []) Now → Does (option_map Broken fault) start now before (l ∷ []) Now
+does_one {fault = None} {l = l} s = does (l ∷ []) refl s
+does_one {fault = Some f} {l = l} s = does (l ∷ []) ([], refl) s
+
+-- those of a line, and lines behind it that weren't looked at
+done_more : (stop : StopReason) (before all done after : List (ℕ × Text)) → AreDone (Some stop) all done → AreDone (Some stop) (before ++ (all ++ after)) (before ++ done)
+done_more (Unreadable n) before all done after h =
+    (h.0, h.1 ++ after, ap (λ (z : List (ℕ × Text)). before ++ (z ++ after)) h.2 ∙ ap (λ (z : List (ℕ × Text)). before ++ z) (append_assoc done ((n, h.0) ∷ h.1) after) ∙ sym (append_assoc before done ((n, h.0) ∷ (h.1 ++ after))), h.3)
+done_more (Broken f) before all done after h =
+    (h.0 ++ after, ap (λ (z : List (ℕ × Text)). before ++ (z ++ after)) h.1 ∙ ap (λ (z : List (ℕ × Text)). before ++ z) (append_assoc done h.0 after) ∙ sym (append_assoc before done (h.0 ++ after)))
+
+anywhere : {fault : Option StreamFault} {start now : Streams} {done : List (ℕ × Text)} {Now : Place → Type 0} → Stands fault start now done Now → Stands fault start now done Anywhere
+anywhere s = record { log = s.log; place = s.place; broken = s.broken; breaks = s.breaks; talked = s.talked; moves = s.moves; at = tt }
+
+pub stops : (script : List ℕ) {start now : Streams} {before all : List (ℕ × Text)} {Now : Place → Type 0} (after : List (ℕ × Text)) (stop : StopReason) → filled_lines script ≡ before ++ (all ++ after) → Does (Some stop) start now before all Now → DoesAll (Some stop) start now script
+stops script {before = before} {all = all} after stop e s = does (before ++ s.done) (subst (λ (z : List (ℕ × Text)). AreDone (Some stop) z (before ++ s.done)) (sym e) (done_more stop before all s.done after s.lines)) (anywhere s.stands)
 
 module _ {start now : Streams} {script : List ℕ} {b : Conversation} (p : Progress start now script b) where
   -- the lines at a newline
@@ -168,8 +169,8 @@ module _ {start now : Streams} {script : List ℕ} {b : Conversation} (p : Progr
   }
 
   -- the line was done
-  pub next_line : {next : Streams} {c : Conversation} → Stands None start next (p.done ++ if_filled b.number b.begun.items) (IsAt c.caller) → c.number ≡ b.number + 1 → c.begun.items ≡ [] → Progress start next (script ++ 10 ∷ []) c
-  next_line {c = c} s number begun = record {
+  pub line_ends : {next : Streams} {c : Conversation} → Stands None start next (p.done ++ if_filled b.number b.begun.items) (IsAt c.caller) → c.number ≡ b.number + 1 → c.begun.items ≡ [] → Progress start next (script ++ 10 ∷ []) c
+  line_ends {c = c} s number begun = record {
     done = p.done ++ if_filled b.number b.begun.items;
     stands = s;
     begun = subst (λ (z : List ℕ). All (λ y. (y == 10) ≡ false) z) (sym begun) (λ k d l. absurd (not-suc-le-zero l));
@@ -179,41 +180,46 @@ module _ {start now : Streams} {script : List ℕ} {b : Conversation} (p : Progr
         ∙ ap (λ (z : List ℕ). (p.done ++ if_filled b.number b.begun.items) ++ filled_from c.number (lines (z ++ more))) (sym begun);
   }
 
+-- what was done of all of them without a stop
+pub does_whole : {start now : Streams} {before all : List (ℕ × Text)} {Now : Place → Type 0} (x : Does None start now before all Now) → Stands None start now (before ++ all) Now
+does_whole {start = start} {now = now} {before = before} {Now = Now} x = subst (λ (z : List (ℕ × Text)). Stands None start now (before ++ z) Now) (sym x.lines) x.stands
+
+-- ---- a request
+
+module _ {start now : Streams} {done : List (ℕ × Text)} {b : Caller} (s : Stands None start now done (IsAt b)) (q : ScriptRequestView) where
+  abbrev here : Place
+  here = s.place
+
+  abbrev request : RequestView
+  request = meant here.version q
+
+  module _ {n : ℕ} {l : Text} (r : request_line_of l ≡ Some q) {c : Caller} (printed : Option (List ℕ)) (failed : Bool) where
+    pub submit_taken : {fault : Option StreamFault} {next : Streams} → refuses here.rest.knows request ≡ None → printed ≡ now.printed → StaysSound now.print_failed failed → Asks fault (submitted here request) (record now { printed = printed; print_failed = failed }) next (IsAt c) → Does (option_map Broken fault) start next done ((n, l) ∷ []) (IsAt c)
+    submit_taken e same sound x =
+        let before = moves_printed None now printed failed [] (subst (λ (z : Option (List ℕ)). Appends now.printed z []) (sym same) (Appends-nil now.printed)) (λ _. sound) in
+        does_one (line_done s (answers_line q x.log x.place r e x.exchange) (moves_then before x.moves) x.at)
+
+    submit_part : (fault : Option StreamFault) (why : SubmitFault) (code part : List ℕ) → refuses here.rest.knows request ≡ Some why → refusal_code why ≡ Some code → IsPart fault (refused_line n code) part → Appends now.printed printed part → ((fault ≡ Some WriteFailed → ⊥) → StaysSound now.print_failed failed) → IsAt c here
+        → Does (option_map Broken fault) start (record now { printed = printed; print_failed = failed }) done ((n, l) ∷ []) (IsAt c)
+    submit_part fault why code part e k some h sound at = does_one (line_done s (refuses_line q why code part r e k some) (moves_printed fault now printed failed part h sound) at)
+
+    pub submit_refused : Submits here request n now.printed printed (IsAt c) (Ok false) → StaysSound now.print_failed failed → Does None start (record now { printed = printed; print_failed = failed }) done ((n, l) ∷ []) (IsAt c)
+    submit_refused h sound = submit_part None h.0 h.1 (refused_line n h.1) h.2 h.3 refl h.4 (λ _. sound) h.5
+
+    pub submit_failed : (fault : StreamFault) → Submits here request n now.printed printed (IsAt c) (Err fault) → ((Some fault ≡ Some WriteFailed → ⊥) → StaysSound now.print_failed failed) → Does (Some (Broken fault)) start (record now { printed = printed; print_failed = failed }) done ((n, l) ∷ []) (IsAt c)
+    submit_failed fault (at, inl e) sound =
+        let k = moves_weak (Some fault) s.moves in
+        let m : Moves (Some fault) start (record now { printed = printed; print_failed = failed }) s.log =
+        record { read = k.read; sent = k.sent; printed = subst (λ (z : Option (List ℕ)). Appends start.printed z s.log.printed) (sym e) k.printed; told = k.told; source = k.source; sinks = λ n. ((k.sinks n).0, λ f. (k.sinks n).1 (sound n f)) } in
+        does [] ((n, l) ∷ [], refl) (subst (λ (z : List (ℕ × Text)). Stands (Some fault) start (record now { printed = printed; print_failed = failed }) z (IsAt c)) (sym (append-nil done))
+        (record { log = s.log; place = here; broken = None; breaks = inl refl; talked = talked_whole s; moves = m; at = at }))
+    submit_failed fault (at, inr h) sound = let cut = h.4 in submit_part (Some fault) h.0 h.1 cut.0 h.2 h.3 (cut.1, cut.2) cut.3 sound at
+
 -- ---- the whole
 
-pub shell_stops : {stop : StopReason} {status : ℕ} {A B : Type 0} {before after told : Option (List ℕ)} {start mid : Streams} {deaf : Bool} → (stop ≡ Broken ReadFailed → A) → (stop ≡ Broken WriteFailed → B)
-    → Runs (Some stop) before after start mid → status ≡ stop_status stop → Gets mid.deaf deaf mid.told told (stop_text stop) → Shells status A B before after start (record mid { told = told; deaf = deaf })
-shell_stops {stop = stop} {A = A} {B = B} {mid = mid} a b r ends said = record {
-  stop = Some stop;
-  ends = ends;
-  cause = stop_of stop A B a b;
-  told = mid.told;
-  deaf = mid.deaf;
-  runs = r;
-  said = said;
-}
-
--- ---- what is told at the start, and what submitting comes to
-
-pub greeted : {c : Caller} {p : Place} {ended : Bool} (d e : Bool) (a b : Option (List ℕ)) → IsAt c p → ended ≡ p.rest.knows.over → Gets d e a b (greeting_of ended c.version) → Gets d e a b (greeting p)
-greeted {p = p} {ended = ended} d e a b at same h = subst (λ (z : Bool). Gets d e a b (greeting_of z p.version)) same (subst (λ (v : Version). Gets d e a b (greeting_of ended v)) at.version h)
-
-module _ {start now : Streams} {done : List (ℕ × Text)} {b : Caller} (s : Stands None start now done (IsAt b)) (n : ℕ) (l : Text) (q : ScriptRequestView) (r : request_line_of l ≡ Some q) (printed : Option (List ℕ)) (Now : Place → Type 0) where
-  pub submit_taken : Submits s.place (meant s.place.version q) n now.printed printed Now (Ok true) → (next : Streams) (c : Caller) (result : Result (Unit {0}) StreamFault)
-      → ((p : Place) → Now p → Asks p (record now { printed = printed }) next (IsAt c) result) → DoesLine start next done n l c result
-  submit_taken h next c result asks =
-      go result (subst (λ (z : Option (List ℕ)). Asks (submitted s.place (meant s.place.version q)) (record now { printed = z }) next (IsAt c) result) h.1 (asks (submitted s.place (meant s.place.version q)) h.2))
-    where
-      go : (result : Result (Unit {0}) StreamFault) → Asks (submitted s.place (meant s.place.version q)) now next (IsAt c) result → DoesLine start next done n l c result
-      go (Ok x) h2 = line_asked s n l q r h.0 h2
-      go (Err fault) h2 = inr (line_asked s n l q r h.0 h2)
-
-  pub submit_refused : Submits s.place (meant s.place.version q) n now.printed printed Now (Ok false) → (c : Caller) → ((p : Place) → Now p → IsAt c p) → DoesLine start (record now { printed = printed }) done n l c (Ok tt)
-  submit_refused h c same = line_refused s printed None n l q h.0 h.1 (refused_line n h.1) r h.2 h.3 refl h.4 (same s.place h.5)
-
-  pub submit_failed : (fault : StreamFault) → Submits s.place (meant s.place.version q) n now.printed printed Now (Err fault) → (c : Caller) → DoesLine start (record now { printed = printed }) done n l c (Err fault)
-  submit_failed fault (inl e) c = inl (subst (λ (z : Option (List ℕ)). Stands (Some fault) start (record now { printed = z }) done Anywhere) (sym e) (stands_broken s (Some fault)))
-  submit_failed fault (inr h) c = let cut = h.4 in inr (line_refused s printed (Some fault) n l q h.0 h.1 cut.0 r h.2 h.3 (cut.1, cut.2) cut.3 tt)
+pub shell_stops : {stop : StopReason} {status : ℕ} {failed : Bool} {before after told : Option (List ℕ)} {start mid : Streams} {deaf : Bool} → (stop ≡ Broken ReadFailed → (failed ≡ true) ⊎ (mid.read_failed ≡ true)) → (stop ≡ Broken WriteFailed → (mid.write_failed ≡ true) ⊎ (mid.print_failed ≡ true))
+    → Runs (Some stop) before after start mid → status ≡ stop_status stop → Gets mid.deaf deaf mid.told told (stop_text stop) → Shells status failed before after start (record mid { told = told; deaf = deaf })
+shell_stops {stop = stop} {mid = mid} a b r ends said = record { stop = Some stop; ends = ends; cause = stop_of stop _ _ a b; told = mid.told; deaf = mid.deaf; runs = r; said = said }
 
 -- ---- the input
 
@@ -228,51 +234,11 @@ at_place script t i lt =
     ∙ ap (λ (z : List ℕ). script ++ (take i t ++ z)) (sym (drop-cons t i 0 lt ∙ rw add-one refl))
     ∙ ap (λ (z : List ℕ). script ++ z) (take-append-drop i t)
 
--- nothing was done, for want of memory
-pub nothing_done : (fault : StreamFault) (now : Streams) → fault ≡ Memory → Stands (Some fault) now now [] Anywhere
-nothing_done ReadFailed now e = absurd cc
-nothing_done WriteFailed now e = absurd cc
-nothing_done Memory now e =
-    begins now.told now.deaf
-    (asked_by (Some Memory) false first_place now now (outs_in now) 0 [] [] None (nothing_heard first_place.version (outs_in now)) (inl refl) (Consumes-nil now.left) (front_same now.written now.written first_place.rest.unsent refl) refl (gets_none now.deaf now.told)
-    (inl refl) (λ z. absurd (true≢false (sym z))) (λ z. absurd cc) (λ z. absurd (true≢false (sym z))) tt) (gets_none now.deaf now.told)
-
-pub runs_at_first : {input : Option (List ℕ)} {start now : Streams} (fault : StreamFault) → Stands (Some fault) start now [] Anywhere → Runs (Some (Broken fault)) input input start now
-runs_at_first {input = input} fault s = record { script = []; read = Consumes-nil input; end = λ z. absurd cc; does = record { done = []; lines = (filled_lines [], refl); stands = s } }
-
 -- the input is at its end
-pub runs_to_end : {before after : Option (List ℕ)} {start now next : Streams} {script : List ℕ} {b : Conversation} (c : Caller) (result : Result (Unit {0}) StopReason) → Consumes before after script → IsAtEnd after → (p : Progress start now script b)
-    → Sends start next p.done b.number b.begun.items c result → Runs (result_err result) before after start next
-runs_to_end {script = script} {b = b} c (Ok x) r e p s = record {
-  script = script;
-  read = r;
-  end = λ _. e;
-  does = record { done = p.done ++ if_filled b.number b.begun.items; lines = at_end p; stands = stands_broken s None };
-}
-runs_to_end {script = script} {b = b} c (Err stop) r e p s = record {
-  script = script;
-  read = r;
-  end = λ z. absurd cc;
-  does = stops_at p.done [] b.number b.begun.items c stop (at_end p ∙ ap (λ (z : List (ℕ × Text)). p.done ++ z) (sym (append-nil (if_filled b.number b.begun.items)))) s;
-}
+pub runs_to_end : {before after : Option (List ℕ)} {start now next : Streams} {script : List ℕ} {b : Conversation} {Now : Place → Type 0} (result : Result (Unit {0}) StopReason) → Consumes before after script → IsAtEnd after → (p : Progress start now script b)
+    → Does (result_err result) start next p.done (if_filled b.number b.begun.items) Now → Runs (result_err result) before after start next
+runs_to_end {script = script} {b = b} (Ok x) r e p s = record { script = script; read = r; end = λ _. e; does = does _ (at_end p ∙ ap (λ (z : List (ℕ × Text)). p.done ++ z) s.lines) (anywhere s.stands) }
+runs_to_end {script = script} {b = b} (Err stop) r e p s = record { script = script; read = r; end = λ z. absurd cc; does = stops script [] stop (at_end p ∙ ap (λ (z : List (ℕ × Text)). p.done ++ z) (sym (append-nil (if_filled b.number b.begun.items)))) s }
 
--- ---- whose turn it is
-
-pub turn_first : (start : Streams) (left taken : Option (List ℕ)) (c : Caller) → IsAt c first_place → IsAsked c start.left left start.written taken → IsServersTurn start left taken
-turn_first start left taken c at turn =
-    let t = turn first_place at in
-    record { log = no_log; place = first_place; asking = asks_version; read = t.awaited.0; input = t.awaited.1; awaited = t.awaited.2; asked = t.asked }
-
-pub turn_answer : {start now : Streams} {done : List (ℕ × Text)} {Now : Place → Type 0} (s : Stands None start now done Now) (q : RequestView) (left taken : Option (List ℕ)) (c : Caller) → refuses s.place.rest.knows q ≡ None → IsAt c (submitted s.place q)
-    → IsAsked c now.left left now.written taken → IsServersTurn start left taken
-turn_answer {start = start} {now = now} {done = done} s q left taken c e at turn =
-    let t = turn (submitted s.place q) at in
-    record {
-      log = s.log;
-      place = submitted s.place q;
-      asking = asks_answer s.gone done s.log s.place q (talked_whole s) e;
-      read = t.awaited.0;
-      input = Consumes-trans start.left now.left left s.log.read t.awaited.0 s.moves.read t.awaited.1;
-      awaited = t.awaited.2;
-      asked = Appends-trans start.written now.written taken s.log.sent (submitted s.place q).rest.unsent s.moves.sent t.asked;
-    }
+pub runs_at_first : {input : Option (List ℕ)} {start now : Streams} (fault : StreamFault) {Now : Place → Type 0} → Stands (Some fault) start now [] Now → Runs (Some (Broken fault)) input input start now
+runs_at_first {input = input} fault s = record { script = []; read = Consumes-nil input; end = λ z. absurd cc; does = does [] (filled_lines [], refl) (anywhere s) }

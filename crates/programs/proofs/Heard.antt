@@ -1,209 +1,195 @@
--- What is heard of a server, a piece after another, and what a session with it does.
-use Rattle.std.proofs.Common.{◌≡◌, refl, sym, ap, subst, ◌∙◌, ℕ, Bool, true, false, List, [], ◌++◌, drop, append-nil, true≢false, Option, Some, None, Result, Ok, Err, ◌⊎◌, inl, inr, ⊎_elim}
+-- What is heard of a server, a piece after another, and what an exchange with it does.
+use Rattle.std.proofs.Common.{◌≡◌, refl, sym, ap, subst, ◌∙◌, ℕ, Bool, true, false, List, [], ◌∷◌, ◌++◌, drop, append_assoc, append-nil, true≢false, Option, Some, None, Result, Ok, Err, IfOk, ◌⊎◌, inl, inr, ⊎_elim}
 use Rattle.std.specs.Io.KnownBytes.{Appends, Consumes, IsAtEnd}
 use Rattle.std.specs.Result.{result_err}
+use Rattle.std.proofs.KnownBytes.{Consumes-kept, Consumes-nil}
 use Rattle.wire.specs.declared.Version.{Version}
-use Rattle.client.specs.Prelude.{Note, Rest, taken_out, awaits, Fits}
+use Rattle.client.specs.Prelude.{Fits, Knows, Note, Rest, awaits, taken_out}
 use Rattle.streams.specs.declared.fault.StreamFault.{StreamFault}
 use Rattle.streams.specs.declared.fault.StreamFault.TheVariants.{ReadFailed, WriteFailed, Memory}
-use Rattle.streams.specs.Prelude.{hears_all, after_all, FeedsPiece, HearsPiece, IsNeeded, ReadsOn, ReadsAll, Writes, given_up}
-use Rattle.streams.proofs.Asked.{stops_waiting, hears_more, hears_end, hears_fault, needed_taken}
+use Rattle.streams.specs.Prelude.{HearsPiece, IsAwaited, IsNeeded, ReadsPiece, StaysSound, Tale, Writes, after_all, after_notes, given_up, hears_all}
+use Rattle.streams.proofs.Asked.{needed_taken}
+use Rattle.streams.proofs.Tales.{hears_all-append}
 use Rattle.programs.specs.declared.caller.Caller.{Caller}
-use Rattle.programs.specs.Prelude.{IsBegun, versions_after, Place, IsAt, IsUsedUp, Streams, sent_out, is_printed, losses_text, lost_of, why_text, streams_at, Puts, Asked, Asks, Converses, HasPrinted, Hears, HearsAll, HearsBroken, HearsPart, HearsSome, Outs, Parts}
-use Rattle.programs.specs.Shelling.{Prints}
-use Rattle.programs.proofs.Moved.{gets_then, puts_whole, used_at_end}
-use Rattle.programs.proofs.Printed.{printed_both, prints_all, prints_then}
+use Rattle.programs.specs.Prelude.{Asks, Converses, Gets, HeardUpTo, Hears, HearsAll, IsAt, IsBegun, Log, Moves, Place, Printed, Puts, Streams, heard_log, is_printed, parting, place_after, sent_out, versions_after}
+use Rattle.programs.specs.Shelling.{PrintsNotes}
+use Rattle.programs.proofs.Moved.{moves_by, moves_none, moves_read, moves_then, moves_told, moves_weak, used_at_end}
+use Rattle.programs.proofs.Printed.{printed_all, printed_none, printed_then}
+use Rattle.programs.proofs.Turned.{place_more}
 
--- notes that were told before it
-fed_after : (r : Rest) (piece : List ℕ) (first notes : List Note) (whole : Bool) (Now : Rest → Type 0) → FeedsPiece r piece [] notes whole Now → FeedsPiece r piece first (first ++ notes) whole Now
-fed_after r piece first notes whole Now h = record { fed = h.fed; unheard = h.unheard; parts = h.parts; told = ap (λ (z : List Note). first ++ z) h.told; now = h.now; ends = h.ends }
+-- a client that awaits an answer goes on
+awaits_open : (k : Knows) → awaits k ≡ true → k.over ≡ true → ⊥
+awaits_open k e o = let f : awaits k ≡ false = rw o refl in true≢false (sym e ∙ f)
 
-told_after : (r : Rest) (left left_now : Option (List ℕ)) (first notes : List Note) (Now : Rest → Type 0) (done : Result Bool StreamFault) → HearsPiece r left left_now [] notes Now done → HearsPiece r left left_now first (first ++ notes) Now done
-told_after r left left_now first notes Now (Ok true) h = record { piece = h.piece; input = h.input; short = h.short; feeds = fed_after r h.piece first notes true Now h.feeds }
-told_after r left left_now first notes Now (Ok false) h = record { input = h.input; at_end = h.at_end; told = ap (λ (z : List Note). first ++ z) h.told ∙ append-nil first; now = h.now }
-told_after r left left_now first notes Now (Err ReadFailed) h = record { input = h.input; told = ap (λ (z : List Note). first ++ z) h.told ∙ append-nil first; now = h.now }
-told_after r left left_now first notes Now (Err WriteFailed) h = absurd h
-told_after r left left_now first notes Now (Err Memory) h = record { piece = h.piece; input = h.input; short = h.short; feeds = fed_after r h.piece first notes false Now h.feeds }
+-- ---- one piece
+
+-- A piece was read, and fed but for what is behind the client's end or came after memory ran out.
+record IsRead (r : Rest) (left left_now : Option (List ℕ)) (notes : List Note) (Now : Rest → Type 0) (whole : Bool) : Type 0 where
+  fed : List ℕ
+  unheard : List ℕ
+  input : Consumes left left_now (fed ++ unheard)
+  needed : IsNeeded r (fed ++ unheard)
+  told : notes ≡ (hears_all r fed).notes
+  now : Now (after_all r fed)
+  all : whole ≡ true → (unheard ≡ []) ⊎ ((hears_all r fed).knows.over ≡ true)
+
+module _ {r : Rest} {left left_now : Option (List ℕ)} {notes : List Note} {Now : Rest → Type 0} (waits : awaits r.knows ≡ true) where
+  read_some : (whole : Bool) → ReadsPiece r left left_now [] notes whole Now → IsRead r left left_now notes Now whole
+  read_some whole h =
+      let f = h.feeds in
+      record { fed = f.fed; unheard = f.unheard; input = subst (Consumes left left_now) f.parts h.input; needed = inr (record { before = []; last = h.piece; parts = sym f.parts; short = h.short; waits = waits }); told = f.told; now = f.now; all = f.ends }
+
+  read_none : Consumes left left_now [] → notes ≡ [] → Now r → IsRead r left left_now notes Now true
+  read_none input told now = record { fed = []; unheard = []; input = input; needed = inl refl; told = told; now = now; all = λ _. inl refl }
+
+  read_piece : (done : Result Bool StreamFault) → HearsPiece r left left_now [] notes Now done → IsRead r left left_now notes Now (is_printed (result_err done))
+  read_piece (Ok true) h = read_some true h
+  read_piece (Ok false) h = read_none h.input h.told h.now
+  read_piece (Err ReadFailed) h = read_none (Consumes-kept left left left_now [] (Consumes-nil left) h.input) h.told h.now
+  read_piece (Err WriteFailed) h = absurd h
+  read_piece (Err Memory) h = read_some false h
+
+-- no fault comes while nothing is printed, so a source that fails isn't hidden by one
+none_cut : (v : Version) (shown unshown : List Note) (f : StreamFault) (begun told : List ℕ) → [] ≡ shown ++ unshown → IsBegun (Some f) v unshown begun told → ⊥
+none_cut v [] [] f begun told e h = h
+none_cut v [] (n ∷ ns) f begun told e h = absurd cc
+none_cut v (n ∷ ns) unshown f begun told e h = absurd cc
+
+pub never_read : {v : Version} {notes : List Note} {f : StreamFault} (r : Rest) (left left_now : Option (List ℕ)) (Now : Rest → Type 0) (done : Result Bool StreamFault) → HearsPiece r left left_now [] notes Now done → Printed v notes (Some f) → result_err done ≡ Some ReadFailed → ⊥
+never_read {v = v} {f = f} r left left_now Now (Err ReadFailed) h x e = none_cut (versions_after v x.shown) x.shown x.unshown f x.begun x.told (sym h.told ∙ x.parts) x.next
+never_read r left left_now Now (Err WriteFailed) h x e = h
+never_read r left left_now Now (Err Memory) h x e = absurd cc
+never_read r left left_now Now (Ok some) h x e = absurd cc
+
+-- a piece that is none was the end
+pub at_end : (r : Rest) (left left_now after : Option (List ℕ)) (notes told : List Note) (Now : Rest → Type 0) (done : Result Bool StreamFault) → HearsPiece r left left_now notes told Now done → after ≡ left_now → IfOk done (λ some. some ≡ false → IsAtEnd after)
+at_end r left left_now after notes told Now (Ok true) h same = λ e. cc
+at_end r left left_now after notes told Now (Ok false) h same = λ _. subst IsAtEnd (sym same) h.at_end
+at_end r left left_now after notes told Now (Err f) h same = tt
 
 pub never_printed : (fault : StreamFault) → (fault ≡ ReadFailed → ⊥) → is_printed (Some fault) ≡ false
 never_printed ReadFailed never = absurd (never refl)
 never_printed WriteFailed never = refl
 never_printed Memory never = refl
 
--- where all is printed nothing is left
-none_left : (v : Version) (notes : List Note) (begun told : List ℕ) (broken : Option StreamFault) → broken ≡ None → IsBegun broken v notes begun told → notes ≡ []
-none_left v notes begun told None e h = h.0
-none_left v notes begun told (Some fault) e h = absurd cc
-
--- what was heard so far, and printed
-pub record HeardSo (p : Place) (left left_now : Option (List ℕ)) (before after : Outs) (c : Caller) : Type 0 where
-  pub notes : List Note
-  pub reads : ReadsOn p.rest left left_now [] notes (Fits c.client)
-  pub prints : HasPrinted p.version notes c before after
-
--- where the client stands then
-abbrev pub heard_at : Place → List ℕ → List Note → Place
-heard_at p fed notes = record { rest = after_all p.rest fed; version = versions_after p.version notes }
-
-same_fault : (fault g : StreamFault) → is_printed (Some fault) ≡ true → ◌≡◌ {A = Result Bool StreamFault} (Err g) (Err fault) → Some g ≡ Some Memory → ⊥
-same_fault fault g e same m = let q : fault ≡ Memory = cc in absurd (true≢false (sym e ∙ ap (λ (f : StreamFault). is_printed (Some f)) q))
-
-module _ {p : Place} {left mid : Option (List ℕ)} {before printed : Outs} {b : Caller} (so : HeardSo p left mid before printed b) where
-  pub stands_so : IsAt b (heard_at p so.reads.fed so.notes)
-  stands_so = record { fits = so.reads.now; version = so.prints.version }
-
-  pub all_heard : awaits (hears_all p.rest so.reads.fed).knows ≡ false → HearsAll p left mid before printed b (Ok tt)
-  all_heard e = (so.notes, stops_waiting so.reads e, so.prints)
-
-  module _ {left_now : Option (List ℕ)} {after : Outs} {c : Caller} where
-    pub heard_more : awaits (hears_all p.rest so.reads.fed).knows ≡ true → HearsSome (heard_at p so.reads.fed so.notes) mid left_now printed after c (Ok true) → HeardSo p left left_now before after c
-    heard_more waits h = record {
-      notes = so.notes ++ h.0;
-      reads = hears_more so.reads waits (told_after (after_all p.rest so.reads.fed) mid left_now so.notes h.0 (Fits c.client) (Ok true) h.1);
-      prints = printed_both p.version so.notes h.0 b c before printed after so.prints h.2;
+-- and what it tells was printed, or a fault came then
+pub hears_piece : {p : Place} {a c : Streams} {k : Caller} {notes : List Note} {fault broken : Option StreamFault} {w : Version} (left : Option (List ℕ)) (reads : ℕ) (failed : Bool) (done : Result Bool StreamFault) → awaits p.rest.knows ≡ true → HearsPiece p.rest a.left left [] notes (Fits k.client) done
+    → ((fault ≡ Some ReadFailed → ⊥) → StaysSound a.read_failed failed) → w ≡ p.version → PrintsNotes w notes broken (record a { left = left; reads = reads; read_failed = failed }) c → (broken ≡ None) ⊎ (broken ≡ fault)
+    → (is_printed fault ≡ true → (is_printed (result_err done) ≡ true) × (broken ≡ None)) → k.version ≡ versions_after w notes → Hears fault p a c k
+hears_piece {p = p} {a = a} {c = c} {notes = notes} {broken = broken} left reads failed done waits h sound same pr0 breaks whole version =
+    let r = read_piece waits done h in
+    let pr = subst (λ (v : Version). PrintsNotes v notes broken (record a { left = left; reads = reads; read_failed = failed }) c) same pr0 in
+    let x = pr.done in
+    record {
+      heard = record {
+        fed = r.fed;
+        unheard = r.unheard;
+        needed = r.needed;
+        broken = broken;
+        breaks = breaks;
+        printed = record { shown = x.shown; unshown = x.unshown; text = x.text; begun = x.begun; told = x.told; parts = sym r.told ∙ x.parts; prints = x.prints; next = x.next };
+        whole = λ e. let w = whole e in ((printed_all x w.1).3, r.all w.0);
+      };
+      moves = moves_read left reads failed (r.fed ++ r.unheard) r.input sound (moves_by breaks pr.moves) refl;
+      at = record { fits = r.now; version = version ∙ ap (λ (v : Version). versions_after v notes) same ∙ ap (versions_after p.version) r.told };
     }
 
-    pub heard_end : HearsSome (heard_at p so.reads.fed so.notes) mid left_now printed after c (Ok false) → HearsAll p left left_now before after c (Ok tt)
-    heard_end h = (
-      so.notes ++ h.0,
-      hears_end so.reads (told_after (after_all p.rest so.reads.fed) mid left_now so.notes h.0 (Fits c.client) (Ok false) h.1),
-      printed_both p.version so.notes h.0 b c before printed after so.prints h.2,
-    )
+-- ---- one piece after another
 
-    -- a fault comes
-    module _ (fault : StreamFault) (h : HearsBroken (heard_at p so.reads.fed so.notes) fault mid left_now printed after c) where
-      part_of : (fed unheard : List ℕ) → Consumes left left_now (fed ++ unheard) → so.notes ++ h.notes ≡ (hears_all p.rest fed).notes → Fits c.client (after_all p.rest fed) → IsNeeded p.rest (fed ++ unheard)
-          → (is_printed (Some fault) ≡ true → (unheard ≡ []) ⊎ ((hears_all p.rest fed).knows.over ≡ true)) → HearsPart p fault left left_now before after c
-      part_of fed unheard input told now needed whole = record {
-        fed = fed;
-        unheard = unheard;
-        input = input;
-        needed = needed;
-        broken = h.broken;
-        breaks = h.breaks;
-        whole = λ e. ((h.whole e).1, whole e);
-        now = now;
-        prints = subst (λ (z : List Note). Prints p.version z h.broken before after) told (prints_then p.version so.notes h.notes b h.broken before printed after so.prints h.prints);
-      }
+-- what moved in both, where all was heard in the first
+logs_join : (f u g w t b s c o p : List ℕ) → u ≡ [] → b ≡ [] → o ≡ [] → ◌≡◌ {A = Log} (record { sent = []; read = (f ++ u) ++ (g ++ w); printed = (t ++ b) ++ (s ++ c); told = o ++ p }) (record { sent = []; read = (f ++ g) ++ w; printed = (t ++ s) ++ c; told = p })
+logs_join f u g w t b s c o p none_u none_b none_o = rw (none_u, none_b, none_o, append-nil f, append-nil t, append_assoc f g w, append_assoc t s c) refl
 
-      broken_by : (done : Result Bool StreamFault) → awaits (hears_all p.rest so.reads.fed).knows ≡ true → HearsPiece (after_all p.rest so.reads.fed) mid left_now so.notes (so.notes ++ h.notes) (Fits c.client) done → (is_printed (Some fault) ≡ true → done ≡ Err fault)
-          → HearsPart p fault left left_now before after c
-      broken_by (Ok true) waits k same =
-          let r = hears_more so.reads waits k in
-          part_of r.fed r.unheard r.input r.told r.now r.needed (λ _. r.whole)
-      broken_by (Ok false) waits k same =
-          let r = hears_end so.reads k in
-          part_of r.fed r.unheard r.input r.told r.now r.needed (λ _. r.whole (λ m. absurd cc))
-      broken_by (Err g) waits k same =
-          let r = hears_fault so.reads left_now (so.notes ++ h.notes) (Fits c.client) g waits k in
-          part_of r.fed r.unheard r.input r.told r.now r.needed (λ e. r.whole (same_fault fault g e (same e)))
+module _ {p : Place} {a b : Streams} {k : Caller} (x : Hears None p a b k) (waits : awaits (hears_all p.rest x.heard.fed).knows ≡ true) where
+  abbrev so : HeardUpTo None p
+  so = x.heard
 
-      pub heard_part : awaits (hears_all p.rest so.reads.fed).knows ≡ true → HearsPart p fault left left_now before after c
-      heard_part waits = broken_by h.done waits (told_after (after_all p.rest so.reads.fed) mid left_now so.notes h.notes (Fits c.client) h.done h.hears) (λ e. (h.whole e).0)
+  all_fed : so.unheard ≡ []
+  all_fed = ⊎_elim (λ e. e) (λ o. absurd (awaits_open (hears_all p.rest so.fed).knows waits o)) (so.whole refl).1
 
--- a piece, by what was heard and what is printed of it
-module _ (p : Place) (left left_now : Option (List ℕ)) (before after : Outs) (c : Caller) (notes : List Note) where
-  pub heard_some : (done : Result Bool StreamFault) → HearsPiece p.rest left left_now [] notes (Fits c.client) done → HasPrinted p.version notes c before after → HearsSome p left left_now before after c done
-  heard_some (Ok some) h k = (notes, h, k)
-  heard_some (Err fault) h k = record { notes = notes; done = Err fault; hears = h; broken = None; breaks = inl refl; prints = prints_all p.version notes c before after k; whole = λ _. (refl, refl) }
+  pub still_awaited : IsAwaited p.rest a.left b.left
+  still_awaited = (so.fed, subst (Consumes a.left b.left) (ap (λ (z : List ℕ). so.fed ++ z) all_fed ∙ append-nil so.fed) x.moves.read, waits)
 
-  pub heard_cut : (done : Result Bool StreamFault) (fault : StreamFault) → HearsPiece p.rest left left_now [] notes (Fits c.client) done → (fault ≡ ReadFailed → ⊥) → Prints p.version notes (Some fault) before after → HearsBroken p fault left left_now before after c
-  heard_cut done fault h never k = record { notes = notes; done = done; hears = h; broken = Some fault; breaks = inr refl; prints = k; whole = λ e. absurd (true≢false (sym e ∙ never_printed fault never)) }
+  module _ {fault : Option StreamFault} {c : Streams} {l : Caller} (y : Hears fault (place_after p so.fed) b c l) where
+    abbrev more : HeardUpTo fault (place_after p so.fed)
+    more = y.heard
 
--- what waited was written, or not
-pub puts_out : (r : Rest) (n : ℕ) (written written_now : Option (List ℕ)) (f : StreamFault) → (f ≡ ReadFailed → ⊥) → Writes r.unsent n (Some f) written written_now → Puts (is_printed (Some f)) written written_now r.unsent
-puts_out r n written written_now ReadFailed never w = absurd (never refl)
-puts_out r n written written_now WriteFailed never w = w.0
-puts_out r n written written_now Memory never w = w
+    tale : hears_all p.rest (so.fed ++ more.fed) ≡ after_notes (hears_all p.rest so.fed).notes (hears_all (after_all p.rest so.fed) more.fed)
+    tale = hears_all-append p.rest so.fed more.fed
 
-pub written_then : (p : Place) (left left_now written written_now : Option (List ℕ)) (before after : Outs) (c : Caller) (n : ℕ) (result : Result (Unit {0}) StreamFault) → Appends written written_now p.rest.unsent → drop n p.rest.unsent ≡ []
-    → HearsAll (sent_out p n) left left_now before after c result → Converses p left left_now written written_now before after c result
-written_then p left left_now written written_now before after c n (Ok done) w d h = (n, d, w, h)
-written_then p left left_now written written_now before after c n (Err fault) w d h = (n, puts_whole (is_printed (Some fault)) written written_now p.rest.unsent w, h)
+    bytes : (so.fed ++ more.fed) ++ more.unheard ≡ so.fed ++ (more.fed ++ more.unheard)
+    bytes = append_assoc so.fed more.fed more.unheard
 
--- what an exchange prints and tells
-abbrev pub outs_in : Streams → Outs
-outs_in s = record { printed = s.printed; told = s.told; deaf = s.deaf }
+    needed : IsNeeded (after_all p.rest so.fed) (more.fed ++ more.unheard) → IsNeeded p.rest ((so.fed ++ more.fed) ++ more.unheard)
+    needed (inl none) = subst (IsNeeded p.rest) (ap (λ (z : List ℕ). so.fed ++ z) (all_fed ∙ sym none) ∙ sym bytes) so.needed
+    needed (inr n) = inr (record { before = so.fed ++ n.before; last = n.last; parts = bytes ∙ ap (λ (z : List ℕ). so.fed ++ z) n.parts ∙ sym (append_assoc so.fed n.before n.last); short = n.short; waits = ap (λ (t : Tale). awaits t.knows) (hears_all-append p.rest so.fed n.before) ∙ n.waits })
 
--- a session by the bytes that were fed and what is shown of them
-module _ {Now : Place → Type 0} (fault : Option StreamFault) (gone : Bool) (p : Place) (start now : Streams) (mid : Outs) (out : ℕ) (fed unheard : List ℕ) (broken : Option StreamFault) (x : Prints p.version (hears_all p.rest fed).notes broken (outs_in start) mid) where
-  pub asked_by : (broken ≡ None) ⊎ (broken ≡ fault) → Consumes start.left now.left (fed ++ unheard) → Puts (is_printed fault) start.written now.written p.rest.unsent → now.printed ≡ mid.printed
-      → Hears mid (outs_in now) (losses_text (lost_of (hears_all p.rest fed).knows) ++ why_text fault (hears_all p.rest fed).knows) → IsNeeded (taken_out p.rest out) (fed ++ unheard)
-      → (is_printed fault ≡ true → (x.unshown ≡ []) × ((unheard ≡ []) ⊎ ((hears_all p.rest fed).knows.over ≡ true)))
-      → (fault ≡ None → (drop out p.rest.unsent ≡ []) × ((gone ≡ true) ⊎ (awaits (hears_all p.rest fed).knows ≡ false)))
-      → (gone ≡ true → IsUsedUp start.left now.left) → Now (record { rest = given_up (after_all (taken_out p.rest out) fed); version = versions_after p.version x.shown }) → Asked fault p start now Now
-  asked_by breaks read sent same tells needed whole ends end stands = record {
-    gone = gone;
-    log = record { sent = p.rest.unsent; read = fed ++ unheard; printed = x.text ++ x.begun; told = x.told ++ (losses_text (lost_of (hears_all p.rest fed).knows) ++ why_text fault (hears_all p.rest fed).knows) };
-    place = record { rest = given_up (after_all (taken_out p.rest out) fed); version = versions_after p.version x.shown };
-    exchange = record {
+    pub hears_then : Hears fault p a c l
+    hears_then =
+        let q = printed_all so.printed (⊎_elim (λ e. e) (λ e. e) so.breaks) in
+        let all : HeardUpTo fault p = record {
+          fed = so.fed ++ more.fed;
+          unheard = more.unheard;
+          needed = needed more.needed;
+          broken = more.broken;
+          breaks = more.breaks;
+          printed = printed_then so.printed (⊎_elim (λ e. e) (λ e. e) so.breaks) more.printed (ap (λ (t : Tale). t.notes) tale);
+          whole = λ e. let w = more.whole e in (w.0, ⊎_elim inl (λ o. inr (ap (λ (t : Tale). t.knows.over) tale ∙ o)) w.1);
+        } in
+        let logs = logs_join so.fed so.unheard more.fed more.unheard so.printed.text so.printed.begun more.printed.text more.printed.begun so.printed.told more.printed.told all_fed q.1 q.2 in
+        record { heard = all; moves = subst (Moves fault a c) logs (moves_then x.moves y.moves); at = subst (IsAt l) (sym (place_more p so.fed more.fed)) y.at }
+
+-- nothing is heard
+abbrev pub nothing_heard : (fault : Option StreamFault) (p : Place) → HeardUpTo fault p
+nothing_heard fault p = record { fed = []; unheard = []; needed = inl refl; broken = None; breaks = inl refl; printed = printed_none p.version; whole = λ _. (refl, inl refl) }
+
+pub hears_none : (p : Place) (a : Streams) (k : Caller) → IsAt k p → Hears None p a a k
+hears_none p a k at = record { heard = nothing_heard None p; moves = moves_none a; at = at }
+
+-- ---- an exchange
+
+-- all that waited was written
+pub written_then : {p : Place} {a c : Streams} {k : Caller} {fault : Option StreamFault} (written : Option (List ℕ)) (failed : Bool) (out : ℕ) → Appends a.written written p.rest.unsent → drop out p.rest.unsent ≡ [] → StaysSound a.write_failed failed
+    → HearsAll fault (sent_out p out) (record a { written = written; write_failed = failed }) c k → Converses fault p a c k
+written_then {p = p} {a = a} {c = c} {fault = fault} written failed out w d s x =
+    let h = x.hears.heard in
+    let none = moves_none a in
+    let here : HeardUpTo fault p = record { fed = h.fed; unheard = h.unheard; needed = needed_taken p.rest out (h.fed ++ h.unheard) h.needed; broken = h.broken; breaks = h.breaks; printed = h.printed; whole = h.whole } in
+    let first : Moves None a (record a { written = written; write_failed = failed }) (record { sent = p.rest.unsent; read = []; printed = []; told = [] }) =
+    record { read = none.read; sent = w; printed = none.printed; told = none.told; source = none.source; sinks = λ _. (s, λ f. f) } in
+    record {
       out = out;
-      fed = fed;
-      unheard = unheard;
-      shown = x.shown;
-      unshown = x.unshown;
-      text = x.text;
-      begun = x.begun;
-      told = x.told;
-      broken = broken;
-      breaks = breaks;
-      sent = refl;
-      read = refl;
-      needed = needed_taken p.rest out (fed ++ unheard) needed;
-      heard = x.parts;
-      prints = x.prints;
-      next = x.next;
-      printed = refl;
-      whole = whole;
-      ends = ends;
-      losses = refl;
-      after = refl;
-    };
-    moves = record {
-      read = read;
-      sent = sent;
-      printed = subst (λ (o : Option (List ℕ)). Appends start.printed o (x.text ++ x.begun)) (sym same) x.printed;
-      told = gets_then start.deaf mid.deaf now.deaf start.told mid.told now.told x.told (losses_text (lost_of (hears_all p.rest fed).knows) ++ why_text fault (hears_all p.rest fed).knows) x.tells tells;
-    };
-    end = end;
-    now = stands;
-  }
+      heard = here;
+      moves = subst (λ (z : List ℕ). Moves fault a c (record (heard_log [] here) { sent = z })) (append-nil p.rest.unsent) (moves_then first x.hears.moves);
+      at = x.hears.at;
+      ends = λ e. (d, x.ends e);
+    }
 
--- and then the client is given up, or not
-module _ (p : Place) (left left_now written written_now : Option (List ℕ)) (before mid after : Outs) (same : after.printed ≡ mid.printed) (b c : Caller) (version : c.version ≡ b.version) where
-  abbrev start : Streams
-  start = streams_at left written before.printed before.told before.deaf
+-- or some of it, up to a fault
+pub written_some : {p : Place} {a : Streams} {k : Caller} (written : Option (List ℕ)) (failed : Bool) (out : ℕ) (f : StreamFault) → (f ≡ ReadFailed → ⊥) → Writes p.rest.unsent out (Some f) a.written written → Fits k.client (taken_out p.rest out) → k.version ≡ p.version → ((f ≡ WriteFailed → ⊥) → StaysSound a.write_failed failed)
+    → Converses (Some f) p a (record a { written = written; write_failed = failed }) k
+written_some {p = p} {a = a} written failed out f never w fits version s =
+    let none = moves_weak (Some f) (moves_none a) in
+    record {
+      out = out;
+      heard = nothing_heard (Some f) p;
+      moves = record { read = none.read; sent = puts f never w; printed = none.printed; told = none.told; source = none.source; sinks = λ n. (s (λ e. n (ap Some e)), λ z. z) };
+      at = record { fits = fits; version = version };
+      ends = λ e. absurd cc;
+    }
+  where
+    puts : (f : StreamFault) → (f ≡ ReadFailed → ⊥) → Writes p.rest.unsent out (Some f) a.written written → Puts (is_printed (Some f)) a.written written p.rest.unsent
+    puts ReadFailed never w = absurd (never refl)
+    puts WriteFailed never w = w.0
+    puts Memory never w = w
 
-  abbrev now : Streams
-  now = streams_at left_now written_now after.printed after.told after.deaf
-
-  asked_well : (out : ℕ) (notes : List Note) (gone : Bool) → drop out p.rest.unsent ≡ [] → Appends written written_now p.rest.unsent
-      → (reads : ReadsAll (taken_out p.rest out) left left_now [] notes (Fits b.client) None) → HasPrinted p.version notes b before mid → Parts (after_all (taken_out p.rest out) reads.fed) (Fits c.client) None mid after
-      → (gone ≡ true) ⊎ (awaits (hears_all p.rest reads.fed).knows ≡ false) → (gone ≡ true → IsAtEnd left_now) → Asked None p start now (IsAt c)
-  asked_well out notes gone d w reads prints q ends end =
-      let whole = subst (λ (z : List Note). HasPrinted p.version z b before mid) reads.told prints in
-      let x : Prints p.version (hears_all p.rest reads.fed).notes None before mid = record {
-        shown = (hears_all p.rest reads.fed).notes;
-        unshown = [];
-        text = whole.text;
-        begun = [];
-        told = [];
-        parts = sym (append-nil (hears_all p.rest reads.fed).notes);
-        prints = whole.told;
-        next = (refl, refl, refl);
-        printed = subst (λ (z : List ℕ). Appends before.printed mid.printed z) (sym (append-nil whole.text)) whole.printed;
-        tells = whole.quiet;
-      } in
-      asked_by None gone p start now mid out reads.fed reads.unheard None x (inl refl) reads.input w same q.1 reads.needed (λ _. (refl, reads.whole (λ m. absurd cc))) (λ _. (d, ends))
-      (λ e. used_at_end left left_now (end e)) (record { fits = q.0; version = version ∙ whole.version })
-
-  pub asked : (result : Result (Unit {0}) StreamFault) → Converses p left left_now written written_now before mid b result → ((r : Rest) → Fits b.client r → Parts r (Fits c.client) (result_err result) mid after) → Asks p start now (IsAt c) result
-  asked (Err fault) h parts =
-      let part = h.2 in
-      let x = part.prints in
-      asked_by (Some fault) false p start now mid h.0 part.fed part.unheard part.broken x part.breaks part.input h.1 same (parts (after_all (taken_out p.rest h.0) part.fed) part.now).1 part.needed
-      (λ e. (none_left _ x.unshown x.begun x.told part.broken (part.whole e).0 x.next, (part.whole e).1)) (λ e. absurd cc) (λ e. absurd (true≢false (sym e))) tt
-  asked (Ok done) h parts =
-      let reads = h.3.1 in
-      let q = parts (after_all (taken_out p.rest h.0) reads.fed) reads.now in
-      ⊎_elim (λ e. asked_well h.0 h.3.0 true h.1 h.2 reads h.3.2 q (inl refl) (λ _. e)) (λ e. asked_well h.0 h.3.0 false h.1 h.2 reads h.3.2 q (inr e) (λ g. absurd (true≢false (sym g)))) (reads.ends refl)
+-- and then the client is given up, unless all was answered
+pub asked : {fault : Option StreamFault} {p : Place} {a b : Streams} {k l : Caller} (told : Option (List ℕ)) (deaf : Bool) (x : Converses fault p a b k) → l.version ≡ k.version → ((r : Rest) → Fits k.client r → Fits l.client (given_up r)) → ((r : Rest) → Fits k.client r → Gets b.deaf deaf b.told told (parting fault r.knows))
+    → Asks fault p a (record b { told = told; deaf = deaf }) (IsAt l)
+asked {fault = fault} {p = p} {a = a} {b = b} told deaf x same ends tells = record {
+  log = _;
+  place = _;
+  exchange = record { out = x.out; heard = x.heard; moved = refl; ends = λ e. let h = x.ends e in (h.0, ⊎_elim (λ z. inl (used_at_end a.left b.left z)) inr h.1); after = refl };
+  moves = moves_told told deaf (parting fault (hears_all p.rest x.heard.fed).knows) x.moves (tells _ x.at.fits);
+  at = record { fits = ends _ x.at.fits; version = same ∙ x.at.version };
+}

@@ -1,5 +1,5 @@
 -- What two ends have come to: the streams between them, the session, and both.
-use Rattle.std.proofs.Common.{◌≡◌, refl, sym, ap, subst, ◌∙◌, ℕ, ◌+◌, Bool, List, [], ◌∷◌, ◌++◌, length, take, drop, append_assoc, append-nil, length-append, arith, Option, Some, None, Result, Ok, Err, inl, inr, IsSome, OnOk, OnErr}
+use Rattle.std.proofs.Common.{◌≡◌, refl, sym, ap, subst, ◌∙◌, ℕ, ◌+◌, Bool, List, [], ◌∷◌, ◌++◌, length, take, drop, append_assoc, append-nil, length-append, arith, Option, Some, None, Ok, inl, inr, IsSome}
 use Rattle.std.proofs.lemmas.List.{append_cancel_left}
 use Rattle.std.specs.Io.KnownBytes.{Appends}
 use Rattle.std.proofs.KnownBytes.{Appends-nil, Appends-trans, Consumes-nil, Consumes-trans}
@@ -13,15 +13,17 @@ use Rattle.client.specs.Prelude.{Fits, refuses, taken_out}
 use Rattle.client.specs.Rest.{Rest as ClientRest}
 use Rattle.streams.specs.declared.fault.Standing.{Standing}
 use Rattle.streams.specs.declared.fault.Standing.TheVariants.{Open, Over}
-use Rattle.streams.specs.Prelude.{Talk, with_talk, Stands, TakesPiece, standing_of, told_by}
+use Rattle.streams.specs.Prelude.{LivesOn, Talk, with_talk, Stands, TakesPiece, standing_of, told_by}
 use Rattle.streams.proofs.Talks.{open_goes_on, over_ended, talk_by_items, told_over}
-use Rattle.streams.proofs.Called.{replace-itself}
+use Rattle.streams.proofs.Called.{lives_same, lives_then, replace-itself}
+use Rattle.streams.specs.declared.fault.StreamFault.{StreamFault}
+use Rattle.streams.specs.declared.fault.StreamFault.TheVariants.{Memory}
 use Rattle.scripts.specs.Prelude.{ScriptRequestView, meant}
 use Rattle.streams.specs.declared.memory.Buffer.{Buffer}
 use Rattle.programs.specs.declared.loops.Pair.{Pair}
 use Rattle.programs.specs.declared.stop.StopReason.{StopReason}
 use Rattle.programs.specs.declared.stop.StopReason.TheVariants.{Unreadable, Broken}
-use Rattle.programs.specs.Prelude.{Alters, BreaksAtSource, Comes, FailsToRead, LetsReadWaiting, Loops, Passed, entries_text, Numbers, Passes, Prints, Sits, StandsAt, TellsLine, Way, Ways, end, whole_talk, Gets, stop_status, stop_text, refusal_code, IsAt, first_place, refused_line, OfRefusal, Turns, IsQuiet, AreQuiet, all_sent, after_line, answer_to, exchanged, given, line_by, no_turns, place_after, shown_of, talk_for, turns_of, with_request}
+use Rattle.programs.specs.Prelude.{Alters, BreaksAtSource, Comes, ComesOn, FailsToRead, GoesOn, IsHeardAll, LetsReadWaiting, Loops, Passed, entries_text, Numbers, Passes, Prints, Sits, StandsAt, TellsLine, Way, Ways, end, whole_talk, Gets, stop_status, stop_text, refusal_code, IsAt, first_place, refused_line, OfRefusal, Turns, IsQuiet, AreQuiet, all_sent, answer_to, exchanged, given, line_by, no_turns, place_after, shown_of, talk_for, turns_of, with_request}
 use Rattle.programs.proofs.Stops.{broken_stops}
 use Rattle.programs.proofs.Turned.{answer_is, given_more, given_none, prints_none, prints_one, prints_then, with_item}
 
@@ -73,6 +75,22 @@ lets_after {left = left} {a = a} {b = b} h lets s taken count k =
       enough = omega (arith, length-append h.0 k.read, length-append h.0 k.written, k.enough);
     })
 
+-- what a loop did, one thing after another
+module _ {G : Type 0} (conn : ℕ) where
+  pub goes_none : (Old : Rest G → Type 0) (a : Ways) → GoesOn None conn Old Old a a
+  goes_none Old a = record { lives = lives_same conn Old; passed = λ e. (went_none, went_none); read = λ e. cc; written = λ e. cc }
+
+  pub goes_memory : {Old Now : Rest G → Type 0} (a b : Ways) → LivesOn conn Old Now → GoesOn (Some Memory) conn Old Now a b
+  goes_memory a b h = record { lives = h; passed = λ e. cc; read = λ e. cc; written = λ e. cc }
+
+  pub goes_then : {Old Mid Now : Rest G → Type 0} {a b c : Ways} {fault : Option StreamFault} → GoesOn None conn Old Mid a b → GoesOn fault conn Mid Now b c → GoesOn fault conn Old Now a c
+  goes_then {Old = Old} {Mid = Mid} {Now = Now} {a = a} {b = b} {c = c} h k = record {
+    lives = lives_then conn Old Mid Now h.lives k.lives;
+    passed = λ e. passed_then a b c (h.passed refl) (k.passed e);
+    read = λ e. fails_after a b c (h.passed refl) (k.read e);
+    written = k.written;
+  }
+
 module _ {G : Type 0} {r : Rest G} {conn : ℕ} {S : Setting} where
   -- the session
   sits_by : {Now : Rest G → Type 0} {up out : List ℕ} {standing : Standing} (u : Opened) (t : Talk) → t ≡ talk_for S conn r.ledger up → Now (with_talk r conn u t.ledger t.kept) → out ≡ t.out → standing ≡ standing_of t.kept.ended → (standing ≡ Open → u ≡ state at_server at_server.start up)
@@ -123,15 +141,15 @@ module _ {G : Type 0} {r : Rest G} {conn : ℕ} {S : Setting} where
 
   -- both: a piece of the client was passed, answered and heard
   pub comes_given : {start a b : Ways} {t : Turns} {x y : Pair} {Now Then : Rest G → Type 0} {piece : List ℕ} (answer : List ℕ) → Comes r conn S start a t x Now → Passes a.up b.up piece → Sits r conn S Then (t.sent ++ piece) y.said.bytes.items y.standing
-      → answer ≡ answer_to S conn r.ledger t.sent piece → Passes a.down b.down answer → StandsAt y.caller (place_after t.place answer) × Prints (shown_of t.place answer) a.out b.out → Comes r conn S start b (given S conn r.ledger t piece) y Then
+      → answer ≡ answer_to S conn r.ledger t.sent piece → Passes a.down b.down answer → IsHeardAll t.place answer y.caller a.out b.out → Comes r conn S start b (given S conn r.ledger t piece) y Then
   comes_given {start = start} {a = a} {b = b} {t = t} {x = x} {y = y} {piece = piece} answer h up s same down heard =
       let all : x.said.bytes.items ++ answer ≡ y.said.bytes.items = ap (λ z. z ++ answer) h.session.out ∙ ap (λ z. (talk_for S conn r.ledger t.sent).out ++ z) same ∙ sym (answer_is S conn r.ledger t.sent piece) ∙ sym s.out in
       record {
-        client = subst (λ (z : List ℕ). StandsAt y.caller (place_after t.place z)) same heard.0;
+        client = subst (λ (z : List ℕ). StandsAt y.caller (place_after t.place z)) same heard.stands;
         session = s;
         up = passes_then h.up up;
         down = subst (Passes start.down b.down) all (passes_then h.down down);
-        printed = subst (λ (z : List ℕ). Prints (t.shown ++ shown_of t.place z) start.out b.out) same (prints_then t.shown (shown_of t.place answer) start.out a.out b.out h.printed heard.1);
+        printed = subst (λ (z : List ℕ). Prints (t.shown ++ shown_of t.place z) start.out b.out) same (prints_then t.shown (shown_of t.place answer) start.out a.out b.out h.printed heard.printed);
       }
 
   -- where the client alone moves on, and no bytes pass
@@ -145,15 +163,6 @@ module _ {G : Type 0} {r : Rest G} {conn : ℕ} {S : Setting} where
     down = subst (λ (s : Buffer). Passes start.down b.down s.bytes.items) (sym same) (subst (λ (w : Way). Passes start.down w x.said.bytes.items) (sym f) h.down);
     printed = prints;
   }
-
--- what follows of a good result
-pub on_ok_both : {T E : Type 0} (x : Result T E) (P Q N : Type 0) → (P → Q → N) → OnOk x P → OnOk x Q → OnOk x N
-on_ok_both (Ok t) P Q N f h k = f h k
-on_ok_both (Err e) P Q N f h k = h
-
-pub on_err_so : {T E : Type 0} (x : Result T E) {P : Type 0} → P → OnErr x P
-on_err_so (Ok t) h = tt
-on_err_so (Err e) h = h
 
 -- what a client has to send was taken out
 abbrev pub all_out : Turns → Turns
@@ -202,16 +211,18 @@ took_out max bytes old new h r f = (h.0 ∙ ap (λ (z : ClientRest). take max z.
 abbrev Goes : {G : Type 0} (r : Rest G) (conn : ℕ) (S : Setting) (start b : Ways) (t : Turns) (y : Pair) (Then : Rest G → Type 0) (l : ℕ × ScriptRequestView) → Option SubmitFault → Type 0
 Goes r conn S start b t y Then l o = let n = line_by S conn r.ledger o t l.0 (meant t.place.version l.1) in Comes r conn S start b n y Then × (IsQuiet t → IsQuiet n)
 
-module _ {G : Type 0} {r : Rest G} {conn : ℕ} {S : Setting} {start b : Ways} {y : Pair} {Then : Rest G → Type 0} where
+module _ {G : Type 0} {r : Rest G} {conn : ℕ} {S : Setting} {start b : Ways} {t : Turns} {y : Pair} {Then : Rest G → Type 0} (l : ℕ × ScriptRequestView) where
+  line_goes : (o : Option SubmitFault) → refuses t.place.rest.knows (meant t.place.version l.1) ≡ o → Goes r conn S start b t y Then l o → ComesOn r conn S start b t l y Then
+  line_goes o e h = let k = subst (Goes r conn S start b t y Then l) (sym e) h in record { comes = k.0; quiet = k.1 }
+
   -- its request was accepted
-  pub line_sent : (t : Turns) (l : ℕ × ScriptRequestView) → refuses t.place.rest.knows (meant t.place.version l.1) ≡ None → (let n = exchanged S conn r.ledger (with_request t (meant t.place.version l.1)) in Comes r conn S start b n y Then × IsQuiet n)
-      → Comes r conn S start b (after_line S conn r.ledger t l) y Then × (IsQuiet t → IsQuiet (after_line S conn r.ledger t l))
-  line_sent t l e h = subst (Goes r conn S start b t y Then l) (sym e) (h.0, λ q. h.1)
+  pub line_sent : refuses t.place.rest.knows (meant t.place.version l.1) ≡ None → (let n = exchanged S conn r.ledger (with_request t (meant t.place.version l.1)) in Comes r conn S start b n y Then × IsQuiet n) → ComesOn r conn S start b t l y Then
+  line_sent e h = line_goes None e (h.0, λ q. h.1)
 
   -- or refused
-  pub line_refused : {a : Ways} {t : Turns} {x : Pair} (l : ℕ × ScriptRequestView) (why : SubmitFault) (code : List ℕ) → refuses t.place.rest.knows (meant t.place.version l.1) ≡ Some why → refusal_code why ≡ Some code → (h : Comes r conn S start a t x Then) → b.up ≡ a.up → b.down ≡ a.down → y.said ≡ x.said
-      → y.standing ≡ x.standing → Appends a.out b.out (refused_line l.0 code) → IsAt y.caller (record { rest = with_item t.place.rest h.client.item; version = t.place.version }) → Comes r conn S start b (after_line S conn r.ledger t l) y Then × (IsQuiet t → IsQuiet (after_line S conn r.ledger t l))
-  line_refused {a = a} {t = t} l why code e f h u d same still k at = subst (Goes r conn S start b t y Then l) (sym e) (
+  pub line_refused : {a : Ways} {x : Pair} (why : SubmitFault) (code : List ℕ) → refuses t.place.rest.knows (meant t.place.version l.1) ≡ Some why → refusal_code why ≡ Some code → (h : Comes r conn S start a t x Then) → b.up ≡ a.up → b.down ≡ a.down → y.said ≡ x.said → y.standing ≡ x.standing
+      → Appends a.out b.out (refused_line l.0 code) → IsAt y.caller (record { rest = with_item t.place.rest h.client.item; version = t.place.version }) → ComesOn r conn S start b t l y Then
+  line_refused {a = a} why code e f h u d same still k at = line_goes (Some why) e (
     comes_at h u d refl same still (record { item = h.client.item; at = at; same = h.client.same })
         (prints_then t.shown (OfRefusal l.0 why ∷ []) start.out a.out b.out h.printed (prints_one (OfRefusal l.0 why) a.out b.out (refused_line l.0 code) (code, f, refl) k)),
     λ q. q,

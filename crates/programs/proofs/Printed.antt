@@ -1,14 +1,12 @@
 -- Notes that are printed, one piece after another.
-use Rattle.std.proofs.Common.{◌≡◌, refl, sym, ap, subst, ◌∙◌, ℕ, List, [], ◌∷◌, ◌++◌, append_assoc, append-nil, Option, Some, None, Result, Ok, Err}
-use Rattle.std.specs.Io.KnownBytes.{Appends}
-use Rattle.std.proofs.KnownBytes.{Appends-nil, Appends-trans}
+use Rattle.std.proofs.Common.{◌≡◌, refl, sym, ap, subst, ◌∙◌, ℕ, List, [], ◌∷◌, ◌++◌, append_assoc, append-nil, Option, Some, None}
+use Rattle.std.proofs.lemmas.Grind.{flat_map-append}
 use Rattle.wire.specs.declared.Version.{Version}
 use Rattle.client.specs.Prelude.{Note}
 use Rattle.streams.specs.declared.fault.StreamFault.{StreamFault}
-use Rattle.programs.specs.Prelude.{AreTold, IsBegun, IsCut, IsExplained, summaries_text, summary_line, version_after, versions_after, HasPrinted, Hears, Outs, PrintsAll, PrintsCut, PrintsOne, PrintsWhole}
-use Rattle.programs.specs.Shelling.{Prints}
-use Rattle.programs.specs.declared.caller.Caller.{Caller}
-use Rattle.programs.proofs.Moved.{gets_none, gets_then}
+use Rattle.programs.specs.Prelude.{AreTold, IsBegun, IsCut, IsExplained, Moves, Printed, Streams, TellsMore, and_then, said, summaries_text, summary_line, version_after, versions_after}
+use Rattle.programs.specs.Shelling.{PrintsNotes}
+use Rattle.programs.proofs.Moved.{moves_none, moves_then, moves_told}
 
 pub versions_more : (v : Version) (ns ms : List Note) → versions_after v (ns ++ ms) ≡ versions_after (versions_after v ns) ms
 versions_more v [] ms = refl
@@ -19,103 +17,67 @@ told_then v [] ms t u h k = subst (λ (z : List ℕ). AreTold v ms (z ++ u)) (sy
 told_then v (n ∷ ns) ms t u h k =
     (h.0, h.1 ++ u, h.2, told_then (version_after v n) ns ms h.1 u h.3 k, ap (λ (z : List ℕ). z ++ u) h.4 ∙ append_assoc h.0 h.1 u)
 
-pub told_one : (v : Version) (n : Note) (t : List ℕ) → IsExplained (version_after v n) n t → AreTold v (n ∷ []) t
-told_one v n t h = (t, [], h, refl, sym (append-nil t))
-
 -- what standard error gets of one summary more
-pub summaries_more : (ns : List Note) (n : Note) → summaries_text (ns ++ n ∷ []) ≡ summaries_text ns ++ summary_line n
-summaries_more [] n = append-nil (summary_line n)
-summaries_more (m ∷ ms) n = ap (λ (z : List ℕ). summary_line m ++ z) (summaries_more ms n) ∙ sym (append_assoc (summary_line m) (summaries_text ms) (summary_line n))
+summaries_more : (ns : List Note) (n : Note) → summaries_text (ns ++ n ∷ []) ≡ summaries_text ns ++ summary_line n
+summaries_more ns n = flat_map-append summary_line ns (n ∷ []) ∙ ap (λ (z : List ℕ). summaries_text ns ++ z) (append-nil (summary_line n))
 
 begun_more : (f : StreamFault) (v : Version) (ns : List Note) (n : Note) (begun told : List ℕ) → IsBegun (Some f) v ns begun told → IsBegun (Some f) v (ns ++ n ∷ []) begun (told ++ summary_line n)
 begun_more f v [] n begun told h = absurd h
 begun_more f v (m ∷ ms) n begun told h =
     (h.0, h.1, ap (λ (z : List ℕ). z ++ summary_line n) h.2 ∙ append_assoc h.0 (summaries_text ms) (summary_line n) ∙ ap (λ (z : List ℕ). h.0 ++ z) (sym (summaries_more ms n)))
 
-pub nothing_heard : (v : Version) (x : Outs) → Prints v [] None x x
-nothing_heard v x = record { shown = []; unshown = []; text = []; begun = []; told = []; parts = refl; prints = refl; next = (refl, refl, refl); printed = Appends-nil x.printed; tells = gets_none x.deaf x.told }
+-- none, or one whole, or one cut
+abbrev pub printed_none : (v : Version) → Printed v [] None
+printed_none v = record { shown = []; unshown = []; text = []; begun = []; told = []; parts = refl; prints = refl; next = (refl, refl, refl) }
 
--- all of these are printed
-pub prints_all : (v : Version) (ns : List Note) (c : Caller) (x y : Outs) → HasPrinted v ns c x y → Prints v ns None x y
-prints_all v ns c x y h = record {
-  shown = ns;
-  unshown = [];
-  text = h.text;
-  begun = [];
-  told = [];
-  parts = sym (append-nil ns);
-  prints = h.told;
-  next = (refl, refl, refl);
-  printed = subst (λ (z : List ℕ). Appends x.printed y.printed z) (sym (append-nil h.text)) h.printed;
-  tells = h.quiet;
-}
+abbrev pub printed_whole : {v : Version} {n : Note} (text : List ℕ) → IsExplained (version_after v n) n text → Printed v (n ∷ []) None
+printed_whole {n = n} text h = record { shown = n ∷ []; unshown = []; text = text; begun = []; told = []; parts = refl; prints = (text, [], h, refl, sym (append-nil text)); next = (refl, refl, refl) }
+
+abbrev pub printed_cut : {v : Version} {n : Note} (f : StreamFault) (begun told : List ℕ) → IsCut (version_after v n) n f begun told → Printed v (n ∷ []) (Some f)
+printed_cut {n = n} f begun told h = record { shown = []; unshown = n ∷ []; text = []; begun = begun; told = told; parts = refl; prints = refl; next = (told, h, sym (append-nil told)) }
+
+-- where no fault comes all are printed
+pub printed_all : {v : Version} {ns : List Note} {broken : Option StreamFault} (x : Printed v ns broken) → broken ≡ None → (x.shown ≡ ns) × (x.begun ≡ []) × (x.told ≡ []) × (x.unshown ≡ [])
+printed_all {v = v} x e =
+    let k = subst (λ (f : Option StreamFault). IsBegun f (versions_after v x.shown) x.unshown x.begun x.told) e x.next in
+    (sym (x.parts ∙ ap (λ (z : List Note). x.shown ++ z) k.0 ∙ append-nil x.shown), k.1, k.2, k.0)
 
 -- one piece after another
-pub prints_then : (v : Version) (ns ms : List Note) (b : Caller) (broken : Option StreamFault) (x y z : Outs) → HasPrinted v ns b x y → Prints (versions_after v ns) ms broken y z → Prints v (ns ++ ms) broken x z
-prints_then v ns ms b broken x y z h p = record {
-  shown = ns ++ p.shown;
-  unshown = p.unshown;
-  text = h.text ++ p.text;
-  begun = p.begun;
-  told = p.told;
-  parts = ap (λ (s : List Note). ns ++ s) p.parts ∙ sym (append_assoc ns p.shown p.unshown);
-  prints = told_then v ns p.shown h.text p.text h.told p.prints;
-  next = subst (λ (w : Version). IsBegun broken w p.unshown p.begun p.told) (sym (versions_more v ns p.shown)) p.next;
-  printed = subst (λ (s : List ℕ). Appends x.printed z.printed s) (sym (append_assoc h.text p.text p.begun)) (Appends-trans x.printed y.printed z.printed h.text (p.text ++ p.begun) h.printed p.printed);
-  tells = gets_then x.deaf y.deaf z.deaf x.told y.told z.told [] p.told h.quiet p.tells;
+abbrev pub printed_then : {v : Version} {ns ms all : List Note} {quiet broken : Option StreamFault} (x : Printed v ns quiet) → quiet ≡ None → Printed (versions_after v ns) ms broken → all ≡ ns ++ ms → Printed v all broken
+printed_then {v = v} {ns = ns} {broken = broken} x e y same = record {
+  shown = ns ++ y.shown;
+  unshown = y.unshown;
+  text = x.text ++ y.text;
+  begun = y.begun;
+  told = y.told;
+  parts = same ∙ ap (λ (z : List Note). ns ++ z) y.parts ∙ sym (append_assoc ns y.shown y.unshown);
+  prints = told_then v ns y.shown x.text y.text (subst (λ (z : List Note). AreTold v z x.text) (printed_all x e).0 x.prints) y.prints;
+  next = subst (λ (w : Version). IsBegun broken w y.unshown y.begun y.told) (sym (versions_more v ns y.shown)) y.next;
 }
 
-pub printed_both : (v : Version) (ns ms : List Note) (b c : Caller) (x y z : Outs) → HasPrinted v ns b x y → HasPrinted (versions_after v ns) ms c y z → HasPrinted v (ns ++ ms) c x z
-printed_both v ns ms b c x y z h k = record {
-  text = h.text ++ k.text;
-  told = told_then v ns ms h.text k.text h.told k.told;
-  printed = Appends-trans x.printed y.printed z.printed h.text k.text h.printed k.printed;
-  quiet = gets_then x.deaf y.deaf z.deaf x.told y.told z.told [] [] h.quiet k.quiet;
-  version = k.version ∙ sym (versions_more v ns ms);
-}
+pub notes_then : {v : Version} {ns ms : List Note} {broken : Option StreamFault} {a b c : Streams} → PrintsNotes v ns None a b → PrintsNotes (versions_after v ns) ms broken b c → PrintsNotes v (ns ++ ms) broken a c
+notes_then {broken = broken} {a = a} {c = c} x y =
+    let h = x.done in
+    let k = y.done in
+    let q = printed_all h refl in
+    let same : and_then (said (h.text ++ h.begun) h.told) (said (k.text ++ k.begun) k.told) ≡ said ((h.text ++ k.text) ++ k.begun) k.told = rw (q.1, q.2, append-nil h.text, append_assoc h.text k.text k.begun) refl in
+    record { done = printed_then h refl k refl; moves = subst (Moves broken a c) same (moves_then x.moves y.moves) }
 
--- one more is printed, or cut
-module _ (v : Version) (ns : List Note) (n : Note) (b c : Caller) (x y z : Outs) (h : HasPrinted v ns b x y) where
-  printed_next : PrintsWhole (version_after b.version n) n y z → c.version ≡ version_after b.version n → HasPrinted v (ns ++ n ∷ []) c x z
-  printed_next k e =
-      let one = told_one (versions_after v ns) n k.text (subst (λ (w : Version). IsExplained (version_after w n) n k.text) h.version k.prints) in
-      record {
-        text = h.text ++ k.text;
-        told = told_then v ns (n ∷ []) h.text k.text h.told one;
-        printed = Appends-trans x.printed y.printed z.printed h.text k.text h.printed k.printed;
-        quiet = gets_then x.deaf y.deaf z.deaf x.told y.told z.told [] [] h.quiet k.quiet;
-        version = e ∙ ap (λ (w : Version). version_after w n) h.version ∙ sym (versions_more v ns (n ∷ []));
-      }
+-- nothing is printed, or one note is told after a fault
+pub notes_none : (v : Version) (a : Streams) → PrintsNotes v [] None a a
+notes_none v a = record { done = printed_none v; moves = moves_none a }
 
-  printed_cut : (f : StreamFault) → PrintsCut (version_after b.version n) n f y z → Prints v (ns ++ n ∷ []) (Some f) x z
-  printed_cut f k = record {
-    shown = ns;
-    unshown = n ∷ [];
-    text = h.text;
-    begun = k.begun;
-    told = k.told;
-    parts = refl;
-    prints = h.told;
-    next = (k.told, subst (λ (w : Version). IsCut (version_after w n) n f k.begun k.told) h.version k.cut, sym (append-nil k.told));
-    printed = Appends-trans x.printed y.printed z.printed h.text k.begun h.printed k.printed;
-    tells = gets_then x.deaf y.deaf z.deaf x.told y.told z.told [] k.told h.quiet k.tells;
-  }
-
-  pub prints_next : (r : Result (Unit {0}) StreamFault) → PrintsOne (version_after b.version n) n y z r → c.version ≡ version_after b.version n → PrintsAll v (ns ++ n ∷ []) c x z r
-  prints_next (Ok u) k e = printed_next k e
-  prints_next (Err f) k e = printed_cut f k
-
--- one more is told after a fault
-pub told_next : (v : Version) (ns : List Note) (n : Note) (f : StreamFault) (x y z : Outs) → Prints v ns (Some f) x y → z.printed ≡ y.printed → Hears y z (summary_line n) → Prints v (ns ++ n ∷ []) (Some f) x z
-told_next v ns n f x y z p same h = record {
-  shown = p.shown;
-  unshown = p.unshown ++ n ∷ [];
-  text = p.text;
-  begun = p.begun;
-  told = p.told ++ summary_line n;
-  parts = ap (λ (s : List Note). s ++ n ∷ []) p.parts ∙ append_assoc p.shown p.unshown (n ∷ []);
-  prints = p.prints;
-  next = begun_more f (versions_after v p.shown) p.unshown n p.begun p.told p.next;
-  printed = subst (λ (o : Option (List ℕ)). Appends x.printed o (p.text ++ p.begun)) (sym same) p.printed;
-  tells = gets_then x.deaf y.deaf z.deaf x.told y.told z.told p.told (summary_line n) p.tells h;
-}
+pub told_next : {v : Version} {ns : List Note} {f : StreamFault} {a b c : Streams} (n : Note) → PrintsNotes v ns (Some f) a b → TellsMore b c (summary_line n) → PrintsNotes v (ns ++ n ∷ []) (Some f) a c
+told_next {v = v} {ns = ns} {f = f} {a = a} {b = b} {c = c} n x h =
+    let p = x.done in
+    let done : Printed v (ns ++ n ∷ []) (Some f) = record {
+      shown = p.shown;
+      unshown = p.unshown ++ n ∷ [];
+      text = p.text;
+      begun = p.begun;
+      told = p.told ++ summary_line n;
+      parts = ap (λ (z : List Note). z ++ n ∷ []) p.parts ∙ append_assoc p.shown p.unshown (n ∷ []);
+      prints = p.prints;
+      next = begun_more f (versions_after v p.shown) p.unshown n p.begun p.told p.next;
+    } in
+    record { done = done; moves = subst (λ (z : Streams). Moves (Some f) a z (said (p.text ++ p.begun) (p.told ++ summary_line n))) (sym h.only) (moves_told c.told c.deaf (summary_line n) x.moves h.got) }

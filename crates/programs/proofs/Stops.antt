@@ -1,11 +1,12 @@
 -- How a program ends, by why it stops.
-use Rattle.std.proofs.Common.{◌≡◌, refl, ap, ◌∙◌, ℕ, Option, Some, None, Result, Ok, Err, IsErr, IsSome, option_map}
+use Rattle.std.proofs.Common.{◌≡◌, refl, ap, ◌∙◌, ℕ, Option, Some, None, Result, Ok, Err, IsErr, IsSome, MatchResult, OnErr, OnOk, option_map}
+use Rattle.std.specs.Result.{result_err}
 use Rattle.streams.specs.declared.fault.StreamFault.{StreamFault}
 use Rattle.streams.specs.declared.fault.StreamFault.TheVariants.{ReadFailed, WriteFailed, Memory}
 use Rattle.streams.specs.Prelude.{UnlessTold}
 use Rattle.programs.specs.declared.stop.StopReason.{StopReason}
 use Rattle.programs.specs.declared.stop.StopReason.TheVariants.{Unreadable, Broken}
-use Rattle.programs.specs.Prelude.{IsStopOf, stop_status}
+use Rattle.programs.specs.Prelude.{IsStopOf, fault_in, stop_status}
 
 pub stop_of : (stop : StopReason) (A B : Type 0) → (stop ≡ Broken ReadFailed → A) → (stop ≡ Broken WriteFailed → B) → IsStopOf stop A B
 stop_of (Unreadable n) A B a b = tt
@@ -34,20 +35,34 @@ some_of f (Some a) n e = refl
 pub never_failed : {stop : StopReason} {status : ℕ} (fault : StreamFault) → stop_status (Broken fault) ≡ 1 → status ≡ stop_status stop → (status ≡ 1 → ⊥) → stop ≡ Broken fault → ⊥
 never_failed fault one ends n e = n (ends ∙ ap stop_status e ∙ one)
 
--- what holds unless a fault is told, and what follows of it
-pub unless_then : {T E : Type 0} (x : Result T E) (f : E) (A B : Type 0) → (A → B) → UnlessTold x f A → UnlessTold x f B
-unless_then (Ok t) f A B g h = g h
-unless_then (Err e) f A B g h = λ n. g (h n)
+-- nor is one that a conversation is broken off by
+pub sound_unless : (stop : StopReason) {status : ℕ} → status ≡ stop_status stop → (status ≡ 1 → ⊥) → (fault : StreamFault) → stop_status (Broken fault) ≡ 1 → fault_in (Some stop) ≡ Some fault → ⊥
+sound_unless (Unreadable m) ends n fault one e = absurd cc
+sound_unless (Broken f) ends n fault one e = let same : f ≡ fault = cc in n (ends ∙ ap (λ (z : StreamFault). stop_status (Broken z)) same ∙ one)
 
+-- what holds holds unless a fault is told
 pub unless_so : {T E : Type 0} (x : Result T E) (f : E) (A : Type 0) → A → UnlessTold x f A
 unless_so (Ok t) f A a = a
 unless_so (Err e) f A a = λ n. a
-
--- a fault of a conversation is told as its stop
-pub unless_stops : (f fault : StreamFault) (So : Type 0) → ((f ≡ fault → ⊥) → So) → (Broken f ≡ Broken fault → ⊥) → So
-unless_stops f fault So h n = h (λ e. n (ap Broken e))
 
 -- what is answered is no error
 pub never_err : {T E : Type 0} (x : Result T E) (t : T) → x ≡ Ok t → IsErr x → ⊥
 never_err (Ok s) t e h = absurd cc
 never_err (Err f) t e h = absurd cc
+
+-- what follows of an answer, by what is so of each way out
+pub err_of : {E : Type 0} (x : Result (Unit {0}) E) (f : E) → result_err x ≡ Some f → x ≡ Err f
+err_of (Ok t) f e = absurd cc
+err_of (Err g) f e = let same : g ≡ f = cc in ap Err same
+
+pub ok_none : {T E : Type 0} (x : Result T E) (P : Type 0) → result_err x ≡ None → OnOk x P → P
+ok_none (Ok t) P e h = h
+ok_none (Err g) P e h = absurd cc
+
+pub match_both : {T E : Type 0} (x : Result T E) (P Q R A B : Type 0) → OnOk x P → MatchResult x (λ _. Q) (λ _. R) → (P → Q → A) → (R → B) → MatchResult x (λ _. A) (λ _. B)
+match_both (Ok t) P Q R A B p h f g = f p h
+match_both (Err e) P Q R A B p h f g = g h
+
+pub match_by : {T E : Type 0} (x : Result T E) (P R A B : Type 0) → OnOk x P → OnErr x R → (P → A) → (R → B) → MatchResult x (λ _. A) (λ _. B)
+match_by (Ok t) P R A B p r f g = f p
+match_by (Err e) P R A B p r f g = g r

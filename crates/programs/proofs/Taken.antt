@@ -1,6 +1,7 @@
 -- Bytes that were read into the rest of a buffer, and parts of bytes.
-use Rattle.std.proofs.Common.{◌≡◌, ◌∙◌, ◌++◌, ◌+◌, ◌≤◌, ℕ, Bool, true, false, true≢false, List, length, take, drop, take-append-drop, length-take, arith, refl, sym, ap, not, Decides, bytes_eq}
-use Rattle.std.proofs.lemmas.Slice.Eq.{bytes_eq-Decides}
+use Rattle.std.proofs.Common.{◌≡◌, ◌∙◌, ◌++◌, ◌+◌, ◌≤◌, ℕ, true, false, true≢false, List, length, take, drop, take-append-drop, length-take, arith, sym, ap, not, bytes_eq}
+use Rattle.std.proofs.lemmas.Bool.{not-false, not-true}
+use Rattle.cells.proofs.Equality.{bytes_are, bytes_is}
 use Rattle.std.proofs.Math.Seq.{take-append-add}
 use Rattle.std.proofs.lemmas.List.{length-take-le, take-append-le}
 use borrow.Rule.Slice.PartMut.{post_of, put_mid}
@@ -11,18 +12,10 @@ taken_more a k n xs ys p q =
 
 -- what was compared
 pub same_then : (xs ys : List ℕ) → not (bytes_eq xs ys) ≡ false → xs ≡ ys
-same_then xs ys e = go (bytes_eq xs ys) (bytes_eq-Decides xs ys) e
-  where
-    go : (b : Bool) → Decides b (xs ≡ ys) → not b ≡ false → xs ≡ ys
-    go true d e = d.0 refl
-    go false d e = cc
+same_then xs ys e = bytes_are xs ys (not-false (bytes_eq xs ys) e)
 
 pub other_then : (xs ys : List ℕ) → not (bytes_eq xs ys) ≡ true → xs ≡ ys → ⊥
-other_then xs ys e = go (bytes_eq xs ys) (bytes_eq-Decides xs ys) e
-  where
-    go : (b : Bool) → Decides b (xs ≡ ys) → not b ≡ true → xs ≡ ys → ⊥
-    go false d e = λ h. true≢false (sym (d.1 h))
-    go true d e = cc
+other_then xs ys e same = true≢false (sym (bytes_is xs) ∙ ap (bytes_eq xs) same ∙ not-true (bytes_eq xs ys) e)
 
 -- the parts before and behind a place
 pub split_whole : (n : ℕ) (front back xs : List ℕ) → front ≡ take n xs → back ≡ drop n xs → front ++ back ≡ xs

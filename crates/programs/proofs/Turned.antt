@@ -1,6 +1,7 @@
 -- What a client and a session make of one piece after another, and of one line after another.
-use Rattle.std.proofs.Common.{◌≡◌, refl, sym, ap, subst, ◌∙◌, ℕ, Bool, true, false, true≢false, List, [], ◌∷◌, ◌++◌, length, drop, append_assoc, append-nil, map, Option, Some, Result, Ok, Err, OnOk, OnErr, is_ok, ◌⊎◌, inl, inr}
+use Rattle.std.proofs.Common.{◌≡◌, refl, sym, ap, subst, ◌∙◌, ℕ, Bool, true, false, true≢false, List, [], ◌∷◌, ◌++◌, length, drop, append_assoc, append-nil, map, Option, Some, Result, Ok, Err, MatchResult, is_ok, ◌⊎◌, ⊎_elim, inl, inr}
 use Rattle.std.proofs.Math.Seq.{drop-append_seam}
+use Rattle.std.proofs.lemmas.Bool.{false_from_ne_true}
 use Rattle.std.proofs.lemmas.List.{map-append}
 use Rattle.std.specs.Io.KnownBytes.{Appends}
 use Rattle.std.proofs.KnownBytes.{Appends-nil, Appends-trans}
@@ -20,7 +21,7 @@ use Rattle.streams.proofs.Talks.{item_talk-append, talk_by_items}
 use Rattle.streams.proofs.Tales.{hears_all-append, after_all-append, over_tale}
 use Rattle.scripts.specs.Prelude.{ScriptRequestView}
 use Rattle.programs.specs.declared.caller.Caller.{Caller}
-use Rattle.programs.specs.Prelude.{HearsFront, Prints, PrintsPart, PrintsUpTo, StandsAt, IsFront, IsTold, PutsLine, refused_line, row_line, version_after, versions_after, Place, Shown, OfNote, OfRefusal, IsShown, AreShown, notes_shown, place_after, shown_of, Turns, IsQuiet, talk_for, answer_to, given, after_line, after_lines, AreQuiet}
+use Rattle.programs.specs.Prelude.{HearsFront, IsHeardAll, Prints, PrintsPart, PrintsUpTo, StandsAt, IsFront, IsTold, PutsLine, refused_line, row_line, version_after, versions_after, Place, Shown, OfNote, OfRefusal, IsShown, AreShown, notes_shown, place_after, shown_of, Turns, IsQuiet, talk_for, answer_to, given, after_line, after_lines, AreQuiet}
 use Rattle.programs.proofs.Printed.{versions_more}
 
 -- what is shown has one text
@@ -148,15 +149,9 @@ module _ {b : Caller} {p : Place} {piece : List ℕ} {notes : List Note} {Now : 
 
   -- the item that isn't whole
   same_item : (hears_all p.rest piece).knows.over ≡ false → state at_client s.item h.fed ≡ state at_client p.rest.item piece
-  same_item e = go (h.ends refl)
-    where
-      open_before : (b : Bool) → p.rest.knows.over ≡ b → p.rest.knows.over ≡ false
-      open_before true o = absurd (true≢false (sym (stays_over p.rest piece o) ∙ e))
-      open_before false o = o
-
-      go : (h.unheard ≡ []) ⊎ ((hears_all (with_item p.rest s.item) h.fed).knows.over ≡ true) → state at_client s.item h.fed ≡ state at_client p.rest.item piece
-      go (inl none) = ap (λ (z : Opened). state at_client z h.fed) (s.same (open_before p.rest.knows.over refl)) ∙ ap (state at_client p.rest.item) (sym (h.parts ∙ ap (λ z. h.fed ++ z) none ∙ append-nil h.fed))
-      go (inr over) = absurd (true≢false (sym over ∙ ap (λ (t : Tale). t.knows.over) same_tale ∙ e))
+  same_item e = ⊎_elim
+      (λ none. ap (λ (z : Opened). state at_client z h.fed) (s.same (false_from_ne_true p.rest.knows.over (λ o. true≢false (sym (stays_over p.rest piece o) ∙ e)))) ∙ ap (state at_client p.rest.item) (sym (h.parts ∙ ap (λ z. h.fed ++ z) none ∙ append-nil h.fed)))
+      (λ over. absurd (true≢false (sym over ∙ ap (λ (t : Tale). t.knows.over) same_tale ∙ e))) (h.ends refl)
 
   pub stands_heard : {c : Caller} → Fits c.client (after_all (with_item p.rest s.item) h.fed) → c.version ≡ versions_after b.version notes → StandsAt c (place_after p piece)
   stands_heard {c = c} fits v = record {
@@ -177,18 +172,13 @@ module _ {b : Caller} {p : Place} {piece : List ℕ} {notes : List Note} {whole 
   heard_front x y k = record { heard = h.fed; rest = h.unheard; parts = sym h.parts; prints = subst (λ (z : List Shown). PrintsPart z x y) told_some k }
 
 -- a piece was heard as far as it was fed
-pub heard_ok : {b : Caller} (c : Caller) {p : Place} {piece : List ℕ} {notes : List Note} {Now : Rest → Type 0} (x y : Option (List ℕ)) (fed : Result (Unit {0}) StreamFault) → (s : StandsAt b p) → FeedsPiece (with_item p.rest s.item) piece [] notes (is_ok fed) Now → ((r : Rest) → Now r → Fits c.client r)
-    → c.version ≡ versions_after b.version notes → Prints (notes_shown b.version notes) x y → OnOk fed (StandsAt c (place_after p piece) × Prints (shown_of p piece) x y)
-heard_ok c x y (Ok done) s h now v k = (stands_heard s h {c = c} (now _ h.now) v, rw (← same_notes s h, ← s.at.version) k)
-heard_ok c x y (Err fault) s h now v k = tt
-
-pub heard_err : {b : Caller} {p : Place} {piece : List ℕ} {notes : List Note} {Now : Rest → Type 0} (x y : Option (List ℕ)) (fed : Result (Unit {0}) StreamFault) → (s : StandsAt b p) → FeedsPiece (with_item p.rest s.item) piece [] notes (is_ok fed) Now → Prints (notes_shown b.version notes) x y
-    → OnErr fed (HearsFront p piece x y)
-heard_err x y (Ok done) s h k = tt
-heard_err x y (Err fault) s h k = heard_front s h x y (inl k)
+pub heard_as_fed : {b : Caller} (c : Caller) {p : Place} {piece : List ℕ} {notes : List Note} {Now : Rest → Type 0} (x y : Option (List ℕ)) (fed : Result (Unit {0}) StreamFault) → (s : StandsAt b p) → FeedsPiece (with_item p.rest s.item) piece [] notes (is_ok fed) Now → ((r : Rest) → Now r → Fits c.client r)
+    → c.version ≡ versions_after b.version notes → Prints (notes_shown b.version notes) x y → MatchResult fed (λ _. IsHeardAll p piece c x y) (λ _. HearsFront p piece x y)
+heard_as_fed c x y (Ok done) s h now v k = record { stands = stands_heard s h {c = c} (now _ h.now) v; printed = rw (← same_notes s h, ← s.at.version) k }
+heard_as_fed c x y (Err fault) s h now v k = heard_front s h x y (inl k)
 
 -- one piece after another
-place_more : (p : Place) (a b : List ℕ) → place_after p (a ++ b) ≡ place_after (place_after p a) b
+pub place_more : (p : Place) (a b : List ℕ) → place_after p (a ++ b) ≡ place_after (place_after p a) b
 place_more p a b =
     ap (λ (v : Version). record p { rest = after_all p.rest (a ++ b); version = v }) (ap (λ (t : Tale). versions_after p.version t.notes) (hears_all-append p.rest a b) ∙ versions_more p.version (hears_all p.rest a).notes (hears_all (after_all p.rest a) b).notes)
     ∙ ap (λ (r : Rest). record p { rest = r; version = versions_after (versions_after p.version (hears_all p.rest a).notes) (hears_all (after_all p.rest a) b).notes }) (after_all-append p.rest a b)
@@ -198,11 +188,14 @@ shown_more p a b =
     ap (λ (t : Tale). notes_shown p.version t.notes) (hears_all-append p.rest a b) ∙ notes_more p.version (hears_all p.rest a).notes (hears_all (after_all p.rest a) b).notes
 
 -- of a piece some was heard and printed, and then some more
-pub heard_more : {c : Caller} (p : Place) (done part : List ℕ) (x y z : Option (List ℕ)) → Prints (shown_of p done) x y → StandsAt c (place_after (place_after p done) part) × Prints (shown_of (place_after p done) part) y z → StandsAt c (place_after p (done ++ part)) × Prints (shown_of p (done ++ part)) x z
-heard_more {c = c} p done part x y z h k = (
-  subst (StandsAt c) (sym (place_more p done part)) k.0,
-  subst (λ (s : List Shown). Prints s x z) (sym (shown_more p done part)) (prints_then (shown_of p done) (shown_of (place_after p done) part) x y z h k.1),
-)
+pub heard_none : (p : Place) (c : Caller) (x : Option (List ℕ)) → StandsAt c p → IsHeardAll p [] c x x
+heard_none p c x s = record { stands = s; printed = prints_none x }
+
+pub heard_more : {b c : Caller} (p : Place) (done part : List ℕ) (x y z : Option (List ℕ)) → IsHeardAll p done b x y → IsHeardAll (place_after p done) part c y z → IsHeardAll p (done ++ part) c x z
+heard_more {c = c} p done part x y z h k = record {
+  stands = subst (StandsAt c) (sym (place_more p done part)) k.stands;
+  printed = subst (λ (s : List Shown). Prints s x z) (sym (shown_more p done part)) (prints_then (shown_of p done) (shown_of (place_after p done) part) x y z h.printed k.printed);
+}
 
 module _ (S : Setting) (conn : ℕ) (ledger : List EntryView) where
   -- what is put out for some bytes begins what is put out for more

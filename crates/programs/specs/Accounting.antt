@@ -13,8 +13,8 @@ use Rattle.client.specs.Rest.{asking_bytes}
 use Rattle.streams.specs.Fronts.{AppendsFront}
 use Rattle.programs.specs.Names.{outcome_name, phase_name}
 use Rattle.programs.specs.Stopping.{Gets}
-use Rattle.programs.specs.Talking.{Streams}
 use Rattle.programs.specs.Telling.{heard_line, lost_line}
+use Rattle.programs.specs.Ways.{Streams}
 
 -- a request that was sent, and the version that was known then
 pub record Sending : Type 0 where

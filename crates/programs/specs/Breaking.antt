@@ -1,17 +1,14 @@
 -- How far a loop has come, and what it has printed, where a fault breaks it off.
-use Rattle.std.specs.Prelude.{◌≡◌, ◌⊎◌, ◌≤◌, ℕ, List, [], ◌∷◌, ◌++◌, length, Option, Some, None}
+use Rattle.std.specs.Prelude.{◌≡◌, ◌⊎◌, ◌≤◌, ℕ, List, [], ◌∷◌, ◌++◌, length, Option}
 use Rattle.std.specs.Io.KnownBytes.{Appends, Consumes}
 use Rattle.engine.specs.Views.{EntryView}
 use Rattle.session.specs.Session.{Setting}
-use Rattle.client.specs.declared.SubmitFault.{SubmitFault}
-use Rattle.client.specs.Rest.{refuses}
 use Rattle.server.specs.Serving.{Rest}
 use Rattle.streams.specs.Fronts.{AppendsFront}
 use Rattle.streams.specs.Limits.{max_piece}
 use Rattle.scripts.specs.Views.{ScriptRequestView}
-use Rattle.scripts.specs.Meant.{meant}
 use Rattle.programs.specs.Telling.{IsFront}
-use Rattle.programs.specs.Turns.{Shown, AreShown, Turns, no_turns, with_refusal, with_request, shown_of, talk_for, due, turns_of}
+use Rattle.programs.specs.Turns.{Shown, AreShown, Turns, shown_of, stages_of, talk_for}
 use Rattle.programs.specs.Ways.{Ways}
 use Rattle.programs.specs.Passing.{Passes}
 use Rattle.programs.specs.Looping.{IsFrontOf, PrintsPart, end, entries_text, whole_talk}
@@ -30,29 +27,10 @@ module _ (S : Setting) (conn : ℕ) (ledger : List EntryView) where
     pub few : length unheard ≤ max_piece
     pub prints : PrintsPart (t.shown ++ shown_of t.place heard) start.out now.out
 
-  -- Where a line is done so far, and what is answered next: it isn't begun; or its request is refused; or it is sent, and the session answers.
-  pub data IsInLine (t : Turns) (l : ℕ × ScriptRequestView) : Turns → List ℕ → Type 0 where
-    unbegun : IsInLine t l t []
-    refused : (why : SubmitFault)
-        → refuses t.place.rest.knows (meant t.place.version l.1) ≡ Some why
-        → IsInLine t l (with_refusal t l.0 why) []
-    asked : refuses t.place.rest.knows (meant t.place.version l.1) ≡ None
-        → IsInLine t l (with_request t (meant t.place.version l.1))
-        (due S conn ledger (with_request t (meant t.place.version l.1)))
-
-  -- a fault came in a line
-  pub record BreaksLine (start now : Ways) (t : Turns) (l : ℕ × ScriptRequestView) : Type 0 where
-    pub at : Turns
-    pub answer : List ℕ
-    pub inside : IsInLine t l at answer
-    pub breaks : BreaksIn start now at answer
-
-  -- a fault came before the version was heard, or in one of these lines
-  pub data BreaksLines (start now : Ways) (lines : List (ℕ × ScriptRequestView)) : Type 0 where
-    at_first : BreaksIn start now no_turns (due S conn ledger no_turns) → BreaksLines start now lines
-    at_line : (done : List (ℕ × ScriptRequestView)) (l : ℕ × ScriptRequestView)
-        (rest : List (ℕ × ScriptRequestView)) → lines ≡ done ++ l ∷ rest
-        → BreaksLine start now (turns_of S conn ledger done) l → BreaksLines start now lines
+  -- a fault came at one of these stages
+  abbrev pub BreaksAt : Ways → Ways → List (Turns × List ℕ) → Type 0
+  BreaksAt start now [] = ⊥
+  BreaksAt start now (s ∷ ss) = BreaksIn start now s.0 s.1 ⊎ BreaksAt start now ss
 
 -- so much is put out of what is to be printed next: a beginning of the next line, or of the text behind all lines
 abbrev pub IsFrontOfNext : List Shown → List ℕ → List ℕ → Type 0
@@ -85,4 +63,5 @@ module _ {G : Type 0} (r : Rest G) (S : Setting) (lines : List (ℕ × ScriptReq
   pub record Breaks (start last : Ways) : Type 0 where
     pub begins : PrintsFront (end r S lines).shown (entries_text (whole_talk r S lines).ledger)
         start.out last.out
-    pub printed : BreaksLines S r.next r.ledger start last lines ⊎ BreaksBehind start last
+    pub printed : BreaksAt S r.next r.ledger start last (stages_of S r.next r.ledger lines)
+        ⊎ BreaksBehind start last

@@ -19,15 +19,17 @@ use Rattle.programs.specs.declared.stop.StopReason.TheVariants.{Unreadable, Brok
 use Rattle.programs.specs.Stopping.{Gets, stop_text}
 use Rattle.programs.specs.Talking.{Place, IsAt}
 use Rattle.programs.specs.Telling.{IsFront}
-use Rattle.programs.specs.Turns.{Shown, IsShown, AreShown, shown_of, Turns, AreQuiet, talk_for, turns_of}
+use Rattle.programs.specs.Turns.{Shown, IsShown, AreShown, shown_of, place_after, Turns, IsQuiet, AreQuiet, after_line, talk_for, turns_of}
 use Rattle.programs.specs.Ways.{Ways}
-use Rattle.programs.specs.Passing.{Passes}
+use Rattle.programs.specs.Passing.{FailsToRead, FailsToWrite, Passed, Passes}
 use Rattle.server.specs.Serving.{Rest, opened}
+use Rattle.streams.specs.declared.fault.StreamFault.{StreamFault}
+use Rattle.streams.specs.declared.fault.StreamFault.TheVariants.{ReadFailed, WriteFailed}
 use Rattle.streams.specs.declared.fault.Standing.{Standing}
 use Rattle.streams.specs.declared.fault.Standing.TheVariants.{Open}
 use Rattle.streams.specs.Conversing.{Talk, with_talk}
 use Rattle.streams.specs.Limits.{max_piece}
-use Rattle.streams.specs.Settling.{Grows, standing_of}
+use Rattle.streams.specs.Settling.{Grows, LivesOn, standing_of}
 
 -- what ends the line of an entry: its token in hex, where it has one
 abbrev pub token_ending : Token → List ℕ
@@ -119,6 +121,20 @@ pub record StandsAt (c : Caller) (p : Place) : Type 0 where
   })
   pub same : p.rest.knows.over ≡ false → item ≡ p.rest.item
 
+-- The client has heard all of these bytes, and what is shown of them is printed.
+pub record IsHeardAll (p : Place) (bytes : List ℕ) (c : Caller) (before after : Option (List ℕ)) : Type 0 where
+  pub stands : StandsAt c (place_after p bytes)
+  pub printed : Prints (shown_of p bytes) before after
+
+-- What a loop did to the server's sessions and to the streams, up to a fault: the session lives on, and bytes passed on both ways; it is I1
+-- only where a way breaks at its source, and I2 only where a sink has failed.
+pub record GoesOn {G : Type 0} (fault : Option StreamFault) (conn : ℕ) (Old Now : Rest G → Type 0)
+    (before after : Ways) : Type 0 where
+  pub lives : LivesOn conn Old Now
+  pub passed : fault ≡ None → Passed before after
+  pub read : fault ≡ Some ReadFailed → FailsToRead before after
+  pub written : fault ≡ Some WriteFailed → FailsToWrite after
+
 module _ {G : Type 0} (r : Rest G) (conn : ℕ) (S : Setting) where
   -- The session is as these bytes of its client leave it, and this is all that it has put out.
   pub record Sits (Now : Rest G → Type 0) (sent put_out : List ℕ) (standing : Standing) : Type 0 where
@@ -137,6 +153,12 @@ module _ {G : Type 0} (r : Rest G) (conn : ℕ) (S : Setting) where
       pub up : Passes start.up now.up t.sent
       pub down : Passes start.down now.down pair.said.bytes.items
       pub printed : Prints t.shown start.out now.out
+
+  -- the same after a line more, and after it no answer is still to come either
+  pub record ComesOn (start now : Ways) (t : Turns) (l : ℕ × ScriptRequestView) (pair : Pair)
+      (Now : Rest G → Type 0) : Type 0 where
+    pub comes : Comes start now (after_line S conn r.ledger t l) pair Now
+    pub quiet : IsQuiet t → IsQuiet (after_line S conn r.ledger t l)
 
 module _ {G : Type 0} (r : Rest G) (S : Setting) (lines : List (ℕ × ScriptRequestView)) where
   -- how far a client comes with these lines, and a session on a server on which no other lives

@@ -14,6 +14,7 @@ use Rattle.client.specs.Rest.{Knows, Note, Rest, begun as begun_rest, refuses, a
 use Rattle.client.specs.Fits.{Fits}
 use Rattle.streams.specs.declared.fault.StreamFault.{StreamFault}
 use Rattle.streams.specs.declared.fault.StreamFault.TheVariants.{ReadFailed, WriteFailed, Memory}
+use Rattle.streams.specs.Failing.{StaysSound}
 use Rattle.streams.specs.Fronts.{AppendsFront}
 use Rattle.streams.specs.Asking.{hears_all, after_all, IsNeeded, given_up, losses_then}
 use Rattle.scripts.specs.Views.{Text, ScriptRequestView}
@@ -23,6 +24,7 @@ use Rattle.programs.specs.declared.caller.Caller.{Caller}
 use Rattle.programs.specs.Names.{refusal_code, version_name}
 use Rattle.programs.specs.Stopping.{Gets}
 use Rattle.programs.specs.Telling.{AreTold, IsBegun, IsFront, lost_line, refused_line, versions_after}
+use Rattle.programs.specs.Ways.{Streams}
 
 -- where a client stands, and the version at which rows are printed and requests are made
 pub record Place : Type 0 where
@@ -107,38 +109,64 @@ and_then a b = record {
   told = a.told ++ b.told;
 }
 
--- What waits to be sent is sent; answers are read as long as one is still to come, and printed as they are heard. It ends where none is
--- still to come, or where the server is gone; or a fault breaks it off, perhaps while a note is printed: then each summary that isn't printed is
--- told. Then the client is given up, unless all was answered, and what became of the requests that waited is told, and why no answer comes. After
--- a sink's failure, and where memory ran out, some of what was read wasn't fed or printed.
-pub record Exchanges (gone : Bool) (fault : Option StreamFault) (p : Place) (log : Log) (q : Place)
-    : Type 0 where
-  pub out : ℕ
-  pub fed : List ℕ
-  pub unheard : List ℕ
+-- what is printed and told, where nothing is sent or read
+abbrev pub said : List ℕ → List ℕ → Log
+said printed told = record { sent = []; read = []; printed = printed; told = told }
+
+-- a log of which more is told
+abbrev pub told_more : Log → List ℕ → Log
+told_more l text = record l { told = l.told ++ text }
+
+-- Of notes, in order, those that are printed; and what comes of the others, of which there are none unless a fault comes at the first: a beginning
+-- of it is printed, and each summary that isn't is told.
+pub record Printed (v : Version) (notes : List Note) (broken : Option StreamFault) : Type 0 where
   pub shown : List Note
   pub unshown : List Note
   pub text : List ℕ
   pub begun : List ℕ
   pub told : List ℕ
+  pub parts : notes ≡ shown ++ unshown
+  pub prints : AreTold v shown text
+  pub next : IsBegun broken (versions_after v shown) unshown begun told
+
+-- Bytes are read as long as an answer is still to come, and printed as they are heard. A fault may break it off, perhaps while a note is printed.
+-- After a sink's failure, and where memory ran out, some of what was read wasn't fed or printed.
+pub record HeardUpTo (fault : Option StreamFault) (p : Place) : Type 0 where
+  pub fed : List ℕ
+  pub unheard : List ℕ
+  pub needed : IsNeeded p.rest (fed ++ unheard)
   pub broken : Option StreamFault
   pub breaks : (broken ≡ None) ⊎ (broken ≡ fault)
-  pub sent : log.sent ≡ p.rest.unsent
-  pub read : log.read ≡ fed ++ unheard
-  pub needed : IsNeeded p.rest log.read
-  pub heard : (hears_all p.rest fed).notes ≡ shown ++ unshown
-  pub prints : AreTold p.version shown text
-  pub next : IsBegun broken (versions_after p.version shown) unshown begun told
-  pub printed : log.printed ≡ text ++ begun
+  pub printed : Printed p.version (hears_all p.rest fed).notes broken
   pub whole : is_printed fault ≡ true
-      → (unshown ≡ []) × ((unheard ≡ []) ⊎ ((hears_all p.rest fed).knows.over ≡ true))
+      → (printed.unshown ≡ []) × ((unheard ≡ []) ⊎ ((hears_all p.rest fed).knows.over ≡ true))
+
+-- what is read, printed and told so, where this was sent
+abbrev pub heard_log : {fault : Option StreamFault} {p : Place} → List ℕ → HeardUpTo fault p → Log
+heard_log sent h = record {
+  sent = sent;
+  read = h.fed ++ h.unheard;
+  printed = h.printed.text ++ h.printed.begun;
+  told = h.printed.told;
+}
+
+-- what is told where a client is given up: what became of its requests, and why no answer comes
+abbrev pub parting : Option StreamFault → Knows → List ℕ
+parting fault k = losses_text (lost_of k) ++ why_text fault k
+
+-- What waits to be sent is sent, and answers are heard. It ends where none is still to come, or where the server is gone, or by a fault. Then the
+-- client is given up, unless all was answered, and what became of the requests that waited is told, and why no answer comes.
+pub record Exchanges (Gone : Type 0) (fault : Option StreamFault) (p : Place) (log : Log) (q : Place)
+    : Type 0 where
+  pub out : ℕ
+  pub heard : HeardUpTo fault p
+  pub moved : log ≡ told_more (heard_log p.rest.unsent heard)
+      (parting fault (hears_all p.rest heard.fed).knows)
   pub ends : fault ≡ None
-      → (drop out p.rest.unsent ≡ []) × ((gone ≡ true) ⊎ (awaits (hears_all p.rest fed).knows ≡ false))
-  pub losses : log.told ≡ told ++ (losses_text (lost_of (hears_all p.rest fed).knows)
-      ++ why_text fault (hears_all p.rest fed).knows)
+      → (drop out p.rest.unsent ≡ []) × (Gone ⊎ (awaits (hears_all p.rest heard.fed).knows ≡ false))
   pub after : q ≡ record {
-    rest = given_up (after_all (taken_out p.rest out) fed);
-    version = versions_after p.version shown;
+    rest = given_up (after_all (taken_out p.rest out) heard.fed);
+    version = versions_after p.version (hears_all p.rest heard.fed).notes;
   }
 
 -- what is told once the version is heard; nothing where a fault came before
@@ -146,74 +174,51 @@ abbrev pub greeting_after : Option StreamFault → Place → List ℕ
 greeting_after None p = greeting p
 greeting_after (Some fault) p = []
 
--- a log of which more is told
-abbrev pub told_more : Log → List ℕ → Log
-told_more l text = record l { told = l.told ++ text }
-
--- a log of which more is printed
-abbrev pub printed_more : Log → List ℕ → Log
-printed_more l text = record l { printed = l.printed ++ text }
-
 -- so much of a text is printed: all of it, or a beginning where a fault comes
 abbrev pub IsPart : Option StreamFault → List ℕ → List ℕ → Type 0
 IsPart None text part = part ≡ text
 IsPart (Some fault) text part = IsFront part text
 
--- A client's conversation, after these lines: the version is heard, and then each line is refused, which is printed with its number; or its
--- request is sent and its answers are heard. A fault may break the last of it off. Whether the server is gone is told beside.
-pub data Talked (gone : Bool) : Option StreamFault → List (ℕ × Text) → Log → Place → Type 0 where
-  opens : (fault : Option StreamFault) (log : Log) (p : Place)
-      → Exchanges gone fault first_place log p
-      → Talked gone fault [] (told_more log (greeting_after fault p)) p
-  refuses_line : (fault : Option StreamFault) (lines : List (ℕ × Text)) (log : Log) (p : Place)
-      (n : ℕ) (l : Text) (q : ScriptRequestView) (why : SubmitFault) (code part : List ℕ)
-      → Talked gone None lines log p → request_line_of l ≡ Some q
-      → refuses p.rest.knows (meant p.version q) ≡ Some why → refusal_code why ≡ Some code
-      → IsPart fault (refused_line n code) part
-      → Talked gone fault (lines ++ (n, l) ∷ []) (printed_more log part) p
-  answers_line : (fault : Option StreamFault) (lines : List (ℕ × Text)) (log more : Log)
-      (p r : Place) (n : ℕ) (l : Text) (q : ScriptRequestView)
-      → Talked gone None lines log p → request_line_of l ≡ Some q
+-- A line with its number is refused, which is printed; or its request is sent and its answers are heard. A fault may break that off.
+pub data TalksLine (Gone : Type 0) (fault : Option StreamFault) (p : Place) (l : ℕ × Text)
+    : Log → Place → Type 0 where
+  refuses_line : (q : ScriptRequestView) (why : SubmitFault) (code part : List ℕ)
+      → request_line_of l.1 ≡ Some q → refuses p.rest.knows (meant p.version q) ≡ Some why
+      → refusal_code why ≡ Some code → IsPart fault (refused_line l.0 code) part
+      → TalksLine Gone fault p l (said part []) p
+  answers_line : (q : ScriptRequestView) (log : Log) (r : Place) → request_line_of l.1 ≡ Some q
       → refuses p.rest.knows (meant p.version q) ≡ None
-      → Exchanges gone fault (submitted p (meant p.version q)) more r
-      → Talked gone fault (lines ++ (n, l) ∷ []) (and_then log more) r
+      → Exchanges Gone fault (submitted p (meant p.version q)) log r → TalksLine Gone fault p l log r
 
--- the streams to a server and to the outside: the bytes left of the server's, those that the sinks took, and whether standard error has failed
-pub record Streams : Type 0 where
-  pub left : Option (List ℕ)
-  pub written : Option (List ℕ)
-  pub printed : Option (List ℕ)
-  pub told : Option (List ℕ)
-  pub deaf : Bool
-
--- the streams of a conversation: what is left, and what was written, printed and told
-abbrev pub streams_at : Option (List ℕ) → Option (List ℕ) → Option (List ℕ) → Option (List ℕ) → Bool
-    → Streams
-streams_at left written printed told deaf = record {
-  left = left;
-  written = written;
-  printed = printed;
-  told = told;
-  deaf = deaf;
-}
-
--- the same of the streams themselves
-abbrev pub streams_of : {S T O E : Type 0} → (S → Option (List ℕ)) → (T → Option (List ℕ))
-    → (O → Option (List ℕ)) → (E → Option (List ℕ)) → (E → Bool) → S → T → O → E → Streams
-streams_of left written printed told deaf source sink out err =
-    streams_at (left source) (written sink) (printed out) (told err) (deaf err)
+-- A client's conversation, after these lines: the version is heard, and then the lines follow. A fault may break the last of it off. What holds
+-- where the server is gone is told beside.
+pub data Talked (Gone : Type 0) : Option StreamFault → List (ℕ × Text) → Log → Place → Type 0 where
+  opens : (fault : Option StreamFault) (log : Log) (p : Place)
+      → Exchanges Gone fault first_place log p
+      → Talked Gone fault [] (told_more log (greeting_after fault p)) p
+  next_line : (fault : Option StreamFault) (lines : List (ℕ × Text)) (l : ℕ × Text) (log more : Log)
+      (p r : Place) → Talked Gone None lines log p → TalksLine Gone fault p l more r
+      → Talked Gone fault (lines ++ l ∷ []) (and_then log more) r
 
 -- all of it was put out, or a beginning
 abbrev pub Puts : Bool → Option (List ℕ) → Option (List ℕ) → List ℕ → Type 0
 Puts true before after bytes = Appends before after bytes
 Puts false before after bytes = AppendsFront before after bytes
 
--- the streams moved as a log has it; the server was sent all, or a beginning where a sink failed or memory ran out
+-- The streams moved as a log has it; the server was sent all, or a beginning where a sink failed or memory ran out. A stream that fails is told:
+-- without such a fault each is as sound as it was.
 pub record Moves (fault : Option StreamFault) (before after : Streams) (log : Log) : Type 0 where
   pub read : Consumes before.left after.left log.read
   pub sent : Puts (is_printed fault) before.written after.written log.sent
   pub printed : Appends before.printed after.printed log.printed
   pub told : Gets before.deaf after.deaf before.told after.told log.told
+  pub source : (fault ≡ Some ReadFailed → ⊥) → StaysSound before.read_failed after.read_failed
+  pub sinks : (fault ≡ Some WriteFailed → ⊥) → StaysSound before.write_failed after.write_failed
+      × StaysSound before.print_failed after.print_failed
+
+-- one of the sinks has failed
+abbrev pub FailsToPut : Streams → Type 0
+FailsToPut now = (now.write_failed ≡ true) ⊎ (now.print_failed ≡ true)
 
 -- nothing is left of the bytes that were known
 abbrev pub IsUsedUp : Option (List ℕ) → Option (List ℕ) → Type 0
@@ -221,32 +226,26 @@ IsUsedUp None after = Unit {0}
 IsUsedUp (Some bytes) after = IsAtEnd after
 
 -- What a conversation did after these lines: it moved the streams so, and the client stands there. A fault came in the last exchange, or
--- behind it.
+-- behind it. The server is gone only where nothing is left of its bytes.
 pub record Stands (fault : Option StreamFault) (start now : Streams) (lines : List (ℕ × Text))
     (Now : Place → Type 0) : Type 0 where
-  pub gone : Bool
   pub log : Log
   pub place : Place
   pub broken : Option StreamFault
   pub breaks : (broken ≡ None) ⊎ (broken ≡ fault)
-  pub talked : Talked gone broken lines log place
+  pub talked : Talked (IsUsedUp start.left now.left) broken lines log place
   pub moves : Moves fault start now log
-  pub end : gone ≡ true → IsUsedUp start.left now.left
   pub at : Now place
 
 -- nothing is said of where a client stands
 abbrev pub Anywhere : Place → Type 0
 Anywhere p = Unit {0}
 
--- nothing was sent or read, printed or told
-abbrev pub no_log : Log
-no_log = record { sent = []; read = []; printed = []; told = [] }
-
 -- A client asks its server, after so much of a conversation: for the version, or for the answers to a request that it accepts.
 pub data IsAsking : Log → Place → Type 0 where
-  asks_version : IsAsking no_log first_place
-  asks_answer : (gone : Bool) (lines : List (ℕ × Text)) (log : Log) (p : Place) (q : RequestView)
-      → Talked gone None lines log p → refuses p.rest.knows q ≡ None
+  asks_version : IsAsking (said [] []) first_place
+  asks_answer : (lines : List (ℕ × Text)) (log : Log) (p : Place) (q : RequestView)
+      → Talked (Unit {0}) None lines log p → refuses p.rest.knows q ≡ None
       → IsAsking log (submitted p q)
 
 -- It is the server's turn: after so much of a conversation its sink took all that is asked of it, and after the bytes that were read of it an

@@ -114,10 +114,25 @@ module _ (S : Setting) (conn : ℕ) (ledger : List EntryView) where
   after_line t l = line_by (refuses t.place.rest.knows (meant t.place.version l.1)) t l.0
       (meant t.place.version l.1)
 
+  -- Where the two stand while the line is done, and what the session answers there: nothing where its request is refused.
+  abbrev pub stage_by : Option SubmitFault → Turns → ℕ → RequestView → Turns × List ℕ
+  stage_by None t n q = (with_request t q, due (with_request t q))
+  stage_by (Some why) t n q = (with_refusal t n why, [])
+
+  -- the same before it is begun, and then
+  abbrev pub line_stages : Turns → ℕ × ScriptRequestView → List (Turns × List ℕ)
+  line_stages t l = (t, []) ∷ stage_by (refuses t.place.rest.knows (meant t.place.version l.1)) t l.0
+      (meant t.place.version l.1) ∷ []
+
   -- Lines, in order.
   abbrev pub after_lines : Turns → List (ℕ × ScriptRequestView) → Turns
   after_lines t [] = t
   after_lines t (l ∷ ls) = after_lines (after_line t l) ls
+
+  -- all their stages
+  abbrev pub stages : Turns → List (ℕ × ScriptRequestView) → List (Turns × List ℕ)
+  stages t [] = []
+  stages t (l ∷ ls) = line_stages t l ++ stages (after_line t l) ls
 
   -- Before the lines and after each of them no answer is still to come.
   abbrev pub AreQuiet : Turns → List (ℕ × ScriptRequestView) → Type 0
@@ -127,3 +142,7 @@ module _ (S : Setting) (conn : ℕ) (ledger : List EntryView) where
   -- the version is heard, and then come the lines
   abbrev pub turns_of : List (ℕ × ScriptRequestView) → Turns
   turns_of ls = after_lines (exchanged no_turns) ls
+
+  -- the stages of that
+  abbrev pub stages_of : List (ℕ × ScriptRequestView) → List (Turns × List ℕ)
+  stages_of ls = (no_turns, due no_turns) ∷ stages (exchanged no_turns) ls

@@ -1,4 +1,4 @@
--- What is seen of the streams of a loop.
+-- What is seen of the streams of a loop and of a shell.
 use Rattle.std.specs.Prelude.{ℕ, Bool, List, Option}
 
 -- what holds streams, and what has come of them
@@ -19,3 +19,16 @@ pub record Ways : Type 0 where
   pub down : Way
   pub out : Option (List ℕ)
   pub out_failed : Bool
+
+-- The streams of a shell: the bytes left of its server's, and how many more reads may give some; those that were written to it, printed and
+-- told; and what has failed. Where standard error has (`deaf`), nothing is known of what it took.
+pub record Streams : Type 0 where
+  pub left : Option (List ℕ)
+  pub reads : ℕ
+  pub written : Option (List ℕ)
+  pub printed : Option (List ℕ)
+  pub told : Option (List ℕ)
+  pub read_failed : Bool
+  pub write_failed : Bool
+  pub print_failed : Bool
+  pub deaf : Bool

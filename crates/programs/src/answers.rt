@@ -1,18 +1,22 @@
 //! A client asks its server for the answers that it waits for, and prints them as they come.
-ghost use Rattle.std.specs.Prelude.{◌≡◌, ◌<◌, ◌≤◌, ◌⊎◌, ◌++◌, ◌∷◌, [], List, ℕ, Bool, true, Some, None, map, Option, IfOk, IsErrOf};
+ghost use Rattle.std.specs.Prelude.{◌≡◌, ◌<◌, ◌++◌, ◌∷◌, [], List, Bool, true, false, Some, None, map, IfOk, IsErrOf};
+ghost use Rattle.std.specs.Io.KnownBytes.{Appends, IsAtEnd};
+ghost use Rattle.std.specs.Result.{result_err};
 ghost use Rattle.client.specs.Fits.{Fits};
 ghost use Rattle.client.specs.Notes.{note};
-ghost use Rattle.client.specs.Rest.{Note, Rest};
+ghost use Rattle.client.specs.Rest.{Note, Rest, awaits};
 ghost use Rattle.wire.specs.declared.Version.{Version};
-ghost use Rattle.streams.specs.Asking.{IsAwaited};
-ghost use Rattle.streams.specs.Failing.{StaysSound, UnlessTold};
-ghost use Rattle.streams.specs.Limits.{max_piece};
+ghost use Rattle.streams.specs.Asking.{given_up};
 ghost use Rattle.streams.specs.Serving.{LetsRead};
-ghost use Rattle.programs.specs.Talking.{IsAt, Place, ending, streams_of};
-ghost use Rattle.programs.specs.Shelling.{Asks, Converses, HearsAll, HearsSome, IsAsked, Outs, Parts, PrintsAll, outs_of};
+ghost use Rattle.programs.specs.Stopping.{Gets};
+ghost use Rattle.programs.specs.Talking.{FailsToPut, IsAt, Place, ending, parting};
+ghost use Rattle.programs.specs.Telling.{version_after, versions_after};
+ghost use Rattle.programs.specs.Shelling.{Asks, Converses, Hears, HearsAll, IsAsked, IsHeard, PrintsNotes, server_side};
+ghost use Rattle.programs.specs.Ways.{Streams};
 
 use crate::caller::Caller;
 use crate::errors::{put_losses, put_unprinted, tell};
+use crate::ways::ShellStreams;
 use client::Heard;
 use machine::Phase;
 use streams::{Peer, Sink, StreamFault, give_up, hear_piece, write_out};
@@ -22,56 +26,32 @@ impl Caller {
     /// answered, also after a fault; what became of the requests that waited is told, and why no answer comes.
     pub fn ask<S: Peer, T: Sink, O: Sink, E: Sink>(
         &mut self,
-        source: &mut S,
-        sink: &mut T,
-        out: &mut O,
-        err: &mut E,
+        streams: &mut ShellStreams<S, T, O, E>,
     ) -> Result<(), StreamFault>
-        requires { LetsRead S.may_read (λ s. IsAsked self.old (S.left source.old) (S.left s) (T.taken sink.old)) }
-        ensures asks { (p : Place) → IsAt self.old p → Asks p
-            (streams_of S.left T.taken O.taken E.taken E.has_failed source.old sink.old out.old err.old)
-            (streams_of S.left T.taken O.taken E.taken E.has_failed source.new sink.new out.new err.new)
-            (IsAt self.new) result }
-        ensures read { IsErrOf result StreamFault.ReadFailed → S.has_failed source.new ≡ true }
-        ensures written { IsErrOf result StreamFault.WriteFailed
-            → (T.has_failed sink.new ≡ true) ⊎ (O.has_failed out.new ≡ true) }
-        ensures source { UnlessTold result StreamFault.ReadFailed
-            (StaysSound (S.has_failed source.old) (S.has_failed source.new)) }
-        ensures sink { UnlessTold result StreamFault.WriteFailed
-            (StaysSound (T.has_failed sink.old) (T.has_failed sink.new)) }
-        ensures out { UnlessTold result StreamFault.WriteFailed
-            (StaysSound (O.has_failed out.old) (O.has_failed out.new)) }
+        requires { LetsRead S.may_read (λ s. IsAsked streams.old.at self.old (S.left s)) }
+        ensures asks { (p : Place) → IsAt self.old p
+            → Asks (result_err result) p streams.old.at streams.new.at (IsAt self.new) }
+        ensures read { IsErrOf result StreamFault.ReadFailed → streams.new.at.read_failed ≡ true }
+        ensures written { IsErrOf result StreamFault.WriteFailed → FailsToPut streams.new.at }
     {
-        let asked = self.converse(source, sink, out, err);
-        self.part(asked.err(), err);
+        let asked = self.converse(streams);
+        self.part(asked.err(), &mut streams.err);
         asked
     }
 
     /// The same, without its end.
     fn converse<S: Peer, T: Sink, O: Sink, E: Sink>(
         &mut self,
-        source: &mut S,
-        sink: &mut T,
-        out: &mut O,
-        err: &mut E,
+        streams: &mut ShellStreams<S, T, O, E>,
     ) -> Result<(), StreamFault>
-        requires { LetsRead S.may_read (λ s. IsAsked self.old (S.left source.old) (S.left s) (T.taken sink.old)) }
+        requires { LetsRead S.may_read (λ s. IsAsked streams.old.at self.old (S.left s)) }
         ensures converses { (p : Place) → IsAt self.old p
-            → Converses p (S.left source.old) (S.left source.new) (T.taken sink.old) (T.taken sink.new)
-            (outs_of O.taken E.taken E.has_failed out.old err.old)
-            (outs_of O.taken E.taken E.has_failed out.new err.new) self.new result }
-        ensures read { IsErrOf result StreamFault.ReadFailed → S.has_failed source.new ≡ true }
-        ensures written { IsErrOf result StreamFault.WriteFailed
-            → (T.has_failed sink.new ≡ true) ⊎ (O.has_failed out.new ≡ true) }
-        ensures source { UnlessTold result StreamFault.ReadFailed
-            (StaysSound (S.has_failed source.old) (S.has_failed source.new)) }
-        ensures sink { UnlessTold result StreamFault.WriteFailed
-            (StaysSound (T.has_failed sink.old) (T.has_failed sink.new)) }
-        ensures out { UnlessTold result StreamFault.WriteFailed
-            (StaysSound (O.has_failed out.old) (O.has_failed out.new)) }
+            → Converses (result_err result) p streams.old.at streams.new.at self.new }
+        ensures read { IsErrOf result StreamFault.ReadFailed → streams.new.at.read_failed ≡ true }
+        ensures written { IsErrOf result StreamFault.WriteFailed → FailsToPut streams.new.at }
     {
-        match write_out(&mut self.client, sink) {
-            Ok(()) => self.hear_all(source, sink, out, err),
+        match write_out(&mut self.client, &mut streams.sink) {
+            Ok(()) => self.hear_all(streams),
             Err(fault) => Err(fault),
         }
     }
@@ -79,10 +59,10 @@ impl Caller {
     /// Gives the client up, unless all was answered, and tells what became of the requests that waited for an answer. A GOODBYE has none. Then it
     /// tells why no answer comes, unless a fault says so.
     fn part<E: Sink>(&mut self, fault: Option<StreamFault>, err: &mut E)
-        ensures parts { (r : Rest) → Fits self.old.client r → (printed : Option (List ℕ))
-            → Parts r (Fits self.new.client) fault
-            (record { printed = printed; told = E.taken err.old; deaf = E.has_failed err.old })
-            (record { printed = printed; told = E.taken err.new; deaf = E.has_failed err.new }) }
+        ensures gives_up { (r : Rest) → Fits self.old.client r → Fits self.new.client (given_up r) }
+        ensures tells { (r : Rest) → Fits self.old.client r
+            → Gets (E.has_failed err.old) (E.has_failed err.new) (E.taken err.old) (E.taken err.new)
+            (parting fault r.knows) }
         ensures version { self.new.version ≡ self.old.version }
     {
         let settled = !self.client.awaits() && !self.client.has_ended();
@@ -119,26 +99,16 @@ impl Caller {
     /// Hears and prints, a piece at a time, as long as an answer is still to come, to the end of the input.
     fn hear_all<S: Peer, T: Sink, O: Sink, E: Sink>(
         &mut self,
-        source: &mut S,
-        sink: &T,
-        out: &mut O,
-        err: &mut E,
+        streams: &mut ShellStreams<S, T, O, E>,
     ) -> Result<(), StreamFault>
-        requires { LetsRead S.may_read (λ s taken. (taken ≡ T.taken sink.now)
-            × ((p : Place) → IsAt self.old p → IsAwaited p.rest (S.left source.old) (S.left s))) }
+        requires { LetsRead S.may_read (λ s. IsHeard streams.old.at self.old (S.left s)) }
         ensures hears { (p : Place) → IsAt self.old p
-            → HearsAll p (S.left source.old) (S.left source.new)
-            (outs_of O.taken E.taken E.has_failed out.old err.old)
-            (outs_of O.taken E.taken E.has_failed out.new err.new) self.new result }
-        ensures read { IsErrOf result StreamFault.ReadFailed → S.has_failed source.new ≡ true }
-        ensures written { IsErrOf result StreamFault.WriteFailed → O.has_failed out.new ≡ true }
-        ensures source { UnlessTold result StreamFault.ReadFailed
-            (StaysSound (S.has_failed source.old) (S.has_failed source.new)) }
-        ensures out { UnlessTold result StreamFault.WriteFailed
-            (StaysSound (O.has_failed out.old) (O.has_failed out.new)) }
+            → HearsAll (result_err result) p streams.old.at streams.new.at self.new }
+        ensures read { IsErrOf result StreamFault.ReadFailed → streams.new.at.read_failed ≡ true }
+        ensures written { IsErrOf result StreamFault.WriteFailed → FailsToPut streams.new.at }
     {
         while self.client.awaits() {
-            match self.hear_some(source, sink, out, err) {
+            match self.hear_some(streams) {
                 Ok(true) => {}
                 Ok(false) => return Ok(()),
                 Err(fault) => return Err(fault),
@@ -150,86 +120,77 @@ impl Caller {
     /// Hears a piece and prints what it tells; whether there was one.
     fn hear_some<S: Peer, T: Sink, O: Sink, E: Sink>(
         &mut self,
-        source: &mut S,
-        sink: &T,
-        out: &mut O,
-        err: &mut E,
+        streams: &mut ShellStreams<S, T, O, E>,
     ) -> Result<bool, StreamFault>
-        requires { (n : ℕ) → n ≤ max_piece → S.may_read source.old (T.taken sink.now) n }
-        ensures hears { (p : Place) → IsAt self.old p
-            → HearsSome p (S.left source.old) (S.left source.new)
-            (outs_of O.taken E.taken E.has_failed out.old err.old)
-            (outs_of O.taken E.taken E.has_failed out.new err.new) self.new result }
-        ensures read { IsErrOf result StreamFault.ReadFailed → S.has_failed source.new ≡ true }
-        ensures written { IsErrOf result StreamFault.WriteFailed → O.has_failed out.new ≡ true }
-        ensures source { UnlessTold result StreamFault.ReadFailed
-            (StaysSound (S.has_failed source.old) (S.has_failed source.new)) }
-        ensures out { UnlessTold result StreamFault.WriteFailed
-            (StaysSound (O.has_failed out.old) (O.has_failed out.new)) }
+        requires { LetsRead S.may_read (λ s taken.
+            Appends streams.old.at.written taken [] × (S.left s ≡ streams.old.at.left)) }
+        ensures hears { (p : Place) → IsAt self.old p → awaits p.rest.knows ≡ true
+            → Hears (result_err result) p streams.old.at streams.new.at self.new }
+        ensures end { IfOk result (λ some. some ≡ false → IsAtEnd streams.new.at.left) }
+        ensures read { IsErrOf result StreamFault.ReadFailed → streams.new.at.read_failed ≡ true }
+        ensures written { IsErrOf result StreamFault.WriteFailed → FailsToPut streams.new.at }
         ensures lowers { IfOk result
-            (λ some. some ≡ true → S.reads source.new < S.reads source.old) }
+            (λ some. some ≡ true → streams.new.at.reads < streams.old.at.reads) }
     {
         let mut heard = Vec::new(self.alloc);
-        let done = hear_piece(&mut self.client, source, sink, &mut heard);
-        match done {
-            Err(StreamFault::ReadFailed) => return Err(StreamFault::ReadFailed),
-            _ => {}
-        }
-        // What was heard before another fault is printed too.
-        match self.put_all(heard, out, err) {
+        let done = hear_piece(
+            &mut self.client,
+            &mut streams.source,
+            &streams.sink,
+            &mut heard,
+        );
+        // What was heard before a fault is printed too.
+        match self.put_all(heard, streams) {
             Ok(()) => done,
             Err(fault) => Err(fault),
         }
     }
 
-    /// Prints all that was heard. From a fault on each summary that isn't printed is told on `err`.
-    fn put_all<O: Sink, E: Sink>(
+    /// Prints all that was heard. From a fault on each summary that isn't printed is told on standard error.
+    fn put_all<S: Peer, T: Sink, O: Sink, E: Sink>(
         &mut self,
         heard: Vec<Heard>,
-        out: &mut O,
-        err: &mut E,
+        streams: &mut ShellStreams<S, T, O, E>,
     ) -> Result<(), StreamFault>
-        ensures prints { PrintsAll self.old.version (map note heard.items) self.new
-            (outs_of O.taken E.taken E.has_failed out.old err.old)
-            (outs_of O.taken E.taken E.has_failed out.new err.new) result }
+        ensures prints { PrintsNotes self.old.version (map note heard.items) (result_err result)
+            streams.old.at streams.new.at }
+        ensures version { self.new.version ≡ versions_after self.old.version (map note heard.items) }
         ensures client { self.new.client ≡ self.old.client }
         ensures read { IsErrOf result StreamFault.ReadFailed → ⊥ }
-        ensures written { IsErrOf result StreamFault.WriteFailed → O.has_failed out.new ≡ true }
-        ensures sound { UnlessTold result StreamFault.WriteFailed
-            (StaysSound (O.has_failed out.old) (O.has_failed out.new)) }
+        ensures written { IsErrOf result StreamFault.WriteFailed → streams.new.at.print_failed ≡ true }
+        ensures kept { server_side streams.new.at ≡ server_side streams.old.at }
     {
         let mut done = Ok(());
         for one in heard {
-            done = self.put_next(done, one, out, err);
+            done = self.put_next(done, one, streams);
         }
         done
     }
 
     /// Prints one more, or tells it after a fault.
-    fn put_next<O: Sink, E: Sink>(
+    fn put_next<S: Peer, T: Sink, O: Sink, E: Sink>(
         &mut self,
         done: Result<(), StreamFault>,
         one: Heard,
-        out: &mut O,
-        err: &mut E,
+        streams: &mut ShellStreams<S, T, O, E>,
     ) -> Result<(), StreamFault>
-        ensures prints { (v : Version) (notes : List Note) (start : Outs)
-            → PrintsAll v notes self.old start (outs_of O.taken E.taken E.has_failed out.old err.old) done
-            → PrintsAll v (notes ++ note one ∷ []) self.new start
-            (outs_of O.taken E.taken E.has_failed out.new err.new) result }
+        ensures prints { (v : Version) (notes : List Note) (start : Streams)
+            → self.old.version ≡ versions_after v notes
+            → PrintsNotes v notes (result_err done) start streams.old.at
+            → PrintsNotes v (notes ++ note one ∷ []) (result_err result) start streams.new.at }
+        ensures version { self.new.version ≡ version_after self.old.version (note one) }
         ensures client { self.new.client ≡ self.old.client }
         ensures read { (IsErrOf done StreamFault.ReadFailed → ⊥)
             → IsErrOf result StreamFault.ReadFailed → ⊥ }
-        ensures written { (IsErrOf done StreamFault.WriteFailed → O.has_failed out.old ≡ true)
-            → IsErrOf result StreamFault.WriteFailed → O.has_failed out.new ≡ true }
-        ensures sound { (had : Bool)
-            → UnlessTold done StreamFault.WriteFailed (StaysSound had (O.has_failed out.old))
-            → UnlessTold result StreamFault.WriteFailed (StaysSound had (O.has_failed out.new)) }
+        ensures written { (IsErrOf done StreamFault.WriteFailed → streams.old.at.print_failed ≡ true)
+            → IsErrOf result StreamFault.WriteFailed → streams.new.at.print_failed ≡ true }
+        ensures kept { server_side streams.new.at ≡ server_side streams.old.at }
     {
+        self.keep_version(&one);
         match done {
-            Ok(()) => self.put_explained(one, out, err),
+            Ok(()) => self.put_explained(one, streams),
             Err(fault) => {
-                put_unprinted(&one, err);
+                put_unprinted(&one, streams);
                 Err(fault)
             }
         }

@@ -1,19 +1,22 @@
 //! A client that takes its requests from the lines of a script.
-ghost use Rattle.std.specs.Prelude.{◌≡◌, true, IfOk, IfErr, IsErrOf};
+ghost use Rattle.std.specs.Prelude.{◌≡◌, ◌∷◌, [], true, IfOk, IfErr, IsErrOf};
+ghost use Rattle.std.specs.Result.{result_err};
+ghost use Rattle.wire.specs.declared.Version.{Version};
 ghost use Rattle.client.specs.Notes.{note};
 ghost use Rattle.streams.specs.Failing.{StaysSound, UnlessTold};
 ghost use Rattle.scripts.specs.Meant.{meant};
 ghost use Rattle.scripts.specs.Views.{script_request_view};
 ghost use Rattle.programs.specs.Telling.{IsTold, PutsLine, version_after};
 ghost use Rattle.programs.specs.Talking.{IsAt, Place, first_place};
-ghost use Rattle.programs.specs.Shelling.{PrintsOne, Submits, outs_of};
+ghost use Rattle.programs.specs.Shelling.{PrintsNotes, Submits, server_side};
 
 use crate::names::refusal_code;
 use crate::printed_lines::{put_heard, put_refused, put_row, put_summary};
+use crate::ways::ShellStreams;
 use client::{Client, Heard};
 use scripts::ScriptRequest;
 use std::alloc::Global;
-use streams::{Sink, StreamFault};
+use streams::{Peer, Sink, StreamFault};
 use wire::{Version, Wish};
 
 /// A client that takes the newest version.
@@ -41,7 +44,7 @@ impl Caller {
     }
 
     /// Keeps the version, where one was heard.
-    fn keep_version(&mut self, heard: &Heard)
+    pub fn keep_version(&mut self, heard: &Heard)
         ensures version { self.new.version ≡ version_after self.old.version (note heard.now) }
         ensures client { self.new.client ≡ self.old.client }
     {
@@ -63,34 +66,29 @@ impl Caller {
         put_heard(self.alloc, self.version, heard, out)
     }
 
-    /// The same, and behind the line of a FAILURE `fault CODE MESSAGE`. Where the line of a summary isn't taken whole, it is told on `err`.
-    pub fn put_explained<O: Sink, E: Sink>(
-        &mut self,
+    /// The same of what was heard at the version that is kept, and behind the line of a FAILURE `fault CODE MESSAGE`. Where the line of a summary
+    /// isn't taken whole, it is told on standard error.
+    pub fn put_explained<S: Peer, T: Sink, O: Sink, E: Sink>(
+        &self,
         heard: Heard,
-        out: &mut O,
-        err: &mut E,
+        streams: &mut ShellStreams<S, T, O, E>,
     ) -> Result<(), StreamFault>
-        ensures prints { PrintsOne (version_after self.old.version (note heard)) (note heard)
-            (outs_of O.taken E.taken E.has_failed out.old err.old)
-            (outs_of O.taken E.taken E.has_failed out.new err.new) result }
-        ensures version { self.new.version ≡ version_after self.old.version (note heard) }
-        ensures client { self.new.client ≡ self.old.client }
+        ensures prints { (v : Version) → self.now.version ≡ version_after v (note heard)
+            → PrintsNotes v (note heard ∷ []) (result_err result) streams.old.at streams.new.at }
         ensures read { IsErrOf result StreamFault.ReadFailed → ⊥ }
-        ensures written { IsErrOf result StreamFault.WriteFailed → O.has_failed out.new ≡ true }
-        ensures sound { UnlessTold result StreamFault.WriteFailed
-            (StaysSound (O.has_failed out.old) (O.has_failed out.new)) }
+        ensures written { IsErrOf result StreamFault.WriteFailed → streams.new.at.print_failed ≡ true }
+        ensures kept { server_side streams.new.at ≡ server_side streams.old.at }
     {
-        self.keep_version(&heard);
         match heard {
             Heard::Nothing => Ok(()),
             Heard::Version(_) => Ok(()),
-            Heard::Row(cells) => put_row(self.alloc, self.version, cells, out),
+            Heard::Row(cells) => put_row(self.alloc, self.version, cells, &mut streams.out),
             Heard::Summary {
                 ordinal,
                 phase,
                 outcome,
                 response,
-            } => put_summary(self.alloc, ordinal, phase, outcome, &response, out, err),
+            } => put_summary(self.alloc, ordinal, phase, outcome, &response, streams),
         }
     }
 

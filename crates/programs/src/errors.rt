@@ -3,13 +3,15 @@ ghost use Rattle.std.specs.Prelude.{◌≡◌};
 ghost use Rattle.client.specs.Notes.{note};
 ghost use Rattle.programs.specs.Stopping.{Gets};
 ghost use Rattle.programs.specs.Telling.{lost_line, summary_line};
+ghost use Rattle.programs.specs.Shelling.{TellsMore};
 ghost use Rattle.programs.specs.Talking.{greeting_of, losses_text};
 
 use crate::names::{outcome_name, version_name};
 use crate::summaries::heard_line;
+use crate::ways::ShellStreams;
 use client::{Heard, Outcome};
 use itoa::Buffer;
-use streams::{Sink, write_all};
+use streams::{Peer, Sink, write_all};
 use wire::Version;
 
 /// Writes a text, as far as it is taken.
@@ -38,9 +40,11 @@ pub(crate) fn greet<E: Sink>(has_ended: bool, version: Version, err: &mut E)
 }
 
 /// Tells `heard ORDINAL OUTCOME PHASE` of a summary, and of nothing else.
-pub(crate) fn put_unprinted<E: Sink>(heard: &Heard, err: &mut E)
-    ensures { Gets (E.has_failed err.old) (E.has_failed err.new) (E.taken err.old) (E.taken err.new)
-        (summary_line (note heard.now)) }
+pub(crate) fn put_unprinted<S: Peer, T: Sink, O: Sink, E: Sink>(
+    heard: &Heard,
+    streams: &mut ShellStreams<S, T, O, E>,
+)
+    ensures { TellsMore streams.old.at streams.new.at (summary_line (note heard.now)) }
 {
     if let Heard::Summary {
         ordinal,
@@ -49,7 +53,10 @@ pub(crate) fn put_unprinted<E: Sink>(heard: &Heard, err: &mut E)
         ..
     } = heard
     {
-        tell(heard_line(*ordinal, *outcome, *phase).as_bytes(), err);
+        tell(
+            heard_line(*ordinal, *outcome, *phase).as_bytes(),
+            &mut streams.err,
+        );
     }
 }
 

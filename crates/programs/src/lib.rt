@@ -25,4 +25,4 @@ pub use serves::{ServedOne, drain, serve_next};
 pub use shells::shell;
 pub use stop::put_fault;
 pub use summaries::summary;
-pub use ways::{BothWays, OneWay};
+pub use ways::{BothWays, OneWay, ShellStreams};

@@ -1,17 +1,18 @@
 //! A client and a server in one process, over the two ends of a connection.
-ghost use Rattle.std.specs.Prelude.{◌≡◌, ◌⊎◌, ◌≤◌, ◌+◌, ◌++◌, ℕ, List, [], length, map, true, None, IsSome, IfErr, OnOk, OnErr, IsErrOf};
+ghost use Rattle.std.specs.Prelude.{◌≡◌, ◌⊎◌, ◌≤◌, ◌+◌, ◌++◌, ℕ, List, [], length, map, true, None, IsSome, IfErr, OnOk, OnErr, IsErrOf, MatchResult};
+ghost use Rattle.std.specs.Result.{result_err};
 ghost use Rattle.std.specs.Io.KnownBytes.{Consumes};
 ghost use Rattle.server.specs.Serving.{Rest, find, setting};
 ghost use Rattle.server.specs.Views.{Fits};
 ghost use Rattle.streams.specs.Settling.{IsLive, LivesOn};
-ghost use Rattle.programs.specs.Passing.{BreaksAtSource, FailsToRead, FailsToWrite, GivesNoMore, GivesSome, LetsReadWaiting, Passed, Passes};
-ghost use Rattle.programs.specs.Looping.{Comes, HasLooped, HearsFront, Loops, Numbers, Prints, PrintsUpTo, ReadsFront, RunsNothing, Sits, StandsAt, TellsLine};
-ghost use Rattle.programs.specs.Breaking.{Breaks, BreaksIn, BreaksLine, BreaksLines};
+ghost use Rattle.programs.specs.Passing.{BreaksAtSource, FailsToRead, FailsToWrite, GivesNoMore, GivesSome, LetsReadWaiting, Passes};
+ghost use Rattle.programs.specs.Looping.{Comes, ComesOn, GoesOn, HasLooped, HearsFront, IsHeardAll, Loops, Numbers, Prints, PrintsUpTo, ReadsFront, RunsNothing, Sits, StandsAt, TellsLine};
+ghost use Rattle.programs.specs.Breaking.{Breaks, BreaksAt, BreaksIn};
 ghost use Rattle.programs.specs.Serving.{IsVacant};
 ghost use Rattle.programs.specs.Talking.{Place};
 ghost use Rattle.client.specs.Notes.{note};
 ghost use Rattle.programs.specs.Telling.{versions_after};
-ghost use Rattle.programs.specs.Turns.{AreQuiet, IsQuiet, Turns, after_line, answer_to, due, exchanged, given, no_turns, notes_shown, place_after, shown_of, turns_of};
+ghost use Rattle.programs.specs.Turns.{AreQuiet, IsQuiet, Turns, answer_to, due, exchanged, given, line_stages, no_turns, notes_shown, stages_of, turns_of};
 ghost use Rattle.programs.specs.Ways.{Ways};
 ghost use Rattle.scripts.specs.Rows.{request_line_of};
 ghost use Rattle.scripts.specs.Script.{filled_lines, lines_read, said_requests, unreadable};
@@ -96,10 +97,9 @@ fn pass<T: Sink, S: Peer>(
 /// Feeds a part to the client, and prints what it tells, also where memory runs out while it is fed.
 fn hear<O: Sink>(caller: &mut Caller, part: &[u8], out: &mut O) -> Result<(), StreamFault>
     ensures hears { (p : Place) → StandsAt caller.old p
-        → OnOk result (StandsAt caller.new (place_after p part.now)
-        × Prints (shown_of p part.now) (O.taken out.old) (O.taken out.new)) }
-    ensures breaks { (p : Place) → StandsAt caller.old p
-        → OnErr result (HearsFront p part.now (O.taken out.old) (O.taken out.new)) }
+        → MatchResult result
+        (λ _. IsHeardAll p part.now caller.new (O.taken out.old) (O.taken out.new))
+        (λ _. HearsFront p part.now (O.taken out.old) (O.taken out.new)) }
     ensures read { IsErrOf result StreamFault.ReadFailed → ⊥ }
     ensures written { IsErrOf result StreamFault.WriteFailed → O.has_failed out.new ≡ true }
 {
@@ -110,13 +110,12 @@ fn hear<O: Sink>(caller: &mut Caller, part: &[u8], out: &mut O) -> Result<(), St
 }
 
 fn put_all<O: Sink>(caller: &mut Caller, heard: Vec<Heard>, out: &mut O) -> Result<(), StreamFault>
-    ensures prints { OnOk result (Prints (notes_shown caller.old.version (map note heard.items))
-        (O.taken out.old) (O.taken out.new)) }
-    ensures breaks { OnErr result
-        (PrintsUpTo (notes_shown caller.old.version (map note heard.items)) (O.taken out.old)
+    ensures prints { MatchResult result
+        (λ _. Prints (notes_shown caller.old.version (map note heard.items)) (O.taken out.old)
+        (O.taken out.new)
+        × (caller.new.version ≡ versions_after caller.old.version (map note heard.items)))
+        (λ _. PrintsUpTo (notes_shown caller.old.version (map note heard.items)) (O.taken out.old)
         (O.taken out.new)) }
-    ensures version { OnOk result
-        (caller.new.version ≡ versions_after caller.old.version (map note heard.items)) }
     ensures client { caller.new.client ≡ caller.old.client }
     ensures read { IsErrOf result StreamFault.ReadFailed → ⊥ }
     ensures written { IsErrOf result StreamFault.WriteFailed → O.has_failed out.new ≡ true }
@@ -136,11 +135,9 @@ fn hand_over<T: Sink, S: Peer, O: Sink>(
 ) -> Result<(), StreamFault>
     requires { LetsReadWaiting S.left S.may_read way.old.at }
     ensures hears { (p : Place) → StandsAt caller.old p
-        → OnOk result (StandsAt caller.new (place_after p bytes.now)
-        × Prints (shown_of p bytes.now) (O.taken out.old) (O.taken out.new)) }
-    ensures breaks { (p : Place) → StandsAt caller.old p
-        → OnErr result (ReadsFront p bytes.now way.old.at.left way.new.at.left (O.taken out.old)
-        (O.taken out.new)) }
+        → MatchResult result
+        (λ _. IsHeardAll p bytes.now caller.new (O.taken out.old) (O.taken out.new))
+        (λ _. ReadsFront p bytes.now way.old.at.left way.new.at.left (O.taken out.old) (O.taken out.new)) }
     ensures passes { OnOk result (Passes way.old.at way.new.at bytes.now) }
     ensures read { IsErrOf result StreamFault.ReadFailed → BreaksAtSource way.old.at way.new.at }
     ensures written { IsErrOf result StreamFault.WriteFailed
@@ -199,21 +196,16 @@ fn turn<E: Engine, G: Gate, A: Peer, B: Sink, C: Peer, D: Sink, O: Sink>(
     requires live { IsLive E.entries conn server.old }
     requires near { LetsReadWaiting A.left A.may_read ways.old.at.down }
     requires far { LetsReadWaiting C.left C.may_read ways.old.at.up }
-    ensures live { IsLive E.entries conn server.new }
-    ensures grows { LivesOn conn (Fits E.entries server.old) (Fits E.entries server.new) }
-    ensures read { IsErrOf result StreamFault.ReadFailed → FailsToRead ways.old.at ways.new.at }
-    ensures written { IsErrOf result StreamFault.WriteFailed → FailsToWrite ways.new.at }
-    ensures passed { OnOk result (Passed ways.old.at ways.new.at) }
+    ensures moves { GoesOn (result_err result) conn (Fits E.entries server.old)
+        (Fits E.entries server.new) ways.old.at ways.new.at }
     ensures comes { (r : Rest G) (start : Ways) (t : Turns) → IsSome (find conn r.sessions)
         → Comes r conn (setting E.answer G.accepts r) start ways.old.at t pair.old
         (Fits E.entries server.old)
-        → OnOk result (Comes r conn (setting E.answer G.accepts r) start ways.new.at
+        → MatchResult result
+        (λ _. Comes r conn (setting E.answer G.accepts r) start ways.new.at
         (given (setting E.answer G.accepts r) conn r.ledger t piece.now) pair.new
-        (Fits E.entries server.new)) }
-    ensures breaks { (r : Rest G) (start : Ways) (t : Turns) → IsSome (find conn r.sessions)
-        → Comes r conn (setting E.answer G.accepts r) start ways.old.at t pair.old
-        (Fits E.entries server.old)
-        → OnErr result (BreaksIn (setting E.answer G.accepts r) conn r.ledger start ways.new.at t
+        (Fits E.entries server.new))
+        (λ _. BreaksIn (setting E.answer G.accepts r) conn r.ledger start ways.new.at t
         (answer_to (setting E.answer G.accepts r) conn r.ledger t.sent piece.now)) }
 {
     pass(pair.caller.alloc, piece, &mut ways.up)?;
@@ -244,22 +236,17 @@ fn exchange<E: Engine, G: Gate, A: Peer, B: Sink, C: Peer, D: Sink, O: Sink>(
     requires live { IsLive E.entries conn server.old }
     requires near { LetsReadWaiting A.left A.may_read ways.old.at.down }
     requires far { LetsReadWaiting C.left C.may_read ways.old.at.up }
-    ensures live { IsLive E.entries conn server.new }
-    ensures grows { LivesOn conn (Fits E.entries server.old) (Fits E.entries server.new) }
-    ensures read { IsErrOf result StreamFault.ReadFailed → FailsToRead ways.old.at ways.new.at }
-    ensures written { IsErrOf result StreamFault.WriteFailed → FailsToWrite ways.new.at }
-    ensures passed { OnOk result (Passed ways.old.at ways.new.at) }
+    ensures moves { GoesOn (result_err result) conn (Fits E.entries server.old)
+        (Fits E.entries server.new) ways.old.at ways.new.at }
     ensures comes { (r : Rest G) (start : Ways) (t : Turns) → IsSome (find conn r.sessions)
         → Comes r conn (setting E.answer G.accepts r) start ways.old.at t pair.old
         (Fits E.entries server.old)
-        → OnOk result (Comes r conn (setting E.answer G.accepts r) start ways.new.at
+        → MatchResult result
+        (λ _. Comes r conn (setting E.answer G.accepts r) start ways.new.at
         (exchanged (setting E.answer G.accepts r) conn r.ledger t) pair.new
         (Fits E.entries server.new)
-        × IsQuiet (exchanged (setting E.answer G.accepts r) conn r.ledger t)) }
-    ensures breaks { (r : Rest G) (start : Ways) (t : Turns) → IsSome (find conn r.sessions)
-        → Comes r conn (setting E.answer G.accepts r) start ways.old.at t pair.old
-        (Fits E.entries server.old)
-        → OnErr result (BreaksIn (setting E.answer G.accepts r) conn r.ledger start ways.new.at t
+        × IsQuiet (exchanged (setting E.answer G.accepts r) conn r.ledger t))
+        (λ _. BreaksIn (setting E.answer G.accepts r) conn r.ledger start ways.new.at t
         (due (setting E.answer G.accepts r) conn r.ledger t)) }
 {
     let Ok(bytes) = pair.caller.client.take_out(usize::MAX) else {
@@ -288,23 +275,17 @@ fn run_line<E: Engine, G: Gate, A: Peer, B: Sink, C: Peer, D: Sink, O: Sink>(
     requires live { IsLive E.entries conn server.old }
     requires near { LetsReadWaiting A.left A.may_read ways.old.at.down }
     requires far { LetsReadWaiting C.left C.may_read ways.old.at.up }
-    ensures live { IsLive E.entries conn server.new }
-    ensures grows { LivesOn conn (Fits E.entries server.old) (Fits E.entries server.new) }
-    ensures read { IsErrOf result StreamFault.ReadFailed → FailsToRead ways.old.at ways.new.at }
-    ensures written { IsErrOf result StreamFault.WriteFailed → FailsToWrite ways.new.at }
-    ensures passed { OnOk result (Passed ways.old.at ways.new.at) }
+    ensures moves { GoesOn (result_err result) conn (Fits E.entries server.old)
+        (Fits E.entries server.new) ways.old.at ways.new.at }
     ensures comes { (r : Rest G) (start : Ways) (t : Turns) → IsSome (find conn r.sessions)
         → Comes r conn (setting E.answer G.accepts r) start ways.old.at t pair.old
         (Fits E.entries server.old)
-        → OnOk result (Comes r conn (setting E.answer G.accepts r) start ways.new.at
-        (after_line (setting E.answer G.accepts r) conn r.ledger t (line.number, script_request_view line.said))
-        pair.new (Fits E.entries server.new)
-        × (IsQuiet t → IsQuiet (after_line (setting E.answer G.accepts r) conn r.ledger t (line.number, script_request_view line.said)))) }
-    ensures breaks { (r : Rest G) (start : Ways) (t : Turns) → IsSome (find conn r.sessions)
-        → Comes r conn (setting E.answer G.accepts r) start ways.old.at t pair.old
-        (Fits E.entries server.old)
-        → OnErr result (BreaksLine (setting E.answer G.accepts r) conn r.ledger start ways.new.at t
-        (line.number, script_request_view line.said)) }
+        → MatchResult result
+        (λ _. ComesOn r conn (setting E.answer G.accepts r) start ways.new.at t
+        (line.number, script_request_view line.said) pair.new (Fits E.entries server.new))
+        (λ _. BreaksAt (setting E.answer G.accepts r) conn r.ledger start ways.new.at
+        (line_stages (setting E.answer G.accepts r) conn r.ledger t
+        (line.number, script_request_view line.said))) }
 {
     if pair.caller.submit(line.number, line.said, &mut ways.out)? {
         return exchange(pair, server, conn, ways);
@@ -323,22 +304,19 @@ fn run_lines<E: Engine, G: Gate, A: Peer, B: Sink, C: Peer, D: Sink, O: Sink>(
     requires live { IsLive E.entries conn server.old }
     requires near { LetsReadWaiting A.left A.may_read ways.old.at.down }
     requires far { LetsReadWaiting C.left C.may_read ways.old.at.up }
-    ensures grows { LivesOn conn (Fits E.entries server.old) (Fits E.entries server.new) }
-    ensures read { IsErrOf result StreamFault.ReadFailed → FailsToRead ways.old.at ways.new.at }
-    ensures written { IsErrOf result StreamFault.WriteFailed → FailsToWrite ways.new.at }
+    ensures moves { GoesOn (result_err result) conn (Fits E.entries server.old)
+        (Fits E.entries server.new) ways.old.at ways.new.at }
     ensures comes { (r : Rest G) (start : Ways) → IsSome (find conn r.sessions)
         → Comes r conn (setting E.answer G.accepts r) start ways.old.at no_turns pair.old
         (Fits E.entries server.old)
-        → OnOk result (Comes r conn (setting E.answer G.accepts r) start ways.new.at
+        → MatchResult result
+        (λ _. Comes r conn (setting E.answer G.accepts r) start ways.new.at
         (turns_of (setting E.answer G.accepts r) conn r.ledger (said_requests lines.items)) pair.new
         (Fits E.entries server.new)
         × AreQuiet (setting E.answer G.accepts r) conn r.ledger
-        (turns_of (setting E.answer G.accepts r) conn r.ledger []) (said_requests lines.items)) }
-    ensures breaks { (r : Rest G) (start : Ways) → IsSome (find conn r.sessions)
-        → Comes r conn (setting E.answer G.accepts r) start ways.old.at no_turns pair.old
-        (Fits E.entries server.old)
-        → OnErr result (BreaksLines (setting E.answer G.accepts r) conn r.ledger start ways.new.at
-        (said_requests lines.items)) }
+        (turns_of (setting E.answer G.accepts r) conn r.ledger []) (said_requests lines.items))
+        (λ _. BreaksAt (setting E.answer G.accepts r) conn r.ledger start ways.new.at
+        (stages_of (setting E.answer G.accepts r) conn r.ledger (said_requests lines.items))) }
 {
     exchange(pair, server, conn, ways)?;
     for line in lines {
@@ -362,10 +340,10 @@ fn run_opened<E: Engine, G: Gate, A: Peer, B: Sink, C: Peer, D: Sink, O: Sink>(
     ensures read { IsErrOf result StreamFault.ReadFailed → FailsToRead ways.old.at ways.new.at }
     ensures written { IsErrOf result StreamFault.WriteFailed → FailsToWrite ways.new.at }
     ensures loops { (r : Rest G) → Fits E.entries server.old r → r.sessions ≡ []
-        → OnOk result (Loops r (setting E.answer G.accepts r) (said_requests lines.items)
-        (Fits E.entries server.new) ways.old.at ways.new.at) }
-    ensures breaks { (r : Rest G) → Fits E.entries server.old r → r.sessions ≡ []
-        → OnErr result (Breaks r (setting E.answer G.accepts r) (said_requests lines.items) ways.old.at
+        → MatchResult result
+        (λ _. Loops r (setting E.answer G.accepts r) (said_requests lines.items)
+        (Fits E.entries server.new) ways.old.at ways.new.at)
+        (λ _. Breaks r (setting E.answer G.accepts r) (said_requests lines.items) ways.old.at
         ways.new.at) }
 {
     let caller = Caller::new(alloc)?;

@@ -2,6 +2,7 @@
 ghost use Rattle.std.specs.Prelude.{◌≡◌, ◌⊎◌, ℕ, List, [], ◌∷◌, ◌++◌, true, codes, IfErr, IfOk, OnOk, OnErr, string_bytes, IsErrOf};
 ghost use Rattle.cells.specs.Shape.{shapes};
 ghost use Rattle.std.specs.Fmt.{decimal};
+ghost use Rattle.std.specs.Result.{result_err};
 ghost use Rattle.std.specs.Io.KnownBytes.{Appends};
 ghost use Rattle.messages.specs.View.{response_view};
 ghost use Rattle.client.specs.Notes.{note};
@@ -13,18 +14,19 @@ ghost use Rattle.programs.specs.Looping.{entries_text, entry_line};
 ghost use Rattle.programs.specs.Serving.{conn_line};
 ghost use Rattle.programs.specs.Names.{outcome_name, phase_name};
 ghost use Rattle.programs.specs.Telling.{IsRowLine, IsTold, PutsLine, failure_line, heard_line as heard_text, refused_line};
-ghost use Rattle.programs.specs.Shelling.{PrintsOne, outs_of};
+ghost use Rattle.programs.specs.Shelling.{PrintsNotes, server_side};
 
 use crate::errors::tell;
 use crate::names::cause_code;
 use crate::summaries::{failure, heard_line, row};
+use crate::ways::ShellStreams;
 use client::{Heard, Outcome};
 use engine::Entry;
 use machine::Phase;
 use messages::Response;
 use server::Cause;
 use std::alloc::{AllocError, Global};
-use streams::{Sink, StreamFault, write_all};
+use streams::{Peer, Sink, StreamFault, write_all};
 use structures::Cell;
 use wire::Version;
 
@@ -107,30 +109,28 @@ pub(crate) fn put_row<O: Sink>(
 }
 
 /// Prints `heard ORDINAL OUTCOME PHASE`, and behind that of a FAILURE `fault CODE MESSAGE`. The first line takes no memory; where it isn't taken
-/// whole it is told on `err`.
-pub(crate) fn put_summary<O: Sink, E: Sink>(
+/// whole it is told on standard error.
+pub(crate) fn put_summary<S: Peer, T: Sink, O: Sink, E: Sink>(
     alloc: Global,
     ordinal: u64,
     phase: Phase,
     outcome: Outcome,
     response: &Response,
-    out: &mut O,
-    err: &mut E,
+    streams: &mut ShellStreams<S, T, O, E>,
 ) -> Result<(), StreamFault>
-    ensures prints { (v : Version) → PrintsOne v (Summary ordinal phase outcome (response_view response.now))
-        (outs_of O.taken E.taken E.has_failed out.old err.old)
-        (outs_of O.taken E.taken E.has_failed out.new err.new) result }
+    ensures prints { (v : Version)
+        → PrintsNotes v (Summary ordinal phase outcome (response_view response.now) ∷ []) (result_err result)
+        streams.old.at streams.new.at }
     ensures read { IsErrOf result StreamFault.ReadFailed → ⊥ }
-    ensures written { IsErrOf result StreamFault.WriteFailed → O.has_failed out.new ≡ true }
-    ensures sound { UnlessTold result StreamFault.WriteFailed
-        (StaysSound (O.has_failed out.old) (O.has_failed out.new)) }
+    ensures written { IsErrOf result StreamFault.WriteFailed → streams.new.at.print_failed ≡ true }
+    ensures kept { server_side streams.new.at ≡ server_side streams.old.at }
 {
     let line = heard_line(ordinal, outcome, phase);
     let text = line.as_str().as_bytes();
-    match put(text, out) {
-        Ok(()) => put_failure(alloc, response, out),
+    match put(text, &mut streams.out) {
+        Ok(()) => put_failure(alloc, response, &mut streams.out),
         Err(fault) => {
-            tell(text, err);
+            tell(text, &mut streams.err);
             Err(fault)
         }
     }

@@ -1,17 +1,20 @@
 //! A client at a shell: request lines go in, and what a server answers comes out.
-ghost use Rattle.std.specs.Prelude.{◌≡◌, ◌⊎◌, [], List, ℕ, true, Some, None, IfOk, IfErr, IsErrOf};
+ghost use Rattle.std.specs.Prelude.{◌≡◌, ◌∷◌, ◌⊎◌, [], List, ℕ, true, Some, None, IfOk, IfErr, IsErrOf};
+ghost use Rattle.std.specs.Option.{option_map};
 ghost use Rattle.std.specs.Result.{result_err};
 ghost use Rattle.scripts.specs.Rows.{request_line_of};
 ghost use Rattle.scripts.specs.Views.{Text, script_request_view};
 ghost use Rattle.streams.specs.Failing.{StaysSound, UnlessTold};
 ghost use Rattle.streams.specs.Serving.{LetsRead};
-ghost use Rattle.programs.specs.Talking.{IsAt, IsServersTurn, Stands, Streams, first_place, streams_of};
+ghost use Rattle.programs.specs.Talking.{FailsToPut, IsAt, IsServersTurn, Stands, first_place};
 ghost use Rattle.programs.specs.Accounting.{Accounts};
-ghost use Rattle.programs.specs.Shelling.{Begins, DoesLine, IsAsked, IsTurnAfter, IsTurnWithin, Progress, Runs, Sends, Shells, Takes, TakesByte};
+ghost use Rattle.programs.specs.Shelling.{Does, IsAsked, IsSound, IsTurnAfter, IsTurnWithin, Progress, Runs, Shells, Takes, TakesByte, if_filled};
+ghost use Rattle.programs.specs.Ways.{Streams};
 
 use crate::caller::Caller;
 use crate::errors::greet;
 use crate::stop::{StopReason, put_stop};
+use crate::ways::ShellStreams;
 use scripts::{LineFault, ScriptRequest, read_request};
 use std::alloc::Global;
 use streams::{MAX_PIECE, Peer, Sink, Source, StreamFault};
@@ -45,34 +48,25 @@ impl Conversation {
     /// Hears the version, and tells it with how a line looks.
     fn begin<S: Peer, T: Sink, O: Sink, E: Sink>(
         &mut self,
-        source: &mut S,
-        sink: &mut T,
-        out: &mut O,
-        err: &mut E,
+        streams: &mut ShellStreams<S, T, O, E>,
     ) -> Result<(), StreamFault>
-        requires { LetsRead S.may_read (λ s. IsAsked self.old.caller (S.left source.old) (S.left s) (T.taken sink.old)) }
+        requires { LetsRead S.may_read (λ s. IsAsked streams.old.at self.old.caller (S.left s)) }
         ensures begins { IsAt self.old.caller first_place
-            → Begins
-            (streams_of S.left T.taken O.taken E.taken E.has_failed source.old sink.old out.old err.old)
-            (streams_of S.left T.taken O.taken E.taken E.has_failed source.new sink.new out.new err.new)
-            self.new.caller result }
+            → Stands (result_err result) streams.old.at streams.new.at [] (IsAt self.new.caller) }
         ensures begun { self.new.begun ≡ self.old.begun }
         ensures number { self.new.number ≡ self.old.number }
-        ensures read { IsErrOf result StreamFault.ReadFailed → S.has_failed source.new ≡ true }
-        ensures written { IsErrOf result StreamFault.WriteFailed
-            → (T.has_failed sink.new ≡ true) ⊎ (O.has_failed out.new ≡ true) }
-        ensures source { UnlessTold result StreamFault.ReadFailed
-            (StaysSound (S.has_failed source.old) (S.has_failed source.new)) }
-        ensures sink { UnlessTold result StreamFault.WriteFailed
-            (StaysSound (T.has_failed sink.old) (T.has_failed sink.new)) }
-        ensures out { UnlessTold result StreamFault.WriteFailed
-            (StaysSound (O.has_failed out.old) (O.has_failed out.new)) }
+        ensures read { IsErrOf result StreamFault.ReadFailed → streams.new.at.read_failed ≡ true }
+        ensures written { IsErrOf result StreamFault.WriteFailed → FailsToPut streams.new.at }
     {
-        match self.caller.ask(source, sink, out, err) {
+        match self.caller.ask(streams) {
             Ok(()) => {}
             Err(fault) => return Err(fault),
         }
-        greet(self.caller.client.has_ended(), self.caller.version, err);
+        greet(
+            self.caller.client.has_ended(),
+            self.caller.version,
+            &mut streams.err,
+        );
         Ok(())
     }
 
@@ -80,34 +74,19 @@ impl Conversation {
     fn take<S: Peer, T: Sink, O: Sink, E: Sink>(
         &mut self,
         piece: &[u8],
-        source: &mut S,
-        sink: &mut T,
-        out: &mut O,
-        err: &mut E,
+        streams: &mut ShellStreams<S, T, O, E>,
     ) -> Result<(), StopReason>
-        requires { LetsRead S.may_read (λ s. IsTurnWithin
-            (streams_of S.left T.taken O.taken E.taken E.has_failed source.old sink.old out.old err.old)
-            self.old (S.left s)) }
+        requires { LetsRead S.may_read (λ s. IsTurnWithin streams.old.at self.old (S.left s)) }
         ensures takes { (start : Streams) (script : List ℕ)
-            → Progress start
-            (streams_of S.left T.taken O.taken E.taken E.has_failed source.old sink.old out.old err.old)
-            script self.old
-            → Takes start
-            (streams_of S.left T.taken O.taken E.taken E.has_failed source.new sink.new out.new err.new)
-            script piece.now self.new result }
+            → Progress start streams.old.at script self.old
+            → Takes start streams.new.at script piece.now self.new result }
         ensures read { IsErrOf result (StopReason.Broken StreamFault.ReadFailed)
-            → S.has_failed source.new ≡ true }
+            → streams.new.at.read_failed ≡ true }
         ensures written { IsErrOf result (StopReason.Broken StreamFault.WriteFailed)
-            → (T.has_failed sink.new ≡ true) ⊎ (O.has_failed out.new ≡ true) }
-        ensures source { UnlessTold result (StopReason.Broken StreamFault.ReadFailed)
-            (StaysSound (S.has_failed source.old) (S.has_failed source.new)) }
-        ensures sink { UnlessTold result (StopReason.Broken StreamFault.WriteFailed)
-            (StaysSound (T.has_failed sink.old) (T.has_failed sink.new)) }
-        ensures out { UnlessTold result (StopReason.Broken StreamFault.WriteFailed)
-            (StaysSound (O.has_failed out.old) (O.has_failed out.new)) }
+            → FailsToPut streams.new.at }
     {
         for byte in piece {
-            match self.take_byte(*byte, source, sink, out, err) {
+            match self.take_byte(*byte, streams) {
                 Ok(()) => {}
                 Err(stop) => return Err(stop),
             }
@@ -119,31 +98,16 @@ impl Conversation {
     fn take_byte<S: Peer, T: Sink, O: Sink, E: Sink>(
         &mut self,
         byte: u8,
-        source: &mut S,
-        sink: &mut T,
-        out: &mut O,
-        err: &mut E,
+        streams: &mut ShellStreams<S, T, O, E>,
     ) -> Result<(), StopReason>
-        requires { LetsRead S.may_read (λ s. IsTurnWithin
-            (streams_of S.left T.taken O.taken E.taken E.has_failed source.old sink.old out.old err.old)
-            self.old (S.left s)) }
+        requires { LetsRead S.may_read (λ s. IsTurnWithin streams.old.at self.old (S.left s)) }
         ensures takes { (start : Streams) (script : List ℕ)
-            → Progress start
-            (streams_of S.left T.taken O.taken E.taken E.has_failed source.old sink.old out.old err.old)
-            script self.old
-            → TakesByte start
-            (streams_of S.left T.taken O.taken E.taken E.has_failed source.new sink.new out.new err.new)
-            script byte self.new result }
+            → Progress start streams.old.at script self.old
+            → TakesByte start streams.new.at script byte self.new result }
         ensures read { IsErrOf result (StopReason.Broken StreamFault.ReadFailed)
-            → S.has_failed source.new ≡ true }
+            → streams.new.at.read_failed ≡ true }
         ensures written { IsErrOf result (StopReason.Broken StreamFault.WriteFailed)
-            → (T.has_failed sink.new ≡ true) ⊎ (O.has_failed out.new ≡ true) }
-        ensures source { UnlessTold result (StopReason.Broken StreamFault.ReadFailed)
-            (StaysSound (S.has_failed source.old) (S.has_failed source.new)) }
-        ensures sink { UnlessTold result (StopReason.Broken StreamFault.WriteFailed)
-            (StaysSound (T.has_failed sink.old) (T.has_failed sink.new)) }
-        ensures out { UnlessTold result (StopReason.Broken StreamFault.WriteFailed)
-            (StaysSound (O.has_failed out.old) (O.has_failed out.new)) }
+            → FailsToPut streams.new.at }
     {
         if byte != b'\n' {
             return match self.begun.push(byte) {
@@ -151,7 +115,7 @@ impl Conversation {
                 Err(_) => Err(StopReason::Broken(StreamFault::Memory)),
             };
         }
-        match self.send(source, sink, out, err) {
+        match self.send(streams) {
             Ok(()) => {}
             Err(stop) => return Err(stop),
         }
@@ -166,33 +130,19 @@ impl Conversation {
     /// Sends the line that was begun, unless it is empty.
     fn send<S: Peer, T: Sink, O: Sink, E: Sink>(
         &mut self,
-        source: &mut S,
-        sink: &mut T,
-        out: &mut O,
-        err: &mut E,
+        streams: &mut ShellStreams<S, T, O, E>,
     ) -> Result<(), StopReason>
-        requires { LetsRead S.may_read (λ s. IsTurnAfter
-            (streams_of S.left T.taken O.taken E.taken E.has_failed source.old sink.old out.old err.old)
-            self.old.caller (S.left s)) }
+        requires { LetsRead S.may_read (λ s. IsTurnAfter streams.old.at self.old.caller (S.left s)) }
         ensures sends { (start : Streams) (done : List (ℕ × Text))
-            → Stands None start
-            (streams_of S.left T.taken O.taken E.taken E.has_failed source.old sink.old out.old err.old)
-            done (IsAt self.old.caller)
-            → Sends start
-            (streams_of S.left T.taken O.taken E.taken E.has_failed source.new sink.new out.new err.new)
-            done self.old.number self.old.begun.items self.new.caller result }
+            → Stands None start streams.old.at done (IsAt self.old.caller)
+            → Does (result_err result) start streams.new.at done
+            (if_filled self.old.number self.old.begun.items) (IsAt self.new.caller) }
         ensures begun { self.new.begun ≡ self.old.begun }
         ensures number { self.new.number ≡ self.old.number }
         ensures read { IsErrOf result (StopReason.Broken StreamFault.ReadFailed)
-            → S.has_failed source.new ≡ true }
+            → streams.new.at.read_failed ≡ true }
         ensures written { IsErrOf result (StopReason.Broken StreamFault.WriteFailed)
-            → (T.has_failed sink.new ≡ true) ⊎ (O.has_failed out.new ≡ true) }
-        ensures source { UnlessTold result (StopReason.Broken StreamFault.ReadFailed)
-            (StaysSound (S.has_failed source.old) (S.has_failed source.new)) }
-        ensures sink { UnlessTold result (StopReason.Broken StreamFault.WriteFailed)
-            (StaysSound (T.has_failed sink.old) (T.has_failed sink.new)) }
-        ensures out { UnlessTold result (StopReason.Broken StreamFault.WriteFailed)
-            (StaysSound (O.has_failed out.old) (O.has_failed out.new)) }
+            → FailsToPut streams.new.at }
     {
         if self.begun.is_empty() {
             return Ok(());
@@ -202,7 +152,7 @@ impl Conversation {
             Err(LineFault::Unreadable) => return Err(StopReason::Unreadable(self.number)),
             Err(LineFault::Memory) => return Err(StopReason::Broken(StreamFault::Memory)),
         };
-        match self.submit(request, source, sink, out, err) {
+        match self.submit(request, streams) {
             Ok(()) => Ok(()),
             Err(fault) => Err(StopReason::Broken(fault)),
         }
@@ -212,36 +162,21 @@ impl Conversation {
     fn submit<S: Peer, T: Sink, O: Sink, E: Sink>(
         &mut self,
         request: ScriptRequest,
-        source: &mut S,
-        sink: &mut T,
-        out: &mut O,
-        err: &mut E,
+        streams: &mut ShellStreams<S, T, O, E>,
     ) -> Result<(), StreamFault>
-        requires { LetsRead S.may_read (λ s. IsTurnAfter
-            (streams_of S.left T.taken O.taken E.taken E.has_failed source.old sink.old out.old err.old)
-            self.old.caller (S.left s)) }
+        requires { LetsRead S.may_read (λ s. IsTurnAfter streams.old.at self.old.caller (S.left s)) }
         ensures submits { (start : Streams) (done : List (ℕ × Text)) (line : Text)
             → request_line_of line ≡ Some (script_request_view request)
-            → Stands None start
-            (streams_of S.left T.taken O.taken E.taken E.has_failed source.old sink.old out.old err.old)
-            done (IsAt self.old.caller)
-            → DoesLine start
-            (streams_of S.left T.taken O.taken E.taken E.has_failed source.new sink.new out.new err.new)
-            done self.old.number line self.new.caller result }
+            → Stands None start streams.old.at done (IsAt self.old.caller)
+            → Does (option_map StopReason.Broken (result_err result)) start streams.new.at done
+            ((self.old.number, line) ∷ []) (IsAt self.new.caller) }
         ensures begun { self.new.begun ≡ self.old.begun }
         ensures number { self.new.number ≡ self.old.number }
-        ensures read { IsErrOf result StreamFault.ReadFailed → S.has_failed source.new ≡ true }
-        ensures written { IsErrOf result StreamFault.WriteFailed
-            → (T.has_failed sink.new ≡ true) ⊎ (O.has_failed out.new ≡ true) }
-        ensures source { UnlessTold result StreamFault.ReadFailed
-            (StaysSound (S.has_failed source.old) (S.has_failed source.new)) }
-        ensures sink { UnlessTold result StreamFault.WriteFailed
-            (StaysSound (T.has_failed sink.old) (T.has_failed sink.new)) }
-        ensures out { UnlessTold result StreamFault.WriteFailed
-            (StaysSound (O.has_failed out.old) (O.has_failed out.new)) }
+        ensures read { IsErrOf result StreamFault.ReadFailed → streams.new.at.read_failed ≡ true }
+        ensures written { IsErrOf result StreamFault.WriteFailed → FailsToPut streams.new.at }
     {
-        match self.caller.submit(self.number, request, out) {
-            Ok(true) => self.caller.ask(source, sink, out, err),
+        match self.caller.submit(self.number, request, &mut streams.out) {
+            Ok(true) => self.caller.ask(streams),
             Ok(false) => Ok(()),
             Err(fault) => Err(fault),
         }
@@ -252,35 +187,22 @@ impl Conversation {
 fn run<I: Source, S: Peer, T: Sink, O: Sink, E: Sink>(
     alloc: Global,
     input: &mut I,
-    source: &mut S,
-    sink: &mut T,
-    out: &mut O,
-    err: &mut E,
+    streams: &mut ShellStreams<S, T, O, E>,
 ) -> Result<(), StopReason>
-    requires { LetsRead S.may_read (λ s. IsServersTurn
-        (streams_of S.left T.taken O.taken E.taken E.has_failed source.old sink.old out.old err.old)
-        (S.left s)) }
-    ensures runs { Runs (result_err result) (I.left input.old) (I.left input.new)
-        (streams_of S.left T.taken O.taken E.taken E.has_failed source.old sink.old out.old err.old)
-        (streams_of S.left T.taken O.taken E.taken E.has_failed source.new sink.new out.new err.new) }
+    requires { LetsRead S.may_read (λ s. IsServersTurn streams.old.at (S.left s)) }
+    ensures runs { Runs (result_err result) (I.left input.old) (I.left input.new) streams.old.at streams.new.at }
     ensures read { IsErrOf result (StopReason.Broken StreamFault.ReadFailed)
-        → (I.has_failed input.new ≡ true) ⊎ (S.has_failed source.new ≡ true) }
+        → (I.has_failed input.new ≡ true) ⊎ (streams.new.at.read_failed ≡ true) }
     ensures written { IsErrOf result (StopReason.Broken StreamFault.WriteFailed)
-        → (T.has_failed sink.new ≡ true) ⊎ (O.has_failed out.new ≡ true) }
+        → FailsToPut streams.new.at }
     ensures input { UnlessTold result (StopReason.Broken StreamFault.ReadFailed)
         (StaysSound (I.has_failed input.old) (I.has_failed input.new)) }
-    ensures source { UnlessTold result (StopReason.Broken StreamFault.ReadFailed)
-        (StaysSound (S.has_failed source.old) (S.has_failed source.new)) }
-    ensures sink { UnlessTold result (StopReason.Broken StreamFault.WriteFailed)
-        (StaysSound (T.has_failed sink.old) (T.has_failed sink.new)) }
-    ensures out { UnlessTold result (StopReason.Broken StreamFault.WriteFailed)
-        (StaysSound (O.has_failed out.old) (O.has_failed out.new)) }
 {
     let mut conversation = match Conversation::new(alloc) {
         Ok(conversation) => conversation,
         Err(fault) => return Err(StopReason::Broken(fault)),
     };
-    match conversation.begin(source, sink, out, err) {
+    match conversation.begin(streams) {
         Ok(()) => {}
         Err(fault) => return Err(StopReason::Broken(fault)),
     }
@@ -290,22 +212,22 @@ fn run<I: Source, S: Peer, T: Sink, O: Sink, E: Sink>(
             return Err(StopReason::Broken(StreamFault::ReadFailed));
         };
         if len == 0 {
-            return conversation.send(source, sink, out, err);
+            return conversation.send(streams);
         }
-        match conversation.take(&buffer[..len], source, sink, out, err) {
+        match conversation.take(&buffer[..len], streams) {
             Ok(()) => {}
             Err(stop) => return Err(stop),
         }
     }
 }
 
-/// Opens a conversation with the server behind `source` and `sink`, as a client that takes the newest version, and submits the
-/// requests of the input, a line each. After each it waits for all answers, and prints on `out`, as they come, each `row HEX`, each
+/// Opens a conversation with the server behind `streams.source` and `streams.sink`, as a client that takes the newest version, and submits the
+/// requests of the input, a line each. After each it waits for all answers, and prints on `streams.out`, as they come, each `row HEX`, each
 /// `heard ORDINAL OUTCOME PHASE`, and after that of a FAILURE `fault CODE MESSAGE`. A request that the client refuses is printed as
-/// `line I C1`, with its number and the code. A line that can't be read ends it, with `line I unreadable` on `err`, and on the next line what
-/// is expected there.
+/// `line I C1`, with its number and the code. A line that can't be read ends it, with `line I unreadable` on `streams.err`, and on the next line
+/// what is expected there.
 ///
-/// On `err` it says the version that was taken and how a line looks, before it reads one. Whatever ends the conversation (the server is
+/// On `streams.err` it says the version that was taken and how a line looks, before it reads one. Whatever ends the conversation (the server is
 /// gone, a bad answer, a stream that fails, want of memory), each request that waited for an answer is told as `lost ORDINAL OUTCOME`
 /// there, before the fault.
 ///
@@ -314,36 +236,24 @@ fn run<I: Source, S: Peer, T: Sink, O: Sink, E: Sink>(
 pub fn shell<I: Source, S: Peer, T: Sink, O: Sink, E: Sink>(
     alloc: Global,
     input: &mut I,
-    source: &mut S,
-    sink: &mut T,
-    out: &mut O,
-    err: &mut E,
+    streams: &mut ShellStreams<S, T, O, E>,
 ) -> u8
     // A server that says when it may be read has to allow it where an answer is still to come after the bytes that were read, and it was sent all
     // that is asked, for at most 4,096 bytes. No other read is made.
-    requires { LetsRead S.may_read (λ s. IsServersTurn
-        (streams_of S.left T.taken O.taken E.taken E.has_failed source.old sink.old out.old err.old)
-        (S.left s)) }
+    requires { LetsRead S.may_read (λ s. IsServersTurn streams.old.at (S.left s)) }
     // The status says why it stops. Its lines are those of the input, up to its end or to the first that can't be read, whose number is told;
     // what was sent, read, printed and told is what the conversation over them has, each outcome at a loss with it.
-    ensures shells { Shells result ((I.has_failed input.new ≡ true) ⊎ (S.has_failed source.new ≡ true))
-        ((T.has_failed sink.new ≡ true) ⊎ (O.has_failed out.new ≡ true)) (I.left input.old)
-        (I.left input.new)
-        (streams_of S.left T.taken O.taken E.taken E.has_failed source.old sink.old out.old err.old)
-        (streams_of S.left T.taken O.taken E.taken E.has_failed source.new sink.new out.new err.new) }
+    ensures shells { Shells result (I.has_failed input.new) (I.left input.old) (I.left input.new)
+        streams.old.at streams.new.at }
     // Whatever ends it, each request that was sent has one line, `heard` or `lost` with its ordinal, on standard output or on standard error;
     // but for a GOODBYE to which no answer is awaited.
-    ensures accounts { Accounts
-        (streams_of S.left T.taken O.taken E.taken E.has_failed source.old sink.old out.old err.old)
-        (streams_of S.left T.taken O.taken E.taken E.has_failed source.new sink.new out.new err.new) }
+    ensures accounts { Accounts streams.old.at streams.new.at }
     // A stream that fails is told so, with status 1: none fails where another is answered.
     ensures sound { (result ≡ 1 → ⊥) → StaysSound (I.has_failed input.old) (I.has_failed input.new)
-        × StaysSound (S.has_failed source.old) (S.has_failed source.new)
-        × StaysSound (T.has_failed sink.old) (T.has_failed sink.new)
-        × StaysSound (O.has_failed out.old) (O.has_failed out.new) }
+        × IsSound streams.old.at streams.new.at }
 {
-    match run(alloc, input, source, sink, out, err) {
+    match run(alloc, input, streams) {
         Ok(()) => 0,
-        Err(stop) => put_stop(stop, err),
+        Err(stop) => put_stop(stop, &mut streams.err),
     }
 }

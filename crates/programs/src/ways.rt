@@ -1,4 +1,4 @@
-//! The streams that a loop runs over.
+//! The streams that a loop and a shell run over.
 use std::marker::Model;
 use streams::{Peer, Sink};
 
@@ -47,6 +47,36 @@ impl<A: Peer, B: Sink, C: Peer, D: Sink, O: Sink> Model for BothWays<A, B, C, D,
         down = w.down.at;
         out = O.taken w.out;
         out_failed = O.has_failed w.out;
+      };
+    } };
+}
+
+/// The streams of a shell: what comes of its server and what is sent there, where its lines are printed, and where it tells what no line says.
+#[derive(Drop)]
+pub struct ShellStreams<S: Peer, T: Sink, O: Sink, E: Sink> {
+    pub source: S,
+    pub sink: T,
+    pub out: O,
+    pub err: E,
+}
+
+impl<S: Peer, T: Sink, O: Sink, E: Sink> Model for ShellStreams<S, T, O, E> {
+    ghost use Rattle.programs.specs.Ways.{Seen, Streams};
+
+    ghost Value = { Seen (S × T × O × E) Streams };
+
+    ghost view = { λ w. record {
+      held = (w.source, w.sink, w.out, w.err);
+      at = record {
+        left = S.left w.source;
+        reads = S.reads w.source;
+        written = T.taken w.sink;
+        printed = O.taken w.out;
+        told = E.taken w.err;
+        read_failed = S.has_failed w.source;
+        write_failed = T.has_failed w.sink;
+        print_failed = O.has_failed w.out;
+        deaf = E.has_failed w.err;
       };
     } };
 }

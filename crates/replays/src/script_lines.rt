@@ -32,7 +32,8 @@ pub fn run<E: Engine, G: Gate>(
     ensures { (gate : G) (brought : List EntryView) (w : WorldSeen)
         → Reached (setting_of E.answer G.accepts gate) brought w
         → FitsWorld E.entries world.old gate w
-        → LeadsBy E.entries (setting_of E.answer G.accepts gate) gate brought (λ text. Runs (setting_of E.answer G.accepts gate) w (said_lines lines.items) (string_bytes text)) result world.new }
+        → LeadsBy E.entries (setting_of E.answer G.accepts gate) gate brought
+        (λ text. Runs (setting_of E.answer G.accepts gate) w (said_lines lines.items) (string_bytes text)) result world.new }
 {
     let mut text = String::new(alloc);
     for line in lines {
@@ -76,7 +77,8 @@ fn do_line<E: Engine, G: Gate>(
     ensures { (gate : G) (brought : List EntryView) (w : WorldSeen)
         → Reached (setting_of E.answer G.accepts gate) brought w
         → FitsWorld E.entries world.old gate w
-        → LeadsBy E.entries (setting_of E.answer G.accepts gate) gate brought (λ code. Does (setting_of E.answer G.accepts gate) w (line_view line) (option_map (λ t. t.now) code)) result world.new }
+        → LeadsBy E.entries (setting_of E.answer G.accepts gate) gate brought
+        (λ code. Does (setting_of E.answer G.accepts gate) w (line_view line) (option_map (λ t. t.now) code)) result world.new }
 {
     let version = version_at(world, conn_of(&line));
     let again = repeats(&line);
@@ -130,7 +132,8 @@ fn once<E: Engine, G: Gate>(
     ensures { (gate : G) (brought : List EntryView) (w : WorldSeen)
         → Reached (setting_of E.answer G.accepts gate) brought w
         → FitsWorld E.entries world.old gate w
-        → LeadsBy E.entries (setting_of E.answer G.accepts gate) gate brought (λ code. Once (setting_of E.answer G.accepts gate) w (event_of event) (option_map (λ t. t.now) code)) result world.new }
+        → LeadsBy E.entries (setting_of E.answer G.accepts gate) gate brought
+        (λ code. Once (setting_of E.answer G.accepts gate) w (event_of event) (option_map (λ t. t.now) code)) result world.new }
 {
     let done = take_step(world, event)?;
     Ok(done.code)
@@ -144,7 +147,8 @@ fn repeat<E: Engine, G: Gate>(
     ensures { (gate : G) (brought : List EntryView) (w : WorldSeen)
         → Reached (setting_of E.answer G.accepts gate) brought w
         → FitsWorld E.entries world.old gate w
-        → LeadsBy E.entries (setting_of E.answer G.accepts gate) gate brought (λ code. Repeats (setting_of E.answer G.accepts gate) w (event_of event.now) (option_map (λ t. t.now) code)) result world.new }
+        → LeadsBy E.entries (setting_of E.answer G.accepts gate) gate brought
+        (λ code. Repeats (setting_of E.answer G.accepts gate) w (event_of event.now) (option_map (λ t. t.now) code)) result world.new }
 {
     for _time in 0..u64::MAX {
         let again = event.clone()?;

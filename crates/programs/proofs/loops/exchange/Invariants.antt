@@ -1,16 +1,13 @@
-use Rattle.std.proofs.Common.{length, IsSome}
+use Rattle.std.proofs.Common.{length, IsSome, None}
 use Rattle.server.specs.Prelude.{Rest, find, setting, Fits}
-use Rattle.streams.specs.Prelude.{IsLive, LivesOn}
-use Rattle.programs.specs.Prelude.{Comes, Passed, Ways, Turns}
+use Rattle.programs.specs.Prelude.{Comes, GoesOn, Ways, Turns}
 use Rattle.programs.proofs.Looped.{PartGiven}
 use Rattle.programs.proofs.loops.exchange.Given as goal
 
 -- some of what the client has to send was given
 abbrev pub invariant-loop-rest : goal.invariant-loop-rest
 invariant-loop-rest g l = record {
-  live : IsLive g.E.Engine.entries l.fn.conn l.server;
-  grows : LivesOn l.fn.conn (Fits g.E.Engine.entries l.fn.server) (Fits g.E.Engine.entries l.server);
-  passed : Passed l.fn.ways.at l.ways.at;
+  moves : GoesOn None l.fn.conn (Fits g.E.Engine.entries l.fn.server) (Fits g.E.Engine.entries l.server) l.fn.ways.at l.ways.at;
   comes : (r : Rest g.row.G.Denot) (start : Ways) (t : Turns) → IsSome (find l.fn.conn r.sessions)
       → Comes r l.fn.conn (setting g.E.Engine.answer g.G.Gate.accepts r) start l.fn.ways.at t l.fn.pair (Fits g.E.Engine.entries l.fn.server)
       → PartGiven r l.fn.conn (setting g.E.Engine.answer g.G.Gate.accepts r) start l.ways.at t l.pair (Fits g.E.Engine.entries l.server) l.rest;

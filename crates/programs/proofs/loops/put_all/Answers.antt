@@ -1,10 +1,9 @@
-use Rattle.std.proofs.Common.{◌≡◌, ◌∙◌, ◌++◌, ◌∷◌, [], append_assoc, rules, refl, sym, ap, subst, map, List}
+use Rattle.std.proofs.Common.{◌≡◌, ◌∙◌, ◌++◌, ◌∷◌, [], append_assoc, rules, refl, sym, ap, subst, map, List, Err}
 use Rattle.std.proofs.lemmas.List.{nil_from_length}
 use Rattle.client.specs.declared.heard.Heard.{Heard}
 use Rattle.client.specs.Prelude.{note}
 use Rattle.streams.proofs.Parts.{all_done}
 use Rattle.programs.specs.Prelude.{PrintsUpTo, notes_shown}
-use Rattle.programs.proofs.Looped.{on_err_so}
 use Rattle.programs.proofs.Turned.{notes_cut, notes_next, prints_none, version_next}
 use Rattle.programs.proofs.loops.put_all.Goals as goal
 
@@ -22,18 +21,16 @@ loop-one-preserved g c =
       parts = append_assoc c.loop-one.yielded (c.in-Some.one ∷ []) c.next.new.self.rest.items ∙ ap (λ xs. c.loop-one.yielded ++ xs) (sym c.in-Some.ensures.steps.0) ∙ so.parts;
     }
 
-pub returns-in_err-put_heard-clause-breaks : goal.returns-in_err-put_heard-clause-breaks
-returns-in_err-put_heard-clause-breaks g c =
+pub returns-in_err-put_heard-clause-prints : goal.returns-in_err-put_heard-clause-prints
+returns-in_err-put_heard-clause-prints g c =
     let so = c.loop-one.invariant in
     let v = c.args.caller.now.version in
     let all : c.loop-one.yielded ++ (c.in-Some.one ∷ c.next.new.self.rest.items) ≡ c.args.heard.items = ap (λ xs. c.loop-one.yielded ++ xs) (sym c.in-Some.ensures.steps.0) ∙ so.parts in
-    on_err_so c.from_residual.result (subst (λ (xs : List Heard). PrintsUpTo (notes_shown v (map note xs)) (g.O.Sink.taken c.args.out.now) (g.O.Sink.taken c.put_heard.new.out)) all
+    let told : c.from_residual.result ≡ Err c.in_err-put_heard.field-0.0 = search rules in
+    rw told (subst (λ (xs : List Heard). PrintsUpTo (notes_shown v (map note xs)) (g.O.Sink.taken c.args.out.now) (g.O.Sink.taken c.put_heard.new.out)) all
     (notes_cut v note c.loop-one.yielded c.in-Some.one c.next.new.self.rest.items c.loop-one.caller.version c.in_err-put_heard.field-0.0 _ _ _ so.version so.prints c.in_err-put_heard.ensures.puts))
 
 pub returns-clause-prints : goal.returns-clause-prints
 returns-clause-prints g c =
-    rw (← all_done c.loop-one.yielded c.loop-one.one-iterator.rest.items c.args.heard.items (nil_from_length c.loop-one.one-iterator.rest.items (search rules)) c.loop-one.invariant.parts) c.loop-one.invariant.prints
-
-pub returns-clause-version : goal.returns-clause-version
-returns-clause-version g c =
-    rw (← all_done c.loop-one.yielded c.loop-one.one-iterator.rest.items c.args.heard.items (nil_from_length c.loop-one.one-iterator.rest.items (search rules)) c.loop-one.invariant.parts) c.loop-one.invariant.version
+    let so = c.loop-one.invariant in
+    rw (← all_done c.loop-one.yielded c.loop-one.one-iterator.rest.items c.args.heard.items (nil_from_length c.loop-one.one-iterator.rest.items (search rules)) so.parts) (so.prints, so.version)

@@ -18,4 +18,4 @@ returns-in-Err-Memory-clause-breaks g c = λ n r f none. breaks_none r (setting 
 pub returns-in_err-run_opened-clause-breaks : goal.returns-in_err-run_opened-clause-breaks
 returns-in_err-run_opened-clause-breaks g c =
     let p = err_from_is_err_and c.from_residual.result c.from_residual.ensures.1 in
-    rw p.1 (λ n r f none. rw (← c.in-Ok.ensures.1) (c.in_err-run_opened.ensures.breaks r f none))
+    rw p.1 (λ n r f none. rw (← c.in-Ok.ensures.1) (c.in_err-run_opened.ensures.loops r f none))

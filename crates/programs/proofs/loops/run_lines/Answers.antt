@@ -1,43 +1,43 @@
-use Rattle.std.proofs.Common.{◌≡◌, ◌∙◌, ◌++◌, ◌∷◌, [], append_assoc, rules, sym, ap, subst, List, ℕ, Err}
+use Rattle.std.proofs.Common.{◌≡◌, ◌∙◌, ◌++◌, ◌∷◌, [], append_assoc, inl, inr, refl, rules, sym, ap, subst, List, ℕ, Err}
 use Rattle.std.proofs.lemmas.List.{map-append, nil_from_length}
 use Rattle.server.specs.Prelude.{setting, Fits}
 use Rattle.scripts.specs.Prelude.{said_requests, ScriptRequestView, script_request_view}
-use Rattle.streams.proofs.Called.{lives_then}
+use Rattle.streams.proofs.Called.{live_then}
 use Rattle.streams.proofs.Parts.{all_done}
-use Rattle.programs.specs.Prelude.{Comes, AreQuiet, Turns, after_lines, at_first, at_line, exchanged, no_turns, turns_of}
-use Rattle.programs.proofs.Looped.{fails_after, lets_after, on_err_so, passed_then}
+use Rattle.programs.specs.Prelude.{BreaksAt, Comes, AreQuiet, Turns, after_lines, exchanged, no_turns, stages, turns_of}
+use Rattle.programs.proofs.Broken.{breaks_in_line}
+use Rattle.programs.proofs.Looped.{goes_then, lets_after}
 use Rattle.programs.proofs.Turned.{lines_more, quiet_last, quiet_more}
 use Rattle.programs.proofs.loops.run_lines.Goals as goal
 
-pub returns-in_err-exchange-clause-breaks : goal.returns-in_err-exchange-clause-breaks
-returns-in_err-exchange-clause-breaks g c = λ r start i h. on_err_so c.from_residual.result (at_first (c.in_err-exchange.ensures.breaks r start no_turns i h))
+pub returns-in_err-exchange-clause-moves : goal.returns-in_err-exchange-clause-moves
+returns-in_err-exchange-clause-moves g c =
+    let told : c.from_residual.result ≡ Err c.in_err-exchange.field-0.0 = search rules in
+    rw told c.in_err-exchange.ensures.moves
+
+pub returns-in_err-exchange-clause-comes : goal.returns-in_err-exchange-clause-comes
+returns-in_err-exchange-clause-comes g c = λ r start i h.
+    let told : c.from_residual.result ≡ Err c.in_err-exchange.field-0.0 = search rules in
+    rw told (inl (c.in_err-exchange.ensures.comes r start no_turns i h))
 
 pub loop-line-init : goal.loop-line-init
-loop-line-init g c = record {
-  live = c.exchange.ensures.live;
-  grows = c.exchange.ensures.grows;
-  passed = c.in_ok-exchange.ensures.passed;
-  parts = c.into_iter-line-iterator.ensures.into_iter_gives.0;
-  comes = λ r start i h. c.in_ok-exchange.ensures.comes r start no_turns i h;
-}
+loop-line-init g c = record { moves = c.in_ok-exchange.ensures.moves; parts = c.into_iter-line-iterator.ensures.into_iter_gives.0; comes = λ r start i h. c.in_ok-exchange.ensures.comes r start no_turns i h }
 
 pub run_line-requires-clause-live : goal.run_line-requires-clause-live
-run_line-requires-clause-live g c = c.loop-line.invariant.live
+run_line-requires-clause-live g c = live_then c.args.conn (Fits g.E.Engine.entries c.args.server.now) (Fits g.E.Engine.entries c.loop-line.server) c.loop-line.invariant.moves.lives c.requires.live
 
 pub run_line-requires-clause-near : goal.run_line-requires-clause-near
-run_line-requires-clause-near g c = lets_after c.loop-line.invariant.passed.1 c.requires.near
+run_line-requires-clause-near g c = lets_after (c.loop-line.invariant.moves.passed refl).1 c.requires.near
 
 pub run_line-requires-clause-far : goal.run_line-requires-clause-far
-run_line-requires-clause-far g c = lets_after c.loop-line.invariant.passed.0 c.requires.far
+run_line-requires-clause-far g c = lets_after (c.loop-line.invariant.moves.passed refl).0 c.requires.far
 
 pub loop-line-preserved : goal.loop-line-preserved
 loop-line-preserved g c =
     let so = c.loop-line.invariant in
     let done = c.loop-line.yielded in
     record {
-      live = c.run_line.ensures.live;
-      grows = lives_then c.args.conn (Fits g.E.Engine.entries c.args.server.now) (Fits g.E.Engine.entries c.loop-line.server) (Fits g.E.Engine.entries c.run_line.new.server) so.grows c.run_line.ensures.grows;
-      passed = passed_then c.args.ways.now.at c.loop-line.ways.at c.run_line.new.ways.at so.passed c.in_ok-run_line.ensures.passed;
+      moves = goes_then c.args.conn so.moves c.in_ok-run_line.ensures.moves;
       parts = append_assoc done (c.in-Some.line ∷ []) c.next.new.self.rest.items ∙ ap (λ xs. done ++ xs) (sym c.in-Some.ensures.steps.0) ∙ so.parts;
       comes = λ r start i h.
           let p = so.comes r start i h in
@@ -48,29 +48,27 @@ loop-line-preserved g c =
           let one : ℕ × ScriptRequestView = (c.in-Some.line.number, script_request_view c.in-Some.line.said) in
           let n = c.in_ok-run_line.ensures.comes r start (after_lines S c.args.conn r.ledger first ls) i p.0 in
           subst (λ (z : List (ℕ × ScriptRequestView)). Came (after_lines S c.args.conn r.ledger first z) × AreQuiet S c.args.conn r.ledger first z) (sym (map-append (λ l. (l.number, script_request_view l.said)) done (c.in-Some.line ∷ [])))
-          (subst Came (sym (lines_more S c.args.conn r.ledger first ls one)) n.0, quiet_more S c.args.conn r.ledger first ls one p.1 (n.1 (quiet_last S c.args.conn r.ledger first ls p.1)));
+          (subst Came (sym (lines_more S c.args.conn r.ledger first ls one)) n.comes, quiet_more S c.args.conn r.ledger first ls one p.1 (n.quiet (quiet_last S c.args.conn r.ledger first ls p.1)));
     }
 
-pub returns-in_err-run_line-clause-grows : goal.returns-in_err-run_line-clause-grows
-returns-in_err-run_line-clause-grows g c = lives_then c.args.conn (Fits g.E.Engine.entries c.args.server.now) (Fits g.E.Engine.entries c.loop-line.server) (Fits g.E.Engine.entries c.run_line.new.server) c.loop-line.invariant.grows c.run_line.ensures.grows
+pub returns-in_err-run_line-clause-moves : goal.returns-in_err-run_line-clause-moves
+returns-in_err-run_line-clause-moves g c =
+    let told : c.from_residual-in_err-run_line.result ≡ Err c.in_err-run_line.field-0.0 = search rules in
+    rw told (goes_then c.args.conn c.loop-line.invariant.moves c.in_err-run_line.ensures.moves)
 
-pub returns-in_err-run_line-clause-read : goal.returns-in_err-run_line-clause-read
-returns-in_err-run_line-clause-read g c = λ e.
-    let q : c.from_residual-in_err-run_line.result ≡ Err c.in_err-run_line.field-0.0 = search rules in
-    fails_after c.args.ways.now.at c.loop-line.ways.at c.run_line.new.ways.at c.loop-line.invariant.passed (c.in_err-run_line.ensures.read (sym q ∙ e))
-
-pub returns-in_err-run_line-clause-breaks : goal.returns-in_err-run_line-clause-breaks
-returns-in_err-run_line-clause-breaks g c = λ r start i h.
+pub returns-in_err-run_line-clause-comes : goal.returns-in_err-run_line-clause-comes
+returns-in_err-run_line-clause-comes g c = λ r start i h.
     let so = c.loop-line.invariant in
     let done = c.loop-line.yielded in
     let p = so.comes r start i h in
     let S = setting g.E.Engine.answer g.G.Gate.accepts r in
     let line = c.in-Some.line in
     let rest = c.next.new.self.rest.items in
+    let first = exchanged S c.args.conn r.ledger no_turns in
     let all : done ++ (line ∷ rest) ≡ c.args.lines.items = ap (λ xs. done ++ xs) (sym c.in-Some.ensures.steps.0) ∙ so.parts in
-    on_err_so c.from_residual-in_err-run_line.result (at_line (said_requests done) (line.number, script_request_view line.said) (said_requests rest)
-    (ap said_requests (sym all) ∙ map-append (λ l. (l.number, script_request_view l.said)) done (line ∷ rest))
-    (c.in_err-run_line.ensures.breaks r start (turns_of S c.args.conn r.ledger (said_requests done)) i p.0))
+    let here = breaks_in_line S c.args.conn r.ledger first (said_requests done) (line.number, script_request_view line.said) (said_requests rest) (c.in_err-run_line.ensures.comes r start (turns_of S c.args.conn r.ledger (said_requests done)) i p.0) in
+    let told : c.from_residual-in_err-run_line.result ≡ Err c.in_err-run_line.field-0.0 = search rules in
+    rw told (inr (subst (λ (ls : List (ℕ × ScriptRequestView)). BreaksAt S c.args.conn r.ledger start c.run_line.new.ways.at (stages S c.args.conn r.ledger first ls)) (sym (ap said_requests (sym all) ∙ map-append (λ l. (l.number, script_request_view l.said)) done (line ∷ rest))) here))
 
 pub returns-clause-comes : goal.returns-clause-comes
 returns-clause-comes g c = λ r start i h.

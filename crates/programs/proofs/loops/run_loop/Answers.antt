@@ -1,4 +1,4 @@
-use Rattle.std.proofs.Common.{◌≡◌, sym, ◌∙◌, ap, refl, Some, None, Err, ⊎_elim, ℕ}
+use Rattle.std.proofs.Common.{sym, ◌∙◌, ap, refl, Some, None, Err, ⊎_elim}
 use Rattle.std.proofs.KnownBytes.{Appends-nil}
 use Rattle.programs.proofs.Stops.{never_well, stop_of}
 use Rattle.programs.proofs.Looped.{tells_line}
@@ -23,13 +23,7 @@ returns-in-Err-clause-unreadable g c = λ e. c.in-Err.ensures.unreadable (sym c.
 
 pub returns-in-Err-clause-breaks : goal.returns-in-Err-clause-breaks
 returns-in-Err-clause-breaks g c = λ e r f none.
-    c.in-Err.ensures.breaks (λ two. ⊎_elim (λ z. not_two z two) (λ z. not_two_3 z two) (rw c.put_stop.ensures.status at e)) r f none
-  where
-    not_two : {n : ℕ} → n ≡ 1 → n ≡ 2 → ⊥
-    not_two a b = absurd cc
-
-    not_two_3 : {n : ℕ} → n ≡ 3 → n ≡ 2 → ⊥
-    not_two_3 a b = absurd cc
+    c.in-Err.ensures.breaks (λ two. ⊎_elim (λ z. absurd cc) (λ z. absurd cc) (rw c.put_stop.ensures.status at e)) r f none
 
 pub returns-in-Err-clause-number : goal.returns-in-Err-clause-number
 returns-in-Err-clause-number g c = λ e. tells_line c.args.script.now c.in-Err.stop (g.F.Sink.has_failed c.args.err.now) (g.F.Sink.has_failed c.put_stop.new.err) (g.F.Sink.taken c.args.err.now) (g.F.Sink.taken c.put_stop.new.err) c.put_stop.ensures.text (sym c.put_stop.ensures.status ∙ e) c.in-Err.ensures.number

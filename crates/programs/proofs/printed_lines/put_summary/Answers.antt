@@ -1,23 +1,23 @@
-use Rattle.std.proofs.Common.{◌∙◌, subst, ℕ, List}
+use Rattle.std.proofs.Common.{◌∙◌, ◌++◌, ◌≡◌, ap, refl, [], List, ℕ}
 use Rattle.messages.specs.View.{response_view}
-use Rattle.streams.specs.Prelude.{AppendsFront}
-use Rattle.std.specs.Io.KnownBytes.{Appends}
-use Rattle.programs.specs.Prelude.{Gets, outs_of}
-use Rattle.programs.proofs.Lined.{summary_cut, summary_printed}
-use Rattle.programs.proofs.Moved.{gets_none}
+use Rattle.streams.specs.declared.fault.StreamFault.TheVariants.{WriteFailed, Memory}
+use Rattle.streams.proofs.Asked.{unless_err}
+use Rattle.programs.specs.Names.{outcome_name, phase_name}
+use Rattle.programs.specs.Telling.{failure_line, heard_line}
+use Rattle.programs.specs.Prelude.{behind_line}
+use Rattle.programs.proofs.Lined.{note_line, summary_cut}
 use Rattle.programs.proofs.printed_lines.put_summary.Goals as goal
 
 pub returns-in-Ok-clause-prints : goal.returns-in-Ok-clause-prints
 returns-in-Ok-clause-prints g c = λ v.
-    let old = outs_of g.O.Sink.taken g.E.Sink.taken g.E.Sink.has_failed c.args.out.now c.args.err.now in
-    let mid = outs_of g.O.Sink.taken g.E.Sink.taken g.E.Sink.has_failed c.put.new.out c.args.err.now in
-    let new = outs_of g.O.Sink.taken g.E.Sink.taken g.E.Sink.has_failed c.put_failure.new.out c.args.err.now in
-    summary_printed v c.args.ordinal c.args.phase c.args.outcome (response_view c.args.response.now) old mid new c.put_failure.result
-    (subst (λ (t : List ℕ). Appends old.printed mid.printed t) (c.as_bytes-text.ensures.value ∙ c.as_str.ensures.value ∙ c.heard_line-line.ensures) c.in-Ok.ensures.text) (gets_none old.deaf old.told) c.put_failure.ensures.puts c.put_failure.ensures.read
+    let line = heard_line c.args.ordinal (outcome_name c.args.outcome) (phase_name c.args.phase) in
+    let behind = failure_line (response_view c.args.response.now) in
+    let same : c.as_bytes-text.result.now ≡ line = c.as_bytes-text.ensures.value ∙ c.as_str.ensures.value ∙ c.heard_line-line.ensures in
+    rw (← c.streams.view_is) (note_line (λ t. t ≡ behind) _ line (g.O.Sink.taken c.put.new.out) (g.O.Sink.taken c.put_failure.new.out) (g.O.Sink.has_failed c.put_failure.new.out) c.put_failure.result (rw same at c.in-Ok.ensures.text) c.put_failure.ensures.puts
+    (λ n f. c.in-Ok.ensures.sound (unless_err c.put_failure.result WriteFailed _ c.put_failure.ensures.sound n f)) (λ t e. (line, refl, ap (λ (z : List ℕ). line ++ z) e)) (λ t front e f. behind_line WriteFailed line front refl (f.0, f.1 ∙ e)) (behind_line Memory line [] refl (behind, refl)))
 
 pub returns-in-Err-clause-prints : goal.returns-in-Err-clause-prints
 returns-in-Err-clause-prints g c = λ v.
-    let old = outs_of g.O.Sink.taken g.E.Sink.taken g.E.Sink.has_failed c.args.out.now c.args.err.now in
-    let new = outs_of g.O.Sink.taken g.E.Sink.taken g.E.Sink.has_failed c.put.new.out c.tell.new.err in
-    summary_cut v c.args.ordinal c.args.phase c.args.outcome (response_view c.args.response.now) old old new c.in-Err.fault c.in-Err.ensures.fault
-    (subst (λ (t : List ℕ). AppendsFront old.printed new.printed t) (c.as_bytes-text.ensures.value ∙ c.as_str.ensures.value ∙ c.heard_line-line.ensures) c.in-Err.ensures.front) (subst (λ (t : List ℕ). Gets old.deaf new.deaf old.told new.told t) (c.as_bytes-text.ensures.value ∙ c.as_str.ensures.value ∙ c.heard_line-line.ensures) c.tell.ensures)
+    let line = heard_line c.args.ordinal (outcome_name c.args.outcome) (phase_name c.args.phase) in
+    let same : c.as_bytes-text.result.now ≡ line = c.as_bytes-text.ensures.value ∙ c.as_str.ensures.value ∙ c.heard_line-line.ensures in
+    rw (← c.streams.view_is) (summary_cut {line = line} _ (g.O.Sink.taken c.put.new.out) (g.E.Sink.taken c.tell.new.err) (g.O.Sink.has_failed c.put.new.out) (g.E.Sink.has_failed c.tell.new.err) c.in-Err.fault c.in-Err.ensures.fault refl refl (rw same at c.in-Err.ensures.front) (rw same at c.tell.ensures))

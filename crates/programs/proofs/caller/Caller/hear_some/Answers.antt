@@ -1,51 +1,39 @@
-use Rattle.std.proofs.Common.{◌≡◌, ap, refl, sym, subst, rules, Err, Some, [], map}
+use Rattle.std.proofs.Common.{◌≡◌, ap, refl, inl, inr, sym, subst, true≢false, ◌∙◌, ◌<◌, ℕ, Err, [], map}
 use Rattle.std.proofs.KnownBytes.{Appends-nil}
-use Rattle.wire.specs.declared.Version.{Version}
 use Rattle.client.specs.declared.client.Client.{Client}
 use Rattle.client.specs.Prelude.{note, Fits}
-use Rattle.streams.specs.declared.fault.StreamFault.TheVariants.{ReadFailed, WriteFailed}
+use Rattle.streams.specs.declared.fault.StreamFault.TheVariants.{ReadFailed}
 use Rattle.streams.specs.Prelude.{HearsPiece}
-use Rattle.programs.specs.Prelude.{HasPrinted, outs_of}
-use Rattle.programs.specs.Shelling.{Prints}
-use Rattle.programs.proofs.Heard.{heard_cut, heard_some}
-use Rattle.programs.proofs.Moved.{gets_none}
-use Rattle.programs.proofs.Stops.{unless_so}
+use Rattle.streams.proofs.Asked.{unless_err}
+use Rattle.std.proofs.lemmas.Result.{IfOk-weaker}
+use Rattle.programs.specs.Shelling.{ServerSide}
+use Rattle.programs.proofs.Heard.{at_end, hears_piece, never_printed, never_read}
 use Rattle.programs.proofs.caller.Caller.hear_some.Goals as goal
 
 pub hear_piece-done-requires : goal.hear_piece-done-requires
-hear_piece-done-requires g c = c.requires
-
-pub returns-in-Ok-clause-out : goal.returns-in-Ok-clause-out
-returns-in-Ok-clause-out g c = unless_so c.hear_piece-done.result WriteFailed _ c.in-Ok.ensures.sound
-
-pub returns-in-Err-ReadFailed-clause-hears : goal.returns-in-Err-ReadFailed-clause-hears
-returns-in-Err-ReadFailed-clause-hears g c = λ p stands.
-    let none : map note c.new-heard.result.items ≡ [] = ap (map note) c.new-heard.ensures.items in
-    let failed : c.hear_piece-done.result ≡ Err ReadFailed = search rules in
-    let h = rw (none, failed) at (c.hear_piece-done.ensures.hears p.rest stands.fits) in
-    heard_some p _ _ _ _ _ [] (Err ReadFailed) (rw h.told at h)
-    (record { text = []; told = refl; printed = Appends-nil (g.O.Sink.taken c.args.out.now); quiet = gets_none (g.E.Sink.has_failed c.args.err.now) (g.E.Sink.taken c.args.err.now); version = stands.version })
+hear_piece-done-requires g c = λ n few. c.requires c.streams.inside.source (g.T.Sink.taken c.streams.inside.sink) n few (rw (← c.streams.view_is) (Appends-nil (g.T.Sink.taken c.streams.inside.sink), refl))
 
 pub returns-in-Ok-clause-hears : goal.returns-in-Ok-clause-hears
-returns-in-Ok-clause-hears g c = λ p stands.
-    let left = g.S.Peer.left c.args.source.now in
-    let left_now = g.S.Peer.left c.hear_piece-done.new.source in
-    let before = outs_of g.O.Sink.taken g.E.Sink.taken g.E.Sink.has_failed c.args.out.now c.args.err.now in
-    let after = outs_of g.O.Sink.taken g.E.Sink.taken g.E.Sink.has_failed c.put_all.new.out c.put_all.new.err in
-    let notes = map note c.hear_piece-done.new.heard.items in
+returns-in-Ok-clause-hears g c = λ p at waits.
+    let k = c.hear_piece-done in
     let none : map note c.new-heard.result.items ≡ [] = ap (map note) c.new-heard.ensures.items in
-    let h = rw none at (c.hear_piece-done.ensures.hears p.rest stands.fits) in
-    heard_some p left left_now before after c.put_all.new.self notes c.hear_piece-done.result (subst (λ (k : Client). HearsPiece p.rest left left_now [] notes (Fits k) c.hear_piece-done.result) (sym c.put_all.ensures.client) h)
-    (subst (λ (v : Version). HasPrinted v notes c.put_all.new.self before after) stands.version c.in-Ok.ensures.prints)
+    let h = subst (λ (z : Client). HearsPiece p.rest (g.S.Peer.left c.streams.inside.source) (g.S.Peer.left k.new.source) [] (map note k.new.heard.items) (Fits z) k.result) (sym c.put_all.ensures.client) (rw none at (k.ensures.hears p.rest at.fits)) in
+    rw (← c.streams.view_is) (hears_piece (g.S.Peer.left k.new.source) (g.S.Peer.reads k.new.source) (g.S.Peer.has_failed k.new.source) k.result waits h (unless_err k.result ReadFailed _ k.ensures.sound) at.version c.in-Ok.ensures.prints (inl refl) (λ e. (e, refl)) c.put_all.ensures.version)
 
 pub returns-in-Err-clause-hears : goal.returns-in-Err-clause-hears
-returns-in-Err-clause-hears g c = λ p stands.
-    let left = g.S.Peer.left c.args.source.now in
-    let left_now = g.S.Peer.left c.hear_piece-done.new.source in
-    let before = outs_of g.O.Sink.taken g.E.Sink.taken g.E.Sink.has_failed c.args.out.now c.args.err.now in
-    let after = outs_of g.O.Sink.taken g.E.Sink.taken g.E.Sink.has_failed c.put_all.new.out c.put_all.new.err in
-    let notes = map note c.hear_piece-done.new.heard.items in
+returns-in-Err-clause-hears g c = λ p at waits.
+    let k = c.hear_piece-done in
     let none : map note c.new-heard.result.items ≡ [] = ap (map note) c.new-heard.ensures.items in
-    let h = rw none at (c.hear_piece-done.ensures.hears p.rest stands.fits) in
-    heard_cut p left left_now before after c.put_all.new.self notes c.hear_piece-done.result c.in-Err.fault (subst (λ (k : Client). HearsPiece p.rest left left_now [] notes (Fits k) c.hear_piece-done.result) (sym c.put_all.ensures.client) h)
-    (λ e. c.in-Err.ensures.read (ap Err e)) (subst (λ (v : Version). Prints v notes (Some c.in-Err.fault) before after) stands.version c.in-Err.ensures.prints)
+    let h = subst (λ (z : Client). HearsPiece p.rest (g.S.Peer.left c.streams.inside.source) (g.S.Peer.left k.new.source) [] (map note k.new.heard.items) (Fits z) k.result) (sym c.put_all.ensures.client) (rw none at (k.ensures.hears p.rest at.fits)) in
+    let sound = unless_err k.result ReadFailed _ k.ensures.sound (never_read p.rest _ _ _ k.result h c.in-Err.ensures.prints.done) in
+    rw (← c.streams.view_is) (hears_piece (g.S.Peer.left k.new.source) (g.S.Peer.reads k.new.source) (g.S.Peer.has_failed k.new.source) k.result waits h (λ _. sound) at.version c.in-Err.ensures.prints (inr refl)
+    (λ e. absurd (true≢false (sym e ∙ never_printed c.in-Err.fault (λ q. c.in-Err.ensures.read (ap Err q))))) c.put_all.ensures.version)
+
+pub returns-in-Ok-clause-end : goal.returns-in-Ok-clause-end
+returns-in-Ok-clause-end g c = at_end _ _ _ _ _ _ _ c.hear_piece-done.result (c.hear_piece-done.ensures.hears _ refl) (ap (λ (z : ServerSide). z.left) c.put_all.ensures.kept)
+
+pub returns-in-Ok-clause-read : goal.returns-in-Ok-clause-read
+returns-in-Ok-clause-read g c = λ e. ap (λ (z : ServerSide). z.failed) c.put_all.ensures.kept ∙ c.hear_piece-done.ensures.read e
+
+pub returns-in-Ok-clause-lowers : goal.returns-in-Ok-clause-lowers
+returns-in-Ok-clause-lowers g c = IfOk-weaker c.hear_piece-done.result _ _ (λ some h e. subst (λ (n : ℕ). n < c.args.streams.now.at.reads) (sym (ap (λ (z : ServerSide). z.reads) c.put_all.ensures.kept)) (rw (← c.streams.view_is) (h e))) c.hear_piece-done.ensures.lowers

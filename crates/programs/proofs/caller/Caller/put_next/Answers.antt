@@ -1,17 +1,19 @@
-use Rattle.std.proofs.Common.{refl}
+use Rattle.std.proofs.Common.{ap, ◌∙◌}
 use Rattle.client.specs.Prelude.{note}
-use Rattle.programs.specs.Prelude.{outs_of}
-use Rattle.programs.proofs.Printed.{prints_next, told_next}
+use Rattle.programs.specs.Prelude.{Streams, version_after}
+use Rattle.programs.specs.Shelling.{server_side}
+use Rattle.programs.proofs.Printed.{notes_then, told_next}
 use Rattle.programs.proofs.caller.Caller.put_next.Goals as goal
 
 pub returns-in-Ok-clause-prints : goal.returns-in-Ok-clause-prints
-returns-in-Ok-clause-prints g c = λ v notes start h.
-    let old = outs_of g.O.Sink.taken g.E.Sink.taken g.E.Sink.has_failed c.args.out.now c.args.err.now in
-    let new = outs_of g.O.Sink.taken g.E.Sink.taken g.E.Sink.has_failed c.put_explained.new.out c.put_explained.new.err in
-    prints_next v notes (note c.args.one) c.args.self.now c.put_explained.new.self start old new (rw c.in-Ok.is at h) c.put_explained.result c.put_explained.ensures.prints c.put_explained.ensures.version
+returns-in-Ok-clause-prints g c = λ v notes start version h.
+    notes_then (rw c.in-Ok.is at h) (c.put_explained.ensures.prints _ (c.keep_version.ensures.version ∙ ap (λ w. version_after w (note c.args.one)) version))
 
 pub returns-in-Err-clause-prints : goal.returns-in-Err-clause-prints
-returns-in-Err-clause-prints g c = λ v notes start h.
-    let old = outs_of g.O.Sink.taken g.E.Sink.taken g.E.Sink.has_failed c.args.out.now c.args.err.now in
-    let new = outs_of g.O.Sink.taken g.E.Sink.taken g.E.Sink.has_failed c.args.out.now c.put_unprinted.new.err in
-    told_next v notes (note c.args.one) c.in-Err.fault start old new (rw c.in-Err.is at h) refl c.put_unprinted.ensures
+returns-in-Err-clause-prints g c = λ v notes start version h. told_next (note c.args.one) (rw c.in-Err.is at h) c.put_unprinted.ensures
+
+pub returns-in-Err-clause-kept : goal.returns-in-Err-clause-kept
+returns-in-Err-clause-kept g c = ap server_side c.put_unprinted.ensures.only
+
+pub returns-in-Err-clause-written : goal.returns-in-Err-clause-written
+returns-in-Err-clause-written g c = λ h e. ap (λ (z : Streams). z.print_failed) c.put_unprinted.ensures.only ∙ h (rw c.in-Err.is e)

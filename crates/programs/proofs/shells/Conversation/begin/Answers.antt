@@ -5,13 +5,13 @@ use Rattle.programs.proofs.Followed.{begins, greeted}
 use Rattle.programs.proofs.Moved.{gets_none}
 use Rattle.programs.proofs.shells.Conversation.begin.Goals as goal
 
+pub ask-requires : goal.ask-requires
+ask-requires g c = c.requires
+
 pub returns-in-Err-clause-begins : goal.returns-in-Err-clause-begins
 returns-in-Err-clause-begins g c = λ at. begins _ _ (c.in-Err.ensures.asks first_place at) (gets_none _ _)
 
 pub returns-clause-begins : goal.returns-clause-begins
 returns-clause-begins g c = λ at.
-    let x = c.in-Ok.ensures.asks first_place at in
-    begins _ _ x (greeted _ _ _ _ x.now (c.has_ended.ensures ∙ ap (λ (r : Rest). r.knows.over) x.now.fits) c.greet.ensures)
-
-pub ask-requires : goal.ask-requires
-ask-requires g c = c.requires
+    let x = rw (← c.streams.view_is) at (c.in-Ok.ensures.asks first_place at) in
+    begins _ _ x (greeted _ _ _ _ x.at (c.has_ended.ensures ∙ ap (λ (r : Rest). r.knows.over) x.at.fits) c.greet.ensures)
