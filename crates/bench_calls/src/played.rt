@@ -1,15 +1,14 @@
 //! One end alone, to which the recorded bytes of the other are played. A recording is a row of exchanges: what a client has said, and what it was
 //! answered; before each of the two stands its length in three bytes. Of each session it begins with the handshake, and with HELLO and LOGON.
-use crate::batches::sevens;
+use crate::batches::{Pipeline, submit};
 use crate::link::{Link, Ours, Stopped, new_server};
-use crate::requests::{ask, ask_put, hello, key_parameter, logon, parameter};
+use crate::requests::{hello, logon};
 use crate::tally::Tally;
 use crate::transport::{PIECE, feed_piece, hear};
 use client::Client;
 use engine::Engine;
 use server::Worked;
 use std::alloc::Global;
-use structures::Cell;
 use wire::Wish;
 
 /// What of an end's bytes is to be as it is recorded.
@@ -20,38 +19,13 @@ pub(crate) enum Watch {
     Bytes,
 }
 
-/// What a client asks in one pipeline.
-#[derive(Clone, Copy)]
-pub(crate) enum Pipeline {
-    /// So many times RUN of one row and PULL of all.
-    Ones(u32),
-    /// RUN of so many rows and PULL of all.
-    Rows(u32),
-    /// RUN that sends so many bytes back, and PULL of all.
-    Echo(u32),
-    /// A transaction of one put.
-    Put,
-    /// A get.
-    Get,
-}
-
-impl Pipeline {
-    /// A kind of pipeline by its number.
-    pub fn of(kind: u8, size: u32) -> Pipeline {
-        match kind {
-            0 => Pipeline::Ones(size),
-            1 => Pipeline::Rows(size),
-            2 => Pipeline::Echo(size),
-            3 => Pipeline::Put,
-            _ => Pipeline::Get,
-        }
-    }
-
-    /// The bytes that it sends back.
-    fn bytes(self) -> u32 {
-        match self {
-            Pipeline::Echo(bytes) => bytes,
-            _ => 0,
+impl Watch {
+    /// By a number: none but 0 watches bytes.
+    pub fn of(number: u8) -> Watch {
+        if number == 0 {
+            Watch::Lengths
+        } else {
+            Watch::Bytes
         }
     }
 }
@@ -104,7 +78,7 @@ fn answer(server: &mut Ours, conn: u64, answers: &[u8], watch: Watch) -> Result<
 const MAX_ROUNDS: usize = 65536;
 
 /// One step of each session in turn, until all are idle.
-fn work(server: &mut Ours, first: u64, after: u64) -> Result<(), Stopped> {
+pub(crate) fn work(server: &mut Ours, first: u64, after: u64) -> Result<(), Stopped> {
     for _ in 0..MAX_ROUNDS {
         let mut is_idle = true;
         for conn in first..after {
@@ -192,34 +166,6 @@ fn settle<'a>(
     Ok(rest)
 }
 
-/// Submits one pipeline, by its number.
-fn submit(
-    alloc: Global,
-    link: &mut Link,
-    pipeline: Pipeline,
-    number: u32,
-    x: &Vec<u8>,
-) -> Result<(), Stopped> {
-    match pipeline {
-        Pipeline::Ones(count) => {
-            for _ in 0..count {
-                ask(alloc, link, "ONE", Vec::new(alloc))?;
-            }
-            Ok(())
-        }
-        Pipeline::Rows(count) => {
-            let params = parameter(alloc, "n", Cell::Int(i64::from(count)))?;
-            ask(alloc, link, "ROWS", params)
-        }
-        Pipeline::Echo(_) => {
-            let params = parameter(alloc, "x", Cell::Bytes(x.clone()?))?;
-            ask(alloc, link, "ECHO", params)
-        }
-        Pipeline::Put => ask_put(alloc, link, number, None),
-        Pipeline::Get => ask(alloc, link, "GET", key_parameter(alloc, number)?),
-    }
-}
-
 /// A client alone. Answers the check number of the rows and summaries that it heard, and the recording's length.
 pub(crate) fn client_alone(
     alloc: Global,
@@ -230,7 +176,7 @@ pub(crate) fn client_alone(
     let client = Client::new(alloc, Wish::Newest)?;
     let mut link = Link { conn: 0, client };
     let mut tally = Tally::new();
-    let x = sevens(alloc, pipeline.bytes())?;
+    let x = pipeline.sevens(alloc)?;
     let mut rest = settle(&mut link, &mut tally, recording, watch)?;
     link.client.submit(hello(alloc)?)?;
     link.client.submit(logon(alloc)?)?;

@@ -1,10 +1,6 @@
-//! The codec and the fixed table behind C calls, for programs that time them from outside.
-#![tactic(auto)]
-
-mod table;
-
+//! The codec behind C calls.
 ghost use Rattle.std.specs.Prelude.{◌≡◌, ◌≤◌, false};
-ghost use Rattle.bench_codec.specs.Unspelled.{SpellNothing};
+ghost use Rattle.bench_calls.specs.Unspelled.{SpellNothing};
 
 use bytes::BytesMut;
 use packstream::{decode, encode};

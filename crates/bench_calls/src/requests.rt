@@ -83,14 +83,19 @@ pub(crate) fn ask_put(
         mode: Mode::Write,
         token,
     })?;
-    ask(alloc, link, "PUT", put_parameters(alloc, number)?)?;
+    ask(alloc, link, "PUT", put_parameters(alloc, number, number)?)?;
     link.client.submit(Request::Commit)?;
     Ok(())
 }
 
-fn put_parameters(alloc: Global, number: u32) -> Result<Vec<(String, Cell)>, AllocError> {
-    let mut params = key_parameter(alloc, number)?;
-    params.push(named(alloc, "value", Cell::Int(i64::from(number)))?)?;
+/// The key of a number, and a value.
+pub(crate) fn put_parameters(
+    alloc: Global,
+    key: u32,
+    value: u32,
+) -> Result<Vec<(String, Cell)>, AllocError> {
+    let mut params = key_parameter(alloc, key)?;
+    params.push(named(alloc, "value", Cell::Int(i64::from(value)))?)?;
     Ok(params)
 }
 

@@ -1,15 +1,10 @@
 //! The fixed table behind C calls. Each makes a table of its own, by puts over some keys in turn, each its own commit; a
 //! program that times a part takes off the time of a call without it. Each answers 0 at want of memory.
+use crate::requests::{key_of, key_parameter, put_parameters};
+use crate::tokens::Tokens;
 use engine::{Answer, Engine, EntryId, FixedTable, Mode, Write};
 use std::alloc::{AllocError, Global};
 use structures::Cell;
-
-/// The tokens of commits.
-#[derive(Clone, Copy)]
-enum Tokens {
-    Without,
-    OfTheirOwn,
-}
 
 /// A table after so many puts, over so many keys in turn, and answers the ledger's length.
 #[unsafe(no_mangle)]
@@ -52,8 +47,7 @@ fn rows_of_gets(
     gets: u32,
 ) -> Result<u64, AllocError> {
     let table = table_of(alloc, keys, puts, Tokens::Without)?;
-    let mut params = Vec::new(alloc);
-    params.push(parameter(alloc, "key", Cell::Text(key_of(alloc, key)?))?)?;
+    let params = key_parameter(alloc, key)?;
     Ok(rows_read(&table, "GET", &params, gets))
 }
 
@@ -96,9 +90,7 @@ fn put(
     ordinal: u32,
     token: Option<String>,
 ) -> Result<(), AllocError> {
-    let mut params = Vec::new(alloc);
-    params.push(parameter(alloc, "key", Cell::Text(key_of(alloc, key)?))?)?;
-    params.push(parameter(alloc, "value", Cell::Int(i64::from(ordinal)))?)?;
+    let params = put_parameters(alloc, key, ordinal)?;
     let writes = writes_of(alloc, table, &params)?;
     let id = EntryId {
         conn: 0,
@@ -125,18 +117,4 @@ fn writes_of(
         writes.push(write)?;
     }
     Ok(writes)
-}
-
-fn parameter(alloc: Global, name: &str, value: Cell) -> Result<(String, Cell), AllocError> {
-    Ok((String::from_str(alloc, name)?, value))
-}
-
-/// Four letters, one for each half byte of the number's lower two bytes, from the highest.
-fn key_of(alloc: Global, key: u32) -> Result<String, AllocError> {
-    let mut text = String::with_capacity(alloc, 4)?;
-    for shift in [12, 8, 4, 0] {
-        let half = (key >> shift & 15) as u8;
-        text.push(char::from(b'a' + half))?;
-    }
-    Ok(text)
 }

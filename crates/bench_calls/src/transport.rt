@@ -47,11 +47,11 @@ pub(crate) fn down(server: &mut Ours, link: &mut Link, tally: &mut Tally) -> Res
     Err(Stopped)
 }
 
-/// The client reads a piece.
+/// The client reads bytes, in pieces from where it stands.
 pub(crate) fn hear(link: &mut Link, piece: &[u8], tally: &mut Tally) -> Result<(), Stopped> {
     let mut rest = piece;
     while !rest.is_empty() {
-        let (used, heard) = link.client.feed(rest)?;
+        let (used, heard) = link.client.feed(&rest[..rest.len().min(PIECE)])?;
         tally.hear(heard);
         rest = after(rest, used)?;
     }
