@@ -1,5 +1,5 @@
-// Loaded before a program, refuses its allocation of the number in REFUSED, from 1, one in ODDS by chance, the same for the same CHANCE, where these are set,
-// and every allocation between two blocks of these sizes. At the end it writes to the file in COUNT how many the program asked for, how often it asked for a block of the first size, and
+// Loaded before a program, refuses its allocation of the number in REFUSED, from 1, one in ODDS by chance behind the number in AFTER, the same for the same CHANCE,
+// where these are set, and every allocation between two blocks of these sizes. At the end it writes to the file in COUNT how many the program asked for, how often it asked for a block of the first size, and
 // how many it asked for between the two.
 #include <stdio.h>
 #include <stdlib.h>
@@ -12,7 +12,7 @@ void *__libc_calloc(size_t count, size_t size);
 void *__libc_realloc(void *block, size_t size);
 
 static long asked, starved, hungry, refused = -1;
-static unsigned long odds, chance;
+static unsigned long odds, after, chance;
 static int is_starving;
 
 static unsigned long number_of(const char *name) {
@@ -32,6 +32,7 @@ static int is_refused(size_t size) {
     if (refused < 0) {
         refused = (long)number_of("REFUSED");
         odds = number_of("ODDS");
+        after = number_of("AFTER");
         chance = number_of("CHANCE");
     }
     if (size == STARVE) {
@@ -41,7 +42,7 @@ static int is_refused(size_t size) {
     }
     if (size == FEAST) is_starving = 0;
     hungry += is_starving;
-    return ++asked == refused || is_starving || (odds && next() % odds == 0);
+    return ++asked == refused || is_starving || (odds && (unsigned long)asked > after && next() % odds == 0);
 }
 
 void *malloc(size_t size) { return is_refused(size) ? NULL : __libc_malloc(size); }

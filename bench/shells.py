@@ -1,4 +1,5 @@
 """What `bolt shell` prints and tells of servers that answer so and then end: `bench/examples` tries each with a server of its own."""
+import contextlib
 import re
 import socket
 import struct
@@ -65,10 +66,11 @@ def failure(message):
     return (len(body).to_bytes(2, "big") + body + b"\0\0").hex()
 
 
-def answer(listener, answers, is_reset):
-    """Takes one connection, answers each request by the next of these, and ends the connection at one more."""
+def answer(listener, answers, is_reset, patience=600):
+    """Takes one connection, answers each request by the next of these, and ends the connection at one more, or where none comes for so many seconds."""
     peer, _ = listener.accept()
-    with peer:
+    with peer, contextlib.suppress(OSError):
+        peer.settimeout(patience)
         asked = peer.recv(20, socket.MSG_WAITALL)
         for said in answers:
             if not asked:
