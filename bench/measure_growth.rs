@@ -1,9 +1,9 @@
-//! Times what is to stay flat, in one run: `measure_growth [TIMES]`. Linked with the static library `bench_sessions` of the
+//! Times what is to stay flat, in one run: `measure_growth [TIMES]`. Linked with the static library `bench_calls` of the
 //! workspace:
 //!   bench_records_read(keys, turns), bench_records_written(keys, turns): a record of one dictionary, answers its bytes
 //!   bench_pieces_taken(bytes, turns): a piece of small messages and no-ops, answers the messages in all
 //!   bench_pieces_to_server(marker, bytes, piece, turns): a message of so many bytes with a list, or a byte string, fed to a server in pieces
-//!   bench_puts(keys, count), bench_puts_under_tokens(keys, count): a client's transactions of one put each, over keys in turn
+//!   bench_pipelines(3, keys, count), bench_pipelines(4, keys, count): a client's transactions of one put each, over keys in turn, without tokens and under them
 mod clock;
 use clock::now;
 use std::hint::black_box;
@@ -13,8 +13,7 @@ unsafe extern "C" {
     fn bench_records_written(keys: u32, turns: u32) -> u64;
     fn bench_pieces_taken(bytes: u32, turns: u32) -> u64;
     fn bench_pieces_to_server(marker: u8, bytes: u32, piece: u32, turns: u32) -> u64;
-    fn bench_puts(keys: u32, count: u32) -> u64;
-    fn bench_puts_under_tokens(keys: u32, count: u32) -> u64;
+    fn bench_pipelines(kind: u8, keys: u32, count: u32) -> u64;
 }
 
 type Call = unsafe extern "C" fn(u32, u32) -> u64;
@@ -24,6 +23,12 @@ unsafe extern "C" fn integers(bytes: u32, turns: u32) -> u64 { unsafe { bench_pi
 
 /// A byte string, byte by byte.
 unsafe extern "C" fn byte_string(bytes: u32, turns: u32) -> u64 { unsafe { bench_pieces_to_server(0xCD, bytes, 1, turns) } }
+
+/// Transactions of one put each, over so many keys in turn.
+unsafe extern "C" fn puts(keys: u32, count: u32) -> u64 { unsafe { bench_pipelines(3, keys, count) } }
+
+/// The same, each under a token of its own.
+unsafe extern "C" fn puts_under_tokens(keys: u32, count: u32) -> u64 { unsafe { bench_pipelines(4, keys, count) } }
 
 /// A call at two sizes.
 struct Line { name: &'static str, call: Call, small: Size, large: Size, most: f64 }
@@ -58,7 +63,7 @@ const LEDGERS: [(u32, u32, u32); 3] = [(10, 10, 1000), (1000, 1000, 10), (1000, 
 fn transactions(times: u32) {
     println!("| what | keys | entries | ns | times that at 10 entries |");
     println!("|---|---|---|---|---|");
-    let calls: [(&str, Call); 2] = [("a transaction", bench_puts), ("a transaction under a token", bench_puts_under_tokens)];
+    let calls: [(&str, Call); 2] = [("a transaction", puts), ("a transaction under a token", puts_under_tokens)];
     let mut least = [[Least { many: f64::MAX, none: f64::MAX }; 3]; 2];
     for _ in 0..times {
         for ((_, call), least) in calls.into_iter().zip(&mut least) {

@@ -1,15 +1,18 @@
 """A proxy that cuts a connection after so many bytes, and what a client's word of a commit is held to."""
 import contextlib
 import socket
+import struct
 import threading
 
 MANY = 1 << 40  # more bytes than pass
 
 
 class Proxy:
-    """Passes one connection on, and cuts it once it passed so many bytes of the server, or of the client, counted from `arm` on."""
+    """Passes one connection on, and cuts it once it passed so many bytes of the server, or of the client, counted from `arm` on: it closes both ends, or resets
+    that of the client."""
 
-    def __init__(self, port, told=MANY, asked=MANY):
+    def __init__(self, port, told=MANY, asked=MANY, resets=False):
+        self.resets = resets
         self.left, self.passed = {"told": told, "asked": asked}, {"told": 0, "asked": 0}
         self.armed, self.listener = False, socket.create_server(("127.0.0.1", 0))
         self.listener.settimeout(60)
@@ -33,6 +36,9 @@ class Proxy:
             with client, socket.create_connection(("127.0.0.1", port)) as server:
                 for it in (client, server):
                     it.setsockopt(socket.IPPROTO_TCP, socket.TCP_NODELAY, 1)
+                if self.resets:
+                    client.setsockopt(socket.SOL_SOCKET, socket.SO_LINGER, struct.pack("ii", 1, 0))
+                self.client = client
                 ends = [threading.Thread(target=self.move, args=it) for it in (("told", server, client), ("asked", client, server))]
                 for end in ends:
                     end.start()
@@ -51,4 +57,4 @@ class Proxy:
                     break
         for it in (source, sink):
             with contextlib.suppress(OSError):
-                it.shutdown(socket.SHUT_RDWR)
+                it.shutdown(socket.SHUT_RD if self.resets and it is self.client else socket.SHUT_RDWR)

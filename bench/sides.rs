@@ -4,18 +4,13 @@ use crate::played::{Watch, client_alone, server_alone, without};
 use crate::workloads::{BYTES, Form, LIST, Long, Pipeline, pieces_to_client, pieces_to_server, pipelines, recorded, recorded_sessions, sessions};
 
 unsafe extern "C" {
-    fn bench_autocommit(pairs: u32, batch: u32) -> u64;
-    fn bench_rows(rows: u32, turns: u32) -> u64;
-    fn bench_echo(bytes: u32, turns: u32) -> u64;
-    fn bench_transactions(puts: u32, gets: u32) -> u64;
-    fn bench_puts_under_tokens(keys: u32, count: u32) -> u64;
+    fn bench_pipelines(kind: u8, size: u32, times: u32) -> u64;
+    fn bench_gets(puts: u32, gets: u32) -> u64;
     fn bench_pieces_to_server(marker: u8, bytes: u32, piece: u32, turns: u32) -> u64;
     fn bench_pieces_to_client(marker: u8, bytes: u32, piece: u32, turns: u32) -> u64;
     fn bench_sessions(sessions: u32, requests: u32) -> u64;
-    fn bench_server_alone(sessions: u32, recording: *const u8, length: usize) -> u64;
-    fn bench_server_as_recorded(sessions: u32, recording: *const u8, length: usize) -> u64;
-    fn bench_client_alone(kind: u8, size: u32, recording: *const u8, length: usize) -> u64;
-    fn bench_client_as_recorded(kind: u8, size: u32, recording: *const u8, length: usize) -> u64;
+    fn bench_server_alone(sessions: u32, watch: u8, recording: *const u8, length: usize) -> u64;
+    fn bench_client_alone(kind: u8, size: u32, watch: u8, recording: *const u8, length: usize) -> u64;
 }
 
 #[derive(Debug, Clone, Copy, PartialEq, Eq)]
@@ -87,13 +82,12 @@ impl Run {
         let times = self.times;
         unsafe {
             match self.work {
-                Work::Pipelines(Pipeline::Ones(batch)) => bench_autocommit(times * batch, batch),
-                Work::Pipelines(Pipeline::Rows(count)) => bench_rows(count, times),
-                Work::Pipelines(Pipeline::Echo(bytes)) => bench_echo(bytes, times),
-                Work::Pipelines(Pipeline::Put { has_token: false }) => bench_transactions(times, 0),
-                Work::Pipelines(Pipeline::Put { has_token: true }) => bench_puts_under_tokens(65_536, times),
                 Work::Pipelines(Pipeline::Get) => panic!("no keys were put"),
-                Work::Gets(puts) => bench_transactions(puts, times),
+                Work::Pipelines(pipeline) => {
+                    let (kind, size) = numbered(pipeline);
+                    bench_pipelines(kind, size, times)
+                }
+                Work::Gets(puts) => bench_gets(puts, times),
                 Work::Sessions(count) => bench_sessions(count, 2 * times),
                 Work::Pieces(long) => panic!("{long:?} goes to one end"),
             }
@@ -116,11 +110,9 @@ impl Run {
         let pipeline = if let Work::Pipelines(pipeline) = self.work { pipeline } else { Pipeline::Get };
         let (kind, size) = numbered(pipeline);
         match (self.ends, side, watch) {
-            (Ends::Server, Side::Product, Watch::Lengths) => unsafe { bench_server_alone(sessions, at, length) },
-            (Ends::Server, Side::Product, Watch::Bytes) => unsafe { bench_server_as_recorded(sessions, at, length) },
+            (Ends::Server, Side::Product, _) => unsafe { bench_server_alone(sessions, watch as u8, at, length) },
             (Ends::Server, Side::Twin(_), _) => server_alone(sessions, &self.recording, watch),
-            (_, Side::Product, Watch::Lengths) => unsafe { bench_client_alone(kind, size, at, length) },
-            (_, Side::Product, Watch::Bytes) => unsafe { bench_client_as_recorded(kind, size, at, length) },
+            (_, Side::Product, _) => unsafe { bench_client_alone(kind, size, watch as u8, at, length) },
             (_, Side::Twin(form), _) => client_alone(form, pipeline, &self.recording, watch),
         }
     }
@@ -135,14 +127,18 @@ impl Run {
     }
 }
 
+/// As many keys as four letters name.
+const KEYS: u32 = 65_536;
+
 /// The number and the size of a pipeline, as the library has them.
 fn numbered(pipeline: Pipeline) -> (u8, u32) {
     match pipeline {
         Pipeline::Ones(count) => (0, count),
         Pipeline::Rows(count) => (1, count),
         Pipeline::Echo(bytes) => (2, bytes),
-        Pipeline::Put { .. } => (3, 0),
-        Pipeline::Get => (4, 0),
+        Pipeline::Put { has_token: false } => (3, KEYS),
+        Pipeline::Put { has_token: true } => (4, KEYS),
+        Pipeline::Get => (5, 0),
     }
 }
 

@@ -1,6 +1,6 @@
 use crate::heard::{Said, are_heard};
+use crate::requests::request;
 use crate::streams_of::{Drip, MANY, Trickle};
-use crate::world_scripts::{Asked, request};
 use client::{Client, Outcome};
 use machine::Phase;
 use std::alloc::Global;
@@ -24,7 +24,8 @@ const ROW: &[u8] = &[
 /// What a client does before it asks.
 enum Before {
     Feeds(&'static [u8]),
-    Submits(Asked),
+    /// A request of 4.4, by its line.
+    Submits(&'static str),
 }
 
 use Before::*;
@@ -51,18 +52,18 @@ const V44: Wish = Wish::Only(Version::V44);
 /// wait.
 const GOODBYE: &[Before] = &[
     Feeds(OLD),
-    Submits(Asked::Login),
+    Submits("hello"),
     Feeds(SUCCESS),
-    Submits(Asked::Goodbye),
+    Submits("goodbye"),
 ];
 
 const TRANSACTION: &[Before] = &[
     Feeds(OLD),
-    Submits(Asked::Login),
+    Submits("hello"),
     Feeds(SUCCESS),
-    Submits(Asked::Reset),
-    Submits(Asked::Begin),
-    Submits(Asked::Commit),
+    Submits("reset"),
+    Submits("begin"),
+    Submits("commit"),
 ];
 
 const ANSWERED: &[Said] = &[
@@ -181,8 +182,8 @@ fn prepare(alloc: Global, client: &mut Client, before: &[Before]) -> Result<(), 
             Feeds(bytes) => {
                 client.feed(bytes)?;
             }
-            Submits(asked) => {
-                client.submit(request(alloc, asked)?)?;
+            Submits(line) => {
+                client.submit(request(alloc, Version::V44, line)?)?;
             }
         }
     }

@@ -1,9 +1,8 @@
-use crate::streams_of::{MANY, Trickle};
-use crate::world_scripts::{Asked, Given, PUT, request};
+use crate::requests::{PUT, request};
+use crate::streams_of::{MANY, Table, Trickle, server};
 use client::{Client, Heard, Outcome, SubmitFault};
-use engine::{Engine, FixedTable, OneUser};
+use engine::Engine;
 use messages::{Request, Response};
-use server::Server;
 use std::alloc::Global;
 use std::test::*;
 use streams::{Buffer, Sink, Source, Told, ask_all};
@@ -102,38 +101,39 @@ fn until_known(
 }
 
 /// A transaction under a token, one under it that saw other data, and one under another token with a query that the server doesn't know.
-const ASKED: &[Asked] = &[
-    Asked::Hello,
-    Asked::Logon,
-    Asked::BeginUnder("9f3c"),
+const ASKED: &[&str] = &[
+    "hello",
+    "logon",
+    "begin token 9f3c",
     PUT,
-    Asked::PullAll,
-    Asked::Commit,
+    "pull -1",
+    "commit",
 ];
 
-const OTHER: &[Asked] = &[
-    Asked::Hello,
-    Asked::Logon,
-    Asked::BeginUnder("9f3c"),
-    Asked::Run(
-        "PUT",
-        &[("key", Given::Text("k")), ("value", Given::Int(2))],
-    ),
-    Asked::PullAll,
-    Asked::Commit,
+const OTHER: &[&str] = &[
+    "hello",
+    "logon",
+    "begin token 9f3c",
+    "run PUT A2836B6579816B8576616C756502",
+    "pull -1",
+    "commit",
 ];
 
-const NOPE: &[Asked] = &[
-    Asked::Hello,
-    Asked::Logon,
-    Asked::BeginUnder("9f3d"),
-    Asked::Run("NOPE", &[]),
-    Asked::PullAll,
-    Asked::Commit,
+const NOPE: &[&str] = &[
+    "hello",
+    "logon",
+    "begin token 9f3d",
+    "run NOPE A0",
+    "pull -1",
+    "commit",
 ];
 
-/// A transaction whose BEGIN can't be written, since its token has no byte.
-const UNWRITABLE: &[Asked] = &[Asked::Hello, Asked::Logon, Asked::BeginUnder("")];
+/// A transaction whose BEGIN can't be written, since its token has 65 bytes.
+const UNWRITABLE: &[&str] = &[
+    "hello",
+    "logon",
+    "begin token aaaaaaaaaaaaaaaaaaaaaaaaaaaaaaaaaaaaaaaaaaaaaaaaaaaaaaaaaaaaaaaaa",
+];
 
 /// The version, SUCCESS, and FAILURE of a LOGON, by a code that is final and by one that isn't.
 const UNAUTHORIZED: &[u8] =
@@ -151,7 +151,7 @@ enum Connection {
 use Connection::*;
 
 /// What is asked over which connections, what is known in the end, and with how many of them.
-type Case = (&'static [Asked], &'static [Connection], Known, usize);
+type Case = (&'static [&'static str], &'static [Connection], Known, usize);
 
 const CASES: [Case; 9] = [
     // Where the version alone comes, the COMMIT may stand, as it does here.
@@ -195,11 +195,7 @@ const CASES: [Case; 9] = [
 const MOST: usize = 32;
 
 /// What a server answers on a connection of its own, which is lost then.
-fn answers(
-    alloc: Global,
-    server: &mut Server<FixedTable, OneUser>,
-    asked: &[u8],
-) -> Result<Vec<u8>, Fail> {
+fn answers(alloc: Global, server: &mut Table, asked: &[u8]) -> Result<Vec<u8>, Fail> {
     let conn = server.open()?;
     let mut rest = asked;
     for _item in 0..MOST {
@@ -230,7 +226,7 @@ fn put_out(alloc: Global, asked: &[Request]) -> Result<Vec<u8>, Fail> {
 /// What each connection of a case gives.
 fn given(
     alloc: Global,
-    server: &mut Server<FixedTable, OneUser>,
+    server: &mut Table,
     asked: &[Request],
     connections: &[Connection],
 ) -> Result<Vec<Vec<u8>>, Fail> {
@@ -250,15 +246,11 @@ fn given(
 }
 
 /// Whether the attempts of a case tell what they have to, over so many connections.
-fn is_known(
-    alloc: Global,
-    server: &mut Server<FixedTable, OneUser>,
-    case: &Case,
-) -> Result<bool, Fail> {
+fn is_known(alloc: Global, server: &mut Table, case: &Case) -> Result<bool, Fail> {
     let (script, connections, known, used) = case;
     let mut asked = Vec::new(alloc);
     for one in *script {
-        asked.push(request(alloc, one)?)?;
+        asked.push(request(alloc, Version::V51, one)?)?;
     }
     let given = given(alloc, server, asked.as_slice(), connections)?;
     let mut streams = Vec::new(alloc);
@@ -273,8 +265,7 @@ fn is_known(
 #[test]
 fn retries_until_it_is_known(rt: HostRuntime) -> Result<(), Fail> {
     let alloc = rt.alloc();
-    let gate = OneUser::new(alloc, "user", "pass")?;
-    let mut server = Server::new(alloc, FixedTable::new(alloc), gate);
+    let mut server = server(alloc)?;
     for (row, case) in CASES.iter().enumerate() {
         assert!(rt; is_known(alloc, &mut server, case)?, "row {row}");
     }

@@ -1,13 +1,13 @@
 //! Streams that fail at each call.
 
 use crate::heard::{Said, are_heard, shown};
-use crate::streams_of::{Drip, MANY, Trickle, served};
+use crate::requests::asking;
+use crate::streams_of::{Drip, MANY, Table, Trickle, served, server};
 use client::Losses;
 use server::{Cause, Worked};
 use std::alloc::Global;
 use std::test::Fail;
 use streams::{StreamFault, ask_all};
-use test_worlds::{Table, asking, server};
 
 /// What is asked, what is answered, and where in the answer each summary begins that commits.
 #[derive(Drop)]

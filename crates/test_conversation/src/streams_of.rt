@@ -6,6 +6,9 @@ use std::alloc::Global;
 use std::test::Fail;
 use streams::{Failed, Sink, Source, StreamFault, serve_one};
 
+/// A server over an empty table and the gate of `user` with `pass`.
+pub type Table = Server<FixedTable, OneUser>;
+
 /// So often, or so much, that it isn't reached.
 pub const MANY: usize = 100_000;
 
@@ -72,6 +75,12 @@ impl Sink for Drip {
         self.room -= n;
         Ok(n)
     }
+}
+
+/// A new server.
+pub fn server(alloc: Global) -> Result<Table, Fail> {
+    let gate = OneUser::new(alloc, "user", "pass")?;
+    Ok(Server::new(alloc, FixedTable::new(alloc), gate))
 }
 
 /// Serves a client of a server of its own: what came of it, and how many entries the ledger has then.

@@ -1,8 +1,12 @@
 //! What the tests of more than one crate ask of an answer.
 
 use bytes::BytesMut;
+use messages::Request;
 use packstream::{PackFault, Packed, Reason, encode, size};
+use scripts::read_request;
 use std::alloc::Global;
+use std::fmt;
+use wire::Version;
 
 /// Whether a value is told that is written as these bytes, and has their number as its size.
 pub fn gives(alloc: Global, told: Result<Packed, PackFault>, output: &[u8]) -> bool {
@@ -19,5 +23,19 @@ pub fn is_refused(told: Result<Packed, PackFault>, reason: Reason, place: usize)
     match told {
         Err(PackFault::Refused(why, at)) => why == reason && at == place,
         _ => false,
+    }
+}
+
+/// The request of a script's line, as it is at a version.
+pub fn said_request(alloc: Global, version: Version, line: &str) -> Option<Request> {
+    let said = read_request(alloc, line.as_bytes()).ok()?;
+    said.into_request(alloc, version).ok()
+}
+
+/// Whether it prints so.
+pub fn prints(alloc: Global, fault: &impl fmt::Display, wanted: &str) -> bool {
+    match format!(in alloc; "{fault}") {
+        Ok(text) => text.as_str() == wanted,
+        Err(_) => false,
     }
 }

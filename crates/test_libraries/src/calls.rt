@@ -1,9 +1,10 @@
 //! Calls of a client as data, for its tests.
 
+use crate::answers::{prints, said_request};
 use bytes::BytesMut;
 use client::*;
 use machine::Phase;
-use messages::{Auth, Count, Mode, Request};
+use messages::{Mode, Request};
 use std::alloc::{AllocError, Global};
 use std::process::Abort;
 use std::test::*;
@@ -41,25 +42,15 @@ pub const AT_5_0: &[u8] = &[0, 0, 0, 5];
 
 /// A request.
 pub enum Asked {
-    /// HELLO with and without the credentials.
-    HelloOld,
-    Hello,
-    Logon,
-    Logoff,
-    Goodbye,
-    Reset,
-    Run,
-    Begin,
-    Commit,
-    Pull(Count),
+    /// The request of a script's line; and as it is at 4.4 and 5.0, where a HELLO has the login.
+    Line(&'static str),
+    Old(&'static str),
     /// RUN with a text of so many bytes among its parameters.
     Echo(usize),
     /// RUN with so many lists inside of one another among its parameters.
     Nested(usize),
     /// RUN with two parameters of one key.
     Twice,
-    /// RUN with a time in a named zone among its parameters, as 5.0 and 5.1 have it.
-    Zoned,
     /// BEGIN under a token of so many bytes.
     BeginUnder(usize),
 }
@@ -128,95 +119,64 @@ fn is_told(fed: &Result<(usize, Heard), ClientFault>, told: &Told) -> bool {
     }
 }
 
-/// Whether a submit answers so.
-fn answers(
-    alloc: Global,
-    submitted: Result<u64, SubmitFault>,
-    answer: &str,
-) -> Result<bool, AllocError> {
-    match submitted {
-        Ok(_) => Ok(answer == "accepted"),
-        Err(fault) => Ok(format!(in alloc; "{fault}")?.as_str() == answer),
+/// So many parameters `x` of a RUN.
+fn echo(alloc: Global, cells: Result<Vec<Cell>, AllocError>) -> Result<Request, AllocError> {
+    let mut params = Vec::new(alloc);
+    for cell in cells? {
+        params.push((String::from_str(alloc, "x")?, cell))?;
     }
-}
-
-fn login(alloc: Global) -> Result<Auth, AllocError> {
-    Ok(Auth {
-        scheme: String::from_str(alloc, "basic")?,
-        principal: String::from_str(alloc, "user")?,
-        credentials: String::from_str(alloc, "pass")?,
-    })
-}
-
-fn hello(alloc: Global, auth: Option<Auth>) -> Result<Request, AllocError> {
-    Ok(Request::Hello {
-        agent: String::from_str(alloc, "t/1")?,
-        auth,
-    })
-}
-
-fn run(alloc: Global, query: &str, params: Vec<(String, Cell)>) -> Result<Request, AllocError> {
     Ok(Request::Run {
-        text: String::from_str(alloc, query)?,
+        text: String::from_str(alloc, "ECHO")?,
         params,
         mode: Mode::Write,
         token: None,
     })
 }
 
-/// So many parameters `x`.
-fn params(alloc: Global, cells: Vec<Cell>) -> Result<Vec<(String, Cell)>, AllocError> {
-    let mut params = Vec::new(alloc);
-    for cell in cells {
-        params.push((String::from_str(alloc, "x")?, cell))?;
-    }
-    Ok(params)
+/// A text of so many bytes.
+fn text(alloc: Global, len: usize) -> Result<Vec<Cell>, AllocError> {
+    Ok(vec![in alloc; Cell::Text("x".repeat(alloc, len)?)]?)
 }
 
 /// So many lists inside of one another.
-fn nested(alloc: Global, depth: usize) -> Result<Cell, AllocError> {
+fn nested(alloc: Global, depth: usize) -> Result<Vec<Cell>, AllocError> {
     let mut cell = Cell::Null;
     for _ in 0..depth {
         cell = Cell::List(vec![in alloc; cell]?);
     }
-    Ok(cell)
+    Ok(vec![in alloc; cell]?)
 }
 
-fn echo(alloc: Global, cells: Vec<Cell>) -> Result<Request, AllocError> {
-    run(alloc, "ECHO", params(alloc, cells)?)
+fn two(alloc: Global) -> Result<Vec<Cell>, AllocError> {
+    Ok(vec![in alloc; Cell::Null, Cell::Null]?)
 }
 
-fn request(alloc: Global, asked: &Asked) -> Result<Request, AllocError> {
+fn begin_under(alloc: Global, len: usize) -> Result<Request, AllocError> {
+    Ok(Request::Begin {
+        mode: Mode::Write,
+        token: Some("a".repeat(alloc, len)?),
+    })
+}
+
+fn request(alloc: Global, asked: &Asked) -> Option<Request> {
     match asked {
-        HelloOld => hello(alloc, Some(login(alloc)?)),
-        Hello => hello(alloc, None),
-        Logon => Ok(Request::Logon(login(alloc)?)),
-        Logoff => Ok(Request::Logoff),
-        Goodbye => Ok(Request::Goodbye),
-        Reset => Ok(Request::Reset),
-        Run => run(alloc, "ONE", Vec::new(alloc)),
-        Begin => Ok(Request::Begin {
-            mode: Mode::Write,
-            token: None,
-        }),
-        Commit => Ok(Request::Commit),
-        Pull(count) => Ok(Request::Pull(*count)),
-        Echo(len) => echo(alloc, vec![in alloc; Cell::Text("x".repeat(alloc, *len)?)]?),
-        Nested(depth) => echo(alloc, vec![in alloc; nested(alloc, *depth)?]?),
-        Twice => echo(alloc, vec![in alloc; Cell::Null, Cell::Null]?),
-        Zoned => {
-            let zone = String::from_str(alloc, "UTC")?;
-            let cell = Cell::ZonedUtc {
-                seconds: 0,
-                nanos: 0,
-                zone,
-            };
-            echo(alloc, vec![in alloc; cell]?)
-        }
-        BeginUnder(len) => Ok(Request::Begin {
-            mode: Mode::Write,
-            token: Some("a".repeat(alloc, *len)?),
-        }),
+        Line(line) => said_request(alloc, Version::V51, line),
+        Old(line) => said_request(alloc, Version::V44, line),
+        Echo(len) => echo(alloc, text(alloc, *len)).ok(),
+        Nested(depth) => echo(alloc, nested(alloc, *depth)).ok(),
+        Twice => echo(alloc, two(alloc)).ok(),
+        BeginUnder(len) => begin_under(alloc, *len).ok(),
+    }
+}
+
+/// Whether a submit answers so.
+fn answers(alloc: Global, client: &mut Client, asked: &Asked, answer: &str) -> bool {
+    let Some(request) = request(alloc, asked) else {
+        return false;
+    };
+    match client.submit(request) {
+        Ok(_) => answer == "accepted",
+        Err(fault) => prints(alloc, &fault, answer),
     }
 }
 
@@ -242,40 +202,71 @@ fn longest_chunk(alloc: Global) -> Result<Vec<u8>, AllocError> {
     Ok(bytes)
 }
 
-/// Feeds bytes of the server, and answers how many summaries they had.
-fn hear(client: &mut Client, bytes: &[u8]) -> Result<usize, ClientFault> {
+/// Feeds bytes of the server, and answers how many summaries they had; None where it is refused.
+fn hear(client: &mut Client, bytes: &[u8]) -> Option<usize> {
     let mut rest = bytes;
     let mut summaries: usize = 0;
     while !rest.is_empty() {
-        let (used, heard) = client.feed(rest)?;
+        let Ok((used, heard)) = client.feed(rest) else {
+            return None;
+        };
         if let Heard::Summary { .. } = heard {
             summaries = summaries.saturating_add(1);
         }
         let (_, after) = rest.split_at(used);
         rest = after;
     }
-    Ok(summaries)
+    Some(summaries)
+}
+
+/// Whether this is told of a message in one chunk.
+fn is_heard(alloc: Global, client: &mut Client, message: &[u8], told: &Told) -> bool {
+    match chunked(alloc, message) {
+        Some(bytes) => is_told(&client.feed(&bytes), told),
+        None => false,
+    }
+}
+
+/// Whether this is told of a chunk as long as can be.
+fn is_longest(alloc: Global, client: &mut Client, told: &Told) -> bool {
+    match longest_chunk(alloc) {
+        Ok(bytes) => is_told(&client.feed(&bytes), told),
+        Err(_) => false,
+    }
+}
+
+/// Whether so many bytes are taken out.
+fn takes(client: &mut Client, max: usize, count: usize) -> bool {
+    match client.take_out(max) {
+        Ok(bytes) => bytes.len() == count,
+        Err(_) => false,
+    }
+}
+
+/// Whether these bytes are taken out.
+fn takes_out(client: &mut Client, max: usize, wanted: &[u8]) -> bool {
+    match client.take_out(max) {
+        Ok(bytes) => bytes.as_slice() == wanted,
+        Err(_) => false,
+    }
 }
 
 /// Whether a call of the client answers what it has to.
-fn is_so(alloc: Global, client: &mut Client, step: &Step) -> Result<bool, Fail> {
-    Ok(match step {
-        Asks(asked, answer) => { answers(alloc, client.submit(request(alloc, asked)?), answer)? }
+fn is_so(alloc: Global, client: &mut Client, step: &Step) -> bool {
+    match step {
+        Asks(asked, answer) => answers(alloc, client, asked, answer),
         Feeds(bytes, told) => is_told(&client.feed(bytes), told),
-        Hears(message, told) => match chunked(alloc, message) {
-            Some(bytes) => is_told(&client.feed(&bytes), told),
-            None => false,
-        },
-        FeedsTheLongest(told) => is_told(&client.feed(&longest_chunk(alloc)?), told),
-        FeedsAll(bytes, summaries) => hear(client, bytes)? == *summaries,
-        Takes(max, count) => client.take_out(*max)?.len() == *count,
-        TakesOut(max, bytes) => client.take_out(*max)?.as_slice() == *bytes,
+        Hears(message, told) => is_heard(alloc, client, message, told),
+        FeedsTheLongest(told) => is_longest(alloc, client, told),
+        FeedsAll(bytes, summaries) => hear(client, bytes) == Some(*summaries),
+        Takes(max, count) => takes(client, *max, *count),
+        TakesOut(max, bytes) => takes_out(client, *max, bytes),
         Stands(count, phase) => client.pending() == *count && client.phase() == *phase,
         First(ordinal) => client.first_waiting() == *ordinal,
         Awaits(is_waiting) => client.awaits() == *is_waiting,
         Reads(is_whole) => client.reader().finish().is_ok() == *is_whole,
         Loses(losses) => client.lost().as_slice() == *losses,
-    })
+    }
 }
 
 /// These calls are made of a client of its own.
@@ -289,7 +280,7 @@ pub fn plays(
     for (part, steps) in parts.iter().enumerate() {
         for (place, step) in steps.iter().enumerate() {
             assert!(rt;
-                is_so(rt.alloc(), &mut client, step)?,
+                is_so(rt.alloc(), &mut client, step),
                 "{name}: part {part}, step {place}"
             );
         }

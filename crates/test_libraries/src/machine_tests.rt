@@ -1,5 +1,7 @@
+use crate::answers::said_request;
 use machine::{Kind, Phase, PhaseSet, State, Verdict, after, allowed, kind, phase, row};
 use messages::{Count, Request};
+use std::alloc::Global;
 use wire::Version;
 
 const ALL: [Phase; 8] = [
@@ -31,37 +33,31 @@ fn set(phases: &[Phase]) -> PhaseSet {
     all
 }
 
+/// A phase, a request by its line, and the phases that may follow.
+const FOLLOWING: &[(Phase, &str, &[Phase])] = &[
+    (
+        Phase::Streaming,
+        "pull 2",
+        &[Phase::Ready, Phase::Streaming, Phase::Halted],
+    ),
+    (Phase::Streaming, "pull -1", &[Phase::Ready, Phase::Halted]),
+    (Phase::Ready, "commit", &[Phase::Defunct, Phase::Halted]),
+    (Phase::Fresh, "hello", &[Phase::Unauth, Phase::Defunct]),
+];
+
+/// The phases that may follow a request of 5.1 in a phase; none where the line is none.
+fn following(alloc: Global, from: Phase, line: &str) -> PhaseSet {
+    match said_request(alloc, Version::V51, line) {
+        Some(request) => after(Version::V51, PhaseSet::of(from), &request),
+        None => PhaseSet::empty(),
+    }
+}
+
 #[test]
 fn what_may_follow(rt: HostRuntime) {
-    let hello = Request::Hello {
-        agent: String::new(rt.alloc()),
-        auth: None,
-    };
-    let cases = [
-        (
-            Phase::Streaming,
-            Request::Pull(Count::Of(2)),
-            [Phase::Ready, Phase::Streaming, Phase::Halted].as_slice(),
-        ),
-        (
-            Phase::Streaming,
-            Request::Pull(Count::All),
-            [Phase::Ready, Phase::Halted].as_slice(),
-        ),
-        (
-            Phase::Ready,
-            Request::Commit,
-            [Phase::Defunct, Phase::Halted].as_slice(),
-        ),
-        (
-            Phase::Fresh,
-            hello,
-            [Phase::Unauth, Phase::Defunct].as_slice(),
-        ),
-    ];
-    for (from, request, expected) in &cases {
-        let set = after(Version::V51, PhaseSet::of(*from), request);
-        assert!(rt; is_set(set, expected), "at {request:?}");
+    for (from, line, expected) in FOLLOWING {
+        let set = following(rt.alloc(), *from, line);
+        assert!(rt; is_set(set, expected), "at {line}");
     }
 }
 
@@ -85,28 +81,23 @@ const ALLOWED: &[(Version, &[Phase], Kind, bool)] = &[
     (Version::V50, &[Phase::Halted], Kind::Logon, false),
 ];
 
+/// A phase, a request that waits, by its line, and whether a kind of request is allowed then: a RUN while a PULL waits, of two rows and of
+/// all, and a RESET while a LOGOFF waits.
+const WAITING: &[(Phase, &str, Kind, bool)] = &[
+    (Phase::Streaming, "pull 2", Kind::Run, false),
+    (Phase::Streaming, "pull -1", Kind::Run, true),
+    (Phase::Ready, "logoff", Kind::Reset, false),
+];
+
 #[test]
 fn what_is_allowed(rt: HostRuntime) {
     for (version, phases, kind, expected) in ALLOWED {
         let told = allowed(*version, set(phases), *kind);
         assert!(rt; told == *expected, "at {phases:?}, {kind:?}");
     }
-    let waiting = [
-        // a RUN while a PULL waits, of two rows and of all
-        (
-            Phase::Streaming,
-            Request::Pull(Count::Of(2)),
-            Kind::Run,
-            false,
-        ),
-        (Phase::Streaming, Request::Pull(Count::All), Kind::Run, true),
-        // a RESET while a LOGOFF waits
-        (Phase::Ready, Request::Logoff, Kind::Reset, false),
-    ];
-    for (from, request, kind, expected) in &waiting {
-        let set = after(Version::V51, PhaseSet::of(*from), request);
-        let told = allowed(Version::V51, set, *kind);
-        assert!(rt; told == *expected, "at {request:?}, {kind:?}");
+    for (from, line, kind, expected) in WAITING {
+        let told = allowed(Version::V51, following(rt.alloc(), *from, line), *kind);
+        assert!(rt; told == *expected, "at {line}, {kind:?}");
     }
 }
 

@@ -1,3 +1,4 @@
+use crate::answers::said_request;
 use bytes::BytesMut;
 use messages::*;
 use packstream::decode;
@@ -145,49 +146,56 @@ fn is_written(alloc: Global, version: Version, request: &Request, text: &[u8]) -
     write_request(version, request, &mut out).is_ok() && out.as_slice() == text
 }
 
-fn begin(mode: Mode, token: Option<String>) -> Request {
-    Request::Begin { mode, token }
+/// Lines of requests, and the bytes that they are written as.
+const WRITTEN: &[(&str, &[u8])] = &[
+    ("pull -1", &[0xB1, 0x3F, 0xA1, 0x81, 0x6E, 0xFF]),
+    ("discard 5", &[0xB1, 0x2F, 0xA1, 0x81, 0x6E, 0x05]),
+    ("begin", &[0xB1, 0x11, 0xA0]),
+    (
+        "begin r",
+        &[0xB1, 0x11, 0xA1, 0x84, 0x6D, 0x6F, 0x64, 0x65, 0x81, 0x72],
+    ),
+    ("begin token t1", BEGIN_OF_T1),
+    ("reset", &[0xB0, 0x0F]),
+    ("goodbye", &[0xB0, 0x02]),
+    ("commit", &[0xB0, 0x12]),
+    ("rollback", &[0xB0, 0x13]),
+    ("logoff", &[0xB0, 0x6B]),
+    (
+        "run ONE A0",
+        &[0xB3, 0x10, 0x83, 0x4F, 0x4E, 0x45, 0xA0, 0xA0],
+    ),
+];
+
+/// Whether the request of a line is written as these bytes.
+fn is_line_written(alloc: Global, line: &str, text: &[u8]) -> bool {
+    match said_request(alloc, Version::V51, line) {
+        Some(request) => is_written(alloc, Version::V51, &request, text),
+        None => false,
+    }
 }
 
 #[test]
-fn written_requests(rt: HostRuntime) -> Result<(), Fail> {
-    let t1 = String::from_str(rt.alloc(), "t1")?;
-    let run = Request::Run {
-        text: String::from_str(rt.alloc(), "ONE")?,
-        params: Vec::new(rt.alloc()),
-        mode: Mode::Write,
-        token: None,
-    };
-    let requests = [
-        (
-            Request::Pull(Count::All),
-            [0xB1, 0x3F, 0xA1, 0x81, 0x6E, 0xFF].as_slice(),
-        ),
-        (
-            Request::Discard(Count::Of(5)),
-            &[0xB1, 0x2F, 0xA1, 0x81, 0x6E, 0x05],
-        ),
-        (begin(Mode::Write, None), &[0xB1, 0x11, 0xA0]),
-        (
-            begin(Mode::Read, None),
-            &[0xB1, 0x11, 0xA1, 0x84, 0x6D, 0x6F, 0x64, 0x65, 0x81, 0x72],
-        ),
-        (begin(Mode::Write, Some(t1)), BEGIN_OF_T1),
-        (Request::Reset, &[0xB0, 0x0F]),
-        (Request::Goodbye, &[0xB0, 0x02]),
-        (Request::Commit, &[0xB0, 0x12]),
-        (Request::Rollback, &[0xB0, 0x13]),
-        (Request::Logoff, &[0xB0, 0x6B]),
-        (run, &[0xB3, 0x10, 0x83, 0x4F, 0x4E, 0x45, 0xA0, 0xA0]),
-    ];
-    for (request, text) in &requests {
-        assert!(rt;
-            is_written(rt.alloc(), Version::V51, request, text),
-            "at {request:?}"
-        );
+fn written_requests(rt: HostRuntime) {
+    for (line, text) in WRITTEN {
+        assert!(rt; is_line_written(rt.alloc(), line, text), "at {line}");
     }
-    Ok(())
 }
+
+/// Versions, requests of 5.1 by their lines, and the codes of why they aren't written: none of the version, none of no rows, a HELLO without the
+/// login, a token of 65 bytes.
+const UNWRITTEN: &[(Version, &str, &str)] = &[
+    (Version::V44, "logoff", "M3"),
+    (Version::V50, "logoff", "M3"),
+    (Version::V51, "pull 0", "M5"),
+    (Version::V44, "hello", "M5"),
+    (Version::V50, "hello", "M5"),
+    (
+        Version::V51,
+        "begin r token aaaaaaaaaaaaaaaaaaaaaaaaaaaaaaaaaaaaaaaaaaaaaaaaaaaaaaaaaaaaaaaaa",
+        "M5",
+    ),
+];
 
 /// Whether writing the request tells the fault of this code, and appends nothing.
 fn is_unwritten(alloc: Global, version: Version, request: &Request, told: &str) -> bool {
@@ -198,23 +206,25 @@ fn is_unwritten(alloc: Global, version: Version, request: &Request, told: &str) 
     }
 }
 
-#[test]
-fn unwritten_requests(rt: HostRuntime) -> Result<(), Fail> {
-    let alloc = rt.alloc();
-    assert!(rt; is_unwritten(alloc, Version::V44, &Request::Logoff, "M3"));
-    assert!(rt; is_unwritten(alloc, Version::V50, &Request::Logoff, "M3"));
-    assert!(rt; is_unwritten(alloc, Version::V51, &Request::Pull(Count::Of(0)), "M5"));
-    let hello = Request::Hello {
-        agent: String::from_str(alloc, "t/1")?,
-        auth: None,
-    };
-    assert!(rt; is_unwritten(alloc, Version::V44, &hello, "M5"));
-    assert!(rt; is_unwritten(alloc, Version::V50, &hello, "M5"));
-    for count in [0, 65] {
-        let token = "a".repeat(alloc, count)?;
-        assert!(rt; is_unwritten(alloc, Version::V51, &begin(Mode::Read, Some(token)), "M5"));
+/// Whether writing the request of a line tells this.
+fn is_line_unwritten(alloc: Global, version: Version, line: &str, told: &str) -> bool {
+    match said_request(alloc, Version::V51, line) {
+        Some(request) => is_unwritten(alloc, version, &request, told),
+        None => false,
     }
-    Ok(())
+}
+
+#[test]
+fn unwritten_requests(rt: HostRuntime) {
+    let alloc = rt.alloc();
+    for (version, line, told) in UNWRITTEN {
+        assert!(rt; is_line_unwritten(alloc, *version, line, told), "at {line}");
+    }
+    let unnamed = Request::Begin {
+        mode: Mode::Read,
+        token: Some(String::new(alloc)),
+    };
+    assert!(rt; is_unwritten(alloc, Version::V51, &unnamed, "M5"));
 }
 
 /// Bytes that stand for no request of the version, and the codes of why.

@@ -7,7 +7,6 @@ use crate::calls::{
 };
 use client::*;
 use machine::Phase;
-use messages::Count;
 use std::test::*;
 use wire::{Version, Wish};
 
@@ -18,7 +17,7 @@ const ALONE_AT_5_0: Wish = Wish::Only(Version::V50);
 /// A client of 4.4 is logged on.
 const LOGS_ON: &[Step] = &[
     Feeds(OLD, Told::Version(Version::V44)),
-    Asks(HelloOld, "accepted"),
+    Asks(Old("hello"), "accepted"),
     Hears(SUCCESS, Told::Summary(0, Outcome::Done, Phase::Ready)),
 ];
 
@@ -32,10 +31,10 @@ const A_STRANGE_VERSION: &[Step] = &[Feeds(&[0, 1, 1, 5], Told::BadPeer)];
 
 const NO_VERSION: &[Step] = &[
     Feeds(&[0, 0], Told::Nothing(2)),
-    Asks(Reset, "C1"),
+    Asks(Line("reset"), "C1"),
     Feeds(&[0, 0, 9], Told::NoVersion),
     Feeds(&[0, 0, 9], Told::Closed),
-    Asks(Reset, "C4"),
+    Asks(Line("reset"), "C4"),
     Takes(100, 20),
 ];
 
@@ -43,9 +42,9 @@ const OFFERS: &[Step] = &[
     TakesOut(6, &[0x60, 0x60, 0xB0, 0x17, 0, 1]),
     TakesOut(100, &[1, 5, 0, 0, 4, 4, 0, 0, 0, 0, 0, 0, 0, 0]),
     Feeds(&[0, 0, 4, 4, 1], Told::Version(Version::V44)),
-    Asks(Hello, "M5"),
+    Asks(Line("hello"), "M5"),
     Takes(100, 0),
-    Asks(Goodbye, "accepted"),
+    Asks(Line("goodbye"), "accepted"),
     Stands(1, Phase::Fresh),
     TakesOut(100, &[0, 2, 0xB0, 2, 0, 0]),
 ];
@@ -54,32 +53,32 @@ const OFFERS: &[Step] = &[
 const LOGS_ON_AT_5_0: &[Step] = &[
     Takes(100, 20),
     Feeds(AT_5_0, Told::Version(Version::V50)),
-    Asks(Hello, "M5"),
-    Asks(Logon, "C1"),
-    Asks(HelloOld, "accepted"),
-    Asks(Logon, "C1"),
+    Asks(Line("hello"), "M5"),
+    Asks(Line("logon"), "C1"),
+    Asks(Old("hello"), "accepted"),
+    Asks(Line("logon"), "C1"),
     Takes(100, 67),
     Hears(SUCCESS, Told::Summary(0, Outcome::Done, Phase::Ready)),
-    Asks(Logoff, "C1"),
+    Asks(Line("logoff"), "C1"),
 ];
 
 /// A session at 5.1, with a result in two parts.
 const SESSION: &[Step] = &[
     Feeds(NEW, Told::Version(Version::V51)),
-    Asks(Hello, "accepted"),
-    Asks(Reset, "C1"),
+    Asks(Line("hello"), "accepted"),
+    Asks(Line("reset"), "C1"),
     Hears(SUCCESS, Told::Summary(0, Outcome::Done, Phase::Unauth)),
-    Asks(Logon, "accepted"),
+    Asks(Line("logon"), "accepted"),
     Hears(SUCCESS, Told::Summary(1, Outcome::Done, Phase::Ready)),
-    Asks(Run, "accepted"),
-    Asks(Pull(Count::Of(2)), "accepted"),
-    Asks(Run, "C1"),
+    Asks(Line("run ONE A0"), "accepted"),
+    Asks(Line("pull 2"), "accepted"),
+    Asks(Line("run ONE A0"), "C1"),
     Hears(SUCCESS, Told::Summary(2, Outcome::Done, Phase::Streaming)),
-    Asks(Run, "C1"),
+    Asks(Line("run ONE A0"), "C1"),
     Hears(ROW, Told::Row),
     Hears(MORE, Told::Summary(3, Outcome::Done, Phase::Streaming)),
-    Asks(Pull(Count::All), "accepted"),
-    Asks(Run, "accepted"),
+    Asks(Line("pull -1"), "accepted"),
+    Asks(Line("run ONE A0"), "accepted"),
     Stands(2, Phase::Streaming),
     Hears(
         MORE_OF_ONE,
@@ -90,17 +89,17 @@ const SESSION: &[Step] = &[
 
 const LOGGED_OFF: &[Step] = &[
     Feeds(NEW, Told::Version(Version::V51)),
-    Asks(Hello, "accepted"),
-    Asks(Logon, "accepted"),
+    Asks(Line("hello"), "accepted"),
+    Asks(Line("logon"), "accepted"),
     Hears(SUCCESS, Told::Summary(0, Outcome::Done, Phase::Unauth)),
     Hears(SUCCESS, Told::Summary(1, Outcome::Done, Phase::Ready)),
-    Asks(Logoff, "accepted"),
-    Asks(Reset, "C1"),
+    Asks(Line("logoff"), "accepted"),
+    Asks(Line("reset"), "C1"),
 ];
 
 const LENDS_ITS_READER: &[Step] = &[
     Feeds(NEW, Told::Version(Version::V51)),
-    Asks(Hello, "accepted"),
+    Asks(Line("hello"), "accepted"),
     Feeds(&[0, 2, 0xB1, 0x70], Told::Nothing(4)),
     Reads(false),
     Feeds(&[0, 1, 0xA0], Told::Nothing(3)),
@@ -112,7 +111,7 @@ const LENDS_ITS_READER: &[Step] = &[
 /// A message that can't be a value is a bad answer with its last byte, and not before.
 const BAD_AT_ITS_END: &[Step] = &[
     Feeds(NEW, Told::Version(Version::V51)),
-    Asks(Hello, "accepted"),
+    Asks(Line("hello"), "accepted"),
     Feeds(&[0, 2, 0xC4, 0xC4], Told::Nothing(4)),
     Feeds(&[0, 1, 0xC4, 0], Told::Nothing(4)),
     Feeds(&[0], Told::BadPeer),
@@ -120,38 +119,44 @@ const BAD_AT_ITS_END: &[Step] = &[
 ];
 
 const ROW_FOR_A_RUN: &[Step] = &[
-    Asks(Run, "accepted"),
+    Asks(Line("run ONE A0"), "accepted"),
     Hears(ROW, Told::BadPeer),
     Hears(ROW, Told::Closed),
 ];
 
 const MORE_WITHOUT_A_ROW: &[Step] = &[
-    Asks(Run, "accepted"),
-    Asks(Pull(Count::All), "accepted"),
+    Asks(Line("run ONE A0"), "accepted"),
+    Asks(Line("pull -1"), "accepted"),
     Hears(SUCCESS, Told::Summary(1, Outcome::Done, Phase::Streaming)),
     Hears(MORE, Told::BadPeer),
 ];
 
-const IGNORED_RESET: &[Step] = &[Asks(Reset, "accepted"), Hears(IGNORED, Told::BadPeer)];
+const IGNORED_RESET: &[Step] = &[
+    Asks(Line("reset"), "accepted"),
+    Hears(IGNORED, Told::BadPeer),
+];
 
 const IGNORED_GOODBYE: &[Step] = &[
-    Asks(Goodbye, "accepted"),
+    Asks(Line("goodbye"), "accepted"),
     Hears(IGNORED, Told::BadPeer),
-    Asks(Reset, "C4"),
+    Asks(Line("reset"), "C4"),
 ];
 
 const UNASKED: &[Step] = &[Hears(SUCCESS, Told::BadPeer)];
 
-const UNREADABLE: &[Step] = &[Asks(Reset, "accepted"), Hears(&[0xC0], Told::BadPeer)];
+const UNREADABLE: &[Step] = &[
+    Asks(Line("reset"), "accepted"),
+    Hears(&[0xC0], Told::BadPeer),
+];
 
 const GOODBYE: &[Step] = &[
     Awaits(false),
-    Asks(Reset, "accepted"),
+    Asks(Line("reset"), "accepted"),
     Awaits(true),
     Hears(SUCCESS, Told::Summary(1, Outcome::Done, Phase::Ready)),
-    Asks(Goodbye, "accepted"),
+    Asks(Line("goodbye"), "accepted"),
     Awaits(false),
-    Asks(Reset, "C1"),
+    Asks(Line("reset"), "C1"),
     Loses(&[(2, Outcome::Lost)]),
     Stands(0, Phase::Ready),
     Loses(&[]),
@@ -161,10 +166,10 @@ const GOODBYE: &[Step] = &[
 
 /// A transaction in one pipeline.
 const TRANSACTION: &[Step] = &[
-    Asks(Begin, "accepted"),
-    Asks(Run, "accepted"),
-    Asks(Pull(Count::All), "accepted"),
-    Asks(Commit, "accepted"),
+    Asks(Line("begin"), "accepted"),
+    Asks(Line("run ONE A0"), "accepted"),
+    Asks(Line("pull -1"), "accepted"),
+    Asks(Line("commit"), "accepted"),
 ];
 
 const UNHEARD: &[Step] = &[Loses(&[
@@ -181,10 +186,10 @@ const FAILED: &[Step] = &[
 ];
 
 const IGNORED_AFTER_A_FAILURE: &[Step] = &[
-    Asks(Begin, "accepted"),
-    Asks(Run, "accepted"),
-    Asks(Pull(Count::All), "accepted"),
-    Asks(Reset, "accepted"),
+    Asks(Line("begin"), "accepted"),
+    Asks(Line("run ONE A0"), "accepted"),
+    Asks(Line("pull -1"), "accepted"),
+    Asks(Line("reset"), "accepted"),
     Hears(SUCCESS, Told::Summary(1, Outcome::Done, Phase::TxReady)),
     Hears(FAILURE, Told::Summary(2, Outcome::Refused, Phase::Halted)),
     Hears(IGNORED, Told::Summary(3, Outcome::Ignored, Phase::Halted)),
@@ -192,21 +197,24 @@ const IGNORED_AFTER_A_FAILURE: &[Step] = &[
 ];
 
 const IGNORED_BEFORE_A_RESET: &[Step] = &[
-    Asks(Run, "accepted"),
-    Asks(Reset, "accepted"),
+    Asks(Line("run ONE A0"), "accepted"),
+    Asks(Line("reset"), "accepted"),
     Hears(IGNORED, Told::Summary(1, Outcome::Ignored, Phase::Halted)),
 ];
 
-const IGNORED_ALONE: &[Step] = &[Asks(Run, "accepted"), Hears(IGNORED, Told::BadPeer)];
+const IGNORED_ALONE: &[Step] = &[
+    Asks(Line("run ONE A0"), "accepted"),
+    Hears(IGNORED, Told::BadPeer),
+];
 
-const ASKS_A_RESET: Step = Asks(Reset, "accepted");
+const ASKS_A_RESET: Step = Asks(Line("reset"), "accepted");
 
 const FULL: &[Step] = &[
-    Asks(Reset, "C2"),
-    Asks(Commit, "C1"),
+    Asks(Line("reset"), "C2"),
+    Asks(Line("commit"), "C1"),
     Hears(SUCCESS, Told::Summary(1, Outcome::Done, Phase::Ready)),
-    Asks(Pull(Count::Of(0)), "C1"),
-    Asks(Reset, "accepted"),
+    Asks(Line("pull 0"), "C1"),
+    Asks(Line("reset"), "accepted"),
 ];
 
 const SIZES: &[Step] = &[
@@ -222,7 +230,7 @@ const UNWRITABLE: &[Step] = &[
     Asks(Nested(31), "P6 at 33"),
     Asks(Nested(32), "P6 at 32"),
     Asks(Twice, "P5 at 2"),
-    Asks(Zoned, "S6 at 0"),
+    Asks(Line("run ECHO A18178B369000083555443"), "S6 at 0"),
     Asks(BeginUnder(0), "M5"),
     Asks(BeginUnder(65), "M5"),
     Stands(0, Phase::Ready),
@@ -232,7 +240,7 @@ const UNWRITABLE: &[Step] = &[
 
 /// A message between no-ops, in pieces of one to four bytes.
 const IN_SMALL_PIECES: &[Step] = &[
-    Asks(Reset, "accepted"),
+    Asks(Line("reset"), "accepted"),
     Feeds(&[0], Told::Nothing(1)),
     Feeds(&[0], Told::Nothing(1)),
     Feeds(&[0], Told::Nothing(1)),
@@ -256,10 +264,10 @@ const TOO_BIG: &[Step] = &[
 const LOST_AFTER_A_COMMIT: &[Step] = &[
     Takes(usize::MAX, 20),
     FeedsAll(OLD, 0),
-    Asks(HelloOld, "accepted"),
+    Asks(Old("hello"), "accepted"),
     FeedsAll(&[0, 0, 0, 3, 0xB1, 0x70, 0xA0, 0, 0], 1),
-    Asks(Begin, "accepted"),
-    Asks(Commit, "accepted"),
+    Asks(Line("begin"), "accepted"),
+    Asks(Line("commit"), "accepted"),
     Takes(usize::MAX, 80),
     First(1),
     Loses(&[(1, Outcome::Lost), (2, Outcome::Unknown)]),
@@ -275,6 +283,15 @@ const PLAYED: &[(&str, Wish, &[&[Step]])] = &[
     ("logged off", Wish::Newest, &[LOGGED_OFF]),
     ("lends its reader", Wish::Newest, &[LENDS_ITS_READER]),
     ("bad at its end", Wish::Newest, &[BAD_AT_ITS_END]),
+    ("sizes", OLD_ALONE, &[LOGS_ON, SIZES]),
+    ("unwritable", OLD_ALONE, &[LOGS_ON, UNWRITABLE]),
+    ("in small pieces", OLD_ALONE, &[LOGS_ON, IN_SMALL_PIECES]),
+    ("too big", Wish::Newest, &[TOO_BIG]),
+    ("unreadable", OLD_ALONE, &[LOGS_ON, UNREADABLE]),
+];
+
+/// Those in which it is logged on, and hears what it didn't ask for, or loses what it did.
+const PLAYED_ON: &[(&str, Wish, &[&[Step]])] = &[
     ("a row for a RUN", OLD_ALONE, &[LOGS_ON, ROW_FOR_A_RUN]),
     (
         "more without a row",
@@ -284,7 +301,6 @@ const PLAYED: &[(&str, Wish, &[&[Step]])] = &[
     ("an ignored RESET", OLD_ALONE, &[LOGS_ON, IGNORED_RESET]),
     ("an ignored GOODBYE", OLD_ALONE, &[LOGS_ON, IGNORED_GOODBYE]),
     ("unasked", OLD_ALONE, &[LOGS_ON, UNASKED]),
-    ("unreadable", OLD_ALONE, &[LOGS_ON, UNREADABLE]),
     ("goodbye", OLD_ALONE, &[LOGS_ON, GOODBYE]),
     ("lost unheard", OLD_ALONE, &[LOGS_ON, TRANSACTION, UNHEARD]),
     (
@@ -304,10 +320,6 @@ const PLAYED: &[(&str, Wish, &[&[Step]])] = &[
     ),
     ("ignored alone", OLD_ALONE, &[LOGS_ON, IGNORED_ALONE]),
     ("full", OLD_ALONE, &[LOGS_ON, &[ASKS_A_RESET; 32], FULL]),
-    ("sizes", OLD_ALONE, &[LOGS_ON, SIZES]),
-    ("unwritable", OLD_ALONE, &[LOGS_ON, UNWRITABLE]),
-    ("in small pieces", OLD_ALONE, &[LOGS_ON, IN_SMALL_PIECES]),
-    ("too big", Wish::Newest, &[TOO_BIG]),
     ("lost after a COMMIT", OLD_ALONE, &[LOST_AFTER_A_COMMIT]),
 ];
 
@@ -324,6 +336,14 @@ const PLAYED_AT_5_0: &[(&str, Wish, &[&[Step]])] = &[
 #[test]
 fn answers(rt: HostRuntime) -> Result<(), Fail> {
     for (name, wish, parts) in PLAYED {
+        plays(&rt, name, *wish, parts)?;
+    }
+    Ok(())
+}
+
+#[test]
+fn answers_on(rt: HostRuntime) -> Result<(), Fail> {
+    for (name, wish, parts) in PLAYED_ON {
         plays(&rt, name, *wish, parts)?;
     }
     Ok(())

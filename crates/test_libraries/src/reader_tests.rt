@@ -79,27 +79,42 @@ const LONGER: &[(&[u8], &[u8])] = &[
     (&[0xD8, 1, 0x81, 0x61, 1], &[0xA1, 0x81, 0x61, 1]),
 ];
 
-/// Whether a copy of what the bytes are read as, and what is made of a copy, are written as these.
-fn is_copied(alloc: Global, input: &[u8], output: &[u8]) -> Result<bool, AllocError> {
-    let Ok(packed) = decode(alloc, input) else {
-        return Ok(false);
-    };
-    let is_copied = gives(alloc, Ok(packed.clone()?), output);
-    let is_made = gives(
-        alloc,
-        Packed::new_in(alloc, packed.value().clone()?),
-        output,
-    );
-    Ok(is_copied && is_made)
+/// Whether a copy of the value is written as these bytes.
+fn is_cloned(alloc: Global, packed: &Packed, output: &[u8]) -> bool {
+    match packed.clone() {
+        Ok(copy) => gives(alloc, Ok(copy), output),
+        Err(_) => false,
+    }
 }
 
-/// Whether the bytes, with one more behind them, are read up to that one.
-fn is_front(alloc: Global, input: &[u8], output: &[u8]) -> Result<bool, AllocError> {
+/// Whether what is made of a copy is written as these bytes.
+fn is_remade(alloc: Global, packed: &Packed, output: &[u8]) -> bool {
+    match packed.value().clone() {
+        Ok(value) => gives(alloc, Packed::new_in(alloc, value), output),
+        Err(_) => false,
+    }
+}
+
+/// Whether a copy of what the bytes are read as, and what is made of a copy, are written as these.
+fn is_copied(alloc: Global, input: &[u8], output: &[u8]) -> bool {
+    match decode(alloc, input) {
+        Ok(packed) => is_cloned(alloc, &packed, output) && is_remade(alloc, &packed, output),
+        Err(_) => false,
+    }
+}
+
+/// The bytes with one more behind them.
+fn one_more(alloc: Global, input: &[u8]) -> Result<Vec<u8>, AllocError> {
     let mut longer = Vec::from_slice(alloc, input)?;
     longer.push(0xC0)?;
-    match decode_front(alloc, &longer) {
-        Ok((front, used)) => Ok(used == input.len() && gives(alloc, Ok(front), output)),
-        Err(_) => Ok(false),
+    Ok(longer)
+}
+
+/// Whether the front of these bytes, of so many, is read as the value that is written as these.
+fn is_front(alloc: Global, longer: &[u8], count: usize, output: &[u8]) -> bool {
+    match decode_front(alloc, longer) {
+        Ok((front, used)) => used == count && gives(alloc, Ok(front), output),
+        Err(_) => false,
     }
 }
 
@@ -113,29 +128,33 @@ fn by_bytes(alloc: Global, bytes: &[u8]) -> Result<Reader, AllocError> {
 }
 
 /// Whether the decoder, and the reader, fed byte by byte or as one piece, give the value that is written as these bytes.
-fn is_read(alloc: Global, input: &[u8], output: &[u8]) -> Result<bool, AllocError> {
-    let of_bytes = gives(alloc, by_bytes(alloc, input)?.finish(), output);
-    let of_piece = gives(alloc, read_piece(alloc, input), output);
-    let of_decoder = gives(alloc, decode(alloc, input), output);
-    Ok(of_bytes && of_piece && of_decoder)
+fn is_read(alloc: Global, input: &[u8], output: &[u8]) -> bool {
+    let is_of_bytes = match by_bytes(alloc, input) {
+        Ok(reader) => gives(alloc, reader.finish(), output),
+        Err(_) => false,
+    };
+    is_of_bytes
+        && gives(alloc, read_piece(alloc, input), output)
+        && gives(alloc, decode(alloc, input), output)
 }
 
 /// Whether decoders and reader read the bytes as the value that is written as these.
-fn is_spelled(alloc: Global, input: &[u8], output: &[u8]) -> Result<bool, AllocError> {
-    let is_copied = is_copied(alloc, input, output)?;
-    let is_front = is_front(alloc, input, output)?;
-    Ok(is_copied && is_front && is_read(alloc, input, output)?)
+fn is_spelled(alloc: Global, input: &[u8], output: &[u8]) -> bool {
+    let is_front = match one_more(alloc, input) {
+        Ok(longer) => is_front(alloc, &longer, input.len(), output),
+        Err(_) => false,
+    };
+    is_front && is_copied(alloc, input, output) && is_read(alloc, input, output)
 }
 
 #[test]
-fn spellings(rt: HostRuntime) -> Result<(), Fail> {
+fn spellings(rt: HostRuntime) {
     for bytes in SHORTEST {
-        assert!(rt; is_spelled(rt.alloc(), bytes, bytes)?, "at {bytes:?}");
+        assert!(rt; is_spelled(rt.alloc(), bytes, bytes), "at {bytes:?}");
     }
     for (bytes, output) in LONGER {
-        assert!(rt; is_spelled(rt.alloc(), bytes, output)?, "at {bytes:?}");
+        assert!(rt; is_spelled(rt.alloc(), bytes, output), "at {bytes:?}");
     }
-    Ok(())
 }
 
 /// What a value is.
@@ -241,32 +260,26 @@ fn is_undecoded(alloc: Global, input: &[u8], reason: Reason, place: usize) -> bo
 }
 
 /// Whether the reader tells this of the whole, and, fed byte by byte, of these bytes and of more, which change only that they are short.
-fn is_unread(
-    alloc: Global,
-    input: &[u8],
-    reason: Reason,
-    place: usize,
-) -> Result<bool, AllocError> {
-    let mut reader = by_bytes(alloc, input)?;
+fn is_unread(alloc: Global, input: &[u8], reason: Reason, place: usize) -> bool {
+    let Ok(mut reader) = by_bytes(alloc, input) else {
+        return false;
+    };
     let is_refused_here = is_refused(reader.finish(), reason, place);
-    reader.feed(HELLO)?;
+    let is_more = reader.feed(HELLO).is_ok();
     let stays = reason == Reason::Short || is_refused(reader.finish(), reason, place);
-    Ok(is_refused_here && stays && is_refused(read_piece(alloc, input), reason, place))
+    let is_refused_whole = is_refused(read_piece(alloc, input), reason, place);
+    is_refused_here && is_more && stays && is_refused_whole
 }
 
 #[test]
-fn refusals(rt: HostRuntime) -> Result<(), Fail> {
+fn refusals(rt: HostRuntime) {
     for (bytes, reason, place) in REFUSED {
         assert!(rt;
-            is_undecoded(rt.alloc(), bytes, *reason, *place),
-            "at {bytes:?}"
-        );
-        assert!(rt;
-            is_unread(rt.alloc(), bytes, *reason, *place)?,
+            is_undecoded(rt.alloc(), bytes, *reason, *place)
+                && is_unread(rt.alloc(), bytes, *reason, *place),
             "at {bytes:?}"
         );
     }
-    Ok(())
 }
 
 /// A dictionary of 400 pairs, of which the last key is this one.
@@ -280,18 +293,21 @@ fn many_keys(alloc: Global, last: [u8; 2]) -> Result<Vec<u8>, AllocError> {
     Ok(bytes)
 }
 
-#[test]
-fn keys_of_a_stranger(rt: HostRuntime) -> Result<(), Fail> {
-    let good = many_keys(rt.alloc(), [3, 99])?;
-    assert!(rt; is_read(rt.alloc(), &good, &good)?);
-    for again in [[0, 0], [1, 50], [3, 98]] {
-        let bad = many_keys(rt.alloc(), again)?;
-        assert!(rt;
-            is_unread(rt.alloc(), &bad, Reason::KeyTwice, 1599)?,
-            "at {again:?}"
-        );
+/// Whether a dictionary with this last key is read, or told to have a key twice.
+fn are_keys(alloc: Global, last: [u8; 2], is_good: bool) -> bool {
+    match many_keys(alloc, last) {
+        Ok(bytes) if is_good => is_read(alloc, &bytes, &bytes),
+        Ok(bytes) => is_unread(alloc, &bytes, Reason::KeyTwice, 1599),
+        Err(_) => false,
     }
-    Ok(())
+}
+
+#[test]
+fn keys_of_a_stranger(rt: HostRuntime) {
+    assert!(rt; are_keys(rt.alloc(), [3, 99], true));
+    for again in [[0, 0], [1, 50], [3, 98]] {
+        assert!(rt; are_keys(rt.alloc(), again, false), "at {again:?}");
+    }
 }
 
 /// Whether HELLO is read of three pieces. The point behind the first is held, and the reader returns to it from another piece.

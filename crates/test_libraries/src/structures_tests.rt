@@ -11,6 +11,14 @@ fn cell(alloc: Global, version: Version, input: &[u8]) -> Result<Cell, Fail> {
     Ok(read(alloc, version, &packed)?)
 }
 
+/// The same, None where it is refused.
+fn cell_of(alloc: Global, version: Version, input: &[u8]) -> Option<Cell> {
+    match decode(alloc, input) {
+        Ok(packed) => read(alloc, version, &packed).ok(),
+        Err(_) => None,
+    }
+}
+
 /// Whether the cell is written as these bytes.
 fn is_written(alloc: Global, version: Version, cell: &Cell, output: &[u8]) -> bool {
     match write(alloc, version, cell) {
@@ -98,28 +106,30 @@ const WRITTEN: &[(Version, &[u8], Version, &[u8])] = &[
     ),
 ];
 
+/// Whether a copy of the cell is written as these bytes.
+fn is_cloned(alloc: Global, cell: &Cell, to: Version, output: &[u8]) -> bool {
+    match cell.clone() {
+        Ok(copy) => is_written(alloc, to, &copy, output),
+        Err(_) => false,
+    }
+}
+
 /// Whether a copy of the cell of the bytes is written as these.
-fn is_copied(
-    alloc: Global,
-    version: Version,
-    input: &[u8],
-    to: Version,
-    output: &[u8],
-) -> Result<bool, Fail> {
-    let cell = cell(alloc, version, input)?;
-    let copy = cell.clone()?;
-    Ok(is_written(alloc, to, &copy, output))
+fn is_copied(alloc: Global, version: Version, input: &[u8], to: Version, output: &[u8]) -> bool {
+    match cell_of(alloc, version, input) {
+        Some(cell) => is_cloned(alloc, &cell, to, output),
+        None => false,
+    }
 }
 
 #[test]
-fn written(rt: HostRuntime) -> Result<(), Fail> {
+fn written(rt: HostRuntime) {
     for (version, input, to, output) in WRITTEN {
         assert!(rt;
-            is_copied(rt.alloc(), *version, input, *to, output)?,
+            is_copied(rt.alloc(), *version, input, *to, output),
             "at {input:?}"
         );
     }
-    Ok(())
 }
 
 /// Bytes of a cell at one version, and what the cell is written as once it is fitted to another.
@@ -148,26 +158,24 @@ const FITTED: &[(Version, &[u8], Version, &[u8])] = &[
     (Version::V51, NEW_PATH, Version::V44, OLD_PATH),
 ];
 
-fn is_fitted(
-    alloc: Global,
-    version: Version,
-    input: &[u8],
-    to: Version,
-    output: &[u8],
-) -> Result<bool, Fail> {
-    let fitted = fit(alloc, cell(alloc, version, input)?, to)?;
-    Ok(is_written(alloc, to, &fitted, output))
+fn is_fitted(alloc: Global, version: Version, input: &[u8], to: Version, output: &[u8]) -> bool {
+    let Some(cell) = cell_of(alloc, version, input) else {
+        return false;
+    };
+    match fit(alloc, cell, to) {
+        Ok(fitted) => is_written(alloc, to, &fitted, output),
+        Err(_) => false,
+    }
 }
 
 #[test]
-fn fitted(rt: HostRuntime) -> Result<(), Fail> {
+fn fitted(rt: HostRuntime) {
     for (version, input, to, output) in FITTED {
         assert!(rt;
-            is_fitted(rt.alloc(), *version, input, *to, output)?,
+            is_fitted(rt.alloc(), *version, input, *to, output),
             "at {input:?}"
         );
     }
-    Ok(())
 }
 
 /// What a cell of a time holds.
@@ -242,7 +250,11 @@ const UNWRITTEN: &[(Version, &[u8], Version, CellFault)] = &[
     ),
 ];
 
-fn is_unwritten(alloc: Global, version: Version, cell: Cell, wanted: &CellFault) -> bool {
+/// Whether writing a cell that was made tells this.
+fn is_unwritten(alloc: Global, version: Version, made: Option<Cell>, wanted: &CellFault) -> bool {
+    let Some(cell) = made else {
+        return false;
+    };
     match write(alloc, version, &cell) {
         Ok(_) => false,
         Err(fault) => is_fault(&fault, wanted),
@@ -250,25 +262,27 @@ fn is_unwritten(alloc: Global, version: Version, cell: Cell, wanted: &CellFault)
 }
 
 #[test]
-fn unwritten(rt: HostRuntime) -> Result<(), Fail> {
+fn unwritten(rt: HostRuntime) {
     for (version, input, to, fault) in UNWRITTEN {
-        let told = is_unwritten(rt.alloc(), *to, cell(rt.alloc(), *version, input)?, fault);
+        let told = is_unwritten(rt.alloc(), *to, cell_of(rt.alloc(), *version, input), fault);
         assert!(rt; told, "at {input:?}");
     }
-    Ok(())
 }
 
 /// One list more around the deepest.
-fn too_deep(alloc: Global) -> Result<Cell, Fail> {
-    let deepest = cell(alloc, Version::V44, DEEPEST)?;
-    Ok(Cell::List(vec![in alloc; deepest]?))
+fn too_deep(alloc: Global) -> Option<Cell> {
+    let deepest = cell_of(alloc, Version::V44, DEEPEST)?;
+    let lists = vec![in alloc; deepest].ok()?;
+    Some(Cell::List(lists))
 }
 
 /// A dictionary with a key twice.
 fn twice(alloc: Global) -> Result<Cell, AllocError> {
-    let first = (String::from_str(alloc, "a")?, Cell::Int(1));
-    let second = (String::from_str(alloc, "a")?, Cell::Int(2));
-    Ok(Cell::Dict(vec![in alloc; first, second]?))
+    let mut pairs = Vec::new(alloc);
+    for number in [1, 2] {
+        pairs.push((String::from_str(alloc, "a")?, Cell::Int(number)))?;
+    }
+    Ok(Cell::Dict(pairs))
 }
 
 const LATE: &CellFault = &CellFault::Refused(Reason::Range, 0);
@@ -278,13 +292,12 @@ const TOO_DEEP: &CellFault = &CellFault::Pack(packstream::Reason::Depth, 32);
 const KEY_TWICE: &CellFault = &CellFault::Pack(packstream::Reason::KeyTwice, 2);
 
 #[test]
-fn cells_without_bytes(rt: HostRuntime) -> Result<(), Fail> {
+fn cells_without_bytes(rt: HostRuntime) {
     let alloc = rt.alloc();
     let late = Cell::LocalTime {
         nanos: 86_400_000_000_000,
     };
-    assert!(rt; is_unwritten(alloc, Version::V44, late, LATE));
-    assert!(rt; is_unwritten(alloc, Version::V44, too_deep(alloc)?, TOO_DEEP));
-    assert!(rt; is_unwritten(alloc, Version::V51, twice(alloc)?, KEY_TWICE));
-    Ok(())
+    assert!(rt; is_unwritten(alloc, Version::V44, Some(late), LATE));
+    assert!(rt; is_unwritten(alloc, Version::V44, too_deep(alloc), TOO_DEEP));
+    assert!(rt; is_unwritten(alloc, Version::V51, twice(alloc).ok(), KEY_TWICE));
 }

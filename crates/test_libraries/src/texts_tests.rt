@@ -1,5 +1,6 @@
 //! The texts of faults and of refusals.
 
+use crate::answers::prints;
 use client::{ClientFault, SubmitFault, Unwritable};
 use engine::EngineFault;
 use messages::MsgFault;
@@ -105,13 +106,6 @@ const OF_SUBMIT: &[(SubmitFault, &str)] = &[
         "P5 at 3",
     ),
 ];
-
-fn prints(alloc: Global, fault: &impl fmt::Display, wanted: &str) -> bool {
-    match format!(in alloc; "{fault}") {
-        Ok(text) => text.as_str() == wanted,
-        Err(_) => false,
-    }
-}
 
 /// The first text that isn't so.
 fn wrong_in<'a>(alloc: Global, rows: &'a [(impl fmt::Display, &'static str)]) -> Option<&'a str> {

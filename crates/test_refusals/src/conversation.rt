@@ -1,5 +1,7 @@
 //! A client and a server, call by call, each call again where it is refused for memory.
 
+use crate::asked::{Table, Unplayed, requests, server};
+use crate::play::mixed;
 use bytes::Bytes;
 use client::{Client, ClientFault, Heard, SubmitFault};
 use engine::Engine;
@@ -7,7 +9,6 @@ use machine::{Phase, State};
 use messages::Request;
 use server::{Cause, Refused, Took, Worked};
 use std::alloc::Global;
-use test_worlds::{Table, Unplayed, mixed, requests, server};
 use wire::{Version, Wish};
 
 /// How often a call is given again.

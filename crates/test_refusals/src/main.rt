@@ -1,18 +1,28 @@
 //! The program `test_refusals`: plays scripts, a conversation of both ends, and the decoding and encoding of a value, each call given
-//! again where it is refused for memory, for who refuses allocations from outside and compares what is told. Names come on
-//! standard input, a line each; of each it tells whether all held, and on standard error a digest of all that was told.
+//! again where it is refused for memory, for who refuses allocations from outside and compares what is told, and for who holds what is told
+//! against what clients may rely on. What is to be played comes on standard input, each parted from the next by a line `.`: `play N` or
+//! `brought N`, and a script behind it, of which it tells all that is seen, and what is reported behind each Nth line; `rows`, for the rows
+//! of the machine; or the name of what else is played, of which it tells whether all held, and on standard error a digest.
 #![tactic(auto)]
 
+mod asked;
+mod brought;
 mod conversation;
 mod hunger;
+mod notes;
+mod play;
+mod rows;
+mod script;
 mod spelling;
 mod without;
 
+use asked::Unplayed;
 use conversation::ends;
+use play::{notes_of, notes_over};
+use rows::add_rows;
 use spelling::values;
 use std::alloc::Global;
 use std::io;
-use test_worlds::{BROUGHT, CLASHING, OVERTAKEN, REPEATED, TAKEN, Unplayed};
 use without::{chunks, clients, sessions, spellings, tokens, worlds};
 
 /// Something couldn't be had to begin with.
@@ -33,14 +43,6 @@ fn as_digest(held: Result<bool, Unplayed>) -> u64 {
 /// A digest of what the play of a name told, or a number below `LEAST_DIGEST`.
 fn told_by(alloc: Global, name: &str) -> u64 {
     match name {
-        "resets" => test_worlds::plays_script(alloc, 0),
-        "transaction" => test_worlds::plays_script(alloc, 1),
-        "lost commit" => test_worlds::plays_script(alloc, 2),
-        "repeated" => test_worlds::plays_repeated(alloc, &REPEATED),
-        "overtaken" => test_worlds::plays_repeated(alloc, &OVERTAKEN),
-        "clashing" => test_worlds::plays_repeated(alloc, &CLASHING),
-        "taken" => test_worlds::plays_repeated(alloc, &TAKEN),
-        "brought" => test_worlds::plays_repeated(alloc, &BROUGHT),
         "ends" => ends(alloc).unwrap_or(NOT_PLAYED),
         "values" => values(alloc).unwrap_or(NOT_PLAYED),
         "sessions without" => as_digest(sessions(alloc)),
@@ -64,13 +66,52 @@ fn word_of(told: u64) -> &'static str {
     }
 }
 
+/// What is played by a name.
+fn play_name(rt: &HostRuntime, name: &str) -> io::Result<()> {
+    let told = told_by(rt.alloc(), name);
+    println!(rt; "{name}: {}", word_of(told))?;
+    eprintln!(rt; "{told}")
+}
+
+/// What the play of a script told, and a line `.`.
+fn print_notes(rt: &HostRuntime, notes: Result<String, Unplayed>) -> io::Result<()> {
+    match notes {
+        Ok(notes) => print!(rt; "{notes}.\n"),
+        Err(_) => println!(rt; "not begun"),
+    }
+}
+
+/// After how many lines a script is reported.
+fn every(how: &str) -> usize {
+    how.parse::<usize>().unwrap_or(1)
+}
+
+fn print_rows(rt: &HostRuntime) -> io::Result<()> {
+    let mut text = String::new(rt.alloc());
+    add_rows(&mut text)?;
+    print!(rt; "{text}")
+}
+
+/// Plays what a block of lines says.
+fn play_block(rt: &HostRuntime, block: &str) -> io::Result<()> {
+    let (first, rest) = block.split_once('\n').unwrap_or((block, ""));
+    if let Some(how) = first.strip_prefix("play ") {
+        return print_notes(rt, notes_of(rt.alloc(), rest, every(how)));
+    }
+    if let Some(how) = first.strip_prefix("brought ") {
+        return print_notes(rt, notes_over(rt.alloc(), rest, every(how)));
+    }
+    match first {
+        "" => Ok(()),
+        "rows" => print_rows(rt),
+        name => play_name(rt, name),
+    }
+}
+
 fn main(rt: HostRuntime) -> io::Result<()> {
-    for line in rt.lines(rt.alloc()) {
-        let name = line?;
-        let told = told_by(rt.alloc(), name.as_str());
-        let word = word_of(told);
-        println!(rt; "{name}: {word}")?;
-        eprintln!(rt; "{told}")?;
+    let text = io::read_to_string(rt.alloc(), rt.stdin())?;
+    for block in text.as_str().split("\n.\n") {
+        play_block(&rt, block)?;
     }
     Ok(())
 }

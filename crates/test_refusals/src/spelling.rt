@@ -1,9 +1,10 @@
 //! Decoding, cloning and encoding, each again where it is refused for memory.
 
+use crate::asked::Unplayed;
+use crate::play::mixed;
 use bytes::BytesMut;
 use packstream::{PackFault, Packed, decode, encode};
 use std::alloc::Global;
-use test_worlds::{Unplayed, mixed};
 
 /// How often a call is given again.
 const MOST_AGAIN: usize = 1000;

@@ -1,6 +1,9 @@
 //! Calls and paths that take no memory, given where there is none. Those that have no answer for want of it need no look.
 
+use crate::asked::{Table, Unplayed, asking, server};
+use crate::brought::{brought, writes_of};
 use crate::hunger::Hunger;
+use crate::play::Play;
 use crate::spelling::{SPELLED, decoded};
 use client::{Client, SubmitFault};
 use engine::{Commit, Engine, EntryId, FixedTable, Write};
@@ -9,7 +12,6 @@ use messages::{Mode, Request};
 use packstream::{Packed, size};
 use server::{Cause, Took, What, Worked};
 use std::alloc::Global;
-use test_worlds::{BROUGHT, Play, Table, Unplayed, asking, server, table_of, writes_of};
 use wire::{Dechunk, Version, WireFault, Wish};
 use world::{Event, Peer, Refused, Seen};
 
@@ -183,7 +185,7 @@ fn commits_again(table: &mut FixedTable, again: Again) -> bool {
 
 /// Equal writes and other writes under a token that stands.
 pub fn tokens(alloc: Global) -> Result<bool, Unplayed> {
-    let mut table = table_of(alloc, &BROUGHT)?;
+    let mut table = brought(alloc)?;
     let equal = transaction(alloc, 1, Commit::Repeat(1))?;
     let other = transaction(alloc, 2, Commit::Clash)?;
     let mut hunger = Hunger::new(alloc)?;
@@ -204,10 +206,10 @@ fn stepped(hunger: &mut Hunger, play: &mut Play, event: Event) -> (Result<Seen, 
 }
 
 fn opened(alloc: Global) -> Result<Play, Unplayed> {
-    let mut play = Play::new(alloc)?;
-    let _ = play.give(&Event::Open(Peer::Ours(Wish::Only(Version::V51))))?;
+    let mut play = Play::over(alloc, FixedTable::new(alloc))?;
+    let _ = play.give(&Event::Open(Peer::Ours(Wish::Only(Version::V51))));
     for _place in 1..16 {
-        let _ = play.give(&Event::Open(Peer::Foreign))?;
+        let _ = play.give(&Event::Open(Peer::Foreign));
     }
     Ok(play)
 }

@@ -1,0 +1,38 @@
+//! Serves a fixed table at a port of this machine, one connection after another, until it is ended.
+
+use engine::{FixedTable, OneUser};
+use programs::{drain, serve_next};
+use server::Server;
+use std::io;
+use std::net::{Shutdown, TcpListener, TcpStream};
+use std::time::Duration;
+use streams::Over;
+
+/// Has a peer given up that says nothing for long, or takes nothing of what it is sent.
+fn timed(stream: TcpStream) -> io::Result<TcpStream> {
+    let longest = Some(Duration::from_secs(10));
+    stream.set_read_timeout(longest)?;
+    stream.set_write_timeout(longest)?;
+    Ok(stream)
+}
+
+/// Serves this port.
+pub(crate) fn serve(rt: &HostRuntime, port: u16) -> io::Result<()> {
+    let alloc = rt.alloc();
+    let gate = OneUser::new(alloc, "user", "pass")?;
+    let mut server = Server::new(alloc, FixedTable::new(alloc), gate);
+    let listener = TcpListener::bind(rt, ("127.0.0.1", port))?;
+    let mut out = Over::new(rt.stdout());
+    for stream in listener.incoming() {
+        // A connection that fails before it begins is passed over.
+        let Ok(stream) = stream.and_then(timed) else {
+            continue;
+        };
+        let (mut source, mut sink) = (Over::new(&stream), Over::new(&stream));
+        let _cause = serve_next(alloc, &mut server, &mut source, &mut sink, &mut out);
+        // A close with bytes unread would throw away what hasn't arrived.
+        let _stopped = stream.shutdown(Shutdown::Write);
+        drain(&mut Over::new(&stream));
+    }
+    Ok(())
+}
