@@ -7,7 +7,7 @@ ghost use Rattle.bolt.specs.Served.{IsAtFirst, HasServedAll, listening_line};
 
 use crate::reasons::{put_connected, put_failed, put_lost, put_unreached, put_unread};
 use engine::{FixedTable, OneUser};
-use programs::{BothWays, OneWay, drain, put_fault, run_loop, serve_next, shell};
+use programs::{BothWays, OneWay, ShellStreams, drain, put_fault, run_loop, serve_next, shell};
 use server::Server;
 use std::alloc::{AllocError, Global};
 use std::io::{Read, Write};
@@ -37,26 +37,35 @@ pub(crate) fn shell_at(rt: &HostRuntime, host: &str, port: u16) -> u8 {
     put_connected(rt.alloc(), host, port, &mut err);
     send_at_once(&stream);
     wait_at_most(&stream, SILENCE);
-    talk(rt.alloc(), &stream, rt.stdin(), rt.stdout(), &mut err)
+    talk(rt.alloc(), &stream, rt.stdin(), rt.stdout(), err)
 }
 
 /// The same over a connection.
-fn talk<I: Read + Drop, O: Write + Drop, E: Sink>(
+fn talk<I: Read + Drop, O: Write + Drop, E: Sink + Drop>(
     alloc: Global,
     stream: &TcpStream,
     input: I,
     out: O,
-    err: &mut E,
+    err: E,
 ) -> u8 {
     let mut input = Over::new(input);
-    let mut out = Over::new(out);
-    let mut source = Over::new(stream);
-    let mut sink = Over::new(stream);
-    let status = shell(alloc, &mut input, &mut source, &mut sink, &mut out, err);
-    put_failed(alloc, "standard input", &input, err);
-    put_lost(alloc, "said nothing", &source, err);
-    put_lost(alloc, "took nothing", &sink, err);
-    put_failed(alloc, "standard output", &out, err);
+    let mut streams = ShellStreams {
+        source: Over::new(stream),
+        sink: Over::new(stream),
+        out: Over::new(out),
+        err,
+    };
+    let status = shell(alloc, &mut input, &mut streams);
+    let ShellStreams {
+        source,
+        sink,
+        out,
+        mut err,
+    } = streams;
+    put_failed(alloc, "standard input", &input, &mut err);
+    put_lost(alloc, "said nothing", &source, &mut err);
+    put_lost(alloc, "took nothing", &sink, &mut err);
+    put_failed(alloc, "standard output", &out, &mut err);
     status
 }
 

@@ -1,9 +1,9 @@
 -- What the program's server puts out for the bytes that its first client sends, and how the session stands then: the whole of them,
 -- however they came.
 use Rattle.std.specs.Prelude.{◌≡◌, ℕ, List, []}
-use Rattle.streams.specs.declared.response.End.{End}
-use Rattle.streams.specs.Conversing.{Talk, conversation}
-use Rattle.streams.specs.Responding.{end_of}
+use Rattle.serves.specs.declared.response.End.{End}
+use Rattle.serves.specs.Conversing.{Talk, conversation}
+use Rattle.serves.specs.Responding.{end_of}
 use Rattle.replays.specs.Running.{serving}
 
 -- the conversation of the first connection over an empty ledger

@@ -10,8 +10,8 @@ use Rattle.cells.specs.declared.fault.Reason.TheVariants.{UnknownTag, FieldCount
 use Rattle.commands.specs.declared.commands.Said.{Said}
 use Rattle.commands.specs.declared.checks.Checked.{Checked}
 use Rattle.commands.specs.declared.checks.Checked.TheVariants.{Fine, Refused, Unfit}
-use Rattle.streams.specs.declared.response.End.{End}
-use Rattle.streams.specs.declared.response.End.TheVariants.{Live, Over}
+use Rattle.serves.specs.declared.response.End.{End}
+use Rattle.serves.specs.declared.response.End.TheVariants.{Live, Over}
 use Rattle.machine.specs.declared.states.State.{State}
 use Rattle.session.specs.declared.kinds.Cause.{Cause}
 use Rattle.commands.specs.Hexadecimal.{AnswersHex}

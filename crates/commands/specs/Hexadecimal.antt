@@ -1,7 +1,7 @@
 -- What the program's server puts out for bytes, both as texts in hex.
 use Rattle.std.specs.Prelude.{◌≡◌, ℕ, List, Ok}
 use Rattle.hex.specs.Hex.{decode_of, encode_lower}
-use Rattle.streams.specs.declared.response.End.{End}
+use Rattle.serves.specs.declared.response.End.{End}
 use Rattle.commands.specs.Answers.{Answers}
 
 -- the text spells bytes, and out is the lower case text of what is put out for them

@@ -2,7 +2,7 @@
 use Rattle.std.specs.Prelude.{◌≡◌, ℕ, List, true, IsErr, string_bytes}
 use Rattle.packstream.specs.Plain.{AreBytes}
 use Rattle.wire.specs.declared.Version.{Version}
-use Rattle.streams.specs.declared.response.End.{End}
+use Rattle.serves.specs.declared.response.End.{End}
 use Rattle.commands.specs.declared.checks.Checked.{Checked}
 use Rattle.commands.specs.declared.checks.Checked.TheVariants.{Fine, Refused, Unfit}
 use Rattle.commands.specs.Asked.{Text, has_flag, asked_words}

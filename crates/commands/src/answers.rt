@@ -7,8 +7,8 @@ ghost use Rattle.commands.specs.Hexadecimal.{AnswersHex};
 ghost use Rattle.commands.specs.declared.answers.AnswerFault.TheVariants as fault;
 
 use engine::{FixedTable, OneUser};
+use serves::{End, Responded, respond};
 use std::alloc::{AllocError, Global};
-use streams::{End, Responded, respond};
 use thiserror::Error;
 
 /// What was put out, in lower case hex, and how the session stands then.

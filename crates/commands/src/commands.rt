@@ -66,8 +66,18 @@ pub fn command<S: Source, O: Sink, E: Sink>(
           had_failed = O.has_failed out.old;
           has_failed = O.has_failed out.new;
         } in
-        let errors : Passage = record { before = E.taken err.old; after = E.taken err.new; had_failed = E.has_failed err.old; has_failed = E.has_failed err.new } in
-        let source : Passage = record { before = S.left input.old; after = S.left input.new; had_failed = S.has_failed input.old; has_failed = S.has_failed input.new } in
+        let errors : Passage = record {
+          before = E.taken err.old;
+          after = E.taken err.new;
+          had_failed = E.has_failed err.old;
+          has_failed = E.has_failed err.new;
+        } in
+        let source : Passage = record {
+          before = S.left input.old;
+          after = S.left input.new;
+          had_failed = S.has_failed input.old;
+          has_failed = S.has_failed input.new;
+        } in
         (result ≡ 3) ⊎ ((s : Said) × SaysTo (asked_words (map string_bytes words.now)) source s × IsPut s output errors result) }
 {
     match say(alloc, words, input) {

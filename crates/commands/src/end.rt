@@ -4,7 +4,7 @@ ghost use Rattle.commands.specs.Commands.{end_words, state_words, cause_words};
 
 use machine::State;
 use server::Cause;
-use streams::End;
+use serves::End;
 
 /// How a session stands, as the program prints it: `state Ready`, `ended E4`.
 pub fn end_text(end: End) -> &'static str

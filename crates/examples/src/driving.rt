@@ -1,11 +1,12 @@
 //! Commits one write over a socket to a port of this machine, reads it back, and says what became of each request.
 
+use asks::{Told, ask_all};
 use client::{Client, ClientFault, Heard, Outcome};
 use messages::{Auth, Count, Mode, Request};
 use std::alloc::{AllocError, Global};
 use std::io;
 use std::net::TcpStream;
-use streams::{Over, Told, ask_all};
+use streams::Over;
 use structures::Cell;
 use wire::{Version, Wish};
 

@@ -3,11 +3,12 @@
 #![tactic(auto)]
 
 mod answers;
-mod asks;
+mod asking;
 mod driving;
 mod notes;
 mod noting;
 mod serving;
+mod tracked;
 mod values;
 
 use std::io;

@@ -17,16 +17,17 @@ use Rattle.client.specs.Prelude.{Knows, Hearing, Note, Summary, Rest, asking_byt
 use Rattle.client.proofs.Makes.{Makes, makes, tells_summary}
 use Rattle.client.proofs.Refusing.{accepted_facts}
 use Rattle.streams.specs.declared.fault.StreamFault.{StreamFault}
-use Rattle.streams.specs.Asking.{losses_then}
-use Rattle.streams.specs.Prelude.{AppendsFront, Tale, after_all, after_notes, all_answered, given_up, hears_all, notes_of, tale_of}
+use Rattle.asks.specs.Asking.{losses_then}
+use Rattle.streams.specs.Prelude.{AppendsFront}
+use Rattle.asks.specs.Prelude.{Tale, after_all, after_notes, all_answered, given_up, hears_all, notes_of, tale_of}
 use Rattle.scripts.specs.Prelude.{Text, meant}
 use Rattle.programs.specs.Names.{outcome_name, phase_name}
 use Rattle.programs.specs.Prelude.{AtLoss, AreFates, AreTold, Accounts, EachHasALine, Exchanges, Fate, Gets, HeardUpTo, Holds, IsBegun, IsCut, IsExplained, Log, OnErrors, OnOutput, Place, Printed, Puts, Sending, Stands, Streams, Talked, TalksLine, Unanswered, and_then, answers_line, asked_bytes, behind_line, failure_told, first_place, greeting_after, in_line, is_printed, lines_from, lost_line, lost_of, losses_text, next_line, opens, parting, printed_line, refuses_line, summaries_text, summary_line, told_line, told_more, unmade, version_after, versions_after, why_text}
 use Rattle.programs.specs.Talking.{is_settled}
 use Rattle.programs.specs.Telling.{heard_line}
 use Rattle.programs.proofs.Moved.{gets_then}
-use Rattle.streams.proofs.Asked.{unanswered_waits}
-use Rattle.streams.proofs.Stepping.{front_whole}
+use Rattle.asks.proofs.Asked.{unanswered_waits}
+use Rattle.streams.proofs.Fronts.{front_whole}
 
 -- ---- what a client makes of items, while at most one request waits
 

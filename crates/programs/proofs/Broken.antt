@@ -10,8 +10,9 @@ use Rattle.client.specs.Prelude.{refuses}
 use Rattle.messages.specs.View.{RequestView}
 use Rattle.streams.specs.declared.fault.StreamFault.{StreamFault}
 use Rattle.streams.specs.Limits.{max_piece}
-use Rattle.streams.specs.Prelude.{AppendsFront, Talk}
-use Rattle.streams.proofs.Talks.{talk_by_items}
+use Rattle.streams.specs.Prelude.{AppendsFront}
+use Rattle.serves.specs.Prelude.{Talk}
+use Rattle.serves.proofs.Talks.{talk_by_items}
 use Rattle.scripts.specs.Prelude.{ScriptRequestView, meant}
 use Rattle.programs.specs.declared.loops.Pair.{Pair}
 use Rattle.programs.specs.Prelude.{Passes, Breaks, BreaksAt, BreaksIn, Comes, HearsFront, IsFrontOfNext, Place, Prints, PrintsFront, PrintsPart, ReadsFront, Shown, OfRefusal, Submits, Turns, Ways, after_line, after_lines, answer_to, due, end, entries_text, exchanged, given, line_by, line_stages, no_turns, place_after, refused_line, shown_of, stage_by, stages, stages_of, talk_for, turns_of, whole_talk, with_refusal, with_request}

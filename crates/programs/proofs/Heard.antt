@@ -7,9 +7,10 @@ use Rattle.wire.specs.declared.Version.{Version}
 use Rattle.client.specs.Prelude.{Fits, Knows, Note, Rest, awaits, taken_out}
 use Rattle.streams.specs.declared.fault.StreamFault.{StreamFault}
 use Rattle.streams.specs.declared.fault.StreamFault.TheVariants.{ReadFailed, WriteFailed, Memory}
-use Rattle.streams.specs.Prelude.{HearsPiece, IsAwaited, IsNeeded, ReadsPiece, StaysSound, Tale, Writes, after_all, after_notes, given_up, hears_all}
-use Rattle.streams.proofs.Asked.{needed_taken}
-use Rattle.streams.proofs.Tales.{hears_all-append}
+use Rattle.asks.specs.Prelude.{HearsPiece, IsAwaited, IsNeeded, ReadsPiece, Tale, Writes, after_all, after_notes, given_up, hears_all}
+use Rattle.streams.specs.Prelude.{StaysSound}
+use Rattle.asks.proofs.Asked.{needed_taken}
+use Rattle.asks.proofs.Tales.{hears_all-append}
 use Rattle.programs.specs.declared.caller.Caller.{Caller}
 use Rattle.programs.specs.Prelude.{Asks, Converses, Gets, HeardUpTo, Hears, HearsAll, IsAt, IsBegun, Log, Moves, Place, Printed, Puts, Streams, heard_log, is_printed, parting, place_after, sent_out, versions_after}
 use Rattle.programs.specs.Shelling.{PrintsNotes}

@@ -11,11 +11,11 @@ use Rattle.server.specs.Prelude.{Live, Rest, find, fresh, opened}
 use Rattle.client.specs.declared.SubmitFault.{SubmitFault}
 use Rattle.client.specs.Prelude.{Fits, refuses, taken_out}
 use Rattle.client.specs.Rest.{Rest as ClientRest}
-use Rattle.streams.specs.declared.fault.Standing.{Standing}
-use Rattle.streams.specs.declared.fault.Standing.TheVariants.{Open, Over}
-use Rattle.streams.specs.Prelude.{LivesOn, Talk, with_talk, Stands, TakesPiece, standing_of, told_by}
-use Rattle.streams.proofs.Talks.{open_goes_on, over_ended, talk_by_items, told_over}
-use Rattle.streams.proofs.Called.{lives_same, lives_then, replace-itself}
+use Rattle.serves.specs.declared.standing.Standing.{Standing}
+use Rattle.serves.specs.declared.standing.Standing.TheVariants.{Open, Over}
+use Rattle.serves.specs.Prelude.{LivesOn, Talk, with_talk, Stands, TakesPiece, standing_of, told_by}
+use Rattle.serves.proofs.Talks.{open_goes_on, over_ended, talk_by_items, told_over}
+use Rattle.serves.proofs.Called.{lives_same, lives_then, replace-itself}
 use Rattle.streams.specs.declared.fault.StreamFault.{StreamFault}
 use Rattle.streams.specs.declared.fault.StreamFault.TheVariants.{Memory}
 use Rattle.scripts.specs.Prelude.{ScriptRequestView, meant}

@@ -5,7 +5,7 @@ use Rattle.std.proofs.KnownBytes.{Appends-nil, Appends-trans, Consumes-nil, Cons
 use Rattle.streams.specs.declared.fault.StreamFault.{StreamFault}
 use Rattle.streams.specs.declared.fault.StreamFault.TheVariants.{ReadFailed, WriteFailed}
 use Rattle.streams.specs.Prelude.{StaysSound}
-use Rattle.streams.proofs.Stepping.{front_after, front_whole}
+use Rattle.streams.proofs.Fronts.{front_after, front_whole}
 use Rattle.programs.specs.Prelude.{Gets, Log, and_then, said, is_printed, IsUsedUp, Streams, Puts, Moves}
 
 -- all of it, or a beginning

@@ -6,7 +6,7 @@ use Rattle.server.specs.declared.kinds.Refused.TheVariants.{NoSuchConnection, Se
 use Rattle.engine.specs.Prelude.{EntryView}
 use Rattle.server.specs.declared.server.Server.{Server}
 use Rattle.server.specs.Prelude.{Fits, Live, Rest, find, without, fresh, opened, Opens, rest_of}
-use Rattle.streams.specs.Prelude.{LeavesOthers, Grows, LivesOn}
+use Rattle.serves.specs.Prelude.{LeavesOthers, Grows, LivesOn}
 use Rattle.programs.specs.Prelude.{HasServed, HasLooped}
 
 eqb-same : (n : ℕ) → eqb n n ≡ true

@@ -16,9 +16,10 @@ use Rattle.session.specs.Prelude.{Setting, begun}
 use Rattle.client.specs.Prelude.{Note, Nothing, Chose, Row, Summary, Rest, Fits}
 use Rattle.streams.specs.declared.fault.StreamFault.{StreamFault}
 use Rattle.streams.specs.declared.fault.StreamFault.TheVariants.{ReadFailed, WriteFailed, Memory}
-use Rattle.streams.specs.Prelude.{Tale, after_notes, hears_all, after_all, FeedsPiece, Talk, item_talk}
-use Rattle.streams.proofs.Talks.{item_talk-append, talk_by_items}
-use Rattle.streams.proofs.Tales.{hears_all-append, after_all-append, over_tale}
+use Rattle.asks.specs.Prelude.{Tale, after_notes, hears_all, after_all, FeedsPiece}
+use Rattle.serves.specs.Prelude.{Talk, item_talk}
+use Rattle.serves.proofs.Talks.{item_talk-append, talk_by_items}
+use Rattle.asks.proofs.Tales.{hears_all-append, after_all-append, over_tale}
 use Rattle.scripts.specs.Prelude.{ScriptRequestView}
 use Rattle.programs.specs.declared.caller.Caller.{Caller}
 use Rattle.programs.specs.Prelude.{HearsFront, IsHeardAll, Prints, PrintsPart, PrintsUpTo, StandsAt, IsFront, IsTold, PutsLine, refused_line, row_line, version_after, versions_after, Place, Shown, OfNote, OfRefusal, IsShown, AreShown, notes_shown, place_after, shown_of, Turns, IsQuiet, talk_for, answer_to, given, after_line, after_lines, AreQuiet}

@@ -25,11 +25,11 @@ use Rattle.programs.specs.Passing.{FailsToRead, FailsToWrite, Passed, Passes}
 use Rattle.server.specs.Serving.{Rest, opened}
 use Rattle.streams.specs.declared.fault.StreamFault.{StreamFault}
 use Rattle.streams.specs.declared.fault.StreamFault.TheVariants.{ReadFailed, WriteFailed}
-use Rattle.streams.specs.declared.fault.Standing.{Standing}
-use Rattle.streams.specs.declared.fault.Standing.TheVariants.{Open}
-use Rattle.streams.specs.Conversing.{Talk, with_talk}
+use Rattle.serves.specs.declared.standing.Standing.{Standing}
+use Rattle.serves.specs.declared.standing.Standing.TheVariants.{Open}
+use Rattle.serves.specs.Conversing.{Talk, with_talk}
 use Rattle.streams.specs.Limits.{max_piece}
-use Rattle.streams.specs.Settling.{Grows, LivesOn, standing_of}
+use Rattle.serves.specs.Settling.{Grows, LivesOn, standing_of}
 
 -- what ends the line of an entry: its token in hex, where it has one
 abbrev pub token_ending : Token → List ℕ

@@ -9,9 +9,9 @@ use Rattle.server.specs.declared.server.Server.{Server}
 use Rattle.server.specs.Serving.{Rest}
 use Rattle.server.specs.Views.{Fits}
 use Rattle.streams.specs.declared.fault.StreamFault.{StreamFault}
-use Rattle.streams.specs.Settling.{IsDueTo}
-use Rattle.streams.specs.Serving.{Serves}
-use Rattle.programs.specs.declared.serves.ServedOne.{ServedOne}
+use Rattle.serves.specs.Settling.{IsDueTo}
+use Rattle.serves.specs.Serving.{Serves}
+use Rattle.programs.specs.declared.connections.ServedOne.{ServedOne}
 use Rattle.programs.specs.Names.{cause_code}
 
 -- no session lives

@@ -9,7 +9,7 @@ use Rattle.client.specs.Rest.{Note, awaits, refuses}
 use Rattle.streams.specs.declared.fault.StreamFault.{StreamFault}
 use Rattle.streams.specs.Failing.{StaysSound}
 use Rattle.streams.specs.Fronts.{AppendsFront}
-use Rattle.streams.specs.Asking.{hears_all, IsAwaited, IsTurn}
+use Rattle.asks.specs.Asking.{hears_all, IsAwaited, IsTurn}
 use Rattle.scripts.specs.Views.{Text}
 use Rattle.scripts.specs.Words.{is_empty}
 use Rattle.scripts.specs.Script.{lines, filled_from, filled_lines}

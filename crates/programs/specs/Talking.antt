@@ -16,7 +16,7 @@ use Rattle.streams.specs.declared.fault.StreamFault.{StreamFault}
 use Rattle.streams.specs.declared.fault.StreamFault.TheVariants.{ReadFailed, WriteFailed, Memory}
 use Rattle.streams.specs.Failing.{StaysSound}
 use Rattle.streams.specs.Fronts.{AppendsFront}
-use Rattle.streams.specs.Asking.{hears_all, after_all, IsNeeded, given_up, losses_then}
+use Rattle.asks.specs.Asking.{hears_all, after_all, IsNeeded, given_up, losses_then}
 use Rattle.scripts.specs.Views.{Text, ScriptRequestView}
 use Rattle.scripts.specs.Meant.{meant}
 use Rattle.scripts.specs.Rows.{request_line_of}

@@ -7,8 +7,8 @@ use Rattle.engine.specs.Views.{EntryView}
 use Rattle.session.specs.Session.{Setting}
 use Rattle.client.specs.declared.SubmitFault.{SubmitFault}
 use Rattle.client.specs.Rest.{Note, refuses, awaits}
-use Rattle.streams.specs.Conversing.{Talk, conversation}
-use Rattle.streams.specs.Asking.{hears_all, after_all}
+use Rattle.serves.specs.Conversing.{Talk, conversation}
+use Rattle.asks.specs.Asking.{hears_all, after_all}
 use Rattle.scripts.specs.Views.{ScriptRequestView}
 use Rattle.scripts.specs.Meant.{meant}
 use Rattle.programs.specs.Names.{refusal_code}

@@ -6,8 +6,8 @@ ghost use Rattle.client.specs.Fits.{Fits};
 ghost use Rattle.client.specs.Notes.{note};
 ghost use Rattle.client.specs.Rest.{Note, Rest, awaits};
 ghost use Rattle.wire.specs.declared.Version.{Version};
-ghost use Rattle.streams.specs.Asking.{given_up};
-ghost use Rattle.streams.specs.Serving.{LetsRead};
+ghost use Rattle.asks.specs.Asking.{given_up};
+ghost use Rattle.streams.specs.Reading.{LetsRead};
 ghost use Rattle.programs.specs.Stopping.{Gets};
 ghost use Rattle.programs.specs.Talking.{FailsToPut, IsAt, Place, ending, parting};
 ghost use Rattle.programs.specs.Telling.{version_after, versions_after};
@@ -17,9 +17,10 @@ ghost use Rattle.programs.specs.Ways.{Streams};
 use crate::caller::Caller;
 use crate::errors::{put_losses, put_unprinted, tell};
 use crate::ways::ShellStreams;
+use asks::{give_up, hear_piece, write_out};
 use client::Heard;
 use machine::Phase;
-use streams::{Peer, Sink, StreamFault, give_up, hear_piece, write_out};
+use streams::{Peer, Sink, StreamFault};
 
 impl Caller {
     /// Writes what the client puts out, and hears and prints up to the last answer that it waits for. Then it is given up, unless all was

@@ -5,23 +5,23 @@
 
 mod answers;
 mod caller;
+mod connections;
 mod errors;
 mod escapes;
 pub mod laws;
 mod loops;
 mod names;
 mod printed_lines;
-mod serves;
 mod shells;
 mod stop;
 mod summaries;
 mod ways;
 
+pub use connections::{ServedOne, drain, serve_next};
 pub use escapes::escape;
 pub use loops::run_loop;
 pub use names::{cause_code, outcome_name, phase_name, refusal_code, state_name, version_name};
 pub use printed_lines::entry_text;
-pub use serves::{ServedOne, drain, serve_next};
 pub use shells::shell;
 pub use stop::put_fault;
 pub use summaries::summary;

@@ -4,7 +4,7 @@ ghost use Rattle.std.specs.Result.{result_err};
 ghost use Rattle.std.specs.Io.KnownBytes.{Consumes};
 ghost use Rattle.server.specs.Serving.{Rest, find, setting};
 ghost use Rattle.server.specs.Views.{Fits};
-ghost use Rattle.streams.specs.Settling.{IsLive, LivesOn};
+ghost use Rattle.serves.specs.Settling.{IsLive, LivesOn};
 ghost use Rattle.programs.specs.Passing.{BreaksAtSource, FailsToRead, FailsToWrite, GivesNoMore, GivesSome, LetsReadWaiting, Passes};
 ghost use Rattle.programs.specs.Looping.{Comes, ComesOn, GoesOn, HasLooped, HearsFront, IsHeardAll, Loops, Numbers, Prints, PrintsUpTo, ReadsFront, RunsNothing, Sits, StandsAt, TellsLine};
 ghost use Rattle.programs.specs.Breaking.{Breaks, BreaksAt, BreaksIn};
@@ -23,14 +23,14 @@ use crate::caller::Caller;
 use crate::printed_lines::put_entries;
 use crate::stop::{StopReason, put_stop};
 use crate::ways::{BothWays, OneWay};
+use asks::feed_piece;
 use client::Heard;
 use engine::{Engine, Gate};
 use scripts::{Numbered, ScriptFault, ScriptRequest, read_requests};
 use server::Server;
+use serves::{Standing, take_piece};
 use std::alloc::Global;
-use streams::{
-    Buffer, MAX_PIECE, Peer, Sink, Standing, StreamFault, feed_piece, take_piece, write_all,
-};
+use streams::{Buffer, MAX_PIECE, Peer, Sink, StreamFault, write_all};
 
 /// A client, all that its session has put out, and whether the session goes on.
 #[derive(Drop)]
@@ -155,7 +155,6 @@ fn hand_over<T: Sink, S: Peer, O: Sink>(
 
 /// The session takes a piece and puts out what it makes due, unless it has ended.
 fn give<E: Engine, G: Gate>(
-    alloc: Global,
     server: &mut Server<E, G>,
     conn: u64,
     piece: &[u8],
@@ -176,7 +175,7 @@ fn give<E: Engine, G: Gate>(
         Standing::Open => {}
         Standing::Over => return Ok(()),
     }
-    match take_piece(alloc, server, conn, piece, said) {
+    match take_piece(server, conn, piece, said) {
         Ok(after) => {
             *standing = after;
             Ok(())
@@ -210,14 +209,7 @@ fn turn<E: Engine, G: Gate, A: Peer, B: Sink, C: Peer, D: Sink, O: Sink>(
 {
     pass(pair.caller.alloc, piece, &mut ways.up)?;
     let before = pair.said.bytes().len();
-    give(
-        pair.caller.alloc,
-        server,
-        conn,
-        piece,
-        &mut pair.said,
-        &mut pair.standing,
-    )?;
+    give(server, conn, piece, &mut pair.said, &mut pair.standing)?;
     // It has only grown.
     let (_, answer) = pair
         .said

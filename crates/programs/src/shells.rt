@@ -5,7 +5,7 @@ ghost use Rattle.std.specs.Result.{result_err};
 ghost use Rattle.scripts.specs.Rows.{request_line_of};
 ghost use Rattle.scripts.specs.Views.{Text, script_request_view};
 ghost use Rattle.streams.specs.Failing.{StaysSound, UnlessTold};
-ghost use Rattle.streams.specs.Serving.{LetsRead};
+ghost use Rattle.streams.specs.Reading.{LetsRead};
 ghost use Rattle.programs.specs.Talking.{FailsToPut, IsAt, IsServersTurn, Stands, first_place};
 ghost use Rattle.programs.specs.Accounting.{Accounts};
 ghost use Rattle.programs.specs.Shelling.{Does, IsAsked, IsSound, IsTurnAfter, IsTurnWithin, Progress, Runs, Shells, Takes, TakesByte, if_filled};

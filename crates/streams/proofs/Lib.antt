@@ -1,8 +1,2 @@
 pub mod Parts
-pub mod Tales
-pub mod Asked
-pub mod Called
-pub mod Stepping
-pub mod Talks
-pub mod Conversings
-pub mod Firsts
+pub mod Fronts

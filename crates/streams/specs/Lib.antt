@@ -1,13 +1,6 @@
 pub mod Limits
 pub mod Fronts
 pub mod Failing
+pub mod Reading
 pub mod Reasons
-pub mod Asking
-pub mod Conversing
-pub mod Breaking
-pub mod Holding
-pub mod Putting
-pub mod Settling
-pub mod Serving
-pub mod Responding
 pub mod Prelude

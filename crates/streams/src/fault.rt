@@ -15,12 +15,3 @@ pub enum StreamFault {
     #[error("I3")]
     Memory,
 }
-
-/// Whether a session goes on.
-#[derive(Clone, Copy, Debug, PartialEq, Eq)]
-pub enum Standing {
-    /// Nothing is due, and more may be taken.
-    Open,
-    /// The session has ended.
-    Over,
-}

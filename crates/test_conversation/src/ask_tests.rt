@@ -1,11 +1,12 @@
 use crate::heard::{Said, are_heard};
 use crate::requests::request;
 use crate::streams_of::{Drip, MANY, Trickle};
+use asks::ask_all;
 use client::{Client, Outcome};
 use machine::Phase;
 use std::alloc::Global;
 use std::test::*;
-use streams::{StreamFault, ask_all};
+use streams::StreamFault;
 use wire::{Version, Wish};
 
 /// The answer to an offer, and SUCCESS in one chunk.

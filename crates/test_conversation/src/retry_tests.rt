@@ -1,11 +1,12 @@
 use crate::requests::{PUT, request};
 use crate::streams_of::{MANY, Table, Trickle, server};
+use asks::{Told, ask_all};
 use client::{Client, Heard, Outcome, SubmitFault};
 use engine::Engine;
 use messages::{Request, Response};
 use std::alloc::Global;
 use std::test::*;
-use streams::{Buffer, Sink, Source, Told, ask_all};
+use streams::{Buffer, Sink, Source};
 use wire::{Version, Wish};
 
 /// What is known of a transaction under a token.

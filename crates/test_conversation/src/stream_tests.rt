@@ -3,11 +3,12 @@
 use crate::heard::{Said, are_heard, shown};
 use crate::requests::asking;
 use crate::streams_of::{Drip, MANY, Table, Trickle, served, server};
+use asks::ask_all;
 use client::Losses;
 use server::{Cause, Worked};
 use std::alloc::Global;
 use std::test::Fail;
-use streams::{StreamFault, ask_all};
+use streams::StreamFault;
 
 /// What is asked, what is answered, and where in the answer each summary begins that commits.
 #[derive(Drop)]

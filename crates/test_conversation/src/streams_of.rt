@@ -2,9 +2,10 @@
 
 use engine::{Engine, FixedTable, OneUser};
 use server::{Cause, Server};
+use serves::serve_one;
 use std::alloc::Global;
 use std::test::Fail;
-use streams::{Failed, Sink, Source, StreamFault, serve_one};
+use streams::{Failed, Sink, Source, StreamFault};
 
 /// A server over an empty table and the gate of `user` with `pass`.
 pub type Table = Server<FixedTable, OneUser>;

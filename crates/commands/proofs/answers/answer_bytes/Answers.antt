@@ -1,6 +1,6 @@
 use Rattle.std.proofs.Common.{◌≡◌, ap, ◌∙◌, ℕ, List, ◌&&◌, codes, bytes_eq}
 use Rattle.engine.specs.Prelude.{principal_of, credentials_of, ledger_of, fixed_answer, EntryView}
-use Rattle.streams.specs.Prelude.{Talk, conversation, end_of, setting_of}
+use Rattle.serves.specs.Prelude.{Talk, conversation, end_of, setting_of}
 use Rattle.commands.specs.Answers.{talk_of}
 use Rattle.commands.proofs.answers.answer_bytes.Goals as goal
 

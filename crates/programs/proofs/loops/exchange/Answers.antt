@@ -2,8 +2,8 @@ use Rattle.std.proofs.Common.{◌≡◌, ◌∙◌, ◌++◌, [], refl, sym, ap,
 use Rattle.client.specs.Fits.{rest_of}
 use Rattle.client.specs.Prelude.{Rest, awaits}
 use Rattle.server.specs.Prelude.{setting, Fits}
-use Rattle.streams.proofs.Asked.{all_taken}
-use Rattle.streams.proofs.Called.{live_then, lives_same}
+use Rattle.asks.proofs.Asked.{all_taken}
+use Rattle.serves.proofs.Called.{live_then, lives_same}
 use Rattle.streams.proofs.Parts.{empty_nil}
 use Rattle.programs.proofs.Taken.{split_whole}
 use Rattle.programs.proofs.Broken.{breaks_before, breaks_more}

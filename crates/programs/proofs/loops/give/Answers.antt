@@ -1,6 +1,6 @@
 use Rattle.std.proofs.Common.{[], Some}
 use Rattle.server.specs.Prelude.{Fits}
-use Rattle.streams.proofs.Called.{lives_same}
+use Rattle.serves.proofs.Called.{lives_same}
 use Rattle.programs.proofs.Looped.{sits_open, sits_over, sits_stands, sits_takes}
 use Rattle.programs.proofs.loops.give.Goals as goal
 

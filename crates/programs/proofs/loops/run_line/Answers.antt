@@ -2,7 +2,7 @@ use Rattle.std.proofs.Common.{◌≡◌, refl, rules, sym, subst, inr, Err, None
 use Rattle.std.proofs.lemmas.Result.{MatchResult-weaker}
 use Rattle.server.specs.Prelude.{setting, Fits}
 use Rattle.scripts.specs.Prelude.{meant, script_request_view}
-use Rattle.streams.proofs.Called.{lives_same}
+use Rattle.serves.proofs.Called.{lives_same}
 use Rattle.programs.specs.declared.loops.Pair.{Pair}
 use Rattle.programs.specs.Prelude.{IsAt, Prints, Place, Ways, with_request}
 use Rattle.programs.proofs.Broken.{breaks_submit, stage_broken}

@@ -2,7 +2,7 @@ use Rattle.std.proofs.Common.{◌≡◌, ◌∙◌, ◌++◌, ◌∷◌, [], app
 use Rattle.std.proofs.lemmas.List.{map-append, nil_from_length}
 use Rattle.server.specs.Prelude.{setting, Fits}
 use Rattle.scripts.specs.Prelude.{said_requests, ScriptRequestView, script_request_view}
-use Rattle.streams.proofs.Called.{live_then}
+use Rattle.serves.proofs.Called.{live_then}
 use Rattle.streams.proofs.Parts.{all_done}
 use Rattle.programs.specs.Prelude.{BreaksAt, Comes, AreQuiet, Turns, after_lines, exchanged, no_turns, stages, turns_of}
 use Rattle.programs.proofs.Broken.{breaks_in_line}

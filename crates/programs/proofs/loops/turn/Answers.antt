@@ -1,7 +1,7 @@
 use Rattle.std.proofs.Common.{◌≡◌, ◌∙◌, ℕ, List, Err, length, drop, inl, inr, min, sym, ap, refl, rules}
 use Rattle.std.proofs.lemmas.List.{drop_min}
 use Rattle.server.specs.Prelude.{Fits, setting}
-use Rattle.streams.proofs.Called.{lives_same}
+use Rattle.serves.proofs.Called.{lives_same}
 use Rattle.programs.specs.Prelude.{Ways, answer_to}
 use Rattle.programs.proofs.Broken.{breaks_before, breaks_within}
 use Rattle.programs.proofs.Looped.{answer_due, comes_given, goes_memory}

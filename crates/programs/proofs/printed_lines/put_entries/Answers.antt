@@ -5,7 +5,7 @@ use Rattle.std.proofs.KnownBytes.{Appends-trans}
 use Rattle.engine.specs.declared.ledger.Entry.{Entry}
 use Rattle.engine.specs.Prelude.{entries_view, entry_view}
 use Rattle.streams.specs.Prelude.{AppendsFront}
-use Rattle.streams.proofs.Stepping.{front_after}
+use Rattle.streams.proofs.Fronts.{front_after}
 use Rattle.programs.specs.Prelude.{entries_text, entry_line}
 use Rattle.programs.proofs.printed_lines.put_entries.Goals as goal
 

@@ -1,7 +1,7 @@
 use Rattle.std.proofs.Common.{◌∙◌, ◌++◌, ◌≡◌, ap, refl, [], List, ℕ}
 use Rattle.messages.specs.View.{response_view}
 use Rattle.streams.specs.declared.fault.StreamFault.TheVariants.{WriteFailed, Memory}
-use Rattle.streams.proofs.Asked.{unless_err}
+use Rattle.asks.proofs.Asked.{unless_err}
 use Rattle.programs.specs.Names.{outcome_name, phase_name}
 use Rattle.programs.specs.Telling.{failure_line, heard_line}
 use Rattle.programs.specs.Prelude.{behind_line}

@@ -1,7 +1,7 @@
 use Rattle.std.proofs.Common.{ap, ◌∙◌}
 use Rattle.engine.specs.Prelude.{ledger_of}
 use Rattle.server.specs.Prelude.{opened}
-use Rattle.streams.proofs.Firsts.{one, one_lives}
+use Rattle.serves.proofs.Firsts.{one, one_lives}
 use Rattle.test_conversation.proofs.streams_of.served.Goals as goal
 
 pub serve_one-ended-requires : goal.serve_one-ended-requires

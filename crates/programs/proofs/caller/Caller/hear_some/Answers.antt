@@ -3,8 +3,8 @@ use Rattle.std.proofs.KnownBytes.{Appends-nil}
 use Rattle.client.specs.declared.client.Client.{Client}
 use Rattle.client.specs.Prelude.{note, Fits}
 use Rattle.streams.specs.declared.fault.StreamFault.TheVariants.{ReadFailed}
-use Rattle.streams.specs.Prelude.{HearsPiece}
-use Rattle.streams.proofs.Asked.{unless_err}
+use Rattle.asks.specs.Prelude.{HearsPiece}
+use Rattle.asks.proofs.Asked.{unless_err}
 use Rattle.std.proofs.lemmas.Result.{IfOk-weaker}
 use Rattle.programs.specs.Shelling.{ServerSide}
 use Rattle.programs.proofs.Heard.{at_end, hears_piece, never_printed, never_read}

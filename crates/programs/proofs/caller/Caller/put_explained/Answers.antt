@@ -2,7 +2,7 @@ use Rattle.std.proofs.Common.{refl, sym, subst, [], append-nil}
 use Rattle.std.proofs.KnownBytes.{Appends-nil}
 use Rattle.cells.specs.Prelude.{shapes}
 use Rattle.streams.specs.declared.fault.StreamFault.TheVariants.{WriteFailed}
-use Rattle.streams.proofs.Asked.{unless_err}
+use Rattle.asks.proofs.Asked.{unless_err}
 use Rattle.programs.specs.Prelude.{in_line, unmade}
 use Rattle.programs.specs.Telling.{IsRowLine}
 use Rattle.programs.proofs.Lined.{note_line, nothing_printed}

@@ -1,0 +1,130 @@
+-- What comes of asking: the output that is written, the bytes that are read, and the end.
+use Rattle.std.proofs.Common.{◌≡◌, refl, sym, ◌∙◌, ap, subst, ℕ, ◌<◌, ◌≤◌, Bool, true, false, Option, Some, None, Result, Ok, Err, List, [], ◌++◌, length, take, drop, append_assoc, append-nil, true≢false, ◌⊎◌, inl, inr, ⊎_elim, arith, not, ◌&&◌, ◌==◌, is_err, OnErr, IfErr}
+use Rattle.std.specs.Result.{result_err}
+use Rattle.std.specs.Io.KnownBytes.{Appends, Consumes, IsAtEnd}
+use Rattle.std.proofs.KnownBytes.{Consumes-kept, Consumes-nil, Consumes-trans}
+use Rattle.std.proofs.lemmas.Bool.Decides.{nat_tests}
+use Rattle.std.proofs.Math.Bool.{and-false}
+use Rattle.client.specs.declared.Outcome.{Outcome}
+use Rattle.client.specs.Prelude.{Knows, Note, Rest, losses, after_drop, taken_out, awaits}
+use Rattle.streams.specs.declared.fault.StreamFault.{StreamFault}
+use Rattle.streams.specs.declared.fault.StreamFault.TheVariants as stream_fault
+use Rattle.streams.specs.Prelude.{UnlessTold}
+use Rattle.asks.specs.Prelude.{hears_all, after_all, FeedsPiece, HearsPiece, IsAwaited, IsNeeded, ReadsEnd, ReadsOn, ReadsPiece, ReadsAll, Writes, all_answered, GivesUp}
+use Rattle.streams.proofs.Parts.{take_short}
+use Rattle.asks.proofs.Tales.{hears_all-append, after_all-append, notes_then}
+
+-- bytes that are fewer than were asked for are all that there is
+pub all_taken : (n : ℕ) (xs bytes : List ℕ) → bytes ≡ take n xs → length bytes < n → (bytes ≡ xs) × (drop n xs ≡ [])
+all_taken n xs bytes e l = let t = take_short n xs (subst (λ (z : List ℕ). length z < n) e l) in (e ∙ t.0, t.1)
+
+pub unanswered_awaits : (k : Knows) → awaits k ≡ true → all_answered k ≡ false
+unanswered_awaits k e = rw e refl
+
+pub unanswered_waits : (k : Knows) → 0 < length k.waiting → all_answered k ≡ false
+unanswered_waits k l =
+    let some : (length k.waiting == 0) ≡ false = grind (arith, nat_tests) in
+    ap (λ b. not (awaits k) && b) some ∙ and-false (not (awaits k))
+
+pub loses : (r : Rest) (Now : Rest → Type 0) (lost : List (ℕ × Outcome)) → all_answered r.knows ≡ false → (lost ≡ losses r.knows) × Now (after_drop r) → GivesUp Now lost r
+loses r Now lost e h = rw e (h.1, h.0)
+
+pub reads_none : (r : Rest) (left : Option (List ℕ)) (before : List Note) (Now : Rest → Type 0) → Now r → ReadsOn r left left before before Now
+reads_none r left before Now now = record { fed = []; unheard = []; input = Consumes-nil left; told = sym (append-nil before); now = now; needed = inl refl; whole = inl refl }
+
+awaits_open : (k : Knows) → awaits k ≡ true → k.over ≡ true → ⊥
+awaits_open k e o = let f : awaits k ≡ false = rw o refl in true≢false (sym e ∙ f)
+
+module _ {r : Rest} {left mid : Option (List ℕ)} {before notes : List Note} {Was : Rest → Type 0} (so : ReadsOn r left mid before notes Was) where
+  -- what was read so far was fed, all of it, where an answer is still to come
+  all_fed : awaits (hears_all r so.fed).knows ≡ true → so.fed ++ so.unheard ≡ so.fed
+  all_fed waits =
+      let none : so.unheard ≡ [] = ⊎_elim (λ e. e) (λ o. absurd (awaits_open (hears_all r so.fed).knows waits o)) so.whole in
+      ap (λ l. so.fed ++ l) none ∙ append-nil so.fed
+
+  pub is_awaited : awaits (hears_all r so.fed).knows ≡ true → IsAwaited r left mid
+  is_awaited waits = (so.fed, subst (Consumes left mid) (all_fed waits) so.input, waits)
+
+  -- it stops
+  stops : (left_now : Option (List ℕ)) (after : List Note) (Now : Rest → Type 0) (fault : Option StreamFault) → after ≡ notes → Now (after_all r so.fed) → Consumes mid left_now [] → (fault ≡ None → IsAtEnd left_now ⊎ (awaits (hears_all r so.fed).knows ≡ false)) → ReadsAll r left left_now before after Now fault
+  stops left_now after Now fault e now h ends = record {
+    fed = so.fed;
+    unheard = so.unheard;
+    input = subst (Consumes left left_now) (append-nil (so.fed ++ so.unheard)) (Consumes-trans left mid left_now (so.fed ++ so.unheard) [] so.input h);
+    told = e ∙ so.told;
+    now = now;
+    needed = so.needed;
+    whole = λ _. so.whole;
+    ends = ends;
+  }
+
+  pub stops_waiting : awaits (hears_all r so.fed).knows ≡ false → ReadsAll r left mid before notes Was None
+  stops_waiting e = stops mid notes Was None refl so.now (Consumes-nil mid) (λ _. inr e)
+
+  -- a piece more, while an answer is still to come
+  module _ (left_now : Option (List ℕ)) (piece : List ℕ) (after : List Note) (whole : Bool) (Now : Rest → Type 0) (waits : awaits (hears_all r so.fed).knows ≡ true) (short : length piece ≤ 4096) (read : Consumes mid left_now piece) (f : FeedsPiece (after_all r so.fed) piece notes after whole Now) where
+    all_read : so.fed ++ piece ≡ (so.fed ++ f.fed) ++ f.unheard
+    all_read = ap (λ l. so.fed ++ l) f.parts ∙ sym (append_assoc so.fed f.fed f.unheard)
+
+    input_more : Consumes left left_now ((so.fed ++ f.fed) ++ f.unheard)
+    input_more = subst (Consumes left left_now) (ap (λ l. l ++ piece) (all_fed waits) ∙ all_read) (Consumes-trans left mid left_now (so.fed ++ so.unheard) piece so.input read)
+
+    told_more : after ≡ before ++ (hears_all r (so.fed ++ f.fed)).notes
+    told_more = notes_then r so.fed f.fed before notes after so.told f.told
+
+    needed_more : IsNeeded r ((so.fed ++ f.fed) ++ f.unheard)
+    needed_more = inr (record { before = so.fed; last = piece; parts = sym all_read; short = short; waits = waits })
+
+    now_more : Now (after_all r (so.fed ++ f.fed))
+    now_more = subst Now (sym (after_all-append r so.fed f.fed)) f.now
+
+    reads_more : whole ≡ true → ReadsOn r left left_now before after Now
+    reads_more e =
+        let ends = ⊎_elim inl (λ o. inr (ap (λ t. t.knows.over) (hears_all-append r so.fed f.fed) ∙ o)) (f.ends e) in
+        record { fed = so.fed ++ f.fed; unheard = f.unheard; input = input_more; told = told_more; now = now_more; needed = needed_more; whole = ends }
+
+    reads_broken : ReadsAll r left left_now before after Now (Some stream_fault.Memory)
+    reads_broken = record {
+      fed = so.fed ++ f.fed;
+      unheard = f.unheard;
+      input = input_more;
+      told = told_more;
+      now = now_more;
+      needed = needed_more;
+      whole = λ n. absurd (n refl);
+      ends = λ e. absurd cc;
+    }
+
+  -- what a reading of one piece makes of the reading so far
+  pub hears_more : {left_now : Option (List ℕ)} {after : List Note} {Now : Rest → Type 0} → awaits (hears_all r so.fed).knows ≡ true → ReadsPiece (after_all r so.fed) mid left_now notes after true Now → ReadsOn r left left_now before after Now
+  hears_more {left_now = left_now} {after = after} {Now = Now} waits h = reads_more left_now h.piece after true Now waits h.short h.input h.feeds refl
+
+  pub hears_end : {left_now : Option (List ℕ)} {after : List Note} {Now : Rest → Type 0} → ReadsEnd (after_all r so.fed) mid left_now notes after Now → ReadsAll r left left_now before after Now None
+  hears_end {left_now = left_now} {after = after} {Now = Now} h = stops left_now after Now None h.told h.now h.input (λ _. inl h.at_end)
+
+  pub hears_fault : (left_now : Option (List ℕ)) (after : List Note) (Now : Rest → Type 0) (fault : StreamFault) → awaits (hears_all r so.fed).knows ≡ true → HearsPiece (after_all r so.fed) mid left_now notes after Now (Err fault) → ReadsAll r left left_now before after Now (Some fault)
+  hears_fault left_now after Now stream_fault.ReadFailed waits h = stops left_now after Now (Some stream_fault.ReadFailed) h.told h.now (Consumes-kept mid mid left_now [] (Consumes-nil mid) h.input) (λ e. absurd cc)
+  hears_fault left_now after Now stream_fault.WriteFailed waits h = absurd h
+  hears_fault left_now after Now stream_fault.Memory waits h = reads_broken left_now h.piece after false Now waits h.short h.input h.feeds
+
+-- what was answered, by a test of it
+pub on_err : {T E : Type 0} (x : Result T E) (P : Type 0) → is_err x ≡ true → OnErr x P → P
+on_err (Ok t) P e h = absurd (true≢false (sym e))
+on_err (Err f) P e h = h
+
+pub unless_err : {T E : Type 0} (x : Result T E) (f : E) (So : Type 0) → UnlessTold x f So → (result_err x ≡ Some f → ⊥) → So
+unless_err (Ok t) f So h n = h
+unless_err (Err e) f So h n = h (λ q. n (ap Some q))
+
+-- what was written whole was written so, whatever fault came after it but the sink's
+pub written_all : (out : List ℕ) (n : ℕ) (x : Result (Unit {0}) StreamFault) (a b : Option (List ℕ)) → IfErr x (λ e. e ≡ stream_fault.WriteFailed → ⊥) → Appends a b out × (drop n out ≡ []) → Writes out n (result_err x) a b
+written_all out n (Err stream_fault.WriteFailed) a b never h = absurd (never refl)
+written_all out n (Err stream_fault.Memory) a b never h = (out, [], append-nil out, h.0)
+written_all out n (Err stream_fault.ReadFailed) a b never h = h
+written_all out n (Ok t) a b never h = h
+
+-- bytes that are taken out change nothing of what was needed
+pub needed_taken : (r : Rest) (n : ℕ) (bytes : List ℕ) → IsNeeded (taken_out r n) bytes → IsNeeded r bytes
+needed_taken r n bytes (inl none) = inl none
+needed_taken r n bytes (inr piece) =
+    inr (record { before = piece.before; last = piece.last; parts = piece.parts; short = piece.short; waits = piece.waits })

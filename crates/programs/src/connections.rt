@@ -1,0 +1,116 @@
+//! A server of one connection after another.
+ghost use Rattle.std.specs.Prelude.{◌≡◌, [], Some, IsSome, true, IfOk, OnOk, OnErr, IsErrOf};
+ghost use Rattle.std.specs.Io.KnownBytes.{Appends};
+ghost use Rattle.server.specs.Serving.{Rest, find, fresh, opened, setting};
+ghost use Rattle.server.specs.Views.{Fits};
+ghost use Rattle.serves.specs.Settling.{IsLive};
+ghost use Rattle.serves.specs.Serving.{LeavesOthers};
+ghost use Rattle.programs.specs.Serving.{Drains, IsVacant, HasServed, MayHaveServed, ServesSo, conn_line};
+
+use crate::printed_lines::put_end;
+use engine::{Engine, Gate};
+use server::{Cause, Server};
+use serves::serve_one;
+use std::alloc::Global;
+use streams::{Sink, Source, StreamFault};
+
+/// How a connection has ended.
+#[derive(Clone, Copy, Debug, PartialEq, Eq)]
+pub struct ServedOne {
+    /// The cause of its session's end; `Lost` where a fault came, and where the input ended first.
+    pub cause: Cause,
+    /// What broke the conversation off: a stream that failed, or want of memory. None where the peer or the session ended it.
+    pub fault: Option<StreamFault>,
+}
+
+/// Serves one connection, of a server that has no other: opens a session, serves it to its end or that of the input, gives it up, and
+/// prints `conn K En`, its number and the cause of its end. A connection of which a stream fails, or for which memory runs out, is lost, E8,
+/// and that is no fault of the server: it can go on with the next. The answer has that fault beside the cause, so that want of memory and a
+/// stream that failed are told from a peer that left. I2 is a failure of `out` alone, I3 want of memory or of a number to open a session, or
+/// of memory to tell its end.
+pub fn serve_next<E: Engine, G: Gate, I: Source, O: Sink, P: Sink>(
+    alloc: Global,
+    server: &mut Server<E, G>,
+    source: &mut I,
+    sink: &mut O,
+    out: &mut P,
+) -> Result<ServedOne, StreamFault>
+    requires { IsVacant E.entries server.old }
+    ensures vacant { IsVacant E.entries server.new }
+    // The session is given up, the next number is one more, and the ledger has at most grown ..
+    ensures ok { (r : Rest G) → Fits E.entries server.old r → r.sessions ≡ []
+        → OnOk result (HasServed r (Fits E.entries server.new)) }
+    // .. also after a fault, where a session was opened.
+    ensures err { (r : Rest G) → Fits E.entries server.old r → r.sessions ≡ []
+        → OnErr result (MayHaveServed r (Fits E.entries server.new)) }
+    // What is printed is the connection's number and its cause.
+    ensures told { (r : Rest G) → Fits E.entries server.old r
+        → IfOk result (λ told. Appends (P.taken out.old) (P.taken out.new)
+        (conn_line r.next told.cause)) }
+    // What the client was answered, the ledger, the cause and the fault are those of its conversation, for the bytes that were read.
+    ensures serves { (r : Rest G) → Fits E.entries server.old r → r.sessions ≡ []
+        → IfOk result (ServesSo (opened r) r.next (setting E.answer G.accepts r) (Fits E.entries server.new)
+        (I.left source.old) (I.left source.new) (O.taken sink.old) (O.taken sink.new)
+        (I.has_failed source.new) (O.has_failed sink.new)) }
+    ensures read { IsErrOf result StreamFault.ReadFailed → ⊥ }
+    ensures written { IsErrOf result StreamFault.WriteFailed → P.has_failed out.new ≡ true }
+{
+    let Ok(conn) = server.open() else {
+        return Err(StreamFault::Memory);
+    };
+    let told = serve_opened(alloc, server, conn, source, sink);
+    match put_end(alloc, conn, told.cause, out) {
+        Ok(()) => Ok(told),
+        Err(fault) => Err(fault),
+    }
+}
+
+/// Serves a session, and gives it up. Where a stream fails, or memory runs out, it was lost, by that fault.
+fn serve_opened<E: Engine, G: Gate, I: Source, O: Sink>(
+    alloc: Global,
+    server: &mut Server<E, G>,
+    conn: u64,
+    source: &mut I,
+    sink: &mut O,
+) -> ServedOne
+    requires { IsLive E.entries conn server.old }
+    ensures leaves { (r : Rest G) → Fits E.entries server.old r → IsSome (find conn r.sessions)
+        → LeavesOthers r conn (Fits E.entries server.new) }
+    ensures serves { (r : Rest G) → Fits E.entries server.old r
+        → find conn r.sessions ≡ Some (fresh conn)
+        → ServesSo r conn (setting E.answer G.accepts r) (Fits E.entries server.new)
+        (I.left source.old) (I.left source.new) (O.taken sink.old) (O.taken sink.new)
+        (I.has_failed source.new) (O.has_failed sink.new) result }
+{
+    match serve_one(alloc, server, conn, source, sink) {
+        Ok(cause) => ServedOne { cause, fault: None },
+        Err(fault) => ServedOne {
+            cause: Cause::Lost,
+            fault: Some(fault),
+        },
+    }
+}
+
+/// How many bytes are read at once of what a peer still sends after the end, and how often at most.
+const LAST_PIECE: usize = 1024;
+
+const LAST_READS: u32 = 64;
+
+/// Reads what still comes and drops it, to the end of the input or a failure: 65,536 bytes at most, by 64 reads at most.
+///
+/// A connection that is closed while bytes of its peer are unread is reset, which throws away what was written and hasn't arrived. So whoever
+/// serves stops writing, drains, and then closes.
+pub fn drain<I: Source>(source: &mut I)
+    ensures { Drains (I.has_failed source.new) (I.reads source.old) (I.reads source.new)
+        (I.left source.old) (I.left source.new) }
+{
+    let mut buffer = [0; LAST_PIECE];
+    for _ in 0..LAST_READS {
+        let Ok(count) = source.read(&mut buffer) else {
+            return;
+        };
+        if count == 0 {
+            return;
+        }
+    }
+}

@@ -1,0 +1,308 @@
+-- What a call on the one session makes of a server: its place there, what each call does to it, and that it lives on while the ledger grows.
+use Rattle.std.proofs.Common.{◌≡◌, refl, ap, ℕ, List, [], ◌∷◌, eqb, cond, true, false, Bool, Some, sym, subst, ◌∙◌, ◌++◌, Option, None, Result, Ok, Err, ◌<◌, length, ◌≤◌, arith, append_assoc, append-nil, IsSome, option_map, option_and_then, unwrap_or, if◌then◌else◌, inl, inr, take, drop, option_to_list}
+use Rattle.std.proofs.lemmas.Bool.{eq-eqb}
+use Rattle.server.specs.Prelude.{Live, Rest, find, replace, without, with_session, on_live, after_step, setting, work_at, take_out_at, fed_live, feed_at, cause_or, lost_at, Feeding, feeding, takes_none, takes_item, arrival}
+use Rattle.server.specs.Serving.{cause_at}
+use Rattle.server.proofs.Runs.{find_replaced, find-conn}
+use Rattle.engine.specs.Prelude.{EntryView, WriteView, ParameterView, AnswerView, QueryFault}
+use Rattle.wire.specs.Prelude.{Opened, Item, at_server, Took as TookOf, takes, outputs}
+use Rattle.session.specs.Prelude.{Kept, worked_of, work_kept, commit_entries, shut, full, after_item}
+use Rattle.serves.specs.Prelude.{Talk, with_talk, heard_out, without_talk, LeavesOthers, Grows, LivesOn, Puts, said_by, Feeds, Holds, HoldsPart, StandsOver}
+use Rattle.streams.specs.Prelude.{AppendsFront}
+use Rattle.engine.specs.declared.answer.Mode.{Mode as QueryMode}
+use Rattle.session.specs.declared.kinds.Worked.{Worked}
+use Rattle.std.specs.Io.KnownBytes.{Appends}
+use Rattle.std.proofs.KnownBytes.{Appends-trans}
+use Rattle.streams.specs.declared.fault.StreamFault.{StreamFault}
+use Rattle.streams.proofs.Parts.{take_short}
+use Rattle.wire.proofs.Readers.{reads_pieces, takes_outputs}
+use Rattle.server.specs.declared.kinds.Took.{Took}
+use Rattle.session.specs.declared.kinds.What.{What}
+use Rattle.session.specs.declared.kinds.Cause.{Cause}
+
+pub replace-replace : (conn : ℕ) (s t : Live) (ss : List Live) → s.conn ≡ conn → replace conn t (replace conn s ss) ≡ replace conn t ss
+replace-replace conn s t [] e = refl
+replace-replace conn s t (x ∷ ss) e = go (eqb x.conn conn) refl (replace-replace conn s t ss e)
+  where
+    go : (b : Bool) → eqb x.conn conn ≡ b → replace conn t (replace conn s ss) ≡ replace conn t ss → replace conn t (cond b (s ∷ ss) (x ∷ replace conn s ss)) ≡ cond b (t ∷ ss) (x ∷ replace conn t ss)
+    go true q more = let same : eqb s.conn conn ≡ true = rw e (eq-eqb conn conn refl) in rw same refl
+    go false q more = rw q (ap (λ z. x ∷ z) more)
+
+pub without-replace : (conn : ℕ) (s : Live) (ss : List Live) → s.conn ≡ conn → without conn (replace conn s ss) ≡ without conn ss
+without-replace conn s [] e = refl
+without-replace conn s (x ∷ ss) e = go (eqb x.conn conn) refl (without-replace conn s ss e)
+  where
+    go : (b : Bool) → eqb x.conn conn ≡ b → without conn (replace conn s ss) ≡ without conn ss → without conn (cond b (s ∷ ss) (x ∷ replace conn s ss)) ≡ cond b ss (x ∷ without conn ss)
+    go true q more = let same : eqb s.conn conn ≡ true = rw e (eq-eqb conn conn refl) in rw same refl
+    go false q more = rw q (ap (λ z. x ∷ z) more)
+
+-- a session in its own place
+pub replace-itself : (conn : ℕ) (s : Live) (ss : List Live) → find conn ss ≡ Some s → replace conn s ss ≡ ss
+replace-itself conn s [] e = refl
+replace-itself conn s (x ∷ ss) e = go (eqb x.conn conn) e (replace-itself conn s ss)
+  where
+    go : (b : Bool) → cond b (Some x) (find conn ss) ≡ Some s → (find conn ss ≡ Some s → replace conn s ss ≡ ss) → cond b (s ∷ ss) (x ∷ replace conn s ss) ≡ x ∷ ss
+    go true q more = let same : s ≡ x = cc in ap (λ z. z ∷ ss) same
+    go false q more = ap (λ z. x ∷ z) (more q)
+
+module _ {G : Type 0} (r : Rest G) (conn : ℕ) (lives : IsSome (find conn r.sessions)) (u : Opened) (ledger : List EntryView) (k : Kept) where
+  abbrev pub here : Live
+  here = record { conn = conn; kept = k; unfinished = u }
+
+  pub talk-found : find conn (with_talk r conn u ledger k).sessions ≡ Some here
+  talk-found = find_replaced conn here r.sessions lives refl
+
+  pub talk-replaced : (v : Opened) (after : List EntryView) (l : Kept) → replace conn (record { conn = conn; kept = l; unfinished = v }) (with_talk r conn u ledger k).sessions ≡ (with_talk r conn v after l).sessions
+  talk-replaced v after l = replace-replace conn here (record { conn = conn; kept = l; unfinished = v }) r.sessions refl
+
+  pub talk-without : without conn (with_talk r conn u ledger k).sessions ≡ without conn r.sessions
+  talk-without = without-replace conn here r.sessions refl
+
+abbrev pub pair : {A B : Type 0} → A → B → A × B
+pair a b = (a, b)
+
+pub some_first : {A B : Type 0} (a x : A) (b y : B) → Some (pair a b) ≡ Some (pair x y) → a ≡ x
+some_first a x b y e = ap (λ o. (unwrap_or o (pair a b)).0) e
+
+pub some_second : {A B : Type 0} (a x : A) (b y : B) → Some (pair a b) ≡ Some (pair x y) → b ≡ y
+some_second a x b y e = ap (λ o. (unwrap_or o (pair a b)).1) e
+
+-- A beginning of what the session has said is out, and it holds what follows of that, or nothing more.
+pub record PutsFront {G : Type 0} (Now : Rest G → Type 0) (r : Rest G) (conn : ℕ) (u : Opened) (ledger : List EntryView) (k : Kept) (before taken : Option (List ℕ)) : Type 0 where
+  pub left : Kept
+  pub gone : List ℕ
+  pub lost : List ℕ
+  pub parts : gone ++ (left.unsent ++ lost) ≡ k.unsent
+  pub took : Appends before taken gone
+  pub now : Now (with_talk r conn u ledger left)
+
+module _ {G : Type 0} (r : Rest G) (conn : ℕ) (lives : IsSome (find conn r.sessions)) (u : Opened) (ledger : List EntryView) (k : Kept) where
+  abbrev W : Rest G
+  W = with_talk r conn u ledger k
+
+  seated : (v : Opened) (after : List EntryView) (l : Kept) → record { sessions = replace conn (record { conn = conn; kept = l; unfinished = v }) W.sessions; next = r.next; ledger = after; gate = r.gate } ≡ with_talk r conn v after l
+  seated v after l = ap (λ (ss : List Live). record { sessions = ss; next = r.next; ledger = after; gate = r.gate }) (talk-replaced r conn lives u ledger k v after l)
+
+  -- what a call answers, and the session after it
+  pub called : {A : Type 0} (f : Live → A × Live) (v : Opened) (l : Kept) → (f (here r conn lives u ledger k)).1 ≡ record { conn = conn; kept = l; unfinished = v } → (x : A) (new : Rest G) → on_live f conn W ≡ Some (x, new)
+      → (x ≡ (f (here r conn lives u ledger k)).0) × (new ≡ with_talk r conn v ledger l)
+  called f v l shape x new e =
+      let told = (f (here r conn lives u ledger k)).0 in
+      let model = sym e ∙ ap (option_map (λ s. ((f s).0, with_session (f s).1 W))) (talk-found r conn lives u ledger k) ∙ ap (λ t. Some (told, with_session t W)) shape ∙ ap (λ z. Some (told, z)) (seated v ledger l) in
+      (some_first x told new (with_talk r conn v ledger l) model, some_second x told new (with_talk r conn v ledger l) model)
+
+  -- a step
+  pub stepped_talk : (answer : List EntryView → List WriteView → List ℕ → List ParameterView → QueryMode → Result AnswerView QueryFault) (accepts : G → List ℕ → List ℕ → Bool) (x : Worked) (new : Rest G) → work_at answer accepts conn W ≡ Some (x, new)
+      → (let d = work_kept (setting answer accepts r) conn ledger k k.ended in (x ≡ worked_of d.answer) × (new ≡ with_talk r conn u (ledger ++ commit_entries conn k.first d.commit) d.kept))
+  stepped_talk answer accepts x new e =
+      let d = work_kept (setting answer accepts r) conn ledger k k.ended in
+      let after = ledger ++ commit_entries conn k.first d.commit in
+      let model = sym e ∙ ap (option_map (λ (s : Live). after_step s (work_kept (setting answer accepts W) s.conn ledger s.kept s.kept.ended) W)) (talk-found r conn lives u ledger k) ∙ ap (λ z. Some (pair (worked_of d.answer) z)) (seated u after d.kept) in
+      (some_first x (worked_of d.answer) new (with_talk r conn u after d.kept) model, some_second x (worked_of d.answer) new (with_talk r conn u after d.kept) model)
+
+  -- all that the session has said is out, or a beginning of it
+  module _ (old new : Rest G) (before taken : Option (List ℕ)) (stood : old ≡ W) where
+    put : (out : List ℕ) → on_live said_by conn old ≡ Some (out, new) → (out ≡ k.unsent) × (new ≡ with_talk r conn u ledger (heard_out k))
+    put out e = called said_by u (heard_out k) refl out new (ap (on_live said_by conn) (sym stood) ∙ e)
+
+    pub put_whole : Puts conn old new before taken (Ok tt) → (new ≡ with_talk r conn u ledger (heard_out k)) × Appends before taken k.unsent
+    put_whole h = let p = put h.0 h.1 in (p.1, subst (Appends before taken) p.0 h.2)
+
+    pub put_front : (fault : StreamFault) → Puts conn old new before taken (Err fault) → PutsFront (λ x. new ≡ x) r conn u ledger k before taken
+    put_front fault (inl h) = record { left = k; gone = []; lost = []; parts = append-nil k.unsent; took = h.1; now = h.0 ∙ stood }
+    put_front fault (inr h) =
+        let p = put h.0 h.1 in
+        let w = h.2 in
+        record { left = heard_out k; gone = w.0; lost = w.1; parts = w.2 ∙ p.0; took = w.3; now = p.1 }
+
+-- the server once a session has these bytes left
+abbrev left : {G : Type 0} → Rest G → Live → List ℕ → Rest G
+left r s z = with_session (record { conn = s.conn; kept = record s.kept { unsent = z }; unfinished = s.unfinished }) r
+
+-- fewer than were asked for are all
+pub all_out : {G : Type 0} (max conn : ℕ) (r new : Rest G) (x : List ℕ) → length x < max → take_out_at conn max r ≡ Some (x, new) → on_live said_by conn r ≡ Some (x, new)
+all_out {G = G} max conn r new x l e = go (find conn r.sessions) e
+  where
+    go : (o : Option Live) → option_map {U = List ℕ × Rest G} (λ (s : Live). (take max s.kept.unsent, left r s (drop max s.kept.unsent))) o ≡ Some (x, new) → option_map {U = List ℕ × Rest G} (λ (s : Live). (s.kept.unsent, left r s [])) o ≡ Some (x, new)
+    go None e = cc
+    go (Some s) e =
+        let t = take_short max s.kept.unsent (subst (λ (z : List ℕ). length z < max) (sym (some_first (take max s.kept.unsent) x (left r s (drop max s.kept.unsent)) new e)) l) in
+        sym (ap (λ z. Some (pair z (left r s (drop max s.kept.unsent)))) t.0 ∙ ap (λ z. Some (pair s.kept.unsent (left r s z))) t.1) ∙ e
+
+abbrev pub by_room : Bool → Bool → Opened → Kept → TookOf Opened Item → Feeding
+by_room shut full u k t = if shut then takes_none What.Closed k u else (if full then takes_none What.Full k u else takes_item k t)
+
+room_within : (a b : Bool) (u : Opened) (k : Kept) (t : TookOf Opened Item) (n : ℕ) → t.used ≤ n → (by_room a b u k t).took.used ≤ n
+room_within false false u k t n h = h
+room_within _ _ u k t n h = omega arith
+
+-- no more bytes are used than there are
+pub feed_within : {G : Type 0} (piece : List ℕ) (conn : ℕ) (r new : Rest G) (took : Took) → feed_at conn piece r ≡ Some (took, new) → took.used ≤ length piece
+feed_within {G = G} piece conn r new took e = go (find conn r.sessions) e
+  where
+    go : (o : Option Live) → option_map {U = Took × Rest G} (λ (s : Live). ((fed_live s piece).0, with_session (fed_live s piece).1 r)) o ≡ Some (took, new) → took.used ≤ length piece
+    go None e = cc
+    go (Some s) e =
+        let same : (fed_live s piece).0 ≡ took = some_first (fed_live s piece).0 took (with_session (fed_live s piece).1 r) new e in
+        let t = takes at_server s.unfinished piece in
+        let few = (reads_pieces Opened Item at_server).within s.unfinished piece in
+        subst (λ (x : Took). x.used ≤ length piece) same (room_within (shut s.kept) (full s.kept) s.unfinished s.kept t (length piece) few)
+
+module _ {G : Type 0} (r : Rest G) (conn : ℕ) (i : IsSome (find conn r.sessions)) (u : Opened) (ledger : List EntryView) (k : Kept) (piece : List ℕ) (old new : Rest G) (stood : old ≡ with_talk r conn u ledger k) where
+  abbrev t : TookOf Opened Item
+  t = takes at_server u piece
+
+  fed_there : (took : Took) → feed_at conn piece old ≡ Some (took, new) → (took ≡ (feeding u piece k).took) × (new ≡ with_talk r conn (feeding u piece k).unfinished ledger (feeding u piece k).kept)
+  fed_there took e = called r conn i u ledger k (λ s. fed_live s piece) (feeding u piece k).unfinished (feeding u piece k).kept refl took new (ap (feed_at conn piece) (sym stood) ∙ e)
+
+  by_full : (a b : Bool) (took : Took) → a ≡ false → 0 < took.used → (took ≡ (by_room a b u k t).took) × (new ≡ with_talk r conn (by_room a b u k t).unfinished ledger (by_room a b u k t).kept) → (took ≡ (takes_item k t).took) × (new ≡ with_talk r conn t.rest ledger (after_item k (arrival k t.item)))
+  by_full true b took e l h = cc
+  by_full false true took e l h = let none : took.used ≡ 0 = ap (λ (x : Took). x.used) h.0 in absurd (omega arith)
+  by_full false false took e l h = h
+
+  -- where the session isn't shut and took bytes, it took an item at most
+  pub fed_item : (took : Took) → shut k ≡ false → 0 < took.used → Feeds (feed_at conn piece) old new (Ok took) → (took ≡ (takes_item k t).took) × (new ≡ with_talk r conn t.rest ledger (after_item k (arrival k t.item)))
+  fed_item took s l h = by_full (shut k) (full k) took s l (fed_there took h)
+
+  -- no item is in no bytes
+  nothing_taken : t.used ≡ 0 → t.item ≡ None
+  nothing_taken e = go t.item (sym (takes_outputs Opened Item at_server u piece).0 ∙ ap (λ (n : ℕ). outputs at_server u (take n piece)) e)
+    where
+      go : (o : Option Item) → option_to_list o ≡ [] → o ≡ None
+      go None e = refl
+      go (Some x) e = cc
+
+  kept_by : (a b : Bool) → (by_room a b u k t).took.used ≡ 0 → (by_room a b u k t).kept ≡ k
+  kept_by true b e = refl
+  kept_by false true e = refl
+  kept_by false false e = ap (λ (o : Option Item). after_item k (arrival k o)) (nothing_taken e)
+
+  -- and where it took none it keeps what it kept
+  pub fed_none : (fault : StreamFault) → Feeds (feed_at conn piece) old new (Err fault) → (v : Opened) × (new ≡ with_talk r conn v ledger k)
+  fed_none fault (inl same) = (u, same ∙ stood)
+  fed_none fault (inr h) =
+      let f = fed_there h.0 h.1 in
+      ((feeding u piece k).unfinished, f.1 ∙ ap (with_talk r conn (feeding u piece k).unfinished ledger) (kept_by (shut k) (full k) (sym (ap (λ (x : Took). x.used) f.0) ∙ h.2)))
+
+module _ {G : Type 0} (r : Rest G) (conn : ℕ) (i : IsSome (find conn r.sessions)) (u : Opened) (ledger : List EntryView) (k : Kept) where
+  pub lost_cause : (lost_at conn (with_talk r conn u ledger k)).0 ≡ Some (cause_or k.ended)
+  lost_cause = ap (option_map (λ (s : Live). cause_or s.kept.ended)) (talk-found r conn i u ledger k)
+
+  pub lost_rest : (lost_at conn (with_talk r conn u ledger k)).1 ≡ without_talk r conn ledger
+  lost_rest = ap (λ (ss : List Live). record { sessions = ss; next = r.next; ledger = ledger; gate = r.gate }) (talk-without r conn i u ledger k)
+
+  -- why it has ended
+  pub ended_there : (new : Rest G) → new ≡ with_talk r conn u ledger k → cause_at conn new ≡ k.ended
+  ended_there new e = ap (cause_at conn) e ∙ ap (option_and_then {U = Cause} (λ (s : Live). s.kept.ended)) (talk-found r conn i u ledger k)
+
+-- what giving a session up does to a server, and what it answers
+abbrev pub Loses : {G : Type 0} → ℕ → (Rest G → Type 0) → (Rest G → Type 0) → Option Cause → Type 0
+Loses {G = G} conn Now Then o = (x : Rest G) → Now x → (o ≡ (lost_at conn x).0) × Then (lost_at conn x).1
+
+module _ {G : Type 0} (conn : ℕ) where
+  -- a rest is itself with its session in its place
+  itself : (r : Rest G) (s : Live) → find conn r.sessions ≡ Some s → with_talk r conn s.unfinished r.ledger s.kept ≡ r
+  itself r s e =
+      let numbered : record { conn = conn; kept = s.kept; unfinished = s.unfinished } ≡ s = ap (λ (n : ℕ). record { conn = n; kept = s.kept; unfinished = s.unfinished }) (sym (find-conn conn r.sessions s e)) in
+      ap (λ (ss : List Live). record { sessions = ss; next = r.next; ledger = r.ledger; gate = r.gate }) (ap (λ (t : Live). replace conn t r.sessions) numbered ∙ replace-itself conn s r.sessions e)
+
+  -- what is so of every session that is found
+  by_found : (r : Rest G) (Then : Type 0) → IsSome (find conn r.sessions) → ((s : Live) → find conn r.sessions ≡ Some s → Then) → Then
+  by_found r Then i h = go (find conn r.sessions) refl i
+    where
+      go : (o : Option Live) → find conn r.sessions ≡ o → IsSome o → Then
+      go None e i = cc
+      go (Some s) e i = h s e
+
+  by_talk : (r : Rest G) (Old Now : Rest G → Type 0) → IsSome (find conn r.sessions) → Old r → ((u : Opened) (k : Kept) → Old (with_talk r conn u r.ledger k) → Grows r conn Now) → Grows r conn Now
+  by_talk r Old Now i old h = by_found r (Grows r conn Now) i (λ s e. h s.unfinished s.kept (subst Old (sym (itself r s e)) old))
+
+  -- the ledger as it was
+  no_more : (r : Rest G) (Now : Rest G → Type 0) (u : Opened) (k : Kept) → Now (with_talk r conn u r.ledger k) → Grows r conn Now
+  no_more r Now u k h = (u, k, [], subst (λ (l : List EntryView). Now (with_talk r conn u l k)) (sym (append-nil r.ledger)) h)
+
+  -- nothing was done
+  pub lives_kept : (Old Now : Rest G → Type 0) → ((r : Rest G) → Old r → Now r) → LivesOn conn Old Now
+  lives_kept Old Now same r old i = by_talk r Old Now i old (λ u k h. no_more r Now u k (same (with_talk r conn u r.ledger k) h))
+
+  pub lives_same : (Old : Rest G → Type 0) → LivesOn conn Old Old
+  lives_same Old = lives_kept Old Old (λ r h. h)
+
+  -- one thing after another
+  pub lives_then : (Old Mid Now : Rest G → Type 0) → LivesOn conn Old Mid → LivesOn conn Mid Now → LivesOn conn Old Now
+  lives_then Old Mid Now first second r old i =
+      let a = first r old i in
+      let ledger = r.ledger ++ a.2 in
+      let b = second (with_talk r conn a.0 ledger a.1) a.3 (subst IsSome (sym (talk-found r conn i a.0 ledger a.1)) refl) in
+      let seated = ap (λ (ss : List Live). record { sessions = ss; next = r.next; ledger = ledger ++ b.2; gate = r.gate }) (talk-replaced r conn i a.0 ledger a.1 b.0 (ledger ++ b.2) b.1) in
+      let joined = ap (λ (l : List EntryView). with_talk r conn b.0 l b.1) (append_assoc r.ledger a.2 b.2) in
+      (b.0, b.1, a.2 ++ b.2, subst Now (seated ∙ joined) b.3)
+
+  -- a call on the session
+  pub lives_called : {A : Type 0} (f : Live → A × Live) → ((s : Live) → (f s).1.conn ≡ s.conn) → (old new : Rest G) (x : A) → on_live f conn old ≡ Some (x, new) → LivesOn conn (λ r. old ≡ r) (λ r. new ≡ r)
+  lives_called f keeps old new x e r was i = by_talk r (λ y. old ≡ y) (λ y. new ≡ y) i was (λ u k h.
+      let s = (f (here r conn i u r.ledger k)).1 in
+      let shape : s ≡ record { conn = conn; kept = s.kept; unfinished = s.unfinished } = ap (λ (n : ℕ). record { conn = n; kept = s.kept; unfinished = s.unfinished }) (keeps (here r conn i u r.ledger k)) in
+      no_more r (λ y. new ≡ y) s.unfinished s.kept (called r conn i u r.ledger k f s.unfinished s.kept shape x new (ap (on_live f conn) (sym h) ∙ e)).1)
+
+  pub lives_worked : (answer : List EntryView → List WriteView → List ℕ → List ParameterView → QueryMode → Result AnswerView QueryFault) (accepts : G → List ℕ → List ℕ → Bool) (old new : Rest G) (x : Worked) → work_at answer accepts conn old ≡ Some (x, new) → LivesOn conn (λ r. old ≡ r) (λ r. new ≡ r)
+  lives_worked answer accepts old new x e r was i = by_talk r (λ y. old ≡ y) (λ y. new ≡ y) i was (λ u k h.
+      let d = work_kept (setting answer accepts r) conn r.ledger k k.ended in
+      (u, d.kept, commit_entries conn k.first d.commit, (stepped_talk r conn i u r.ledger k answer accepts x new (ap (work_at answer accepts conn) (sym h) ∙ e)).1))
+
+  -- so it is still found there
+  pub live_then : (Old Now : Rest G → Type 0) → LivesOn conn Old Now → (r : Rest G) × Old r × IsSome (find conn r.sessions) → (r : Rest G) × Now r × IsSome (find conn r.sessions)
+  live_then Old Now lives was =
+      let g = lives was.0 was.1 was.2 in
+      let ledger = was.0.ledger ++ g.2 in
+      (with_talk was.0 conn g.0 ledger g.1, g.3, subst IsSome (sym (talk-found was.0 conn was.2 g.0 ledger g.1)) refl)
+
+  -- and then it is given up
+  pub lives_no_more : (Old Mid Now : Rest G → Type 0) (o : Option Cause) → LivesOn conn Old Mid → Loses conn Mid Now o → (r : Rest G) → Old r → IsSome (find conn r.sessions) → LeavesOthers r conn Now
+  lives_no_more Old Mid Now o lives gives_up r old i =
+      let a = lives r old i in
+      let l = gives_up (with_talk r conn a.0 (r.ledger ++ a.2) a.1) a.3 in
+      (a.2, subst Now (lost_rest r conn i a.0 (r.ledger ++ a.2) a.1) l.1)
+
+-- What a session holds is put out.
+module _ {G : Type 0} {r : Rest G} {conn : ℕ} (i : IsSome (find conn r.sessions)) {t : Talk} (before mid taken : Option (List ℕ)) (old new : Rest G) where
+  module _ {u : Opened} (h : Holds r conn u t (λ x. old ≡ x) before mid) where
+    -- all of it
+    pub held_out : Puts conn old new mid taken (Ok tt) → (new ≡ with_talk r conn u t.ledger (heard_out t.kept)) × Appends before taken t.out
+    held_out puts =
+        let p = put_whole r conn i u t.ledger (record t.kept { unsent = h.held }) old new mid taken h.now puts in
+        (p.0, subst (Appends before taken) h.parts (Appends-trans before mid taken h.gone h.held h.took p.1))
+
+    -- so it holds nothing
+    pub holds_none : Puts conn old new mid taken (Ok tt) → Holds r conn u t (λ x. new ≡ x) before taken
+    holds_none puts = let p = held_out puts in record { gone = t.out; held = []; parts = append-nil t.out; took = p.1; now = p.0 }
+
+    -- or a beginning of it
+    pub holds_some : (fault : StreamFault) → Puts conn old new mid taken (Err fault) → HoldsPart r conn (λ x. new ≡ x) before taken t
+    holds_some fault puts =
+        let p = put_front r conn i u t.ledger (record t.kept { unsent = h.held }) old new mid taken h.now fault puts in
+        record {
+          unfinished = u;
+          kept = p.left;
+          gone = h.gone ++ p.gone;
+          lost = p.lost;
+          parts = append_assoc h.gone p.gone (p.left.unsent ++ p.lost) ∙ ap (λ (z : List ℕ). h.gone ++ z) p.parts ∙ h.parts;
+          took = Appends-trans before mid taken h.gone p.gone h.took p.took;
+          now = p.now;
+        }
+
+  -- where it holds a part
+  pub part_out : HoldsPart r conn (λ x. old ≡ x) before mid t → (done : Result (Unit {0}) StreamFault) → Puts conn old new mid taken done → StandsOver r conn (λ x. new ≡ x) t.ledger × AppendsFront before taken t.out
+  part_out h (Ok done) puts =
+      let p = put_whole r conn i h.unfinished t.ledger h.kept old new mid taken h.now puts in
+      (record { unfinished = h.unfinished; kept = heard_out h.kept; now = p.0 }, (h.gone ++ h.kept.unsent, h.lost, append_assoc h.gone h.kept.unsent h.lost ∙ h.parts, Appends-trans before mid taken h.gone h.kept.unsent h.took p.1))
+  part_out h (Err fault) puts =
+      let p = put_front r conn i h.unfinished t.ledger h.kept old new mid taken h.now fault puts in
+      let more = (p.left.unsent ++ p.lost) ++ h.lost in
+      let parts : (h.gone ++ p.gone) ++ more ≡ t.out =
+      append_assoc h.gone p.gone more ∙ ap (λ (z : List ℕ). h.gone ++ z) (sym (append_assoc p.gone (p.left.unsent ++ p.lost) h.lost) ∙ ap (λ (z : List ℕ). z ++ h.lost) p.parts) ∙ h.parts in
+      (record { unfinished = h.unfinished; kept = p.left; now = p.now }, (h.gone ++ p.gone, more, parts, Appends-trans before mid taken h.gone p.gone h.took p.took))
+
+-- a part as it is held
+pub part_stands : {G : Type 0} {r : Rest G} {conn : ℕ} {t : Talk} {before taken : Option (List ℕ)} {Now : Rest G → Type 0} → HoldsPart r conn Now before taken t → StandsOver r conn Now t.ledger × AppendsFront before taken t.out
+part_stands h = (record { unfinished = h.unfinished; kept = h.kept; now = h.now }, (h.gone, h.kept.unsent ++ h.lost, h.parts, h.took))

@@ -1,0 +1,32 @@
+-- The first client of a server.
+use Rattle.std.proofs.Common.{◌≡◌, refl, sym, ap, subst, ◌∙◌, ℕ, List, [], ◌++◌, Option, Some, IsSome}
+use Rattle.engine.specs.Prelude.{EntryView}
+use Rattle.session.specs.Prelude.{Setting}
+use Rattle.server.specs.Prelude.{Live, Rest, empty, find, fresh, opened}
+use Rattle.serves.specs.declared.response.End.{End}
+use Rattle.serves.specs.Prelude.{Talk, conversation, with_talk, ConversesWhole, end_of}
+use Rattle.serves.proofs.Called.{here, talk-found}
+use Rattle.serves.proofs.Conversings.{read_all}
+
+module _ {G : Type 0} (ledger : List EntryView) (gate : G) (conn : ℕ) (first : conn ≡ 0) where
+  -- the server with its first session
+  abbrev pub one : Rest G
+  one = opened (empty ledger gate)
+
+  pub one_found : find conn one.sessions ≡ Some (fresh conn)
+  one_found = subst (λ (n : ℕ). find n one.sessions ≡ Some (fresh n)) (sym first) refl
+
+  pub one_lives : IsSome (find conn one.sessions)
+  one_lives = subst IsSome (sym one_found) refl
+
+  module _ {S : Setting} {bytes : List ℕ} {Now : Rest G → Type 0} {left_now : Option (List ℕ)} where
+    pub one_out : {old new : List ℕ} (items : List ℕ) → old ≡ [] → items ≡ new → ConversesWhole one conn S Now (Some bytes) left_now (Some old) (Some new) → items ≡ (conversation S 0 ledger bytes).out
+    one_out items e m h =
+        m ∙ h.took ∙ ap (λ z. z ++ (conversation S conn ledger h.read).out) e ∙ ap (λ (t : Talk). t.out) (read_all one conn S bytes left_now h.read h.input h.ends) ∙ ap (λ n. (conversation S n ledger bytes).out) first
+
+    pub one_last : {old new : Option (List ℕ)} (last : End) → ((x : Rest G) (s : Live) → Now x → find conn x.sessions ≡ Some s → last ≡ end_of s.kept) → ConversesWhole one conn S Now (Some bytes) left_now old new → last ≡ end_of (conversation S 0 ledger bytes).kept
+    one_last last f h =
+        let t = conversation S conn ledger h.read in
+        f (with_talk one conn h.unfinished t.ledger t.kept) (here one conn one_lives h.unfinished t.ledger t.kept) h.now (talk-found one conn one_lives h.unfinished t.ledger t.kept)
+        ∙ ap (λ (t : Talk). end_of t.kept) (read_all one conn S bytes left_now h.read h.input h.ends)
+        ∙ ap (λ n. end_of (conversation S n ledger bytes).kept) first

@@ -1,0 +1,5 @@
+pub mod Called
+pub mod Stepping
+pub mod Talks
+pub mod Conversings
+pub mod Firsts

@@ -1,0 +1,51 @@
+use Rattle.std.proofs.Common.{◌∙◌, sym, ap, subst, refl, Option, IsSome, unwrap_or}
+use Rattle.session.specs.declared.kinds.Cause.{Cause}
+use Rattle.server.specs.Prelude.{find, lost_at, setting, Fits}
+use Rattle.serves.specs.Prelude.{conversation, with_talk}
+use Rattle.serves.proofs.Called.{lives_no_more, lost_cause, lost_rest}
+use Rattle.server.proofs.Known.{gone}
+use Rattle.serves.proofs.server_end.serve_one.Goals as goal
+
+pub returns-in-Ok-clause-serves : goal.returns-in-Ok-clause-serves
+returns-in-Ok-clause-serves g c = λ r f e.
+    let h = c.in-Ok.ensures.converses r f e in
+    let t = conversation (setting g.E.Engine.answer g.G.Gate.accepts r) c.args.conn r.ledger h.read in
+    let i : IsSome (find c.args.conn r.sessions) = subst IsSome (sym e) refl in
+    let l = (gone (lost_at c.args.conn) _ _ _ c.lost.ensures) (with_talk r c.args.conn h.unfinished t.ledger t.kept) h.now in
+    record {
+      read = h.read;
+      input = h.input;
+      ends = h.ends;
+      ended = c.unwrap_or-cause.ensures ∙ ap (λ (x : Option Cause). unwrap_or x Cause.Lost) (l.0 ∙ lost_cause r c.args.conn i h.unfinished t.ledger t.kept);
+      now = subst (Fits g.E.Engine.entries c.lost.new.self) (lost_rest r c.args.conn i h.unfinished t.ledger t.kept) l.1;
+      took = h.took;
+    }
+
+pub returns-in-Err-clause-serves : goal.returns-in-Err-clause-serves
+returns-in-Err-clause-serves g c = λ r f e.
+    let h = c.in-Err.ensures.converses r f e in
+    let i : IsSome (find c.args.conn r.sessions) = subst IsSome (sym e) refl in
+    let b = h.broken in
+    let s = b.stands in
+    let l = (gone (lost_at c.args.conn) _ _ _ c.lost.ensures) (with_talk r c.args.conn s.unfinished b.so_far.ledger s.kept) s.now in
+    record {
+      read = h.read;
+      input = h.input;
+      broken = record {
+        so_far = b.so_far;
+        comes = b.comes;
+        stands = subst (Fits g.E.Engine.entries c.lost.new.self) (lost_rest r c.args.conn i s.unfinished b.so_far.ledger s.kept) l.1;
+        took = b.took;
+        more = b.more;
+        rest = b.rest;
+        grown = b.grown;
+        due = b.due;
+      };
+      whole = h.whole;
+    }
+
+pub returns-in-Ok-clause-leaves : goal.returns-in-Ok-clause-leaves
+returns-in-Ok-clause-leaves g c = lives_no_more c.args.conn (Fits g.E.Engine.entries c.args.server.now) (Fits g.E.Engine.entries c.converse-done.new.server) (Fits g.E.Engine.entries c.lost.new.self) c.lost.result c.converse-done.ensures.grows (gone (lost_at c.args.conn) _ _ _ c.lost.ensures)
+
+pub returns-in-Err-clause-leaves : goal.returns-in-Err-clause-leaves
+returns-in-Err-clause-leaves g c = lives_no_more c.args.conn (Fits g.E.Engine.entries c.args.server.now) (Fits g.E.Engine.entries c.converse-done.new.server) (Fits g.E.Engine.entries c.lost.new.self) c.lost.result c.converse-done.ensures.grows (gone (lost_at c.args.conn) _ _ _ c.lost.ensures)

@@ -1,0 +1,64 @@
+-- How far a conversation has come where it is broken off.
+use Rattle.std.specs.Prelude.{◌≡◌, ℕ, List, ◌∷◌, ◌++◌, Option, Some, None}
+use Rattle.messages.specs.Arrivals.{Arrival, arrivals}
+use Rattle.engine.specs.Views.{EntryView}
+use Rattle.session.specs.Session.{Setting}
+use Rattle.session.specs.Rest.{Kept, begun, after_item}
+use Rattle.streams.specs.Fronts.{AppendsFront}
+use Rattle.serves.specs.Conversing.{Talk, silent, after_bytes, heard_out, steps, talk_of_due}
+
+-- all that is unsent, and then some of the steps that are due
+abbrev pub IsPartOfDue : Setting → ℕ → List EntryView → Kept → Talk → Type 0
+IsPartOfDue S c ledger k t =
+    (n : ℕ) × (t ≡ after_bytes k.unsent (steps S c n ledger (heard_out k)))
+
+-- what is due once this has arrived
+abbrev pub due_of : Setting → ℕ → List EntryView → Kept → Arrival → Talk
+due_of S c ledger k a = talk_of_due S c ledger (after_item k (Some a))
+
+-- How far a conversation may have come, by what a session takes each that comes as: nothing was done yet; the first was taken, and some of the
+-- steps were made that it makes due; or all of them, and some of what follows. Nothing is done after an end.
+pub data ComesTo {A : Type 0} (takes_as : Kept → A → Arrival) (S : Setting) (c : ℕ)
+    : List A → List EntryView → Kept → Talk → Type 0 where
+  nothing_yet : (xs : List A) (ledger : List EntryView) (k : Kept)
+      → ComesTo takes_as S c xs ledger k (silent ledger k)
+  part_of_first : (x : A) (xs : List A) (ledger : List EntryView) (k : Kept) (t : Talk)
+      → k.ended ≡ None → IsPartOfDue S c ledger (after_item k (Some (takes_as k x))) t
+      → ComesTo takes_as S c (x ∷ xs) ledger k t
+  after_first : (x : A) (xs : List A) (ledger : List EntryView) (k : Kept) (t : Talk)
+      → k.ended ≡ None
+      → ComesTo takes_as S c xs (due_of S c ledger k (takes_as k x)).ledger
+      (due_of S c ledger k (takes_as k x)).kept t
+      → ComesTo takes_as S c (x ∷ xs) ledger k
+      (after_bytes (due_of S c ledger k (takes_as k x)).out t)
+
+-- what arrives is taken as that
+abbrev pub as_it_is : Kept → Arrival → Arrival
+as_it_is k a = a
+
+-- how far the whole conversation of a session with the client that sends these bytes may have come
+abbrev pub ConversationComesTo : Setting → ℕ → List EntryView → List ℕ → Talk → Type 0
+ConversationComesTo S c ledger bytes = ComesTo as_it_is S c (arrivals bytes) ledger begun
+
+-- A conversation was broken off: the sink took a beginning of what was put out by some moment of it, and the ledger is the one of that same
+-- moment: a commit of whose answer anything was taken stands there. Both are a beginning of the whole.
+pub record BreaksOff (whole : Talk) (Comes : Talk → Type 0) (Stands : List EntryView → Type 0)
+    (old new : Option (List ℕ)) : Type 0 where
+  pub so_far : Talk
+  pub comes : Comes so_far
+  pub stands : Stands so_far.ledger
+  pub took : AppendsFront old new so_far.out
+  pub more : List EntryView
+  pub rest : List ℕ
+  pub grown : so_far.ledger ++ more ≡ whole.ledger
+  pub due : so_far.out ++ rest ≡ whole.out
+
+-- A conversation was broken off at some moment of it, of which this is so. What was put out by then and the ledger are beginnings of the whole.
+pub record BreaksAt (whole : Talk) (Comes IsSo : Talk → Type 0) : Type 0 where
+  pub so_far : Talk
+  pub comes : Comes so_far
+  pub is_so : IsSo so_far
+  pub more : List EntryView
+  pub rest : List ℕ
+  pub grown : so_far.ledger ++ more ≡ whole.ledger
+  pub due : so_far.out ++ rest ≡ whole.out

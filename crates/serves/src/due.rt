@@ -1,0 +1,141 @@
+//! All that is due of a session is worked, and what it has said is written.
+ghost use Rattle.std.specs.Prelude.{◌≡◌, ℕ, List, [], Option, IsSome, IfErr, false, true};
+ghost use Rattle.wire.specs.Framing.{Opened};
+ghost use Rattle.server.specs.Serving.{Rest, cause_at, find, setting, work_at};
+ghost use Rattle.server.specs.Views.{rest_of, Fits};
+ghost use Rattle.serves.specs.Conversing.{Talk};
+ghost use Rattle.serves.specs.Putting.{Puts};
+ghost use Rattle.serves.specs.Settling.{IsDueTo, IsLive, LivesOn, IsPlaced, GoesOn, Holds, Settles, Steps, Works, next_of, standing_of};
+
+use crate::standing::Standing;
+use engine::{Engine, Gate};
+use server::{Server, Worked};
+use streams::{Sink, StreamFault, write_all};
+
+/// What follows a step.
+#[derive(Clone, Copy)]
+enum Next {
+    /// A further step.
+    Step,
+    /// What waits to go has to be written before a further step.
+    Room,
+    /// Nothing: no step is due.
+    Rest,
+}
+
+/// Writes all that a session has said. I2 where the sink fails, with a beginning of it written; I3 for want of memory, and then nothing has
+/// changed.
+pub(crate) fn put_out<E: Engine, G: Gate, O: Sink>(
+    server: &mut Server<E, G>,
+    conn: u64,
+    sink: &mut O,
+) -> Result<(), StreamFault>
+    requires { IsLive E.entries conn server.old }
+    ensures live { IsLive E.entries conn server.new }
+    ensures grows { LivesOn conn (Fits E.entries server.old) (Fits E.entries server.new) }
+    ensures puts { Puts conn (rest_of E.entries server.old) (rest_of E.entries server.new)
+        (O.taken sink.old) (O.taken sink.new) result }
+    ensures failed { IfErr result (λ e. IsDueTo e false (O.has_failed sink.new)) }
+    ensures stays { O.has_failed sink.old ≡ true → O.has_failed sink.new ≡ true }
+{
+    let Ok(bytes) = server.take_out(conn, usize::MAX) else {
+        return Err(StreamFault::Memory);
+    };
+    let Ok(()) = write_all(sink, bytes.as_slice()) else {
+        return Err(StreamFault::WriteFailed);
+    };
+    Ok(())
+}
+
+/// How many steps may be due at most, and more than there ever are.
+const MOST_STEPS: u64 = u64::MAX;
+
+/// Works until nothing is due. What the session says waits there, and is written only where so much waits that no step is done.
+pub(crate) fn settle<E: Engine, G: Gate, O: Sink>(
+    server: &mut Server<E, G>,
+    conn: u64,
+    sink: &mut O,
+) -> Result<Standing, StreamFault>
+    requires { IsLive E.entries conn server.old }
+    ensures live { IsLive E.entries conn server.new }
+    ensures grows { LivesOn conn (Fits E.entries server.old) (Fits E.entries server.new) }
+    ensures settles { (r : Rest G) (u : Opened) (t : Talk) (before : Option (List ℕ))
+        → IsSome (find conn r.sessions) → t.kept.unsent ≡ [] → IsPlaced t.kept.waiting
+        → Holds r conn u t (Fits E.entries server.old) before (O.taken sink.old)
+        → Settles r conn u t (setting E.answer G.accepts r) (Fits E.entries server.new) before
+        (O.taken sink.new) result }
+    ensures failed { IfErr result (λ e. IsDueTo e false (O.has_failed sink.new)) }
+{
+    for _ in 0..MOST_STEPS {
+        match work_once(server, conn, sink) {
+            Ok(None) => {}
+            Ok(Some(standing)) => return Ok(standing),
+            Err(fault) => return Err(fault),
+        }
+    }
+    Err(StreamFault::Memory)
+}
+
+/// Works a step, or makes room for it by writing what waits to go; or answers how the session stands where nothing is due.
+fn work_once<E: Engine, G: Gate, O: Sink>(
+    server: &mut Server<E, G>,
+    conn: u64,
+    sink: &mut O,
+) -> Result<Option<Standing>, StreamFault>
+    requires { IsLive E.entries conn server.old }
+    ensures live { IsLive E.entries conn server.new }
+    ensures grows { LivesOn conn (Fits E.entries server.old) (Fits E.entries server.new) }
+    ensures steps { (r : Rest G) (u : Opened) (t : Talk) (before : Option (List ℕ))
+        → IsSome (find conn r.sessions)
+        → GoesOn r conn u t (setting E.answer G.accepts r) (Fits E.entries server.old) before
+        (O.taken sink.old)
+        → Steps r conn u t (setting E.answer G.accepts r) (Fits E.entries server.new) before
+        (O.taken sink.new) result }
+    ensures failed { IfErr result (λ e. IsDueTo e false (O.has_failed sink.new)) }
+{
+    match work_step(server, conn) {
+        Ok(Next::Step) => Ok(None),
+        Ok(Next::Rest) => Ok(Some(standing(server, conn))),
+        Ok(Next::Room) => match put_out(server, conn, sink) {
+            Ok(()) => Ok(None),
+            Err(fault) => Err(fault),
+        },
+        Err(fault) => Err(fault),
+    }
+}
+
+/// Works a step. I3 for want of memory, and then nothing has changed.
+fn work_step<E: Engine, G: Gate>(server: &mut Server<E, G>, conn: u64) -> Result<Next, StreamFault>
+    requires { IsLive E.entries conn server.old }
+    ensures live { IsLive E.entries conn server.new }
+    ensures grows { LivesOn conn (Fits E.entries server.old) (Fits E.entries server.new) }
+    ensures works { Works (work_at E.answer G.accepts conn) (rest_of E.entries server.old)
+        (rest_of E.entries server.new) result }
+    ensures memory { IfErr result (λ e. e ≡ StreamFault.Memory) }
+{
+    let Ok(worked) = server.work(conn) else {
+        return Err(StreamFault::Memory);
+    };
+    Ok(next_after(worked))
+}
+
+/// What follows a step that did this. One at most waits: after its summary nothing is due.
+fn next_after(worked: Worked) -> Next
+    ensures { result ≡ next_of worked }
+{
+    match worked {
+        Worked::Row => Next::Step,
+        Worked::Full => Next::Room,
+        Worked::Idle | Worked::Wrote { .. } | Worked::Ended(_) => Next::Rest,
+    }
+}
+
+/// How a session stands.
+fn standing<E: Engine, G: Gate>(server: &Server<E, G>, conn: u64) -> Standing
+    ensures { result ≡ standing_of (cause_at conn (rest_of E.entries server.now)) }
+{
+    match server.cause(conn) {
+        Some(_) => Standing::Over,
+        None => Standing::Open,
+    }
+}

@@ -1,0 +1,161 @@
+//! A client's bytes are taken, one item at a time, what they make due is worked, and what the session says is written.
+ghost use Rattle.std.specs.Prelude.{◌≡◌, ◌<◌, ◌≤◌, ℕ, List, [], Option, None, length, IsSome, IfOk, IfErr, false};
+ghost use Rattle.wire.specs.Framing.{at_server};
+ghost use Rattle.wire.specs.Reader.{state};
+ghost use Rattle.server.specs.Serving.{Rest, find, feed_at, setting};
+ghost use Rattle.server.specs.Views.{rest_of, Fits};
+ghost use Rattle.serves.specs.Settling.{IsDueTo, IsLive, LivesOn, Feeds, HoldsAfter, Stands, TakesOne, TakesItems, TakesPiece, rest_after, told_by};
+
+use crate::due::{put_out, settle};
+use crate::standing::Standing;
+use engine::{Engine, Gate};
+use server::{Server, Took};
+use session::What;
+use streams::{Sink, StreamFault};
+
+/// How many bytes of a piece were used, and how the session stands then.
+#[derive(Clone, Copy)]
+struct Taken {
+    used: usize,
+    standing: Standing,
+}
+
+/// Takes a piece, item by item, up to the end of a session that lives, works what it makes due, and writes what the session says: all of it at
+/// once, or before that where 65,536 bytes or more wait to go. It answers whether the session goes on. I2 where the sink fails, with a beginning
+/// written; I3 for want of memory or where no ordinal is left.
+pub fn take_piece<E: Engine, G: Gate, O: Sink>(
+    server: &mut Server<E, G>,
+    conn: u64,
+    piece: &[u8],
+    sink: &mut O,
+) -> Result<Standing, StreamFault>
+    requires { IsLive E.entries conn server.old }
+    ensures live { IsLive E.entries conn server.new }
+    ensures grows { LivesOn conn (Fits E.entries server.old) (Fits E.entries server.new) }
+    ensures takes { (r : Rest G) (before : Option (List ℕ)) (up : List ℕ)
+        → IsSome (find conn r.sessions)
+        → (told_by r conn (setting E.answer G.accepts r) up).kept.ended ≡ None
+        → Stands r conn (setting E.answer G.accepts r) (Fits E.entries server.old) before
+        (O.taken sink.old) up
+        → TakesPiece r conn (setting E.answer G.accepts r) (Fits E.entries server.new) before
+        (O.taken sink.new) up piece.now result }
+    ensures failed { IfErr result (λ e. IsDueTo e false (O.has_failed sink.new)) }
+{
+    let taken = take_items(server, conn, piece, sink);
+    let put = put_out(server, conn, sink);
+    let standing = match taken {
+        Ok(standing) => standing,
+        Err(fault) => return Err(fault),
+    };
+    match put {
+        Ok(()) => Ok(standing),
+        Err(fault) => Err(fault),
+    }
+}
+
+/// Takes a piece, item by item, up to the end of the session, and works what each makes due.
+fn take_items<E: Engine, G: Gate, O: Sink>(
+    server: &mut Server<E, G>,
+    conn: u64,
+    piece: &[u8],
+    sink: &mut O,
+) -> Result<Standing, StreamFault>
+    requires { IsLive E.entries conn server.old }
+    ensures live { IsLive E.entries conn server.new }
+    ensures grows { LivesOn conn (Fits E.entries server.old) (Fits E.entries server.new) }
+    ensures takes { (r : Rest G) (before : Option (List ℕ)) (up : List ℕ)
+        → IsSome (find conn r.sessions)
+        → (told_by r conn (setting E.answer G.accepts r) up).kept.ended ≡ None
+        → HoldsAfter r conn (setting E.answer G.accepts r) (Fits E.entries server.old) before
+        (O.taken sink.old) up
+        → TakesItems r conn (setting E.answer G.accepts r) (Fits E.entries server.new) before
+        (O.taken sink.new) up piece.now result }
+    ensures failed { IfErr result (λ e. IsDueTo e false (O.has_failed sink.new)) }
+{
+    let mut rest = piece;
+    while !rest.is_empty() {
+        let taken = match take_one(server, conn, rest, sink) {
+            Ok(taken) => taken,
+            Err(fault) => return Err(fault),
+        };
+        let (_, after) = rest.split_at(taken.used);
+        rest = after;
+        match taken.standing {
+            Standing::Open => {}
+            Standing::Over => return Ok(Standing::Over),
+        }
+    }
+    Ok(Standing::Open)
+}
+
+/// Takes one item at most of a piece, and works what it makes due.
+fn take_one<E: Engine, G: Gate, O: Sink>(
+    server: &mut Server<E, G>,
+    conn: u64,
+    piece: &[u8],
+    sink: &mut O,
+) -> Result<Taken, StreamFault>
+    requires { IsLive E.entries conn server.old }
+    ensures live { IsLive E.entries conn server.new }
+    ensures grows { LivesOn conn (Fits E.entries server.old) (Fits E.entries server.new) }
+    ensures bound { IfOk result (λ taken. (0 < taken.used) × (taken.used ≤ length piece.now)) }
+    ensures takes { (r : Rest G) (before : Option (List ℕ)) (up : List ℕ)
+        → IsSome (find conn r.sessions)
+        → (told_by r conn (setting E.answer G.accepts r) up).kept.ended ≡ None
+        → HoldsAfter r conn (setting E.answer G.accepts r) (Fits E.entries server.old) before
+        (O.taken sink.old) up
+        → TakesOne r conn (setting E.answer G.accepts r) (Fits E.entries server.new) before
+        (O.taken sink.new) up piece.now result }
+    ensures failed { IfErr result (λ e. IsDueTo e false (O.has_failed sink.new)) }
+{
+    let took = match feed_one(server, conn, piece) {
+        Ok(took) => took,
+        Err(fault) => return Err(fault),
+    };
+    let standing = match standing_after(took.what) {
+        Some(standing) => standing,
+        None => match settle(server, conn, sink) {
+            Ok(standing) => standing,
+            Err(fault) => return Err(fault),
+        },
+    };
+    Ok(Taken {
+        used: took.used,
+        standing,
+    })
+}
+
+/// How a session stands after this ended with the bytes that it took; none where a step may be due.
+fn standing_after(what: What) -> Option<Standing>
+    ensures { result ≡ rest_after what }
+{
+    match what {
+        What::Part | What::Noop | What::Handshake(Some(_)) => Some(Standing::Open),
+        What::Handshake(None) | What::BadMagic => Some(Standing::Over),
+        What::Message | What::Malformed | What::Full | What::Closed => None,
+    }
+}
+
+/// Feeds one item at most of a piece, and answers how many bytes were used, and what ended with them. None are used where no ordinal is left:
+/// that is I3, as is want of memory.
+fn feed_one<E: Engine, G: Gate>(
+    server: &mut Server<E, G>,
+    conn: u64,
+    piece: &[u8],
+) -> Result<Took, StreamFault>
+    requires { IsLive E.entries conn server.old }
+    ensures live { IsLive E.entries conn server.new }
+    ensures grows { LivesOn conn (Fits E.entries server.old) (Fits E.entries server.new) }
+    ensures bound { IfOk result (λ took. (0 < took.used) × (took.used ≤ length piece.now)) }
+    ensures feeds { Feeds (feed_at conn piece.now) (rest_of E.entries server.old)
+        (rest_of E.entries server.new) result }
+    ensures memory { IfErr result (λ e. e ≡ StreamFault.Memory) }
+{
+    let Ok(took) = server.feed(conn, piece) else {
+        return Err(StreamFault::Memory);
+    };
+    if took.used == 0 {
+        return Err(StreamFault::Memory);
+    }
+    Ok(took)
+}

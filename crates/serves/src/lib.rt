@@ -1,0 +1,13 @@
+//! A session of a server is served over a source and a sink.
+#![tactic(auto)]
+
+mod due;
+mod intake;
+mod response;
+mod server_end;
+mod standing;
+
+pub use intake::take_piece;
+pub use response::{End, Responded, respond};
+pub use server_end::{converse, serve_one};
+pub use standing::Standing;
