@@ -92,19 +92,24 @@ def torn(chance, said):
 
 
 class Chance:
-    """Events by chance on the last connections of a world, or on one that wasn't opened; the same for the same seed."""
+    """Events by chance on the last connections of a world, or on one that wasn't opened; the same for the same seed. It is to be played as `mixed`: of
+    another version is each HELLO on a line of an odd number."""
 
     def __init__(self, seed):
-        self.chance, self.peers, self.said = random.Random(seed), [], []
+        self.chance, self.peers, self.said, self.line = random.Random(seed), [], [], 0
+        # How many bytes of the handshake, and of the version answer behind it, have moved on each connection.
+        self.up, self.down = [], []
 
     def script(self, events):
         return "".join(f"{self.event()}\n" for _ in range(events))
 
     def event(self):
         chance = self.chance
+        self.line += 1
         if not self.peers or chance.randrange(60) == 0:
             self.peers.append(chance.choice(("newest", "4.4", "5.0", "5.1", "foreign", "foreign")))
-            self.said.append(0)
+            for counts in (self.said, self.up, self.down):
+                counts.append(0)
             return f"open {self.peers[-1]}"
         conn = len(self.peers) - 1 - chance.randrange(min(4, len(self.peers)))
         way = chance.randrange(1000)
@@ -112,14 +117,27 @@ class Chance:
             return (f"cut {conn}", f"clientlost {conn}", f"serverlost {conn}", f"work {len(self.peers)}", f"submit {conn} {self.request(9)}",
                     f"foreign {conn} {self.bytes(9)}")[way]
         if way < 500:
-            return f"noop {conn}" if way < 20 else f"work {conn}" if way < 350 else f"client {conn} {chance.choice(AMOUNTS)}"
+            return f"noop {conn}" if way < 20 else f"work {conn}" if way < 350 else self.moves("client", conn)
         self.said[conn] += 1
         if self.peers[conn] == "foreign":
             return f"foreign {conn} {self.bytes(self.said[conn] - 1)}"
         if chance.randrange(2):
             self.said[conn] -= 1
-            return f"server {conn} {chance.choice(AMOUNTS)}"
-        return f"submit {conn} {self.request(self.said[conn] - 1)}"
+            return self.moves("server", conn)
+        request = self.request(self.said[conn] - 1)
+        # (refused, and not asked: what comes before the version is heard, and a HELLO of another version)
+        self.said[conn] -= self.down[conn] < 4 or request == "hello" and self.line % 2
+        return f"submit {conn} {request}"
+
+    def moves(self, to, conn):
+        """Bytes move to the server or to the client."""
+        amount = self.chance.choice(AMOUNTS)
+        count = 65_536 if amount == "all" else amount
+        if to == "server":
+            self.up[conn] += count
+        elif self.up[conn] >= 20:
+            self.down[conn] += count
+        return f"{to} {conn} {amount}"
 
     def request(self, asked):
         """A request of a client that has asked so many: HELLO first and LOGON then, more often than not."""

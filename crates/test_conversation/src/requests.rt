@@ -1,7 +1,7 @@
 //! What clients ask, by the lines of scripts.
 
 use client::Client;
-use messages::Request;
+use messages::{Mode, Request};
 use scripts::read_request;
 use std::alloc::Global;
 use std::test::Fail;
@@ -10,8 +10,17 @@ use wire::{Version, Wish};
 /// RUN PUT of the key `k` and the number 1.
 pub(crate) const PUT: &str = "run PUT A2836B6579816B8576616C756501";
 
+/// BEGIN under a token of no byte, which no line of a script says.
+pub(crate) const BEGIN_UNDER_NONE: &str = "begin token ";
+
 /// The request of a line, as it is at a version.
 pub(crate) fn request(alloc: Global, version: Version, line: &str) -> Result<Request, Fail> {
+    if line == BEGIN_UNDER_NONE {
+        return Ok(Request::Begin {
+            mode: Mode::Write,
+            token: Some(String::new(alloc)),
+        });
+    }
     let said = read_request(alloc, line.as_bytes())?;
     Ok(said.into_request(alloc, version)?)
 }

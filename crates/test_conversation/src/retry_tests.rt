@@ -1,4 +1,4 @@
-use crate::requests::{PUT, request};
+use crate::requests::{BEGIN_UNDER_NONE, PUT, request};
 use crate::streams_of::{MANY, Table, Trickle, server};
 use asks::{Told, ask_all};
 use client::{Client, Heard, Outcome, SubmitFault};
@@ -129,8 +129,10 @@ const NOPE: &[&str] = &[
     "commit",
 ];
 
-/// A transaction whose BEGIN can't be written, since its token has 65 bytes.
-const UNWRITABLE: &[&str] = &[
+/// Transactions whose BEGIN can't be written, since its token has no byte, or 65 bytes.
+const TOO_SHORT: &[&str] = &["hello", "logon", BEGIN_UNDER_NONE];
+
+const TOO_LONG: &[&str] = &[
     "hello",
     "logon",
     "begin token aaaaaaaaaaaaaaaaaaaaaaaaaaaaaaaaaaaaaaaaaaaaaaaaaaaaaaaaaaaaaaaaa",
@@ -154,7 +156,7 @@ use Connection::*;
 /// What is asked over which connections, what is known in the end, and with how many of them.
 type Case = (&'static [&'static str], &'static [Connection], Known, usize);
 
-const CASES: [Case; 9] = [
+const CASES: [Case; 10] = [
     // Where the version alone comes, the COMMIT may stand, as it does here.
     (
         ASKED,
@@ -185,11 +187,12 @@ const CASES: [Case; 9] = [
     ),
     (ASKED, &[Served(4), Said(UNAUTHORIZED)], Known::Open, 2),
     (
-        UNWRITABLE,
+        TOO_SHORT,
         &[Said(&[]), Served(4), Served(4)],
         Known::Refused,
         2,
     ),
+    (TOO_LONG, &[Said(&[]), Served(4)], Known::Refused, 2),
 ];
 
 /// How many items come and how many steps are worked, at most.

@@ -1,13 +1,16 @@
 //! The program `test_refusals`: plays scripts, a conversation of both ends, and the decoding and encoding of a value, each call given
 //! again where it is refused for memory, for who refuses allocations from outside and compares what is told, and for who holds what is told
-//! against what clients may rely on. What is to be played comes on standard input, each parted from the next by a line `.`: `play N` or
-//! `brought N`, and a script behind it, of which it tells all that is seen, and what is reported behind each Nth line; `rows`, for the rows
-//! of the machine; or the name of what else is played, of which it tells whether all held, and on standard error a digest.
+//! against what clients may rely on. What is to be played comes on standard input, each parted from the next by a line `.`: `play N`,
+//! `mixed N` (each HELLO on a line of an odd number is one of another version) or `brought N`, and a script behind it, of which it tells all
+//! that is seen, and what is reported behind each Nth line; `hears N`, and a line `foreign 0 HEX` behind it, for a client that is given these
+//! bytes in pieces of N; `rows`, for the rows of the machine; or the name of what else is played. Of these two it tells whether all held, and
+//! on standard error a digest.
 #![tactic(auto)]
 
 mod asked;
 mod brought;
 mod conversation;
+mod hearing;
 mod hunger;
 mod notes;
 mod play;
@@ -18,8 +21,10 @@ mod without;
 
 use asked::Unplayed;
 use conversation::ends;
+use hearing::hears;
 use play::{notes_of, notes_over};
 use rows::add_rows;
+use script::Hellos;
 use spelling::values;
 use std::alloc::Global;
 use std::io;
@@ -66,9 +71,8 @@ fn word_of(told: u64) -> &'static str {
     }
 }
 
-/// What is played by a name.
-fn play_name(rt: &HostRuntime, name: &str) -> io::Result<()> {
-    let told = told_by(rt.alloc(), name);
+/// What is played by a name told this.
+fn print_digest(rt: &HostRuntime, name: &str, told: u64) -> io::Result<()> {
     println!(rt; "{name}: {}", word_of(told))?;
     eprintln!(rt; "{told}")
 }
@@ -81,7 +85,7 @@ fn print_notes(rt: &HostRuntime, notes: Result<String, Unplayed>) -> io::Result<
     }
 }
 
-/// After how many lines a script is reported.
+/// After how many lines a script is reported, or how many bytes a piece has.
 fn every(how: &str) -> usize {
     how.parse::<usize>().unwrap_or(1)
 }
@@ -96,7 +100,16 @@ fn print_rows(rt: &HostRuntime) -> io::Result<()> {
 fn play_block(rt: &HostRuntime, block: &str) -> io::Result<()> {
     let (first, rest) = block.split_once('\n').unwrap_or((block, ""));
     if let Some(how) = first.strip_prefix("play ") {
-        return print_notes(rt, notes_of(rt.alloc(), rest, every(how)));
+        let notes = notes_of(rt.alloc(), rest, Hellos::OfTheVersion, every(how));
+        return print_notes(rt, notes);
+    }
+    if let Some(how) = first.strip_prefix("mixed ") {
+        let notes = notes_of(rt.alloc(), rest, Hellos::Mixed, every(how));
+        return print_notes(rt, notes);
+    }
+    if let Some(how) = first.strip_prefix("hears ") {
+        let told = as_digest(hears(rt.alloc(), rest, every(how)));
+        return print_digest(rt, "hears", told);
     }
     if let Some(how) = first.strip_prefix("brought ") {
         return print_notes(rt, notes_over(rt.alloc(), rest, every(how)));
@@ -104,7 +117,7 @@ fn play_block(rt: &HostRuntime, block: &str) -> io::Result<()> {
     match first {
         "" => Ok(()),
         "rows" => print_rows(rt),
-        name => play_name(rt, name),
+        name => print_digest(rt, name, told_by(rt.alloc(), name)),
     }
 }
 

@@ -3,7 +3,7 @@
 use crate::asked::Unplayed;
 use crate::brought::brought;
 use crate::notes::{Noted, note};
-use crate::script::{Step, steps};
+use crate::script::{Hellos, Step, steps};
 use client::{Heard, Outcome};
 use engine::{FixedTable, OneUser};
 use machine::{Phase, State};
@@ -146,7 +146,7 @@ fn play_on(
 
 /// The notes of a script that is played over a table which has what an engine may bring.
 pub fn notes_over(alloc: Global, script: &str, every: usize) -> Result<String, Unplayed> {
-    let steps = steps(alloc, script)?;
+    let steps = steps(alloc, script, Hellos::OfTheVersion)?;
     let mut play = Play::over(alloc, brought(alloc)?)?;
     let mut notes = String::new(alloc);
     play_on(
@@ -161,8 +161,13 @@ pub fn notes_over(alloc: Global, script: &str, every: usize) -> Result<String, U
 }
 
 /// The notes of a script that is played over an empty table, and then by `replay`.
-pub fn notes_of(alloc: Global, script: &str, every: usize) -> Result<String, Unplayed> {
-    let steps = steps(alloc, script)?;
+pub fn notes_of(
+    alloc: Global,
+    script: &str,
+    hellos: Hellos,
+    every: usize,
+) -> Result<String, Unplayed> {
+    let steps = steps(alloc, script, hellos)?;
     let mut play = Play::over(alloc, FixedTable::new(alloc))?;
     let mut notes = String::new(alloc);
     let mut events = Vec::new(alloc);

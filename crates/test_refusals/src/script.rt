@@ -21,8 +21,40 @@ pub struct Step {
     pub times: u32,
 }
 
+/// The forms of a script's HELLOs: at 5.1 without a login, below with one.
+#[derive(Clone, Copy, Debug, PartialEq, Eq)]
+pub enum Hellos {
+    /// Each is of its connection's version.
+    OfTheVersion,
+    /// One on a line of an odd number is of the other form.
+    Mixed,
+}
+
+impl Hellos {
+    /// The version at which the request of a line is written, on a connection of this one.
+    fn version(self, line: usize, of: Version) -> Version {
+        if self == Hellos::OfTheVersion || line % 2 == 0 {
+            return of;
+        }
+        match of {
+            Version::V51 => Version::V44,
+            Version::V44 | Version::V50 => Version::V51,
+        }
+    }
+}
+
+/// The bytes of the first line of a script, which says what a stranger sends.
+pub fn foreign(alloc: Global, script: &str) -> Result<Vec<u8>, Unplayed> {
+    for Numbered { said, .. } in read_script(alloc, script.as_bytes())? {
+        if let Line::Foreign { bytes, .. } = said {
+            return Ok(bytes);
+        }
+    }
+    Err(Unplayed)
+}
+
 /// The steps of a script, a line each.
-pub fn steps(alloc: Global, script: &str) -> Result<Vec<Step>, Unplayed> {
+pub fn steps(alloc: Global, script: &str, hellos: Hellos) -> Result<Vec<Step>, Unplayed> {
     let lines = read_script(alloc, script.as_bytes())?;
     let mut versions = Vec::new(alloc);
     let mut steps = Vec::new(alloc);
@@ -30,7 +62,7 @@ pub fn steps(alloc: Global, script: &str) -> Result<Vec<Step>, Unplayed> {
         if let Line::Open(peer) = said {
             versions.push(version(peer))?;
         }
-        steps.push(step_of(alloc, &versions, number, said)?)?;
+        steps.push(step_of(alloc, &versions, hellos, number, said)?)?;
     }
     Ok(steps)
 }
@@ -48,6 +80,7 @@ fn version(peer: Said) -> Version {
 fn step_of(
     alloc: Global,
     versions: &[Version],
+    hellos: Hellos,
     line: usize,
     said: Line,
 ) -> Result<Step, AllocError> {
@@ -55,7 +88,7 @@ fn step_of(
         Line::Open(peer) => (Event::Open(opened(peer)), 1),
         Line::Submit { conn, request } => {
             let version = versions.get(conn as usize).copied().unwrap_or(Version::V51);
-            let request = request.into_request(alloc, version)?;
+            let request = request.into_request(alloc, hellos.version(line, version))?;
             (Event::Submit(conn, request), 1)
         }
         Line::ToServer { conn, amount } => (Event::ToServer(conn, bytes(amount)), turns(amount)),
