@@ -108,6 +108,20 @@ impl Client {
         Ok(bytes)
     }
 
+    /// The bytes that aren't taken out, after the client's end too: lent, so that a stream can write them. It takes no memory.
+    pub fn unsent(&self) -> &[u8]
+        ensures { result.now ≡ (rest_of self.now).unsent }
+    {
+        self.out.as_slice()
+    }
+
+    /// Takes out the next bytes, the smaller of `count` and what waits, as `take_out` does, for who wrote them from `unsent`. It takes no memory.
+    pub fn sent(&mut self, count: usize)
+        ensures { rest_of self.new ≡ taken_out (rest_of self.old) count }
+    {
+        self.out.advance(count.min(self.out.len()));
+    }
+
     /// Uses a piece of the server's bytes to the end of the item begun (the version answer, a no-op, a message), else all of it,
     /// and tells what ended with the last byte used.
     ///

@@ -1,5 +1,5 @@
 //! A client that keeps track of its requests.
-ghost use Rattle.std.specs.Prelude.{◌≡◌, ◌⊎◌, ◌^◌, [], Some, None, ◌≤◌, ◌<◌, IfOk, IfErr, OnErr, IsErrOf, take, length, true, false};
+ghost use Rattle.std.specs.Prelude.{◌≡◌, ◌⊎◌, ◌^◌, [], Some, None, ◌≤◌, ◌<◌, IfOk, IfErr, OnErr, IsErrOf, take, length, true, false, not, ◌==◌};
 ghost use Rattle.messages.specs.View.{request_view};
 ghost use Rattle.client.specs.Rest.{begun, refuses, refuses_at_once, after_submit, feed_of, taken_out, losses, after_drop, awaits};
 ghost use Rattle.client.specs.Fits.{IsAccepted};
@@ -221,6 +221,29 @@ impl TrackingClient {
         self.left = 0;
         self.losses = Losses::new();
         true
+    }
+
+    /// The bytes for the server that aren't taken out: lent, so that a stream can write them. It takes no memory.
+    pub fn unsent(&self) -> &[u8]
+        ensures { result.now ≡ (rest_in self.now).unsent }
+    {
+        self.client.unsent()
+    }
+
+    /// Takes out the next bytes, the smaller of `count` and what waits, as `take_out` does, for who wrote them from `unsent`. The account stays.
+    /// It takes no memory.
+    pub fn sent(&mut self, count: usize)
+        ensures sent { rest_in self.new ≡ taken_out (rest_in self.old) count }
+        ensures account { account_of self.new ≡ account_of self.old }
+    {
+        self.client.sent(count)
+    }
+
+    /// Whether bytes wait to be written to the server. It takes no memory.
+    pub fn wants_write(&self) -> bool
+        ensures { result ≡ not (length (rest_in self.now).unsent == 0) }
+    {
+        !self.client.unsent().is_empty()
     }
 
     /// Whether an answer is still to come, as `Client::awaits` says. It takes no memory.
