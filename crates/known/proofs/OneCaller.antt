@@ -1,5 +1,5 @@
 -- The headline for one caller.
-use Rattle.std.proofs.Common.{◌≡◌, refl, sym, ◌∙◌, ap, ℕ, zero, suc, ◌<◌, ◌==◌, Bool, true, false, not, ◌&&◌, if◌then◌else◌, Option, Some, None, List, [], ◌∷◌, length, map, arith, ⊎_elim, eqb-true}
+use Rattle.std.proofs.Common.{◌≡◌, refl, sym, ◌∙◌, ap, subst, ℕ, zero, suc, ◌<◌, ◌==◌, Bool, true, false, not, ◌&&◌, if◌then◌else◌, Option, Some, None, List, [], ◌∷◌, length, map, arith, ⊎_elim, eqb-true}
 use Rattle.std.proofs.lemmas.Bool.{and_parts, cases_Bool, eqb-false}
 use Rattle.engine.specs.Prelude.{EntryView}
 use Rattle.client.specs.declared.Outcome.{Outcome}
@@ -10,8 +10,8 @@ use Rattle.driver.specs.declared.Fate.{Fate}
 use Rattle.driver.specs.Fates.{fate_of}
 use Rattle.driver.specs.Telling.{adds_nothing, is_committed, is_refused, all_nothing}
 use Rattle.driver.specs.Attempts.{told_of, Made, tells, tells_in}
-use Rattle.known.specs.OneCaller.{IsMade, IsTry, OneStands, AddsNone, NoneAdded, OneCallerMayRely}
-use Rattle.known.proofs.Tied.{attempt_stands, attempt_adds_none}
+use Rattle.known.specs.OneCaller.{IsMade, IsTry, OneStands, OneClashes, AddsNone, NoneAdded, OneCallerMayRely}
+use Rattle.known.proofs.Tied.{attempt_stands, attempt_clashes, attempt_adds_none}
 
 each_nothing : (told : ℕ → Option Outcome) (n : ℕ) → all_nothing told n ≡ true → (i : ℕ) → i < n → adds_nothing (told i) ≡ true
 each_nothing told zero h i l = absurd (omega arith)
@@ -30,19 +30,35 @@ was_committed (Some Outcome.Lost) h = cc
 was_committed (Some Outcome.Unknown) h = cc
 was_committed None h = cc
 
+was_refused : (o : Option Outcome) → is_refused o ≡ true → o ≡ Some Outcome.Refused
+was_refused (Some Outcome.Refused) h = refl
+was_refused (Some Outcome.Done) h = cc
+was_refused (Some Outcome.Committed) h = cc
+was_refused (Some Outcome.Ignored) h = cc
+was_refused (Some Outcome.Lost) h = cc
+was_refused (Some Outcome.Unknown) h = cc
+was_refused None h = cc
+
 -- what the tests were, by what is told
-told_by : (c k a r : Bool) (x : Tells) → (if c then Tells.Stands else (if k then Tells.Clash else (if not a then Tells.Doubt else (if r then Tells.Refused else Tells.Nothing)))) ≡ x
-    → (x ≡ Tells.Stands → c ≡ true) × (x ≡ Tells.Refused → a ≡ true) × (x ≡ Tells.Nothing → a ≡ true)
-told_by true k a r x h = ((λ e. refl), (λ e. let no = h ∙ e in cc), (λ e. let no = h ∙ e in cc))
-told_by false true a r x h = ((λ e. let no = h ∙ e in cc), (λ e. let no = h ∙ e in cc), (λ e. let no = h ∙ e in cc))
-told_by false false false r x h = ((λ e. let no = h ∙ e in cc), (λ e. let no = h ∙ e in cc), (λ e. let no = h ∙ e in cc))
-told_by false false true true x h = ((λ e. let no = h ∙ e in cc), (λ e. refl), (λ e. refl))
-told_by false false true false x h = ((λ e. let no = h ∙ e in cc), (λ e. refl), (λ e. refl))
+abbrev tested : Bool → Bool → Bool → Tells → Type 0
+tested c k a Tells.Stands = c ≡ true
+tested c k a Tells.Clash = k ≡ true
+tested c k a Tells.Refused = a ≡ true
+tested c k a Tells.Nothing = a ≡ true
+tested c k a Tells.Doubt = Unit {0}
+
+told_by : (c k a r : Bool) → tested c k a (if c then Tells.Stands else (if k then Tells.Clash else (if not a then Tells.Doubt else (if r then Tells.Refused else Tells.Nothing))))
+told_by true k a r = refl
+told_by false true a r = refl
+told_by false false false r = tt
+told_by false false true true = refl
+told_by false false true false = refl
 
 module _ (S : Setting) (brought : List EntryView) (w : World) (r : Reached S brought w) (t : List ℕ) where
   module _ (m : Made) where
-    abbrev tests : (x : Tells) → tells m ≡ x → (x ≡ Tells.Stands → is_committed (told_of m.attempt m.commit) ≡ true) × (x ≡ Tells.Refused → all_nothing (told_of m.attempt) (length m.attempt.sent) ≡ true) × (x ≡ Tells.Nothing → all_nothing (told_of m.attempt) (length m.attempt.sent) ≡ true)
-    tests x h = told_by (is_committed (told_of m.attempt m.commit)) (is_refused (told_of m.attempt m.commit) && m.clash) (all_nothing (told_of m.attempt) (length m.attempt.sent)) m.final x h
+    tests : (x : Tells) → tells m ≡ x → tested (is_committed (told_of m.attempt m.commit)) (is_refused (told_of m.attempt m.commit) && m.clash) (all_nothing (told_of m.attempt) (length m.attempt.sent)) x
+    tests x h = subst (tested (is_committed (told_of m.attempt m.commit)) (is_refused (told_of m.attempt m.commit) && m.clash) (all_nothing (told_of m.attempt) (length m.attempt.sent))) h
+        (told_by (is_committed (told_of m.attempt m.commit)) (is_refused (told_of m.attempt m.commit) && m.clash) (all_nothing (told_of m.attempt) (length m.attempt.sent)) m.final)
 
     made_stands : IsMade t w m → tells m ≡ Tells.Stands → OneStands S t w (Some m ∷ [])
     made_stands is h = record {
@@ -52,52 +68,96 @@ module _ (S : Setting) (brought : List EntryView) (w : World) (r : Reached S bro
       is_last = refl;
       here = is.at.here;
       commits = is.commits h;
-      stands = attempt_stands S brought w r t m.conn is.connection m.attempt is.at is.under m.commit (is.commits h) (was_committed (told_of m.attempt m.commit) ((tests Tells.Stands h).0 refl));
+      stands = attempt_stands S brought w r t m.conn is.connection m.attempt is.at is.under m.commit (is.commits h) (was_committed (told_of m.attempt m.commit) (tests Tells.Stands h));
+    }
+
+    made_clashes : IsMade t w m → tells m ≡ Tells.Clash → OneClashes S t w (Some m ∷ [])
+    made_clashes is h = record {
+      before = [];
+      last = m;
+      connection = is.connection;
+      is_last = refl;
+      here = is.at.here;
+      clashes = λ asks. attempt_clashes S brought w r t m.conn is.connection m.attempt is.at is.under m.commit asks (was_refused (told_of m.attempt m.commit) (and_parts _ _ (tests Tells.Clash h)).0);
     }
 
     made_adds_none : IsMade t w m → all_nothing (told_of m.attempt) (length m.attempt.sent) ≡ true → AddsNone w (Some m)
     made_adds_none is h = attempt_adds_none S brought w r m.conn is.connection m.attempt is.at (each_nothing (told_of m.attempt) (length m.attempt.sent) h)
 
-  it_stands : (o : Option Made) → IsTry t w o → tells_in o ≡ Tells.Stands → OneStands S t w (o ∷ [])
-  it_stands None is h = cc
-  it_stands (Some m) is h = made_stands m is h
+  -- what the last attempt tells where it is the last by which anything is known
+  abbrev last_fate : Tells → Option Fate
+  last_fate Tells.Stands = Some Fate.Stands
+  last_fate Tells.Clash = Some Fate.Clash
+  last_fate _ = None
+
+  abbrev is_last : Fate → Bool
+  is_last Fate.Stands = true
+  is_last Fate.Clash = true
+  is_last _ = false
 
   it_refused : (o : Option Made) → IsTry t w o → tells_in o ≡ Tells.Refused → AddsNone w o
   it_refused None is h = tt
-  it_refused (Some m) is h = made_adds_none m is ((tests m Tells.Refused h).1 refl)
+  it_refused (Some m) is h = made_adds_none m is (tests m Tells.Refused h)
 
   it_did_nothing : (o : Option Made) → IsTry t w o → tells_in o ≡ Tells.Nothing → AddsNone w o
   it_did_nothing None is h = tt
-  it_did_nothing (Some m) is h = made_adds_none m is ((tests m Tells.Nothing h).2 refl)
+  it_did_nothing (Some m) is h = made_adds_none m is (tests m Tells.Nothing h)
 
-  behind : (o : Option Made) (ms : List (Option Made)) → OneStands S t w ms → OneStands S t w (o ∷ ms)
-  behind o ms s = record { before = o ∷ s.before; last = s.last; connection = s.connection; is_last = ap (λ z. o ∷ z) s.is_last; here = s.here; commits = s.commits; stands = s.stands }
+  -- What an attempt says alone by which a fate is known, it says behind others too.
+  module _ (f : Fate) (s : is_last f ≡ true) (Says : List (Option Made) → Type 0) (alone : (m : Made) → IsMade t w m → last_fate (tells m) ≡ Some f → Says (Some m ∷ []))
+      (behind : (o : Option Made) (ms : List (Option Made)) → Says ms → Says (o ∷ ms)) where
+    it_says : (o : Option Made) → IsTry t w o → last_fate (tells_in o) ≡ Some f → Says (o ∷ [])
+    it_says None is h = cc
+    it_says (Some m) is h = alone m is h
 
-  -- the last attempt stands
-  stands_in : (d : Bool) (n : ℕ) (ms : List (Option Made)) → Each (IsTry t w) ms → fate_of d n (map tells_in ms) ≡ Some Fate.Stands → OneStands S t w ms
-  stands_in true zero [] h e = cc
-  stands_in false zero [] h e = cc
-  stands_in true zero (m ∷ ms) h e = cc
-  stands_in false zero (m ∷ ms) h e = cc
-  stands_in true (suc n) [] h e = cc
-  stands_in false (suc n) [] h e = cc
-  stands_in d (suc n) (m ∷ ms) h e = go (tells_in m) refl d ms (λ d. stands_in d n ms h.1) e
-    where
-      go : (x : Tells) → tells_in m ≡ x → (d : Bool) (ms : List (Option Made)) → ((d : Bool) → fate_of d n (map tells_in ms) ≡ Some Fate.Stands → OneStands S t w ms) → fate_of d (suc n) (x ∷ map tells_in ms) ≡ Some Fate.Stands → OneStands S t w (m ∷ ms)
-      go Tells.Stands p d [] later e = it_stands m h.0 p
-      go Tells.Stands p true (y ∷ ms) later e = cc
-      go Tells.Stands p false (y ∷ ms) later e = cc
-      go Tells.Clash p true [] later e = cc
-      go Tells.Clash p false [] later e = cc
-      go Tells.Clash p true (y ∷ ms) later e = cc
-      go Tells.Clash p false (y ∷ ms) later e = cc
-      go Tells.Refused p false [] later e = cc
-      go Tells.Refused p false (y ∷ ms) later e = cc
-      go Tells.Refused p true ms later e = behind m ms (later true e)
-      go Tells.Nothing p true ms later e = behind m ms (later true e)
-      go Tells.Nothing p false ms later e = behind m ms (later false e)
-      go Tells.Doubt p true ms later e = behind m ms (later true e)
-      go Tells.Doubt p false ms later e = behind m ms (later true e)
+    not_last : (g : Fate) → is_last g ≡ false → Some g ≡ Some f → ⊥
+    not_last g n e = let same : g ≡ f = cc in let no : true ≡ false = sym s ∙ ap is_last (sym same) ∙ n in cc
+
+    last_in : (d : Bool) (n : ℕ) (ms : List (Option Made)) → Each (IsTry t w) ms → fate_of d n (map tells_in ms) ≡ Some f → Says ms
+    last_in true zero [] h e = absurd (not_last Fate.Open refl e)
+    last_in false zero [] h e = absurd (not_last Fate.Absent refl e)
+    last_in true zero (m ∷ ms) h e = cc
+    last_in false zero (m ∷ ms) h e = cc
+    last_in true (suc n) [] h e = cc
+    last_in false (suc n) [] h e = cc
+    last_in d (suc n) (m ∷ ms) h e = go (tells_in m) refl d ms (λ d. last_in d n ms h.1) e
+      where
+        go : (x : Tells) → tells_in m ≡ x → (d : Bool) (ms : List (Option Made)) → ((d : Bool) → fate_of d n (map tells_in ms) ≡ Some f → Says ms) → fate_of d (suc n) (x ∷ map tells_in ms) ≡ Some f → Says (m ∷ ms)
+        go Tells.Stands p true [] later e = it_says m h.0 (ap last_fate p ∙ e)
+        go Tells.Stands p false [] later e = it_says m h.0 (ap last_fate p ∙ e)
+        go Tells.Stands p true (y ∷ ms) later e = cc
+        go Tells.Stands p false (y ∷ ms) later e = cc
+        go Tells.Clash p true [] later e = it_says m h.0 (ap last_fate p ∙ e)
+        go Tells.Clash p false [] later e = it_says m h.0 (ap last_fate p ∙ e)
+        go Tells.Clash p true (y ∷ ms) later e = cc
+        go Tells.Clash p false (y ∷ ms) later e = cc
+        go Tells.Refused p false [] later e = absurd (not_last Fate.Refused refl e)
+        go Tells.Refused p false (y ∷ ms) later e = cc
+        go Tells.Refused p true ms later e = behind m ms (later true e)
+        go Tells.Nothing p true ms later e = behind m ms (later true e)
+        go Tells.Nothing p false ms later e = behind m ms (later false e)
+        go Tells.Doubt p true ms later e = behind m ms (later true e)
+        go Tells.Doubt p false ms later e = behind m ms (later true e)
+
+  stands_last : (x : Tells) (m : Made) → tells m ≡ x → last_fate x ≡ Some Fate.Stands → tells m ≡ Tells.Stands
+  stands_last Tells.Stands m h e = h
+  stands_last Tells.Clash m h e = cc
+  stands_last _ m h e = cc
+
+  clashes_last : (x : Tells) (m : Made) → tells m ≡ x → last_fate x ≡ Some Fate.Clash → tells m ≡ Tells.Clash
+  clashes_last Tells.Clash m h e = h
+  clashes_last Tells.Stands m h e = cc
+  clashes_last _ m h e = cc
+
+  stands_in : (n : ℕ) (ms : List (Option Made)) → Each (IsTry t w) ms → fate_of false n (map tells_in ms) ≡ Some Fate.Stands → OneStands S t w ms
+  stands_in =
+      last_in Fate.Stands refl (OneStands S t w) (λ m is h. made_stands m is (stands_last (tells m) m refl h))
+      (λ o ms s. record { before = o ∷ s.before; last = s.last; connection = s.connection; is_last = ap (λ z. o ∷ z) s.is_last; here = s.here; commits = s.commits; stands = s.stands }) false
+
+  clashes_in : (n : ℕ) (ms : List (Option Made)) → Each (IsTry t w) ms → fate_of false n (map tells_in ms) ≡ Some Fate.Clash → OneClashes S t w ms
+  clashes_in =
+      last_in Fate.Clash refl (OneClashes S t w) (λ m is h. made_clashes m is (clashes_last (tells m) m refl h))
+      (λ o ms s. record { before = o ∷ s.before; last = s.last; connection = s.connection; is_last = ap (λ z. o ∷ z) s.is_last; here = s.here; clashes = s.clashes }) false
 
   abbrev is_sure : Fate → Bool
   is_sure Fate.Refused = true
@@ -133,8 +193,8 @@ module _ (S : Setting) (brought : List EntryView) (w : World) (r : Reached S bro
       go Tells.Doubt p ms later e = absurd (no_more n (map tells_in ms) f e s)
 
 pub one_caller_may_rely : OneCallerMayRely
-one_caller_may_rely S brought w r t made h tries Fate.Stands e = stands_in S brought w r t false tries made h e
+one_caller_may_rely S brought w r t made h tries Fate.Stands e = stands_in S brought w r t tries made h e
 one_caller_may_rely S brought w r t made h tries Fate.Refused e = none_in S brought w r t tries made Fate.Refused h e refl
 one_caller_may_rely S brought w r t made h tries Fate.Absent e = none_in S brought w r t tries made Fate.Absent h e refl
-one_caller_may_rely S brought w r t made h tries Fate.Clash e = tt
+one_caller_may_rely S brought w r t made h tries Fate.Clash e = clashes_in S brought w r t tries made h e
 one_caller_may_rely S brought w r t made h tries Fate.Open e = tt

@@ -13,8 +13,8 @@ use Rattle.driver.specs.Account.{outcome_lost}
 use Rattle.driver.specs.Telling.{adds_nothing}
 use Rattle.driver.specs.Attempts.{Attempt, read, told_lost, outcome_heard, told_of}
 use Rattle.known.specs.Attempts.{BeginsUnder}
-use Rattle.known.specs.Tied.{IsAt, TellsOutcomes, AttemptStands, AttemptAddsNone}
-use Rattle.known.proofs.Attempts.{committed_stands, refused_adds_none}
+use Rattle.known.specs.Tied.{IsAt, TellsOutcomes, AttemptStands, AttemptClashes, AttemptAddsNone}
+use Rattle.known.proofs.Attempts.{committed_stands, refused_commit_clashes, refused_adds_none}
 
 -- what holds of each pair holds of the one that is found
 found_each : (P : ℕ → Outcome → Type 0) (i : ℕ) (o : Outcome) (xs : List (ℕ × Outcome)) → Each (λ x. P x.0 x.1) xs → outcome_lost i xs ≡ Some o → P i o
@@ -67,6 +67,11 @@ pub attempt_stands : AttemptStands
 attempt_stands S brought w r t c k a at under i asks done =
     committed_stands S brought w r t c k (record { wish = a.wish; here = at.here; ours = at.ours; under = subst (BeginsUnder t) (sym at.sent) under }) i
     (ap (λ qs. slice_get qs i) at.sent ∙ asks) (same S brought w r c k a at i Outcome.Committed done)
+
+pub attempt_clashes : AttemptClashes
+attempt_clashes S brought w r t c k a at under i asks done =
+    refused_commit_clashes S brought w r t c k (record { wish = a.wish; here = at.here; ours = at.ours; under = subst (BeginsUnder t) (sym at.sent) under }) i
+    (ap (λ qs. slice_get qs i) at.sent ∙ asks) (same S brought w r c k a at i Outcome.Refused done)
 
 pub attempt_adds_none : AttemptAddsNone
 attempt_adds_none S brought w r c k a at refused =

@@ -24,6 +24,10 @@ pub record IsAttempt (t : List ℕ) (w : World) (c : ℕ) (k : Connection) : Typ
   pub ours : k.peer ≡ Ours wish
   pub under : BeginsUnder t k.sent
 
+-- exactly one entry of the whole ledger has the token, and its writes aren't these
+abbrev pub OthersStand : List ℕ → World → List WriteView → Type 0
+OthersStand t w writes = (others : List WriteView) × (under_token t (ledger w) ≡ others ∷ []) × (others ≡ writes → ⊥)
+
 -- A COMMIT that its client reports Committed: exactly one entry of the whole ledger has the token, with the writes of its transaction,
 -- whoever added it.
 abbrev pub CommittedStands : Type 0
@@ -32,6 +36,15 @@ CommittedStands =
     → (c : ℕ) (k : Connection) → IsAttempt t w c k → (i : ℕ) → slice_get k.sent i ≡ Some RequestView.Commit
     → outcome k i ≡ Some Outcome.Committed
     → under_token t (ledger w) ≡ (change S w k i).writes ∷ []
+
+-- A COMMIT that its client reports Refused: exactly one entry of the whole ledger has the token, with other writes than those of its
+-- transaction, whoever added it.
+abbrev pub RefusedCommitClashes : Type 0
+RefusedCommitClashes =
+    (S : Setting) (brought : List EntryView) (w : World) → Reached S brought w → (t : List ℕ)
+    → (c : ℕ) (k : Connection) → IsAttempt t w c k → (i : ℕ) → slice_get k.sent i ≡ Some RequestView.Commit
+    → outcome k i ≡ Some Outcome.Refused
+    → OthersStand t w (change S w k i).writes
 
 -- each request of a connection has such an outcome
 abbrev pub NothingAdded : Connection → Type 0

@@ -11,7 +11,7 @@ use Rattle.driver.specs.declared.Tells.{Tells}
 use Rattle.driver.specs.declared.Fate.{Fate}
 use Rattle.driver.specs.Fates.{fate_of}
 use Rattle.driver.specs.Attempts.{Made, tells, tells_in}
-use Rattle.known.specs.Attempts.{BeginsUnder}
+use Rattle.known.specs.Attempts.{BeginsUnder, OthersStand}
 use Rattle.known.specs.Tied.{IsAt}
 
 -- An attempt under the token is a connection of the world; and what it has as its COMMIT's ordinal is that of a COMMIT, where it tells that
@@ -37,6 +37,17 @@ pub record OneStands (S : Setting) (t : List ℕ) (w : World) (made : List (Opti
   pub commits : slice_get last.attempt.sent last.commit ≡ Some RequestView.Commit
   pub stands : under_token t (ledger w) ≡ (change S w connection last.commit).writes ∷ []
 
+-- The last attempt's COMMIT met other writes: exactly one entry of the whole ledger has the token, and its writes aren't those of the
+-- attempt's transaction. They are of a stranger, or of an earlier attempt that saw other data.
+pub record OneClashes (S : Setting) (t : List ℕ) (w : World) (made : List (Option Made)) : Type 0 where
+  pub before : List (Option Made)
+  pub last : Made
+  pub connection : Connection
+  pub is_last : made ≡ before ++ Some last ∷ []
+  pub here : slice_get w.conns last.conn ≡ Some connection
+  pub clashes : slice_get last.attempt.sent last.commit ≡ Some RequestView.Commit
+      → OthersStand t w (change S w connection last.commit).writes
+
 -- an attempt added no entry
 abbrev pub AddsNone : World → Option Made → Type 0
 AddsNone w None = Unit {0}
@@ -49,6 +60,7 @@ NoneAdded w made = Each (AddsNone w) made
 -- what is known, said of the ledger
 abbrev pub Means : Setting → List ℕ → World → List (Option Made) → Fate → Type 0
 Means S t w made Fate.Stands = OneStands S t w made
+Means S t w made Fate.Clash = OneClashes S t w made
 Means S t w made Fate.Refused = NoneAdded w made
 Means S t w made Fate.Absent = NoneAdded w made
 Means S t w made _ = Unit {0}

@@ -10,7 +10,7 @@ use Rattle.world.specs.World.{World, Event, Seen, WStep, ledger, Reached}
 use Rattle.world.specs.Good.{Each, outcome, change}
 use Rattle.driver.specs.Telling.{adds_nothing}
 use Rattle.driver.specs.Attempts.{Attempt, told_of}
-use Rattle.known.specs.Attempts.{BeginsUnder}
+use Rattle.known.specs.Attempts.{BeginsUnder, OthersStand}
 
 -- The connection of this number in the world is the attempt: its client is one of ours, of this wish, submitted these requests, and was
 -- given these bytes.
@@ -36,6 +36,16 @@ AttemptStands =
     → (i : ℕ) → slice_get a.sent i ≡ Some RequestView.Commit
     → told_of a i ≡ Some Outcome.Committed
     → under_token t (ledger w) ≡ (change S w k i).writes ∷ []
+
+-- An attempt was told that its COMMIT was refused: exactly one entry of the whole ledger has the token, with other writes than those of its
+-- transaction.
+abbrev pub AttemptClashes : Type 0
+AttemptClashes =
+    (S : Setting) (brought : List EntryView) (w : World) → Reached S brought w → (t : List ℕ)
+    → (c : ℕ) (k : Connection) (a : Attempt) → IsAt w c k a → BeginsUnder t a.sent
+    → (i : ℕ) → slice_get a.sent i ≡ Some RequestView.Commit
+    → told_of a i ≡ Some Outcome.Refused
+    → OthersStand t w (change S w k i).writes
 
 -- each request of the attempt was told to have committed nothing
 abbrev pub IsRefused : Attempt → Type 0

@@ -1,14 +1,20 @@
 //! What attempts of a transaction under one token tell, after any events on any connections, whoever else uses the token. Each function
 //! has an empty body, and its contract is the law.
 
-ghost use Rattle.known.specs.Attempts.{CommittedStands, RefusedAddsNone, StaysKnown};
+ghost use Rattle.known.specs.Attempts.{CommittedStands, RefusedCommitClashes, RefusedAddsNone, StaysKnown};
 ghost use Rattle.known.specs.OneCaller.{OneCallerMayRely};
-ghost use Rattle.known.specs.Tied.{TellsOutcomes, AttemptStands, AttemptAddsNone, LostStays};
+ghost use Rattle.known.specs.Tied.{TellsOutcomes, AttemptStands, AttemptClashes, AttemptAddsNone, LostStays};
 
 /// A COMMIT that its client reports Committed, on a connection on which each BEGIN was sent under the token: exactly one entry of the
 /// whole ledger has the token, with the writes of its transaction, whoever added it.
 pub fn committed_stands()
     ensures { CommittedStands }
+{}
+
+/// A COMMIT that its client reports Refused, on such a connection: exactly one entry of the whole ledger has the token, with other writes
+/// than those of the transaction.
+pub fn refused_commit_clashes()
+    ensures { RefusedCommitClashes }
 {}
 
 /// A connection of ours of which each request is reported done, refused, ignored or lost has no entry in the ledger.
@@ -31,6 +37,11 @@ pub fn attempt_stands()
     ensures { AttemptStands }
 {}
 
+/// An attempt whose COMMIT was told Refused clashes: exactly one entry of the whole ledger has the token, with other writes.
+pub fn attempt_clashes()
+    ensures { AttemptClashes }
+{}
+
 /// An attempt that was told of each request that it committed nothing added no entry.
 pub fn attempt_adds_none()
     ensures { AttemptAddsNone }
@@ -42,7 +53,8 @@ pub fn lost_stays()
 {}
 
 /// The headline for one caller: in every reached world in which the attempts are connections of ours, whoever else uses the token, Stands
-/// means that exactly one entry of the ledger has the token, with these writes; Refused and Absent that none of the attempts added one.
+/// means that exactly one entry of the ledger has the token, with these writes; Clash that one has it with other writes than the last
+/// attempt's; Refused and Absent that none of the attempts added one.
 pub fn one_caller_may_rely()
     ensures { OneCallerMayRely }
 {}

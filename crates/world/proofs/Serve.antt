@@ -29,7 +29,7 @@ use Rattle.machine.specs.declared.Verdict.{Verdict}
 use Rattle.world.specs.Prelude.{alone_after, commit_of, is_invalid, is_success, tx_after}
 use Rattle.client.specs.Prelude.{outcome_of, verdict_of}
 use Rattle.client.specs.declared.Outcome.{Outcome}
-use Rattle.world.proofs.Trace.{Pays}
+use Rattle.world.proofs.Trace.{Pays, Denies}
 use Rattle.machine.proofs.Leading.{same_state-true}
 
 -- what stands under a token in a front of a ledger, or behind one
@@ -119,6 +119,7 @@ pub record Closes (S : Setting) (v : Version) (front : List EntryView) (s : Stat
   pub rows : row_at v s (kind_of q) d ≡ Some state
   pub holds : Held state left tx (tx_then S front q a t) (alone_then S front q a w)
   pub paid : Pays front (commit_of (Some q) t w) (outcome_of (phase_of s) (kind_of q) d) entry
+  pub denied : Denies front (commit_of (Some q) t w) d q
   pub commit : is_some entry ≡ true → commits (phase_of s) (kind_of q) ≡ true
 
 abbrev pub Keeps : Setting → Version → List EntryView → State → RequestView → Tx → Change → Tx → Reply → Type 0
@@ -167,14 +168,18 @@ hello_row v b e =
 
 module _ (S : Setting) (c : ℕ) (numbered : c < 2 ^ 64) (front : List EntryView) (few : length front < 2 ^ 64) where
   keeps_fails : (v : Version) (s s2 : State) (q : RequestView) (t : Tx) (w : Change) (tx : Tx) (f : Fault) → is_invalid (response_of_summary (failure f)) ≡ false
-      → row_at v s (kind_of q) Verdict.Failure ≡ Some s2 → Held s2 no_result no_tx t w → Keeps S v front s q t w tx (fails f)
-  keeps_fails v s s2 q t w tx f ok e h =
-      record { told = refl; written = λ _. let texts = failure_texts f in short_fits v (failure f) texts.0 texts.1; valid = ok; state = s2; rows = e; holds = h; paid = λ p. cc; commit = λ p. cc }
+      → row_at v s (kind_of q) Verdict.Failure ≡ Some s2 → Held s2 no_result no_tx t w → Denies front (commit_of (Some q) t w) Verdict.Failure q → Keeps S v front s q t w tx (fails f)
+  keeps_fails v s s2 q t w tx f ok e h n =
+      record { told = refl; written = λ _. let texts = failure_texts f in short_fits v (failure f) texts.0 texts.1; valid = ok; state = s2; rows = e; holds = h; paid = λ p. cc; denied = n; commit = λ p. cc }
 
-  keeps_fits : (v : Version) (s s2 : State) (q : RequestView) (t : Tx) (w : Change) (tx : Tx) (a : ResponseView) (x : Reply) → row_at v s (kind_of q) Verdict.Failure ≡ Some s2 → Held s2 no_result no_tx t w
+  keeps_fits : (v : Version) (s s2 : State) (q : RequestView) (t : Tx) (w : Change) (tx : Tx) (a : ResponseView) (x : Reply) → row_at v s (kind_of q) Verdict.Failure ≡ Some s2 → Held s2 no_result no_tx t w → Denies front (commit_of (Some q) t w) Verdict.Failure q
       → (fits v a ≡ true → Keeps S v front s q t w tx x) → Keeps S v front s q t w tx (if_fits v a x)
-  keeps_fits v s s2 q t w tx a x e h f =
-      cond_both (fits v a) _ _ (Keeps S v front s q t w tx) f (λ _. keeps_fails v s s2 q t w tx (unwritable (response_spelling v a)) (unwritable_valid (response_spelling v a)) e h)
+  keeps_fits v s s2 q t w tx a x e h n f =
+      cond_both (fits v a) _ _ (Keeps S v front s q t w tx) f (λ _. keeps_fails v s s2 q t w tx (unwritable (response_spelling v a)) (unwritable_valid (response_spelling v a)) e h n)
+
+  is_denied : (q : RequestView) (its : Change) → found_in its.token its.writes front ≡ Other → Denies front its Verdict.Failure q
+  is_denied RequestView.Commit its h = h
+  is_denied _ its h = tt
 
   -- a commit of what the summaries tell, by what the ledger has of it; said is the SUCCESS, by the place that it tells
   keeps_commit : (v : Version) (s : State) (q : RequestView) (t : Tx) (w : Change) (tx : Tx) (its : Change) (said : ℕ → ResponseView) → its ≡ commit_of (Some q) t w
@@ -184,10 +189,10 @@ module _ (S : Setting) (c : ℕ) (numbered : c < 2 ^ 64) (front : List EntryView
   keeps_commit v s q t w tx its said same told valid fit done failed comes = go (found_in its.token its.writes front) refl
     where
       go : (f : Found) → found_in its.token its.writes front ≡ f → Keeps S v front s q t w tx (commits_as (length front) its said f)
-      go Free h = record { told = told (length front + 1); written = λ n. fit (length front + 1) (omega arith); valid = valid (length front + 1); state = State.Ready; rows = done; holds = tt; paid = (same, ap (λ b. if b then Outcome.Committed else Outcome.Done) comes); commit = λ p. comes }
+      go Free h = record { told = told (length front + 1); written = λ n. fit (length front + 1) (omega arith); valid = valid (length front + 1); state = State.Ready; rows = done; holds = tt; paid = (same, ap (λ b. if b then Outcome.Committed else Outcome.Done) comes); denied = tt; commit = λ p. comes }
       go (There n) h =
-          record { told = told n; written = λ _. fit n (omega (arith, few, place_within its.token its.writes front n h)); valid = valid n; state = State.Ready; rows = done; holds = tt; paid = λ _. (n, subst (λ z. found_in z.token z.writes front ≡ There n) same h); commit = λ p. cc }
-      go Other h = keeps_fails v s State.Failed q t w tx Fault.TokenClash refl failed tt
+          record { told = told n; written = λ _. fit n (omega (arith, few, place_within its.token its.writes front n h)); valid = valid n; state = State.Ready; rows = done; holds = tt; paid = λ _. (n, subst (λ z. found_in z.token z.writes front ≡ There n) same h); denied = tt; commit = λ p. cc }
+      go Other h = keeps_fails v s State.Failed q t w tx Fault.TokenClash refl failed tt (subst (λ z. Denies front z Verdict.Failure q) same (is_denied q its h))
 
   -- a PULL or DISCARD closes outside a transaction
   close_alone : (v : Version) (n : Count) (rows : List (List Tree)) (left : Open) (tx t : Tx) (w : Change)
@@ -205,16 +210,16 @@ module _ (S : Setting) (c : ℕ) (numbered : c < 2 ^ 64) (front : List EntryView
       closed q same told done failed comes =
           keeps_commit v State.Streaming q t w tx (change_alone left) said same told (λ m. refl) (λ m l. short_fits v (summaries.Closing (Some m) left.mode) l tt) done failed comes
   close_alone v Count.All (r ∷ rs) left tx t w h part = let no : false ≡ true = part refl in cc
-  close_alone v (Count.Of m) (r ∷ rs) left tx t w h part = (record { told = refl; written = λ _. short_fits v (summaries.RowsLeft) tt tt; valid = refl; state = State.Streaming; rows = refl; holds = h; paid = λ p. cc; commit = λ p. cc }, record { told = refl; written = λ _. short_fits v (summaries.RowsLeft) tt tt; valid = refl; state = State.Streaming; rows = refl; holds = h; paid = λ p. cc; commit = λ p. cc })
+  close_alone v (Count.Of m) (r ∷ rs) left tx t w h part = (record { told = refl; written = λ _. short_fits v (summaries.RowsLeft) tt tt; valid = refl; state = State.Streaming; rows = refl; holds = h; paid = λ p. cc; denied = tt; commit = λ p. cc }, record { told = refl; written = λ _. short_fits v (summaries.RowsLeft) tt tt; valid = refl; state = State.Streaming; rows = refl; holds = h; paid = λ p. cc; denied = tt; commit = λ p. cc })
 
   -- and inside one
   close_inside : (v : Version) (n : Count) (rows : List (List Tree)) (left : Open) (tx t : Tx) (w : Change)
       → tx ≡ t → (is_some (slice_get rows 0) ≡ true → is_part n ≡ true)
       → Keeps S v front State.TxStreaming (RequestView.Pull n) t w tx (close State.TxStreaming front rows left tx)
       × Keeps S v front State.TxStreaming (RequestView.Discard n) t w tx (close State.TxStreaming front rows left tx)
-  close_inside v n [] left tx t w h part = (record { told = refl; written = λ _. short_fits v (summaries.Closing None left.mode) tt tt; valid = refl; state = State.TxReady; rows = refl; holds = h; paid = λ p. cc; commit = λ p. cc }, record { told = refl; written = λ _. short_fits v (summaries.Closing None left.mode) tt tt; valid = refl; state = State.TxReady; rows = refl; holds = h; paid = λ p. cc; commit = λ p. cc })
+  close_inside v n [] left tx t w h part = (record { told = refl; written = λ _. short_fits v (summaries.Closing None left.mode) tt tt; valid = refl; state = State.TxReady; rows = refl; holds = h; paid = λ p. cc; denied = tt; commit = λ p. cc }, record { told = refl; written = λ _. short_fits v (summaries.Closing None left.mode) tt tt; valid = refl; state = State.TxReady; rows = refl; holds = h; paid = λ p. cc; denied = tt; commit = λ p. cc })
   close_inside v Count.All (r ∷ rs) left tx t w h part = let no : false ≡ true = part refl in cc
-  close_inside v (Count.Of m) (r ∷ rs) left tx t w h part = (record { told = refl; written = λ _. short_fits v (summaries.RowsLeft) tt tt; valid = refl; state = State.TxStreaming; rows = refl; holds = h; paid = λ p. cc; commit = λ p. cc }, record { told = refl; written = λ _. short_fits v (summaries.RowsLeft) tt tt; valid = refl; state = State.TxStreaming; rows = refl; holds = h; paid = λ p. cc; commit = λ p. cc })
+  close_inside v (Count.Of m) (r ∷ rs) left tx t w h part = (record { told = refl; written = λ _. short_fits v (summaries.RowsLeft) tt tt; valid = refl; state = State.TxStreaming; rows = refl; holds = h; paid = λ p. cc; denied = tt; commit = λ p. cc }, record { told = refl; written = λ _. short_fits v (summaries.RowsLeft) tt tt; valid = refl; state = State.TxStreaming; rows = refl; holds = h; paid = λ p. cc; denied = tt; commit = λ p. cc })
 
   used_part : (n : Count) (k : ℕ) → used_up n k ≡ true → is_part n ≡ true
   used_part Count.All k h = cc
@@ -227,7 +232,7 @@ module _ (S : Setting) (c : ℕ) (numbered : c < 2 ^ 64) (front : List EntryView
   pulls v s n [] left tx t w f h closes = closes (λ e. cc)
   pulls v s n (r ∷ rs) left tx t w f h closes =
       cond_both (used_up n left.written) _ _ (Keeps S v front s (RequestView.Pull n) t w tx) (λ used. closes (λ e. used_part n left.written used))
-      (λ on. keeps_fits v s State.Failed _ t w tx (ResponseView.Record r) _ f tt (λ f. ((n, refl), f, h rs (suc left.written))))
+      (λ on. keeps_fits v s State.Failed _ t w tx (ResponseView.Record r) _ f tt tt (λ f. ((n, refl), f, h rs (suc left.written))))
 
   discard_part : (n : Count) (rows : List (List Tree)) → is_some (slice_get (left_after n rows) 0) ≡ true → is_part n ≡ true
   discard_part Count.All rows h = cc
@@ -235,26 +240,26 @@ module _ (S : Setting) (c : ℕ) (numbered : c < 2 ^ 64) (front : List EntryView
 
   ran_alone : (v : Version) (query : List ℕ) (params : List ParameterView) (mode : Mode) (token : Token) (tx t : Tx) (w : Change) (res : Result AnswerView QueryFault) → S.run front [] query params (query_mode mode) ≡ res
       → Keeps S v front State.Ready (RequestView.Run query params mode token) t w tx (reply_to_run v State.Ready tx token res)
-  ran_alone v query params mode token tx t w (Err e) h = keeps_fails v State.Ready State.Failed _ t w tx (of_query e) (query_valid e) refl tt
+  ran_alone v query params mode token tx t w (Err e) h = keeps_fails v State.Ready State.Failed _ t w tx (of_query e) (query_valid e) refl tt tt
   ran_alone v query params mode token tx t w (Ok a) h =
-      keeps_fits v State.Ready State.Failed _ t w tx (fields_said a.fields) _ refl tt
-      (λ f. record { told = refl; written = λ _. f; valid = refl; state = State.Streaming; rows = refl; holds = rw h refl; paid = λ p. cc; commit = λ p. cc })
+      keeps_fits v State.Ready State.Failed _ t w tx (fields_said a.fields) _ refl tt tt
+      (λ f. record { told = refl; written = λ _. f; valid = refl; state = State.Streaming; rows = refl; holds = rw h refl; paid = λ p. cc; denied = tt; commit = λ p. cc })
 
   ran_inside : (v : Version) (query : List ℕ) (params : List ParameterView) (mode : Mode) (token : Token) (t : Tx) (w : Change) (res : Result AnswerView QueryFault) → S.run front t.writes query params (query_mode t.mode) ≡ res
       → Keeps S v front State.TxReady (RequestView.Run query params mode token) t w t (reply_to_run v State.TxReady t token res)
-  ran_inside v query params mode token t w (Err e) h = keeps_fails v State.TxReady State.Failed _ t w t (of_query e) (query_valid e) refl tt
+  ran_inside v query params mode token t w (Err e) h = keeps_fails v State.TxReady State.Failed _ t w t (of_query e) (query_valid e) refl tt tt
   ran_inside v query params mode token t w (Ok a) h =
       cond_both (is_some a.write && nat_le 1024 (length t.writes)) _ _ (Keeps S v front State.TxReady (RequestView.Run query params mode token) t w t)
-      (λ f. keeps_fails v State.TxReady State.Failed _ t w t Fault.TooManyWrites refl refl tt)
-      (λ few. keeps_fits v State.TxReady State.Failed _ t w t (fields_said a.fields) _ refl tt
-      (λ f. record { told = refl; written = λ _. f; valid = refl; state = State.TxStreaming; rows = refl; holds = rw h refl; paid = λ p. cc; commit = λ p. cc }))
+      (λ f. keeps_fails v State.TxReady State.Failed _ t w t Fault.TooManyWrites refl refl tt tt)
+      (λ few. keeps_fits v State.TxReady State.Failed _ t w t (fields_said a.fields) _ refl tt tt
+      (λ f. record { told = refl; written = λ _. f; valid = refl; state = State.TxStreaming; rows = refl; holds = rw h refl; paid = λ p. cc; denied = tt; commit = λ p. cc }))
 
   keeps_succeeds : (v : Version) (s s2 : State) (q : RequestView) (t : Tx) (w : Change) (tx : Tx) (x : summaries.Summary) → IsShort x → HasTexts x
       → verdict_of (in_part q) (response_of_summary x) ≡ Some Verdict.Success → is_invalid (response_of_summary x) ≡ false
       → row_at v s (kind_of q) Verdict.Success ≡ Some s2 → Held s2 no_result no_tx (tx_then S front q (response_of_summary x) t) (alone_then S front q (response_of_summary x) w)
       → commits (phase_of s) (kind_of q) ≡ false → Keeps S v front s q t w tx (succeeds (response_of_summary x))
   keeps_succeeds v s s2 q t w tx x short bytes_in_order told valid e h none =
-      record { told = told; written = λ _. short_fits v x short bytes_in_order; valid = valid; state = s2; rows = e; holds = h; paid = λ p. let no : Outcome.Done ≡ Outcome.Committed = sym (ap (λ b. if b then Outcome.Committed else Outcome.Done) none) ∙ p in cc; commit = λ p. cc }
+      record { told = told; written = λ _. short_fits v x short bytes_in_order; valid = valid; state = s2; rows = e; holds = h; paid = λ p. let no : Outcome.Done ≡ Outcome.Committed = sym (ap (λ b. if b then Outcome.Committed else Outcome.Done) none) ∙ p in cc; denied = tt; commit = λ p. cc }
 
   logs_on : (v : Version) (s : State) (q : RequestView) (a : AuthView) (tx t : Tx) (w : Change) (x : summaries.Summary) → Keeps S v front s q t w tx (succeeds (response_of_summary x)) → Keeps S v front s q t w tx (fails Fault.Unauthorized)
       → Keeps S v front s q t w tx (reply_to_login S a (response_of_summary x))
@@ -264,11 +269,11 @@ module _ (S : Setting) (c : ℕ) (numbered : c < 2 ^ 64) (front : List EntryView
   greets_keep : (v : Version) (b : Bool) (agent : List ℕ) (auth : Option AuthView) (tx t : Tx) (w : Change) → hello_has_login v ≡ b
       → Keeps S v front State.Fresh (RequestView.Hello agent auth) t w tx (if b then reply_to_hello S auth (response_of_summary (summaries.Greeting c)) else succeeds (response_of_summary (summaries.Greeting c)))
   greets_keep v false agent auth tx t w e = keeps_succeeds v State.Fresh State.Unauth (RequestView.Hello agent auth) t w tx (summaries.Greeting c) numbered tt refl refl (hello_row v false e) tt refl
-  greets_keep v true agent None tx t w e = keeps_fails v State.Fresh State.Defunct (RequestView.Hello agent None) t w tx Fault.Unauthorized refl refl tt
+  greets_keep v true agent None tx t w e = keeps_fails v State.Fresh State.Defunct (RequestView.Hello agent None) t w tx Fault.Unauthorized refl refl tt tt
   greets_keep v true agent (Some a) tx t w e =
       logs_on v State.Fresh (RequestView.Hello agent (Some a)) a tx t w (summaries.Greeting c)
       (keeps_succeeds v State.Fresh State.Ready (RequestView.Hello agent (Some a)) t w tx (summaries.Greeting c) numbered tt refl refl (hello_row v true e) tt refl)
-      (keeps_fails v State.Fresh State.Defunct (RequestView.Hello agent (Some a)) t w tx Fault.Unauthorized refl refl tt)
+      (keeps_fails v State.Fresh State.Defunct (RequestView.Hello agent (Some a)) t w tx Fault.Unauthorized refl refl tt tt)
 
   performs : (v : Version) (s : State) (left : Open) (tx t : Tx) (w : Change) (q : RequestView) → Held s left tx t w
       → is_some (row_at v s (kind_of q) Verdict.Success) ≡ true → Keeps S v front s q t w tx (perform S v c front s left tx q)
@@ -276,11 +281,11 @@ module _ (S : Setting) (c : ℕ) (numbered : c < 2 ^ 64) (front : List EntryView
   performs v State.Unauth left tx t w (RequestView.Logon a) h r =
       logs_on v State.Unauth (RequestView.Logon a) a tx t w summaries.Plain
       (keeps_succeeds v State.Unauth State.Ready (RequestView.Logon a) t w tx summaries.Plain tt tt refl refl (row_beside State.Unauth Kind.Logon Verdict.Success State.Ready refl v r) tt refl)
-      (keeps_fails v State.Unauth State.Defunct (RequestView.Logon a) t w tx Fault.Unauthorized refl (row_beside State.Unauth Kind.Logon Verdict.Failure State.Defunct refl v r) tt)
+      (keeps_fails v State.Unauth State.Defunct (RequestView.Logon a) t w tx Fault.Unauthorized refl (row_beside State.Unauth Kind.Logon Verdict.Failure State.Defunct refl v r) tt tt)
   performs v State.Ready left tx t w RequestView.Logoff h r =
       keeps_succeeds v State.Ready State.Unauth RequestView.Logoff t w tx summaries.Plain tt tt refl refl (row_beside State.Ready Kind.Logoff Verdict.Success State.Unauth refl v r) tt refl
   performs v State.Ready left tx t w (RequestView.Run query params mode token) h r = ran_alone v query params mode token tx t w _ refl
-  performs v State.Ready left tx t w (RequestView.Begin mode token) h r = record { told = refl; written = λ _. short_fits v (summaries.Plain) tt tt; valid = refl; state = State.TxReady; rows = refl; holds = refl; paid = λ p. cc; commit = λ p. cc }
+  performs v State.Ready left tx t w (RequestView.Begin mode token) h r = record { told = refl; written = λ _. short_fits v (summaries.Plain) tt tt; valid = refl; state = State.TxReady; rows = refl; holds = refl; paid = λ p. cc; denied = tt; commit = λ p. cc }
   performs v State.Streaming left tx t w (RequestView.Pull n) h r = pulls v State.Streaming n left.rows left tx t w refl (λ _ _. h) (λ p. (close_alone v n left.rows left tx t w h p).0)
   performs v State.Streaming left tx t w (RequestView.Discard n) h r = (close_alone v n (left_after n left.rows) left tx t w h (discard_part n left.rows)).1
   performs v State.TxReady left tx t w (RequestView.Run query params mode token) h r = subst (λ (u : Tx). Keeps S v front State.TxReady (RequestView.Run query params mode token) u w tx (reply_to_run v State.TxReady tx token (S.run front tx.writes query params (query_mode tx.mode)))) h (ran_inside v query params mode token tx w _ refl)
@@ -323,7 +328,7 @@ module _ (S : Setting) (c : ℕ) (numbered : c < 2 ^ 64) (front : List EntryView
       cond_both (is_goodbye (kind_of q)) _ _ K (λ g. tt)
       (λ g. cond_both (is_halted s) _ _ K
       (λ e. cond_both (is_reset (kind_of q)) _ _ K (λ r. reset_keeps v s q tx t w e r)
-      (λ r. record { told = refl; written = λ _. short_fits v summaries.Passed tt tt; valid = refl; state = s; rows = ignored_row v s (kind_of q) a g e r; holds = halted_held s tx t w e; paid = λ p. cc; commit = λ p. cc }))
+      (λ r. record { told = refl; written = λ _. short_fits v summaries.Passed tt tt; valid = refl; state = s; rows = ignored_row v s (kind_of q) a g e r; holds = halted_held s tx t w e; paid = λ p. cc; denied = tt; commit = λ p. cc }))
       (λ e. cond_both (is_some (row_at v s (kind_of q) Verdict.Success)) _ _ K
       (λ r. performs v s left tx t w q h r)
       (λ r. absurd (true≢false (sym (has_row v s (kind_of q) a g e) ∙ r)))))
