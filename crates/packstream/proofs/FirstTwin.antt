@@ -1,14 +1,11 @@
 -- The first key that stands before it too.
-use Rattle.std.proofs.Common.{◌≡◌, ◌<◌, ◌≤◌, ◌+◌, ℕ, List, [], ◌∷◌, ◌++◌, length, take, get_or, string_bytes, Bool, true, false, ◌==◌, Result, Ok, Err, refl, sym, ap, subst, ◌∙◌, arith, below_more, eqb-true, nat_cmp, BTreeSet, Bor}
+use Rattle.std.proofs.Common.{◌≡◌, ◌<◌, ◌≤◌, ◌+◌, ℕ, List, [], ◌∷◌, ◌++◌, length, take, get_or, string_bytes, Bool, true, false, ◌==◌, Result, Ok, Err, refl, sym, ap, subst, ◌∙◌, arith, below_more, eqb-true}
 use Rattle.std.proofs.lemmas.Bool.{eqb-false}
 use Rattle.std.proofs.lemmas.List.{map_more, get_or-map}
 use Rattle.packstream.specs.declared.fault.Reason.{Reason}
 use Rattle.packstream.specs.declared.fault.Reason.TheVariants as reason
-use Rattle.packstream.specs.Prelude.{Tree, is_among, first_fault, faults_in, Pair, names, stands_before, IsFirstTwin, Knows}
-use Rattle.std.specs.Cmp.Lexicographic.{slice_cmp}
-use Rattle.std.specs.BTreeSet.{UpdatesBy}
+use Rattle.packstream.specs.Prelude.{Tree, is_among, first_fault, faults_in, Pair, names, stands_before, IsFirstTwin}
 use Rattle.packstream.proofs.Checking.{fault_again}
-use Rattle.packstream.proofs.Keys.{knows_more}
 
 abbrev pub AllNew : List Pair → ℕ → Type 0
 AllNew es i = (k : ℕ) → k < i → stands_before es k ≡ false
@@ -36,9 +33,6 @@ pub still_before : (n i h at next : ℕ) (t : Tree) (b : Bool) → (i == n) ≡ 
 still_before n i h at next t true e le f = absurd (let two : ◌≡◌ {A = Result ℕ (Reason × ℕ)} (Ok next) (Err (reason.KeyTwice, at)) = f ∙ fault_again t h at in cc)
 still_before n i h at next t false e le f = let off : i ≡ n → ⊥ = eqb-false _ _ e in omega arith
 
--- the set has one key more
-pub knows_one_more : (old new : BTreeSet (Bor (List ℕ))) (es : List Pair) (i : ℕ) (e : Pair) (k : List ℕ) → i < length es → e ≡ get_or es i e → k ≡ string_bytes e.0 → Knows old (names (take i es))
-    → UpdatesBy (λ x y. slice_cmp nat_cmp x.now y.now) (λ y. slice_cmp nat_cmp k y.now) old new true → Knows new (names (take (i + 1) es))
-knows_one_more old new es i e k h is key knows up =
-    let more : names (take (i + 1) es) ≡ names (take i es) ++ k ∷ [] = map_more (λ (x : Pair). string_bytes x.0) es i e h ∙ ap (λ (y : Pair). names (take i es) ++ string_bytes y.0 ∷ []) (sym is) ∙ ap (λ (s : List ℕ). names (take i es) ++ s ∷ []) (sym key) in
-    subst (λ (ns : List (List ℕ)). Knows new ns) (sym more) (knows_more old new (names (take i es)) k knows up)
+-- names with one more
+pub names_more : (es : List Pair) (i : ℕ) (e : Pair) → i < length es → e ≡ get_or es i e → names (take (i + 1) es) ≡ names (take i es) ++ string_bytes e.0 ∷ []
+names_more es i e h is = map_more (λ (x : Pair). string_bytes x.0) es i e h ∙ ap (λ (y : Pair). names (take i es) ++ string_bytes y.0 ∷ []) (sym is)

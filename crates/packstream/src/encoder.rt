@@ -36,14 +36,11 @@ fn put_long(out: &mut Adding, marker: u8, n: u32) -> Result<(), AllocError>
     ensures ok { OnOk result (out.new.more ≡ out.old.more ++ long_head marker n) }
 {
     if n < 0x100 {
-        out.push(marker)?;
-        out.extend_from_slice(&(n as u8).to_be_bytes())
+        out.push_and_extend(marker, &(n as u8).to_be_bytes())
     } else if n < 0x10000 {
-        out.push(marker + 1)?;
-        out.extend_from_slice(&(n as u16).to_be_bytes())
+        out.push_and_extend(marker + 1, &(n as u16).to_be_bytes())
     } else {
-        out.push(marker + 2)?;
-        out.extend_from_slice(&n.to_be_bytes())
+        out.push_and_extend(marker + 2, &n.to_be_bytes())
     }
 }
 
@@ -62,7 +59,9 @@ fn put_head(out: &mut Adding, tiny: u8, marker: u8, n: u32) -> Result<(), AllocE
     }
 }
 
+/// In place: neither a list's loop nor `put_value` has a call for an integer.
 #[tactic(auto, unfolding(crate::specs::Canon::int_bytes))]
+#[inline(always)]
 fn put_int(out: &mut Adding, n: i64) -> Result<(), AllocError>
     ensures before { out.new.before ≡ out.old.before }
     ensures ok { OnOk result (out.new.more ≡ out.old.more ++ int_bytes n) }
@@ -70,17 +69,13 @@ fn put_int(out: &mut Adding, n: i64) -> Result<(), AllocError>
     if -16 <= n && n <= 127 {
         out.extend_from_slice(&(n as i8).to_be_bytes())
     } else if -128 <= n && n <= 127 {
-        out.push(0xC8)?;
-        out.extend_from_slice(&(n as i8).to_be_bytes())
+        out.push_and_extend(0xC8, &(n as i8).to_be_bytes())
     } else if -32_768 <= n && n <= 32_767 {
-        out.push(0xC9)?;
-        out.extend_from_slice(&(n as i16).to_be_bytes())
+        out.push_and_extend(0xC9, &(n as i16).to_be_bytes())
     } else if -2_147_483_648 <= n && n <= 2_147_483_647 {
-        out.push(0xCA)?;
-        out.extend_from_slice(&(n as i32).to_be_bytes())
+        out.push_and_extend(0xCA, &(n as i32).to_be_bytes())
     } else {
-        out.push(0xCB)?;
-        out.extend_from_slice(&n.to_be_bytes())
+        out.push_and_extend(0xCB, &n.to_be_bytes())
     }
 }
 
@@ -88,8 +83,7 @@ fn put_float(out: &mut Adding, bits: u64) -> Result<(), AllocError>
     ensures before { out.new.before ≡ out.old.before }
     ensures ok { OnOk result (out.new.more ≡ out.old.more ++ (0xC1 ∷ big_bytes 8 bits)) }
 {
-    out.push(0xC1)?;
-    out.extend_from_slice(&bits.to_be_bytes())
+    out.push_and_extend(0xC1, &bits.to_be_bytes())
 }
 
 /// A text, in place: the loop over a dictionary's pairs has no call for a key.
@@ -198,6 +192,23 @@ fn put_struct(out: &mut Adding, tag: u8, fields: &[Value]) -> Result<(), Unwritt
     put_members(out, fields)
 }
 
+/// A member of a list, in its loop: the members are often integers, and these take no call.
+#[cycle(encoder)]
+#[inline(always)]
+fn put_member(out: &mut Adding, value: &Value) -> Result<(), Unwritten>
+    requires { IsSound (tree value.now) }
+    ensures before { out.new.before ≡ out.old.before }
+    ensures writes { Writes result out.old.more out.new.more (canon (tree value.now)) }
+{
+    match value {
+        Value::Int(n) => {
+            put_int(out, *n)?;
+            Ok(())
+        }
+        _ => put_value(out, value),
+    }
+}
+
 #[cycle(encoder)]
 #[tactic(auto, using(crate::proofs::Putting::flat_more, crate::proofs::Putting::flat_room, crate::proofs::Putting::sound_at, crate::proofs::Putting::parts))]
 fn put_members(out: &mut Adding, members: &[Value]) -> Result<(), Unwritten>
@@ -210,7 +221,7 @@ fn put_members(out: &mut Adding, members: &[Value]) -> Result<(), Unwritten>
         if out.len() > MAX_SIZE {
             return Err(Unwritten::Size);
         }
-        put_value(out, member)?;
+        put_member(out, member)?;
     }
     Ok(())
 }

@@ -3,6 +3,7 @@ ghost use Rattle.std.specs.Prelude.{IfOk};
 ghost use Rattle.packstream.specs.Twins.{IsFirstTwin};
 
 use crate::decoder::{FEW, has_key};
+use crate::seen::is_new;
 use crate::value::Value;
 use std::alloc::{AllocError, Global};
 use std::collections::BTreeSet;
@@ -44,7 +45,7 @@ fn twin_in_set(alloc: Global, pairs: &[(String, Value)]) -> Result<usize, AllocE
 {
     let mut seen = BTreeSet::new(alloc);
     for (i, pair) in pairs.iter().enumerate() {
-        let is_new = seen.insert(pair.0.as_str())?;
+        let is_new = is_new(&mut seen, pair.0.as_str())?;
         if !is_new {
             return Ok(i);
         }

@@ -6,6 +6,7 @@ use Rattle.packstream.proofs.Views.{keys-entries}
 use Rattle.packstream.proofs.Steps.{items_on, items_end, entries_on, entries_end_key, entries_end_value}
 use Rattle.packstream.proofs.Complete.{keys_push}
 use Rattle.packstream.proofs.decoder.+decoder.Goals as goal
+use Rattle.packstream.proofs.decoder.+decoder.Goals.{members_of-in-Some+in_ok-push, members_of-in_default+in_ok-member+in_ok-push-2}
 
 pub members_of-returns-in_err-member : goal.members_of-returns-in_err-member
 members_of-returns-in_err-member t c =
@@ -13,10 +14,16 @@ members_of-returns-in_err-member t c =
     rw (p.1, p.2) (items_end c.in_err-member.field-0.0 (layer (inner c.args.room)) c.args.count c.loop.counter (trees c.loop.members.items) c.loop.rest.now (items_at (layer (inner c.args.room)) c.args.count [] c.args.bytes.now) c.loop-test.true c.in_err-member.ensures c.loop.invariant)
 
 pub members_of-loop-preserved : goal.members_of-loop-preserved
-members_of-loop-preserved t c =
-    let n = c.in_ok-member.member in
-    let e : trees c.push.new.self.items ≡ trees c.loop.members.items ++ tree n ∷ [] = rw c.in_ok-push.ensures.items (map_push _ c.loop.members.items n) in
-    rw e (items_on (layer (inner c.args.room)) c.args.count c.loop.counter (trees c.loop.members.items) c.loop.rest.now c.in_ok-member.after.now (tree n) (items_at (layer (inner c.args.room)) c.args.count [] c.args.bytes.now) c.loop-test.true c.in_ok-member.ensures c.loop.invariant)
+members_of-loop-preserved t c = elim c.match-int_front.branch [
+  | members_of-in-Some+in_ok-push w ↦
+      let n = w.in-Some.number in
+      let e : trees w.push.new.self.items ≡ trees c.loop.members.items ++ tree n ∷ [] = rw w.in_ok-push.ensures.items (map_push tree c.loop.members.items n) in
+      rw (w.members-is, w.rest-is, e) (items_on (layer (inner c.args.room)) c.args.count c.loop.counter (trees c.loop.members.items) c.loop.rest.now w.in-Some.after.now (tree n) (items_at (layer (inner c.args.room)) c.args.count [] c.args.bytes.now) c.loop-test.true (w.in-Some.ensures (inner c.args.room)) c.loop.invariant)
+  | members_of-in_default+in_ok-member+in_ok-push-2 w ↦
+      let n = w.in_ok-member.member in
+      let e : trees w.push-in_default.new.self.items ≡ trees c.loop.members.items ++ tree n ∷ [] = rw w.in_ok-push-2.ensures.items (map_push tree c.loop.members.items n) in
+      rw (w.members-is, w.rest-is, e) (items_on (layer (inner c.args.room)) c.args.count c.loop.counter (trees c.loop.members.items) c.loop.rest.now w.in_ok-member.after.now (tree n) (items_at (layer (inner c.args.room)) c.args.count [] c.args.bytes.now) c.loop-test.true w.in_ok-member.ensures c.loop.invariant)
+]
 
 pub pairs_of-returns-in_err-key : goal.pairs_of-returns-in_err-key
 pairs_of-returns-in_err-key t c =

@@ -22,10 +22,13 @@ abbrev pub decreases-put_struct : goal.decreases-put_struct
 decreases-put_struct l = 4 * length (canon (structure l.tag (trees_of (trees l.fields.now)))) + 2
 
 abbrev pub decreases-put_members : goal.decreases-put_members
-decreases-put_members l = 4 * length (flat l.members.now) + 4
+decreases-put_members l = 4 * length (flat l.members.now) + 5
 
 abbrev pub decreases-put_pairs : goal.decreases-put_pairs
 decreases-put_pairs l = 4 * length (flats l.pairs.now) + 5
 
 abbrev pub decreases-put_pair : goal.decreases-put_pair
 decreases-put_pair l = 4 * length (pair_bytes l.pair.now) + 4
+
+abbrev pub decreases-put_member : goal.decreases-put_member
+decreases-put_member l = 4 * length (canon (tree l.value.now)) + 4
