@@ -56,7 +56,7 @@ fn rows_read(table: &FixedTable, text: &str, params: &[(String, Cell)], times: u
     let mut rows = 0u64;
     for _ in 0..times {
         if let Ok(answer) = table.run(&[], text, params, Mode::Read) {
-            rows = rows.saturating_add(answer.rows.len() as u64);
+            rows = rows.saturating_add(answer.rows.count as u64);
         }
     }
     rows

@@ -62,6 +62,20 @@ impl Connected {
         self.session.take_out(max)
     }
 
+    /// What waits to go, in order.
+    pub(crate) fn unsent(&self) -> &[u8]
+        ensures { result.now ≡ (live_of self.now).kept.unsent }
+    {
+        self.session.unsent()
+    }
+
+    /// As many bytes of it are gone, or all where no more wait.
+    pub(crate) fn sent(&mut self, count: usize)
+        ensures { (taken_from count (live_of self.old)).1 ≡ live_of self.new }
+    {
+        self.session.sent(count)
+    }
+
     /// Puts a no-op where it may, and answers whether it did.
     pub(crate) fn noop(&mut self) -> Result<bool, AllocError>
         ensures ok { IfOk result (λ b. noop_put (live_of self.old) ≡ (b, live_of self.new)) }

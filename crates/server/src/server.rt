@@ -1,6 +1,6 @@
 //! Up to sixteen sessions over one engine and one gate.
-ghost use Rattle.std.specs.Prelude.{◌≡◌, ◌↔◌, Some, None, IfOk, IfErr, OnErr, IfSome, IsErrOf};
-ghost use Rattle.server.specs.Serving.{empty, find, feed_at, work_at, take_out_at, noop_at, lost_at, state_at, cause_at, is_full, Opens, RefusesCall, MayFeed, MayTakeOut, MayWork, MayPutNoop};
+ghost use Rattle.std.specs.Prelude.{◌≡◌, ◌↔◌, Some, None, option_map, IfOk, IfErr, OnErr, IfSome, IsErrOf};
+ghost use Rattle.server.specs.Serving.{empty, find, feed_at, work_at, take_out_at, noop_at, unsent_at, sent_at, lost_at, state_at, cause_at, is_full, Opens, RefusesCall, MayFeed, MayTakeOut, MayWork, MayPutNoop};
 ghost use Rattle.session.specs.Rest.{IsCounted};
 ghost use Rattle.server.specs.Views.{rest_of, Lends};
 
@@ -137,6 +137,27 @@ impl<E: Engine, G: Gate> Server<E, G> {
             return Err(Refused::Memory);
         };
         Ok(bytes)
+    }
+
+    /// Lends what waits to go at a live session, in order; None where none has the number. Takes no memory.
+    pub fn unsent(&self, conn: u64) -> Option<&[u8]>
+        ensures { option_map (λ bytes. bytes.now) result ≡ unsent_at conn (rest_of E.entries self.now) }
+    {
+        let at = place_of(&self.sessions, conn)?;
+        let session = &self.sessions[at];
+        Some(session.unsent())
+    }
+
+    /// As many bytes of what waits to go at a session are gone, or all where no more wait. Nothing changes where none has the number. Takes no
+    /// memory.
+    pub fn sent(&mut self, conn: u64, count: usize)
+        ensures { rest_of E.entries self.new ≡ sent_at conn count (rest_of E.entries self.old) }
+    {
+        let Some(at) = place_of(&self.sessions, conn) else {
+            return;
+        };
+        let session = &mut self.sessions[at];
+        session.sent(count);
     }
 
     /// Puts a no-op, and answers whether it did: not before a version is chosen, after the end, or while 65,536 bytes or more wait

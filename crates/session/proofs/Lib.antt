@@ -6,6 +6,7 @@ pub mod Fitting
 pub mod Commits
 pub mod Served
 pub mod Free
+pub mod Gone
 pub mod Summed
 pub mod Listed
 pub mod Fielded

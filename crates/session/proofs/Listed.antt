@@ -1,5 +1,7 @@
 -- Rows as lists of cells.
-use Rattle.std.proofs.Common.{◌≡◌, ◌<◌, ◌+◌, ℕ, zero, suc, List, [], ◌∷◌, length, map, take, drop, get_or, Vec, Global, refl, sym, ap, ◌∙◌, add-one, arith}
+use Rattle.std.proofs.Common.{◌≡◌, ◌<◌, ◌≤◌, ◌+◌, ℕ, zero, suc, List, [], ◌∷◌, length, map, take, drop, get_or, Vec, Global, refl, sym, ap, subst, ◌∙◌, add-one, arith, Result, Ok, Err, IfOk}
+use Rattle.std.proofs.lemmas.List.{length-map, take-map, drop-map, drop-drop}
+use Rattle.std.specs.List.{AllZip}
 use Rattle.packstream.specs.Prelude.{Tree, list, trees_of}
 use Rattle.wire.specs.declared.Version.{Version}
 use Rattle.cells.specs.declared.cell.Cell.{Cell, List as ListCell}
@@ -7,8 +9,14 @@ use Rattle.cells.specs.Prelude.{shape, shapes}
 use Rattle.cells.proofs.Views.{shape-List}
 use Rattle.structures.specs.Prelude.{fitted}
 use Rattle.structures.proofs.Fitted.{fitted_list}
-use Rattle.engine.specs.Prelude.{rows_view}
-use Rattle.session.specs.Prelude.{rows_fitted}
+use Rattle.std.specs.declared.alloc.AllocError.{AllocError}
+use Rattle.engine.specs.declared.answer.Answer.{Answer}
+use Rattle.engine.specs.declared.answer.Mode.{Mode as QueryMode}
+use Rattle.engine.specs.declared.fault.EngineFault.{EngineFault}
+use Rattle.engine.specs.Prelude.{rows_in, answer_view, IsAnswer}
+use Rattle.engine.proofs.Columns.{length-rows_in}
+use Rattle.session.specs.declared.remaining.Remaining.{Remaining}
+use Rattle.session.specs.Prelude.{rows_fitted, remaining_rows}
 
 same_trees : (xs ys : List Tree) → trees_of xs ≡ trees_of ys → xs ≡ ys
 same_trees [] [] h = refl
@@ -40,26 +48,45 @@ one_fitted v cs i c h is before e = rw add-one (next cs i h is before)
         let tail : map (fitted v) (shapes (take i cs)) ≡ shapes (take i cs) = cc in
         rw (head, next cs i (omega arith) is tail) refl
 
--- one row more that has
-pub one_row : (v : Version) (rows : List (Vec Cell Global)) (i : ℕ) (r : Vec Cell Global) → i < length rows → r ≡ get_or rows i r → rows_view (take i rows) ≡ rows_fitted v (rows_view (take i rows)) → map (fitted v) (shapes r.items) ≡ shapes r.items
-    → rows_view (take (i + 1) rows) ≡ rows_fitted v (rows_view (take (i + 1) rows))
-one_row v rows i r h is before e = rw add-one (next rows i h is before)
-  where
-    next : (rows : List (Vec Cell Global)) (i : ℕ) → i < length rows → r ≡ get_or rows i r → rows_view (take i rows) ≡ rows_fitted v (rows_view (take i rows)) → rows_view (take (suc i) rows) ≡ rows_fitted v (rows_view (take (suc i) rows))
-    next [] i h is before = absurd (omega arith)
-    next (x ∷ rows) zero h is before = let same : x ≡ r = sym is in rw (same, e) refl
-    next (x ∷ rows) (suc i) h is before =
-        let head : shapes x.items ≡ map (fitted v) (shapes x.items) = cc in
-        let tail : rows_view (take i rows) ≡ rows_fitted v (rows_view (take i rows)) = cc in
-        let all : rows_view (take (suc i) rows) ≡ rows_fitted v (rows_view (take (suc i) rows)) = next rows i (omega arith) is tail in
-        ap (λ ts. ts ∷ rows_view (take (suc i) rows)) head ∙ ap (λ tss. map (fitted v) (shapes x.items) ∷ tss) all
-
 -- Rows, as lists of trees.
-pub rows_counted : (rows : List (Vec Cell Global)) → length (rows_view rows) ≡ length rows
-rows_counted [] = refl
-rows_counted (r ∷ rows) = ap suc (rows_counted rows)
+pub rows_counted : (r : Remaining) → length (remaining_rows r) ≡ r.count
+rows_counted r = length-rows_in r.width r.count _
 
-pub rows_gone : (n : ℕ) (rows : List (Vec Cell Global)) → rows_view (drop n rows) ≡ drop n (rows_view rows)
-rows_gone zero rows = refl
-rows_gone (suc n) [] = refl
-rows_gone (suc n) (r ∷ rows) = rows_gone n rows
+-- the rows of cells that were fitted
+pub rows_in_fitted : (v : Version) (width n : ℕ) (cells : List Tree) → rows_in width n (map (fitted v) cells) ≡ rows_fitted v (rows_in width n cells)
+rows_in_fitted v width zero cells = refl
+rows_in_fitted v width (suc n) cells =
+    ap (λ (r : List Tree). r ∷ rows_in width n (drop width (map (fitted v) cells))) (take-map (fitted v) width cells)
+    ∙ ap (λ (r : List Tree). map (fitted v) (take width cells) ∷ rows_in width n r) (drop-map (fitted v) width cells)
+    ∙ ap (λ (rs : List (List Tree)). map (fitted v) (take width cells) ∷ rs) (rows_in_fitted v width n (drop width cells))
+
+-- there are as many of them
+as_many : (v : Version) (xs ys : List Cell) → shapes xs ≡ map (fitted v) (shapes ys) → length xs ≡ length ys
+as_many v xs ys h = sym (length-map xs shape) ∙ ap length h ∙ length-map (shapes ys) (fitted v) ∙ length-map ys shape
+
+pub as_many_of : (v : Version) (r : Result (Vec Cell Global) AllocError) (cells : List Cell) → IfOk r (λ x. shapes x.items ≡ map (fitted v) (shapes cells)) → IfOk r (λ x. length x.items ≡ length cells)
+as_many_of v (Ok x) cells h = as_many v x.items cells h
+as_many_of v (Err e) cells h = tt
+
+-- the rows of an answer are few
+pub few_answered : (mode : QueryMode) (r : Result Answer EngineFault) → IfOk r (λ a. IsAnswer mode (answer_view a)) → IfOk r (λ a. a.rows.count ≤ 1024)
+few_answered mode (Ok a) h = subst (λ (n : ℕ). n ≤ 1024) (length-rows_in a.rows.width a.rows.count (shapes a.rows.cells.items)) h.few_rows
+few_answered mode (Err e) h = tt
+
+-- the first row, where one is left
+pub row_first : (cells : List Cell) (start width n : ℕ) (row : List Tree) (rest : List (List Tree)) → 0 < n → rows_in width n (drop start (shapes cells)) ≡ row ∷ rest → shapes (take width (drop start cells)) ≡ row
+row_first cells start width zero row rest some h = absurd (omega (arith, some))
+row_first cells start width (suc n) row rest some h =
+    sym (take-map shape width (drop start cells)) ∙ ap (take width) (sym (drop-map shape start cells)) ∙ cc
+
+-- the rows behind it
+pub rows_behind : (cells : List Tree) (start width n m : ℕ) → m + 1 ≡ n → rows_in width m (drop (start + width) cells) ≡ drop 1 (rows_in width n (drop start cells))
+rows_behind cells start width n m e =
+    ap (λ (l : List Tree). rows_in width m l) (sym (drop-drop width start cells)) ∙ ap (λ (k : ℕ). drop 1 (rows_in width k (drop start cells))) (sym (add-one m) ∙ e)
+
+-- copies of cells
+pub copied_shapes : (cs copies : List Cell) → AllZip (λ c copy. shape copy ≡ shape c) cs copies → shapes copies ≡ shapes cs
+copied_shapes [] [] h = refl
+copied_shapes (c ∷ cs) (d ∷ ds) h = rw (h.0, copied_shapes cs ds h.1) refl
+copied_shapes [] (d ∷ ds) h = absurd h
+copied_shapes (c ∷ cs) [] h = absurd h

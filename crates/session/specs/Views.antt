@@ -1,13 +1,16 @@
 -- What contracts see of a session: what it keeps.
-use Rattle.std.specs.Prelude.{List, [], ◌∷◌, map, Option, Some, None, Result, Ok, Err}
+use Rattle.std.specs.Prelude.{List, [], ◌∷◌, map, drop, Option, Some, None, Result, Ok, Err}
 use Rattle.messages.specs.declared.fault.MsgFault.{MsgFault}
 use Rattle.messages.specs.declared.request.Request.{Request}
 use Rattle.messages.specs.View.{request_view}
 use Rattle.messages.specs.Arrivals.{Arrival, Asked, Unread, TooLong}
-use Rattle.engine.specs.Views.{EntryView, rows_view, token_view, writes_view}
+use Rattle.packstream.specs.Tree.{Tree}
+use Rattle.cells.specs.Shape.{shapes}
+use Rattle.engine.specs.Views.{EntryView, rows_in, token_view, writes_view}
 use Rattle.session.specs.declared.session.Session.{Session}
 use Rattle.session.specs.declared.waiting.Waiting.{Waiting}
 use Rattle.session.specs.declared.waiting.Waiting.TheVariants as waiting
+use Rattle.session.specs.declared.remaining.Remaining.{Remaining}
 use Rattle.session.specs.declared.result.OpenResult.{OpenResult}
 use Rattle.session.specs.declared.result.Transaction.{Transaction}
 use Rattle.session.specs.Session.{Open, Tx}
@@ -33,10 +36,14 @@ abbrev pub first_of : {A : Type 0} → List A → Option A
 first_of [] = None
 first_of (x ∷ xs) = Some x
 
+-- the rows that are left, by what is held of them
+abbrev pub remaining_rows : Remaining → List (List Tree)
+remaining_rows r = rows_in r.width r.count (drop r.start (shapes r.cells.items))
+
 -- the open result, by what is held of it
 abbrev pub open_of : OpenResult → Open
 open_of r = record {
-  rows = rows_view r.rows.items;
+  rows = remaining_rows r.rows;
   mode = r.mode;
   write = first_of (writes_view r.writes.items);
   written = r.written;

@@ -1,5 +1,5 @@
 //! What is open after a summary, and the commit of it.
-ghost use Rattle.std.specs.Prelude.{◌≡◌, ◌+◌, ◌<◌, ◌≤◌, ◌++◌, length, drop, Some, IfOk, OnOk, OnErr};
+ghost use Rattle.std.specs.Prelude.{◌≡◌, ◌+◌, ◌<◌, ◌≤◌, ◌++◌, length, Some, IfOk, OnOk, OnErr};
 ghost use Rattle.engine.specs.Tokens.{Free, found_in};
 ghost use Rattle.engine.specs.Views.{token_view, writes_view};
 ghost use Rattle.session.specs.Session.{no_result, change_alone};
@@ -12,9 +12,7 @@ use crate::acts::After;
 use crate::result::{OpenResult, Transaction};
 use engine::{Commit, Engine, EntryId, NoMemory, Write};
 use std::alloc::{AllocError, Global};
-use std::collections::VecDeque;
 use std::mem;
-use structures::Cell;
 
 /// Leaves open what is to be left, and commits what is to be committed, of which the ledger has nothing: the ledger's length where
 /// it did. An `Err` changes nothing.
@@ -76,21 +74,11 @@ pub(crate) fn leave<E: Engine>(
 }
 
 /// Drops rows from the front of an open result. The count of written rows begins anew.
-#[tactic(auto, using(crate::proofs::Listed::rows_gone))]
 fn drop_rows(open: &mut OpenResult, count: usize)
     ensures { open_of open.new ≡ left_result (After.Rest count) (open_of open.old) }
 {
-    drop_front(&mut open.rows, count);
+    open.rows.drop_front(count);
     open.written = 0;
-}
-
-fn drop_front(rows: &mut VecDeque<Vec<Cell>>, count: usize)
-    ensures items { rows.new.items ≡ drop count rows.old.items }
-    ensures few { length rows.new.items ≤ length rows.old.items }
-{
-    for _gone in 0..count {
-        rows.pop_front();
-    }
 }
 
 /// Commits the write of an open result, or none, under its token, and closes it.

@@ -82,7 +82,7 @@ impl Session {
             && (not (used_up count k.result.written) && not (length k.result.rows == 0))) }
     {
         is_streaming(self.state)
-            && (!is_used_up(count, self.result.written) && !self.result.rows.is_empty())
+            && (!is_used_up(count, self.result.written) && self.result.rows.count != 0)
     }
 
     /// What the first request is answered, where it is owed no row and runs no query.
@@ -152,7 +152,7 @@ impl Session {
             }
             Request::Pull(_) => self.ends_rows(0, engine),
             Request::Discard(count) => {
-                self.ends_rows(count_of(*count, self.result.rows.len()), engine)
+                self.ends_rows(count_of(*count, self.result.rows.count), engine)
             }
             Request::Logoff | Request::Goodbye | Request::Reset | Request::Rollback => {
                 Ok(Act::success(Summary::Plain, After::Nothing))
@@ -170,7 +170,7 @@ impl Session {
             runs (version_of k) k.state (request_view request.now) ≡ true }
         ensures runs { let k = kept_of self.now in Runs result
             (asked_by E.answer (E.entries engine.now) k.state k.tx (request_view request.now)) }
-        ensures few { IfOk result (λ a. length a.rows.items ≤ max_rows) }
+        ensures few { IfOk result (λ a. a.rows.count ≤ max_rows) }
     {
         let Request::Run {
             text,

@@ -11,6 +11,7 @@ pub mod laws;
 mod opening;
 mod query_answer;
 mod queue;
+mod remaining;
 mod result;
 mod result_end;
 mod rows;

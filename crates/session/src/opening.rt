@@ -34,7 +34,7 @@ impl Session {
         engine: &mut E,
     ) -> Result<Worked, AllocError>
         requires some { 0 < length self.old.queue.waiting.items }
-        requires few { IfOk answered (λ a. length a.rows.items ≤ max_rows) }
+        requires few { IfOk answered (λ a. a.rows.count ≤ max_rows) }
         ensures ok { (defined : Result AnswerView QueryFault) → Runs answered defined
             → let k = kept_of self.old in
             (q : RequestView) (later : List Arrival) → k.waiting ≡ Asked q ∷ later
@@ -67,7 +67,7 @@ impl Session {
         engine: &mut E,
     ) -> Result<Worked, AllocError>
         requires some { 0 < length self.old.queue.waiting.items }
-        requires few { length answer.rows.items ≤ max_rows }
+        requires few { answer.rows.count ≤ max_rows }
         ensures ok { let k = kept_of self.old in
             (q : RequestView) (later : List Arrival) → k.waiting ≡ Asked q ∷ later
             → kind ≡ kind_of q
@@ -95,7 +95,7 @@ impl Session {
         engine: &mut E,
     ) -> Result<Worked, AllocError>
         requires some { 0 < length self.old.queue.waiting.items }
-        requires few { length answer.rows.items ≤ max_rows }
+        requires few { answer.rows.count ≤ max_rows }
         ensures ok { let k = kept_of self.old in
             (q : RequestView) (later : List Arrival) → k.waiting ≡ Asked q ∷ later
             → kind ≡ kind_of q
@@ -122,7 +122,7 @@ impl Session {
         kind: Kind,
     ) -> Result<Worked, AllocError>
         requires some { 0 < length self.old.queue.waiting.items }
-        requires few { length answer.rows.items ≤ max_rows }
+        requires few { answer.rows.count ≤ max_rows }
         requires fits { IsSized self.old.body.items }
         ensures told { let k = kept_of self.old in
             let next = unwrap_or (row_at (version_of k) k.state kind Verdict.Success) State.Defunct in

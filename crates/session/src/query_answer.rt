@@ -13,8 +13,8 @@ ghost use Rattle.engine.specs.Limits.{max_rows};
 ghost use Rattle.session.specs.Said.{fits};
 ghost use Rattle.session.specs.Acts.{IsBody, Refuses};
 
+use crate::remaining::Remaining;
 use crate::result::{OpenResult, Transaction};
-use crate::rows::fitted_rows;
 use crate::spelling::{Unwritten, spell_response};
 use crate::words::{is_in_transaction, result_mode};
 use bytes::BytesMut;
@@ -138,7 +138,7 @@ pub(crate) fn open_result(
     left: &mut OpenResult,
     tx: &mut Transaction,
 ) -> Result<(), AllocError>
-    requires { length answer.rows.items ≤ max_rows }
+    requires { answer.rows.count ≤ max_rows }
     ensures open { OnOk result (open_of left.new
         ≡ result_of_answer version state (token_view token) (answer_view answer)) }
     ensures tx { OnOk result (tx_of tx.new ≡ (if in_transaction state
@@ -146,7 +146,7 @@ pub(crate) fn open_result(
     ensures open_kept { OnErr result (open_of left.new ≡ open_of left.old) }
     ensures tx_kept { OnErr result (tx_of tx.new ≡ tx_of tx.old) }
 {
-    let rows = fitted_rows(alloc, version, answer.rows)?;
+    let rows = Remaining::fitted(alloc, version, answer.rows)?;
     let mode = result_mode(answer.mode);
     if is_in_transaction(state) {
         join_write(&mut tx.writes, answer.write)?;

@@ -2,23 +2,22 @@
 ghost use Rattle.std.specs.Prelude.{◌+◌, ◌≤◌, length};
 ghost use Rattle.engine.specs.Limits.{max_rows};
 
+use crate::remaining::Remaining;
 use engine::Write;
 use messages::Mode;
 use std::alloc::Global;
-use std::collections::VecDeque;
-use structures::Cell;
 
 /// The open result: its rows left, its mode, the write that its last summary commits, or none, the token of its RUN, and how many
 /// rows were written for the PULL that waits. In a transaction the write is among the transaction's, and the token is the
 /// transaction's.
 #[derive(Drop)]
 pub(crate) struct OpenResult {
-    pub rows: VecDeque<Vec<Cell>>,
+    pub rows: Remaining,
     pub mode: Mode,
     pub writes: Vec<Write>,
     pub token: Option<String>,
     pub written: usize,
-    ghost few: { written + length rows.items ≤ max_rows },
+    ghost few: { written + rows.count ≤ max_rows },
     ghost one: { length writes.items ≤ 1 },
 }
 
@@ -31,7 +30,7 @@ pub(crate) struct Transaction {
 }
 
 impl OpenResult {
-    ghost use Rattle.std.specs.Prelude.{◌≡◌, ◌<◌, length};
+    ghost use Rattle.std.specs.Prelude.{◌≡◌, ◌<◌};
     ghost use Rattle.session.specs.Acts.{one_less};
     ghost use Rattle.session.specs.Session.{no_result};
     ghost use Rattle.session.specs.Views.{open_of};
@@ -41,7 +40,7 @@ impl OpenResult {
         ensures { open_of result ≡ no_result }
     {
         OpenResult {
-            rows: VecDeque::new(alloc),
+            rows: Remaining::none(alloc),
             mode: Mode::Read,
             writes: Vec::new(alloc),
             token: None,
@@ -50,12 +49,11 @@ impl OpenResult {
     }
 
     /// The first row has been written.
-    #[tactic(auto, using(crate::proofs::Listed::rows_gone))]
     pub(crate) fn pass(&mut self)
-        requires { 0 < length self.old.rows.items }
+        requires { 0 < self.old.rows.count }
         ensures { open_of self.new ≡ one_less (open_of self.old) }
     {
-        self.rows.pop_front();
+        self.rows.pass();
         self.written += 1;
     }
 }

@@ -91,7 +91,7 @@ impl Session {
             (λ act. reply_of (version_of k) k.state k.result k.tx act
             ≡ close k.state (E.entries engine.now) (drop dropped k.result.rows) k.result k.tx) }
     {
-        if dropped < self.result.rows.len() {
+        if dropped < self.result.rows.count {
             return Ok(Act::Says {
                 verdict: Verdict::More,
                 summary: Summary::RowsLeft,

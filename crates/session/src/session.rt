@@ -13,6 +13,9 @@ use messages::{MsgFault, Request};
 use std::alloc::{AllocError, Global};
 use wire::{Version, choose};
 
+/// The most room that is kept where nothing waits to go, and of what a step writes.
+pub(crate) const MAX_KEPT: usize = 8192;
+
 /// A conversation with a client: what waits, how it stands, what is open, and what waits to go.
 #[derive(Drop)]
 pub struct Session {
@@ -81,6 +84,28 @@ impl Session {
     {
         let count = max.min(self.out.len());
         self.out.freeze_to(count)
+    }
+
+    /// Lends what waits to go, in order. Takes no memory.
+    pub fn unsent(&self) -> &[u8]
+        ensures { result.now ≡ (kept_of self.now).unsent }
+    {
+        self.out.as_slice()
+    }
+
+    /// As many bytes of what waits to go are gone, or all where no more wait. Takes no memory.
+    #[tactic(auto, using(crate::proofs::Gone::gone_all))]
+    pub fn sent(&mut self, count: usize)
+        ensures { kept_of self.new ≡ take_kept count (kept_of self.old) }
+    {
+        if count < self.out.len() {
+            self.out.advance(count);
+            return;
+        }
+        self.out.clear();
+        if self.out.capacity() > MAX_KEPT {
+            self.out = BytesMut::new(self.alloc);
+        }
     }
 
     /// Puts a no-op, and answers whether it did: not before a version is chosen, after the end, or while 65,536 bytes or more wait to

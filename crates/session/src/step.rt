@@ -18,7 +18,7 @@ use crate::decision::{interrupted, token_of};
 use crate::fault::Fault;
 use crate::kinds::{Cause, Worked};
 use crate::rows::{put_first, spell_first};
-use crate::session::Session;
+use crate::session::{MAX_KEPT, Session};
 use crate::spelling::{Unwritten, spell_summary};
 use crate::summary::Summary;
 use crate::words::is_interruptible;
@@ -27,9 +27,6 @@ use engine::{Engine, EntryId, Gate};
 use machine::{Kind, State, Verdict, kind, row};
 use std::alloc::AllocError;
 use wire::{put_message, put_reserved, written_len};
-
-/// The most room of a body that is kept for the next.
-const MAX_KEPT: usize = 8192;
 
 impl Session {
     /// One step of the connection with this number: nothing, a row, a summary or an end. An `Err` is want of memory, and changes nothing,
@@ -149,7 +146,7 @@ impl Session {
         engine: &mut E,
     ) -> Result<Worked, AllocError>
         requires some { 0 < length self.old.queue.waiting.items }
-        requires row { 0 < length self.old.result.rows.items }
+        requires row { 0 < self.old.result.rows.count }
         ensures ok { let k = kept_of self.old in
             (q : RequestView) (later : List Arrival) → k.waiting ≡ Asked q ∷ later
             → kind ≡ kind_of q
@@ -169,7 +166,7 @@ impl Session {
 
     /// Puts the first row of the open result, spelled where it goes out; or says no, and changes nothing.
     fn put_first(&mut self) -> bool
-        requires row { 0 < length self.old.result.rows.items }
+        requires row { 0 < self.old.result.rows.count }
         ensures sent { result ≡ true → SendsRow (kept_of self.old) (kept_of self.new) }
         ensures other { result ≡ false → kept_of self.new ≡ kept_of self.old }
     {
@@ -190,7 +187,7 @@ impl Session {
         engine: &mut E,
     ) -> Result<Worked, AllocError>
         requires some { 0 < length self.old.queue.waiting.items }
-        requires row { 0 < length self.old.result.rows.items }
+        requires row { 0 < self.old.result.rows.count }
         ensures ok { let k = kept_of self.old in
             (q : RequestView) (later : List Arrival) → k.waiting ≡ Asked q ∷ later
             → kind ≡ kind_of q
@@ -202,7 +199,9 @@ impl Session {
             × (E.entries engine.new ≡ E.entries engine.old)) }
         ensures counted { IfOk result IsCounted }
     {
-        match spell_first(self.version(), &mut self.result.rows, &mut self.body) {
+        let version = self.version();
+        let result = &self.result;
+        match spell_first(version, &result.rows, &mut self.body) {
             Ok(()) => self.put_row(),
             Err(Unwritten::Memory) => Err(AllocError),
             Err(Unwritten::Because(fault)) => self.fail(fault, conn, kind, engine),
@@ -235,7 +234,7 @@ impl Session {
     /// Puts the row that is spelled, the first of the open result.
     fn put_row(&mut self) -> Result<Worked, AllocError>
         requires fits { IsSized self.old.body.items }
-        requires row { 0 < length self.old.result.rows.items }
+        requires row { 0 < self.old.result.rows.count }
         ensures ok { IfOk result
             (λ w. (w ≡ Worked.Row)
             × (kept_of self.new ≡ after_bytes self.old.body.items (kept_of self.old))) }

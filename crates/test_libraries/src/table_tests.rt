@@ -320,13 +320,12 @@ fn reads(answer: &Answer, name: &str, values: &[Plain]) -> bool {
     let [field] = answer.fields.as_slice() else {
         return false;
     };
-    if field.as_str() != name || answer.rows.len() != values.len() {
+    if field.as_str() != name || answer.rows.width != 1 || answer.rows.count != values.len() {
         return false;
     }
-    for (row, value) in answer.rows.iter().zip(values) {
-        match row.as_slice() {
-            [cell] if is_cell(cell, value) => {}
-            _ => return false,
+    for (cell, value) in answer.rows.cells.iter().zip(values) {
+        if !is_cell(cell, value) {
+            return false;
         }
     }
     answer.write.is_none() && answer.mode == Mode::Read
@@ -341,13 +340,13 @@ fn puts_one(answer: &Answer) -> bool {
         return false;
     };
     let is_one = copy.key.as_str() == "a" && is_cell(&copy.value, &Int(1));
-    is_one && answer.fields.is_empty() && answer.rows.is_empty() && answer.mode == Mode::Write
+    is_one && answer.fields.is_empty() && answer.rows.count == 0 && answer.mode == Mode::Write
 }
 
 fn is_told(answer: &Result<Answer, EngineFault>, told: &Told) -> bool {
     match (answer, told) {
         (Ok(answer), Column(name, values)) => reads(answer, name, values),
-        (Ok(answer), Rows(count)) => answer.rows.len() == *count,
+        (Ok(answer), Rows(count)) => answer.rows.count == *count,
         (Ok(answer), PutsOne) => puts_one(answer),
         (Err(fault), Refused(wanted)) => fault == wanted,
         _ => false,

@@ -1,5 +1,4 @@
-use Rattle.std.proofs.Common.{◌∙◌, refl}
 use Rattle.session.proofs.rows.spell_row.Goals as goal
 
-pub returns-clause-kept : goal.returns-clause-kept
-returns-clause-kept c = c.give_back.ensures c.replace.result refl ∙ c.replace.ensures.value
+pub returns-then-spell_plain-clause-ok : goal.returns-then-spell_plain-clause-ok
+returns-then-spell_plain-clause-ok c = c.spell_plain.ensures c.if-spell_plain.true c.args.version

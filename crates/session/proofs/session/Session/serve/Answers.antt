@@ -43,7 +43,7 @@ pub send-requires-clause-row : goal.send-requires-clause-row
 send-requires-clause-row g c =
     let k = kept_of c.args.self.now in
     let some = owed_some k.state k.result (request_view c.request-request.result.now) (sym c.owes_row.ensures ∙ c.if-owes_row.true) in
-    omega (arith, some, rows_counted c.args.self.now.result.rows.items)
+    omega (arith, some, rows_counted c.args.self.now.result.rows)
 
 pub answer_next-requires-clause-unowed : goal.answer_next-requires-clause-unowed
 answer_next-requires-clause-unowed g c = λ q later e.
