@@ -1,0 +1,5 @@
+pub mod Leading
+pub mod Reading
+pub mod Asking
+pub mod Trying
+pub mod Adding
