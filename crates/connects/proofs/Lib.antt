@@ -3,3 +3,4 @@ pub mod Reading
 pub mod Asking
 pub mod Trying
 pub mod Adding
+pub mod Columns

@@ -61,6 +61,18 @@ impl<S: Source + Drop, T: Sink + Drop> Connection<S, T> {
         self.tracking.rows(ordinal)
     }
 
+    /// Takes the rows that are held of a request for rows, in order. It takes no memory.
+    pub fn take_rows(&mut self, ordinal: u64) -> Vec<Vec<Cell>>
+        ensures rows { map row_view result.items
+            ≡ rows_of (rest_in self.old.tracking).knows.first (account_of self.old.tracking) ordinal }
+        ensures client { rest_in self.new.tracking ≡ rest_in self.old.tracking }
+        ensures account { account_of self.new.tracking
+            ≡ rows_taken (rest_in self.old.tracking).knows.first (account_of self.old.tracking)
+            ordinal }
+    {
+        self.tracking.take_rows(ordinal)
+    }
+
     /// How many of its rows came behind those that were kept: each was read and dropped. It takes no memory.
     pub fn rows_left(&self, ordinal: u64) -> u64
         ensures { result

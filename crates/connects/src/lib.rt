@@ -18,4 +18,4 @@ pub use connection::{Answer, Connection};
 pub use exchanging::exchange;
 pub use faults::Fault;
 pub use queries::Query;
-pub use values::{as_bool, as_bytes, as_float, as_int, as_list, as_text, text_cell};
+pub use values::{as_bool, as_bytes, as_float, as_int, as_list, as_text, column, text_cell};

@@ -2,7 +2,7 @@
 ghost use Rattle.std.specs.Prelude.{◌≡◌, IfOk, map, option_map};
 ghost use Rattle.cells.specs.Shape.{shape};
 ghost use Rattle.packstream.specs.Tree.{text};
-ghost use Rattle.connects.specs.Values.{bool_in, int_in, float_in, text_in, bytes_in, HasMembers};
+ghost use Rattle.connects.specs.Values.{bool_in, int_in, float_in, text_in, bytes_in, HasMembers, is_text, column};
 
 use std::alloc::{AllocError, Global};
 use structures::Cell;
@@ -72,4 +72,29 @@ pub fn as_list(cell: &Cell) -> Option<&[Cell]>
         Cell::List(cells) => Some(cells.as_slice()),
         _ => None,
     }
+}
+
+/// Whether it is this text.
+fn is_text(cell: &Cell, text: &str) -> bool
+    ensures { result ≡ is_text text.now cell.now }
+{
+    match as_text(cell) {
+        Some(own) => own == text,
+        None => false,
+    }
+}
+
+/// The member of a row that stands under a name, by the names of `fields` in the same order; none where no field has it, or the row ends before.
+pub fn column<'a>(fields: &[Cell], row: &'a [Cell], name: &str) -> Option<&'a Cell>
+    ensures { option_map (λ c. c.now) result ≡ column name.now fields.now row.now }
+{
+    for i in 0..fields.len() {
+        if i >= row.len() {
+            return None;
+        }
+        if is_text(&fields[i], name) {
+            return Some(&row[i]);
+        }
+    }
+    None
 }
