@@ -1,0 +1,137 @@
+-- Requests that are asked in turn.
+use Rattle.std.proofs.Common.{◌≡◌, refl, sym, ◌∙◌, ap, subst, ℕ, suc, ◌+◌, ◌<◌, ◌^◌, Bool, true, false, ◌||◌, ◌&&◌, nat_lt, Option, Some, None, Result, Ok, Err, List, [], ◌∷◌, ◌++◌, length, map, append-nil, arith}
+use Rattle.messages.specs.Prelude.{RequestView}
+use Rattle.messages.specs.View.{AuthView}
+use Rattle.std.proofs.lemmas.Bool.Decides.{nat_tests}
+use Rattle.client.specs.declared.Outcome.{Outcome}
+use Rattle.client.specs.declared.SubmitFault.{SubmitFault}
+use Rattle.client.specs.Prelude.{Knows, Rest, refuses, after_submit, submits, has_room}
+use Rattle.client.specs.Rest.{next_ordinal}
+use Rattle.client.proofs.Refusing.{accepted_facts}
+use Rattle.driver.specs.Runs.{Asks, TrackedRun, tracked_call}
+use Rattle.connects.specs.declared.breaks.Break.{Break}
+use Rattle.connects.specs.declared.faults.Fault.{Fault}
+use Rattle.connects.specs.declared.faults.Fault.TheVariants as fault
+use Rattle.connects.specs.Prelude.{Stand, stand_in, GoesOn, Leads, Place, place, Exchanges, or_undone, first_undone, Told, fresh, given_up, Sent, IsNotSent, Says, asked_stand, asked_all, AcceptsEach, StopsAt, AsksAll, greeting}
+use Rattle.connects.proofs.Leading.{leads_nowhere, leads_on}
+use Rattle.connects.proofs.Reading.{stand_is}
+
+pub asked_more : (s : Stand) (qs : List RequestView) (q : RequestView) → asked_all s (qs ++ q ∷ []) ≡ asked_stand (asked_all s qs) q
+asked_more s [] q = refl
+asked_more s (p ∷ qs) q = asked_more (asked_stand s p) qs q
+
+pub accepts_more : (s : Stand) (qs : List RequestView) (q : RequestView) → AcceptsEach s qs → refuses (asked_all s qs).rest.knows q ≡ None → AcceptsEach s (qs ++ q ∷ [])
+accepts_more s [] q h e = (e, tt)
+accepts_more s (p ∷ qs) q h e = (h.0, accepts_more (asked_stand s p) qs q h.1 e)
+
+-- behind a first
+pub asks_behind : (from to : Stand) (q : RequestView) (qs : List RequestView) (o : Option SubmitFault) → refuses from.rest.knows q ≡ None → AsksAll (asked_stand from q) to qs o → AsksAll from to (q ∷ qs) o
+asks_behind from to q qs None e h = ((e, h.0), h.1)
+asks_behind from to q qs (Some rule) e h = record { before = q ∷ h.before; request = h.request; behind = h.behind; parts = ap (λ l. q ∷ l) h.parts; accepted = (e, h.accepted); stays = h.stays; first = h.first }
+
+ask_run : (x : TrackedRun) (q : RequestView) → refuses x.run.rest.knows q ≡ None → GoesOn x (tracked_call x (Asks q)) (asked_stand (stand_in x) q) (q ∷ []) [] false
+ask_run x q e = subst (λ o. GoesOn x (record x { run = submits x.run q o }) (asked_stand (stand_in x) q) (q ∷ []) [] false) (sym e) (record { stands = refl; sent = refl; took = sym (append-nil x.run.took); lose = or_false x.run.lost })
+  where
+    or_false : (a : Bool) → a ≡ (a || false)
+    or_false true = refl
+    or_false false = refl
+
+leads_ask : (s : Stand) (q : RequestView) → refuses s.rest.knows q ≡ None → Leads s (Asks q ∷ []) (asked_stand s q) (q ∷ []) [] false
+leads_ask s q e x f = subst (λ (z : Stand). GoesOn x (tracked_call x (Asks q)) (asked_stand z q) (q ∷ []) [] false) f (ask_run x q (ap (λ (z : Stand). refuses z.rest.knows q) f ∙ e))
+
+pub leads_asks : (s : Stand) (qs : List RequestView) → AcceptsEach s qs → Leads s (map Asks qs) (asked_all s qs) qs [] false
+leads_asks s [] h = leads_nowhere s
+leads_asks s (q ∷ qs) h = leads_on (Asks q ∷ []) (map Asks qs) (leads_ask s q h.0) (leads_asks (asked_stand s q) qs h.1)
+
+-- what is accepted has room, so its ordinal is below 2^63
+pub accepted_open : (k : Knows) (q : RequestView) → refuses k q ≡ None → k.over ≡ true → ⊥
+accepted_open k q e o = let f = (accepted_facts k q e).0 in cc
+
+and_second : (a b : Bool) → (a && b) ≡ true → b ≡ true
+and_second true b e = e
+and_second false b e = cc
+
+pub accepted_short : (r : Rest) (q : RequestView) → refuses r.knows q ≡ None → next_ordinal r < 2 ^ 63
+accepted_short r q e =
+    let room : has_room r.knows ≡ true = (accepted_facts r.knows q e).2 in
+    let below : nat_lt (r.knows.first + length r.knows.waiting) (2 ^ 63) ≡ true = and_second (nat_lt (length r.knows.waiting) 32) (nat_lt (r.knows.first + length r.knows.waiting) (2 ^ 63)) room in
+    grind (arith, nat_tests)
+
+-- These were accepted so far.
+pub record AskedSoFar (from now : Stand) (qs : List RequestView) : Type 0 where
+  pub accepted : AcceptsEach from qs
+  pub stands : now ≡ asked_all from qs
+
+pub asked_none : (s : Stand) → AskedSoFar s s []
+asked_none s = record { accepted = tt; stands = refl }
+
+pub asked_on : {from now : Stand} {qs : List RequestView} → AskedSoFar from now qs → (new : Stand) (q : RequestView) → refuses now.rest.knows q ≡ None → new.rest ≡ after_submit now.rest q → new.account ≡ now.account → AskedSoFar from new (qs ++ q ∷ [])
+asked_on {from = from} {now = now} {qs = qs} so new q e r a = record {
+  accepted = accepts_more from qs q so.accepted (ap (λ (z : Stand). refuses z.rest.knows q) (sym so.stands) ∙ e);
+  stands = stand_is new (asked_stand now q) r a ∙ ap (λ (z : Stand). asked_stand z q) so.stands ∙ sym (asked_more from qs q);
+}
+
+pub asked_stops : {from now : Stand} {qs : List RequestView} → AskedSoFar from now qs → (new : Stand) (q : RequestView) (behind all : List RequestView) (rule : SubmitFault) → new ≡ now → ((rule ≡ SubmitFault.Memory → ⊥) → refuses now.rest.knows q ≡ Some rule) → qs ++ q ∷ behind ≡ all → StopsAt from new all rule
+asked_stops {from = from} {now = now} {qs = qs} so new q behind all rule same first parts = record {
+  before = qs;
+  request = q;
+  behind = behind;
+  parts = sym parts;
+  accepted = so.accepted;
+  stays = same ∙ so.stands;
+  first = λ n. ap (λ (z : Stand). refuses z.rest.knows q) same ∙ first n;
+}
+
+pub undone_more : (told : ℕ → Option Outcome) (first i : ℕ) (found new : Option ℕ) → found ≡ first_undone told first i → new ≡ or_undone found (first + i) (told (first + i)) → new ≡ first_undone told first (i + 1)
+undone_more told first i found new e f =
+    let on : suc i ≡ i + 1 = omega arith in
+    f ∙ ap (λ z. or_undone z (first + i) (told (first + i))) e ∙ ap (first_undone told first) on
+
+pub says_sent : {A : Type 0} (from to : Place) (qs : List RequestView) (result : Result A Fault) → Sent from to qs result → Says from to qs result
+says_sent from to qs (Ok x) s = s
+says_sent from to qs (Err (fault.NotSent rule)) s = absurd s.told
+says_sent from to qs (Err (fault.Refused i c m)) s = s
+says_sent from to qs (Err (fault.Broken why)) s = s
+says_sent from to qs (Err fault.Memory) s = s
+
+pub all_said : (from to : Place) (qs : List RequestView) (mid asked : Stand) (broken : Result (Unit {0}) Break) (result : Result ℕ Fault) (first count : ℕ) → mid ≡ fresh from.stand → AsksAll mid asked qs None → Exchanges (place asked from.left from.written) to broken
+    → first ≡ next_ordinal mid.rest → count ≡ length qs → Told to.stand.account first count broken result → Says from to qs result
+all_said from to qs mid asked broken result first count m h x f n t =
+    let same : asked ≡ asked_all (fresh from.stand) qs = h.1 ∙ ap (λ (z : Stand). asked_all z qs) m in
+    let at : first ≡ next_ordinal from.stand.rest = f ∙ ap (λ (z : Stand). next_ordinal z.rest) m in
+    says_sent from to qs result (record {
+      broken = broken;
+      accepted = subst (λ (z : Stand). AcceptsEach z qs) m h.0;
+      exchanged = subst (λ (z : Stand). Exchanges (place z from.left from.written) to broken) same x;
+      told = subst (λ k. Told to.stand.account (next_ordinal from.stand.rest) k broken result) n (subst (λ k. Told to.stand.account k count broken result) at t);
+    })
+
+pub none_said : (from to : Place) (qs : List RequestView) (mid stopped : Stand) (rule : SubmitFault) → mid ≡ fresh from.stand → StopsAt mid stopped qs rule → to ≡ place (given_up stopped) from.left from.written → IsNotSent from to qs rule
+none_said from to qs mid stopped rule m h e = record { stopped = stopped; stops = subst (λ (z : Stand). StopsAt z stopped qs rule) m h; unsent = e }
+
+-- those behind one that was accepted
+pub asks_then : (from mid to : Stand) (q : RequestView) (qs : List RequestView) (o : Option SubmitFault) → refuses from.rest.knows q ≡ None → mid.rest ≡ after_submit from.rest q → mid.account ≡ from.account → AsksAll mid to qs o → AsksAll from to (q ∷ qs) o
+asks_then from mid to q qs o e r a h = asks_behind from to q qs o e (subst (λ (z : Stand). AsksAll z to qs o) (stand_is mid (asked_stand from q) r a) h)
+
+-- no memory was left for the requests
+pub unasked_said : (A : Type 0) (from to : Place) (q : RequestView) (qs all : List RequestView) (f : Fault) → q ∷ qs ≡ all → f ≡ fault.NotSent SubmitFault.Memory → to ≡ place (given_up (fresh from.stand)) from.left from.written → Says {A = A} from to all (Err f)
+unasked_said A from to q qs all f e g h =
+    subst (λ (z : Fault). Says {A = A} from to all (Err z)) (sym g)
+    (record { stopped = fresh from.stand; stops = record { before = []; request = q; behind = qs; parts = sym e; accepted = tt; stays = refl; first = λ n. absurd (n refl) }; unsent = h })
+
+-- what is answered hangs on what was told, and not on what is made of it
+sent_as : {A B : Type 0} (from to : Place) (qs : List RequestView) (x : Result A Fault) (y : Result B Fault) → ((broken : Result (Unit {0}) Break) → Told to.stand.account (next_ordinal from.stand.rest) (length qs) broken x → Told to.stand.account (next_ordinal from.stand.rest) (length qs) broken y) → Sent from to qs x → Sent from to qs y
+sent_as from to qs x y f s = record { broken = s.broken; accepted = s.accepted; exchanged = s.exchanged; told = f s.broken s.told }
+
+pub says_ok : {A B : Type 0} (from to : Place) (qs : List RequestView) (x : A) (y : B) → Says from to qs (Ok x) → Says from to qs (Ok y)
+says_ok from to qs x y s = sent_as from to qs (Ok x) (Ok y) (λ _ t. t) s
+
+pub says_err : (A B : Type 0) (from to : Place) (qs : List RequestView) (e : Fault) → Says {A = A} from to qs (Err e) → Says {A = B} from to qs (Err e)
+says_err A B from to qs (fault.NotSent rule) s = s
+says_err A B from to qs (fault.Refused i c m) s = sent_as {A = A} {B = B} from to qs (Err (fault.Refused i c m)) (Err (fault.Refused i c m)) (λ _ t. t) s
+says_err A B from to qs (fault.Broken why) s = sent_as {A = A} {B = B} from to qs (Err (fault.Broken why)) (Err (fault.Broken why)) (λ _ t. t) s
+says_err A B from to qs fault.Memory s = sent_as {A = A} {B = B} from to qs (Err fault.Memory) (Err fault.Memory) (λ _ t. t) s
+
+pub greeting_some : (b : Bool) (agent : List ℕ) (auth : AuthView) → (q : RequestView) × (qs : List RequestView) × (q ∷ qs ≡ greeting b agent auth)
+greeting_some true agent auth = (RequestView.Hello agent (Some auth), [], refl)
+greeting_some false agent auth = (RequestView.Hello agent None, RequestView.Logon auth ∷ [], refl)

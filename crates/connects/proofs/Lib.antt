@@ -1,0 +1,6 @@
+pub mod Leading
+pub mod Reading
+pub mod Asking
+pub mod Trying
+pub mod Adding
+pub mod Columns

@@ -1,0 +1,189 @@
+-- What comes of an exchange, part by part.
+use Rattle.std.proofs.Common.{◌≡◌, refl, sym, ◌∙◌, ap, ap₂, subst, ℕ, ◌<◌, Bool, true, false, Option, Result, Ok, Err, List, [], ◌∷◌, ◌++◌, length, map, take, drop, append_assoc, append-nil, true≢false, inl, ⊎_elim, is_err, OnErr, IsErrOf}
+use Rattle.std.specs.Io.KnownBytes.{Appends, Consumes, Keeps}
+use Rattle.std.proofs.KnownBytes.{Consumes-kept, Consumes-nil, Consumes-trans}
+use Rattle.client.specs.Prelude.{Knows, Rest, awaits}
+use Rattle.streams.specs.Prelude.{AppendsFront}
+use Rattle.streams.proofs.Parts.{fed_more, take_short}
+use Rattle.driver.specs.declared.faults.FeedFault.{FeedFault}
+use Rattle.driver.specs.declared.faults.FeedFault.TheVariants as feed_fault
+use Rattle.driver.specs.Account.{Account}
+use Rattle.driver.specs.Feeding.{tracked_feed, UnlessMemory}
+use Rattle.driver.specs.Runs.{TrackedCall, Hears as HearsPiece, Sends, IsLost}
+use Rattle.connects.specs.declared.breaks.Break.{Break}
+use Rattle.connects.specs.declared.breaks.Break.TheVariants as break
+use Rattle.connects.specs.Prelude.{Stand, Leads, heard_count, heard_stand, lost_stand, taken_stand, Place, place, Hears, IsWhole, Unbroken, Feeds, ReadsOn, Writes, PutsOut, Ends, Converses, Exchanges}
+use Rattle.connects.proofs.Leading.{leads_on, leads_sends, leads_lost, used_is, hears_none, hears_on, hears_piece}
+
+pub stand_is : (a b : Stand) → a.rest ≡ b.rest → a.account ≡ b.account → a ≡ b
+stand_is a b e f = ap₂ (λ (r : Rest) (z : Account). let s : Stand = record { rest = r; account = z } in s) e f
+
+-- Some of a piece was fed, and the rest of it is still to be.
+pub record PartHeard (from now : Stand) (piece rest : List ℕ) : Type 0 where
+  pub heard : List ℕ
+  pub parts : heard ++ rest ≡ piece
+  pub hears : Hears from now heard
+
+pub part_none : (s : Stand) (piece : List ℕ) → PartHeard s s piece piece
+part_none s piece = record { heard = []; parts = refl; hears = hears_none s }
+
+pub part_on : {from now : Stand} {piece rest : List ℕ} → PartHeard from now piece rest → (new : Stand) (used : ℕ) (later : List ℕ) → Ok used ≡ (tracked_feed now.rest now.account rest).answer → new ≡ heard_stand now rest → later ≡ drop used rest → PartHeard from new piece later
+part_on {from = from} {now = now} {piece = piece} {rest = rest} p new used later e s l = record {
+  heard = p.heard ++ take used rest;
+  parts = fed_more p.heard rest later piece used p.parts l;
+  hears = hears_on p.hears (subst (λ n. Hears now new (take n rest)) (used_is now rest used e) (subst (λ z. Hears now z (take (heard_count now rest) rest)) (sym s) (hears_piece now rest)));
+}
+
+-- what a refusal of a piece leaves
+pub part_refused : {from now : Stand} {piece rest : List ℕ} → PartHeard from now piece rest → (new : Stand) (f : FeedFault) (e : Break)
+    → UnlessMemory (Err f) ((Err f ≡ (tracked_feed now.rest now.account rest).answer) × ((new.rest ≡ (tracked_feed now.rest now.account rest).rest) × (new.account ≡ (tracked_feed now.rest now.account rest).account)))
+    → (IsErrOf {T = ℕ} (Err f) feed_fault.Memory → (new.rest ≡ now.rest) × (new.account ≡ now.account)) → Feeds from new piece (Err e)
+part_refused {from = from} {now = now} {piece = piece} {rest = rest} p new f e h m = go f h m
+  where
+    used : ℕ
+    used = heard_count now rest
+
+    some : new ≡ heard_stand now rest → Feeds from new piece (Err e)
+    some s = record {
+      heard = p.heard ++ take used rest;
+      unheard = drop used rest;
+      parts = sym (fed_more p.heard rest (drop used rest) piece used p.parts refl);
+      hears = hears_on p.hears (subst (λ z. Hears now z (take used rest)) (sym s) (hears_piece now rest));
+      whole = tt;
+    }
+
+    none : new ≡ now → Feeds from new piece (Err e)
+    none s = record { heard = p.heard; unheard = rest; parts = sym p.parts; hears = subst (λ z. Hears from z p.heard) (sym s) p.hears; whole = tt }
+
+    go : (f : FeedFault) → UnlessMemory (Err f) ((Err f ≡ (tracked_feed now.rest now.account rest).answer) × ((new.rest ≡ (tracked_feed now.rest now.account rest).rest) × (new.account ≡ (tracked_feed now.rest now.account rest).account)))
+        → (IsErrOf {T = ℕ} (Err f) feed_fault.Memory → (new.rest ≡ now.rest) × (new.account ≡ now.account)) → Feeds from new piece (Err e)
+    go feed_fault.Memory h m = let k = m refl in none (stand_is new now k.0 k.1)
+    go feed_fault.Closed h m = some (stand_is new (heard_stand now rest) h.1.0 h.1.1)
+    go feed_fault.BadPeer h m = some (stand_is new (heard_stand now rest) h.1.0 h.1.1)
+    go feed_fault.Full h m = some (stand_is new (heard_stand now rest) h.1.0 h.1.1)
+
+-- the end of the piece, or of the client
+pub part_done : {from now : Stand} {piece rest : List ℕ} → PartHeard from now piece rest → IsWhole rest now → Feeds from now piece (Ok tt)
+part_done {rest = rest} p w = record { heard = p.heard; unheard = rest; parts = sym p.parts; hears = p.hears; whole = w }
+
+-- a piece that was read
+pub reads_piece : {from to : Stand} {left left_now : Option (List ℕ)} {piece : List ℕ} {result : Result (Unit {0}) Break} → Consumes left left_now piece → Feeds from to piece result → ReadsOn from to left left_now result
+reads_piece {left = left} {left_now = left_now} c f = record { heard = f.heard; unheard = f.unheard; input = subst (Consumes left left_now) f.parts c; hears = f.hears; whole = f.whole }
+
+pub reads_none : (s : Stand) (left : Option (List ℕ)) → ReadsOn s s left left (Ok tt)
+reads_none s left = record { heard = []; unheard = []; input = Consumes-nil left; hears = hears_none s; whole = inl refl }
+
+pub reads_kept : (s : Stand) (left left_now : Option (List ℕ)) (e : Break) → Keeps left left_now → ReadsOn s s left left_now (Err e)
+reads_kept s left left_now e k = record { heard = []; unheard = []; input = Consumes-kept left left left_now [] (Consumes-nil left) k; hears = hears_none s; whole = tt }
+
+pub reads_empty : (s : Stand) (left left_now : Option (List ℕ)) (e : Break) → Consumes left left_now [] → ReadsOn s s left left_now (Err e)
+reads_empty s left left_now e c = record { heard = []; unheard = []; input = c; hears = hears_none s; whole = tt }
+
+pub awaits_open : (k : Knows) → awaits k ≡ true → k.over ≡ true → ⊥
+awaits_open k e o = let f : awaits k ≡ false = rw o refl in true≢false (sym e ∙ f)
+
+pub none_unheard : (unheard : List ℕ) (s : Stand) → IsWhole unheard s → (s.rest.knows.over ≡ true → ⊥) → unheard ≡ []
+none_unheard unheard s w still_open = ⊎_elim (λ e. e) (λ o. absurd (still_open o)) w
+
+pub reads_on : {a b c : Stand} {l m n : Option (List ℕ)} {result : Result (Unit {0}) Break} → ReadsOn a b l m (Ok tt) → (b.rest.knows.over ≡ true → ⊥) → ReadsOn b c m n result → ReadsOn a c l n result
+reads_on {a = a} {b = b} {c = c} {l = l} {m = m} {n = n} f still_open g =
+    let all : f.heard ++ f.unheard ≡ f.heard = ap (λ z. f.heard ++ z) (none_unheard f.unheard b f.whole still_open) ∙ append-nil f.heard in
+    record {
+      heard = f.heard ++ g.heard;
+      unheard = g.unheard;
+      input = subst (Consumes l n) (ap (λ z. z ++ (g.heard ++ g.unheard)) all ∙ sym (append_assoc f.heard g.heard g.unheard)) (Consumes-trans l m n (f.heard ++ f.unheard) (g.heard ++ g.unheard) f.input g.input);
+      hears = hears_on f.hears g.hears;
+      whole = g.whole;
+    }
+
+pub broken_off : {a b : Stand} {l m : Option (List ℕ)} → ReadsOn a b l m (Ok tt) → (e : Break) → ReadsOn a b l m (Err e)
+broken_off f e = record { heard = f.heard; unheard = f.unheard; input = f.input; hears = f.hears; whole = tt }
+
+-- bytes that are fewer than were asked for are all that there is
+pub all_taken : (n : ℕ) (xs bytes : List ℕ) → bytes ≡ take n xs → length bytes < n → (bytes ≡ xs) × (drop n xs ≡ [])
+all_taken n xs bytes e l = let t = take_short n xs (subst (λ (z : List ℕ). length z < n) e l) in (e ∙ t.0, t.1)
+
+-- what was answered, by a test of it
+pub on_err : {T E : Type 0} (x : Result T E) (P : Type 0) → is_err x ≡ true → OnErr x P → P
+on_err (Ok t) P e h = absurd (true≢false (sym e))
+on_err (Err f) P e h = h
+
+-- what was written whole stays so, whatever comes of the reading
+pub written_then : (out : List ℕ) (n : ℕ) (r : Result (Unit {0}) Break) (a b : Option (List ℕ)) → (IsErrOf r break.WriteFailed → ⊥) → Appends a b out × (drop n out ≡ []) → Writes out n r a b
+written_then out n (Ok u) a b sound h = h
+written_then out n (Err break.ReadFailed) a b sound h = h
+written_then out n (Err break.WriteFailed) a b sound h = absurd (sound refl)
+written_then out n (Err break.Memory) a b sound h = (out, [], append-nil out, h.0)
+written_then out n (Err break.BadAnswer) a b sound h = h
+written_then out n (Err break.AtEnd) a b sound h = h
+written_then out n (Err break.Ended) a b sound h = h
+written_then out n (Err break.TooManyRows) a b sound h = h
+
+-- it is a beginning of the output
+pub writes_front : (out : List ℕ) (n : ℕ) (r : Result (Unit {0}) Break) (a b : Option (List ℕ)) → Writes out n r a b → AppendsFront a b out
+writes_front out n (Ok u) a b h = (out, [], append-nil out, h.0)
+writes_front out n (Err break.ReadFailed) a b h = (out, [], append-nil out, h.0)
+writes_front out n (Err break.WriteFailed) a b h = h
+writes_front out n (Err break.Memory) a b h = h
+writes_front out n (Err break.BadAnswer) a b h = (out, [], append-nil out, h.0)
+writes_front out n (Err break.AtEnd) a b h = (out, [], append-nil out, h.0)
+writes_front out n (Err break.Ended) a b h = (out, [], append-nil out, h.0)
+writes_front out n (Err break.TooManyRows) a b h = (out, [], append-nil out, h.0)
+
+-- an exchange leads on by calls
+pub record Led (from to : Place) (r : Result (Unit {0}) Break) : Type 0 where
+  pub calls : List TrackedCall
+  pub heard : List ℕ
+  pub unheard : List ℕ
+  pub lost : Bool
+  pub leads : Leads from.stand calls to.stand [] heard lost
+  pub input : Consumes from.left to.left (heard ++ unheard)
+  pub whole : Unbroken r (IsWhole unheard to.stand)
+
+pub exchange_led : (from to : Place) (r : Result (Unit {0}) Break) → Exchanges from to r → Led from to r
+exchange_led from to (Ok u) x = record {
+  calls = Sends x.converses.out ∷ map HearsPiece x.converses.reads.hears.pieces;
+  heard = x.converses.reads.heard;
+  unheard = x.converses.reads.unheard;
+  lost = false;
+  leads = subst (λ (s : Stand). Leads from.stand (Sends x.converses.out ∷ map HearsPiece x.converses.reads.hears.pieces) s [] x.converses.reads.heard false) (sym x.settles) (leads_on (Sends x.converses.out ∷ []) (map HearsPiece x.converses.reads.hears.pieces) (leads_sends from.stand x.converses.out) x.converses.reads.hears.leads);
+  input = x.converses.reads.input;
+  whole = subst (λ (s : Stand). IsWhole x.converses.reads.unheard s) (sym x.settles) x.converses.reads.whole;
+}
+exchange_led from to (Err e) x = record {
+  calls = Sends x.converses.out ∷ (map HearsPiece x.converses.reads.hears.pieces ++ IsLost ∷ []);
+  heard = x.converses.reads.heard;
+  unheard = x.converses.reads.unheard;
+  lost = true;
+  leads = subst (λ (s : Stand). Leads from.stand (Sends x.converses.out ∷ (map HearsPiece x.converses.reads.hears.pieces ++ IsLost ∷ [])) s [] x.converses.reads.heard true) (sym x.settles)
+      (subst (λ bs. Leads from.stand (Sends x.converses.out ∷ (map HearsPiece x.converses.reads.hears.pieces ++ IsLost ∷ [])) (lost_stand x.answered) [] bs true) (append-nil x.converses.reads.heard)
+      (leads_on (Sends x.converses.out ∷ []) (map HearsPiece x.converses.reads.hears.pieces ++ IsLost ∷ []) (leads_sends from.stand x.converses.out) (leads_on (map HearsPiece x.converses.reads.hears.pieces) (IsLost ∷ []) x.converses.reads.hears.leads (leads_lost x.answered))));
+  input = x.converses.reads.input;
+  whole = tt;
+}
+
+pub ends_not : (e : Break) (s : Stand) (left : Option (List ℕ)) → (e ≡ break.AtEnd → ⊥) → Ends (Err e) s left
+ends_not break.ReadFailed s left n = tt
+ends_not break.WriteFailed s left n = tt
+ends_not break.Memory s left n = tt
+ends_not break.BadAnswer s left n = tt
+ends_not break.AtEnd s left n = absurd (n refl)
+ends_not break.Ended s left n = tt
+ends_not break.TooManyRows s left n = tt
+
+-- where the output wasn't written whole, nothing is read
+pub says_unwritten : (from : Place) (s : Stand) (written : Option (List ℕ)) (e : Break) → (e ≡ break.AtEnd → ⊥) → PutsOut from.stand s from.written written (Err e) → Converses from (place s from.left written) (Err e)
+says_unwritten from s written e n h = record {
+  out = h.0;
+  writes = h.1;
+  reads = subst (λ (z : Stand). ReadsOn (taken_stand from.stand h.0) z from.left from.left (Err e)) (sym h.2) (reads_empty (taken_stand from.stand h.0) from.left from.left e (Consumes-nil from.left));
+  ends = ends_not e s from.left n;
+}
+
+pub says_written : (from : Place) (mid to : Stand) (left written : Option (List ℕ)) (r : Result (Unit {0}) Break) → PutsOut from.stand mid from.written written (Ok tt) → (IsErrOf r break.WriteFailed → ⊥) → ReadsOn mid to from.left left r → Ends r to left → Converses from (place to left written) r
+says_written from mid to left written r h n x e = record {
+  out = h.0;
+  writes = written_then from.stand.rest.unsent h.0 r from.written written n h.1;
+  reads = subst (λ (z : Stand). ReadsOn z to from.left left r) h.2 x;
+  ends = e;
+}

@@ -1,0 +1,58 @@
+-- An attempt of a transaction under a token, over streams.
+use Rattle.std.specs.Prelude.{◌≡◌, ℕ, Bool, true, Option, Some, None, List, ◌∷◌, ◌++◌, map, slice_get, string_bytes}
+use Rattle.std.specs.Io.KnownBytes.{Consumes}
+use Rattle.wire.specs.declared.Wish.{Wish}
+use Rattle.wire.specs.Offers.{offer_of}
+use Rattle.messages.specs.declared.Mode.{Mode}
+use Rattle.messages.specs.declared.Count.TheVariants as count
+use Rattle.messages.specs.View.{AuthView, auth_view, RequestView}
+use Rattle.streams.specs.Fronts.{AppendsFront}
+use Rattle.driver.specs.declared.attempts.Tells.{Tells}
+use Rattle.driver.specs.Attempts.{Made, tells_in}
+use Rattle.connects.specs.declared.attempting.Asked.{Asked}
+use Rattle.connects.specs.Requests.{QueryView, query_view, within, greeting}
+
+-- what each attempt asks: of whom, and which transaction, under which token
+pub record AskedView : Type 0 where
+  pub wish : Wish
+  pub agent : List ℕ
+  pub auth : AuthView
+  pub mode : Mode
+  pub token : List ℕ
+  pub queries : List QueryView
+
+abbrev pub asked_view : Asked → AskedView
+asked_view a = record {
+  wish = a.wish;
+  agent = string_bytes a.agent;
+  auth = auth_view a.auth;
+  mode = a.mode;
+  token = string_bytes a.token;
+  queries = map query_view a.queries.items;
+}
+
+-- All its requests: the greeting, BEGIN under the token, the queries, whose rows are dropped, and COMMIT.
+abbrev pub requests_of : Bool → AskedView → List RequestView
+requests_of login a =
+    greeting login a.agent a.auth
+    ++ RequestView.Begin a.mode (Some a.token) ∷ within a.mode (RequestView.Discard count.All) a.queries
+
+-- All of them were sent, and by these bytes of the source the attempt tells what it tells. Its client is lost.
+pub record IsAttempt (a : AskedView) (left left_now : Option (List ℕ)) (m : Made) : Type 0 where
+  pub login : Bool
+  pub unheard : List ℕ
+  pub wish : m.attempt.wish ≡ a.wish
+  pub sent : m.attempt.sent ≡ requests_of login a
+  pub commit : slice_get m.attempt.sent m.commit ≡ Some RequestView.Commit
+  pub took : Consumes left left_now (m.attempt.took ++ unheard)
+  pub lost : m.attempt.lost ≡ true
+
+-- An attempt was made; or none was, since nothing but the offer went out.
+abbrev pub Attempts : AskedView → Option (List ℕ) → Option (List ℕ) → Option (List ℕ) → Option (List ℕ) → Option Made → Type 0
+Attempts a left left_now written written_now None = AppendsFront written written_now (offer_of a.wish)
+Attempts a left left_now written written_now (Some m) = IsAttempt a left left_now m
+
+-- This is what it tells, at whatever connection it was.
+abbrev pub TellsOf : AskedView → Option (List ℕ) → Option (List ℕ) → Option (List ℕ) → Option (List ℕ) → Tells → Type 0
+TellsOf a left left_now written written_now told =
+    (conn : ℕ) → (m : Option Made) × (tells_in m ≡ told) × Attempts a left left_now written written_now m

@@ -1,0 +1,9 @@
+pub mod Stands
+pub mod Exchanges
+pub mod Pipelines
+pub mod Requests
+pub mod Opening
+pub mod Metadata
+pub mod Values
+pub mod Attempting
+pub mod Prelude

@@ -1,0 +1,74 @@
+//! One attempt of a transaction under a token.
+ghost use Rattle.std.specs.Prelude.{◌≡◌, ◌∷◌, ◌++◌, ◌<◌, ◌^◌, IfOk, Some, map, string_bytes, length};
+ghost use Rattle.messages.specs.View.{request_view};
+ghost use Rattle.connects.specs.Stands.{stand_of, place};
+ghost use Rattle.connects.specs.Attempting.{asked_view, requests_of, TellsOf};
+
+use crate::exchanging::exchange;
+use crate::pipelines::ask_all;
+use crate::queries::{Query, add_queries, greeting, is_login_in_hello};
+use driver::{Rows, Tells, TrackingClient};
+use messages::{Auth, Count, Mode, Request};
+use std::alloc::{AllocError, Global};
+use streams::{Sink, Source};
+use wire::Wish;
+
+/// What each attempt asks: over which versions and with which login, and which queries in one transaction, under which token.
+#[derive(Drop)]
+pub struct Asked {
+    pub wish: Wish,
+    pub agent: String,
+    pub auth: Auth,
+    pub mode: Mode,
+    pub token: String,
+    pub queries: Vec<Query>,
+}
+
+/// Its requests: HELLO, and those behind it.
+fn requests_of(
+    alloc: Global,
+    asked: &Asked,
+    has_login: bool,
+) -> Result<(Request, Vec<Request>), AllocError>
+    ensures { IfOk result (λ g. request_view g.0 ∷ map request_view g.1.items
+        ≡ requests_of has_login (asked_view asked.now)) }
+{
+    let agent = asked.agent.clone()?;
+    let auth = asked.auth.clone()?;
+    let token = Some(asked.token.clone()?);
+    let (hello, mut others) = greeting(alloc, has_login, agent, auth)?;
+    let mode = asked.mode;
+    others.push(Request::Begin { mode, token })?;
+    add_queries(&mut others, mode, &asked.queries, Rows::Discard(Count::All))?;
+    Ok((hello, others))
+}
+
+/// Makes an attempt over streams of which nothing was read or written yet, and answers what it tells: the version is heard, and then the greeting,
+/// BEGIN under the token, the queries, whose rows are dropped, and COMMIT are sent as one pipeline, all of them or none.
+pub fn attempt_over<I: Source, O: Sink>(
+    alloc: Global,
+    asked: &Asked,
+    source: &mut I,
+    sink: &mut O,
+) -> Tells
+    ensures { TellsOf (asked_view asked.now) (I.left source.old) (I.left source.new)
+        (O.taken sink.old) (O.taken sink.new) result }
+{
+    let Ok(mut tracking) = TrackingClient::new(alloc, asked.wish, 0) else {
+        return Tells::Nothing;
+    };
+    if exchange(&mut tracking, source, sink).is_err() {
+        return Tells::Nothing;
+    }
+    let has_login = is_login_in_hello(tracking.version());
+    let Ok((hello, others)) = requests_of(alloc, asked, has_login) else {
+        return Tells::Nothing;
+    };
+    let commit = others.len() as u64;
+    if ask_all(&mut tracking, hello, others).is_err() {
+        return Tells::Nothing;
+    }
+    let _broken = exchange(&mut tracking, source, sink);
+    tracking.lost();
+    tracking.tells(commit, commit + 1)
+}

@@ -1,0 +1,162 @@
+//! All that waits is written, and all that is answered is read.
+ghost use Rattle.std.specs.Prelude.{◌≡◌, ◌<◌, ◌≤◌, true, IsErrOf, IfErr, OnOk, length};
+ghost use Rattle.std.specs.Io.KnownBytes.{IsAtEnd};
+ghost use Rattle.streams.specs.Failing.{StaysSound, UnlessTold};
+ghost use Rattle.connects.specs.Stands.{stand_of, place};
+ghost use Rattle.connects.specs.Exchanges.{Feeds, ReadsOn, PutsOut, Ends, Converses, Exchanges};
+
+use crate::breaks::Break;
+use driver::{FeedFault, TrackingClient};
+use streams::{MAX_PIECE, Sink, Source, write_all};
+
+/// Why a piece that isn't used breaks the exchange off.
+fn break_of(fault: FeedFault) -> Break
+    ensures { (result ≡ Break.ReadFailed → ⊥) × ((result ≡ Break.WriteFailed → ⊥) × (result ≡ Break.AtEnd → ⊥)) }
+{
+    match fault {
+        FeedFault::Closed => Break::Ended,
+        FeedFault::Memory => Break::Memory,
+        FeedFault::BadPeer => Break::BadAnswer,
+        FeedFault::Full => Break::TooManyRows,
+    }
+}
+
+/// Feeds a piece whole, or up to the client's end.
+fn feed_piece(tracking: &mut TrackingClient, piece: &[u8]) -> Result<(), Break>
+    ensures feeds { Feeds (stand_of tracking.old) (stand_of tracking.new) piece.now result }
+    ensures read { IsErrOf result Break.ReadFailed → ⊥ }
+    ensures written { IsErrOf result Break.WriteFailed → ⊥ }
+    ensures end { IsErrOf result Break.AtEnd → ⊥ }
+{
+    let mut rest = piece;
+    while !rest.is_empty() {
+        if tracking.has_ended() {
+            return Ok(());
+        }
+        match tracking.feed(rest) {
+            Ok(used) => {
+                let (_, after) = rest.split_at(used);
+                rest = after;
+            }
+            Err(fault) => return Err(break_of(fault)),
+        }
+    }
+    Ok(())
+}
+
+/// Reads a piece of at most 4,096 bytes and feeds it.
+fn read_piece<I: Source>(
+    tracking: &mut TrackingClient,
+    source: &mut I,
+    buffer: &mut [u8],
+) -> Result<(), Break>
+    requires { 0 < length buffer.old }
+    ensures reads { ReadsOn (stand_of tracking.old) (stand_of tracking.new) (I.left source.old)
+        (I.left source.new) result }
+    ensures end { IsErrOf result Break.AtEnd → IsAtEnd (I.left source.new) }
+    ensures read { IsErrOf result Break.ReadFailed → I.has_failed source.new ≡ true }
+    ensures sound { UnlessTold result Break.ReadFailed
+        (StaysSound (I.has_failed source.old) (I.has_failed source.new)) }
+    ensures stays { I.has_failed source.old ≡ true → I.has_failed source.new ≡ true }
+    ensures written { IsErrOf result Break.WriteFailed → ⊥ }
+    ensures lowers { OnOk result (I.reads source.new < I.reads source.old) }
+{
+    let Ok(len) = source.read(buffer) else {
+        return Err(Break::ReadFailed);
+    };
+    if len == 0 {
+        return Err(Break::AtEnd);
+    }
+    feed_piece(tracking, &buffer[..len])
+}
+
+/// Reads and feeds until all is answered.
+fn read_on<I: Source>(tracking: &mut TrackingClient, source: &mut I) -> Result<(), Break>
+    ensures reads { ReadsOn (stand_of tracking.old) (stand_of tracking.new) (I.left source.old)
+        (I.left source.new) result }
+    ensures ends { Ends result (stand_of tracking.new) (I.left source.new) }
+    ensures read { IsErrOf result Break.ReadFailed → I.has_failed source.new ≡ true }
+    ensures sound { UnlessTold result Break.ReadFailed
+        (StaysSound (I.has_failed source.old) (I.has_failed source.new)) }
+    ensures stays { I.has_failed source.old ≡ true → I.has_failed source.new ≡ true }
+    ensures written { IsErrOf result Break.WriteFailed → ⊥ }
+{
+    let mut buffer = [0; MAX_PIECE];
+    while tracking.wants_read() {
+        read_piece(tracking, source, &mut buffer)?;
+    }
+    if tracking.pending() > 0 {
+        return Err(Break::Ended);
+    }
+    Ok(())
+}
+
+/// Writes all that the client puts out.
+fn write_out<O: Sink>(tracking: &mut TrackingClient, sink: &mut O) -> Result<(), Break>
+    ensures out { PutsOut (stand_of tracking.old) (stand_of tracking.new) (O.taken sink.old)
+        (O.taken sink.new) result }
+    ensures written { IsErrOf result Break.WriteFailed → O.has_failed sink.new ≡ true }
+    ensures sound { UnlessTold result Break.WriteFailed
+        (StaysSound (O.has_failed sink.old) (O.has_failed sink.new)) }
+    ensures stays { O.has_failed sink.old ≡ true → O.has_failed sink.new ≡ true }
+    ensures read { IsErrOf result Break.ReadFailed → ⊥ }
+    ensures end { IsErrOf result Break.AtEnd → ⊥ }
+{
+    let Ok(bytes) = tracking.take_out(usize::MAX) else {
+        return Err(Break::Memory);
+    };
+    if write_all(sink, bytes.as_slice()).is_err() {
+        return Err(Break::WriteFailed);
+    }
+    Ok(())
+}
+
+/// The same, and the client isn't lost where it breaks off.
+fn converse<I: Source, O: Sink>(
+    tracking: &mut TrackingClient,
+    source: &mut I,
+    sink: &mut O,
+) -> Result<(), Break>
+    ensures converses { Converses
+        (place (stand_of tracking.old) (I.left source.old) (O.taken sink.old))
+        (place (stand_of tracking.new) (I.left source.new) (O.taken sink.new)) result }
+    ensures read { IsErrOf result Break.ReadFailed → I.has_failed source.new ≡ true }
+    ensures written { IsErrOf result Break.WriteFailed → O.has_failed sink.new ≡ true }
+    ensures source { UnlessTold result Break.ReadFailed
+        (StaysSound (I.has_failed source.old) (I.has_failed source.new)) }
+    ensures sink { UnlessTold result Break.WriteFailed
+        (StaysSound (O.has_failed sink.old) (O.has_failed sink.new)) }
+{
+    write_out(tracking, sink)?;
+    read_on(tracking, source)
+}
+
+/// Writes all that waits, then reads pieces of at most 4,096 bytes and feeds each, until no answer is to come and no request waits. The account has
+/// what came of them.
+///
+/// Else why not, and the client is lost: then each request that waited has its outcome in the account. I1 where the source fails, I2 where the sink
+/// does, I3 for want of memory; a bad answer, rows past the limit, the source's end, or the client's, before all was answered.
+pub fn exchange<I: Source, O: Sink>(
+    tracking: &mut TrackingClient,
+    source: &mut I,
+    sink: &mut O,
+) -> Result<(), Break>
+    ensures exchanges { Exchanges
+        (place (stand_of tracking.old) (I.left source.old) (O.taken sink.old))
+        (place (stand_of tracking.new) (I.left source.new) (O.taken sink.new)) result }
+    // A stream that fails is told, and none is told that doesn't.
+    ensures read { IsErrOf result Break.ReadFailed → I.has_failed source.new ≡ true }
+    ensures written { IsErrOf result Break.WriteFailed → O.has_failed sink.new ≡ true }
+    ensures source { UnlessTold result Break.ReadFailed
+        (StaysSound (I.has_failed source.old) (I.has_failed source.new)) }
+    ensures sink { UnlessTold result Break.WriteFailed
+        (StaysSound (O.has_failed sink.old) (O.has_failed sink.new)) }
+{
+    match converse(tracking, source, sink) {
+        Ok(()) => Ok(()),
+        Err(fault) => {
+            tracking.lost();
+            Err(fault)
+        }
+    }
+}
