@@ -4,3 +4,4 @@ pub mod Asking
 pub mod Trying
 pub mod Adding
 pub mod Columns
+pub mod Retried

@@ -112,13 +112,16 @@ module _ (a : AskedView) (login : Bool) (from heard done : Place) (start : from.
     Some (made conn run),
     tells_it conn,
     record {
-      login = login;
+      sent = record {
+        login = login;
+        wish = refl;
+        sent = sent ∙ all;
+        commit = ap (λ z. slice_get z n) sent ∙ commits;
+        lost = goes.lose ∙ or_lost one.lost two.lost;
+        at = refl;
+      };
       unheard = two.unheard;
-      wish = refl;
-      sent = sent ∙ all;
-      commit = ap (λ z. slice_get z n) sent ∙ commits;
       took = subst (λ l. Consumes from.left done.left (l ++ two.unheard)) (sym took) input;
-      lost = goes.lose ∙ or_lost one.lost two.lost;
     },
   )
 

@@ -37,22 +37,27 @@ requests_of login a =
     greeting login a.agent a.auth
     ++ RequestView.Begin a.mode (Some a.token) ∷ within a.mode (RequestView.Discard count.All) a.queries
 
--- All of them were sent, and by these bytes of the source the attempt tells what it tells. Its client is lost.
-pub record IsAttempt (a : AskedView) (left left_now : Option (List ℕ)) (m : Made) : Type 0 where
+-- All of them were sent, on a connection of this number, and its client is lost.
+pub record IsSent (a : AskedView) (conn : ℕ) (m : Made) : Type 0 where
   pub login : Bool
-  pub unheard : List ℕ
   pub wish : m.attempt.wish ≡ a.wish
   pub sent : m.attempt.sent ≡ requests_of login a
   pub commit : slice_get m.attempt.sent m.commit ≡ Some RequestView.Commit
-  pub took : Consumes left left_now (m.attempt.took ++ unheard)
   pub lost : m.attempt.lost ≡ true
+  pub at : m.conn ≡ conn
+
+-- And by these bytes of the source the attempt tells what it tells.
+pub record IsAttempt (a : AskedView) (conn : ℕ) (left left_now : Option (List ℕ)) (m : Made) : Type 0 where
+  pub sent : IsSent a conn m
+  pub unheard : List ℕ
+  pub took : Consumes left left_now (m.attempt.took ++ unheard)
 
 -- An attempt was made; or none was, since nothing but the offer went out.
-abbrev pub Attempts : AskedView → Option (List ℕ) → Option (List ℕ) → Option (List ℕ) → Option (List ℕ) → Option Made → Type 0
-Attempts a left left_now written written_now None = AppendsFront written written_now (offer_of a.wish)
-Attempts a left left_now written written_now (Some m) = IsAttempt a left left_now m
+abbrev pub Attempts : AskedView → ℕ → Option (List ℕ) → Option (List ℕ) → Option (List ℕ) → Option (List ℕ) → Option Made → Type 0
+Attempts a conn left left_now written written_now None = AppendsFront written written_now (offer_of a.wish)
+Attempts a conn left left_now written written_now (Some m) = IsAttempt a conn left left_now m
 
--- This is what it tells, at whatever connection it was.
+-- This is what it tells, whatever number its connection has.
 abbrev pub TellsOf : AskedView → Option (List ℕ) → Option (List ℕ) → Option (List ℕ) → Option (List ℕ) → Tells → Type 0
 TellsOf a left left_now written written_now told =
-    (conn : ℕ) → (m : Option Made) × (tells_in m ≡ told) × Attempts a left left_now written written_now m
+    (conn : ℕ) → (m : Option Made) × (tells_in m ≡ told) × Attempts a conn left left_now written written_now m

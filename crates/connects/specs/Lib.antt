@@ -7,3 +7,4 @@ pub mod Metadata
 pub mod Values
 pub mod Attempting
 pub mod Prelude
+pub mod Retrying

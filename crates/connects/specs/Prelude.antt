@@ -5,4 +5,5 @@ pub use Rattle.connects.specs.Pipelines.{asked_stand, asked_all, AcceptsEach, St
 pub use Rattle.connects.specs.Requests.{QueryView, query_view, query_run, asks_of, within, greeting}
 pub use Rattle.connects.specs.Metadata.{metadata_in, named}
 pub use Rattle.connects.specs.Opening.{Greets, Opens}
-pub use Rattle.connects.specs.Attempting.{AskedView, asked_view, requests_of, IsAttempt, Attempts, TellsOf}
+pub use Rattle.connects.specs.Attempting.{AskedView, asked_view, requests_of, IsSent, IsAttempt, Attempts, TellsOf}
+pub use Rattle.connects.specs.Retrying.{IsTry, Tries, AreTries, IsKnown}

@@ -10,6 +10,7 @@ mod exchanging;
 mod faults;
 mod pipelines;
 mod queries;
+mod retrying;
 mod values;
 
 pub use attempting::{Asked, attempt_over};
@@ -18,4 +19,5 @@ pub use connection::{Answer, Connection};
 pub use exchanging::exchange;
 pub use faults::Fault;
 pub use queries::Query;
+pub use retrying::{Connects, until_known};
 pub use values::{as_bool, as_bytes, as_float, as_int, as_list, as_text, column, text_cell};

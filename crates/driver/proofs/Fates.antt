@@ -1,9 +1,28 @@
 -- Attempts so far, and what is known by one more.
-use Rattle.std.proofs.Common.{◌≡◌, sym, ◌∙◌, ap, ℕ, suc, ◌+◌, ◌-◌, ◌<◌, ◌≤◌, Bool, false, Option, Some, List, [], ◌∷◌, ◌++◌, map, append_assoc, append-nil, arith}
+use Rattle.std.proofs.Common.{◌≡◌, sym, ◌∙◌, ap, ℕ, suc, ◌+◌, ◌-◌, ◌<◌, ◌≤◌, Bool, true, false, refl, Option, Some, List, [], ◌∷◌, ◌++◌, map, append_assoc, append-nil, arith}
 use Rattle.driver.specs.declared.attempts.Tells.{Tells}
+use Rattle.driver.specs.declared.attempts.Tells.TheVariants as tells
 use Rattle.driver.specs.declared.attempts.Fate.{Fate}
+use Rattle.driver.specs.declared.attempts.Fate.TheVariants as fate
 use Rattle.driver.specs.Fates.{fate_of}
 use Rattle.driver.specs.Attempts.{Made, tells_in, Tries, Knows}
+
+-- what is known by what the next tells, whatever was doubtful
+pub stands : (d : Bool) (n : ℕ) → fate_of d (suc n) (tells.Stands ∷ []) ≡ Some fate.Stands
+stands true n = refl
+stands false n = refl
+
+pub clashes : (d : Bool) (n : ℕ) → fate_of d (suc n) (tells.Clash ∷ []) ≡ Some fate.Clash
+clashes true n = refl
+clashes false n = refl
+
+pub nothing : (d : Bool) (n : ℕ) (later : List Tells) → fate_of d (suc n) (tells.Nothing ∷ later) ≡ fate_of d n later
+nothing true n later = refl
+nothing false n later = refl
+
+pub doubts : (d : Bool) (n : ℕ) (later : List Tells) → fate_of d (suc n) (tells.Doubt ∷ later) ≡ fate_of true n later
+doubts true n later = refl
+doubts false n later = refl
 
 -- so many attempts were made, and what is known by all depends on those that come
 pub record SoFar (tries made : ℕ) (doubtful : Bool) (before now : List (Option Made)) : Type 0 where

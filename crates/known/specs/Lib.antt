@@ -1,3 +1,4 @@
 pub mod Attempts
 pub mod Tied
 pub mod OneCaller
+pub mod Sending

@@ -3,6 +3,7 @@
 
 ghost use Rattle.known.specs.Attempts.{CommittedStands, RefusedCommitClashes, RefusedAddsNone, StaysKnown};
 ghost use Rattle.known.specs.OneCaller.{OneCallerMayRely};
+ghost use Rattle.known.specs.Sending.{SentUntilKnown};
 ghost use Rattle.known.specs.Tied.{TellsOutcomes, AttemptStands, AttemptClashes, AttemptAddsNone, LostStays};
 
 /// A COMMIT that its client reports Committed, on a connection on which each BEGIN was sent under the token: exactly one entry of the
@@ -57,4 +58,10 @@ pub fn lost_stays()
 /// attempt's; Refused and Absent that none of the attempts added one.
 pub fn one_caller_may_rely()
     ensures { OneCallerMayRely }
+{}
+
+/// The same of a call of `until_known` of `connects`: in every reached world in which the attempts that it made are connections of ours, what
+/// it answers means that of the ledger.
+pub fn sent_until_known()
+    ensures { SentUntilKnown }
 {}

@@ -3,26 +3,9 @@ use Rattle.driver.specs.declared.attempts.Tells.{Tells}
 use Rattle.driver.specs.declared.attempts.Tells.TheVariants as tells
 use Rattle.driver.specs.declared.attempts.Fate.TheVariants as fate
 use Rattle.driver.specs.Fates.{fate_of}
-use Rattle.driver.proofs.Fates.{one_more, known_by, used_up}
+use Rattle.driver.proofs.Fates.{stands, clashes, nothing, doubts, one_more, known_by, used_up}
 use Rattle.driver.proofs.attempts.until_known.Goals as goal
 use Rattle.driver.proofs.attempts.until_known.Goals.{in-Refused+else-not-doubtful, in-Nothing, in-Doubt}
-
--- the answers by what is told, whatever was doubtful
-stands : (d : Bool) (n : ℕ) → fate_of d (suc n) (tells.Stands ∷ []) ≡ Some fate.Stands
-stands true n = refl
-stands false n = refl
-
-clashes : (d : Bool) (n : ℕ) → fate_of d (suc n) (tells.Clash ∷ []) ≡ Some fate.Clash
-clashes true n = refl
-clashes false n = refl
-
-nothing : (d : Bool) (n : ℕ) (later : List Tells) → fate_of d (suc n) (tells.Nothing ∷ later) ≡ fate_of d n later
-nothing true n later = refl
-nothing false n later = refl
-
-doubts : (d : Bool) (n : ℕ) (later : List Tells) → fate_of d (suc n) (tells.Doubt ∷ later) ≡ fate_of true n later
-doubts true n later = refl
-doubts false n later = refl
 
 pub returns-in-Stands : goal.returns-in-Stands
 returns-in-Stands g c = known_by c.args.tries c.loop.counter c.loop.doubtful _ _ _ tells.Stands fate.Stands c.loop.invariant c.loop-test.true (search rules) (stands c.loop.doubtful)
