@@ -1,14 +1,17 @@
 -- What a conversation has come to after some bytes of the client: by its items, by what arrives, and by the pieces that are taken.
-use Rattle.std.proofs.Common.{◌≡◌, refl, sym, ap, subst, ◌∙◌, ℕ, Bool, true, false, List, [], ◌∷◌, ◌++◌, append-nil, append_assoc, Option, Some, None, option_to_list, arith, take, drop, take-append-drop, Ok, Err, Result, ◌&&◌, ◌⊎◌, inl, inr, if◌then◌else◌, IsSome, is_some, ◌||◌, bytes_eq, length, unwrap_or}
+use Rattle.std.proofs.Common.{◌≡◌, refl, sym, ap, subst, ◌∙◌, ℕ, Bool, true, false, List, [], ◌∷◌, ◌++◌, append-nil, append_assoc, Option, Some, None, option_to_list, arith, take, drop, take-append-drop, Ok, Err, Result, ◌&&◌, ◌⊎◌, inl, inr, if◌then◌else◌, IsSome, is_some, ◌||◌, bytes_eq, length, unwrap_or, ◌<◌}
 use Rattle.wire.specs.Prelude.{Item, Opened, at_server, items_received, Opening, Noop, Message, TooBig, Took, state, outputs, takes, magic, choice_of as version_taken}
 use Rattle.messages.specs.Prelude.{Arrival, Asked, Unread, TooLong, Shook, NoMagic, then_request, requests_in, after_shake, arrivals, arrivals_of, RequestView, request_of}
 use Rattle.machine.specs.Prelude.{kind_of, is_reset, interruptible}
 use Rattle.engine.specs.Prelude.{EntryView}
 use Rattle.session.specs.declared.kinds.Cause.{Cause}
 use Rattle.session.specs.Prelude.{Setting, Kept, after_item, after_interrupt, version_of, begun, shut, unread_among, arrival_by, what_of}
-use Rattle.server.specs.Prelude.{arrives, arrival as arrival_of, Rest}
-use Rattle.serves.specs.Prelude.{Talk, silent, after_bytes, heard_out, steps, steps_due, talk_of_due, unless_ended, talk_then, with_talk, talk_of_arrivals, conversation, IsPartOfDue, due_of, ComesTo, nothing_yet, part_of_first, after_first, as_it_is, ConversationComesTo, IsPlaced, due, as_item, item_talk, standing_of, rest_after, Holds, HoldsPart, settled, IsPartSettled, SettlesWhole, BreaksAt, told_by, told_to, HoldsAfter, BreaksHolding, TakesOne, TakesFront, TakesItems}
-use Rattle.serves.proofs.Stepping.{Grown, Rested, RestsAs, after_twice, steps_grow, steps_none, steps_rest, behind, heard_same, item_behind, silent_same}
+use Rattle.server.specs.declared.kinds.Took.{Took as AnyTook}
+use Rattle.server.specs.Prelude.{arrives, arrival as arrival_of, Rest, feed_at, find, takes_item}
+use Rattle.serves.proofs.Called.{fed_item, fed_none}
+use Rattle.streams.specs.declared.fault.StreamFault.{StreamFault}
+use Rattle.serves.specs.Prelude.{Talk, silent, after_bytes, heard_out, steps, steps_due, talk_of_due, unless_ended, talk_then, with_talk, talk_of_arrivals, conversation, IsPartOfDue, due_of, ComesTo, nothing_yet, part_of_first, after_first, as_it_is, ConversationComesTo, IsPlaced, due, as_item, item_talk, standing_of, rest_after, Holds, HoldsPart, settled, IsPartSettled, SettlesWhole, BreaksAt, IsFront, told_by, told_to, HoldsAfter, BreaksHolding, TakesOne, TakesFront, TakesItems, Feeds}
+use Rattle.serves.proofs.Stepping.{Grown, Rested, RestsAs, after_twice, steps_grow, steps_none, steps_rest, behind, heard_same, item_behind, silent_same, front_later, front_same, front_then}
 use Rattle.wire.proofs.Readers.{outputs-append, state-append, takes_outputs}
 use Rattle.serves.specs.declared.standing.Standing.{Standing}
 use Rattle.serves.specs.declared.standing.Standing.TheVariants.{Open, Over}
@@ -172,7 +175,7 @@ module _ {G : Type 0} (r : Rest G) (conn : ℕ) (S : Setting) where
   told_rests up = item_talk_rests S conn (items_received up) r.ledger begun (record { sent = refl; done = λ e. refl })
 
   -- a session that goes on isn't shut
-  pub open_not_shut : (up : List ℕ) → (told up).kept.ended ≡ None → shut (told up).kept ≡ false
+  open_not_shut : (up : List ℕ) → (told up).kept.ended ≡ None → shut (told up).kept ≡ false
   open_not_shut up e = ap (λ (o : Option Cause). is_some o || unread_among (told up).kept.waiting) e ∙ ap unread_among ((told_rests up).done e)
 
   told_append : (up more : List ℕ) → told (up ++ more) ≡ talk_then (told up) (item_talk S conn (outputs at_server (kept_at up) more))
@@ -191,29 +194,16 @@ module _ {G : Type 0} (r : Rest G) (conn : ℕ) (S : Setting) where
   pub breaks_more : {IsSo : Talk → Type 0} (up more : List ℕ) → BreaksAt (told up) (told_to r conn S up) IsSo → BreaksAt (told (up ++ more)) (told_to r conn S (up ++ more)) IsSo
   breaks_more up more b =
       let items = outputs at_server (kept_at up) more in
-      let later = item_talk S conn items (told up).ledger (told up).kept in
-      let g = item_talk_grows S conn items (told up).ledger (told up).kept in
       record {
         so_far = b.so_far;
         comes = subst (λ (xs : List Item). ComesTo as_item S conn xs r.ledger begun b.so_far) (sym (outputs-append Opened Item at_server at_server.start up more)) (comes_longer items b.comes);
         is_so = b.is_so;
-        more = b.more ++ g.0;
-        rest = b.rest ++ later.out;
-        grown = sym (append_assoc b.so_far.ledger b.more g.0) ∙ ap (λ z. z ++ g.0) b.grown ∙ g.1 ∙ ap (λ (x : Talk). x.ledger) (sym (told_append up more));
-        due = sym (append_assoc b.so_far.out b.rest later.out) ∙ ap (λ z. z ++ later.out) b.due ∙ ap (λ (x : Talk). x.out) (sym (told_append up more));
+        front = front_later b.front (subst (IsFront (told up)) (sym (told_append up more)) (front_then (told up) (item_talk S conn items) (item_talk_grows S conn items (told up).ledger (told up).kept)));
       }
 
   -- where all of it was done
   abbrev pub breaks_whole : {IsSo : Talk → Type 0} (up : List ℕ) → IsSo (told up) → BreaksAt (told up) (told_to r conn S up) IsSo
-  breaks_whole up h = record {
-    so_far = told up;
-    comes = comes_whole S conn (items_received up) r.ledger begun;
-    is_so = h;
-    more = [];
-    rest = [];
-    grown = append-nil (told up).ledger;
-    due = append-nil (told up).out;
-  }
+  breaks_whole up h = record { so_far = told up; comes = comes_whole S conn (items_received up) r.ledger begun; is_so = h; front = front_same (told up) }
 
   module _ (up piece : List ℕ) (goes_on : (told up).kept.ended ≡ None) where
     abbrev t : Took Opened Item
@@ -251,17 +241,21 @@ module _ {G : Type 0} (r : Rest G) (conn : ℕ) (S : Setting) where
     all_next = told_next ∙ after_twice (told up).out next.unsent (steps S conn (due next) (told up).ledger (heard_out next))
 
     -- the session holds what it held, and what it says to the item
-    pub fed_holds : {before taken : Option (List ℕ)} {Now : Rest G → Type 0} {new : Rest G} → (h : HoldsAfter r conn S Now before taken up) → new ≡ with_talk r conn t.rest (told up).ledger (after_item (record (told up).kept { unsent = h.held }) (arrival_of (told up).kept t.item)) → Holds r conn t.rest fed (λ x. new ≡ x) before taken
-    fed_holds h e =
+    pub fed_holds : (i : IsSome (find conn r.sessions)) {before taken : Option (List ℕ)} (old new : Rest G) → (h : HoldsAfter r conn S (λ x. old ≡ x) before taken up) → (took : AnyTook) → 0 < took.used → Feeds (feed_at conn piece) old new (Ok took)
+        → (took ≡ (takes_item (told up).kept t).took) × Holds r conn t.rest fed (λ x. new ≡ x) before taken
+    fed_holds i old new h took some feeds =
         let o = arrival_of (told up).kept t.item in
-        let same : after_item (record (told up).kept { unsent = h.held }) o ≡ behind h.held next = item_behind h.held (told up).kept o ∙ ap (λ (l : Kept). behind h.held (after_item l o)) (heard_same (told up).kept (told_rests up).sent) in
-        record {
-          gone = h.gone;
-          held = h.held ++ next.unsent;
-          parts = sym (append_assoc h.gone h.held next.unsent) ∙ ap (λ (z : List ℕ). z ++ next.unsent) h.parts;
-          took = h.took;
-          now = e ∙ ap (with_talk r conn t.rest (told up).ledger) same;
-        }
+        let e = fed_item r conn i (kept_at up) (told up).ledger (record (told up).kept { unsent = h.held }) piece old new h.now took (open_not_shut up goes_on) some feeds in
+        let same : after_item (record (told up).kept { unsent = h.held }) o ≡ behind h.held next = item_behind h.held (told up).kept o ∙ ap (λ (l : Kept). behind h.held (after_item l o)) (heard_same (told up).kept (told_rests up).sent) in (
+          e.0,
+          record {
+            gone = h.gone;
+            held = h.held ++ next.unsent;
+            parts = sym (append_assoc h.gone h.held next.unsent) ∙ ap (λ (z : List ℕ). z ++ next.unsent) h.parts;
+            took = h.took;
+            now = e.1 ∙ ap (with_talk r conn t.rest (told up).ledger) same;
+          },
+        )
 
     module _ {Now : Rest G → Type 0} {before taken : Option (List ℕ)} where
       pub one_taken : (used : ℕ) (standing : Standing) → used ≡ t.used → SettlesWhole r conn t.rest (settled S conn fed) Now before taken standing → TakesOne r conn S Now before taken up piece (Ok (record { used = used; standing = standing }))
@@ -284,24 +278,16 @@ module _ {G : Type 0} (r : Rest G) (conn : ℕ) (S : Setting) where
             so_far = h.so_far;
             comes = subst (told_to r conn S (up ++ take t.used piece)) (after_twice (told up).out next.unsent (steps S conn h.comes.0 (told up).ledger (heard_out next)) ∙ sym h.comes.1) (comes_next (after_bytes next.unsent (steps S conn h.comes.0 (told up).ledger (heard_out next))) (h.comes.0, refl));
             is_so = h.is_so;
-            more = h.more;
-            rest = h.rest;
-            grown = h.grown ∙ ap (λ (x : Talk). x.ledger) (sym all_next);
-            due = h.due ∙ ap (λ (x : Talk). x.out) (sym all_next);
+            front = subst (IsFront h.so_far) (sym all_next) h.front;
           } in
           subst (λ (z : List ℕ). BreaksHolding r conn S Now before taken z) (append_assoc up (take t.used piece) (drop t.used piece) ∙ ap (λ z. up ++ z) (take-append-drop t.used piece)) (breaks_more (up ++ take t.used piece) (drop t.used piece) b)
 
     -- where nothing was taken
-    pub none_taken : {Now : Rest G → Type 0} {before taken : Option (List ℕ)} {new : Rest G} → (h : HoldsAfter r conn S Now before taken up) → (v : Opened) × (new ≡ with_talk r conn v (told up).ledger (record (told up).kept { unsent = h.held })) → BreaksHolding r conn S (λ x. new ≡ x) before taken (up ++ piece)
-    none_taken h e = breaks_more up piece (breaks_whole up (record {
-      unfinished = e.0;
-      kept = record (told up).kept { unsent = h.held };
-      gone = h.gone;
-      lost = [];
-      parts = ap (λ (z : List ℕ). h.gone ++ z) (append-nil h.held) ∙ h.parts;
-      took = h.took;
-      now = e.1;
-    }))
+    pub none_taken : (i : IsSome (find conn r.sessions)) {before taken : Option (List ℕ)} (old new : Rest G) → HoldsAfter r conn S (λ x. old ≡ x) before taken up → (fault : StreamFault) → Feeds (feed_at conn piece) old new (Err fault) → BreaksHolding r conn S (λ x. new ≡ x) before taken (up ++ piece)
+    none_taken i old new h fault feeds =
+        let k : Kept = record (told up).kept { unsent = h.held } in
+        let e = fed_none r conn i (kept_at up) (told up).ledger k piece old new h.now fault feeds in
+        breaks_more up piece (breaks_whole up (record { unfinished = e.0; kept = k; gone = h.gone; lost = []; parts = ap (λ (z : List ℕ). h.gone ++ z) (append-nil h.held) ∙ h.parts; took = h.took; now = e.1 }))
 
 pub open_goes_on : (o : Option Cause) → Open ≡ standing_of o → o ≡ None
 open_goes_on None e = refl
