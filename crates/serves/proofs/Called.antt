@@ -21,6 +21,11 @@ use Rattle.server.specs.declared.kinds.Took.{Took}
 use Rattle.session.specs.declared.kinds.What.{What}
 use Rattle.session.specs.declared.kinds.Cause.{Cause}
 
+-- by whether there is one
+pub by_option : {A : Type 0} (P : Option A → Type 0) (o : Option A) → ((x : A) → o ≡ Some x → P (Some x)) → (o ≡ None → P None) → P o
+by_option P (Some x) some none = some x refl
+by_option P None some none = none refl
+
 pub replace-replace : (conn : ℕ) (s t : Live) (ss : List Live) → s.conn ≡ conn → replace conn t (replace conn s ss) ≡ replace conn t ss
 replace-replace conn s t [] e = refl
 replace-replace conn s t (x ∷ ss) e = grind (arith, nat_tests, replace-replace conn s t ss e)
@@ -110,13 +115,11 @@ left r s z = with_session (record { conn = s.conn; kept = record s.kept { unsent
 
 -- fewer than were asked for are all
 pub all_out : {G : Type 0} (max conn : ℕ) (r new : Rest G) (x : List ℕ) → length x < max → take_out_at conn max r ≡ Some (x, new) → on_live said_by conn r ≡ Some (x, new)
-all_out {G = G} max conn r new x l e = go (find conn r.sessions) e
-  where
-    go : (o : Option Live) → option_map {U = List ℕ × Rest G} (λ (s : Live). (take max s.kept.unsent, left r s (drop max s.kept.unsent))) o ≡ Some (x, new) → option_map {U = List ℕ × Rest G} (λ (s : Live). (s.kept.unsent, left r s [])) o ≡ Some (x, new)
-    go None e = cc
-    go (Some s) e =
-        let t = take_short max s.kept.unsent (subst (λ (z : List ℕ). length z < max) (sym (some_first (take max s.kept.unsent) x (left r s (drop max s.kept.unsent)) new e)) l) in
-        sym (ap (λ z. Some (pair z (left r s (drop max s.kept.unsent)))) t.0 ∙ ap (λ z. Some (pair s.kept.unsent (left r s z))) t.1) ∙ e
+all_out {G = G} max conn r new x l e =
+    by_option (λ o. option_map {U = List ℕ × Rest G} (λ (s : Live). (take max s.kept.unsent, left r s (drop max s.kept.unsent))) o ≡ Some (x, new) → option_map {U = List ℕ × Rest G} (λ (s : Live). (s.kept.unsent, left r s [])) o ≡ Some (x, new)) (find conn r.sessions)
+    (λ s _ e.
+    let t = take_short max s.kept.unsent (subst (λ (z : List ℕ). length z < max) (sym (some_first (take max s.kept.unsent) x (left r s (drop max s.kept.unsent)) new e)) l) in
+    sym (ap (λ z. Some (pair z (left r s (drop max s.kept.unsent)))) t.0 ∙ ap (λ z. Some (pair s.kept.unsent (left r s z))) t.1) ∙ e) (λ _ e. cc) e
 
 abbrev pub by_room : Bool → Bool → Opened → Kept → TookOf Opened Item → Feeding
 by_room shut full u k t = if shut then takes_none What.Closed k u else (if full then takes_none What.Full k u else takes_item k t)
@@ -127,15 +130,12 @@ room_within _ _ u k t n h = omega arith
 
 -- no more bytes are used than there are
 pub feed_within : {G : Type 0} (piece : List ℕ) (conn : ℕ) (r new : Rest G) (took : Took) → feed_at conn piece r ≡ Some (took, new) → took.used ≤ length piece
-feed_within {G = G} piece conn r new took e = go (find conn r.sessions) e
-  where
-    go : (o : Option Live) → option_map {U = Took × Rest G} (λ (s : Live). ((fed_live s piece).0, with_session (fed_live s piece).1 r)) o ≡ Some (took, new) → took.used ≤ length piece
-    go None e = cc
-    go (Some s) e =
-        let same : (fed_live s piece).0 ≡ took = some_first (fed_live s piece).0 took (with_session (fed_live s piece).1 r) new e in
-        let t = takes at_server s.unfinished piece in
-        let few = (reads_pieces Opened Item at_server).within s.unfinished piece in
-        subst (λ (x : Took). x.used ≤ length piece) same (room_within (shut s.kept) (full s.kept) s.unfinished s.kept t (length piece) few)
+feed_within {G = G} piece conn r new took e =
+    by_option (λ o. option_map {U = Took × Rest G} (λ (s : Live). ((fed_live s piece).0, with_session (fed_live s piece).1 r)) o ≡ Some (took, new) → took.used ≤ length piece) (find conn r.sessions)
+    (λ s _ e.
+    let same : (fed_live s piece).0 ≡ took = some_first (fed_live s piece).0 took (with_session (fed_live s piece).1 r) new e in
+    let t = takes at_server s.unfinished piece in
+    subst (λ (x : Took). x.used ≤ length piece) same (room_within (shut s.kept) (full s.kept) s.unfinished s.kept t (length piece) ((reads_pieces Opened Item at_server).within s.unfinished piece))) (λ _ e. cc) e
 
 module _ {G : Type 0} (r : Rest G) (conn : ℕ) (i : IsSome (find conn r.sessions)) (u : Opened) (ledger : List EntryView) (k : Kept) (piece : List ℕ) (old new : Rest G) (stood : old ≡ with_talk r conn u ledger k) where
   abbrev t : TookOf Opened Item
@@ -155,11 +155,7 @@ module _ {G : Type 0} (r : Rest G) (conn : ℕ) (i : IsSome (find conn r.session
 
   -- no item is in no bytes
   nothing_taken : t.used ≡ 0 → t.item ≡ None
-  nothing_taken e = go t.item (sym (takes_outputs Opened Item at_server u piece).0 ∙ ap (λ (n : ℕ). outputs at_server u (take n piece)) e)
-    where
-      go : (o : Option Item) → option_to_list o ≡ [] → o ≡ None
-      go None e = refl
-      go (Some x) e = cc
+  nothing_taken e = by_option (λ o. option_to_list o ≡ [] → o ≡ None) t.item (λ x _ e. cc) (λ _ e. refl) (sym (takes_outputs Opened Item at_server u piece).0 ∙ ap (λ (n : ℕ). outputs at_server u (take n piece)) e)
 
   kept_by : (a b : Bool) → (by_room a b u k t).took.used ≡ 0 → (by_room a b u k t).kept ≡ k
   kept_by true b e = refl
@@ -193,11 +189,10 @@ module _ {G : Type 0} (conn : ℕ) where
 
   -- nothing was done
   pub lives_same : (Old : Rest G → Type 0) → LivesOn conn Old Old
-  lives_same Old r old i = go (find conn r.sessions) refl i
-    where
-      go : (o : Option Live) → find conn r.sessions ≡ o → IsSome o → Grows r conn Old
-      go None e i = cc
-      go (Some s) e i = record { unfinished = s.unfinished; kept = s.kept; more = []; now = subst Old (sym (ap (λ (l : List EntryView). with_talk r conn s.unfinished l s.kept) (append-nil r.ledger) ∙ itself r s e)) old }
+  lives_same Old r old i =
+      by_option (λ o. IsSome o → Grows r conn Old) (find conn r.sessions)
+      (λ s e i. record { unfinished = s.unfinished; kept = s.kept; more = []; now = subst Old (sym (ap (λ (l : List EntryView). with_talk r conn s.unfinished l s.kept) (append-nil r.ledger) ∙ itself r s e)) old })
+      (λ e i. cc) i
 
   -- what grew from every rest lives on
   pub lives_by : (Old Now : Rest G → Type 0) → GrowsOn conn Old Now → LivesOn conn Old Now

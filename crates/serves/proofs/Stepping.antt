@@ -16,7 +16,7 @@ use Rattle.serves.specs.declared.due.Next.TheVariants as next
 use Rattle.wire.specs.Prelude.{Opened}
 use Rattle.server.specs.Prelude.{Rest, find, setting, work_at}
 use Rattle.engine.specs.declared.answer.Mode.{Mode as QueryMode}
-use Rattle.serves.proofs.Called.{stepped_talk}
+use Rattle.serves.proofs.Called.{by_option, stepped_talk}
 
 -- A row that is written leaves fewer.
 pub Lessens : ℕ → Reply → Type 0
@@ -121,11 +121,7 @@ steps_ended S c zero ledger k cause e = refl
 steps_ended S c (suc n) ledger k cause e = ap (λ (o : Option Cause). let d = work_kept S c ledger k o in step_then c k.first ledger d d.answer (steps S c n)) e
 
 pub steps_waitless : (S : Setting) (c n : ℕ) (ledger : List EntryView) (k : Kept) → k.unsent ≡ [] → k.waiting ≡ [] → steps S c n ledger k ≡ silent ledger k
-steps_waitless S c n ledger k s w = go k.ended refl
-  where
-    go : (o : Option Cause) → k.ended ≡ o → steps S c n ledger k ≡ silent ledger k
-    go None e = steps_none S c n ledger k s e w
-    go (Some cause) e = steps_ended S c n ledger k cause e
+steps_waitless S c n ledger k s w = by_option (λ o. steps S c n ledger k ≡ silent ledger k) k.ended (λ cause e. steps_ended S c n ledger k cause e) (λ e. steps_none S c n ledger k s e w)
 
 -- After all that is due nothing is.
 abbrev pub RestsAs : Kept → Talk → Type 0

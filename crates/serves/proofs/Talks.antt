@@ -8,7 +8,7 @@ use Rattle.session.specs.declared.kinds.Cause.{Cause}
 use Rattle.session.specs.Prelude.{Setting, Kept, after_item, after_interrupt, version_of, begun, shut, unread_among, arrival_by, what_of}
 use Rattle.server.specs.declared.kinds.Took.{Took as AnyTook}
 use Rattle.server.specs.Prelude.{arrives, arrival as arrival_of, Rest, feed_at, find, takes_item}
-use Rattle.serves.proofs.Called.{fed_item, fed_none}
+use Rattle.serves.proofs.Called.{by_option, fed_item, fed_none}
 use Rattle.streams.specs.declared.fault.StreamFault.{StreamFault}
 use Rattle.serves.specs.Prelude.{Talk, silent, after_bytes, heard_out, steps, steps_due, talk_of_due, unless_ended, talk_then, with_talk, talk_of_arrivals, conversation, IsPartOfDue, due_of, ComesTo, nothing_yet, part_of_first, after_first, as_it_is, ConversationComesTo, IsPlaced, due, as_item, item_talk, standing_of, rest_after, Holds, HoldsPart, settled, IsPartSettled, SettlesWhole, BreaksAt, IsFront, told_by, told_to, HoldsAfter, BreaksHolding, TakesOne, TakesFront, TakesItems, Feeds}
 use Rattle.serves.proofs.Stepping.{Grown, Rested, RestsAs, after_twice, steps_grow, steps_none, steps_rest, behind, heard_same, item_behind, silent_same, front_later, front_same, front_then}
@@ -59,50 +59,34 @@ settled_rests S c ledger k p = let h = steps_rest S c (due k) ledger (heard_out 
 -- nothing follows an end
 pub item_talk_over : (S : Setting) (c : ℕ) (xs : List Item) (ledger : List EntryView) (k : Kept) → IsSome k.ended → item_talk S c xs ledger k ≡ silent ledger k
 item_talk_over S c [] ledger k e = refl
-item_talk_over S c (x ∷ xs) ledger k e = go k.ended e
-  where
-    go : (o : Option Cause) → IsSome o → unless_ended o (silent ledger k) (talk_then (talk_of_due S c ledger (after_item k (Some (arrives (version_of k) x)))) (item_talk S c xs)) ≡ silent ledger k
-    go (Some cause) e = refl
-    go None e = cc
+item_talk_over S c (x ∷ xs) ledger k e =
+    by_option (λ o. IsSome o → unless_ended o (silent ledger k) (talk_then (due_of S c ledger k (as_item k x)) (item_talk S c xs)) ≡ silent ledger k) k.ended (λ cause _ e. refl) (λ _ e. cc) e
 
 pub item_talk-append : (S : Setting) (c : ℕ) (xs ys : List Item) (ledger : List EntryView) (k : Kept) → item_talk S c (xs ++ ys) ledger k ≡ talk_then (item_talk S c xs ledger k) (item_talk S c ys)
 item_talk-append S c [] ys ledger k = refl
-item_talk-append S c (x ∷ xs) ys ledger k = go k.ended refl (λ l n. item_talk-append S c xs ys l n)
-  where
-    t : Talk
-    t = talk_of_due S c ledger (after_item k (Some (arrives (version_of k) x)))
-
-    go : (o : Option Cause) → k.ended ≡ o → ((l : List EntryView) (n : Kept) → item_talk S c (xs ++ ys) l n ≡ talk_then (item_talk S c xs l n) (item_talk S c ys))
-        → unless_ended o (silent ledger k) (talk_then t (item_talk S c (xs ++ ys))) ≡ talk_then (unless_ended o (silent ledger k) (talk_then t (item_talk S c xs))) (item_talk S c ys)
-    go (Some cause) e f = sym (item_talk_over S c ys ledger k (subst IsSome (sym e) refl))
-    go None e f = ap (after_bytes t.out) (f t.ledger t.kept) ∙ after_twice t.out (item_talk S c xs t.ledger t.kept).out (item_talk S c ys (item_talk S c xs t.ledger t.kept).ledger (item_talk S c xs t.ledger t.kept).kept)
+item_talk-append S c (x ∷ xs) ys ledger k =
+    let t = due_of S c ledger k (as_item k x) in
+    let later = item_talk S c xs t.ledger t.kept in
+    by_option (λ o. unless_ended o (silent ledger k) (talk_then t (item_talk S c (xs ++ ys))) ≡ talk_then (unless_ended o (silent ledger k) (talk_then t (item_talk S c xs))) (item_talk S c ys)) k.ended
+    (λ cause e. sym (item_talk_over S c ys ledger k (subst IsSome (sym e) refl)))
+    (λ e. ap (after_bytes t.out) (item_talk-append S c xs ys t.ledger t.kept) ∙ after_twice t.out later.out (item_talk S c ys later.ledger later.kept))
 
 -- Between two items nothing is unsent, and nothing waits.
 pub item_talk_rests : (S : Setting) (c : ℕ) (xs : List Item) (ledger : List EntryView) (k : Kept) → Rested k → Rested (item_talk S c xs ledger k).kept
 item_talk_rests S c [] ledger k h = h
-item_talk_rests S c (x ∷ xs) ledger k h = go k.ended refl (λ l n. item_talk_rests S c xs l n)
-  where
-    t : Talk
-    t = talk_of_due S c ledger (after_item k (Some (arrives (version_of k) x)))
-
-    go : (o : Option Cause) → k.ended ≡ o → ((l : List EntryView) (n : Kept) → Rested n → Rested (item_talk S c xs l n).kept) → Rested (unless_ended o (silent ledger k) (talk_then t (item_talk S c xs))).kept
-    go (Some cause) e f = h
-    go None e f = f t.ledger t.kept (settled_rests S c ledger (after_item k (Some (arrives (version_of k) x))) (fed_placed k (Some (arrives (version_of k) x)) (h.done e))).0
+item_talk_rests S c (x ∷ xs) ledger k h =
+    let t = due_of S c ledger k (as_item k x) in
+    by_option (λ o. Rested (unless_ended o (silent ledger k) (talk_then t (item_talk S c xs))).kept) k.ended (λ cause e. h)
+    (λ e. item_talk_rests S c xs t.ledger t.kept (settled_rests S c ledger (after_item k (Some (as_item k x))) (fed_placed k (Some (as_item k x)) (h.done e))).0)
 
 pub item_talk_grows : (S : Setting) (c : ℕ) (xs : List Item) (ledger : List EntryView) (k : Kept) → Grown ledger (item_talk S c xs ledger k)
 item_talk_grows S c [] ledger k = ([], append-nil ledger)
-item_talk_grows S c (x ∷ xs) ledger k = go k.ended (λ l n. item_talk_grows S c xs l n)
-  where
-    t : Talk
-    t = talk_of_due S c ledger (after_item k (Some (arrives (version_of k) x)))
-
-    go : (o : Option Cause) → ((l : List EntryView) (n : Kept) → Grown l (item_talk S c xs l n)) → Grown ledger (unless_ended o (silent ledger k) (talk_then t (item_talk S c xs)))
-    go (Some cause) f = ([], append-nil ledger)
-    go None f =
-        let next = after_item k (Some (arrives (version_of k) x)) in
-        let a = steps_grow S c (due next) ledger (heard_out next) in
-        let b = f t.ledger t.kept in
-        (a.0 ++ b.0, sym (append_assoc ledger a.0 b.0) ∙ ap (λ z. z ++ b.0) a.1 ∙ b.1)
+item_talk_grows S c (x ∷ xs) ledger k =
+    let next = after_item k (Some (as_item k x)) in
+    let t = talk_of_due S c ledger next in
+    let a = steps_grow S c (due next) ledger (heard_out next) in
+    let b = item_talk_grows S c xs t.ledger t.kept in
+    by_option (λ o. Grown ledger (unless_ended o (silent ledger k) (talk_then t (item_talk S c xs)))) k.ended (λ cause e. ([], append-nil ledger)) (λ e. (a.0 ++ b.0, sym (append_assoc ledger a.0 b.0) ∙ ap (λ z. z ++ b.0) a.1 ∙ b.1))
 
 -- One item more, or none.
 pub one_item : (S : Setting) (c : ℕ) (o : Option Item) (ledger : List EntryView) (k : Kept) → Rested k → k.ended ≡ None → item_talk S c (option_to_list o) ledger k ≡ talk_of_due S c ledger (after_item k (arrival_of k o))
@@ -135,34 +119,21 @@ comes_longer ys (after_first x xs ledger k t e h) = after_first x (xs ++ ys) led
 -- .. so it may where items come before, ..
 comes_later : (S : Setting) (c : ℕ) (xs ys : List Item) (ledger : List EntryView) (k : Kept) (t : Talk) → ComesTo as_item S c ys (item_talk S c xs ledger k).ledger (item_talk S c xs ledger k).kept t → ComesTo as_item S c (xs ++ ys) ledger k (after_bytes (item_talk S c xs ledger k).out t)
 comes_later S c [] ys ledger k t h = h
-comes_later S c (x ∷ xs) ys ledger k t h = go k.ended refl (λ l n. comes_later S c xs ys l n t) h
-  where
-    first : Talk
-    first = due_of S c ledger k (as_item k x)
-
-    said : Option Cause → Talk
-    said o = unless_ended o (silent ledger k) (talk_then first (item_talk S c xs))
-
-    go : (o : Option Cause) → k.ended ≡ o
-        → ((l : List EntryView) (n : Kept) → ComesTo as_item S c ys (item_talk S c xs l n).ledger (item_talk S c xs l n).kept t → ComesTo as_item S c (xs ++ ys) l n (after_bytes (item_talk S c xs l n).out t))
-        → ComesTo as_item S c ys (said o).ledger (said o).kept t → ComesTo as_item S c (x ∷ (xs ++ ys)) ledger k (after_bytes (said o).out t)
-    go (Some cause) e f h = comes_over (x ∷ (xs ++ ys)) (subst IsSome (sym e) refl) h
-    go None e f h =
-        let next = item_talk S c xs first.ledger first.kept in
-        subst (ComesTo as_item S c (x ∷ (xs ++ ys)) ledger k) (after_twice first.out next.out t)
-        (after_first x (xs ++ ys) ledger k (after_bytes next.out t) e (f first.ledger first.kept h))
+comes_later S c (x ∷ xs) ys ledger k t h =
+    let first = due_of S c ledger k (as_item k x) in
+    let said : Option Cause → Talk = λ o. unless_ended o (silent ledger k) (talk_then first (item_talk S c xs)) in
+    let next = item_talk S c xs first.ledger first.kept in
+    by_option (λ o. ComesTo as_item S c ys (said o).ledger (said o).kept t → ComesTo as_item S c (x ∷ (xs ++ ys)) ledger k (after_bytes (said o).out t)) k.ended
+    (λ cause e h. comes_over (x ∷ (xs ++ ys)) (subst IsSome (sym e) refl) h)
+    (λ e h. subst (ComesTo as_item S c (x ∷ (xs ++ ys)) ledger k) (after_twice first.out next.out t) (after_first x (xs ++ ys) ledger k (after_bytes next.out t) e (comes_later S c xs ys first.ledger first.kept t h))) h
 
 -- .. and it may have come to its end.
 pub comes_whole : (S : Setting) (c : ℕ) (xs : List Item) (ledger : List EntryView) (k : Kept) → ComesTo as_item S c xs ledger k (item_talk S c xs ledger k)
 comes_whole S c [] ledger k = nothing_yet [] ledger k
-comes_whole S c (x ∷ xs) ledger k = go k.ended refl (λ l n. comes_whole S c xs l n)
-  where
-    first : Talk
-    first = due_of S c ledger k (as_item k x)
-
-    go : (o : Option Cause) → k.ended ≡ o → ((l : List EntryView) (n : Kept) → ComesTo as_item S c xs l n (item_talk S c xs l n)) → ComesTo as_item S c (x ∷ xs) ledger k (unless_ended o (silent ledger k) (talk_then first (item_talk S c xs)))
-    go (Some cause) e f = nothing_yet (x ∷ xs) ledger k
-    go None e f = after_first x xs ledger k (item_talk S c xs first.ledger first.kept) e (f first.ledger first.kept)
+comes_whole S c (x ∷ xs) ledger k =
+    let first = due_of S c ledger k (as_item k x) in
+    by_option (λ o. ComesTo as_item S c (x ∷ xs) ledger k (unless_ended o (silent ledger k) (talk_then first (item_talk S c xs)))) k.ended
+    (λ cause e. nothing_yet (x ∷ xs) ledger k) (λ e. after_first x xs ledger k (item_talk S c xs first.ledger first.kept) e (comes_whole S c xs first.ledger first.kept))
 
 module _ {G : Type 0} (r : Rest G) (conn : ℕ) (S : Setting) where
   abbrev told : List ℕ → Talk
@@ -399,7 +370,7 @@ module _ (S : Setting) (c : ℕ) (v : Version) where
 
   -- what follows one that arrives
   one_more : (x : Arrival) (xs : List Arrival) (y : Item) (ys : List Item) (ledger : List EntryView) (k : Kept) → arrives v y ≡ x → k.version ≡ Some v → (k.ended ≡ None → Follows xs ys ledger k x) → Alike S c (x ∷ xs) (y ∷ ys) ledger k
-  one_more x xs y ys ledger k a e f = by_end k.ended refl
+  one_more x xs y ys ledger k a e f = by_option (λ o. IsSome k.ended ⊎ ((as_item k y ≡ x) × Follows xs ys ledger k (as_item k y))) k.ended (λ cause q. inl (subst IsSome (sym q) refl)) (λ q. inr (is, subst (Follows xs ys ledger k) (sym is) (f q)))
     where
       known : (o : Option Version) → o ≡ Some v → version_of (record k { version = o }) ≡ v
       known None e = cc
@@ -407,10 +378,6 @@ module _ (S : Setting) (c : ℕ) (v : Version) where
 
       is : as_item k y ≡ x
       is = subst (λ (w : Version). arrives w y ≡ x) (sym (known k.version e)) a
-
-      by_end : (o : Option Cause) → k.ended ≡ o → IsSome k.ended ⊎ ((as_item k y ≡ x) × Follows xs ys ledger k (as_item k y))
-      by_end (Some cause) q = inl (subst IsSome (sym q) refl)
-      by_end None q = inr (is, subst (Follows xs ys ledger k) (sym is) (f q))
 
   goes_on : (x : Arrival) (ys : List Item) (ledger : List EntryView) (k : Kept) → Rested k → k.version ≡ Some v → ((after_item k (Some x)).version ≡ k.version) → Same ys → k.ended ≡ None → Follows (requests_in v ys) ys ledger k x
   goes_on x ys ledger k h e kept more o =

@@ -2,10 +2,7 @@ use Rattle.serves.proofs.Stepping.{goes_first, goes_wrong, holds_part}
 use Rattle.serves.proofs.due.settle.Goals as goal
 
 pub loop-init : goal.loop-init
-loop-init g c = record {
-  grows = λ r i h. h;
-  goes = λ r u t before i s p h. goes_first t s p h;
-}
+loop-init g c = record { grows = λ r i h. h; goes = λ r u t before i s p h. goes_first t s p h }
 
 pub loop-preserved : goal.loop-preserved
 loop-preserved g c = record {

@@ -4,10 +4,7 @@ use Rattle.serves.proofs.Talks.{partly_begun, partly_broken, partly_more, partly
 use Rattle.serves.proofs.intake.take_items.Goals as goal
 
 pub loop-rest-init : goal.loop-rest-init
-loop-rest-init g c = record {
-  grows = λ r i h. h;
-  takes = λ r before up i e s. partly_begun e s;
-}
+loop-rest-init g c = record { grows = λ r i h. h; takes = λ r before up i e s. partly_begun e s }
 
 pub returns-in-Err-clause-takes : goal.returns-in-Err-clause-takes
 returns-in-Err-clause-takes g c = λ r before up i e s.
