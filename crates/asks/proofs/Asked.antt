@@ -18,6 +18,10 @@ use Rattle.asks.proofs.Tales.{hears_all-append, after_all-append, notes_then}
 pub all_taken : (n : ℕ) (xs bytes : List ℕ) → bytes ≡ take n xs → length bytes < n → (bytes ≡ xs) × (drop n xs ≡ [])
 all_taken n xs bytes e l = let t = take_short n xs (subst (λ (z : List ℕ). length z < n) e l) in (e ∙ t.0, t.1)
 
+-- what is so of the bytes that were put out is so of all that there is
+pub all_out : (n : ℕ) (xs bytes out : List ℕ) → bytes ≡ take n xs → length bytes < n → out ≡ bytes → (IsSo : List ℕ → Type 0) → IsSo out → IsSo xs × (drop n xs ≡ [])
+all_out n xs bytes out e l same IsSo so = let t = all_taken n xs bytes e l in (subst IsSo (same ∙ t.0) so, t.1)
+
 pub unanswered_awaits : (k : Knows) → awaits k ≡ true → all_answered k ≡ false
 unanswered_awaits k e = rw e refl
 

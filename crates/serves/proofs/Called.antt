@@ -1,13 +1,14 @@
 -- What a call on the one session makes of a server: its place there, what each call does to it, and that it lives on while the ledger grows.
-use Rattle.std.proofs.Common.{◌≡◌, refl, ap, ℕ, List, [], ◌∷◌, eqb, cond, true, false, Bool, Some, sym, subst, ◌∙◌, ◌++◌, Option, None, Result, Ok, Err, ◌<◌, length, ◌≤◌, arith, append_assoc, append-nil, IsSome, option_map, option_and_then, unwrap_or, if◌then◌else◌, inl, inr, take, drop, option_to_list}
-use Rattle.std.proofs.lemmas.Bool.{eq-eqb}
+use Rattle.std.proofs.Common.{◌≡◌, refl, ap, ℕ, List, [], ◌∷◌, true, false, Bool, Some, sym, subst, ◌∙◌, ◌++◌, Option, None, Result, Ok, Err, ◌<◌, length, ◌≤◌, arith, append_assoc, append-nil, IsSome, option_map, option_and_then, unwrap_or, if◌then◌else◌, inl, inr, take, drop, option_to_list}
+use Rattle.std.proofs.lemmas.Bool.Decides.{nat_tests}
 use Rattle.server.specs.Prelude.{Live, Rest, find, replace, without, with_session, on_live, after_step, setting, work_at, take_out_at, fed_live, feed_at, cause_or, lost_at, Feeding, feeding, takes_none, takes_item, arrival}
 use Rattle.server.specs.Serving.{cause_at}
+use Rattle.server.proofs.Known.{gone}
 use Rattle.server.proofs.Runs.{find_replaced, find-conn}
 use Rattle.engine.specs.Prelude.{EntryView, WriteView, ParameterView, AnswerView, QueryFault}
 use Rattle.wire.specs.Prelude.{Opened, Item, at_server, Took as TookOf, takes, outputs}
 use Rattle.session.specs.Prelude.{Kept, worked_of, work_kept, commit_entries, shut, full, after_item}
-use Rattle.serves.specs.Prelude.{Talk, with_talk, heard_out, without_talk, LeavesOthers, Grows, LivesOn, Puts, said_by, Feeds, Holds, HoldsPart, StandsOver}
+use Rattle.serves.specs.Prelude.{Talk, with_talk, heard_out, without_talk, LeavesOthers, Grows, GrowsOn, LivesOn, Puts, said_by, Feeds, Holds, HoldsPart, StandsOver}
 use Rattle.streams.specs.Prelude.{AppendsFront}
 use Rattle.engine.specs.declared.answer.Mode.{Mode as QueryMode}
 use Rattle.session.specs.declared.kinds.Worked.{Worked}
@@ -20,30 +21,23 @@ use Rattle.server.specs.declared.kinds.Took.{Took}
 use Rattle.session.specs.declared.kinds.What.{What}
 use Rattle.session.specs.declared.kinds.Cause.{Cause}
 
+-- by whether there is one
+pub by_option : {A : Type 0} (P : Option A → Type 0) (o : Option A) → ((x : A) → o ≡ Some x → P (Some x)) → (o ≡ None → P None) → P o
+by_option P (Some x) some none = some x refl
+by_option P None some none = none refl
+
 pub replace-replace : (conn : ℕ) (s t : Live) (ss : List Live) → s.conn ≡ conn → replace conn t (replace conn s ss) ≡ replace conn t ss
 replace-replace conn s t [] e = refl
-replace-replace conn s t (x ∷ ss) e = go (eqb x.conn conn) refl (replace-replace conn s t ss e)
-  where
-    go : (b : Bool) → eqb x.conn conn ≡ b → replace conn t (replace conn s ss) ≡ replace conn t ss → replace conn t (cond b (s ∷ ss) (x ∷ replace conn s ss)) ≡ cond b (t ∷ ss) (x ∷ replace conn t ss)
-    go true q more = let same : eqb s.conn conn ≡ true = rw e (eq-eqb conn conn refl) in rw same refl
-    go false q more = rw q (ap (λ z. x ∷ z) more)
+replace-replace conn s t (x ∷ ss) e = grind (arith, nat_tests, replace-replace conn s t ss e)
 
 pub without-replace : (conn : ℕ) (s : Live) (ss : List Live) → s.conn ≡ conn → without conn (replace conn s ss) ≡ without conn ss
 without-replace conn s [] e = refl
-without-replace conn s (x ∷ ss) e = go (eqb x.conn conn) refl (without-replace conn s ss e)
-  where
-    go : (b : Bool) → eqb x.conn conn ≡ b → without conn (replace conn s ss) ≡ without conn ss → without conn (cond b (s ∷ ss) (x ∷ replace conn s ss)) ≡ cond b ss (x ∷ without conn ss)
-    go true q more = let same : eqb s.conn conn ≡ true = rw e (eq-eqb conn conn refl) in rw same refl
-    go false q more = rw q (ap (λ z. x ∷ z) more)
+without-replace conn s (x ∷ ss) e = grind (arith, nat_tests, without-replace conn s ss e)
 
 -- a session in its own place
 pub replace-itself : (conn : ℕ) (s : Live) (ss : List Live) → find conn ss ≡ Some s → replace conn s ss ≡ ss
 replace-itself conn s [] e = refl
-replace-itself conn s (x ∷ ss) e = go (eqb x.conn conn) e (replace-itself conn s ss)
-  where
-    go : (b : Bool) → cond b (Some x) (find conn ss) ≡ Some s → (find conn ss ≡ Some s → replace conn s ss ≡ ss) → cond b (s ∷ ss) (x ∷ replace conn s ss) ≡ x ∷ ss
-    go true q more = let same : s ≡ x = cc in ap (λ z. z ∷ ss) same
-    go false q more = ap (λ z. x ∷ z) (more q)
+replace-itself conn s (x ∷ ss) e = grind (arith, nat_tests, replace-itself conn s ss)
 
 module _ {G : Type 0} (r : Rest G) (conn : ℕ) (lives : IsSome (find conn r.sessions)) (u : Opened) (ledger : List EntryView) (k : Kept) where
   abbrev pub here : Live
@@ -121,13 +115,11 @@ left r s z = with_session (record { conn = s.conn; kept = record s.kept { unsent
 
 -- fewer than were asked for are all
 pub all_out : {G : Type 0} (max conn : ℕ) (r new : Rest G) (x : List ℕ) → length x < max → take_out_at conn max r ≡ Some (x, new) → on_live said_by conn r ≡ Some (x, new)
-all_out {G = G} max conn r new x l e = go (find conn r.sessions) e
-  where
-    go : (o : Option Live) → option_map {U = List ℕ × Rest G} (λ (s : Live). (take max s.kept.unsent, left r s (drop max s.kept.unsent))) o ≡ Some (x, new) → option_map {U = List ℕ × Rest G} (λ (s : Live). (s.kept.unsent, left r s [])) o ≡ Some (x, new)
-    go None e = cc
-    go (Some s) e =
-        let t = take_short max s.kept.unsent (subst (λ (z : List ℕ). length z < max) (sym (some_first (take max s.kept.unsent) x (left r s (drop max s.kept.unsent)) new e)) l) in
-        sym (ap (λ z. Some (pair z (left r s (drop max s.kept.unsent)))) t.0 ∙ ap (λ z. Some (pair s.kept.unsent (left r s z))) t.1) ∙ e
+all_out {G = G} max conn r new x l e =
+    by_option (λ o. option_map {U = List ℕ × Rest G} (λ (s : Live). (take max s.kept.unsent, left r s (drop max s.kept.unsent))) o ≡ Some (x, new) → option_map {U = List ℕ × Rest G} (λ (s : Live). (s.kept.unsent, left r s [])) o ≡ Some (x, new)) (find conn r.sessions)
+    (λ s _ e.
+    let t = take_short max s.kept.unsent (subst (λ (z : List ℕ). length z < max) (sym (some_first (take max s.kept.unsent) x (left r s (drop max s.kept.unsent)) new e)) l) in
+    sym (ap (λ z. Some (pair z (left r s (drop max s.kept.unsent)))) t.0 ∙ ap (λ z. Some (pair s.kept.unsent (left r s z))) t.1) ∙ e) (λ _ e. cc) e
 
 abbrev pub by_room : Bool → Bool → Opened → Kept → TookOf Opened Item → Feeding
 by_room shut full u k t = if shut then takes_none What.Closed k u else (if full then takes_none What.Full k u else takes_item k t)
@@ -138,15 +130,12 @@ room_within _ _ u k t n h = omega arith
 
 -- no more bytes are used than there are
 pub feed_within : {G : Type 0} (piece : List ℕ) (conn : ℕ) (r new : Rest G) (took : Took) → feed_at conn piece r ≡ Some (took, new) → took.used ≤ length piece
-feed_within {G = G} piece conn r new took e = go (find conn r.sessions) e
-  where
-    go : (o : Option Live) → option_map {U = Took × Rest G} (λ (s : Live). ((fed_live s piece).0, with_session (fed_live s piece).1 r)) o ≡ Some (took, new) → took.used ≤ length piece
-    go None e = cc
-    go (Some s) e =
-        let same : (fed_live s piece).0 ≡ took = some_first (fed_live s piece).0 took (with_session (fed_live s piece).1 r) new e in
-        let t = takes at_server s.unfinished piece in
-        let few = (reads_pieces Opened Item at_server).within s.unfinished piece in
-        subst (λ (x : Took). x.used ≤ length piece) same (room_within (shut s.kept) (full s.kept) s.unfinished s.kept t (length piece) few)
+feed_within {G = G} piece conn r new took e =
+    by_option (λ o. option_map {U = Took × Rest G} (λ (s : Live). ((fed_live s piece).0, with_session (fed_live s piece).1 r)) o ≡ Some (took, new) → took.used ≤ length piece) (find conn r.sessions)
+    (λ s _ e.
+    let same : (fed_live s piece).0 ≡ took = some_first (fed_live s piece).0 took (with_session (fed_live s piece).1 r) new e in
+    let t = takes at_server s.unfinished piece in
+    subst (λ (x : Took). x.used ≤ length piece) same (room_within (shut s.kept) (full s.kept) s.unfinished s.kept t (length piece) ((reads_pieces Opened Item at_server).within s.unfinished piece))) (λ _ e. cc) e
 
 module _ {G : Type 0} (r : Rest G) (conn : ℕ) (i : IsSome (find conn r.sessions)) (u : Opened) (ledger : List EntryView) (k : Kept) (piece : List ℕ) (old new : Rest G) (stood : old ≡ with_talk r conn u ledger k) where
   abbrev t : TookOf Opened Item
@@ -166,11 +155,7 @@ module _ {G : Type 0} (r : Rest G) (conn : ℕ) (i : IsSome (find conn r.session
 
   -- no item is in no bytes
   nothing_taken : t.used ≡ 0 → t.item ≡ None
-  nothing_taken e = go t.item (sym (takes_outputs Opened Item at_server u piece).0 ∙ ap (λ (n : ℕ). outputs at_server u (take n piece)) e)
-    where
-      go : (o : Option Item) → option_to_list o ≡ [] → o ≡ None
-      go None e = refl
-      go (Some x) e = cc
+  nothing_taken e = by_option (λ o. option_to_list o ≡ [] → o ≡ None) t.item (λ x _ e. cc) (λ _ e. refl) (sym (takes_outputs Opened Item at_server u piece).0 ∙ ap (λ (n : ℕ). outputs at_server u (take n piece)) e)
 
   kept_by : (a b : Bool) → (by_room a b u k t).took.used ≡ 0 → (by_room a b u k t).kept ≡ k
   kept_by true b e = refl
@@ -195,10 +180,6 @@ module _ {G : Type 0} (r : Rest G) (conn : ℕ) (i : IsSome (find conn r.session
   pub ended_there : (new : Rest G) → new ≡ with_talk r conn u ledger k → cause_at conn new ≡ k.ended
   ended_there new e = ap (cause_at conn) e ∙ ap (option_and_then {U = Cause} (λ (s : Live). s.kept.ended)) (talk-found r conn i u ledger k)
 
--- what giving a session up does to a server, and what it answers
-abbrev pub Loses : {G : Type 0} → ℕ → (Rest G → Type 0) → (Rest G → Type 0) → Option Cause → Type 0
-Loses {G = G} conn Now Then o = (x : Rest G) → Now x → (o ≡ (lost_at conn x).0) × Then (lost_at conn x).1
-
 module _ {G : Type 0} (conn : ℕ) where
   -- a rest is itself with its session in its place
   itself : (r : Rest G) (s : Live) → find conn r.sessions ≡ Some s → with_talk r conn s.unfinished r.ledger s.kept ≡ r
@@ -206,63 +187,67 @@ module _ {G : Type 0} (conn : ℕ) where
       let numbered : record { conn = conn; kept = s.kept; unfinished = s.unfinished } ≡ s = ap (λ (n : ℕ). record { conn = n; kept = s.kept; unfinished = s.unfinished }) (sym (find-conn conn r.sessions s e)) in
       ap (λ (ss : List Live). record { sessions = ss; next = r.next; ledger = r.ledger; gate = r.gate }) (ap (λ (t : Live). replace conn t r.sessions) numbered ∙ replace-itself conn s r.sessions e)
 
-  -- what is so of every session that is found
-  by_found : (r : Rest G) (Then : Type 0) → IsSome (find conn r.sessions) → ((s : Live) → find conn r.sessions ≡ Some s → Then) → Then
-  by_found r Then i h = go (find conn r.sessions) refl i
-    where
-      go : (o : Option Live) → find conn r.sessions ≡ o → IsSome o → Then
-      go None e i = cc
-      go (Some s) e i = h s e
-
-  by_talk : (r : Rest G) (Old Now : Rest G → Type 0) → IsSome (find conn r.sessions) → Old r → ((u : Opened) (k : Kept) → Old (with_talk r conn u r.ledger k) → Grows r conn Now) → Grows r conn Now
-  by_talk r Old Now i old h = by_found r (Grows r conn Now) i (λ s e. h s.unfinished s.kept (subst Old (sym (itself r s e)) old))
-
-  -- the ledger as it was
-  no_more : (r : Rest G) (Now : Rest G → Type 0) (u : Opened) (k : Kept) → Now (with_talk r conn u r.ledger k) → Grows r conn Now
-  no_more r Now u k h = (u, k, [], subst (λ (l : List EntryView). Now (with_talk r conn u l k)) (sym (append-nil r.ledger)) h)
-
   -- nothing was done
-  pub lives_kept : (Old Now : Rest G → Type 0) → ((r : Rest G) → Old r → Now r) → LivesOn conn Old Now
-  lives_kept Old Now same r old i = by_talk r Old Now i old (λ u k h. no_more r Now u k (same (with_talk r conn u r.ledger k) h))
-
   pub lives_same : (Old : Rest G → Type 0) → LivesOn conn Old Old
-  lives_same Old = lives_kept Old Old (λ r h. h)
+  lives_same Old r old i =
+      by_option (λ o. IsSome o → Grows r conn Old) (find conn r.sessions)
+      (λ s e i. record { unfinished = s.unfinished; kept = s.kept; more = []; now = subst Old (sym (ap (λ (l : List EntryView). with_talk r conn s.unfinished l s.kept) (append-nil r.ledger) ∙ itself r s e)) old })
+      (λ e i. cc) i
 
-  -- one thing after another
-  pub lives_then : (Old Mid Now : Rest G → Type 0) → LivesOn conn Old Mid → LivesOn conn Mid Now → LivesOn conn Old Now
-  lives_then Old Mid Now first second r old i =
-      let a = first r old i in
-      let ledger = r.ledger ++ a.2 in
-      let b = second (with_talk r conn a.0 ledger a.1) a.3 (subst IsSome (sym (talk-found r conn i a.0 ledger a.1)) refl) in
-      let seated = ap (λ (ss : List Live). record { sessions = ss; next = r.next; ledger = ledger ++ b.2; gate = r.gate }) (talk-replaced r conn i a.0 ledger a.1 b.0 (ledger ++ b.2) b.1) in
-      let joined = ap (λ (l : List EntryView). with_talk r conn b.0 l b.1) (append_assoc r.ledger a.2 b.2) in
-      (b.0, b.1, a.2 ++ b.2, subst Now (seated ∙ joined) b.3)
+  -- what grew from every rest lives on
+  pub lives_by : (Old Now : Rest G → Type 0) → GrowsOn conn Old Now → LivesOn conn Old Now
+  lives_by Old Now grows r old i = grows r i (lives_same Old r old i)
 
-  -- a call on the session
-  pub lives_called : {A : Type 0} (f : Live → A × Live) → ((s : Live) → (f s).1.conn ≡ s.conn) → (old new : Rest G) (x : A) → on_live f conn old ≡ Some (x, new) → LivesOn conn (λ r. old ≡ r) (λ r. new ≡ r)
-  lives_called f keeps old new x e r was i = by_talk r (λ y. old ≡ y) (λ y. new ≡ y) i was (λ u k h.
-      let s = (f (here r conn i u r.ledger k)).1 in
-      let shape : s ≡ record { conn = conn; kept = s.kept; unfinished = s.unfinished } = ap (λ (n : ℕ). record { conn = n; kept = s.kept; unfinished = s.unfinished }) (keeps (here r conn i u r.ledger k)) in
-      no_more r (λ y. new ≡ y) s.unfinished s.kept (called r conn i u r.ledger k f s.unfinished s.kept shape x new (ap (on_live f conn) (sym h) ∙ e)).1)
+  -- it is still found there
+  pub still_found : (r : Rest G) → IsSome (find conn r.sessions) → (u : Opened) (ledger : List EntryView) (k : Kept) → IsSome (find conn (with_talk r conn u ledger k).sessions)
+  still_found r i u ledger k = subst IsSome (sym (talk-found r conn i u ledger k)) refl
 
-  pub lives_worked : (answer : List EntryView → List WriteView → List ℕ → List ParameterView → QueryMode → Result AnswerView QueryFault) (accepts : G → List ℕ → List ℕ → Bool) (old new : Rest G) (x : Worked) → work_at answer accepts conn old ≡ Some (x, new) → LivesOn conn (λ r. old ≡ r) (λ r. new ≡ r)
-  lives_worked answer accepts old new x e r was i = by_talk r (λ y. old ≡ y) (λ y. new ≡ y) i was (λ u k h.
-      let d = work_kept (setting answer accepts r) conn r.ledger k k.ended in
-      (u, d.kept, commit_entries conn k.first d.commit, (stepped_talk r conn i u r.ledger k answer accepts x new (ap (work_at answer accepts conn) (sym h) ∙ e)).1))
-
-  -- so it is still found there
   pub live_then : (Old Now : Rest G → Type 0) → LivesOn conn Old Now → (r : Rest G) × Old r × IsSome (find conn r.sessions) → (r : Rest G) × Now r × IsSome (find conn r.sessions)
   live_then Old Now lives was =
       let g = lives was.0 was.1 was.2 in
-      let ledger = was.0.ledger ++ g.2 in
-      (with_talk was.0 conn g.0 ledger g.1, g.3, subst IsSome (sym (talk-found was.0 conn was.2 g.0 ledger g.1)) refl)
+      (with_talk was.0 conn g.unfinished (was.0.ledger ++ g.more) g.kept, g.now, still_found was.0 was.2 g.unfinished (was.0.ledger ++ g.more) g.kept)
+
+  pub live_by : (Old Now : Rest G → Type 0) → GrowsOn conn Old Now → (r : Rest G) × Old r × IsSome (find conn r.sessions) → (r : Rest G) × Now r × IsSome (find conn r.sessions)
+  live_by Old Now grows was = live_then Old Now (lives_by Old Now grows) was
+
+  -- what lived on has grown
+  pub grows_by : (Mid Now : Rest G → Type 0) → LivesOn conn Mid Now → GrowsOn conn Mid Now
+  grows_by Mid Now lives r i a =
+      let ledger = r.ledger ++ a.more in
+      let b = lives (with_talk r conn a.unfinished ledger a.kept) a.now (still_found r i a.unfinished ledger a.kept) in
+      let seated = ap (λ (ss : List Live). record { sessions = ss; next = r.next; ledger = ledger ++ b.more; gate = r.gate }) (talk-replaced r conn i a.unfinished ledger a.kept b.unfinished (ledger ++ b.more) b.kept) in
+      let joined = ap (λ (l : List EntryView). with_talk r conn b.unfinished l b.kept) (append_assoc r.ledger a.more b.more) in
+      record { unfinished = b.unfinished; kept = b.kept; more = a.more ++ b.more; now = subst Now (seated ∙ joined) b.now }
+
+  -- one thing after another
+  pub lives_then : (Old Mid Now : Rest G → Type 0) → LivesOn conn Old Mid → LivesOn conn Mid Now → LivesOn conn Old Now
+  lives_then Old Mid Now first second r old i = grows_by Mid Now second r i (first r old i)
+
+  -- nothing changed
+  pub grows_same : (old new : Rest G) → new ≡ old → GrowsOn conn (λ r. old ≡ r) (λ r. new ≡ r)
+  grows_same old new e r i g = subst (λ (x : Rest G). Grows r conn (λ y. x ≡ y)) (sym e) g
+
+  -- a call on the session
+  pub grows_called : {A : Type 0} (f : Live → A × Live) → ((s : Live) → (f s).1.conn ≡ s.conn) → (old new : Rest G) (x : A) → on_live f conn old ≡ Some (x, new) → GrowsOn conn (λ r. old ≡ r) (λ r. new ≡ r)
+  grows_called f keeps old new x e r i g =
+      let ledger = r.ledger ++ g.more in
+      let s = (f (here r conn i g.unfinished ledger g.kept)).1 in
+      let shape : s ≡ record { conn = conn; kept = s.kept; unfinished = s.unfinished } = ap (λ (n : ℕ). record { conn = n; kept = s.kept; unfinished = s.unfinished }) (keeps (here r conn i g.unfinished ledger g.kept)) in
+      record { unfinished = s.unfinished; kept = s.kept; more = g.more; now = (called r conn i g.unfinished ledger g.kept f s.unfinished s.kept shape x new (ap (on_live f conn) (sym g.now) ∙ e)).1 }
+
+  pub grows_worked : (answer : List EntryView → List WriteView → List ℕ → List ParameterView → QueryMode → Result AnswerView QueryFault) (accepts : G → List ℕ → List ℕ → Bool) (old new : Rest G) (x : Worked) → work_at answer accepts conn old ≡ Some (x, new) → GrowsOn conn (λ r. old ≡ r) (λ r. new ≡ r)
+  grows_worked answer accepts old new x e r i g =
+      let ledger = r.ledger ++ g.more in
+      let d = work_kept (setting answer accepts r) conn ledger g.kept g.kept.ended in
+      let entries = commit_entries conn g.kept.first d.commit in
+      let w = (stepped_talk r conn i g.unfinished ledger g.kept answer accepts x new (ap (work_at answer accepts conn) (sym g.now) ∙ e)).1 in
+      record { unfinished = g.unfinished; kept = d.kept; more = g.more ++ entries; now = w ∙ ap (λ (l : List EntryView). with_talk r conn g.unfinished l d.kept) (append_assoc r.ledger g.more entries) }
 
   -- and then it is given up
-  pub lives_no_more : (Old Mid Now : Rest G → Type 0) (o : Option Cause) → LivesOn conn Old Mid → Loses conn Mid Now o → (r : Rest G) → Old r → IsSome (find conn r.sessions) → LeavesOthers r conn Now
-  lives_no_more Old Mid Now o lives gives_up r old i =
-      let a = lives r old i in
-      let l = gives_up (with_talk r conn a.0 (r.ledger ++ a.2) a.1) a.3 in
-      (a.2, subst Now (lost_rest r conn i a.0 (r.ledger ++ a.2) a.1) l.1)
+  pub leaves_lost : (old mid new : Rest G) (o : Option Cause) → LivesOn conn (λ r. old ≡ r) (λ r. mid ≡ r) → lost_at conn mid ≡ (o, new) → (r : Rest G) → old ≡ r → IsSome (find conn r.sessions) → LeavesOthers r conn (λ r. new ≡ r)
+  leaves_lost old mid new o lives lost r was i =
+      let g = lives r was i in
+      (g.more, (gone (lost_at conn) o mid new lost (with_talk r conn g.unfinished (r.ledger ++ g.more) g.kept) g.now).1 ∙ lost_rest r conn i g.unfinished (r.ledger ++ g.more) g.kept)
 
 -- What a session holds is put out.
 module _ {G : Type 0} {r : Rest G} {conn : ℕ} (i : IsSome (find conn r.sessions)) {t : Talk} (before mid taken : Option (List ℕ)) (old new : Rest G) where

@@ -1,5 +1,5 @@
 -- A conversation with the bytes of a source, and what waits to go behind it.
-use Rattle.std.proofs.Common.{◌≡◌, refl, sym, ap, subst, ◌∙◌, ℕ, List, [], ◌++◌, append_assoc, append-nil, Option, Some, None, Result, Ok, Err, Bool, false, true≢false, ◌⊎◌, inl, inr, IsSome}
+use Rattle.std.proofs.Common.{◌≡◌, refl, sym, ap, subst, ◌∙◌, ℕ, List, [], ◌++◌, append_assoc, append-nil, Option, Some, None, Result, Ok, Err, Bool, false, true≢false, ◌⊎◌, inl, inr, IsSome, IfErr, true}
 use Rattle.std.specs.Io.KnownBytes.{Appends, Keeps, Consumes, IsAtEnd}
 use Rattle.std.proofs.KnownBytes.{Appends-nil, Consumes-kept, Consumes-trans, Consumes-nil}
 use Rattle.session.specs.Prelude.{Setting, Kept, begun}
@@ -9,7 +9,7 @@ use Rattle.serves.specs.declared.standing.Standing.{Standing}
 use Rattle.serves.specs.declared.standing.Standing.TheVariants.{Open, Over}
 use Rattle.streams.specs.declared.fault.StreamFault.{StreamFault}
 use Rattle.streams.specs.Prelude.{AppendsFront}
-use Rattle.serves.specs.Prelude.{StandsOver, told_by, BreaksIn, Stands, HoldsAfter, BreaksHolding, TakesItems, TakesPiece, Puts, IsDueTo, Talk, conversation, with_talk, IsTurn, IsBrokenOff, Converses, ConversesFront}
+use Rattle.serves.specs.Prelude.{StandsOver, told_by, BreaksIn, Stands, HoldsAfter, BreaksHolding, TakesItems, TakesPiece, taken_and_put, Puts, IsDueTo, Talk, conversation, with_talk, IsTurn, IsBrokenOff, IsFront, Converses, ConversesFront}
 use Rattle.serves.proofs.Talks.{breaks_more, breaks_whole, comes_by_items, talk_by_items, told_over, told_rests}
 use Rattle.serves.proofs.Stepping.{breaks_off, heard_same}
 use Rattle.streams.proofs.Fronts.{front_whole}
@@ -37,20 +37,25 @@ module _ {G : Type 0} (r : Rest G) (conn : ℕ) (i : IsSome (find conn r.session
   held_breaks used fault h puts = breaks_whole r conn S used (holds_some i before mid taken old new h fault puts)
 
   module _ (piece : List ℕ) where
-    pub piece_whole : (standing : Standing) → TakesItems r conn S (λ x. old ≡ x) before mid up piece (Ok standing) → Puts conn old new mid taken (Ok tt) → TakesPiece r conn S (λ x. new ≡ x) before taken up piece (Ok standing)
-    piece_whole Open h puts = (held_stands (up ++ piece) h.0 puts, h.1)
-    piece_whole Over h puts = record { front = h.front; rest = h.rest; parts = h.parts; stands = held_stands (up ++ h.front) h.stands puts; over = h.over }
-
-    -- not all of it
-    pub piece_unput : (standing : Standing) (fault : StreamFault) → TakesItems r conn S (λ x. old ≡ x) before mid up piece (Ok standing) → Puts conn old new mid taken (Err fault) → BreaksIn r conn S (up ++ piece) (λ x. new ≡ x) before taken
-    piece_unput Open fault h puts = breaks_off (held_breaks (up ++ piece) fault h.0 puts) (λ s p. part_stands p)
-    piece_unput Over fault h puts =
+    pub piece_taken : (items : Result Standing StreamFault) (put : Result (Unit {0}) StreamFault) → TakesItems r conn S (λ x. old ≡ x) before mid up piece items → Puts conn old new mid taken put → TakesPiece r conn S (λ x. new ≡ x) before taken up piece (taken_and_put items put)
+    piece_taken (Ok Open) (Ok done) h puts = (held_stands (up ++ piece) h.0 puts, h.1)
+    piece_taken (Ok Over) (Ok done) h puts = record { front = h.front; rest = h.rest; parts = h.parts; stands = held_stands (up ++ h.front) h.stands puts; over = h.over }
+    piece_taken (Ok Open) (Err fault) h puts = breaks_off (held_breaks (up ++ piece) fault h.0 puts) (λ s p. part_stands p)
+    piece_taken (Ok Over) (Err fault) h puts =
         let joined = append_assoc up h.front h.rest ∙ ap (λ (z : List ℕ). up ++ z) h.parts in
         breaks_off (subst (BreaksHolding r conn S (λ x. new ≡ x) before taken) joined (breaks_more r conn S (up ++ h.front) h.rest (held_breaks (up ++ h.front) fault h.stands puts))) (λ s p. part_stands p)
+    piece_taken (Err fault) put h puts = breaks_off h (λ s p. part_out i before mid taken old new p put puts)
 
-    -- a fault came before
-    pub piece_broken : (fault : StreamFault) (done : Result (Unit {0}) StreamFault) → TakesItems r conn S (λ x. old ≡ x) before mid up piece (Err fault) → Puts conn old new mid taken done → BreaksIn r conn S (up ++ piece) (λ x. new ≡ x) before taken
-    piece_broken fault done h puts = breaks_off h (λ s p. part_out i before mid taken old new p done puts)
+-- a fault is due to the sink as it is in the end
+pub piece_due : {mid now : Bool} (both items : Result Standing StreamFault) (put : Result (Unit {0}) StreamFault) → both ≡ taken_and_put items put → IfErr items (λ e. IsDueTo e false mid) → IfErr put (λ e. IsDueTo e false now) → (mid ≡ true → now ≡ true) → IfErr both (λ e. IsDueTo e false now)
+piece_due {mid = mid} {now = now} both items put e h k stays = subst (λ x. IfErr x (λ e. IsDueTo e false now)) (sym e) (go items put h k)
+  where
+    go : (items : Result Standing StreamFault) (put : Result (Unit {0}) StreamFault) → IfErr items (λ e. IsDueTo e false mid) → IfErr put (λ e. IsDueTo e false now) → IfErr (taken_and_put items put) (λ e. IsDueTo e false now)
+    go (Ok s) (Ok done) h k = tt
+    go (Ok s) (Err fault) h k = k
+    go (Err stream_fault.WriteFailed) put h k = stays h
+    go (Err stream_fault.ReadFailed) put h k = h
+    go (Err stream_fault.Memory) put h k = tt
 
 module _ {G : Type 0} (r : Rest G) (conn : ℕ) (S : Setting) where
   by_read : (read : List ℕ) → told_by r conn S read ≡ conversation S conn r.ledger read
@@ -58,16 +63,7 @@ module _ {G : Type 0} (r : Rest G) (conn : ℕ) (S : Setting) where
 
   -- what broke off the one by its items broke off the other
   abbrev broken_by_read : (read : List ℕ) (Now : Rest G → Type 0) (old new : Option (List ℕ)) → BreaksIn r conn S read Now old new → IsBrokenOff r conn S read (StandsOver r conn Now) old new
-  broken_by_read read Now old new b = record {
-    so_far = b.so_far;
-    comes = comes_by_items S conn r.ledger read b.so_far b.comes;
-    stands = b.stands;
-    took = b.took;
-    more = b.more;
-    rest = b.rest;
-    grown = b.grown ∙ ap (λ (t : Talk). t.ledger) (by_read read);
-    due = b.due ∙ ap (λ (t : Talk). t.out) (by_read read);
-  }
+  broken_by_read read Now old new b = record { so_far = b.so_far; comes = comes_by_items S conn r.ledger read b.so_far b.comes; is_so = b.is_so; front = subst (IsFront b.so_far) (by_read read) b.front }
 
   -- what was read of known bytes leads to what all of them lead to, where the reading ended with them or with the session
   pub read_all : (bytes : List ℕ) (left_now : Option (List ℕ)) (read : List ℕ) → Consumes (Some bytes) left_now read → IsAtEnd left_now ⊎ IsSome (conversation S conn r.ledger read).kept.ended → conversation S conn r.ledger read ≡ conversation S conn r.ledger bytes
@@ -125,7 +121,7 @@ module _ {G : Type 0} {r : Rest G} {conn : ℕ} {S : Setting} {left before taken
   reads_none new h fault = record {
     read = p.up;
     input = Consumes-kept left left_now new p.up p.input h;
-    broken = broken_by_read r conn S p.up Now before taken (breaks_off {IsSo = λ (s : Talk). StandsOver r conn Now s.ledger × AppendsFront before taken s.out} (breaks_whole r conn S p.up (record { unfinished = state at_server at_server.start p.up; kept = (told_by r conn S p.up).kept; now = p.stands.0 }, front_whole before taken (told_by r conn S p.up).out p.stands.1)) (λ s h. h));
+    broken = broken_by_read r conn S p.up Now before taken (breaks_whole r conn S {IsSo = λ (s : Talk). StandsOver r conn Now s.ledger × AppendsFront before taken s.out} p.up (record { unfinished = state at_server at_server.start p.up; kept = (told_by r conn S p.up).kept; now = p.stands.0 }, front_whole before taken (told_by r conn S p.up).out p.stands.1));
     whole = λ e. (ap (λ (t : Talk). t.ledger) (by_read r conn S p.up), out);
   }
 

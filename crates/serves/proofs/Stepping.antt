@@ -10,15 +10,13 @@ use Rattle.session.specs.declared.kinds.Cause.{Cause}
 use Rattle.session.specs.Prelude.{Setting, Open, no_result, Tx, Reply, OneRow, Summary, Bye, no_tx, serve, Kept, rests, ends, turns, serves, reset_among, Done, Idle, Full, WroteRow, Wrote, Ended, Step, work_kept, replies, after_interrupt, after_item, version_of, commit_entries, worked_of}
 use Rattle.session.proofs.Served.{Served, writes_row, serving}
 use Rattle.machine.specs.declared.kinds.Kind.{Kind}
-use Rattle.serves.specs.Prelude.{Talk, silent, after_bytes, talk_then, heard_out, step_then, steps, steps_due, with_talk, IsPlaced, due, next_of, Works, Holds, HoldsPart, settled, IsPartSettled, GoesOn, BreaksAt}
-use Rattle.serves.specs.Breaking.{BreaksOff}
+use Rattle.serves.specs.Prelude.{Talk, silent, after_bytes, talk_then, heard_out, step_then, steps, steps_due, with_talk, IsPlaced, due, next_of, Works, Holds, HoldsPart, settled, IsPartSettled, GoesOn, BreaksAt, IsFront}
 use Rattle.serves.specs.declared.due.Next.{Next}
 use Rattle.serves.specs.declared.due.Next.TheVariants as next
-use Rattle.streams.specs.Prelude.{AppendsFront}
 use Rattle.wire.specs.Prelude.{Opened}
 use Rattle.server.specs.Prelude.{Rest, find, setting, work_at}
 use Rattle.engine.specs.declared.answer.Mode.{Mode as QueryMode}
-use Rattle.serves.proofs.Called.{stepped_talk}
+use Rattle.serves.proofs.Called.{by_option, stepped_talk}
 
 -- A row that is written leaves fewer.
 pub Lessens : ℕ → Reply → Type 0
@@ -123,11 +121,7 @@ steps_ended S c zero ledger k cause e = refl
 steps_ended S c (suc n) ledger k cause e = ap (λ (o : Option Cause). let d = work_kept S c ledger k o in step_then c k.first ledger d d.answer (steps S c n)) e
 
 pub steps_waitless : (S : Setting) (c n : ℕ) (ledger : List EntryView) (k : Kept) → k.unsent ≡ [] → k.waiting ≡ [] → steps S c n ledger k ≡ silent ledger k
-steps_waitless S c n ledger k s w = go k.ended refl
-  where
-    go : (o : Option Cause) → k.ended ≡ o → steps S c n ledger k ≡ silent ledger k
-    go None e = steps_none S c n ledger k s e w
-    go (Some cause) e = steps_ended S c n ledger k cause e
+steps_waitless S c n ledger k s w = by_option (λ o. steps S c n ledger k ≡ silent ledger k) k.ended (λ cause e. steps_ended S c n ledger k cause e) (λ e. steps_none S c n ledger k s e w)
 
 -- After all that is due nothing is.
 abbrev pub RestsAs : Kept → Talk → Type 0
@@ -221,18 +215,24 @@ heard_same k e = ap (λ (z : List ℕ). record k { unsent = z }) (sym e)
 pub silent_same : (t : Talk) → after_bytes t.out (silent t.ledger t.kept) ≡ t
 silent_same t = ap (λ (z : List ℕ). record { out = z; ledger = t.ledger; kept = t.kept }) (append-nil t.out)
 
--- What is said of an earlier moment is said of a later whole.
-abbrev pub breaks_off : {whole : Talk} {Comes IsSo : Talk → Type 0} {Stands : List EntryView → Type 0} {old new : Option (List ℕ)} → BreaksAt whole Comes IsSo → ((s : Talk) → IsSo s → Stands s.ledger × AppendsFront old new s.out) → BreaksOff whole Comes Stands old new
-breaks_off b f = record {
-  so_far = b.so_far;
-  comes = b.comes;
-  stands = (f b.so_far b.is_so).0;
-  took = (f b.so_far b.is_so).1;
-  more = b.more;
-  rest = b.rest;
-  grown = b.grown;
-  due = b.due;
+-- What was said by a moment, and what follows it.
+pub front_then : (t : Talk) (more : List EntryView → Kept → Talk) → Grown t.ledger (more t.ledger t.kept) → IsFront t (talk_then t more)
+front_then t more g = record { more = g.0; rest = (more t.ledger t.kept).out; grown = g.1; due = refl }
+
+pub front_same : (t : Talk) → IsFront t t
+front_same t = record { more = []; rest = []; grown = append-nil t.ledger; due = append-nil t.out }
+
+pub front_later : {a b c : Talk} → IsFront a b → IsFront b c → IsFront a c
+front_later {a = a} p q = record {
+  more = p.more ++ q.more;
+  rest = p.rest ++ q.rest;
+  grown = sym (append_assoc a.ledger p.more q.more) ∙ ap (λ z. z ++ q.more) p.grown ∙ q.grown;
+  due = sym (append_assoc a.out p.rest q.rest) ∙ ap (λ z. z ++ q.rest) p.due ∙ q.due;
 }
+
+-- What is so of the moment gives what is so of it.
+abbrev pub breaks_off : {whole : Talk} {Comes IsSo Then : Talk → Type 0} → BreaksAt whole Comes IsSo → ((s : Talk) → IsSo s → Then s) → BreaksAt whole Comes Then
+breaks_off b f = record { so_far = b.so_far; comes = b.comes; is_so = f b.so_far b.is_so; front = b.front }
 
 -- before the first step
 pub goes_first : {G : Type 0} {r : Rest G} {conn : ℕ} {u : Opened} {S : Setting} {before taken : Option (List ℕ)} {Now : Rest G → Type 0} (t : Talk) → t.kept.unsent ≡ [] → IsPlaced t.kept.waiting → Holds r conn u t Now before taken → GoesOn r conn u t S Now before taken
@@ -252,17 +252,8 @@ module _ {G : Type 0} {r : Rest G} {conn : ℕ} {u : Opened} {S : Setting} {t : 
   -- a fault comes
   pub goes_wrong : {Then : Rest G → Type 0} {new : Option (List ℕ)} → HoldsPart r conn Then before new g.so_far → BreaksAt (settled S conn t) (IsPartSettled S conn t) (HoldsPart r conn Then before new)
   goes_wrong {Then = Then} {new = new} p =
-      let more = steps_grow S conn g.most g.so_far.ledger g.so_far.kept in
       subst (λ (x : Talk). BreaksAt x (IsPartSettled S conn t) (HoldsPart r conn Then before new)) (sym g.follows)
-      (record {
-        so_far = g.so_far;
-        comes = subst (IsPartSettled S conn t) (silent_same g.so_far) (g.comes 0);
-        is_so = p;
-        more = more.0;
-        rest = (steps S conn g.most g.so_far.ledger g.so_far.kept).out;
-        grown = more.1;
-        due = refl;
-      })
+      (record { so_far = g.so_far; comes = subst (IsPartSettled S conn t) (silent_same g.so_far) (g.comes 0); is_so = p; front = front_then g.so_far (steps S conn g.most) (steps_grow S conn g.most g.so_far.ledger g.so_far.kept) })
 
 -- all that it holds is a part
 pub holds_part : {G : Type 0} {r : Rest G} {conn : ℕ} {u : Opened} {t : Talk} {before taken : Option (List ℕ)} {Now : Rest G → Type 0} → Holds r conn u t Now before taken → HoldsPart r conn Now before taken t

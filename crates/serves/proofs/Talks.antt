@@ -1,14 +1,17 @@
 -- What a conversation has come to after some bytes of the client: by its items, by what arrives, and by the pieces that are taken.
-use Rattle.std.proofs.Common.{◌≡◌, refl, sym, ap, subst, ◌∙◌, ℕ, Bool, true, false, List, [], ◌∷◌, ◌++◌, append-nil, append_assoc, Option, Some, None, option_to_list, arith, take, drop, take-append-drop, Ok, Err, Result, ◌&&◌, ◌⊎◌, inl, inr, if◌then◌else◌, IsSome, is_some, ◌||◌, bytes_eq, length, unwrap_or}
+use Rattle.std.proofs.Common.{◌≡◌, refl, sym, ap, subst, ◌∙◌, ℕ, Bool, true, false, List, [], ◌∷◌, ◌++◌, append-nil, append_assoc, Option, Some, None, option_to_list, arith, take, drop, take-append-drop, Ok, Err, Result, ◌&&◌, ◌⊎◌, inl, inr, if◌then◌else◌, IsSome, is_some, ◌||◌, bytes_eq, length, unwrap_or, ◌<◌}
 use Rattle.wire.specs.Prelude.{Item, Opened, at_server, items_received, Opening, Noop, Message, TooBig, Took, state, outputs, takes, magic, choice_of as version_taken}
 use Rattle.messages.specs.Prelude.{Arrival, Asked, Unread, TooLong, Shook, NoMagic, then_request, requests_in, after_shake, arrivals, arrivals_of, RequestView, request_of}
 use Rattle.machine.specs.Prelude.{kind_of, is_reset, interruptible}
 use Rattle.engine.specs.Prelude.{EntryView}
 use Rattle.session.specs.declared.kinds.Cause.{Cause}
 use Rattle.session.specs.Prelude.{Setting, Kept, after_item, after_interrupt, version_of, begun, shut, unread_among, arrival_by, what_of}
-use Rattle.server.specs.Prelude.{arrives, arrival as arrival_of, Rest}
-use Rattle.serves.specs.Prelude.{Talk, silent, after_bytes, heard_out, steps, steps_due, talk_of_due, unless_ended, talk_then, with_talk, talk_of_arrivals, conversation, IsPartOfDue, due_of, ComesTo, nothing_yet, part_of_first, after_first, as_it_is, ConversationComesTo, IsPlaced, due, as_item, item_talk, standing_of, rest_after, Holds, HoldsPart, settled, IsPartSettled, SettlesWhole, BreaksAt, told_by, told_to, HoldsAfter, BreaksHolding, TakesOne, TakesFront, TakesItems}
-use Rattle.serves.proofs.Stepping.{Grown, Rested, RestsAs, after_twice, steps_grow, steps_none, steps_rest, behind, heard_same, item_behind, silent_same}
+use Rattle.server.specs.declared.kinds.Took.{Took as AnyTook}
+use Rattle.server.specs.Prelude.{arrives, arrival as arrival_of, Rest, feed_at, find, takes_item}
+use Rattle.serves.proofs.Called.{by_option, fed_item, fed_none}
+use Rattle.streams.specs.declared.fault.StreamFault.{StreamFault}
+use Rattle.serves.specs.Prelude.{Talk, silent, after_bytes, heard_out, steps, steps_due, talk_of_due, unless_ended, talk_then, with_talk, talk_of_arrivals, conversation, IsPartOfDue, due_of, ComesTo, nothing_yet, part_of_first, after_first, as_it_is, ConversationComesTo, IsPlaced, due, as_item, item_talk, standing_of, rest_after, Holds, HoldsPart, settled, IsPartSettled, SettlesWhole, BreaksAt, IsFront, told_by, told_to, HoldsAfter, BreaksHolding, TakesOne, TakesFront, TakesItems, Feeds}
+use Rattle.serves.proofs.Stepping.{Grown, Rested, RestsAs, after_twice, steps_grow, steps_none, steps_rest, behind, heard_same, item_behind, silent_same, front_later, front_same, front_then}
 use Rattle.wire.proofs.Readers.{outputs-append, state-append, takes_outputs}
 use Rattle.serves.specs.declared.standing.Standing.{Standing}
 use Rattle.serves.specs.declared.standing.Standing.TheVariants.{Open, Over}
@@ -56,50 +59,34 @@ settled_rests S c ledger k p = let h = steps_rest S c (due k) ledger (heard_out 
 -- nothing follows an end
 pub item_talk_over : (S : Setting) (c : ℕ) (xs : List Item) (ledger : List EntryView) (k : Kept) → IsSome k.ended → item_talk S c xs ledger k ≡ silent ledger k
 item_talk_over S c [] ledger k e = refl
-item_talk_over S c (x ∷ xs) ledger k e = go k.ended e
-  where
-    go : (o : Option Cause) → IsSome o → unless_ended o (silent ledger k) (talk_then (talk_of_due S c ledger (after_item k (Some (arrives (version_of k) x)))) (item_talk S c xs)) ≡ silent ledger k
-    go (Some cause) e = refl
-    go None e = cc
+item_talk_over S c (x ∷ xs) ledger k e =
+    by_option (λ o. IsSome o → unless_ended o (silent ledger k) (talk_then (due_of S c ledger k (as_item k x)) (item_talk S c xs)) ≡ silent ledger k) k.ended (λ cause _ e. refl) (λ _ e. cc) e
 
 pub item_talk-append : (S : Setting) (c : ℕ) (xs ys : List Item) (ledger : List EntryView) (k : Kept) → item_talk S c (xs ++ ys) ledger k ≡ talk_then (item_talk S c xs ledger k) (item_talk S c ys)
 item_talk-append S c [] ys ledger k = refl
-item_talk-append S c (x ∷ xs) ys ledger k = go k.ended refl (λ l n. item_talk-append S c xs ys l n)
-  where
-    t : Talk
-    t = talk_of_due S c ledger (after_item k (Some (arrives (version_of k) x)))
-
-    go : (o : Option Cause) → k.ended ≡ o → ((l : List EntryView) (n : Kept) → item_talk S c (xs ++ ys) l n ≡ talk_then (item_talk S c xs l n) (item_talk S c ys))
-        → unless_ended o (silent ledger k) (talk_then t (item_talk S c (xs ++ ys))) ≡ talk_then (unless_ended o (silent ledger k) (talk_then t (item_talk S c xs))) (item_talk S c ys)
-    go (Some cause) e f = sym (item_talk_over S c ys ledger k (subst IsSome (sym e) refl))
-    go None e f = ap (after_bytes t.out) (f t.ledger t.kept) ∙ after_twice t.out (item_talk S c xs t.ledger t.kept).out (item_talk S c ys (item_talk S c xs t.ledger t.kept).ledger (item_talk S c xs t.ledger t.kept).kept)
+item_talk-append S c (x ∷ xs) ys ledger k =
+    let t = due_of S c ledger k (as_item k x) in
+    let later = item_talk S c xs t.ledger t.kept in
+    by_option (λ o. unless_ended o (silent ledger k) (talk_then t (item_talk S c (xs ++ ys))) ≡ talk_then (unless_ended o (silent ledger k) (talk_then t (item_talk S c xs))) (item_talk S c ys)) k.ended
+    (λ cause e. sym (item_talk_over S c ys ledger k (subst IsSome (sym e) refl)))
+    (λ e. ap (after_bytes t.out) (item_talk-append S c xs ys t.ledger t.kept) ∙ after_twice t.out later.out (item_talk S c ys later.ledger later.kept))
 
 -- Between two items nothing is unsent, and nothing waits.
 pub item_talk_rests : (S : Setting) (c : ℕ) (xs : List Item) (ledger : List EntryView) (k : Kept) → Rested k → Rested (item_talk S c xs ledger k).kept
 item_talk_rests S c [] ledger k h = h
-item_talk_rests S c (x ∷ xs) ledger k h = go k.ended refl (λ l n. item_talk_rests S c xs l n)
-  where
-    t : Talk
-    t = talk_of_due S c ledger (after_item k (Some (arrives (version_of k) x)))
-
-    go : (o : Option Cause) → k.ended ≡ o → ((l : List EntryView) (n : Kept) → Rested n → Rested (item_talk S c xs l n).kept) → Rested (unless_ended o (silent ledger k) (talk_then t (item_talk S c xs))).kept
-    go (Some cause) e f = h
-    go None e f = f t.ledger t.kept (settled_rests S c ledger (after_item k (Some (arrives (version_of k) x))) (fed_placed k (Some (arrives (version_of k) x)) (h.done e))).0
+item_talk_rests S c (x ∷ xs) ledger k h =
+    let t = due_of S c ledger k (as_item k x) in
+    by_option (λ o. Rested (unless_ended o (silent ledger k) (talk_then t (item_talk S c xs))).kept) k.ended (λ cause e. h)
+    (λ e. item_talk_rests S c xs t.ledger t.kept (settled_rests S c ledger (after_item k (Some (as_item k x))) (fed_placed k (Some (as_item k x)) (h.done e))).0)
 
 pub item_talk_grows : (S : Setting) (c : ℕ) (xs : List Item) (ledger : List EntryView) (k : Kept) → Grown ledger (item_talk S c xs ledger k)
 item_talk_grows S c [] ledger k = ([], append-nil ledger)
-item_talk_grows S c (x ∷ xs) ledger k = go k.ended (λ l n. item_talk_grows S c xs l n)
-  where
-    t : Talk
-    t = talk_of_due S c ledger (after_item k (Some (arrives (version_of k) x)))
-
-    go : (o : Option Cause) → ((l : List EntryView) (n : Kept) → Grown l (item_talk S c xs l n)) → Grown ledger (unless_ended o (silent ledger k) (talk_then t (item_talk S c xs)))
-    go (Some cause) f = ([], append-nil ledger)
-    go None f =
-        let next = after_item k (Some (arrives (version_of k) x)) in
-        let a = steps_grow S c (due next) ledger (heard_out next) in
-        let b = f t.ledger t.kept in
-        (a.0 ++ b.0, sym (append_assoc ledger a.0 b.0) ∙ ap (λ z. z ++ b.0) a.1 ∙ b.1)
+item_talk_grows S c (x ∷ xs) ledger k =
+    let next = after_item k (Some (as_item k x)) in
+    let t = talk_of_due S c ledger next in
+    let a = steps_grow S c (due next) ledger (heard_out next) in
+    let b = item_talk_grows S c xs t.ledger t.kept in
+    by_option (λ o. Grown ledger (unless_ended o (silent ledger k) (talk_then t (item_talk S c xs)))) k.ended (λ cause e. ([], append-nil ledger)) (λ e. (a.0 ++ b.0, sym (append_assoc ledger a.0 b.0) ∙ ap (λ z. z ++ b.0) a.1 ∙ b.1))
 
 -- One item more, or none.
 pub one_item : (S : Setting) (c : ℕ) (o : Option Item) (ledger : List EntryView) (k : Kept) → Rested k → k.ended ≡ None → item_talk S c (option_to_list o) ledger k ≡ talk_of_due S c ledger (after_item k (arrival_of k o))
@@ -132,34 +119,21 @@ comes_longer ys (after_first x xs ledger k t e h) = after_first x (xs ++ ys) led
 -- .. so it may where items come before, ..
 comes_later : (S : Setting) (c : ℕ) (xs ys : List Item) (ledger : List EntryView) (k : Kept) (t : Talk) → ComesTo as_item S c ys (item_talk S c xs ledger k).ledger (item_talk S c xs ledger k).kept t → ComesTo as_item S c (xs ++ ys) ledger k (after_bytes (item_talk S c xs ledger k).out t)
 comes_later S c [] ys ledger k t h = h
-comes_later S c (x ∷ xs) ys ledger k t h = go k.ended refl (λ l n. comes_later S c xs ys l n t) h
-  where
-    first : Talk
-    first = due_of S c ledger k (as_item k x)
-
-    said : Option Cause → Talk
-    said o = unless_ended o (silent ledger k) (talk_then first (item_talk S c xs))
-
-    go : (o : Option Cause) → k.ended ≡ o
-        → ((l : List EntryView) (n : Kept) → ComesTo as_item S c ys (item_talk S c xs l n).ledger (item_talk S c xs l n).kept t → ComesTo as_item S c (xs ++ ys) l n (after_bytes (item_talk S c xs l n).out t))
-        → ComesTo as_item S c ys (said o).ledger (said o).kept t → ComesTo as_item S c (x ∷ (xs ++ ys)) ledger k (after_bytes (said o).out t)
-    go (Some cause) e f h = comes_over (x ∷ (xs ++ ys)) (subst IsSome (sym e) refl) h
-    go None e f h =
-        let next = item_talk S c xs first.ledger first.kept in
-        subst (ComesTo as_item S c (x ∷ (xs ++ ys)) ledger k) (after_twice first.out next.out t)
-        (after_first x (xs ++ ys) ledger k (after_bytes next.out t) e (f first.ledger first.kept h))
+comes_later S c (x ∷ xs) ys ledger k t h =
+    let first = due_of S c ledger k (as_item k x) in
+    let said : Option Cause → Talk = λ o. unless_ended o (silent ledger k) (talk_then first (item_talk S c xs)) in
+    let next = item_talk S c xs first.ledger first.kept in
+    by_option (λ o. ComesTo as_item S c ys (said o).ledger (said o).kept t → ComesTo as_item S c (x ∷ (xs ++ ys)) ledger k (after_bytes (said o).out t)) k.ended
+    (λ cause e h. comes_over (x ∷ (xs ++ ys)) (subst IsSome (sym e) refl) h)
+    (λ e h. subst (ComesTo as_item S c (x ∷ (xs ++ ys)) ledger k) (after_twice first.out next.out t) (after_first x (xs ++ ys) ledger k (after_bytes next.out t) e (comes_later S c xs ys first.ledger first.kept t h))) h
 
 -- .. and it may have come to its end.
 pub comes_whole : (S : Setting) (c : ℕ) (xs : List Item) (ledger : List EntryView) (k : Kept) → ComesTo as_item S c xs ledger k (item_talk S c xs ledger k)
 comes_whole S c [] ledger k = nothing_yet [] ledger k
-comes_whole S c (x ∷ xs) ledger k = go k.ended refl (λ l n. comes_whole S c xs l n)
-  where
-    first : Talk
-    first = due_of S c ledger k (as_item k x)
-
-    go : (o : Option Cause) → k.ended ≡ o → ((l : List EntryView) (n : Kept) → ComesTo as_item S c xs l n (item_talk S c xs l n)) → ComesTo as_item S c (x ∷ xs) ledger k (unless_ended o (silent ledger k) (talk_then first (item_talk S c xs)))
-    go (Some cause) e f = nothing_yet (x ∷ xs) ledger k
-    go None e f = after_first x xs ledger k (item_talk S c xs first.ledger first.kept) e (f first.ledger first.kept)
+comes_whole S c (x ∷ xs) ledger k =
+    let first = due_of S c ledger k (as_item k x) in
+    by_option (λ o. ComesTo as_item S c (x ∷ xs) ledger k (unless_ended o (silent ledger k) (talk_then first (item_talk S c xs)))) k.ended
+    (λ cause e. nothing_yet (x ∷ xs) ledger k) (λ e. after_first x xs ledger k (item_talk S c xs first.ledger first.kept) e (comes_whole S c xs first.ledger first.kept))
 
 module _ {G : Type 0} (r : Rest G) (conn : ℕ) (S : Setting) where
   abbrev told : List ℕ → Talk
@@ -172,7 +146,7 @@ module _ {G : Type 0} (r : Rest G) (conn : ℕ) (S : Setting) where
   told_rests up = item_talk_rests S conn (items_received up) r.ledger begun (record { sent = refl; done = λ e. refl })
 
   -- a session that goes on isn't shut
-  pub open_not_shut : (up : List ℕ) → (told up).kept.ended ≡ None → shut (told up).kept ≡ false
+  open_not_shut : (up : List ℕ) → (told up).kept.ended ≡ None → shut (told up).kept ≡ false
   open_not_shut up e = ap (λ (o : Option Cause). is_some o || unread_among (told up).kept.waiting) e ∙ ap unread_among ((told_rests up).done e)
 
   told_append : (up more : List ℕ) → told (up ++ more) ≡ talk_then (told up) (item_talk S conn (outputs at_server (kept_at up) more))
@@ -191,29 +165,16 @@ module _ {G : Type 0} (r : Rest G) (conn : ℕ) (S : Setting) where
   pub breaks_more : {IsSo : Talk → Type 0} (up more : List ℕ) → BreaksAt (told up) (told_to r conn S up) IsSo → BreaksAt (told (up ++ more)) (told_to r conn S (up ++ more)) IsSo
   breaks_more up more b =
       let items = outputs at_server (kept_at up) more in
-      let later = item_talk S conn items (told up).ledger (told up).kept in
-      let g = item_talk_grows S conn items (told up).ledger (told up).kept in
       record {
         so_far = b.so_far;
         comes = subst (λ (xs : List Item). ComesTo as_item S conn xs r.ledger begun b.so_far) (sym (outputs-append Opened Item at_server at_server.start up more)) (comes_longer items b.comes);
         is_so = b.is_so;
-        more = b.more ++ g.0;
-        rest = b.rest ++ later.out;
-        grown = sym (append_assoc b.so_far.ledger b.more g.0) ∙ ap (λ z. z ++ g.0) b.grown ∙ g.1 ∙ ap (λ (x : Talk). x.ledger) (sym (told_append up more));
-        due = sym (append_assoc b.so_far.out b.rest later.out) ∙ ap (λ z. z ++ later.out) b.due ∙ ap (λ (x : Talk). x.out) (sym (told_append up more));
+        front = front_later b.front (subst (IsFront (told up)) (sym (told_append up more)) (front_then (told up) (item_talk S conn items) (item_talk_grows S conn items (told up).ledger (told up).kept)));
       }
 
   -- where all of it was done
   abbrev pub breaks_whole : {IsSo : Talk → Type 0} (up : List ℕ) → IsSo (told up) → BreaksAt (told up) (told_to r conn S up) IsSo
-  breaks_whole up h = record {
-    so_far = told up;
-    comes = comes_whole S conn (items_received up) r.ledger begun;
-    is_so = h;
-    more = [];
-    rest = [];
-    grown = append-nil (told up).ledger;
-    due = append-nil (told up).out;
-  }
+  breaks_whole up h = record { so_far = told up; comes = comes_whole S conn (items_received up) r.ledger begun; is_so = h; front = front_same (told up) }
 
   module _ (up piece : List ℕ) (goes_on : (told up).kept.ended ≡ None) where
     abbrev t : Took Opened Item
@@ -251,17 +212,21 @@ module _ {G : Type 0} (r : Rest G) (conn : ℕ) (S : Setting) where
     all_next = told_next ∙ after_twice (told up).out next.unsent (steps S conn (due next) (told up).ledger (heard_out next))
 
     -- the session holds what it held, and what it says to the item
-    pub fed_holds : {before taken : Option (List ℕ)} {Now : Rest G → Type 0} {new : Rest G} → (h : HoldsAfter r conn S Now before taken up) → new ≡ with_talk r conn t.rest (told up).ledger (after_item (record (told up).kept { unsent = h.held }) (arrival_of (told up).kept t.item)) → Holds r conn t.rest fed (λ x. new ≡ x) before taken
-    fed_holds h e =
+    pub fed_holds : (i : IsSome (find conn r.sessions)) {before taken : Option (List ℕ)} (old new : Rest G) → (h : HoldsAfter r conn S (λ x. old ≡ x) before taken up) → (took : AnyTook) → 0 < took.used → Feeds (feed_at conn piece) old new (Ok took)
+        → (took ≡ (takes_item (told up).kept t).took) × Holds r conn t.rest fed (λ x. new ≡ x) before taken
+    fed_holds i old new h took some feeds =
         let o = arrival_of (told up).kept t.item in
-        let same : after_item (record (told up).kept { unsent = h.held }) o ≡ behind h.held next = item_behind h.held (told up).kept o ∙ ap (λ (l : Kept). behind h.held (after_item l o)) (heard_same (told up).kept (told_rests up).sent) in
-        record {
-          gone = h.gone;
-          held = h.held ++ next.unsent;
-          parts = sym (append_assoc h.gone h.held next.unsent) ∙ ap (λ (z : List ℕ). z ++ next.unsent) h.parts;
-          took = h.took;
-          now = e ∙ ap (with_talk r conn t.rest (told up).ledger) same;
-        }
+        let e = fed_item r conn i (kept_at up) (told up).ledger (record (told up).kept { unsent = h.held }) piece old new h.now took (open_not_shut up goes_on) some feeds in
+        let same : after_item (record (told up).kept { unsent = h.held }) o ≡ behind h.held next = item_behind h.held (told up).kept o ∙ ap (λ (l : Kept). behind h.held (after_item l o)) (heard_same (told up).kept (told_rests up).sent) in (
+          e.0,
+          record {
+            gone = h.gone;
+            held = h.held ++ next.unsent;
+            parts = sym (append_assoc h.gone h.held next.unsent) ∙ ap (λ (z : List ℕ). z ++ next.unsent) h.parts;
+            took = h.took;
+            now = e.1 ∙ ap (with_talk r conn t.rest (told up).ledger) same;
+          },
+        )
 
     module _ {Now : Rest G → Type 0} {before taken : Option (List ℕ)} where
       pub one_taken : (used : ℕ) (standing : Standing) → used ≡ t.used → SettlesWhole r conn t.rest (settled S conn fed) Now before taken standing → TakesOne r conn S Now before taken up piece (Ok (record { used = used; standing = standing }))
@@ -284,24 +249,16 @@ module _ {G : Type 0} (r : Rest G) (conn : ℕ) (S : Setting) where
             so_far = h.so_far;
             comes = subst (told_to r conn S (up ++ take t.used piece)) (after_twice (told up).out next.unsent (steps S conn h.comes.0 (told up).ledger (heard_out next)) ∙ sym h.comes.1) (comes_next (after_bytes next.unsent (steps S conn h.comes.0 (told up).ledger (heard_out next))) (h.comes.0, refl));
             is_so = h.is_so;
-            more = h.more;
-            rest = h.rest;
-            grown = h.grown ∙ ap (λ (x : Talk). x.ledger) (sym all_next);
-            due = h.due ∙ ap (λ (x : Talk). x.out) (sym all_next);
+            front = subst (IsFront h.so_far) (sym all_next) h.front;
           } in
           subst (λ (z : List ℕ). BreaksHolding r conn S Now before taken z) (append_assoc up (take t.used piece) (drop t.used piece) ∙ ap (λ z. up ++ z) (take-append-drop t.used piece)) (breaks_more (up ++ take t.used piece) (drop t.used piece) b)
 
     -- where nothing was taken
-    pub none_taken : {Now : Rest G → Type 0} {before taken : Option (List ℕ)} {new : Rest G} → (h : HoldsAfter r conn S Now before taken up) → (v : Opened) × (new ≡ with_talk r conn v (told up).ledger (record (told up).kept { unsent = h.held })) → BreaksHolding r conn S (λ x. new ≡ x) before taken (up ++ piece)
-    none_taken h e = breaks_more up piece (breaks_whole up (record {
-      unfinished = e.0;
-      kept = record (told up).kept { unsent = h.held };
-      gone = h.gone;
-      lost = [];
-      parts = ap (λ (z : List ℕ). h.gone ++ z) (append-nil h.held) ∙ h.parts;
-      took = h.took;
-      now = e.1;
-    }))
+    pub none_taken : (i : IsSome (find conn r.sessions)) {before taken : Option (List ℕ)} (old new : Rest G) → HoldsAfter r conn S (λ x. old ≡ x) before taken up → (fault : StreamFault) → Feeds (feed_at conn piece) old new (Err fault) → BreaksHolding r conn S (λ x. new ≡ x) before taken (up ++ piece)
+    none_taken i old new h fault feeds =
+        let k : Kept = record (told up).kept { unsent = h.held } in
+        let e = fed_none r conn i (kept_at up) (told up).ledger k piece old new h.now fault feeds in
+        breaks_more up piece (breaks_whole up (record { unfinished = e.0; kept = k; gone = h.gone; lost = []; parts = ap (λ (z : List ℕ). h.gone ++ z) (append-nil h.held) ∙ h.parts; took = h.took; now = e.1 }))
 
 pub open_goes_on : (o : Option Cause) → Open ≡ standing_of o → o ≡ None
 open_goes_on None e = refl
@@ -413,7 +370,7 @@ module _ (S : Setting) (c : ℕ) (v : Version) where
 
   -- what follows one that arrives
   one_more : (x : Arrival) (xs : List Arrival) (y : Item) (ys : List Item) (ledger : List EntryView) (k : Kept) → arrives v y ≡ x → k.version ≡ Some v → (k.ended ≡ None → Follows xs ys ledger k x) → Alike S c (x ∷ xs) (y ∷ ys) ledger k
-  one_more x xs y ys ledger k a e f = by_end k.ended refl
+  one_more x xs y ys ledger k a e f = by_option (λ o. IsSome k.ended ⊎ ((as_item k y ≡ x) × Follows xs ys ledger k (as_item k y))) k.ended (λ cause q. inl (subst IsSome (sym q) refl)) (λ q. inr (is, subst (Follows xs ys ledger k) (sym is) (f q)))
     where
       known : (o : Option Version) → o ≡ Some v → version_of (record k { version = o }) ≡ v
       known None e = cc
@@ -421,10 +378,6 @@ module _ (S : Setting) (c : ℕ) (v : Version) where
 
       is : as_item k y ≡ x
       is = subst (λ (w : Version). arrives w y ≡ x) (sym (known k.version e)) a
-
-      by_end : (o : Option Cause) → k.ended ≡ o → IsSome k.ended ⊎ ((as_item k y ≡ x) × Follows xs ys ledger k (as_item k y))
-      by_end (Some cause) q = inl (subst IsSome (sym q) refl)
-      by_end None q = inr (is, subst (Follows xs ys ledger k) (sym is) (f q))
 
   goes_on : (x : Arrival) (ys : List Item) (ledger : List EntryView) (k : Kept) → Rested k → k.version ≡ Some v → ((after_item k (Some x)).version ≡ k.version) → Same ys → k.ended ≡ None → Follows (requests_in v ys) ys ledger k x
   goes_on x ys ledger k h e kept more o =

@@ -40,25 +40,23 @@ as_it_is k a = a
 abbrev pub ConversationComesTo : Setting → ℕ → List EntryView → List ℕ → Talk → Type 0
 ConversationComesTo S c ledger bytes = ComesTo as_it_is S c (arrivals bytes) ledger begun
 
--- A conversation was broken off: the sink took a beginning of what was put out by some moment of it, and the ledger is the one of that same
--- moment: a commit of whose answer anything was taken stands there. Both are a beginning of the whole.
-pub record BreaksOff (whole : Talk) (Comes : Talk → Type 0) (Stands : List EntryView → Type 0)
-    (old new : Option (List ℕ)) : Type 0 where
-  pub so_far : Talk
-  pub comes : Comes so_far
-  pub stands : Stands so_far.ledger
-  pub took : AppendsFront old new so_far.out
+-- What was put out by a moment and the ledger then are beginnings of what they are in the whole.
+pub record IsFront (so_far whole : Talk) : Type 0 where
   pub more : List EntryView
   pub rest : List ℕ
   pub grown : so_far.ledger ++ more ≡ whole.ledger
   pub due : so_far.out ++ rest ≡ whole.out
 
--- A conversation was broken off at some moment of it, of which this is so. What was put out by then and the ledger are beginnings of the whole.
+-- A conversation was broken off at some moment of it, of which this is so.
 pub record BreaksAt (whole : Talk) (Comes IsSo : Talk → Type 0) : Type 0 where
   pub so_far : Talk
   pub comes : Comes so_far
   pub is_so : IsSo so_far
-  pub more : List EntryView
-  pub rest : List ℕ
-  pub grown : so_far.ledger ++ more ≡ whole.ledger
-  pub due : so_far.out ++ rest ≡ whole.out
+  pub front : IsFront so_far whole
+
+-- A conversation was broken off: the sink took a beginning of what was put out by some moment of it, and the ledger is the one of that same
+-- moment: a commit of whose answer anything was taken stands there. Both are a beginning of the whole.
+abbrev pub BreaksOff : Talk → (Talk → Type 0) → (List EntryView → Type 0) → Option (List ℕ)
+    → Option (List ℕ) → Type 0
+BreaksOff whole Comes Stands old new =
+    BreaksAt whole Comes (λ s. Stands s.ledger × AppendsFront old new s.out)

@@ -57,6 +57,13 @@ rest_after (what.Handshake None) = Some Over
 rest_after what.BadMagic = Some Over
 rest_after _ = None
 
+-- what was taken and put out, and the first fault where there was any
+abbrev pub taken_and_put : Result Standing StreamFault → Result (Unit {0}) StreamFault
+    → Result Standing StreamFault
+taken_and_put (Ok standing) (Ok done) = Ok standing
+taken_and_put (Ok standing) (Err fault) = Err fault
+taken_and_put (Err fault) put = Err fault
+
 module _ {G : Type 0} where
   -- A step was worked, and what follows it is told; or nothing was done.
   abbrev pub Works : (Rest G → Option (Worked × Rest G)) → Rest G → Rest G
@@ -110,15 +117,12 @@ module _ {G : Type 0} (r : Rest G) (conn : ℕ) where
     pub kept : Kept
     pub now : Now (with_talk r conn unfinished ledger kept)
 
-  -- A fault came in the midst of it.
-  abbrev pub Breaks : Talk → (Talk → Type 0) → (Rest G → Type 0) → Option (List ℕ)
-      → Option (List ℕ) → Type 0
-  Breaks t Comes Now old new = BreaksOff t Comes (StandsOver Now) old new
-
   -- The session stands somehow, the others as before, and the ledger has grown by some entries, or by none.
-  abbrev pub Grows : (Rest G → Type 0) → Type 0
-  Grows Now = (u : Opened) × (k : Kept) × (more : List EntryView)
-      × Now (with_talk r conn u (r.ledger ++ more) k)
+  pub record Grows (Now : Rest G → Type 0) : Type 0 where
+    pub unfinished : Opened
+    pub kept : Kept
+    pub more : List EntryView
+    pub now : Now (with_talk r conn unfinished (r.ledger ++ more) kept)
 
   -- The session stands as the talk leaves it, but that it holds the end of what was put out: the sink took what went before.
   pub record Holds (u : Opened) (t : Talk) (Now : Rest G → Type 0) (before taken : Option (List ℕ))
@@ -186,7 +190,8 @@ module _ {G : Type 0} (r : Rest G) (conn : ℕ) where
 
     -- A fault came in the midst of it.
     abbrev pub BreaksIn : List ℕ → (Rest G → Type 0) → Option (List ℕ) → Option (List ℕ) → Type 0
-    BreaksIn up Now before new = Breaks (told_by up) (told_to up) Now before new
+    BreaksIn up Now before new =
+        BreaksOff (told_by up) (told_to up) (StandsOver Now) before new
 
     -- the server and the sink are as it has them
     abbrev pub Stands : (Rest G → Type 0) → Option (List ℕ) → Option (List ℕ) → List ℕ → Type 0
@@ -244,4 +249,9 @@ module _ {G : Type 0} (r : Rest G) (conn : ℕ) where
 -- From any rest in which it lived, the session lives on: the others are as before, and the ledger has at most grown.
 abbrev pub LivesOn : {G : Type 0} → ℕ → (Rest G → Type 0) → (Rest G → Type 0) → Type 0
 LivesOn {G = G} conn Old Now = (r : Rest G) → Old r → IsSome (find conn r.sessions)
+    → Grows r conn Now
+
+-- What has grown from any rest in which the session lived has grown from it still.
+abbrev pub GrowsOn : {G : Type 0} → ℕ → (Rest G → Type 0) → (Rest G → Type 0) → Type 0
+GrowsOn {G = G} conn Old Now = (r : Rest G) → IsSome (find conn r.sessions) → Grows r conn Old
     → Grows r conn Now

@@ -5,7 +5,7 @@ ghost use Rattle.server.specs.Serving.{Rest, cause_at, find, setting, work_at};
 ghost use Rattle.server.specs.Views.{rest_of, Fits};
 ghost use Rattle.serves.specs.Conversing.{Talk};
 ghost use Rattle.serves.specs.Putting.{Puts};
-ghost use Rattle.serves.specs.Settling.{IsDueTo, IsLive, LivesOn, IsPlaced, GoesOn, Holds, Settles, Steps, Works, next_of, standing_of};
+ghost use Rattle.serves.specs.Settling.{GrowsOn, IsDueTo, IsPlaced, GoesOn, Holds, Settles, Steps, Works, next_of, standing_of};
 
 use crate::standing::Standing;
 use engine::{Engine, Gate};
@@ -30,9 +30,7 @@ pub(crate) fn put_out<E: Engine, G: Gate, O: Sink>(
     conn: u64,
     sink: &mut O,
 ) -> Result<(), StreamFault>
-    requires { IsLive E.entries conn server.old }
-    ensures live { IsLive E.entries conn server.new }
-    ensures grows { LivesOn conn (Fits E.entries server.old) (Fits E.entries server.new) }
+    ensures grows { GrowsOn conn (Fits E.entries server.old) (Fits E.entries server.new) }
     ensures puts { Puts conn (rest_of E.entries server.old) (rest_of E.entries server.new)
         (O.taken sink.old) (O.taken sink.new) result }
     ensures failed { IfErr result (λ e. IsDueTo e false (O.has_failed sink.new)) }
@@ -56,9 +54,7 @@ pub(crate) fn settle<E: Engine, G: Gate, O: Sink>(
     conn: u64,
     sink: &mut O,
 ) -> Result<Standing, StreamFault>
-    requires { IsLive E.entries conn server.old }
-    ensures live { IsLive E.entries conn server.new }
-    ensures grows { LivesOn conn (Fits E.entries server.old) (Fits E.entries server.new) }
+    ensures grows { GrowsOn conn (Fits E.entries server.old) (Fits E.entries server.new) }
     ensures settles { (r : Rest G) (u : Opened) (t : Talk) (before : Option (List ℕ))
         → IsSome (find conn r.sessions) → t.kept.unsent ≡ [] → IsPlaced t.kept.waiting
         → Holds r conn u t (Fits E.entries server.old) before (O.taken sink.old)
@@ -82,9 +78,7 @@ fn work_once<E: Engine, G: Gate, O: Sink>(
     conn: u64,
     sink: &mut O,
 ) -> Result<Option<Standing>, StreamFault>
-    requires { IsLive E.entries conn server.old }
-    ensures live { IsLive E.entries conn server.new }
-    ensures grows { LivesOn conn (Fits E.entries server.old) (Fits E.entries server.new) }
+    ensures grows { GrowsOn conn (Fits E.entries server.old) (Fits E.entries server.new) }
     ensures steps { (r : Rest G) (u : Opened) (t : Talk) (before : Option (List ℕ))
         → IsSome (find conn r.sessions)
         → GoesOn r conn u t (setting E.answer G.accepts r) (Fits E.entries server.old) before
@@ -106,9 +100,7 @@ fn work_once<E: Engine, G: Gate, O: Sink>(
 
 /// Works a step. I3 for want of memory, and then nothing has changed.
 fn work_step<E: Engine, G: Gate>(server: &mut Server<E, G>, conn: u64) -> Result<Next, StreamFault>
-    requires { IsLive E.entries conn server.old }
-    ensures live { IsLive E.entries conn server.new }
-    ensures grows { LivesOn conn (Fits E.entries server.old) (Fits E.entries server.new) }
+    ensures grows { GrowsOn conn (Fits E.entries server.old) (Fits E.entries server.new) }
     ensures works { Works (work_at E.answer G.accepts conn) (rest_of E.entries server.old)
         (rest_of E.entries server.new) result }
     ensures memory { IfErr result (λ e. e ≡ StreamFault.Memory) }

@@ -4,7 +4,7 @@ ghost use Rattle.wire.specs.Framing.{at_server};
 ghost use Rattle.wire.specs.Reader.{state};
 ghost use Rattle.server.specs.Serving.{Rest, find, feed_at, setting};
 ghost use Rattle.server.specs.Views.{rest_of, Fits};
-ghost use Rattle.serves.specs.Settling.{IsDueTo, IsLive, LivesOn, Feeds, HoldsAfter, Stands, TakesOne, TakesItems, TakesPiece, rest_after, told_by};
+ghost use Rattle.serves.specs.Settling.{GrowsOn, IsDueTo, IsLive, LivesOn, Feeds, HoldsAfter, Stands, TakesOne, TakesItems, TakesPiece, rest_after, taken_and_put, told_by};
 
 use crate::due::{put_out, settle};
 use crate::standing::Standing;
@@ -43,6 +43,16 @@ pub fn take_piece<E: Engine, G: Gate, O: Sink>(
 {
     let taken = take_items(server, conn, piece, sink);
     let put = put_out(server, conn, sink);
+    both_of(taken, put)
+}
+
+/// What was taken and put out; the first fault where there was any.
+fn both_of(
+    taken: Result<Standing, StreamFault>,
+    put: Result<(), StreamFault>,
+) -> Result<Standing, StreamFault>
+    ensures { result ≡ taken_and_put taken put }
+{
     let standing = match taken {
         Ok(standing) => standing,
         Err(fault) => return Err(fault),
@@ -60,9 +70,7 @@ fn take_items<E: Engine, G: Gate, O: Sink>(
     piece: &[u8],
     sink: &mut O,
 ) -> Result<Standing, StreamFault>
-    requires { IsLive E.entries conn server.old }
-    ensures live { IsLive E.entries conn server.new }
-    ensures grows { LivesOn conn (Fits E.entries server.old) (Fits E.entries server.new) }
+    ensures grows { GrowsOn conn (Fits E.entries server.old) (Fits E.entries server.new) }
     ensures takes { (r : Rest G) (before : Option (List ℕ)) (up : List ℕ)
         → IsSome (find conn r.sessions)
         → (told_by r conn (setting E.answer G.accepts r) up).kept.ended ≡ None
@@ -95,9 +103,7 @@ fn take_one<E: Engine, G: Gate, O: Sink>(
     piece: &[u8],
     sink: &mut O,
 ) -> Result<Taken, StreamFault>
-    requires { IsLive E.entries conn server.old }
-    ensures live { IsLive E.entries conn server.new }
-    ensures grows { LivesOn conn (Fits E.entries server.old) (Fits E.entries server.new) }
+    ensures grows { GrowsOn conn (Fits E.entries server.old) (Fits E.entries server.new) }
     ensures bound { IfOk result (λ taken. (0 < taken.used) × (taken.used ≤ length piece.now)) }
     ensures takes { (r : Rest G) (before : Option (List ℕ)) (up : List ℕ)
         → IsSome (find conn r.sessions)
@@ -143,9 +149,7 @@ fn feed_one<E: Engine, G: Gate>(
     conn: u64,
     piece: &[u8],
 ) -> Result<Took, StreamFault>
-    requires { IsLive E.entries conn server.old }
-    ensures live { IsLive E.entries conn server.new }
-    ensures grows { LivesOn conn (Fits E.entries server.old) (Fits E.entries server.new) }
+    ensures grows { GrowsOn conn (Fits E.entries server.old) (Fits E.entries server.new) }
     ensures bound { IfOk result (λ took. (0 < took.used) × (took.used ≤ length piece.now)) }
     ensures feeds { Feeds (feed_at conn piece.now) (rest_of E.entries server.old)
         (rest_of E.entries server.new) result }

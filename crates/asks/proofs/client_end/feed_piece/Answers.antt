@@ -1,9 +1,8 @@
-use Rattle.std.proofs.Common.{◌≡◌, ℕ, inl, sym, ap, subst, rules, Bool, Ok, Err, List, map}
+use Rattle.std.proofs.Common.{inl, sym, ap, subst, rules, Bool, Ok, Err, List, map}
 use Rattle.std.proofs.lemmas.List.{nil_from_length}
-use Rattle.client.specs.Prelude.{Note, note, note_result, Fits, Rest, rest_of, feed_of, UnlessMemory}
+use Rattle.client.specs.Prelude.{Note, note, Fits, Rest}
 use Rattle.asks.specs.Prelude.{FeedsPiece, after_all}
-use Rattle.asks.proofs.Tales.{after_feed, part_kept, part_goes_on, part_refused, part_broken}
-use Rattle.client.specs.declared.Heard.{Heard}
+use Rattle.asks.proofs.Tales.{Feeds, part_kept, part_goes_on, part_refused, part_broken}
 use Rattle.asks.proofs.Known.{holds, same}
 use Rattle.asks.proofs.client_end.feed_piece.Goals as goal
 
@@ -21,7 +20,7 @@ pub returns-in-Err-clause-feeds : goal.returns-in-Err-clause-feeds
 returns-in-Err-clause-feeds c = λ r f.
     let p = part_kept (c.loop-rest.invariant r f) (ap (map note) c.reserve.ensures.items) in
     let s = after_all r p.fed in
-    let h = after_feed s c.loop-rest.rest.now (Fits c.feed.new.self) (Err c.in-Err.fault) (holds (λ (x : Rest). UnlessMemory {A = ℕ × Heard} (Err c.in-Err.fault) ((note_result (Err c.in-Err.fault) ≡ (feed_of x c.loop-rest.rest.now).answer) × (rest_of c.feed.new.self ≡ (feed_of x c.loop-rest.rest.now).rest))) _ c.in-Err.ensures.told s p.now) in
+    let h = holds (λ (x : Rest). Feeds x c.loop-rest.rest.now (Fits c.feed.new.self) (Err c.in-Err.fault)) _ c.in-Err.ensures.told s p.now in
     let before : List Note = map note c.args.heard.now.items in
     subst (λ (b : Bool). FeedsPiece r c.args.piece.now before (map note c.reserve.new.self.items) b (Fits c.feed.new.self)) (sym c.end_of.ensures.ended) (part_refused p c.in-Err.fault h (λ m. same _ _ (c.in-Err.ensures.memory m).0 s p.now))
 
@@ -29,5 +28,5 @@ pub loop-rest-preserved : goal.loop-rest-preserved
 loop-rest-preserved c = λ r f.
     let p = part_kept (c.loop-rest.invariant r f) (ap (map note) c.reserve.ensures.items) in
     let s = after_all r p.fed in
-    let h = after_feed s c.loop-rest.rest.now (Fits c.feed.new.self) (Ok (c.in-Ok.used, c.in-Ok.told)) (holds (λ (x : Rest). (note_result (Ok (c.in-Ok.used, c.in-Ok.told)) ≡ (feed_of x c.loop-rest.rest.now).answer) × (rest_of c.feed.new.self ≡ (feed_of x c.loop-rest.rest.now).rest)) _ c.in-Ok.ensures.told s p.now) in
+    let h = holds (λ (x : Rest). Feeds x c.loop-rest.rest.now (Fits c.feed.new.self) (Ok (c.in-Ok.used, c.in-Ok.told))) _ c.in-Ok.ensures.told s p.now in
     part_goes_on p (c.in-Ok.used, c.in-Ok.told) c.split_at.result.1.now (map note c.keep.new.heard.items) h c.split_at.ensures.back c.keep.ensures

@@ -1,9 +1,8 @@
 use Rattle.std.proofs.Common.{ℕ, List, ◌<◌, length, refl, inl, inr, subst, ◌∙◌, arith}
 use Rattle.std.specs.Io.KnownBytes.{Appends}
-use Rattle.server.specs.Prelude.{taken_from, Fits}
-use Rattle.serves.proofs.Called.{live_then, lives_called, lives_kept, all_out}
+use Rattle.server.specs.Prelude.{taken_from}
+use Rattle.serves.proofs.Called.{all_out, grows_called}
 use Rattle.std.proofs.KnownBytes.{Appends-nil}
-use Rattle.server.proofs.Known.{same}
 use Rattle.serves.proofs.due.put_out.Goals as goal
 
 -- as many as there may be
@@ -13,20 +12,11 @@ most = 18446744073709551615
 pub returns-in_default-clause-puts : goal.returns-in_default-clause-puts
 returns-in_default-clause-puts g c = inl (c.in_default.ensures.refused, Appends-nil (g.O.Sink.taken c.args.sink.now))
 
-pub returns-in_default-clause-live : goal.returns-in_default-clause-live
-returns-in_default-clause-live g c = (c.requires.0, (same _ _ c.in_default.ensures.refused) c.requires.0 c.requires.1, c.requires.2)
-
 pub returns-in_default-write_all-clause-grows : goal.returns-in_default-write_all-clause-grows
-returns-in_default-write_all-clause-grows g c = lives_called c.args.conn (taken_from most) (λ s. refl) _ _ c.in-Ok.bytes c.in-Ok.ensures.done
+returns-in_default-write_all-clause-grows g c = grows_called c.args.conn (taken_from most) (λ s. refl) _ _ c.in-Ok.bytes c.in-Ok.ensures.done
 
 pub returns-clause-grows : goal.returns-clause-grows
-returns-clause-grows g c = lives_called c.args.conn (taken_from most) (λ s. refl) _ _ c.in-Ok.bytes c.in-Ok.ensures.done
-
-pub returns-in_default-write_all-clause-live : goal.returns-in_default-write_all-clause-live
-returns-in_default-write_all-clause-live g c = live_then c.args.conn _ (Fits g.E.Engine.entries c.take_out.new.self) (lives_called c.args.conn (taken_from most) (λ s. refl) _ _ c.in-Ok.bytes c.in-Ok.ensures.done) c.requires
-
-pub returns-clause-live : goal.returns-clause-live
-returns-clause-live g c = live_then c.args.conn _ (Fits g.E.Engine.entries c.take_out.new.self) (lives_called c.args.conn (taken_from most) (λ s. refl) _ _ c.in-Ok.bytes c.in-Ok.ensures.done) c.requires
+returns-clause-grows g c = grows_called c.args.conn (taken_from most) (λ s. refl) _ _ c.in-Ok.bytes c.in-Ok.ensures.done
 
 pub returns-in_default-write_all-clause-puts : goal.returns-in_default-write_all-clause-puts
 returns-in_default-write_all-clause-puts g c =
@@ -38,6 +28,3 @@ pub returns-clause-puts : goal.returns-clause-puts
 returns-clause-puts g c =
     let few : length c.in-Ok.bytes < most = subst (λ (b : List ℕ). length b < most) c.as_slice.ensures (omega (arith, c.as_slice.type_inv.1)) in
     (c.in-Ok.bytes, all_out most c.args.conn _ _ c.in-Ok.bytes few c.in-Ok.ensures.done, subst (Appends (g.O.Sink.taken c.args.sink.now) (g.O.Sink.taken c.write_all.new.sink)) c.as_slice.ensures c.in-Ok-write_all.ensures.ok)
-
-pub returns-in_default-clause-grows : goal.returns-in_default-clause-grows
-returns-in_default-clause-grows g c = lives_kept c.args.conn (Fits g.E.Engine.entries c.args.server.now) (Fits g.E.Engine.entries c.take_out.new.self) (same _ _ c.in_default.ensures.refused)

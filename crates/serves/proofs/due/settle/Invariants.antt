@@ -1,13 +1,12 @@
 use Rattle.std.proofs.Common.{◌≡◌, [], List, ℕ, Option, IsSome}
 use Rattle.wire.specs.Prelude.{Opened}
 use Rattle.server.specs.Prelude.{Rest, find, setting, Fits}
-use Rattle.serves.specs.Prelude.{Talk, GoesOn, Holds, IsLive, IsPlaced, LivesOn}
+use Rattle.serves.specs.Prelude.{Talk, GoesOn, Holds, IsPlaced, GrowsOn}
 use Rattle.serves.proofs.due.settle.Given as goal
 
 abbrev pub invariant-loop : goal.invariant-loop
 invariant-loop g l = record {
-  live : IsLive g.E.Engine.entries l.fn.conn l.server;
-  grows : LivesOn l.fn.conn (Fits g.E.Engine.entries l.fn.server) (Fits g.E.Engine.entries l.server);
+  grows : GrowsOn l.fn.conn (Fits g.E.Engine.entries l.fn.server) (Fits g.E.Engine.entries l.server);
   goes : (r : Rest g.row.G.Denot) (u : Opened) (t : Talk) (before : Option (List ℕ)) → IsSome (find l.fn.conn r.sessions) → t.kept.unsent ≡ [] → IsPlaced t.kept.waiting → Holds r l.fn.conn u t (Fits g.E.Engine.entries l.fn.server) before (g.O.Sink.taken l.fn.sink)
       → GoesOn r l.fn.conn u t (setting g.E.Engine.answer g.G.Gate.accepts r) (Fits g.E.Engine.entries l.server) before (g.O.Sink.taken l.sink);
 }

@@ -1,9 +1,9 @@
 use Rattle.std.proofs.Common.{◌∙◌, ap}
-use Rattle.server.specs.Prelude.{setting, rest_of, Fits}
+use Rattle.server.specs.Prelude.{setting, rest_of}
 use Rattle.serves.specs.Prelude.{settled, standing_of}
 use Rattle.serves.specs.declared.due.Next.TheVariants as next
 use Rattle.serves.proofs.Stepping.{goes_by, goes_with, goes_wrong, holds_part, holds_same}
-use Rattle.serves.proofs.Called.{ended_there, holds_none, holds_some, lives_then}
+use Rattle.serves.proofs.Called.{ended_there, holds_none, holds_some}
 use Rattle.serves.proofs.due.work_once.Goals as goal
 
 pub returns-in-Ok-Step-clause-steps : goal.returns-in-Ok-Step-clause-steps
@@ -30,9 +30,3 @@ returns-in-Err-put_out-clause-steps g c = λ r u t before i o.
 
 pub returns-in-Err-clause-steps : goal.returns-in-Err-clause-steps
 returns-in-Err-clause-steps g c = λ r u t before i o. goes_wrong o (holds_part (holds_same c.in-Err.ensures.works o.holds))
-
-pub returns-in-Ok-clause-grows : goal.returns-in-Ok-clause-grows
-returns-in-Ok-clause-grows g c = lives_then c.args.conn (Fits g.E.Engine.entries c.args.server.now) (Fits g.E.Engine.entries c.work_step.new.server) (Fits g.E.Engine.entries c.put_out.new.server) c.work_step.ensures.grows c.put_out.ensures.grows
-
-pub returns-in-Err-put_out-clause-grows : goal.returns-in-Err-put_out-clause-grows
-returns-in-Err-put_out-clause-grows g c = lives_then c.args.conn (Fits g.E.Engine.entries c.args.server.now) (Fits g.E.Engine.entries c.work_step.new.server) (Fits g.E.Engine.entries c.put_out.new.server) c.work_step.ensures.grows c.put_out.ensures.grows

@@ -48,12 +48,6 @@ returns-in-Err-clause-converses g c = λ r f e.
     reads_broken p (g.I.Peer.left c.read_after.new.self) (take c.in-Ok.count c.read_after.new.buffer) c.in-Ok.ensures.bytes.0 (Fits g.E.Engine.entries c.take_piece.new.server) (g.O.Sink.taken c.take_piece.new.sink)
     c.in-Err.fault never (c.in-Err.ensures.takes r (g.O.Sink.taken c.args.sink.now) p.up (subst IsSome (sym e) refl) p.live p.stands)
 
-pub returns-in_default-clause-grows : goal.returns-in_default-clause-grows
-returns-in_default-clause-grows g c = c.loop-count.invariant.grows
-
-pub returns-then-count-eq0-clause-grows : goal.returns-then-count-eq0-clause-grows
-returns-then-count-eq0-clause-grows g c = c.loop-count.invariant.grows
-
 pub returns-in-Ok-Over-clause-grows : goal.returns-in-Ok-Over-clause-grows
 returns-in-Ok-Over-clause-grows g c = lives_then c.args.conn (Fits g.E.Engine.entries c.args.server.now) (Fits g.E.Engine.entries c.loop-count.server) (Fits g.E.Engine.entries c.take_piece.new.server) c.loop-count.invariant.grows c.take_piece.ensures.grows
 

@@ -1,8 +1,9 @@
 use Rattle.std.proofs.Common.{◌∙◌, sym, ap, subst, refl, Option, IsSome, unwrap_or}
 use Rattle.session.specs.declared.kinds.Cause.{Cause}
 use Rattle.server.specs.Prelude.{find, lost_at, setting, Fits}
-use Rattle.serves.specs.Prelude.{conversation, with_talk}
-use Rattle.serves.proofs.Called.{lives_no_more, lost_cause, lost_rest}
+use Rattle.serves.specs.Prelude.{StandsOver, Talk, conversation, with_talk}
+use Rattle.serves.proofs.Stepping.{breaks_off}
+use Rattle.serves.proofs.Called.{leaves_lost, lost_cause, lost_rest}
 use Rattle.server.proofs.Known.{gone}
 use Rattle.serves.proofs.server_end.serve_one.Goals as goal
 
@@ -25,27 +26,11 @@ pub returns-in-Err-clause-serves : goal.returns-in-Err-clause-serves
 returns-in-Err-clause-serves g c = λ r f e.
     let h = c.in-Err.ensures.converses r f e in
     let i : IsSome (find c.args.conn r.sessions) = subst IsSome (sym e) refl in
-    let b = h.broken in
-    let s = b.stands in
-    let l = (gone (lost_at c.args.conn) _ _ _ c.lost.ensures) (with_talk r c.args.conn s.unfinished b.so_far.ledger s.kept) s.now in
-    record {
-      read = h.read;
-      input = h.input;
-      broken = record {
-        so_far = b.so_far;
-        comes = b.comes;
-        stands = subst (Fits g.E.Engine.entries c.lost.new.self) (lost_rest r c.args.conn i s.unfinished b.so_far.ledger s.kept) l.1;
-        took = b.took;
-        more = b.more;
-        rest = b.rest;
-        grown = b.grown;
-        due = b.due;
-      };
-      whole = h.whole;
-    }
+    let given_up = λ (s : Talk) (x : StandsOver r c.args.conn (Fits g.E.Engine.entries c.converse-done.new.server) s.ledger). (gone (lost_at c.args.conn) _ _ _ c.lost.ensures _ x.now).1 ∙ lost_rest r c.args.conn i x.unfinished s.ledger x.kept in
+    record { read = h.read; input = h.input; broken = breaks_off h.broken (λ s x. (given_up s x.0, x.1)); whole = h.whole }
 
 pub returns-in-Ok-clause-leaves : goal.returns-in-Ok-clause-leaves
-returns-in-Ok-clause-leaves g c = lives_no_more c.args.conn (Fits g.E.Engine.entries c.args.server.now) (Fits g.E.Engine.entries c.converse-done.new.server) (Fits g.E.Engine.entries c.lost.new.self) c.lost.result c.converse-done.ensures.grows (gone (lost_at c.args.conn) _ _ _ c.lost.ensures)
+returns-in-Ok-clause-leaves g c = leaves_lost c.args.conn _ _ _ c.lost.result c.converse-done.ensures.grows c.lost.ensures
 
 pub returns-in-Err-clause-leaves : goal.returns-in-Err-clause-leaves
-returns-in-Err-clause-leaves g c = lives_no_more c.args.conn (Fits g.E.Engine.entries c.args.server.now) (Fits g.E.Engine.entries c.converse-done.new.server) (Fits g.E.Engine.entries c.lost.new.self) c.lost.result c.converse-done.ensures.grows (gone (lost_at c.args.conn) _ _ _ c.lost.ensures)
+returns-in-Err-clause-leaves g c = leaves_lost c.args.conn _ _ _ c.lost.result c.converse-done.ensures.grows c.lost.ensures
