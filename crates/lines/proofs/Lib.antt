@@ -4,3 +4,4 @@ pub mod Carried
 pub mod Lingered
 pub mod Parted
 pub mod Apart
+pub mod Living

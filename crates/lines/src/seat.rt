@@ -232,6 +232,8 @@ impl Seat {
         ensures moves { Moves E.answer G.accepts (limits.now.reads * (limits.now.steps * 2) + 1) (limits.now.reads + 2) []
             (rest_of E.entries server.old) (rest_of E.entries server.new)
             (seat_held self.old) (seat_held self.new) (P.wire peers.old) (P.wire peers.new) }
+        ensures lives { IsSome (find (seat_held self.old).conn (rest_of E.entries server.old).sessions)
+            → IsSome (find (seat_held self.new).conn (rest_of E.entries server.new).sessions) }
         ensures since { self.new.since ≡ self.old.since }
         ensures let_in { self.new.let_in ≡ (self.old.let_in
             || is_past_log_in (state_at (seat_held self.new).conn (rest_of E.entries server.new))) }
