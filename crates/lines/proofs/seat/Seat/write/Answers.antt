@@ -1,0 +1,7 @@
+use Rattle.lines.proofs.Moved.{moves_then, moves_carried}
+use Rattle.lines.proofs.seat.Seat.write.Goals as goal
+
+pub returns-clause-moves : goal.returns-clause-moves
+returns-clause-moves g c =
+    moves_then g.E.Engine.answer g.G.Gate.accepts (moves_carried g.E.Engine.answer g.G.Gate.accepts _ c.utter.ensures.carries)
+    (moves_then g.E.Engine.answer g.G.Gate.accepts (c.draw-drawn.ensures (g.P.Peers.wire c.utter.new.peers)) (moves_carried g.E.Engine.answer g.G.Gate.accepts _ c.utter-2.ensures.carries))
