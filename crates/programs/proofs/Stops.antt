@@ -8,11 +8,14 @@ use Rattle.programs.specs.declared.stop.StopReason.{StopReason}
 use Rattle.programs.specs.declared.stop.StopReason.TheVariants.{Unreadable, Broken}
 use Rattle.programs.specs.Prelude.{IsStopOf, fault_in, stop_status}
 
+pub cause_of : (fault : StreamFault) (A B : Type 0) → (fault ≡ ReadFailed → A) → (fault ≡ WriteFailed → B) → IsStopOf (Broken fault) A B
+cause_of ReadFailed A B a b = a refl
+cause_of WriteFailed A B a b = b refl
+cause_of Memory A B a b = tt
+
 pub stop_of : (stop : StopReason) (A B : Type 0) → (stop ≡ Broken ReadFailed → A) → (stop ≡ Broken WriteFailed → B) → IsStopOf stop A B
 stop_of (Unreadable n) A B a b = tt
-stop_of (Broken ReadFailed) A B a b = a refl
-stop_of (Broken WriteFailed) A B a b = b refl
-stop_of (Broken Memory) A B a b = tt
+stop_of (Broken fault) A B a b = cause_of fault A B (λ e. a (ap Broken e)) (λ e. b (ap Broken e))
 
 -- a status of 0 is that of no stop
 pub never_well : (stop : StopReason) → stop_status stop ≡ 0 → ⊥
