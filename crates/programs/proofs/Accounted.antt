@@ -146,10 +146,11 @@ module _ (n : ℕ) (phase : Phase) (outcome : Outcome) (said : ResponseView) whe
   holds_line broken v [] after (x ∷ xs) unshown text begun told e h k =
       let same : x ≡ summary = cc in
       let first : IsExplained (version_after v summary) summary h.0 = subst (λ (z : Note). IsExplained (version_after v z) z h.0) same h.2 in
-      inl (holds_behind (line ∷ []) text begun ([], failure_told summary ++ h.1, h.4 ∙ ap (λ (z : List ℕ). z ++ h.1) (first.2 ∙ ap (λ (z : List ℕ). z ++ failure_told summary) first.1) ∙ append_assoc line (failure_told summary) h.1, tt))
+      inl (holds_behind (line ∷ []) text begun ([], failure_told summary ++ h.1, simp (h.4, first.2, first.1, append_assoc), tt))
   holds_line broken v (b ∷ bs) after (x ∷ xs) unshown text begun told e h k =
       let tail : bs ++ summary ∷ after ≡ xs ++ unshown = cc in
-      ⊎_elim (λ z. inl (subst (λ (t : List ℕ). Holds (line ∷ []) (t ++ begun)) (sym h.4) (subst (Holds (line ∷ [])) (sym (append_assoc h.0 h.1 begun)) (holds_before (line ∷ []) h.0 (h.1 ++ begun) z)))) inr (holds_line broken (version_after v x) bs after xs unshown h.1 begun told tail h.3 k)
+      ⊎_elim (λ z. inl (rw (h.4, append_assoc) (holds_before (line ∷ []) h.0 (h.1 ++ begun) z))) inr
+      (holds_line broken (version_after v x) bs after xs unshown h.1 begun told tail h.3 k)
 
 -- ---- a request that has no answer
 

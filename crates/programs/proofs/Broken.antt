@@ -166,13 +166,13 @@ module _ (S : Setting) (conn : ℕ) (ledger : List EntryView) where
   lines_show t (l ∷ ls) =
       let first = line_shows (refuses t.place.rest.knows (meant t.place.version l.1)) t l in
       let rest = lines_show (after_line S conn ledger t l) ls in
-      (first.0 ++ rest.0, rest.1 ∙ ap (λ (z : List Shown). z ++ rest.0) first.1 ∙ append_assoc t.shown first.0 rest.0)
+      (first.0 ++ rest.0, simp (rest.1, first.1, append_assoc))
 
   -- of an answer first what is heard of its beginning
   due_shows : (t : Turns) (heard rest : List ℕ) → heard ++ rest ≡ due S conn ledger t → (more : List Shown) × ((exchanged S conn ledger t).shown ≡ (t.shown ++ shown_of t.place heard) ++ more)
   due_shows t heard rest parts = (
     shown_of (place_after t.place heard) rest,
-    ap (λ (z : List ℕ). t.shown ++ shown_of t.place z) (sym parts) ∙ ap (λ (z : List Shown). t.shown ++ z) (shown_more t.place heard rest) ∙ sym (append_assoc t.shown (shown_of t.place heard) (shown_of (place_after t.place heard) rest)),
+    rw (← parts, shown_more t.place heard rest) (simp append_assoc),
   )
 
   none_shows : (t : Turns) (heard rest : List ℕ) → heard ++ rest ≡ [] → t.shown ++ shown_of t.place heard ≡ t.shown
