@@ -1,7 +1,7 @@
 -- How far a loop has come where a fault breaks it off.
 use Rattle.std.proofs.Common.{◌≡◌, refl, sym, ap, subst, ◌∙◌, ℕ, ◌≤◌, Bool, List, [], ◌∷◌, ◌++◌, length, append_assoc, append-nil, Option, Some, None, Err, ⊎_elim, inl, inr, length-append, arith}
 use Rattle.std.specs.Io.KnownBytes.{Appends, Consumes}
-use Rattle.std.proofs.KnownBytes.{Appends-nil, Appends-trans, Consumes-nil, Consumes-trans}
+use Rattle.std.proofs.KnownBytes.{Appends-trans, Consumes-nil, Consumes-trans}
 use Rattle.engine.specs.Prelude.{EntryView}
 use Rattle.session.specs.Prelude.{Setting}
 use Rattle.server.specs.Prelude.{Rest, opened}
@@ -18,7 +18,7 @@ use Rattle.programs.specs.declared.loops.Pair.{Pair}
 use Rattle.programs.specs.Prelude.{Passes, Breaks, BreaksAt, BreaksIn, Comes, HearsFront, IsFrontOfNext, Place, Prints, PrintsFront, PrintsPart, ReadsUpTo}
 use Rattle.programs.specs.Prelude.{Shown, OfRefusal, Submits, Turns, Ways, after_line, after_lines, answer_to, due, end, entries_text, exchanged, given}
 use Rattle.programs.specs.Prelude.{line_by, line_stages, no_turns, place_after, refused_line, shown_of, stage_by, stages, stages_of, talk_for, turns_of}
-use Rattle.programs.specs.Prelude.{all_sent, first_place, whole_talk, with_refusal, with_request}
+use Rattle.programs.specs.Prelude.{all_sent, first_place, with_refusal, with_request}
 use Rattle.programs.proofs.Looped.{all_out}
 use Rattle.programs.proofs.Turned.{answer_is, answer_more, prints_none, prints_some, shown_more}
 

@@ -1,5 +1,5 @@
 -- What two ends have come to: the streams between them, the session, and both.
-use Rattle.std.proofs.Common.{◌≡◌, refl, sym, ap, subst, ◌∙◌, ℕ, ◌+◌, Bool, List, [], ◌∷◌, ◌++◌, length, take, drop, append_assoc, append-nil, length-append, arith, Option, Some, None, Ok, inl, inr, IsSome}
+use Rattle.std.proofs.Common.{◌≡◌, refl, sym, ap, subst, ◌∙◌, ℕ, ◌+◌, Bool, List, [], ◌++◌, length, take, drop, append_assoc, append-nil, length-append, arith, Option, Some, None, Ok, inl, inr, IsSome}
 use Rattle.std.proofs.lemmas.List.{append_cancel_left}
 use Rattle.std.specs.Io.KnownBytes.{Appends}
 use Rattle.std.proofs.KnownBytes.{Appends-nil, Appends-trans, Consumes-nil, Consumes-trans}
@@ -23,7 +23,7 @@ use Rattle.programs.specs.declared.loops.Pair.{Pair}
 use Rattle.programs.specs.declared.stop.StopReason.{StopReason}
 use Rattle.programs.specs.declared.stop.StopReason.TheVariants.{Unreadable, Broken}
 use Rattle.programs.specs.Prelude.{Alters, BreaksAtSource, Comes, ComesOn, IsHeardAll, IsOn, LetsReadWaiting, Loops, Numbers, Passes, Prints, Sits}
-use Rattle.programs.specs.Prelude.{HasOpened, StandsAt, TellsLine, Way, Ways, entries_text, end, whole_talk, Gets, stop_status, stop_text, IsAt, first_place, Place}
+use Rattle.programs.specs.Prelude.{HasOpened, StandsAt, TellsLine, Way, Ways, entries_text, Gets, stop_status, stop_text, IsAt, first_place, Place}
 use Rattle.programs.specs.Prelude.{submitted, with_request, Turns, IsQuiet, AreQuiet, all_sent, answer_to, exchanged, given, line_by, no_turns, place_after, shown_of, talk_for, turns_of}
 use Rattle.programs.proofs.Served.{found_by}
 use Rattle.programs.proofs.Stops.{broken_stops}

@@ -1,5 +1,5 @@
 -- Bytes that were read into the rest of a buffer, and parts of bytes.
-use Rattle.std.proofs.Common.{◌≡◌, ◌∙◌, ◌++◌, ◌+◌, ◌≤◌, ℕ, true, false, true≢false, List, length, take, drop, take-append-drop, length-take, arith, sym, ap, not, bytes_eq}
+use Rattle.std.proofs.Common.{◌≡◌, ◌∙◌, ◌++◌, ◌+◌, ◌≤◌, ℕ, true, false, true≢false, List, length, take, sym, ap, not, bytes_eq}
 use Rattle.std.proofs.lemmas.Bool.{not-false, not-true}
 use Rattle.cells.proofs.Equality.{bytes_are, bytes_is}
 use Rattle.std.proofs.Math.Seq.{take-append-add}

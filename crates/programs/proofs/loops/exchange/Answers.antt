@@ -1,4 +1,4 @@
-use Rattle.std.proofs.Common.{◌∙◌, ◌++◌, [], refl, sym, ap, append-nil, arith, ℕ, List}
+use Rattle.std.proofs.Common.{◌∙◌, [], refl, sym, ap, append-nil, arith}
 use Rattle.client.specs.Fits.{rest_of}
 use Rattle.client.specs.Prelude.{Rest, awaits}
 use Rattle.server.specs.Prelude.{setting}
