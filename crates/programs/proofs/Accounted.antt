@@ -2,7 +2,6 @@
 use Rattle.std.proofs.Common.{◌≡◌, refl, sym, ap, subst, ◌∙◌, ℕ, suc, ◌+◌, Bool, true, false, not, ◌&&◌, ◌||◌, cond, true≢false, List, [], ◌∷◌, ◌++◌, length, drop, append_assoc, append-nil, Option, Some, None, is_none, unwrap_or, length-append, ◌⊎◌, ⊎_elim, inl, inr, arith}
 use Rattle.std.proofs.lemmas.Bool.{cond_both}
 use Rattle.std.proofs.lemmas.Grind.{flat_map-append}
-use Rattle.std.specs.List.{flat_map}
 use Rattle.wire.specs.declared.Version.{Version}
 use Rattle.wire.specs.declared.Version.TheVariants.{V51}
 use Rattle.wire.specs.declared.Wish.{Wish}
@@ -79,38 +78,32 @@ tale_one wish k (x ∷ xs) q e =
       phase = w.phase;
       outcome = w.outcome;
       said = w.said;
-      notes = ap (λ (z : List Note). notes ++ z) w.notes ∙ ap (λ (n : ℕ). notes ++ (w.before ++ Summary n w.phase w.outcome w.said ∷ w.after)) s.1 ∙ sym (append_assoc notes w.before (Summary k.first w.phase w.outcome w.said ∷ w.after));
+      notes = simp (w.notes, append_assoc, s.1);
       now = (w.now.0, w.now.1 ∙ ap suc s.1);
     })) (tale_one wish h.knows xs q s.0))
     (λ s. let none = tale_none wish h.knows xs s.4.0 in inr (record { before = []; after = rest.notes; phase = s.0; outcome = s.1; said = s.2; notes = ap (λ (z : List Note). z ++ rest.notes) s.3; now = (none.0, none.1 ∙ s.4.1) })) (step_one wish k said h q (makes wish k said) e))
 
 -- ---- lines that texts hold
 
-holds_behind : (lines : List (List ℕ)) (text more : List ℕ) → Holds lines text → Holds lines (text ++ more)
-holds_behind [] text more h = tt
-holds_behind (line ∷ lines) text more h =
-    (h.0, h.1 ++ more, ap (λ (z : List ℕ). z ++ more) h.2 ∙ append_assoc h.0 (line ++ h.1) more ∙ ap (λ (z : List ℕ). h.0 ++ z) (append_assoc line h.1 more), holds_behind lines h.1 more h.3)
+holds_then : (lines more : List (List ℕ)) (text rest : List ℕ) → Holds lines text → Holds more rest → Holds (lines ++ more) (text ++ rest)
+holds_then [] [] text rest h k = tt
+holds_then [] (m ∷ more) text rest h k = (text ++ k.0, k.1, simp (k.2, append_assoc), k.3)
+holds_then (line ∷ lines) more text rest h k = (h.0, h.1 ++ rest, simp (h.2, append_assoc), holds_then lines more h.1 rest h.3 k)
 
 holds_before : (lines : List (List ℕ)) (first text : List ℕ) → Holds lines text → Holds lines (first ++ text)
-holds_before [] first text h = tt
-holds_before (line ∷ lines) first text h = (first ++ h.0, h.1, ap (λ (z : List ℕ). first ++ z) h.2 ∙ sym (append_assoc first h.0 (line ++ h.1)), h.3)
+holds_before lines first text h = holds_then [] lines first text tt h
 
-holds_then : (lines more : List (List ℕ)) (text rest : List ℕ) → Holds lines text → Holds more rest → Holds (lines ++ more) (text ++ rest)
-holds_then [] more text rest h k = holds_before more text rest k
-holds_then (line ∷ lines) more text rest h k =
-    (h.0, h.1 ++ rest, ap (λ (z : List ℕ). z ++ rest) h.2 ∙ append_assoc h.0 (line ++ h.1) rest ∙ ap (λ (z : List ℕ). h.0 ++ z) (append_assoc line h.1 rest), holds_then lines more h.1 rest h.3 k)
+holds_behind : (lines : List (List ℕ)) (text more : List ℕ) → Holds lines text → Holds lines (text ++ more)
+holds_behind lines text more h = rw (← append-nil lines) (holds_then lines [] text more h tt)
 
 lines_last : (line : ℕ → Fate → List (List ℕ)) (n : ℕ) (fs : List Fate) (f : Fate) → lines_from line n (fs ++ f ∷ []) ≡ lines_from line n fs ++ line (n + length fs) f
 lines_last line n [] f = append-nil (line n f) ∙ ap (λ (m : ℕ). line m f) (omega arith)
-lines_last line n (g ∷ gs) f =
-    ap (λ (z : List (List ℕ)). line n g ++ z) (lines_last line (n + 1) gs f) ∙ sym (append_assoc (line n g) (lines_from line (n + 1) gs) (line ((n + 1) + length gs) f))
-    ∙ ap (λ (m : ℕ). lines_from line n (g ∷ gs) ++ line m f) (omega arith)
-
-lines_more : (line : ℕ → Fate → List (List ℕ)) (fs : List Fate) (f : Fate) → lines_from line 0 (fs ++ f ∷ []) ≡ lines_from line 0 fs ++ line (length fs) f
-lines_more line fs f = lines_last line 0 fs f ∙ ap (λ (m : ℕ). lines_from line 0 fs ++ line m f) (omega arith)
+lines_last line n (g ∷ gs) f = rw (lines_last line (n + 1) gs f) (simp append_assoc (ap (λ m. line n g ++ (lines_from line (n + 1) gs ++ line m f)) (omega arith)))
 
 holds_last : (line : ℕ → Fate → List (List ℕ)) (fs : List Fate) (f : Fate) (text rest : List ℕ) → Holds (lines_from line 0 fs) text → Holds (line (length fs) f) rest → Holds (lines_from line 0 (fs ++ f ∷ [])) (text ++ rest)
-holds_last line fs f text rest h k = subst (λ (ls : List (List ℕ)). Holds ls (text ++ rest)) (sym (lines_more line fs f)) (holds_then (lines_from line 0 fs) (line (length fs) f) text rest h k)
+holds_last line fs f text rest h k =
+    let here : 0 + length fs ≡ length fs = omega arith in
+    rw (lines_last line 0 fs f, here) (holds_then (lines_from line 0 fs) (line (length fs) f) text rest h k)
 
 fates_last : (qs : List Sending) (fs : List Fate) (q : Sending) (f : Fate) → AreFates qs fs → (f ≡ Unanswered → is_goodbye (kind_of q.said) ≡ true) → AreFates (qs ++ q ∷ []) (fs ++ f ∷ [])
 fates_last [] [] q f h k = (k, tt)
@@ -119,9 +112,7 @@ fates_last (r ∷ rs) [] q f h k = absurd h
 fates_last (r ∷ rs) (g ∷ gs) q f h k = (h.0, fates_last rs gs q f h.1 k)
 
 bytes_last : (qs : List Sending) (q : Sending) → asked_bytes (qs ++ q ∷ []) ≡ asked_bytes qs ++ asking_bytes q.version q.said
-bytes_last qs q =
-    let each = λ (q : Sending). asking_bytes q.version q.said in
-    ap (λ (z : List ℕ). offer_of Newest ++ z) (flat_map-append each qs (q ∷ []) ∙ ap (λ (z : List ℕ). flat_map each qs ++ z) (append-nil (each q))) ∙ sym (append_assoc (offer_of Newest) (flat_map each qs) (each q))
+bytes_last qs q = simp (flat_map-append, append-nil, append_assoc)
 
 -- ---- where a summary's line is
 
@@ -154,10 +145,11 @@ module _ (n : ℕ) (phase : Phase) (outcome : Outcome) (said : ResponseView) whe
   holds_line broken v [] after (x ∷ xs) unshown text begun told e h k =
       let same : x ≡ summary = cc in
       let first : IsExplained (version_after v summary) summary h.0 = subst (λ (z : Note). IsExplained (version_after v z) z h.0) same h.2 in
-      inl (holds_behind (line ∷ []) text begun ([], failure_told summary ++ h.1, h.4 ∙ ap (λ (z : List ℕ). z ++ h.1) (first.2 ∙ ap (λ (z : List ℕ). z ++ failure_told summary) first.1) ∙ append_assoc line (failure_told summary) h.1, tt))
+      inl (holds_behind (line ∷ []) text begun ([], failure_told summary ++ h.1, simp (h.4, first.2, first.1, append_assoc), tt))
   holds_line broken v (b ∷ bs) after (x ∷ xs) unshown text begun told e h k =
       let tail : bs ++ summary ∷ after ≡ xs ++ unshown = cc in
-      ⊎_elim (λ z. inl (subst (λ (t : List ℕ). Holds (line ∷ []) (t ++ begun)) (sym h.4) (subst (Holds (line ∷ [])) (sym (append_assoc h.0 h.1 begun)) (holds_before (line ∷ []) h.0 (h.1 ++ begun) z)))) inr (holds_line broken (version_after v x) bs after xs unshown h.1 begun told tail h.3 k)
+      ⊎_elim (λ z. inl (rw (h.4, append_assoc) (holds_before (line ∷ []) h.0 (h.1 ++ begun) z))) inr
+      (holds_line broken (version_after v x) bs after xs unshown h.1 begun told tail h.3 k)
 
 -- ---- a request that has no answer
 
@@ -268,14 +260,20 @@ first_so_far told x = record {
   unsent = λ e. sent_all x e;
 }
 
+-- more is printed and told
+abbrev each_more : {sent now printed told : List ℕ} (out err : List ℕ) → now ≡ sent → EachHasALine sent printed told → EachHasALine now (printed ++ out) (told ++ err)
+each_more {printed = printed} {told = told} out err same each = record {
+  requests = each.requests;
+  fates = each.fates;
+  asked = same ∙ each.asked;
+  ends = each.ends;
+  on_output = holds_behind (lines_from printed_line 0 each.fates) printed out each.on_output;
+  on_errors = holds_behind (lines_from told_line 0 each.fates) told err each.on_errors;
+}
+
 line_so_far : {Gone : Type 0} {fault : Option StreamFault} {l : ℕ × Text} {log more : Log} {p r : Place} → SoFar None log p → TalksLine Gone fault p l more r → SoFar fault (and_then log more) r
 line_so_far {log = log} so (refuses_line q why code part e d c some) =
-    let each = so.lines in
-    record {
-      lines = record { requests = each.requests; fates = each.fates; asked = append-nil log.sent ∙ each.asked; ends = each.ends; on_output = holds_behind (lines_from printed_line 0 each.fates) log.printed part each.on_output; on_errors = holds_behind (lines_from told_line 0 each.fates) log.told [] each.on_errors };
-      next = λ _. so.next refl;
-      unsent = λ _. so.unsent refl;
-    }
+    record { lines = each_more part [] (append-nil log.sent) so.lines; next = λ _. so.next refl; unsent = λ _. so.unsent refl }
 line_so_far {log = log} {p = p} so (answers_line q more r e d x) =
     let each = so.lines in
     let said = meant p.version q in
@@ -308,14 +306,12 @@ put_front false a b xs h = h
 
 -- and what is told behind it
 pub accounts : {fault : Option StreamFault} {start mid : Streams} {lines : List (ℕ × Text)} {Now : Place → Type 0} (told : Option (List ℕ)) (deaf : Bool) (text : List ℕ) → Stands fault start mid lines Now → Gets mid.deaf deaf mid.told told text → Accounts start (record mid { told = told; deaf = deaf })
-accounts {fault = fault} {start = start} {mid = mid} told deaf text s h =
-    let each = (so_far s.talked).lines in
-    record {
-      sent = s.log.sent;
-      printed = s.log.printed;
-      told = s.log.told ++ text;
-      put = put_front (is_printed fault) start.written mid.written s.log.sent s.moves.sent;
-      output = s.moves.printed;
-      errors = gets_then start.deaf mid.deaf deaf start.told mid.told told s.log.told text s.moves.told h;
-      lines = record { requests = each.requests; fates = each.fates; asked = each.asked; ends = each.ends; on_output = each.on_output; on_errors = holds_behind (lines_from told_line 0 each.fates) s.log.told text each.on_errors };
-    }
+accounts {fault = fault} {start = start} {mid = mid} told deaf text s h = record {
+  sent = s.log.sent;
+  printed = s.log.printed ++ [];
+  told = s.log.told ++ text;
+  put = put_front (is_printed fault) start.written mid.written s.log.sent s.moves.sent;
+  output = rw append-nil s.moves.printed;
+  errors = gets_then start.deaf mid.deaf deaf start.told mid.told told s.log.told text s.moves.told h;
+  lines = each_more [] text refl (so_far s.talked).lines;
+}

@@ -138,10 +138,8 @@ does_one {fault = Some f} {l = l} s = does (l ∷ []) ([], refl) s
 
 -- those of a line, and lines behind it that weren't looked at
 done_more : (stop : StopReason) (before all done after : List (ℕ × Text)) → AreDone (Some stop) all done → AreDone (Some stop) (before ++ (all ++ after)) (before ++ done)
-done_more (Unreadable n) before all done after h =
-    (h.0, h.1 ++ after, ap (λ (z : List (ℕ × Text)). before ++ (z ++ after)) h.2 ∙ ap (λ (z : List (ℕ × Text)). before ++ z) (append_assoc done ((n, h.0) ∷ h.1) after) ∙ sym (append_assoc before done ((n, h.0) ∷ (h.1 ++ after))), h.3)
-done_more (Broken f) before all done after h =
-    (h.0 ++ after, ap (λ (z : List (ℕ × Text)). before ++ (z ++ after)) h.1 ∙ ap (λ (z : List (ℕ × Text)). before ++ z) (append_assoc done h.0 after) ∙ sym (append_assoc before done (h.0 ++ after)))
+done_more (Unreadable n) before all done after h = (h.0, h.1 ++ after, simp (h.2, append_assoc), h.3)
+done_more (Broken f) before all done after h = (h.0 ++ after, simp (h.1, append_assoc))
 
 anywhere : {fault : Option StreamFault} {start now : Streams} {done : List (ℕ × Text)} {Now : Place → Type 0} → Stands fault start now done Now → Stands fault start now done Anywhere
 anywhere s = record { log = s.log; place = s.place; broken = s.broken; breaks = s.breaks; talked = s.talked; moves = s.moves; at = tt }
@@ -163,9 +161,7 @@ module _ {start now : Streams} {script : List ℕ} {b : Conversation} (p : Progr
     done = p.done;
     stands = subst (λ (z : Caller). Stands None start now p.done (IsAt z)) (sym same) p.stands;
     begun = plain;
-    follow = λ more. ap filled_lines (append_assoc script (x ∷ []) more) ∙ p.follow (x ∷ more)
-        ∙ ap (λ (z : List ℕ). p.done ++ filled_from b.number (lines z)) (sym (ap (λ (z : List ℕ). z ++ more) begun ∙ append_assoc b.begun.items (x ∷ []) more))
-        ∙ ap (λ (k : ℕ). p.done ++ filled_from k (lines (c.begun.items ++ more))) (sym number);
+    follow = λ more. rw (number, begun) (simp append_assoc (p.follow (x ∷ more)));
   }
 
   -- the line was done
@@ -174,10 +170,7 @@ module _ {start now : Streams} {script : List ℕ} {b : Conversation} (p : Progr
     done = p.done ++ if_filled b.number b.begun.items;
     stands = s;
     begun = subst (λ (z : List ℕ). All (λ y. (y == 10) ≡ false) z) (sym begun) (λ k d l. absurd (not-suc-le-zero l));
-    follow = λ more. ap filled_lines (append_assoc script (10 ∷ []) more) ∙ at_newline more
-        ∙ sym (append_assoc p.done (if_filled b.number b.begun.items) (filled_from (b.number + 1) (lines more)))
-        ∙ ap (λ (k : ℕ). (p.done ++ if_filled b.number b.begun.items) ++ filled_from k (lines more)) (sym number)
-        ∙ ap (λ (z : List ℕ). (p.done ++ if_filled b.number b.begun.items) ++ filled_from c.number (lines (z ++ more))) (sym begun);
+    follow = λ more. rw (number, begun) (simp append_assoc (at_newline more));
   }
 
 -- what was done of all of them without a stop

@@ -123,7 +123,7 @@ module _ {p : Place} {a b : Streams} {k : Caller} (x : Hears None p a b k) (wait
 
     needed : IsNeeded (after_all p.rest so.fed) (more.fed ++ more.unheard) → IsNeeded p.rest ((so.fed ++ more.fed) ++ more.unheard)
     needed (inl none) = subst (IsNeeded p.rest) (ap (λ (z : List ℕ). so.fed ++ z) (all_fed ∙ sym none) ∙ sym bytes) so.needed
-    needed (inr n) = inr (record { before = so.fed ++ n.before; last = n.last; parts = bytes ∙ ap (λ (z : List ℕ). so.fed ++ z) n.parts ∙ sym (append_assoc so.fed n.before n.last); short = n.short; waits = ap (λ (t : Tale). awaits t.knows) (hears_all-append p.rest so.fed n.before) ∙ n.waits })
+    needed (inr n) = inr (record { before = so.fed ++ n.before; last = n.last; parts = bytes ∙ simp (n.parts, append_assoc); short = n.short; waits = ap (λ (t : Tale). awaits t.knows) (hears_all-append p.rest so.fed n.before) ∙ n.waits })
 
     pub hears_then : Hears fault p a c l
     hears_then =

@@ -1,5 +1,5 @@
 -- What two ends have come to: the streams between them, the session, and both.
-use Rattle.std.proofs.Common.{◌≡◌, refl, sym, ap, subst, ◌∙◌, ℕ, ◌+◌, Bool, List, [], ◌∷◌, ◌++◌, length, take, drop, append_assoc, append-nil, length-append, arith, Option, Some, None, Ok, inl, inr, IsSome}
+use Rattle.std.proofs.Common.{◌≡◌, refl, sym, ap, subst, ◌∙◌, ℕ, ◌+◌, Bool, List, [], ◌++◌, length, take, drop, append_assoc, append-nil, length-append, arith, Option, Some, None, Ok, inl, inr, IsSome}
 use Rattle.std.proofs.lemmas.List.{append_cancel_left}
 use Rattle.std.specs.Io.KnownBytes.{Appends}
 use Rattle.std.proofs.KnownBytes.{Appends-nil, Appends-trans, Consumes-nil, Consumes-trans}
@@ -11,21 +11,23 @@ use Rattle.server.specs.Prelude.{Live, Rest, find, fresh, opened}
 use Rattle.client.specs.declared.SubmitFault.{SubmitFault}
 use Rattle.client.specs.Prelude.{Fits, refuses, taken_out}
 use Rattle.client.specs.Rest.{Rest as ClientRest}
+use Rattle.messages.specs.View.{RequestView}
 use Rattle.serves.specs.declared.standing.Standing.{Standing}
 use Rattle.serves.specs.declared.standing.Standing.TheVariants.{Open, Over}
-use Rattle.serves.specs.Prelude.{LivesOn, Talk, with_talk, Stands, TakesPiece, standing_of, told_by}
+use Rattle.serves.specs.Prelude.{Grows, LivesOn, Talk, with_talk, Stands, TakesPiece, standing_of, told_by}
 use Rattle.serves.proofs.Talks.{open_goes_on, over_ended, talk_by_items, told_over}
-use Rattle.serves.proofs.Called.{lives_same, lives_then, replace-itself}
-use Rattle.streams.specs.declared.fault.StreamFault.{StreamFault}
-use Rattle.streams.specs.declared.fault.StreamFault.TheVariants.{Memory}
+use Rattle.serves.proofs.Called.{live_then, lives_same, lives_then, replace-itself}
 use Rattle.scripts.specs.Prelude.{ScriptRequestView, meant}
-use Rattle.streams.specs.declared.memory.Buffer.{Buffer}
+use Rattle.programs.specs.declared.caller.Caller.{Caller}
 use Rattle.programs.specs.declared.loops.Pair.{Pair}
 use Rattle.programs.specs.declared.stop.StopReason.{StopReason}
 use Rattle.programs.specs.declared.stop.StopReason.TheVariants.{Unreadable, Broken}
-use Rattle.programs.specs.Prelude.{Alters, BreaksAtSource, Comes, ComesOn, FailsToRead, GoesOn, IsHeardAll, LetsReadWaiting, Loops, Passed, entries_text, Numbers, Passes, Prints, Sits, StandsAt, TellsLine, Way, Ways, end, whole_talk, Gets, stop_status, stop_text, refusal_code, IsAt, first_place, refused_line, OfRefusal, Turns, IsQuiet, AreQuiet, all_sent, answer_to, exchanged, given, line_by, no_turns, place_after, shown_of, talk_for, turns_of, with_request}
+use Rattle.programs.specs.Prelude.{Alters, BreaksAtSource, Comes, ComesOn, IsHeardAll, IsOn, LetsReadWaiting, Loops, Numbers, Passes, Prints, Sits}
+use Rattle.programs.specs.Prelude.{HasOpened, StandsAt, TellsLine, Way, Ways, entries_text, Gets, stop_status, stop_text, IsAt, first_place, Place}
+use Rattle.programs.specs.Prelude.{submitted, with_request, Turns, IsQuiet, AreQuiet, all_sent, answer_to, exchanged, given, line_by, no_turns, place_after, shown_of, talk_for, turns_of}
+use Rattle.programs.proofs.Served.{found_by}
 use Rattle.programs.proofs.Stops.{broken_stops}
-use Rattle.programs.proofs.Turned.{answer_is, given_more, given_none, prints_none, prints_one, prints_then, with_item}
+use Rattle.programs.proofs.Turned.{answer_is, given_more, given_none, prints_none, prints_then, with_item}
 
 -- the streams
 pub passes_none : {w : Way} → Passes w w []
@@ -46,23 +48,13 @@ alters_after {a = a} {b = b} {c = c} {xs = xs} h k = record {
   other = λ e. k.other (append_cancel_left xs k.read k.written e);
 }
 
--- some bytes passed on a way, or none
+-- some bytes passed on a way
 abbrev pub Went : Way → Way → Type 0
 Went a b = (bytes : List ℕ) × Passes a b bytes
-
-pub went_none : {a : Way} → Went a a
-went_none = ([], passes_none)
-
-pub passed_then : (a b c : Ways) → Passed a b → Passed b c → Passed a c
-passed_then a b c h k = ((h.0.0 ++ k.0.0, passes_then h.0.1 k.0.1), (h.1.0 ++ k.1.0, passes_then h.1.1 k.1.1))
 
 pub source_after : {a b c : Way} → Went a b → BreaksAtSource b c → BreaksAtSource a c
 source_after h (inl k) = inl k
 source_after h (inr k) = inr (alters_after h.1 k)
-
-pub fails_after : (a b c : Ways) → Passed a b → FailsToRead b c → FailsToRead a c
-fails_after a b c h (inl k) = inl (source_after h.0 k)
-fails_after a b c h (inr k) = inr (source_after h.1 k)
 
 -- what passed is read, and waits no more
 pub lets_after : {I : Type 0} {left : I → Option (List ℕ)} {may_read : I → Option (List ℕ) → ℕ → Type 0} {a b : Way} → Went a b → LetsReadWaiting left may_read a → LetsReadWaiting left may_read b
@@ -75,21 +67,18 @@ lets_after {left = left} {a = a} {b = b} h lets s taken count k =
       enough = omega (arith, length-append h.0 k.read, length-append h.0 k.written, k.enough);
     })
 
--- what a loop did, one thing after another
-module _ {G : Type 0} (conn : ℕ) where
-  pub goes_none : (Old : Rest G → Type 0) (a : Ways) → GoesOn None conn Old Old a a
-  goes_none Old a = record { lives = lives_same conn Old; passed = λ e. (went_none, went_none); read = λ e. cc; written = λ e. cc }
+-- the session lives on
+pub grown : {G : Type 0} (r : Rest G) (conn : ℕ) (Mid Now : Rest G → Type 0) → IsSome (find conn r.sessions) → Grows r conn Mid → LivesOn conn Mid Now → Grows r conn Now
+grown {G = G} r conn Mid Now i g next = lives_then conn (λ (x : Rest G). x ≡ r) Mid Now (λ x e j. subst (λ (z : Rest G). Grows z conn Mid) (sym e) g) next r refl i
 
-  pub goes_memory : {Old Now : Rest G → Type 0} (a b : Ways) → LivesOn conn Old Now → GoesOn (Some Memory) conn Old Now a b
-  goes_memory a b h = record { lives = h; passed = λ e. cc; read = λ e. cc; written = λ e. cc }
+module _ {G : Type 0} {Near Far : Way → Type 0} {setting_at : Rest G → Setting} {conn : ℕ} {Now : Rest G → Type 0} {now : Ways} {pair : Pair}
+    (o : IsOn Near Far setting_at conn Now now pair) where
+  pub on_lives : (x : Rest G) × Now x × IsSome (find conn x.sessions)
+  on_lives = live_then conn (λ (x : Rest G). x ≡ o.rest) Now (λ x e j. subst (λ (z : Rest G). Grows z conn Now) (sym e) o.comes.lives) (o.rest, refl, o.found)
 
-  pub goes_then : {Old Mid Now : Rest G → Type 0} {a b c : Ways} {fault : Option StreamFault} → GoesOn None conn Old Mid a b → GoesOn fault conn Mid Now b c → GoesOn fault conn Old Now a c
-  goes_then {Old = Old} {Mid = Mid} {Now = Now} {a = a} {b = b} {c = c} h k = record {
-    lives = lives_then conn Old Mid Now h.lives k.lives;
-    passed = λ e. passed_then a b c (h.passed refl) (k.passed e);
-    read = λ e. fails_after a b c (h.passed refl) (k.read e);
-    written = k.written;
-  }
+  pub on_at : {Then : Rest G → Type 0} {next : Ways} {t : Turns} {y : Pair} → Comes o.rest conn (setting_at o.rest) o.start next t y Then
+      → IsOn Near Far setting_at conn Then next y
+  on_at {t = t} h = record { rest = o.rest; start = o.start; turns = t; found = o.found; near = o.near; far = o.far; comes = h }
 
 module _ {G : Type 0} {r : Rest G} {conn : ℕ} {S : Setting} where
   -- the session
@@ -140,111 +129,130 @@ module _ {G : Type 0} {r : Rest G} {conn : ℕ} {S : Setting} where
   answer_due {up = up} {new = new} piece answer h s e = e ∙ ap (λ z. drop (length z) new) h.out ∙ ap (drop (length (talk_for S conn r.ledger up).out)) s.out
 
   -- both: a piece of the client was passed, answered and heard
-  pub comes_given : {start a b : Ways} {t : Turns} {x y : Pair} {Now Then : Rest G → Type 0} {piece : List ℕ} (answer : List ℕ) → Comes r conn S start a t x Now → Passes a.up b.up piece → Sits r conn S Then (t.sent ++ piece) y.said.bytes.items y.standing
-      → answer ≡ answer_to S conn r.ledger t.sent piece → Passes a.down b.down answer → IsHeardAll t.place answer y.caller a.out b.out → Comes r conn S start b (given S conn r.ledger t piece) y Then
-  comes_given {start = start} {a = a} {b = b} {t = t} {x = x} {y = y} {piece = piece} answer h up s same down heard =
-      let all : x.said.bytes.items ++ answer ≡ y.said.bytes.items = ap (λ z. z ++ answer) h.session.out ∙ ap (λ z. (talk_for S conn r.ledger t.sent).out ++ z) same ∙ sym (answer_is S conn r.ledger t.sent piece) ∙ sym s.out in
+  pub comes_given : {start a b : Ways} {t : Turns} {x y : Pair} {Now Then : Rest G → Type 0} {piece : List ℕ} (answer : List ℕ)
+      → Comes r conn S start a t x Now → Grows r conn Then → Passes a.up b.up piece
+      → Sits r conn S Then (t.sent ++ piece) y.said.bytes.items y.standing → answer ≡ answer_to S conn r.ledger t.sent piece
+      → Passes a.down b.down answer → IsHeardAll t.place answer y.caller a.out b.out → Comes r conn S start b (given S conn r.ledger t piece) y Then
+  comes_given {start = start} {a = a} {b = b} {t = t} {x = x} {y = y} {piece = piece} answer h lives up s same down heard =
+      let before = (talk_for S conn r.ledger t.sent).out in
+      let all : x.said.bytes.items ++ answer ≡ y.said.bytes.items =
+      ap (λ z. z ++ answer) h.session.out ∙ ap (λ z. before ++ z) same ∙ sym (answer_is S conn r.ledger t.sent piece) ∙ sym s.out in
       record {
+        lives = lives;
         client = subst (λ (z : List ℕ). StandsAt y.caller (place_after t.place z)) same heard.stands;
         session = s;
         up = passes_then h.up up;
         down = subst (Passes start.down b.down) all (passes_then h.down down);
-        printed = subst (λ (z : List ℕ). Prints (t.shown ++ shown_of t.place z) start.out b.out) same (prints_then t.shown (shown_of t.place answer) start.out a.out b.out h.printed heard.printed);
+        printed = subst (λ (z : List ℕ). Prints (t.shown ++ shown_of t.place z) start.out b.out) same
+            (prints_then t.shown (shown_of t.place answer) start.out a.out b.out h.printed heard.printed);
       }
-
-  -- where the client alone moves on, and no bytes pass
-  pub comes_at : {start a b : Ways} {t n : Turns} {x y : Pair} {Now : Rest G → Type 0} → Comes r conn S start a t x Now → b.up ≡ a.up → b.down ≡ a.down → n.sent ≡ t.sent → y.said ≡ x.said → y.standing ≡ x.standing → StandsAt y.caller n.place → Prints n.shown start.out b.out
-      → Comes r conn S start b n y Now
-  comes_at {start = start} {a = a} {b = b} {n = n} {x = x} {y = y} {Now = Now} h e f g same still stands prints = record {
-    client = stands;
-    session = subst (λ (s : Standing). Sits r conn S Now n.sent y.said.bytes.items s) (sym still)
-        (subst (λ (s : Buffer). Sits r conn S Now n.sent s.bytes.items x.standing) (sym same) (subst (λ (z : List ℕ). Sits r conn S Now z x.said.bytes.items x.standing) (sym g) h.session));
-    up = subst (λ (w : Way). Passes start.up w n.sent) (sym e) (subst (Passes start.up a.up) (sym g) h.up);
-    down = subst (λ (s : Buffer). Passes start.down b.down s.bytes.items) (sym same) (subst (λ (w : Way). Passes start.down w x.said.bytes.items) (sym f) h.down);
-    printed = prints;
-  }
 
 -- what a client has to send was taken out
 abbrev pub all_out : Turns → Turns
 all_out t = record { place = all_sent t.place; sent = t.sent; shown = t.shown }
 
+pub stands_out : {b c : Caller} {p : Place} (max : ℕ) (h : StandsAt b p) → Fits c.client (taken_out (with_item p.rest h.item) max)
+    → drop max p.rest.unsent ≡ [] → c.version ≡ b.version → StandsAt c (all_sent p)
+stands_out {c = c} {p = p} max h f none v = record {
+  item = h.item;
+  at = record {
+    fits = subst (λ (z : List ℕ). Fits c.client (record { wish = p.rest.wish; knows = p.rest.knows; item = h.item; unsent = z })) none f;
+    version = v ∙ h.at.version;
+  };
+  same = h.same;
+}
+
 -- some of it was given, and the rest is still to be
-pub record PartGiven {G : Type 0} (r : Rest G) (conn : ℕ) (S : Setting) (start now : Ways) (t : Turns) (p : Pair) (Now : Rest G → Type 0) (rest : List ℕ) : Type 0 where
+pub record PartGiven {G : Type 0} (r : Rest G) (conn : ℕ) (S : Setting) (start now : Ways) (t : Turns) (p : Pair) (Now : Rest G → Type 0)
+    (rest : List ℕ) : Type 0 where
   pub done : List ℕ
   pub parts : done ++ rest ≡ t.place.rest.unsent
   pub comes : Comes r conn S start now (given S conn r.ledger (all_out t) done) p Now
 
 module _ {G : Type 0} {r : Rest G} {conn : ℕ} {S : Setting} {start : Ways} {t : Turns} where
-  pub part_begun : {a : Ways} {b c : Pair} {Now : Rest G → Type 0} {rest : List ℕ} (max : ℕ) → (h : Comes r conn S start a t b Now) → Fits c.caller.client (taken_out (with_item t.place.rest h.client.item) max) → drop max t.place.rest.unsent ≡ [] → c.caller.version ≡ b.caller.version → c.said ≡ b.said
-      → c.standing ≡ b.standing → rest ≡ t.place.rest.unsent → PartGiven r conn S start a t c Now rest
-  part_begun {a = a} {c = c} {Now = Now} max h f none v same still e = record {
+  pub part_begun : {a : Ways} {c : Pair} {Now : Rest G → Type 0} {rest : List ℕ} → Comes r conn S start a (all_out t) c Now
+      → rest ≡ t.place.rest.unsent → PartGiven r conn S start a t c Now rest
+  part_begun {a = a} {c = c} {Now = Now} h e = record {
     done = [];
     parts = e;
-    comes = subst (λ (z : Turns). Comes r conn S start a z c Now) (sym (given_none S conn r.ledger (all_out t))) (comes_at h refl refl refl same still (record {
-      item = h.client.item;
-      at = record {
-        fits = subst (λ (z : List ℕ). Fits c.caller.client (record { wish = t.place.rest.wish; knows = t.place.rest.knows; item = h.client.item; unsent = z })) none f;
-        version = v ∙ h.client.at.version;
-      };
-      same = h.client.same;
-    }) h.printed);
+    comes = subst (λ (z : Turns). Comes r conn S start a z c Now) (sym (given_none S conn r.ledger (all_out t))) h;
   }
 
-  pub part_more : {a b : Ways} {x y : Pair} {Now Then : Rest G → Type 0} {rest after : List ℕ} (piece : List ℕ) → (p : PartGiven r conn S start a t x Now rest) → piece ++ after ≡ rest → Comes r conn S start b (given S conn r.ledger (given S conn r.ledger (all_out t) p.done) piece) y Then
-      → PartGiven r conn S start b t y Then after
+  pub part_more : {a b : Ways} {x y : Pair} {Now Then : Rest G → Type 0} {rest after : List ℕ} (piece : List ℕ)
+      → (p : PartGiven r conn S start a t x Now rest) → piece ++ after ≡ rest
+      → Comes r conn S start b (given S conn r.ledger (given S conn r.ledger (all_out t) p.done) piece) y Then → PartGiven r conn S start b t y Then after
   part_more {b = b} {y = y} {Then = Then} {after = after} piece p e h = record {
     done = p.done ++ piece;
     parts = append_assoc p.done piece after ∙ ap (λ (z : List ℕ). p.done ++ z) e ∙ p.parts;
     comes = subst (λ (z : Turns). Comes r conn S start b z y Then) (sym (given_more S conn r.ledger (all_out t) p.done piece)) h;
   }
 
-  pub part_whole : {a : Ways} {c : Pair} {Now : Rest G → Type 0} {rest : List ℕ} → PartGiven r conn S start a t c Now rest → rest ≡ [] → Comes r conn S start a (exchanged S conn r.ledger t) c Now
+  pub part_whole : {a : Ways} {c : Pair} {Now : Rest G → Type 0} {rest : List ℕ} → PartGiven r conn S start a t c Now rest → rest ≡ []
+      → Comes r conn S start a (exchanged S conn r.ledger t) c Now
   part_whole {a = a} {c = c} {Now = Now} p e =
-      let all : p.done ≡ t.place.rest.unsent = sym (append-nil p.done) ∙ ap (λ (z : List ℕ). p.done ++ z) (sym e) ∙ p.parts in
-      subst (λ (z : List ℕ). Comes r conn S start a (given S conn r.ledger (all_out t) z) c Now) all p.comes
+      subst (λ (z : List ℕ). Comes r conn S start a (given S conn r.ledger (all_out t) z) c Now)
+      (sym (append-nil p.done) ∙ ap (λ (z : List ℕ). p.done ++ z) (sym e) ∙ p.parts) p.comes
 
 -- what was taken out of a client that stood so
 pub took_out : (max : ℕ) (bytes : List ℕ) (old new : ClientRest) → (bytes ≡ take max old.unsent) × (new ≡ taken_out old max) → (r : ClientRest) → old ≡ r → (bytes ≡ take max r.unsent) × (new ≡ taken_out r max)
 took_out max bytes old new h r f = (h.0 ∙ ap (λ (z : ClientRest). take max z.unsent) f, h.1 ∙ ap (λ (z : ClientRest). taken_out z max) f)
 
 -- where both stand after a line
-abbrev Goes : {G : Type 0} (r : Rest G) (conn : ℕ) (S : Setting) (start b : Ways) (t : Turns) (y : Pair) (Then : Rest G → Type 0) (l : ℕ × ScriptRequestView) → Option SubmitFault → Type 0
-Goes r conn S start b t y Then l o = let n = line_by S conn r.ledger o t l.0 (meant t.place.version l.1) in Comes r conn S start b n y Then × (IsQuiet t → IsQuiet n)
+abbrev GoesTo : {G : Type 0} (r : Rest G) (conn : ℕ) (S : Setting) (start b : Ways) (t : Turns) (y : Pair) (Then : Rest G → Type 0)
+    (l : ℕ × ScriptRequestView) → Option SubmitFault → Type 0
+GoesTo r conn S start b t y Then l o =
+    let n = line_by S conn r.ledger o t l.0 (meant t.place.version l.1) in Comes r conn S start b n y Then × (IsQuiet t → IsQuiet n)
 
-module _ {G : Type 0} {r : Rest G} {conn : ℕ} {S : Setting} {start b : Ways} {t : Turns} {y : Pair} {Then : Rest G → Type 0} (l : ℕ × ScriptRequestView) where
-  line_goes : (o : Option SubmitFault) → refuses t.place.rest.knows (meant t.place.version l.1) ≡ o → Goes r conn S start b t y Then l o → ComesOn r conn S start b t l y Then
-  line_goes o e h = let k = subst (Goes r conn S start b t y Then l) (sym e) h in record { comes = k.0; quiet = k.1 }
+pub line_goes : {G : Type 0} {r : Rest G} {conn : ℕ} {S : Setting} {start b : Ways} {t : Turns} {y : Pair} {Then : Rest G → Type 0}
+    (l : ℕ × ScriptRequestView) (o : Option SubmitFault) → refuses t.place.rest.knows (meant t.place.version l.1) ≡ o
+    → GoesTo r conn S start b t y Then l o → ComesOn r conn S start b t l y Then
+line_goes {r = r} {conn = conn} {S = S} {start = start} {b = b} {t = t} {y = y} {Then = Then} l o e h =
+    let k = subst (GoesTo r conn S start b t y Then l) (sym e) h in record { comes = k.0; quiet = k.1 }
 
-  -- its request was accepted
-  pub line_sent : refuses t.place.rest.knows (meant t.place.version l.1) ≡ None → (let n = exchanged S conn r.ledger (with_request t (meant t.place.version l.1)) in Comes r conn S start b n y Then × IsQuiet n) → ComesOn r conn S start b t l y Then
-  line_sent e h = line_goes None e (h.0, λ q. h.1)
-
-  -- or refused
-  pub line_refused : {a : Ways} {x : Pair} (why : SubmitFault) (code : List ℕ) → refuses t.place.rest.knows (meant t.place.version l.1) ≡ Some why → refusal_code why ≡ Some code → (h : Comes r conn S start a t x Then) → b.up ≡ a.up → b.down ≡ a.down → y.said ≡ x.said → y.standing ≡ x.standing
-      → Appends a.out b.out (refused_line l.0 code) → IsAt y.caller (record { rest = with_item t.place.rest h.client.item; version = t.place.version }) → ComesOn r conn S start b t l y Then
-  line_refused {a = a} why code e f h u d same still k at = line_goes (Some why) e (
-    comes_at h u d refl same still (record { item = h.client.item; at = at; same = h.client.same })
-        (prints_then t.shown (OfRefusal l.0 why ∷ []) start.out a.out b.out h.printed (prints_one (OfRefusal l.0 why) a.out b.out (refused_line l.0 code) (code, f, refl) k)),
-    λ q. q,
-  )
+-- a request is accepted
+pub line_sent : {G : Type 0} {r : Rest G} {conn : ℕ} {S : Setting} {start a : Ways} {t : Turns} {x : Pair} {Now : Rest G → Type 0} {c : Caller}
+    {out : Option (List ℕ)} {failed : Bool} (q : RequestView) (h : Comes r conn S start a t x Now)
+    → (refuses t.place.rest.knows q ≡ None) × (out ≡ a.out) × IsAt c (submitted (record { rest = with_item t.place.rest h.client.item; version = t.place.version }) q)
+    → Comes r conn S start (record { up = a.up; down = a.down; out = out; out_failed = failed }) (with_request t q)
+    (record { caller = c; said = x.said; standing = x.standing }) Now
+line_sent {start = start} {t = t} q h s = record {
+  lives = h.lives;
+  client = record { item = h.client.item; at = s.2; same = h.client.same };
+  session = h.session;
+  up = h.up;
+  down = h.down;
+  printed = subst (λ (z : Option (List ℕ)). Prints t.shown start.out z) (sym s.1) h.printed;
+}
 
 -- the whole of a loop, on a server on which no session lives
 module _ {G : Type 0} (r : Rest G) (S : Setting) where
-  pub comes_begun : {a : Ways} {p : Pair} {Now : Rest G → Type 0} (conn : ℕ) → p.said.bytes.items ≡ [] → p.standing ≡ Open → find conn (opened r).sessions ≡ Some (fresh conn) → Now (opened r) → IsAt p.caller first_place → Comes (opened r) conn S a a no_turns p Now
-  comes_begun {a = a} {p = p} {Now = Now} conn e g f now at =
-      let same : with_talk (opened r) conn at_server.start r.ledger begun ≡ opened r = ap (λ (ss : List Live). record { sessions = ss; next = r.next + 1; ledger = r.ledger; gate = r.gate }) (replace-itself conn (fresh conn) (opened r).sessions f) in
-      record {
-        client = record { item = first_place.rest.item; at = at; same = λ e. refl };
-        session = sits_by at_server.start (told_by (opened r) conn S []) (sym (talk_by_items S conn r.ledger [])) (subst Now (sym same) now) e g (λ o. refl);
-        up = passes_none;
-        down = subst (Passes a.down a.down) (sym e) passes_none;
-        printed = prints_none a.out;
-      }
+  pub loop_begins : {p : Pair} {conn : ℕ} {Now : Rest G → Type 0} (a : Ways) → r.sessions ≡ [] → HasOpened r conn Now → p.said.bytes.items ≡ []
+      → p.standing ≡ Open → IsAt p.caller first_place → IsSome (find conn (opened r).sessions) × Comes (opened r) conn S a a no_turns p Now
+  loop_begins {p = p} {conn = conn} {Now = Now} a none o e g at =
+      let f = found_by r none o.number in
+      let found : IsSome (find conn (opened r).sessions) = subst IsSome (sym f) refl in
+      let same : with_talk (opened r) conn at_server.start r.ledger begun ≡ opened r =
+      ap (λ (ss : List Live). record { sessions = ss; next = r.next + 1; ledger = r.ledger; gate = r.gate })
+      (replace-itself conn (fresh conn) (opened r).sessions f) in (
+        found,
+        record {
+          lives = lives_same conn Now (opened r) o.now found;
+          client = record { item = first_place.rest.item; at = at; same = λ e. refl };
+          session = sits_by at_server.start (told_by (opened r) conn S []) (sym (talk_by_items S conn r.ledger [])) (subst Now (sym same) o.now) e g
+              (λ o. refl);
+          up = passes_none;
+          down = subst (Passes a.down a.down) (sym e) passes_none;
+          printed = prints_none a.out;
+        },
+      )
 
   -- the entries that are printed are those of the ledger then
-  pub loops_whole : {start b : Ways} {p : Pair} {Now : Rest G → Type 0} (last : Ways) (lines : List (ℕ × ScriptRequestView)) (conn : ℕ) → conn ≡ r.next → Comes (opened r) conn S start b (turns_of S conn r.ledger lines) p Now × AreQuiet S conn r.ledger (exchanged S conn r.ledger no_turns) lines
-      → (es : List EntryView) → Appends b.out last.out (entries_text es) → ((x : Rest G) → Now x → es ≡ x.ledger) → last.up ≡ b.up → last.down ≡ b.down → Loops r S lines Now start last
-  loops_whole {start = start} {b = b} {p = p} {Now = Now} last lines conn e came es k same u d =
+  pub loops_whole : {start b : Ways} {p : Pair} {Now : Rest G → Type 0} {out : Option (List ℕ)} {failed : Bool} (lines : List (ℕ × ScriptRequestView))
+      (conn : ℕ) → conn ≡ r.next
+      → Comes (opened r) conn S start b (turns_of S conn r.ledger lines) p Now × AreQuiet S conn r.ledger (exchanged S conn r.ledger no_turns) lines
+      → (es : List EntryView) → Appends b.out out (entries_text es) → ((x : Rest G) → Now x → es ≡ x.ledger)
+      → Loops r S lines Now start (record { up = b.up; down = b.down; out = out; out_failed = failed })
+  loops_whole {start = start} {b = b} {p = p} {Now = Now} {out = out} lines conn e came es k same =
       let h = subst (λ (n : ℕ). Comes (opened r) n S start b (turns_of S n r.ledger lines) p Now × AreQuiet S n r.ledger (exchanged S n r.ledger no_turns) lines) e came in
       let t = h.0.session in
       let text = h.0.printed in
@@ -252,14 +260,15 @@ module _ {G : Type 0} (r : Rest G) (S : Setting) where
         unfinished = t.unfinished;
         text = text.0;
         shown = text.1;
-        printed = Appends-trans start.out b.out last.out text.0 _ text.2 (subst (λ (z : List EntryView). Appends b.out last.out (entries_text z)) (same _ t.now) k);
-        up = subst (λ (w : Way). Passes start.up w (end r S lines).sent) (sym u) h.0.up;
-        down = subst (λ (w : Way). Passes start.down w (whole_talk r S lines).out) (sym d) (subst (Passes start.down b.down) t.out h.0.down);
+        printed = Appends-trans start.out b.out out text.0 _ text.2 (subst (λ (z : List EntryView). Appends b.out out (entries_text z)) (same _ t.now) k);
+        up = h.0.up;
+        down = subst (Passes start.down b.down) t.out h.0.down;
         quiet = h.1;
         now = t.now;
       }
 
 -- the number that is told is that of the stop
-pub tells_line : (script : List ℕ) (stop : StopReason) (had has : Bool) (before after : Option (List ℕ)) → Gets had has before after (stop_text stop) → stop_status stop ≡ 2 → Numbers script stop → TellsLine script had has before after
+pub tells_line : (script : List ℕ) (stop : StopReason) (had has : Bool) (before after : Option (List ℕ)) → Gets had has before after (stop_text stop)
+    → stop_status stop ≡ 2 → Numbers script stop → TellsLine script had has before after
 tells_line script (Unreadable n) had has before after text q h = (n, h, text)
 tells_line script (Broken fault) had has before after text q h = absurd (broken_stops fault q)

@@ -14,8 +14,7 @@ versions_more v (n ∷ ns) ms = versions_more (version_after v n) ns ms
 
 pub told_then : (v : Version) (ns ms : List Note) (t u : List ℕ) → AreTold v ns t → AreTold (versions_after v ns) ms u → AreTold v (ns ++ ms) (t ++ u)
 told_then v [] ms t u h k = subst (λ (z : List ℕ). AreTold v ms (z ++ u)) (sym h) k
-told_then v (n ∷ ns) ms t u h k =
-    (h.0, h.1 ++ u, h.2, told_then (version_after v n) ns ms h.1 u h.3 k, ap (λ (z : List ℕ). z ++ u) h.4 ∙ append_assoc h.0 h.1 u)
+told_then v (n ∷ ns) ms t u h k = (h.0, h.1 ++ u, h.2, told_then (version_after v n) ns ms h.1 u h.3 k, simp (h.4, append_assoc))
 
 -- what standard error gets of one summary more
 summaries_more : (ns : List Note) (n : Note) → summaries_text (ns ++ n ∷ []) ≡ summaries_text ns ++ summary_line n
@@ -23,8 +22,7 @@ summaries_more ns n = flat_map-append summary_line ns (n ∷ []) ∙ ap (λ (z :
 
 begun_more : (f : StreamFault) (v : Version) (ns : List Note) (n : Note) (begun told : List ℕ) → IsBegun (Some f) v ns begun told → IsBegun (Some f) v (ns ++ n ∷ []) begun (told ++ summary_line n)
 begun_more f v [] n begun told h = absurd h
-begun_more f v (m ∷ ms) n begun told h =
-    (h.0, h.1, ap (λ (z : List ℕ). z ++ summary_line n) h.2 ∙ append_assoc h.0 (summaries_text ms) (summary_line n) ∙ ap (λ (z : List ℕ). h.0 ++ z) (sym (summaries_more ms n)))
+begun_more f v (m ∷ ms) n begun told h = (h.0, h.1, rw (h.2, summaries_more ms n) (append_assoc h.0 (summaries_text ms) (summary_line n)))
 
 -- none, or one whole, or one cut
 abbrev pub printed_none : (v : Version) → Printed v [] None
@@ -50,7 +48,7 @@ printed_then {v = v} {ns = ns} {broken = broken} x e y same = record {
   text = x.text ++ y.text;
   begun = y.begun;
   told = y.told;
-  parts = same ∙ ap (λ (z : List Note). ns ++ z) y.parts ∙ sym (append_assoc ns y.shown y.unshown);
+  parts = same ∙ simp (y.parts, append_assoc);
   prints = told_then v ns y.shown x.text y.text (subst (λ (z : List Note). AreTold v z x.text) (printed_all x e).0 x.prints) y.prints;
   next = subst (λ (w : Version). IsBegun broken w y.unshown y.begun y.told) (sym (versions_more v ns y.shown)) y.next;
 }
@@ -76,7 +74,7 @@ told_next {v = v} {ns = ns} {f = f} {a = a} {b = b} {c = c} n x h =
       text = p.text;
       begun = p.begun;
       told = p.told ++ summary_line n;
-      parts = ap (λ (z : List Note). z ++ n ∷ []) p.parts ∙ append_assoc p.shown p.unshown (n ∷ []);
+      parts = simp (p.parts, append_assoc);
       prints = p.prints;
       next = begun_more f (versions_after v p.shown) p.unshown n p.begun p.told p.next;
     } in

@@ -1,6 +1,5 @@
 -- How a program ends, by why it stops.
-use Rattle.std.proofs.Common.{◌≡◌, refl, ap, ◌∙◌, ℕ, Option, Some, None, Result, Ok, Err, IsErr, IsSome, MatchResult, OnErr, OnOk, option_map}
-use Rattle.std.specs.Result.{result_err}
+use Rattle.std.proofs.Common.{◌≡◌, refl, ap, ◌∙◌, ℕ, Option, Some, None, Result, Ok, Err, IsErr, IsSome, option_map}
 use Rattle.streams.specs.declared.fault.StreamFault.{StreamFault}
 use Rattle.streams.specs.declared.fault.StreamFault.TheVariants.{ReadFailed, WriteFailed, Memory}
 use Rattle.streams.specs.Prelude.{UnlessTold}
@@ -8,11 +7,14 @@ use Rattle.programs.specs.declared.stop.StopReason.{StopReason}
 use Rattle.programs.specs.declared.stop.StopReason.TheVariants.{Unreadable, Broken}
 use Rattle.programs.specs.Prelude.{IsStopOf, fault_in, stop_status}
 
+pub cause_of : (fault : StreamFault) (A B : Type 0) → (fault ≡ ReadFailed → A) → (fault ≡ WriteFailed → B) → IsStopOf (Broken fault) A B
+cause_of ReadFailed A B a b = a refl
+cause_of WriteFailed A B a b = b refl
+cause_of Memory A B a b = tt
+
 pub stop_of : (stop : StopReason) (A B : Type 0) → (stop ≡ Broken ReadFailed → A) → (stop ≡ Broken WriteFailed → B) → IsStopOf stop A B
 stop_of (Unreadable n) A B a b = tt
-stop_of (Broken ReadFailed) A B a b = a refl
-stop_of (Broken WriteFailed) A B a b = b refl
-stop_of (Broken Memory) A B a b = tt
+stop_of (Broken fault) A B a b = cause_of fault A B (λ e. a (ap Broken e)) (λ e. b (ap Broken e))
 
 -- a status of 0 is that of no stop
 pub never_well : (stop : StopReason) → stop_status stop ≡ 0 → ⊥
@@ -49,20 +51,3 @@ unless_so (Err e) f A a = λ n. a
 pub never_err : {T E : Type 0} (x : Result T E) (t : T) → x ≡ Ok t → IsErr x → ⊥
 never_err (Ok s) t e h = absurd cc
 never_err (Err f) t e h = absurd cc
-
--- what follows of an answer, by what is so of each way out
-pub err_of : {E : Type 0} (x : Result (Unit {0}) E) (f : E) → result_err x ≡ Some f → x ≡ Err f
-err_of (Ok t) f e = absurd cc
-err_of (Err g) f e = let same : g ≡ f = cc in ap Err same
-
-pub ok_none : {T E : Type 0} (x : Result T E) (P : Type 0) → result_err x ≡ None → OnOk x P → P
-ok_none (Ok t) P e h = h
-ok_none (Err g) P e h = absurd cc
-
-pub match_both : {T E : Type 0} (x : Result T E) (P Q R A B : Type 0) → OnOk x P → MatchResult x (λ _. Q) (λ _. R) → (P → Q → A) → (R → B) → MatchResult x (λ _. A) (λ _. B)
-match_both (Ok t) P Q R A B p h f g = f p h
-match_both (Err e) P Q R A B p h f g = g h
-
-pub match_by : {T E : Type 0} (x : Result T E) (P R A B : Type 0) → OnOk x P → OnErr x R → (P → A) → (R → B) → MatchResult x (λ _. A) (λ _. B)
-match_by (Ok t) P R A B p r f g = f p
-match_by (Err e) P R A B p r f g = g r

@@ -1,5 +1,5 @@
 -- Bytes that were read into the rest of a buffer, and parts of bytes.
-use Rattle.std.proofs.Common.{◌≡◌, ◌∙◌, ◌++◌, ◌+◌, ◌≤◌, ℕ, true, false, true≢false, List, length, take, drop, take-append-drop, length-take, arith, sym, ap, not, bytes_eq}
+use Rattle.std.proofs.Common.{◌≡◌, ◌∙◌, ◌++◌, ◌+◌, ◌≤◌, ℕ, true, false, true≢false, List, length, take, sym, ap, not, bytes_eq}
 use Rattle.std.proofs.lemmas.Bool.{not-false, not-true}
 use Rattle.cells.proofs.Equality.{bytes_are, bytes_is}
 use Rattle.std.proofs.Math.Seq.{take-append-add}
@@ -16,11 +16,3 @@ same_then xs ys e = bytes_are xs ys (not-false (bytes_eq xs ys) e)
 
 pub other_then : (xs ys : List ℕ) → not (bytes_eq xs ys) ≡ true → xs ≡ ys → ⊥
 other_then xs ys e same = true≢false (sym (bytes_is xs) ∙ ap (bytes_eq xs) same ∙ not-true (bytes_eq xs ys) e)
-
--- the parts before and behind a place
-pub split_whole : (n : ℕ) (front back xs : List ℕ) → front ≡ take n xs → back ≡ drop n xs → front ++ back ≡ xs
-split_whole n front back xs f b = ap (λ z. z ++ back) f ∙ ap (λ z. take n xs ++ z) b ∙ take-append-drop n xs
-
--- a front of a number of bytes
-pub short_part : (n most : ℕ) (part xs : List ℕ) → part ≡ take n xs → n ≤ most → length part ≤ most
-short_part n most part xs e few = rw e (omega (arith, few, length-take n xs))

@@ -52,8 +52,7 @@ notes_more v (n ∷ ns) ms = ap (λ z. OfNote (version_after v n) n ∷ z) (note
 
 shown_then : (xs ys : List Shown) (t u : List ℕ) → AreShown xs t → AreShown ys u → AreShown (xs ++ ys) (t ++ u)
 shown_then [] ys t u h k = subst (λ (z : List ℕ). AreShown ys (z ++ u)) (sym h) k
-shown_then (x ∷ xs) ys t u h k =
-    (h.0, h.1 ++ u, h.2, shown_then xs ys h.1 u h.3 k, ap (λ (z : List ℕ). z ++ u) h.4 ∙ append_assoc h.0 h.1 u)
+shown_then (x ∷ xs) ys t u h k = (h.0, h.1 ++ u, h.2, shown_then xs ys h.1 u h.3 k, simp (h.4, append_assoc))
 
 pub prints_none : (a : Option (List ℕ)) → Prints [] a a
 prints_none a = ([], refl, Appends-nil a)
@@ -73,10 +72,10 @@ prints_some xs ys a b c h (inr k) = inr (record {
   rest = k.rest;
   text = h.0 ++ k.text;
   begun = k.begun;
-  parts = ap (λ (z : List Shown). xs ++ z) k.parts ∙ sym (append_assoc xs k.done (k.next ∷ k.rest));
+  parts = simp (k.parts, append_assoc);
   shown = shown_then xs k.done h.0 k.text h.1 k.shown;
   front = k.front;
-  printed = subst (Appends a c) (sym (append_assoc h.0 k.text k.begun)) (Appends-trans a b c h.0 (k.text ++ k.begun) h.2 k.printed);
+  printed = subst (Appends a c) (simp append_assoc) (Appends-trans a b c h.0 (k.text ++ k.begun) h.2 k.printed);
 })
 
 -- what is printed of a line that is cut
@@ -227,22 +226,14 @@ module _ (S : Setting) (conn : ℕ) (ledger : List EntryView) where
       let out = (talk_for S conn ledger s).out in
       ap (λ z. drop (length out) (talk_for S conn ledger z).out) (append-nil s) ∙ ap (drop (length out)) (sym (append-nil out)) ∙ drop-append_seam out []
 
-  abbrev turns_at : Place → List ℕ → List Shown → Turns
-  turns_at p s x = record { place = p; sent = s; shown = x }
-
   pub given_more : (t : Turns) (a b : List ℕ) → given S conn ledger t (a ++ b) ≡ given S conn ledger (given S conn ledger t a) b
   given_more t a b =
       let first = answer_to S conn ledger t.sent a in
       let second = answer_to S conn ledger (t.sent ++ a) b in
-      ap (λ z. turns_at (place_after t.place z) (t.sent ++ (a ++ b)) (t.shown ++ shown_of t.place z)) (answer_more t.sent a b)
-      ∙ ap (λ z. turns_at z (t.sent ++ (a ++ b)) (t.shown ++ shown_of t.place (first ++ second))) (place_more t.place first second)
-      ∙ ap (λ z. turns_at (place_after (place_after t.place first) second) z (t.shown ++ shown_of t.place (first ++ second))) (sym (append_assoc t.sent a b))
-      ∙ ap (turns_at (place_after (place_after t.place first) second) ((t.sent ++ a) ++ b)) (ap (λ z. t.shown ++ z) (shown_more t.place first second) ∙ sym (append_assoc t.shown (shown_of t.place first) (shown_of (place_after t.place first) second)))
+      rw (answer_more t.sent a b, place_more t.place first second, shown_more t.place first second) (simp append_assoc)
 
   pub given_none : (t : Turns) → given S conn ledger t [] ≡ t
-  given_none t =
-      ap (λ z. turns_at (place_after t.place z) (t.sent ++ []) (t.shown ++ shown_of t.place z)) (answer_none t.sent)
-      ∙ ap (λ z. turns_at t.place z (t.shown ++ [])) (append-nil t.sent) ∙ ap (turns_at t.place t.sent) (append-nil t.shown)
+  given_none t = rw (answer_none t.sent) (simp append-nil)
 
   -- one line after another
   pub lines_more : (t : Turns) (ls : List (ℕ × ScriptRequestView)) (l : ℕ × ScriptRequestView) → after_lines S conn ledger t (ls ++ l ∷ []) ≡ after_line S conn ledger (after_lines S conn ledger t ls) l

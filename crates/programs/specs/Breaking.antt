@@ -1,31 +1,27 @@
 -- How far a loop has come, and what it has printed, where a fault breaks it off.
-use Rattle.std.specs.Prelude.{◌≡◌, ◌⊎◌, ◌≤◌, ℕ, List, [], ◌∷◌, ◌++◌, length, Option}
-use Rattle.std.specs.Io.KnownBytes.{Appends, Consumes}
+use Rattle.std.specs.Prelude.{◌≡◌, ◌⊎◌, ℕ, List, [], ◌∷◌, ◌++◌, Option, Result, Ok, Err}
+use Rattle.std.specs.Io.KnownBytes.{Appends}
 use Rattle.engine.specs.Views.{EntryView}
 use Rattle.session.specs.Session.{Setting}
 use Rattle.server.specs.Serving.{Rest}
+use Rattle.streams.specs.declared.fault.StreamFault.{StreamFault}
 use Rattle.streams.specs.Fronts.{AppendsFront}
-use Rattle.streams.specs.Limits.{max_piece}
 use Rattle.scripts.specs.Views.{ScriptRequestView}
+use Rattle.programs.specs.declared.stop.StopReason.TheVariants.{Broken}
+use Rattle.programs.specs.Stopping.{IsStopOf}
 use Rattle.programs.specs.Telling.{IsFront}
-use Rattle.programs.specs.Turns.{Shown, AreShown, Turns, shown_of, stages_of, talk_for}
+use Rattle.programs.specs.Turns.{Shown, AreShown, Turns, stages_of, talk_for}
 use Rattle.programs.specs.Ways.{Ways}
-use Rattle.programs.specs.Passing.{Passes}
-use Rattle.programs.specs.Looping.{IsFrontOf, PrintsPart, end, entries_text, whole_talk}
+use Rattle.programs.specs.Passing.{FailsToRead, FailsToWrite, Passes}
+use Rattle.programs.specs.Looping.{IsFrontOf, Loops, ReadsUpTo, end, entries_text, whole_talk}
 
 module _ (S : Setting) (conn : ℕ) (ledger : List EntryView) where
   -- A fault came when both had come so far, while the client heard this answer of the session: it has read all that was answered before, and a
   -- beginning of the answer. At most 4,096 bytes more were read and not heard. What is shown of what was heard is printed, unless the fault
   -- came on the way.
-  pub record BreaksIn (start now : Ways) (t : Turns) (answer : List ℕ) : Type 0 where
-    pub heard : List ℕ
-    pub rest : List ℕ
-    pub unheard : List ℕ
-    pub parts : heard ++ rest ≡ answer
-    pub read : Consumes start.down.left now.down.left
-        ((talk_for S conn ledger t.sent).out ++ (heard ++ unheard))
-    pub few : length unheard ≤ max_piece
-    pub prints : PrintsPart (t.shown ++ shown_of t.place heard) start.out now.out
+  abbrev pub BreaksIn : Ways → Ways → Turns → List ℕ → Type 0
+  BreaksIn start now t answer = ReadsUpTo (talk_for S conn ledger t.sent).out t.shown t.place answer
+      start.down.left now.down.left start.out now.out
 
   -- a fault came at one of these stages
   abbrev pub BreaksAt : Ways → Ways → List (Turns × List ℕ) → Type 0
@@ -65,3 +61,9 @@ module _ {G : Type 0} (r : Rest G) (S : Setting) (lines : List (ℕ × ScriptReq
         start.out last.out
     pub printed : BreaksAt S r.next r.ledger start last (stages_of S r.next r.ledger lines)
         ⊎ BreaksBehind start last
+
+  -- It ran whole; or a fault broke it off, which is I1 only where a way breaks at its source, and I2 only where a sink has failed.
+  abbrev pub EndsAt : (Rest G → Type 0) → Ways → Ways → Result (Unit {0}) StreamFault → Type 0
+  EndsAt Now start last (Ok x) = Loops r S lines Now start last
+  EndsAt Now start last (Err fault) =
+      IsStopOf (Broken fault) (FailsToRead start last) (FailsToWrite last) × Breaks start last

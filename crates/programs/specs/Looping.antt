@@ -1,5 +1,5 @@
 -- What a client and a server in one process print and leave.
-use Rattle.std.specs.Prelude.{◌≡◌, ◌⊎◌, ◌≤◌, ℕ, Bool, false, List, [], ◌∷◌, ◌++◌, codes, length, Option, Some, None, IsSome}
+use Rattle.std.specs.Prelude.{◌≡◌, ◌⊎◌, ◌≤◌, ℕ, Bool, false, List, [], ◌∷◌, ◌++◌, codes, length, Option, Some, None, IsSome, Result, Ok, Err}
 use Rattle.std.specs.Fmt.{decimal}
 use Rattle.std.specs.List.{flat_map}
 use Rattle.std.specs.Io.KnownBytes.{Appends, Consumes}
@@ -16,20 +16,19 @@ use Rattle.programs.specs.declared.caller.Caller.{Caller}
 use Rattle.programs.specs.declared.loops.Pair.{Pair}
 use Rattle.programs.specs.declared.stop.StopReason.{StopReason}
 use Rattle.programs.specs.declared.stop.StopReason.TheVariants.{Unreadable, Broken}
-use Rattle.programs.specs.Stopping.{Gets, stop_text}
+use Rattle.programs.specs.Stopping.{Gets, IsStopOf, stop_text}
 use Rattle.programs.specs.Talking.{Place, IsAt}
 use Rattle.programs.specs.Telling.{IsFront}
 use Rattle.programs.specs.Turns.{Shown, IsShown, AreShown, shown_of, place_after, Turns, IsQuiet, AreQuiet, after_line, talk_for, turns_of}
-use Rattle.programs.specs.Ways.{Ways}
-use Rattle.programs.specs.Passing.{FailsToRead, FailsToWrite, Passed, Passes}
-use Rattle.server.specs.Serving.{Rest, opened}
+use Rattle.programs.specs.Ways.{Way, Ways}
+use Rattle.programs.specs.Passing.{FailsToRead, FailsToWrite, Passes}
+use Rattle.server.specs.Serving.{Rest, find, opened}
 use Rattle.streams.specs.declared.fault.StreamFault.{StreamFault}
-use Rattle.streams.specs.declared.fault.StreamFault.TheVariants.{ReadFailed, WriteFailed}
 use Rattle.serves.specs.declared.standing.Standing.{Standing}
 use Rattle.serves.specs.declared.standing.Standing.TheVariants.{Open}
 use Rattle.serves.specs.Conversing.{Talk, with_talk}
 use Rattle.streams.specs.Limits.{max_piece}
-use Rattle.serves.specs.Settling.{Grows, LivesOn, standing_of}
+use Rattle.serves.specs.Settling.{Grows, standing_of}
 
 -- what ends the line of an entry: its token in hex, where it has one
 abbrev pub token_ending : Token → List ℕ
@@ -99,13 +98,17 @@ pub record HearsFront (p : Place) (bytes : List ℕ) (before after : Option (Lis
   pub parts : heard ++ rest ≡ bytes
   pub prints : PrintsPart (shown_of p heard) before after
 
--- The same of bytes that it read: at most 4,096 of them weren't heard.
-pub record ReadsFront (p : Place) (bytes : List ℕ) (left left_now before after : Option (List ℕ))
-    : Type 0 where
-  pub hears : HearsFront p bytes before after
+-- The same of an answer that it read, of which it stood there, when these bytes were read and these are shown: it has heard a beginning of the
+-- answer, and at most 4,096 bytes more were read and not heard.
+pub record ReadsUpTo (behind : List ℕ) (shown : List Shown) (p : Place) (answer : List ℕ)
+    (left left_now before after : Option (List ℕ)) : Type 0 where
+  pub heard : List ℕ
+  pub rest : List ℕ
   pub unheard : List ℕ
-  pub read : Consumes left left_now (hears.heard ++ unheard)
+  pub parts : heard ++ rest ≡ answer
+  pub read : Consumes left left_now (behind ++ (heard ++ unheard))
   pub few : length unheard ≤ max_piece
+  pub prints : PrintsPart (shown ++ shown_of p heard) before after
 
 -- The client stands there; of one that has ended it isn't said which item of its bytes isn't whole.
 pub record StandsAt (c : Caller) (p : Place) : Type 0 where
@@ -126,14 +129,19 @@ pub record IsHeardAll (p : Place) (bytes : List ℕ) (c : Caller) (before after 
   pub stands : StandsAt c (place_after p bytes)
   pub printed : Prints (shown_of p bytes) before after
 
--- What a loop did to the server's sessions and to the streams, up to a fault: the session lives on, and bytes passed on both ways; it is I1
--- only where a way breaks at its source, and I2 only where a sink has failed.
-pub record GoesOn {G : Type 0} (fault : Option StreamFault) (conn : ℕ) (Old Now : Rest G → Type 0)
-    (before after : Ways) : Type 0 where
-  pub lives : LivesOn conn Old Now
-  pub passed : fault ≡ None → Passed before after
-  pub read : fault ≡ Some ReadFailed → FailsToRead before after
-  pub written : fault ≡ Some WriteFailed → FailsToWrite after
+module _ {G : Type 0} (r : Rest G) (conn : ℕ) where
+  -- A fault broke it off, which is I1 only where a way breaks at its source, and I2 only where a sink has failed: how far it had come is told.
+  pub record Stops (fault : StreamFault) (start now : Ways) (Now : Rest G → Type 0) (There : Type 0)
+      : Type 0 where
+    pub lives : Grows r conn Now
+    pub cause : IsStopOf (Broken fault) (FailsToRead start now) (FailsToWrite now)
+    pub there : There
+
+  -- It came so far, or a fault broke it off there.
+  abbrev pub Goes : Ways → Ways → (Rest G → Type 0) → Type 0 → Type 0 → Result (Unit {0}) StreamFault
+      → Type 0
+  Goes start now Now Comes There (Ok x) = Comes
+  Goes start now Now Comes There (Err fault) = Stops fault start now Now There
 
 module _ {G : Type 0} (r : Rest G) (conn : ℕ) (S : Setting) where
   -- The session is as these bytes of its client leave it, and this is all that it has put out.
@@ -145,9 +153,10 @@ module _ {G : Type 0} (r : Rest G) (conn : ℕ) (S : Setting) where
     pub stands : standing ≡ standing_of (talk_for S conn r.ledger sent).kept.ended
     pub goes_on : standing ≡ Open → unfinished ≡ state at_server at_server.start sent
 
-  -- Both have come so far, and all passed over the streams and is printed.
+  -- Both have come so far, and all passed over the streams and is printed. The session lives, and the ledger has at most grown.
   pub record Comes (start now : Ways) (t : Turns) (pair : Pair) (Now : Rest G → Type 0) : Type 0
     where
+      pub lives : Grows r conn Now
       pub client : StandsAt pair.caller t.place
       pub session : Sits Now t.sent pair.said.bytes.items pair.standing
       pub up : Passes start.up now.up t.sent
@@ -159,6 +168,17 @@ module _ {G : Type 0} (r : Rest G) (conn : ℕ) (S : Setting) where
       (Now : Rest G → Type 0) : Type 0 where
     pub comes : Comes start now (after_line S conn r.ledger t l) pair Now
     pub quiet : IsQuiet t → IsQuiet (after_line S conn r.ledger t l)
+
+-- A loop has come somewhere since its sources, near the client and far from it, let themselves be read of what waits.
+pub record IsOn {G : Type 0} (Near Far : Way → Type 0) (setting_at : Rest G → Setting) (conn : ℕ)
+    (Now : Rest G → Type 0) (now : Ways) (pair : Pair) : Type 0 where
+  pub rest : Rest G
+  pub start : Ways
+  pub turns : Turns
+  pub found : IsSome (find conn rest.sessions)
+  pub near : Near start.down
+  pub far : Far start.up
+  pub comes : Comes rest conn (setting_at rest) start now turns pair Now
 
 module _ {G : Type 0} (r : Rest G) (S : Setting) (lines : List (ℕ × ScriptRequestView)) where
   -- how far a client comes with these lines, and a session on a server on which no other lives

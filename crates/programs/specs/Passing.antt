@@ -25,11 +25,6 @@ pub record Alters (before after : Way) : Type 0 where
   pub gave : Consumes before.left after.left read
   pub other : read ≡ written → ⊥
 
--- Bytes passed on both ways.
-abbrev pub Passed : Ways → Ways → Type 0
-Passed before after = ((bytes : List ℕ) × Passes before.up after.up bytes)
-    × ((bytes : List ℕ) × Passes before.down after.down bytes)
-
 -- a way breaks at its source: that has failed or gives no more, or gave other bytes than were written
 abbrev pub BreaksAtSource : Way → Way → Type 0
 BreaksAtSource before after = GivesNoMore after.read_failed after.left ⊎ Alters before after

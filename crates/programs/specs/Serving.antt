@@ -6,7 +6,7 @@ use Rattle.engine.specs.Views.{EntryView}
 use Rattle.session.specs.declared.kinds.Cause.{Cause}
 use Rattle.session.specs.Session.{Setting}
 use Rattle.server.specs.declared.server.Server.{Server}
-use Rattle.server.specs.Serving.{Rest}
+use Rattle.server.specs.Serving.{Rest, opened}
 use Rattle.server.specs.Views.{Fits}
 use Rattle.streams.specs.declared.fault.StreamFault.{StreamFault}
 use Rattle.serves.specs.Settling.{IsDueTo}
@@ -29,6 +29,11 @@ IsEndOf told (Err fault) input output =
     (told.cause ≡ Cause.Lost) × (told.fault ≡ Some fault) × IsDueTo fault input output
 
 module _ {G : Type 0} (r : Rest G) where
+  -- A session was opened with this number, the next, and the server stands so.
+  pub record HasOpened (conn : ℕ) (Now : Rest G → Type 0) : Type 0 where
+    pub number : conn ≡ r.next
+    pub now : Now (opened r)
+
   -- One more session was opened and given up, and the ledger has grown by some entries, or by none.
   abbrev pub HasServed : (Rest G → Type 0) → Type 0
   HasServed Now = (more : List EntryView)

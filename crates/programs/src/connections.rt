@@ -1,11 +1,11 @@
 //! A server of one connection after another.
-ghost use Rattle.std.specs.Prelude.{◌≡◌, [], Some, IsSome, true, IfOk, OnOk, OnErr, IsErrOf};
+ghost use Rattle.std.specs.Prelude.{◌≡◌, [], Some, IsSome, true, IfErr, IfOk, MatchResult, OnOk, OnErr, IsErrOf};
 ghost use Rattle.std.specs.Io.KnownBytes.{Appends};
 ghost use Rattle.server.specs.Serving.{Rest, find, fresh, opened, setting};
 ghost use Rattle.server.specs.Views.{Fits};
 ghost use Rattle.serves.specs.Settling.{IsLive};
 ghost use Rattle.serves.specs.Serving.{LeavesOthers};
-ghost use Rattle.programs.specs.Serving.{Drains, IsVacant, HasServed, MayHaveServed, ServesSo, conn_line};
+ghost use Rattle.programs.specs.Serving.{Drains, IsVacant, HasOpened, HasServed, MayHaveServed, ServesSo, conn_line};
 
 use crate::printed_lines::put_end;
 use engine::{Engine, Gate};
@@ -55,13 +55,29 @@ pub fn serve_next<E: Engine, G: Gate, I: Source, O: Sink, P: Sink>(
     ensures read { IsErrOf result StreamFault.ReadFailed → ⊥ }
     ensures written { IsErrOf result StreamFault.WriteFailed → P.has_failed out.new ≡ true }
 {
-    let Ok(conn) = server.open() else {
-        return Err(StreamFault::Memory);
+    let conn = match open_session(server) {
+        Ok(conn) => conn,
+        Err(fault) => return Err(fault),
     };
     let told = serve_opened(alloc, server, conn, source, sink);
     match put_end(alloc, conn, told.cause, out) {
         Ok(()) => Ok(told),
         Err(fault) => Err(fault),
+    }
+}
+
+/// Opens a session.
+pub(crate) fn open_session<E: Engine, G: Gate>(
+    server: &mut Server<E, G>,
+) -> Result<u64, StreamFault>
+    ensures opens { (r : Rest G) → Fits E.entries server.old r
+        → MatchResult result (λ conn. HasOpened r conn (Fits E.entries server.new))
+        (λ _. Fits E.entries server.new r) }
+    ensures fault { IfErr result (λ e. e ≡ StreamFault.Memory) }
+{
+    match server.open() {
+        Ok(conn) => Ok(conn),
+        Err(_) => Err(StreamFault::Memory),
     }
 }
 

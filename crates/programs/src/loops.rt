@@ -1,25 +1,25 @@
 //! A client and a server in one process, over the two ends of a connection.
-ghost use Rattle.std.specs.Prelude.{◌≡◌, ◌⊎◌, ◌≤◌, ◌+◌, ◌++◌, ℕ, List, [], length, map, true, None, IsSome, IfErr, OnOk, OnErr, IsErrOf, MatchResult};
-ghost use Rattle.std.specs.Result.{result_err};
+ghost use Rattle.std.specs.Prelude.{◌≡◌, ◌⊎◌, ◌≤◌, ◌<◌, ◌+◌, ◌++◌, ◌∷◌, ℕ, List, [], drop, length, map, true, None, IsSome, IfErr, OnOk, OnErr, IsErrOf, MatchResult};
 ghost use Rattle.std.specs.Io.KnownBytes.{Consumes};
 ghost use Rattle.server.specs.Serving.{Rest, find, setting};
 ghost use Rattle.server.specs.Views.{Fits};
 ghost use Rattle.serves.specs.Settling.{IsLive, LivesOn};
 ghost use Rattle.programs.specs.Passing.{BreaksAtSource, FailsToRead, FailsToWrite, GivesNoMore, GivesSome, LetsReadWaiting, Passes};
-ghost use Rattle.programs.specs.Looping.{Comes, ComesOn, GoesOn, HasLooped, HearsFront, IsHeardAll, Loops, Numbers, Prints, PrintsUpTo, ReadsFront, RunsNothing, Sits, StandsAt, TellsLine};
-ghost use Rattle.programs.specs.Breaking.{Breaks, BreaksAt, BreaksIn};
+ghost use Rattle.programs.specs.Looping.{Comes, ComesOn, Goes, HasLooped, HearsFront, IsHeardAll, IsOn, Loops, Numbers, Prints, PrintsUpTo, ReadsUpTo, RunsNothing, Sits, StandsAt, TellsLine};
+ghost use Rattle.programs.specs.Breaking.{Breaks, BreaksAt, BreaksIn, EndsAt};
 ghost use Rattle.programs.specs.Serving.{IsVacant};
 ghost use Rattle.programs.specs.Talking.{Place};
 ghost use Rattle.client.specs.Notes.{note};
 ghost use Rattle.programs.specs.Telling.{versions_after};
-ghost use Rattle.programs.specs.Turns.{AreQuiet, IsQuiet, Turns, answer_to, due, exchanged, given, line_stages, no_turns, notes_shown, stages_of, turns_of};
+ghost use Rattle.programs.specs.Turns.{AreQuiet, IsQuiet, Turns, after_lines, answer_to, due, exchanged, given, line_stages, notes_shown, stages};
 ghost use Rattle.programs.specs.Ways.{Ways};
 ghost use Rattle.scripts.specs.Rows.{request_line_of};
 ghost use Rattle.scripts.specs.Script.{filled_lines, lines_read, said_requests, unreadable};
 ghost use Rattle.scripts.specs.Views.{script_request_view};
-ghost use Rattle.programs.specs.Stopping.{Ends, stop_status};
+ghost use Rattle.programs.specs.Stopping.{Ends, IsStopOf, stop_status};
 
 use crate::caller::Caller;
+use crate::connections::open_session;
 use crate::printed_lines::put_entries;
 use crate::stop::{StopReason, put_stop};
 use crate::ways::{BothWays, OneWay};
@@ -105,8 +105,10 @@ fn hear<O: Sink>(caller: &mut Caller, part: &[u8], out: &mut O) -> Result<(), St
 {
     let mut heard = Vec::new(caller.alloc);
     let fed = feed_piece(&mut caller.client, part, &mut heard);
-    put_all(caller, heard, out)?;
-    fed
+    match put_all(caller, heard, out) {
+        Ok(()) => fed,
+        Err(fault) => Err(fault),
+    }
 }
 
 fn put_all<O: Sink>(caller: &mut Caller, heard: Vec<Heard>, out: &mut O) -> Result<(), StreamFault>
@@ -121,9 +123,21 @@ fn put_all<O: Sink>(caller: &mut Caller, heard: Vec<Heard>, out: &mut O) -> Resu
     ensures written { IsErrOf result StreamFault.WriteFailed → O.has_failed out.new ≡ true }
 {
     for one in heard {
-        caller.put_heard(one, out)?;
+        match caller.put_heard(one, out) {
+            Ok(()) => {}
+            Err(fault) => return Err(fault),
+        }
     }
     Ok(())
+}
+
+/// The next part of bytes, at most 4,096 of them, and those after it.
+fn next_part(bytes: &[u8]) -> (&[u8], &[u8])
+    ensures parts { result.0.now ++ result.1.now ≡ bytes.now }
+    ensures short { length result.0.now ≤ 4096 }
+    ensures less { 0 < length bytes.now → length result.1.now < length bytes.now }
+{
+    bytes.split_at(bytes.len().min(MAX_PIECE))
 }
 
 /// Writes what the server put out in parts of at most 4,096 bytes; the client reads and hears each before the next is written.
@@ -137,7 +151,8 @@ fn hand_over<T: Sink, S: Peer, O: Sink>(
     ensures hears { (p : Place) → StandsAt caller.old p
         → MatchResult result
         (λ _. IsHeardAll p bytes.now caller.new (O.taken out.old) (O.taken out.new))
-        (λ _. ReadsFront p bytes.now way.old.at.left way.new.at.left (O.taken out.old) (O.taken out.new)) }
+        (λ _. ReadsUpTo [] [] p bytes.now way.old.at.left way.new.at.left (O.taken out.old)
+        (O.taken out.new)) }
     ensures passes { OnOk result (Passes way.old.at way.new.at bytes.now) }
     ensures read { IsErrOf result StreamFault.ReadFailed → BreaksAtSource way.old.at way.new.at }
     ensures written { IsErrOf result StreamFault.WriteFailed
@@ -145,9 +160,15 @@ fn hand_over<T: Sink, S: Peer, O: Sink>(
 {
     let mut rest = bytes;
     while !rest.is_empty() {
-        let (part, after) = rest.split_at(rest.len().min(MAX_PIECE));
-        pass(caller.alloc, part, way)?;
-        hear(caller, part, out)?;
+        let (part, after) = next_part(rest);
+        match pass(caller.alloc, part, way) {
+            Ok(()) => {}
+            Err(fault) => return Err(fault),
+        }
+        match hear(caller, part, out) {
+            Ok(()) => {}
+            Err(fault) => return Err(fault),
+        }
         rest = after;
     }
     Ok(())
@@ -184,6 +205,16 @@ fn give<E: Engine, G: Gate>(
     }
 }
 
+/// What was put out behind so many bytes.
+#[tactic(auto, using(std::proofs::lemmas::List::drop_min))]
+fn put_out_behind(said: &Buffer, count: usize) -> &[u8]
+    ensures { result.now ≡ drop count said.now.bytes.items }
+{
+    let bytes = said.bytes();
+    let (_, behind) = bytes.split_at(count.min(bytes.len()));
+    behind
+}
+
 /// The client writes a piece of at most 4,096 bytes; the server reads just those, feeds them and works, and hands over what it put out.
 fn turn<E: Engine, G: Gate, A: Peer, B: Sink, C: Peer, D: Sink, O: Sink>(
     pair: &mut Pair,
@@ -192,30 +223,34 @@ fn turn<E: Engine, G: Gate, A: Peer, B: Sink, C: Peer, D: Sink, O: Sink>(
     piece: &[u8],
     ways: &mut BothWays<A, B, C, D, O>,
 ) -> Result<(), StreamFault>
-    requires live { IsLive E.entries conn server.old }
-    requires near { LetsReadWaiting A.left A.may_read ways.old.at.down }
-    requires far { LetsReadWaiting C.left C.may_read ways.old.at.up }
-    ensures moves { GoesOn (result_err result) conn (Fits E.entries server.old)
-        (Fits E.entries server.new) ways.old.at ways.new.at }
-    ensures comes { (r : Rest G) (start : Ways) (t : Turns) → IsSome (find conn r.sessions)
+    requires { IsOn (LetsReadWaiting A.left A.may_read) (LetsReadWaiting C.left C.may_read)
+        (setting E.answer G.accepts) conn (Fits E.entries server.old) ways.old.at pair.old }
+    ensures { (r : Rest G) (start : Ways) (t : Turns) → IsSome (find conn r.sessions)
         → Comes r conn (setting E.answer G.accepts r) start ways.old.at t pair.old
         (Fits E.entries server.old)
-        → MatchResult result
-        (λ _. Comes r conn (setting E.answer G.accepts r) start ways.new.at
+        → Goes r conn start ways.new.at (Fits E.entries server.new)
+        (Comes r conn (setting E.answer G.accepts r) start ways.new.at
         (given (setting E.answer G.accepts r) conn r.ledger t piece.now) pair.new
         (Fits E.entries server.new))
-        (λ _. BreaksIn (setting E.answer G.accepts r) conn r.ledger start ways.new.at t
-        (answer_to (setting E.answer G.accepts r) conn r.ledger t.sent piece.now)) }
+        (BreaksIn (setting E.answer G.accepts r) conn r.ledger start ways.new.at t
+        (answer_to (setting E.answer G.accepts r) conn r.ledger t.sent piece.now))
+        result }
 {
-    pass(pair.caller.alloc, piece, &mut ways.up)?;
+    match pass(pair.caller.alloc, piece, &mut ways.up) {
+        Ok(()) => {}
+        Err(fault) => return Err(fault),
+    }
     let before = pair.said.bytes().len();
-    give(server, conn, piece, &mut pair.said, &mut pair.standing)?;
-    // It has only grown.
-    let (_, answer) = pair
-        .said
-        .bytes()
-        .split_at(before.min(pair.said.bytes().len()));
-    hand_over(&mut pair.caller, answer, &mut ways.down, &mut ways.out)
+    match give(server, conn, piece, &mut pair.said, &mut pair.standing) {
+        Ok(()) => {}
+        Err(fault) => return Err(fault),
+    }
+    let answer = put_out_behind(&pair.said, before);
+    match hand_over(&mut pair.caller, answer, &mut ways.down, &mut ways.out) {
+        Ok(()) => {}
+        Err(fault) => return Err(fault),
+    }
+    Ok(())
 }
 
 /// The client writes all that it has to say, in pieces, a turn for each. Where an answer is still to come then, the session has none: I3.
@@ -225,29 +260,30 @@ fn exchange<E: Engine, G: Gate, A: Peer, B: Sink, C: Peer, D: Sink, O: Sink>(
     conn: u64,
     ways: &mut BothWays<A, B, C, D, O>,
 ) -> Result<(), StreamFault>
-    requires live { IsLive E.entries conn server.old }
-    requires near { LetsReadWaiting A.left A.may_read ways.old.at.down }
-    requires far { LetsReadWaiting C.left C.may_read ways.old.at.up }
-    ensures moves { GoesOn (result_err result) conn (Fits E.entries server.old)
-        (Fits E.entries server.new) ways.old.at ways.new.at }
-    ensures comes { (r : Rest G) (start : Ways) (t : Turns) → IsSome (find conn r.sessions)
+    requires { IsOn (LetsReadWaiting A.left A.may_read) (LetsReadWaiting C.left C.may_read)
+        (setting E.answer G.accepts) conn (Fits E.entries server.old) ways.old.at pair.old }
+    ensures { (r : Rest G) (start : Ways) (t : Turns) → IsSome (find conn r.sessions)
         → Comes r conn (setting E.answer G.accepts r) start ways.old.at t pair.old
         (Fits E.entries server.old)
-        → MatchResult result
-        (λ _. Comes r conn (setting E.answer G.accepts r) start ways.new.at
+        → Goes r conn start ways.new.at (Fits E.entries server.new)
+        (Comes r conn (setting E.answer G.accepts r) start ways.new.at
         (exchanged (setting E.answer G.accepts r) conn r.ledger t) pair.new
         (Fits E.entries server.new)
         × IsQuiet (exchanged (setting E.answer G.accepts r) conn r.ledger t))
-        (λ _. BreaksIn (setting E.answer G.accepts r) conn r.ledger start ways.new.at t
-        (due (setting E.answer G.accepts r) conn r.ledger t)) }
+        (BreaksIn (setting E.answer G.accepts r) conn r.ledger start ways.new.at t
+        (due (setting E.answer G.accepts r) conn r.ledger t))
+        result }
 {
     let Ok(bytes) = pair.caller.client.take_out(usize::MAX) else {
         return Err(StreamFault::Memory);
     };
     let mut rest = bytes.as_slice();
     while !rest.is_empty() {
-        let (piece, after) = rest.split_at(rest.len().min(MAX_PIECE));
-        turn(pair, server, conn, piece, ways)?;
+        let (piece, after) = next_part(rest);
+        match turn(pair, server, conn, piece, ways) {
+            Ok(()) => {}
+            Err(fault) => return Err(fault),
+        }
         rest = after;
     }
     if pair.caller.client.awaits() {
@@ -264,28 +300,32 @@ fn run_line<E: Engine, G: Gate, A: Peer, B: Sink, C: Peer, D: Sink, O: Sink>(
     line: Numbered<ScriptRequest>,
     ways: &mut BothWays<A, B, C, D, O>,
 ) -> Result<(), StreamFault>
-    requires live { IsLive E.entries conn server.old }
-    requires near { LetsReadWaiting A.left A.may_read ways.old.at.down }
-    requires far { LetsReadWaiting C.left C.may_read ways.old.at.up }
-    ensures moves { GoesOn (result_err result) conn (Fits E.entries server.old)
-        (Fits E.entries server.new) ways.old.at ways.new.at }
-    ensures comes { (r : Rest G) (start : Ways) (t : Turns) → IsSome (find conn r.sessions)
+    requires { IsOn (LetsReadWaiting A.left A.may_read) (LetsReadWaiting C.left C.may_read)
+        (setting E.answer G.accepts) conn (Fits E.entries server.old) ways.old.at pair.old }
+    ensures { (r : Rest G) (start : Ways) (t : Turns) → IsSome (find conn r.sessions)
         → Comes r conn (setting E.answer G.accepts r) start ways.old.at t pair.old
         (Fits E.entries server.old)
-        → MatchResult result
-        (λ _. ComesOn r conn (setting E.answer G.accepts r) start ways.new.at t
+        → Goes r conn start ways.new.at (Fits E.entries server.new)
+        (ComesOn r conn (setting E.answer G.accepts r) start ways.new.at t
         (line.number, script_request_view line.said) pair.new (Fits E.entries server.new))
-        (λ _. BreaksAt (setting E.answer G.accepts r) conn r.ledger start ways.new.at
+        (BreaksAt (setting E.answer G.accepts r) conn r.ledger start ways.new.at
         (line_stages (setting E.answer G.accepts r) conn r.ledger t
-        (line.number, script_request_view line.said))) }
+        (line.number, script_request_view line.said)))
+        result }
 {
-    if pair.caller.submit(line.number, line.said, &mut ways.out)? {
-        return exchange(pair, server, conn, ways);
+    match pair.caller.submit(line.number, line.said, &mut ways.out) {
+        Ok(true) => {}
+        Ok(false) => return Ok(()),
+        Err(fault) => return Err(fault),
+    }
+    match exchange(pair, server, conn, ways) {
+        Ok(()) => {}
+        Err(fault) => return Err(fault),
     }
     Ok(())
 }
 
-/// Hears the version, and then submits one line after another.
+/// An exchange, in which the version is heard, and then one line after another.
 fn run_lines<E: Engine, G: Gate, A: Peer, B: Sink, C: Peer, D: Sink, O: Sink>(
     pair: &mut Pair,
     server: &mut Server<E, G>,
@@ -293,26 +333,32 @@ fn run_lines<E: Engine, G: Gate, A: Peer, B: Sink, C: Peer, D: Sink, O: Sink>(
     lines: Vec<Numbered<ScriptRequest>>,
     ways: &mut BothWays<A, B, C, D, O>,
 ) -> Result<(), StreamFault>
-    requires live { IsLive E.entries conn server.old }
-    requires near { LetsReadWaiting A.left A.may_read ways.old.at.down }
-    requires far { LetsReadWaiting C.left C.may_read ways.old.at.up }
-    ensures moves { GoesOn (result_err result) conn (Fits E.entries server.old)
-        (Fits E.entries server.new) ways.old.at ways.new.at }
-    ensures comes { (r : Rest G) (start : Ways) → IsSome (find conn r.sessions)
-        → Comes r conn (setting E.answer G.accepts r) start ways.old.at no_turns pair.old
+    requires { IsOn (LetsReadWaiting A.left A.may_read) (LetsReadWaiting C.left C.may_read)
+        (setting E.answer G.accepts) conn (Fits E.entries server.old) ways.old.at pair.old }
+    ensures { (r : Rest G) (start : Ways) (t : Turns) → IsSome (find conn r.sessions)
+        → Comes r conn (setting E.answer G.accepts r) start ways.old.at t pair.old
         (Fits E.entries server.old)
-        → MatchResult result
-        (λ _. Comes r conn (setting E.answer G.accepts r) start ways.new.at
-        (turns_of (setting E.answer G.accepts r) conn r.ledger (said_requests lines.items)) pair.new
+        → Goes r conn start ways.new.at (Fits E.entries server.new)
+        (Comes r conn (setting E.answer G.accepts r) start ways.new.at
+        (after_lines (setting E.answer G.accepts r) conn r.ledger
+        (exchanged (setting E.answer G.accepts r) conn r.ledger t) (said_requests lines.items)) pair.new
         (Fits E.entries server.new)
         × AreQuiet (setting E.answer G.accepts r) conn r.ledger
-        (turns_of (setting E.answer G.accepts r) conn r.ledger []) (said_requests lines.items))
-        (λ _. BreaksAt (setting E.answer G.accepts r) conn r.ledger start ways.new.at
-        (stages_of (setting E.answer G.accepts r) conn r.ledger (said_requests lines.items))) }
+        (exchanged (setting E.answer G.accepts r) conn r.ledger t) (said_requests lines.items))
+        (BreaksAt (setting E.answer G.accepts r) conn r.ledger start ways.new.at
+        ((t, due (setting E.answer G.accepts r) conn r.ledger t) ∷ stages (setting E.answer G.accepts r) conn r.ledger
+        (exchanged (setting E.answer G.accepts r) conn r.ledger t) (said_requests lines.items)))
+        result }
 {
-    exchange(pair, server, conn, ways)?;
+    match exchange(pair, server, conn, ways) {
+        Ok(()) => {}
+        Err(fault) => return Err(fault),
+    }
     for line in lines {
-        run_line(pair, server, conn, line, ways)?;
+        match run_line(pair, server, conn, line, ways) {
+            Ok(()) => {}
+            Err(fault) => return Err(fault),
+        }
     }
     Ok(())
 }
@@ -327,28 +373,32 @@ fn run_opened<E: Engine, G: Gate, A: Peer, B: Sink, C: Peer, D: Sink, O: Sink>(
     requires vacant { IsVacant E.entries server.old }
     requires near { LetsReadWaiting A.left A.may_read ways.old.at.down }
     requires far { LetsReadWaiting C.left C.may_read ways.old.at.up }
-    ensures grows { (r : Rest G) → Fits E.entries server.old r → r.sessions ≡ []
-        → HasLooped r (Fits E.entries server.new) }
-    ensures read { IsErrOf result StreamFault.ReadFailed → FailsToRead ways.old.at ways.new.at }
-    ensures written { IsErrOf result StreamFault.WriteFailed → FailsToWrite ways.new.at }
-    ensures loops { (r : Rest G) → Fits E.entries server.old r → r.sessions ≡ []
-        → MatchResult result
-        (λ _. Loops r (setting E.answer G.accepts r) (said_requests lines.items)
-        (Fits E.entries server.new) ways.old.at ways.new.at)
-        (λ _. Breaks r (setting E.answer G.accepts r) (said_requests lines.items) ways.old.at
-        ways.new.at) }
+    ensures { (r : Rest G) → Fits E.entries server.old r → r.sessions ≡ []
+        → HasLooped r (Fits E.entries server.new) × EndsAt r (setting E.answer G.accepts r)
+        (said_requests lines.items) (Fits E.entries server.new) ways.old.at ways.new.at result }
 {
-    let caller = Caller::new(alloc)?;
-    let Ok(conn) = server.open() else {
-        return Err(StreamFault::Memory);
+    let caller = match Caller::new(alloc) {
+        Ok(caller) => caller,
+        Err(fault) => return Err(fault),
+    };
+    let conn = match open_session(server) {
+        Ok(conn) => conn,
+        Err(fault) => return Err(fault),
     };
     let mut pair = Pair {
         caller,
         said: Buffer::new(Vec::new(alloc)),
         standing: Standing::Open,
     };
-    run_lines(&mut pair, server, conn, lines, ways)?;
-    put_entries(alloc, server.engine().ledger(), &mut ways.out)
+    match run_lines(&mut pair, server, conn, lines, ways) {
+        Ok(()) => {}
+        Err(fault) => return Err(fault),
+    }
+    match put_entries(alloc, server.engine().ledger(), &mut ways.out) {
+        Ok(()) => {}
+        Err(fault) => return Err(fault),
+    }
+    Ok(())
 }
 
 /// Reads the whole script before anything is run.
@@ -363,33 +413,29 @@ fn run<E: Engine, G: Gate, A: Peer, B: Sink, C: Peer, D: Sink, O: Sink>(
     requires far { LetsReadWaiting C.left C.may_read ways.old.at.up }
     ensures grows { (r : Rest G) → Fits E.entries server.old r → r.sessions ≡ []
         → HasLooped r (Fits E.entries server.new) }
-    ensures read { IsErrOf result (StopReason.Broken StreamFault.ReadFailed)
-        → FailsToRead ways.old.at ways.new.at }
-    ensures written { IsErrOf result (StopReason.Broken StreamFault.WriteFailed)
-        → FailsToWrite ways.new.at }
     // Nothing is run where a line can't be read.
     ensures unreadable { IfErr result
         (λ stop. stop_status stop ≡ 2
         → RunsNothing script.now server.old server.new ways.old ways.new) }
+    ensures number { IfErr result (λ stop. Numbers script.now stop) }
     ensures readable { OnOk result (unreadable request_line_of (filled_lines script.now) ≡ None) }
     ensures loops { (r : Rest G) → Fits E.entries server.old r → r.sessions ≡ []
-        → OnOk result (Loops r (setting E.answer G.accepts r)
+        → MatchResult result (λ _. Loops r (setting E.answer G.accepts r)
         (lines_read request_line_of (filled_lines script.now)) (Fits E.entries server.new)
-        ways.old.at ways.new.at) }
-    ensures breaks { IfErr result
-        (λ stop. (stop_status stop ≡ 2 → ⊥) → (r : Rest G) → Fits E.entries server.old r
-        → r.sessions ≡ []
-        → Breaks r (setting E.answer G.accepts r)
-        (lines_read request_line_of (filled_lines script.now)) ways.old.at ways.new.at) }
-    ensures number { IfErr result (λ stop. Numbers script.now stop) }
+        ways.old.at ways.new.at)
+        (λ stop. IsStopOf stop (FailsToRead ways.old.at ways.new.at) (FailsToWrite ways.new.at)
+        × ((stop_status stop ≡ 2 → ⊥) → Breaks r (setting E.answer G.accepts r)
+        (lines_read request_line_of (filled_lines script.now)) ways.old.at ways.new.at)) }
 {
     let lines = match read_requests(alloc, script) {
         Ok(lines) => lines,
         Err(ScriptFault::Unreadable(number)) => return Err(StopReason::Unreadable(number)),
         Err(ScriptFault::Memory) => return Err(StopReason::Broken(StreamFault::Memory)),
     };
-    run_opened(alloc, server, lines, ways)?;
-    Ok(())
+    match run_opened(alloc, server, lines, ways) {
+        Ok(()) => Ok(()),
+        Err(fault) => Err(StopReason::Broken(fault)),
+    }
 }
 
 /// Runs the request lines of a script through a client, which takes the newest version, and a session of the server, on which none lives,

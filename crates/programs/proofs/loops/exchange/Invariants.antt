@@ -1,17 +1,15 @@
-use Rattle.std.proofs.Common.{length, IsSome, None}
+use Rattle.std.proofs.Common.{length, IsSome}
 use Rattle.server.specs.Prelude.{Rest, find, setting, Fits}
-use Rattle.programs.specs.Prelude.{Comes, GoesOn, Ways, Turns}
+use Rattle.programs.specs.Prelude.{Comes, Ways, Turns}
 use Rattle.programs.proofs.Looped.{PartGiven}
 use Rattle.programs.proofs.loops.exchange.Given as goal
 
 -- some of what the client has to send was given
 abbrev pub invariant-loop-rest : goal.invariant-loop-rest
-invariant-loop-rest g l = record {
-  moves : GoesOn None l.fn.conn (Fits g.E.Engine.entries l.fn.server) (Fits g.E.Engine.entries l.server) l.fn.ways.at l.ways.at;
-  comes : (r : Rest g.row.G.Denot) (start : Ways) (t : Turns) → IsSome (find l.fn.conn r.sessions)
-      → Comes r l.fn.conn (setting g.E.Engine.answer g.G.Gate.accepts r) start l.fn.ways.at t l.fn.pair (Fits g.E.Engine.entries l.fn.server)
-      → PartGiven r l.fn.conn (setting g.E.Engine.answer g.G.Gate.accepts r) start l.ways.at t l.pair (Fits g.E.Engine.entries l.server) l.rest;
-}
+invariant-loop-rest g l =
+    (r : Rest g.row.G.Denot) (start : Ways) (t : Turns) → IsSome (find l.fn.conn r.sessions)
+    → Comes r l.fn.conn (setting g.E.Engine.answer g.G.Gate.accepts r) start l.fn.ways.at t l.fn.pair (Fits g.E.Engine.entries l.fn.server)
+    → PartGiven r l.fn.conn (setting g.E.Engine.answer g.G.Gate.accepts r) start l.ways.at t l.pair (Fits g.E.Engine.entries l.server) l.rest
 
 abbrev pub decreases-loop-rest : goal.decreases-loop-rest
 decreases-loop-rest g l = length l.rest

@@ -1,4 +1,4 @@
-use Rattle.std.proofs.Common.{◌≡◌, ◌∙◌, ◌++◌, ◌∷◌, [], append_assoc, rules, refl, sym, ap, subst, map, List, Err}
+use Rattle.std.proofs.Common.{◌≡◌, ◌∙◌, ◌++◌, ◌∷◌, [], append_assoc, rules, refl, sym, ap, subst, map, List}
 use Rattle.std.proofs.lemmas.List.{nil_from_length}
 use Rattle.client.specs.declared.heard.Heard.{Heard}
 use Rattle.client.specs.Prelude.{note}
@@ -15,20 +15,21 @@ loop-one-preserved g c =
     let so = c.loop-one.invariant in
     let v = c.args.caller.now.version in
     record {
-      client = c.in_ok-put_heard.ensures.client ∙ so.client;
-      version = version_next v note c.loop-one.yielded c.in-Some.one c.loop-one.caller.version c.put_heard.new.self.version so.version c.in_ok-put_heard.ensures.version;
-      prints = notes_next v note c.loop-one.yielded c.in-Some.one c.loop-one.caller.version (g.O.Sink.taken c.args.out.now) (g.O.Sink.taken c.loop-one.out) (g.O.Sink.taken c.put_heard.new.out) so.version so.prints c.in_ok-put_heard.ensures.puts;
+      client = c.in-Ok.ensures.client ∙ so.client;
+      version = version_next v note c.loop-one.yielded c.in-Some.one c.loop-one.caller.version c.put_heard.new.self.version so.version c.in-Ok.ensures.version;
+      prints = notes_next v note c.loop-one.yielded c.in-Some.one c.loop-one.caller.version (g.O.Sink.taken c.args.out.now) (g.O.Sink.taken c.loop-one.out) (g.O.Sink.taken c.put_heard.new.out) so.version so.prints c.in-Ok.ensures.puts;
       parts = append_assoc c.loop-one.yielded (c.in-Some.one ∷ []) c.next.new.self.rest.items ∙ ap (λ xs. c.loop-one.yielded ++ xs) (sym c.in-Some.ensures.steps.0) ∙ so.parts;
     }
 
-pub returns-in_err-put_heard-clause-prints : goal.returns-in_err-put_heard-clause-prints
-returns-in_err-put_heard-clause-prints g c =
+pub returns-in-Err-clause-prints : goal.returns-in-Err-clause-prints
+returns-in-Err-clause-prints g c =
     let so = c.loop-one.invariant in
     let v = c.args.caller.now.version in
-    let all : c.loop-one.yielded ++ (c.in-Some.one ∷ c.next.new.self.rest.items) ≡ c.args.heard.items = ap (λ xs. c.loop-one.yielded ++ xs) (sym c.in-Some.ensures.steps.0) ∙ so.parts in
-    let told : c.from_residual.result ≡ Err c.in_err-put_heard.field-0.0 = search rules in
-    rw told (subst (λ (xs : List Heard). PrintsUpTo (notes_shown v (map note xs)) (g.O.Sink.taken c.args.out.now) (g.O.Sink.taken c.put_heard.new.out)) all
-    (notes_cut v note c.loop-one.yielded c.in-Some.one c.next.new.self.rest.items c.loop-one.caller.version c.in_err-put_heard.field-0.0 _ _ _ so.version so.prints c.in_err-put_heard.ensures.puts))
+    let all : c.loop-one.yielded ++ (c.in-Some.one ∷ c.next.new.self.rest.items) ≡ c.args.heard.items =
+    ap (λ xs. c.loop-one.yielded ++ xs) (sym c.in-Some.ensures.steps.0) ∙ so.parts in
+    subst (λ (xs : List Heard). PrintsUpTo (notes_shown v (map note xs)) (g.O.Sink.taken c.args.out.now) (g.O.Sink.taken c.put_heard.new.out)) all
+    (notes_cut v note c.loop-one.yielded c.in-Some.one c.next.new.self.rest.items c.loop-one.caller.version c.in-Err.fault _ _ _ so.version so.prints
+    c.in-Err.ensures.puts)
 
 pub returns-clause-prints : goal.returns-clause-prints
 returns-clause-prints g c =

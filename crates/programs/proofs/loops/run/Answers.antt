@@ -1,5 +1,4 @@
 use Rattle.std.proofs.Common.{refl}
-use Rattle.std.proofs.lemmas.Result.{err_from_is_err_and}
 use Rattle.server.specs.Prelude.{setting}
 use Rattle.scripts.specs.Prelude.{filled_lines, lines_read, request_line_of}
 use Rattle.programs.proofs.Broken.{breaks_none}
@@ -7,15 +6,24 @@ use Rattle.programs.proofs.Stops.{some_of}
 use Rattle.programs.proofs.loops.run.Goals as goal
 
 pub returns-in-Err-Unreadable-clause-unreadable : goal.returns-in-Err-Unreadable-clause-unreadable
-returns-in-Err-Unreadable-clause-unreadable g c = λ e. record { line = some_of _ _ _ (rw c.in-Err-Unreadable.field-0-is at c.in-Err-Unreadable.ensures); same_server = refl; same_ways = refl }
+returns-in-Err-Unreadable-clause-unreadable g c = λ e.
+    record { line = some_of _ _ _ (rw c.in-Err-Unreadable.field-0-is at c.in-Err-Unreadable.ensures); same_server = refl; same_ways = refl }
 
-pub returns-in-Err-Unreadable-clause-breaks : goal.returns-in-Err-Unreadable-clause-breaks
-returns-in-Err-Unreadable-clause-breaks g c = λ n. absurd (n refl)
+pub returns-in-Err-Unreadable-clause-loops : goal.returns-in-Err-Unreadable-clause-loops
+returns-in-Err-Unreadable-clause-loops g c = λ r f none. (tt, λ n. absurd (n refl))
 
-pub returns-in-Err-Memory-clause-breaks : goal.returns-in-Err-Memory-clause-breaks
-returns-in-Err-Memory-clause-breaks g c = λ n r f none. breaks_none r (setting g.E.Engine.answer g.G.Gate.accepts r) (lines_read request_line_of (filled_lines c.args.script.now)) refl
+pub returns-in-Err-Memory-clause-loops : goal.returns-in-Err-Memory-clause-loops
+returns-in-Err-Memory-clause-loops g c = λ r f none.
+    (tt, λ n. breaks_none r (setting g.E.Engine.answer g.G.Gate.accepts r) (lines_read request_line_of (filled_lines c.args.script.now)))
 
-pub returns-in_err-run_opened-clause-breaks : goal.returns-in_err-run_opened-clause-breaks
-returns-in_err-run_opened-clause-breaks g c =
-    let p = err_from_is_err_and c.from_residual.result c.from_residual.ensures.1 in
-    rw p.1 (λ n r f none. rw (← c.in-Ok.ensures.1) (c.in_err-run_opened.ensures.loops r f none))
+pub returns-in-Ok-run_opened-clause-grows : goal.returns-in-Ok-run_opened-clause-grows
+returns-in-Ok-run_opened-clause-grows g c = λ r f none. (c.in-Ok-run_opened.ensures r f none).0
+
+pub returns-in-Ok-run_opened-clause-loops : goal.returns-in-Ok-run_opened-clause-loops
+returns-in-Ok-run_opened-clause-loops g c = λ r f none. rw (← c.in-Ok.ensures.1) (c.in-Ok-run_opened.ensures r f none).1
+
+pub returns-in-Err-clause-grows : goal.returns-in-Err-clause-grows
+returns-in-Err-clause-grows g c = λ r f none. (c.in-Err.ensures r f none).0
+
+pub returns-in-Err-clause-loops : goal.returns-in-Err-clause-loops
+returns-in-Err-clause-loops g c = λ r f none. let k = (c.in-Err.ensures r f none).1 in (k.0, λ n. rw (← c.in-Ok.ensures.1) k.1)
