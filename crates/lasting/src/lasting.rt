@@ -43,7 +43,7 @@ impl<E: Engine + Drop, S: Alter + Drop> Model for Lasting<E, S> {
 
     ghost view = { λ l. record { inner = l.inner; conn = l.conn; count = l.kept; is_stopped = l.is_stopped; opening = l.opening } };
 
-    ghost invariant = { λ l. IsTied (E.entries l.inner) l.conn.in_transaction l.kept l.is_stopped };
+    ghost invariant = { λ l. IsTied E.entries S.Store (record { inner = l.inner; conn = l.conn; count = l.kept; is_stopped = l.is_stopped; opening = l.opening }) };
 }
 
 impl<E: Engine + Drop, S: Alter + Drop> Lasting<E, S> {
@@ -87,7 +87,9 @@ impl<E: Engine + Drop, S: Alter + Drop> Lasting<E, S> {
 
     /// How many entries the database is known to have. It takes no memory.
     pub fn kept(&self) -> usize
-        ensures { result ≡ self.now.count }
+        ensures count { result ≡ self.now.count }
+        // The database has these entries.
+        ensures endures { Endures E.entries S.Store self.now }
     {
         self.kept
     }
@@ -101,7 +103,9 @@ impl<E: Engine + Drop, S: Alter + Drop> Lasting<E, S> {
 
     /// Whether the engine has stopped. It takes no memory.
     pub fn is_stopped(&self) -> bool
-        ensures { result ≡ self.now.is_stopped }
+        ensures value { result ≡ self.now.is_stopped }
+        // Unless it has, whatever crash comes leaves the ledger that is shown.
+        ensures left { result ≡ false → LeavesLedger (state S.Store self.now.conn) (ledger_of E.entries self.now) }
     {
         self.is_stopped
     }
@@ -129,13 +133,12 @@ impl<E: Engine + Drop, S: Alter + Drop> Lasting<E, S> {
         // An engine that adds an entry hasn't stopped, and what had stopped stays so.
         ensures runs { (n : ℕ) → result ≡ Ok (Commit.Added n) → self.new.is_stopped ≡ false }
         ensures stays { IsTrue self.old.is_stopped → IsTrue self.new.is_stopped }
-        // A database that has the ledger has it after the call. Unless the engine has stopped, any crash leaves it; ..
-        ensures endures { Endures E.entries S.Store self.old → Endures E.entries S.Store self.new }
-        ensures left { Endures E.entries S.Store self.old → self.new.is_stopped ≡ false
+        // The database has the ledger that is shown. Unless the engine has stopped, any crash leaves it; ..
+        ensures endures { Endures E.entries S.Store self.new }
+        ensures left { self.new.is_stopped ≡ false
             → LeavesLedger (state S.Store self.new.conn) (ledger_of E.entries self.new) }
         // .. and a crash inside of the call leaves what one before it did, or the ledger with the entry at its end.
-        ensures survives { Endures E.entries S.Store self.old
-            → Survives (state S.Store self.old.conn) (state S.Store self.new.conn)
+        ensures survives { Survives (state S.Store self.old.conn) (state S.Store self.new.conn)
             (λ trees. HoldsLedger trees (ledger_of E.entries self.old ++ entry_of id token writes ∷ [])) }
     {
         if let Some(known) = self.known_of(&token, &writes) {

@@ -26,3 +26,10 @@ returns-in-Ok-clause-endures g c =
 pub returns-in-Ok-clause-finds : goal.returns-in-Ok-clause-finds
 returns-in-Ok-clause-finds g c others there clean =
     opened_finds g.S.Store c.args.conn c.take_ledger.new.conn _ others _ (returns-in-Ok-clause-opened g c clean) there
+
+pub invariant_of-result : goal.invariant_of-result
+invariant_of-result g c = record {
+  idle = c.in-Ok.ensures.idle;
+  counted = ap length (sym c.ledger-kept.ensures.lends) ∙ length-map c.ledger-kept.result.now entry_view;
+  endures = returns-in-Ok-clause-endures g c;
+}
