@@ -1,10 +1,12 @@
 -- Bytes stand for one list of writes alone, and rows for one ledger.
-use Rattle.std.proofs.Common.{◌≡◌, ◌≤◌, refl, sym, ap, subst, ◌∙◌, ℕ, suc, pos, Some, None, List, [], ◌∷◌, ◌++◌, length, take, drop, length-append, arith}
+use Rattle.std.proofs.Common.{◌≡◌, ◌≤◌, refl, sym, ap, subst, ◌∙◌, ℕ, suc, Some, None, List, [], ◌∷◌, ◌++◌, length, take, drop, length-append, arith}
 use Rattle.std.proofs.Math.Seq.{drop-append_seam, take-append_seam}
 use Rattle.std.proofs.lemmas.List.{append_assoc}
+use Rattle.std.proofs.lemmas.List.Sorted.{IsPermutation-sym, IsPermutation-trans}
 use Rattle.engine.specs.Views.{EntryView, Token, WriteView}
 use Rattle.lasting.specs.Ledger.{AreRowsOf, HasOneLedger, IsRowOf}
 use Rattle.lasting.specs.Spelled.{SpellsWrite, SpellsWrites}
+use Rattle.lasting.proofs.Numbered.{AreNumbered, one_number, one_order}
 use Rattle.packstream.proofs.Deciding.{front_alone_is}
 use Rattle.packstream.specs.Good.{IsGood}
 use Rattle.packstream.specs.Spelling.{Spells}
@@ -12,7 +14,7 @@ use Rattle.packstream.specs.Tree.{Tree, text}
 use Rattle.sqlite.specs.Order.{Row, column}
 use Rattle.sqlite.specs.Values.{or_null}
 use Rattle.sqlite.specs.declared.types.Value.{Value}
-use Rattle.sqlite.specs.declared.types.Value.TheVariants.{Int, Text, Blob}
+use Rattle.sqlite.specs.declared.types.Value.TheVariants.{Text, Blob}
 use Rattle.structures.specs.Form.{typed}
 
 -- bytes can be cut behind a spelled value in one place alone
@@ -61,9 +63,6 @@ one_token (Some t) (Some u) e = cc
 one_blob : (b c : List ℕ) → ◌≡◌ {A = Value} (Blob b) (Blob c) → b ≡ c
 one_blob b c e = cc
 
-one_number : (m n : ℕ) → ◌≡◌ {A = Value} (Int (pos m)) (Int (pos n)) → m ≡ n
-one_number m n e = cc
-
 one_entry : (n : ℕ) (e x : EntryView) (row : Row) → IsRowOf n e row → IsRowOf n x row → e ≡ x
 one_entry n e x row h k =
     let same = sym h.is ∙ k.is in
@@ -87,5 +86,15 @@ one_rows n (e ∷ es) (x ∷ xs) [] h k = absurd h
 one_rows n (e ∷ es) (x ∷ xs) (row ∷ rows) h k =
     ap (λ y. y ∷ es) (one_entry n e x row h.0 k.0) ∙ ap (λ ys. x ∷ ys) (one_rows (suc n) es xs rows h.1 k.1)
 
+-- rows of a ledger are numbered
+pub numbered : (n : ℕ) (es : List EntryView) (rows : List Row) → AreRowsOf n es rows → AreNumbered n rows
+numbered n [] [] h = tt
+numbered n [] (row ∷ rows) h = absurd h
+numbered n (e ∷ es) [] h = absurd h
+numbered n (e ∷ es) (row ∷ rows) h = (ap (λ r. column r 0) h.0.is, numbered (suc n) es rows h.1)
+
 pub one_ledger_is : HasOneLedger
-one_ledger_is trees es others h k = one_rows 1 es others (trees 0) h k
+one_ledger_is trees es others h k =
+    let both = IsPermutation-trans h.rows (trees 0) k.rows (IsPermutation-sym (trees 0) h.rows h.same) k.same in
+    let same = one_order 1 h.rows k.rows both (numbered 1 es h.rows h.each) (numbered 1 others k.rows k.each) in
+    one_rows 1 es others k.rows (subst (AreRowsOf 1 es) same h.each) k.each

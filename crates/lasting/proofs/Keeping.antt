@@ -6,6 +6,7 @@ use Rattle.lasting.specs.Table.{IsPut, ledger_schema}
 use Rattle.lasting.proofs.Rowed.{holds_more}
 use Rattle.sqlite.specs.Effect.{Database}
 use Rattle.sqlite.specs.Order.{Row}
+use Rattle.sqlite_catalog.specs.Listing.{IsSound}
 use Rattle.sqlite.specs.State.{State, HasCleanDisk, IsRolledBack, KeepsCommit, Shows, Survives}
 use Rattle.sqlite.specs.Tree.{Trees}
 use Rattle.sqlite.proofs.StateLemmas.{survives_then, survives_weaker}
@@ -25,7 +26,7 @@ module _ (old begun mid new : State) (es : List EntryView) (e : EntryView) (row 
     put clean = puts clean (ap (λ (d : Database). d.schema) now ∙ has.schema (old_clean clean) (old_open clean))
 
     holds : HasCleanDisk mid → HoldsLedger mid.now.trees (es ++ e ∷ [])
-    holds clean = holds_more (begun.now.trees 0) (mid.now.trees 0) es e row (put clean).rows
+    holds clean = holds_more begun.now.trees mid.now.trees es e row (subst (λ s. IsSound s mid.now.trees) (put clean).schema (put clean).sound) (put clean).rows
         (subst (λ (d : Database). HoldsLedger d.trees es) (sym now) (has.rows (old_clean clean) (old_open clean))) next
 
     -- the COMMIT went through

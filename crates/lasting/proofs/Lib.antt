@@ -2,7 +2,12 @@ pub mod Alone
 pub mod Enduring
 pub mod Front
 pub mod Keeping
+pub mod Numbered
+pub mod Opened
 pub mod Reading
 pub mod Rowed
+pub mod Schemas
+pub mod Selecting
 pub mod Spelling
 pub mod Texts
+pub mod Typed

@@ -61,11 +61,11 @@ cast_is number opening conn ordinal token bytes =
     rw (cast_int number, cast_null, cast_int opening, cast_int conn, cast_int ordinal, cast_token token) refl
 
 -- a part that gave a value did not stop on the way
-went : {B E R : Type 0} {b : B} {Stops : E → Type 0} → ((stop : E) × Stops stop × (Ok b ≡ Err stop)) ⊎ R → R
+pub went : {B E R : Type 0} {b : B} {Stops : E → Type 0} → ((stop : E) × Stops stop × (Ok b ≡ Err stop)) ⊎ R → R
 went (inl stopped) = absurd (let e = stopped.2 in cc)
 went (inr on) = on
 
-same_value : {B E : Type 0} {a b : B} → ◌≡◌ {A = Result B E} (Ok a) (Ok b) → a ≡ b
+pub same_value : {B E : Type 0} {a b : B} → ◌≡◌ {A = Result B E} (Ok a) (Ok b) → a ≡ b
 same_value e = cc
 
 -- the text of an entry puts its row into the table
@@ -89,6 +89,7 @@ adds old new number opening conn ordinal token bytes count has h =
     ap (λ all. edited db (edit_of db entry_table [] Chosen 0 all)) given.1.1 ∙ ap (λ r. put_row (with_rowid Chosen (db 0) r) (db 0)) (cast_is number opening conn ordinal token bytes) in
     record {
       schema = ap (λ (d : Database). d.schema) now;
+      sound = w.sound;
       rows = ap (λ (d : Database). d.trees 0) now ∙ ap (λ (t : Trees). t 0) trees ∙ rows ∙ edit;
     }
 
@@ -115,10 +116,10 @@ pub shows : (sql : List ℕ) (params : Row) (old new : State) (r : Result ℕ Er
 shows sql params old new (Err e) h = tt
 shows sql params old new (Ok count) h = h.1
 
-unchanged_keeps : (old new : State) → IsUnchanged old new → KeepsCommit old new
+pub unchanged_keeps : (old new : State) → IsUnchanged old new → KeepsCommit old new
 unchanged_keeps old new h = record { was_open = λ _. h.0.was_open; committed = λ _. h.0.committed_is }
 
-rollback_keeps : (old new : State) → IsRolledBack old new → KeepsCommit old new
+pub rollback_keeps : (old new : State) → IsRolledBack old new → KeepsCommit old new
 rollback_keeps old new h = record { was_open = h.was_open; committed = λ is_open. (h.undone is_open).1 }
 
 -- it commits nothing

@@ -22,11 +22,6 @@ kept_code {E} {S} inner store =
     (λ p. record { inner = p.0; conn = p.1.0; count = p.1.1.0; is_stopped = p.1.1.1.0; opening = p.1.1.1.1 })
     (λ _. refl)
 
--- No transaction is open between two calls. The engine inside has the entries that are kept, and one more where the database failed as it was to commit.
-pub record IsTied (entries : List EntryView) (in_transaction : Bool) (count : ℕ) (is_stopped : Bool) : Type 0 where
-  pub idle : in_transaction ≡ false
-  pub counted : length entries ≡ (if is_stopped then count + 1 else count)
-
 -- the ledger that the engine shows, by the entries of the engine inside
 abbrev pub ledger_of : {E S : Type 0} → (E → List EntryView) → Kept E S → List EntryView
 ledger_of entries l = take l.count (entries l.inner)
@@ -35,3 +30,10 @@ ledger_of entries l = take l.count (entries l.inner)
 pub record Endures {E S : Type 0} (entries : E → List EntryView) (g : Ghosts S) (l : Kept E S) : Type 0 where
   pub has : HasLedger (state g l.conn) (ledger_of entries l)
   pub left : LeavesEither (state g l.conn) (ledger_of entries l) (entries l.inner)
+
+-- No transaction is open between two calls. The engine inside has the entries that are kept, and one more where the database failed as it was to commit. What is
+-- kept endures.
+pub record IsTied {E S : Type 0} (entries : E → List EntryView) (g : Ghosts S) (l : Kept E S) : Type 0 where
+  pub idle : l.conn.in_transaction ≡ false
+  pub counted : length (entries l.inner) ≡ (if l.is_stopped then l.count + 1 else l.count)
+  pub endures : Endures entries g l

@@ -1,9 +1,10 @@
 -- What a database has of a ledger, and what a crash leaves of it.
-use Rattle.std.specs.Prelude.{◌≡◌, ◌⊎◌, ℕ, suc, ℤ, pos, List, [], ◌∷◌, IsTrue}
+use Rattle.std.specs.Prelude.{◌≡◌, ◌⊎◌, ℕ, suc, ℤ, pos, List, [], ◌∷◌, IsPermutation, IsTrue}
 use Rattle.engine.specs.Views.{EntryView}
 use Rattle.lasting.specs.Spelled.{SpellsWrites}
 use Rattle.lasting.specs.Table.{ledger_schema, row_of}
 use Rattle.sqlite.specs.Order.{Row}
+use Rattle.sqlite_catalog.specs.Listing.{IsSound}
 use Rattle.sqlite.specs.State.{State, HasCleanDisk}
 use Rattle.sqlite.specs.Tree.{Trees}
 
@@ -20,9 +21,13 @@ AreRowsOf n [] [] = Unit {0}
 AreRowsOf n (e ∷ es) (row ∷ rows) = IsRowOf n e row × AreRowsOf (suc n) es rows
 AreRowsOf n _ _ = ⊥
 
--- the table of entries has a row for each of these, numbered from 1, and no other
-abbrev pub HoldsLedger : Trees → List EntryView → Type 0
-HoldsLedger trees es = AreRowsOf 1 es (trees 0)
+-- The trees are a database with the table of entries and nothing else. That table, whose rows have no order, has a row for each of these, numbered from 1,
+-- and no other.
+pub record HoldsLedger (trees : Trees) (es : List EntryView) : Type 0 where
+  pub sound : IsSound ledger_schema trees
+  pub rows : List Row
+  pub same : IsPermutation (trees 0) rows
+  pub each : AreRowsOf 1 es rows
 
 -- While it is open, the database has the table of entries and nothing else, and in it these entries. Nothing is said of one whose disk has told a lie.
 pub record HasLedger (s : State) (es : List EntryView) : Type 0 where

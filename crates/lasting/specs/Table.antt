@@ -5,17 +5,19 @@ use Rattle.sqlite.specs.Collation.TheVariants.{Binary}
 use Rattle.sqlite.specs.Kind.{Kind}
 use Rattle.sqlite.specs.Kind.TheVariants as kind
 use Rattle.sqlite.specs.Order.{Row}
+use Rattle.sqlite.specs.Effect.{IsDatabase}
 use Rattle.sqlite.specs.Schema.{Schema}
 use Rattle.sqlite.specs.State.{State}
 use Rattle.sqlite.specs.Table.{Table}
 use Rattle.sqlite.specs.Tree.{put_row}
 use Rattle.sqlite.specs.Values.{or_null}
 use Rattle.sqlite_schema.specs.declared.schema.Column.{Column}
+use Rattle.sqlite_schema.specs.declared.schema.Index.{Index}
 use Rattle.sqlite_value.specs.Keys.{plain}
 use Rattle.sqlite_value.specs.declared.value.Value.TheVariants.{Null, Int, Text, Blob}
 
 -- a column of the table: its name, its type, and whether it has to have a value
-abbrev column_of : List ℕ → Kind → Bool → Column
+abbrev pub column_of : List ℕ → Kind → Bool → Column
 column_of name kind not_null = record { name = name; kind = kind; is_strict = true; not_null = not_null; default = Null; collation = Binary }
 
 -- the table of entries: a row for each, whose rowid is its number
@@ -40,13 +42,21 @@ entry_table = record {
   is_counted = false;
 }
 
+-- the index of its tokens
+abbrev pub token_index : Index
+token_index = record { name = codes "sqlite_autoindex_entry_1"; tree = 1; table = 0; columns = 5 ∷ []; order = plain; is_unique = true }
+
 -- a database with the table of entries, the index of its tokens, and nothing else
 abbrev pub ledger_schema : Schema
 ledger_schema = record {
   tables = entry_table ∷ [];
-  indexes = (record { name = codes "sqlite_autoindex_entry_1"; tree = 1; table = 0; columns = 5 ∷ []; order = plain; is_unique = true }) ∷ [];
+  indexes = token_index ∷ [];
   views = [];
 }
+
+-- a database with nothing in it
+abbrev pub no_schema : Schema
+no_schema = record { tables = []; indexes = []; views = [] }
 
 -- the text by which an entry is added
 abbrev pub add_text : List ℕ
@@ -65,4 +75,27 @@ row_of number opening conn ordinal token bytes =
 -- the row was put into the table of entries
 pub record IsPut (row : Row) (old new : State) : Type 0 where
   pub schema : new.now.schema ≡ ledger_schema
+  pub sound : IsDatabase new.now
   pub rows : new.now.trees 0 ≡ put_row row (old.now.trees 0)
+
+-- what an opening looks at in a table: its name, tree and key, ..
+pub record HasHead (t : Table) : Type 0 where
+  pub name : t.name ≡ codes "entry"
+  pub tree : t.tree ≡ 0
+  pub key : t.key ≡ Some 0
+  pub counted : t.is_counted ≡ false
+
+-- .. the places of its keys, ..
+pub record HasKeys (t : Table) : Type 0 where
+  pub primary : t.primary ≡ 0 ∷ []
+  pub uniques : t.uniques ≡ (5 ∷ []) ∷ []
+  pub orders : t.orders ≡ plain ∷ []
+
+-- .. and that it has no other rule
+pub record HasNoRules (t : Table) : Type 0 where
+  pub checks : t.checks ≡ []
+  pub references : t.references ≡ []
+  pub computed : t.computed ≡ []
+  pub places : t.stamps.places ≡ []
+  pub terms : t.stamps.terms ≡ []
+  pub formats : t.stamps.formats ≡ []

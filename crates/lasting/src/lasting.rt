@@ -1,18 +1,18 @@
 //! An engine that answers, over a database that keeps its ledger.
-ghost use Rattle.std.specs.Prelude.{◌≡◌, ◌++◌, [], ◌∷◌, ℕ, Ok, false, length, IsTrue, IfOk, IfErr, OnOk, OnErr};
+ghost use Rattle.std.specs.Prelude.{◌≡◌, ◌≢◌, ◌++◌, [], ◌∷◌, List, ℕ, Ok, Err, false, length, IsTrue, IfOk, IfErr, OnOk, OnErr};
 ghost use Rattle.engine.specs.Tokens.{Free, IsCounted, added_by, commit_by, found_in, known_by, is_token};
-ghost use Rattle.engine.specs.Views.{entry_of, token_view, writes_view};
+ghost use Rattle.engine.specs.Views.{EntryView, entry_of, token_view, writes_view};
 ghost use Rattle.lasting.specs.Kept.{Endures, ledger_of};
 ghost use Rattle.lasting.specs.Ledger.{HoldsLedger, LeavesLedger};
 ghost use Rattle.sqlite.specs.Held.{state};
-ghost use Rattle.lasting.specs.Shown.{IsOpenedFrom};
+ghost use Rattle.lasting.specs.Shown.{IsLeft, IsOpenedFrom};
+ghost use Rattle.lasting.specs.Table.{ledger_schema, no_schema};
 ghost use Rattle.sqlite.specs.State.{HasCleanDisk, Survives};
 
 use crate::adding::{add_to_both, row_key};
 use crate::codec::bytes_of;
 use crate::fault::OpenFault;
-use crate::opening::{next_opening, take_rows};
-use crate::rows::TABLE;
+use crate::opening::take_ledger;
 use engine::{Answer, Commit, Engine, EngineFault, Entry, EntryId, Mode, NoMemory, Write};
 use sqlite::{Alter, Connection};
 use std::alloc::Global;
@@ -43,44 +43,53 @@ impl<E: Engine + Drop, S: Alter + Drop> Model for Lasting<E, S> {
 
     ghost view = { λ l. record { inner = l.inner; conn = l.conn; count = l.kept; is_stopped = l.is_stopped; opening = l.opening } };
 
-    ghost invariant = { λ l. IsTied (E.entries l.inner) l.conn.in_transaction l.kept l.is_stopped };
+    ghost invariant = { λ l. IsTied E.entries S.Store (record { inner = l.inner; conn = l.conn; count = l.kept; is_stopped = l.is_stopped; opening = l.opening }) };
 }
 
 impl<E: Engine + Drop, S: Alter + Drop> Lasting<E, S> {
-    /// The engine `empty`, with the entries that the database shows: each of its rows, in order, numbered from 1. A database without the table of entries gets
-    /// one. Refuses a row that is no entry, by its number: a hole in the numbers, a number or a connection out of range, bytes that spell no writes, a token
-    /// that stood before.
+    /// The engine `empty`, with the entries of a database: its table of entries has a row for each, numbered from 1, and no other. A database with nothing in
+    /// it gets that table. One with other tables is refused, and one with a row that is no entry, by the row's number: a hole in the numbers, a number or a
+    /// connection out of range, bytes that spell no writes, a token that stood before. What is refused isn't changed, and comes back.
     pub fn open(
         alloc: Global,
         empty: E,
         mut conn: Connection<S>,
-    ) -> Result<Lasting<E, S>, OpenFault>
+    ) -> Result<Lasting<E, S>, (OpenFault, Connection<S>)>
         requires { E.entries empty ≡ [] }
         ensures runs { IfOk result (λ l. l.is_stopped ≡ false) }
         ensures opened { IfOk result (λ l. HasCleanDisk (state S.Store l.conn)
             → IsOpenedFrom S.Store conn l.conn (ledger_of E.entries l) l.opening) }
+        // The database has the entries that the engine shows, and so has what any crash leaves of it.
+        ensures endures { IfOk result (Endures E.entries S.Store) }
+        // A ledger that was committed, as by an engine before it, is the one that is shown.
+        ensures finds { (es : List EntryView) → HoldsLedger (state S.Store conn).committed.trees es
+            → IfOk result (λ l. HasCleanDisk (state S.Store l.conn) → ledger_of E.entries l ≡ es) }
+        ensures other { conn.in_transaction ≡ false → conn.schema ≢ no_schema → conn.schema ≢ ledger_schema
+            → result ≡ Err (OpenFault.OtherTables, conn) }
+        ensures refused { conn.schema ≢ no_schema → IfErr result (λ e. IsLeft (state S.Store conn) (state S.Store e.1)) }
     {
         let mut inner = empty;
-        conn.execute(TABLE, &[])?;
-        take_rows(alloc, &mut inner, &mut conn)?;
-        let opening = next_opening(&mut conn)?;
-        if !conn.is_autocommit() {
-            return Err(OpenFault::NoLedger(0));
+        match take_ledger(alloc, &mut inner, &mut conn) {
+            Ok(opening) => {
+                let kept = inner.ledger().len();
+                Ok(Lasting {
+                    inner,
+                    conn,
+                    kept,
+                    is_stopped: false,
+                    opening,
+                    alloc,
+                })
+            }
+            Err(fault) => Err((fault, conn)),
         }
-        let kept = inner.ledger().len();
-        Ok(Lasting {
-            inner,
-            conn,
-            kept,
-            is_stopped: false,
-            opening,
-            alloc,
-        })
     }
 
     /// How many entries the database is known to have. It takes no memory.
     pub fn kept(&self) -> usize
-        ensures { result ≡ self.now.count }
+        ensures count { result ≡ self.now.count }
+        // The database has these entries.
+        ensures endures { Endures E.entries S.Store self.now }
     {
         self.kept
     }
@@ -94,7 +103,9 @@ impl<E: Engine + Drop, S: Alter + Drop> Lasting<E, S> {
 
     /// Whether the engine has stopped. It takes no memory.
     pub fn is_stopped(&self) -> bool
-        ensures { result ≡ self.now.is_stopped }
+        ensures value { result ≡ self.now.is_stopped }
+        // Unless it has, whatever crash comes leaves the ledger that is shown.
+        ensures left { result ≡ false → LeavesLedger (state S.Store self.now.conn) (ledger_of E.entries self.now) }
     {
         self.is_stopped
     }
@@ -122,13 +133,12 @@ impl<E: Engine + Drop, S: Alter + Drop> Lasting<E, S> {
         // An engine that adds an entry hasn't stopped, and what had stopped stays so.
         ensures runs { (n : ℕ) → result ≡ Ok (Commit.Added n) → self.new.is_stopped ≡ false }
         ensures stays { IsTrue self.old.is_stopped → IsTrue self.new.is_stopped }
-        // A database that has the ledger has it after the call. Unless the engine has stopped, any crash leaves it; ..
-        ensures endures { Endures E.entries S.Store self.old → Endures E.entries S.Store self.new }
-        ensures left { Endures E.entries S.Store self.old → self.new.is_stopped ≡ false
+        // The database has the ledger that is shown. Unless the engine has stopped, any crash leaves it; ..
+        ensures endures { Endures E.entries S.Store self.new }
+        ensures left { self.new.is_stopped ≡ false
             → LeavesLedger (state S.Store self.new.conn) (ledger_of E.entries self.new) }
         // .. and a crash inside of the call leaves what one before it did, or the ledger with the entry at its end.
-        ensures survives { Endures E.entries S.Store self.old
-            → Survives (state S.Store self.old.conn) (state S.Store self.new.conn)
+        ensures survives { Survives (state S.Store self.old.conn) (state S.Store self.new.conn)
             (λ trees. HoldsLedger trees (ledger_of E.entries self.old ++ entry_of id token writes ∷ [])) }
     {
         if let Some(known) = self.known_of(&token, &writes) {

@@ -2,7 +2,6 @@
 ghost use Rattle.lasting.specs.Ledger.{HasOneLedger};
 
 /// The table of entries of a database is that of one ledger alone: bytes spell one list of writes, and rows are one list of entries.
-#[tactic(auto, using(crate::proofs::Alone::one_ledger_is))]
 pub fn one_ledger()
     ensures { HasOneLedger }
 {}

@@ -10,6 +10,7 @@ mod lasting;
 pub mod laws;
 mod opening;
 mod rows;
+mod tables;
 
 pub use fault::OpenFault;
 pub use lasting::Lasting;

@@ -9,14 +9,14 @@ ghost use Rattle.lasting.specs.Table.{IsPut, ledger_schema, row_of, values_of};
 use sqlite::types::{ToSql, ValueRef};
 use sqlite::{Alter, Error, Transaction};
 
-/// The table of entries: a row for each, with its number from 1, the opening of the database that added it, its connection, its ordinal, its token and its
-/// writes.
+/// The text that makes the table of entries: a row for each, with its number from 1, the opening of the database that added it, its connection, its ordinal,
+/// its token and its writes.
 pub(crate) const TABLE: &str =
-    "CREATE TABLE IF NOT EXISTS entry (number INTEGER PRIMARY KEY, opening INTEGER NOT NULL, connection INTEGER NOT NULL, ordinal INTEGER NOT NULL, token TEXT UNIQUE, writes BLOB NOT NULL) STRICT";
+    "CREATE TABLE entry (number INTEGER PRIMARY KEY, opening INTEGER NOT NULL, connection INTEGER NOT NULL, ordinal INTEGER NOT NULL, token TEXT UNIQUE, writes BLOB NOT NULL) STRICT";
 
 /// The rows of the table, in the ledger's order.
 pub(crate) const ENTRIES: &str =
-    "SELECT number, connection, ordinal, token, writes FROM entry ORDER BY number";
+    "SELECT number, opening, connection, ordinal, token, writes FROM entry ORDER BY number";
 
 /// The last opening that added an entry.
 pub(crate) const LAST_OPENING: &str = "SELECT coalesce(max(opening), 0) FROM entry";

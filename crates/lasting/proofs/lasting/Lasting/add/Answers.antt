@@ -1,7 +1,7 @@
-use Rattle.std.proofs.Common.{◌≡◌, ◌++◌, ◌∷◌, [], inl, ap, subst, sym, length, take, rules}
+use Rattle.std.proofs.Common.{◌≡◌, ◌++◌, ◌∷◌, [], ◌∙◌, inl, ap, subst, sym, length, length-append, take, arith, rules}
 use Rattle.engine.specs.Tokens.{Free, found_in}
 use Rattle.engine.specs.Views.{entry_of, token_view, writes_view}
-use Rattle.lasting.specs.Kept.{Endures, ledger_of}
+use Rattle.lasting.specs.Kept.{ledger_of}
 use Rattle.lasting.specs.Ledger.{HoldsLedger}
 use Rattle.lasting.proofs.Enduring.{added_has, added_left, counted_new, lacking_has, lacking_left, lasts_all, leaves_shown, shows_more}
 use Rattle.lasting.proofs.Front.{take_whole}
@@ -24,39 +24,57 @@ returns-in-Ok-add_to_both-clause-adds g c =
     shows_more all new e inside.kept len grown shown found front free
 
 pub returns-in-Ok-add_to_both-clause-endures : goal.returns-in-Ok-add_to_both-clause-endures
-returns-in-Ok-add_to_both-clause-endures g c h =
+returns-in-Ok-add_to_both-clause-endures g c =
     let inside = c.self.inside in
     let all = g.E.Engine.entries inside.inner in
     let new = g.E.Engine.entries c.add_to_both.new.inner in
     let e = entry_of c.args.id c.args.token c.args.writes in
     let len : length all ≡ inside.kept = search rules in
-    let was = subst (Endures g.E.Engine.entries g.S.Store) (sym c.self.view_is) h in
+    let was = c.self.invariant.endures in
     let lasts = lasts_all (state g.S.Store inside.conn) all inside.kept len was.has was.left in
     let grown : new ≡ all ++ e ∷ [] = c.in-Ok-add_to_both.ensures.adds in
     let after = c.in-Ok-add_to_both.ensures.lasts lasts in
     let left = added_left all new e inside.kept len grown (state g.S.Store c.add_to_both.new.conn) after in
     record { has = added_has all new e inside.kept len grown (state g.S.Store c.add_to_both.new.conn) after; left = λ clean trees may. inl (left clean trees may) }
 
-pub returns-in-Ok-add_to_both-clause-left : goal.returns-in-Ok-add_to_both-clause-left
-returns-in-Ok-add_to_both-clause-left g c h runs =
+pub invariant_of-self : goal.invariant_of-self
+invariant_of-self g c =
     let inside = c.self.inside in
     let all = g.E.Engine.entries inside.inner in
     let new = g.E.Engine.entries c.add_to_both.new.inner in
     let e = entry_of c.args.id c.args.token c.args.writes in
     let len : length all ≡ inside.kept = search rules in
-    let was = subst (Endures g.E.Engine.entries g.S.Store) (sym c.self.view_is) h in
+    let was = c.self.invariant.endures in
+    let lasts = lasts_all (state g.S.Store inside.conn) all inside.kept len was.has was.left in
+    let grown : new ≡ all ++ e ∷ [] = c.in-Ok-add_to_both.ensures.adds in
+    let after = c.in-Ok-add_to_both.ensures.lasts lasts in
+    let left = added_left all new e inside.kept len grown (state g.S.Store c.add_to_both.new.conn) after in
+    record {
+      idle = c.in-Ok-add_to_both.ensures.idle;
+      counted = rw c.if-self.false (ap length grown ∙ length-append all (e ∷ []) ∙ omega (arith, len));
+      endures = record { has = added_has all new e inside.kept len grown (state g.S.Store c.add_to_both.new.conn) after; left = λ clean trees may. inl (left clean trees may) };
+    }
+
+pub returns-in-Ok-add_to_both-clause-left : goal.returns-in-Ok-add_to_both-clause-left
+returns-in-Ok-add_to_both-clause-left g c runs =
+    let inside = c.self.inside in
+    let all = g.E.Engine.entries inside.inner in
+    let new = g.E.Engine.entries c.add_to_both.new.inner in
+    let e = entry_of c.args.id c.args.token c.args.writes in
+    let len : length all ≡ inside.kept = search rules in
+    let was = c.self.invariant.endures in
     let lasts = lasts_all (state g.S.Store inside.conn) all inside.kept len was.has was.left in
     let grown : new ≡ all ++ e ∷ [] = c.in-Ok-add_to_both.ensures.adds in
     added_left all new e inside.kept len grown (state g.S.Store c.add_to_both.new.conn) (c.in-Ok-add_to_both.ensures.lasts lasts)
 
 pub returns-in-Ok-add_to_both-clause-survives : goal.returns-in-Ok-add_to_both-clause-survives
-returns-in-Ok-add_to_both-clause-survives g c h =
+returns-in-Ok-add_to_both-clause-survives g c =
     let inside = c.self.inside in
     let all = g.E.Engine.entries inside.inner in
     let new = g.E.Engine.entries c.add_to_both.new.inner in
     let e = entry_of c.args.id c.args.token c.args.writes in
     let len : length all ≡ inside.kept = search rules in
-    let was = subst (Endures g.E.Engine.entries g.S.Store) (sym c.self.view_is) h in
+    let was = c.self.invariant.endures in
     let lasts = lasts_all (state g.S.Store inside.conn) all inside.kept len was.has was.left in
     let end = state g.S.Store c.add_to_both.new.conn in
     let shown = subst (λ xs. Survives (state g.S.Store inside.conn) end (λ trees. HoldsLedger trees (xs ++ e ∷ []))) (sym (take_whole all inside.kept len)) (c.add_to_both.ensures.survives lasts) in
@@ -69,16 +87,28 @@ invariant_of-self-in-Err g c =
     let new = g.E.Engine.entries c.add_to_both.new.inner in
     let e = entry_of c.args.id c.args.token c.args.writes in
     let len : length all ≡ inside.kept = search rules in
-    record { idle = c.in-Err.ensures.idle; counted = counted_new all new e inside.kept c.in-Err.unadded.is_ahead len c.in-Err.ensures.refused }
+    let was = c.self.invariant.endures in
+    let lasts = lasts_all (state g.S.Store inside.conn) all inside.kept len was.has was.left in
+    let end = state g.S.Store c.add_to_both.new.conn in
+    let ahead = c.in-Err.unadded.is_ahead in
+    let grown = c.in-Err.ensures.refused in
+    record {
+      idle = c.in-Err.ensures.idle;
+      counted = counted_new all new e inside.kept ahead len grown;
+      endures = record {
+        has = lacking_has all new e inside.kept ahead len grown end (c.in-Err.ensures.lacks lasts);
+        left = lacking_left all new e inside.kept ahead len grown end (c.in-Err.ensures.either lasts);
+      };
+    }
 
 pub returns-clause-endures : goal.returns-clause-endures
-returns-clause-endures g c h =
+returns-clause-endures g c =
     let inside = c.self.inside in
     let all = g.E.Engine.entries inside.inner in
     let new = g.E.Engine.entries c.add_to_both.new.inner in
     let e = entry_of c.args.id c.args.token c.args.writes in
     let len : length all ≡ inside.kept = search rules in
-    let was = subst (Endures g.E.Engine.entries g.S.Store) (sym c.self.view_is) h in
+    let was = c.self.invariant.endures in
     let lasts = lasts_all (state g.S.Store inside.conn) all inside.kept len was.has was.left in
     let end = state g.S.Store c.add_to_both.new.conn in
     let ahead = c.in-Err.unadded.is_ahead in
@@ -86,24 +116,24 @@ returns-clause-endures g c h =
     record { has = lacking_has all new e inside.kept ahead len grown end (c.in-Err.ensures.lacks lasts); left = lacking_left all new e inside.kept ahead len grown end (c.in-Err.ensures.either lasts) }
 
 pub returns-clause-left : goal.returns-clause-left
-returns-clause-left g c h runs =
+returns-clause-left g c runs =
     let inside = c.self.inside in
     let all = g.E.Engine.entries inside.inner in
     let new = g.E.Engine.entries c.add_to_both.new.inner in
     let e = entry_of c.args.id c.args.token c.args.writes in
     let len : length all ≡ inside.kept = search rules in
-    let was = subst (Endures g.E.Engine.entries g.S.Store) (sym c.self.view_is) h in
+    let was = c.self.invariant.endures in
     let lasts = lasts_all (state g.S.Store inside.conn) all inside.kept len was.has was.left in
     leaves_shown all new e inside.kept c.in-Err.unadded.is_ahead len c.in-Err.ensures.refused (state g.S.Store c.add_to_both.new.conn) runs (c.in-Err.ensures.either lasts)
 
 pub returns-clause-survives : goal.returns-clause-survives
-returns-clause-survives g c h =
+returns-clause-survives g c =
     let inside = c.self.inside in
     let all = g.E.Engine.entries inside.inner in
     let new = g.E.Engine.entries c.add_to_both.new.inner in
     let e = entry_of c.args.id c.args.token c.args.writes in
     let len : length all ≡ inside.kept = search rules in
-    let was = subst (Endures g.E.Engine.entries g.S.Store) (sym c.self.view_is) h in
+    let was = c.self.invariant.endures in
     let lasts = lasts_all (state g.S.Store inside.conn) all inside.kept len was.has was.left in
     let end = state g.S.Store c.add_to_both.new.conn in
     let shown = subst (λ xs. Survives (state g.S.Store inside.conn) end (λ trees. HoldsLedger trees (xs ++ e ∷ []))) (sym (take_whole all inside.kept len)) (c.add_to_both.ensures.survives lasts) in

@@ -1,28 +1,35 @@
-use Rattle.std.proofs.Common.{◌≡◌, ◌∙◌, ap, length, subst, sym, to_z, of_z, w64, rules}
+use Rattle.std.proofs.Common.{◌≡◌, ◌∙◌, ap, false, length, subst, sym, to_z, of_z, w64, rules}
 use Rattle.std.proofs.lemmas.List.{length-map}
 use Rattle.engine.specs.Views.{entry_view}
-use Rattle.lasting.specs.Shown.{Brings, Numbers}
+use Rattle.lasting.specs.Kept.{Kept}
+use Rattle.lasting.specs.Shown.{IsOpenedFrom}
 use Rattle.lasting.proofs.Front.{take_whole}
-use Rattle.sqlite.specs.Held.{state}
-use Rattle.sqlite.specs.State.{HasCleanDisk}
+use Rattle.lasting.proofs.Opened.{opened_endures, opened_finds}
 use Rattle.lasting.proofs.lasting.Lasting.open.Goals as goal
 
-pub returns-clause-opened : goal.returns-clause-opened
-returns-clause-opened g c clean =
-    let made = c.execute.new.self in
-    let read = c.take_rows.new.conn in
-    let last = c.next_opening.new.conn in
-    let es = g.E.Engine.entries c.take_rows.new.inner in
+pub returns-in-Ok-clause-opened : goal.returns-in-Ok-clause-opened
+returns-in-Ok-clause-opened g c clean =
+    let last = c.take_ledger.new.conn in
+    let es = g.E.Engine.entries c.take_ledger.new.inner in
     let kept = length c.ledger-kept.result.now in
-    let before : HasCleanDisk (state g.S.Store read) = c.in_ok-opening.ensures.clean clean in
-    let first : HasCleanDisk (state g.S.Store made) = c.in_ok-take_rows.ensures.clean before in
     let len : length es ≡ kept = ap length (sym c.ledger-kept.ensures.lends) ∙ length-map c.ledger-kept.result.now entry_view in
-    let same : to_z w64 (of_z w64 c.in_ok-opening.opening) ≡ c.in_ok-opening.opening = search rules in
-    record {
-      made = made;
-      read = read;
-      count = c.in_ok-execute.field-0;
-      created = c.in_ok-execute.ensures.runs first;
-      brings = subst (Brings (state g.S.Store made) (state g.S.Store read)) (sym (take_whole es kept len)) (c.in_ok-take_rows.ensures.brings before);
-      numbered = subst (Numbers (state g.S.Store read) (state g.S.Store last)) (sym same) (c.in_ok-opening.ensures.numbers clean);
-    }
+    let same : to_z w64 (of_z w64 c.in-Ok.opening) ≡ c.in-Ok.opening = search rules in
+    subst (λ xs. IsOpenedFrom g.S.Store c.args.conn last xs (to_z w64 (of_z w64 c.in-Ok.opening))) (sym (take_whole es kept len))
+    (subst (IsOpenedFrom g.S.Store c.args.conn last es) (sym same) (c.in-Ok.ensures.opened clean))
+
+pub returns-in-Ok-clause-endures : goal.returns-in-Ok-clause-endures
+returns-in-Ok-clause-endures g c =
+    let opening = to_z w64 (of_z w64 c.in-Ok.opening) in
+    let l : Kept _ _ = record { inner = c.take_ledger.new.inner; conn = c.take_ledger.new.conn; count = length c.ledger-kept.result.now; is_stopped = false; opening = opening } in
+    opened_endures g.E.Engine.entries g.S.Store c.args.conn l opening (λ db. g.met.S.Store.settled c.take_ledger.new.conn.store db) (returns-in-Ok-clause-opened g c)
+
+pub returns-in-Ok-clause-finds : goal.returns-in-Ok-clause-finds
+returns-in-Ok-clause-finds g c others there clean =
+    opened_finds g.S.Store c.args.conn c.take_ledger.new.conn _ others _ (returns-in-Ok-clause-opened g c clean) there
+
+pub invariant_of-result : goal.invariant_of-result
+invariant_of-result g c = record {
+  idle = c.in-Ok.ensures.idle;
+  counted = ap length (sym c.ledger-kept.ensures.lends) ∙ length-map c.ledger-kept.result.now entry_view;
+  endures = returns-in-Ok-clause-endures g c;
+}
