@@ -7,6 +7,7 @@ mod asking;
 mod driving;
 mod notes;
 mod noting;
+mod querying;
 mod serving;
 mod tracked;
 mod values;
@@ -27,9 +28,19 @@ fn run(rt: &HostRuntime, words: &[String]) -> io::Result<Option<String>> {
     };
     match (name, port_of(words.get(2))) {
         ("driver", Some(port)) => return driving::drive(rt, port),
+        ("query", Some(port)) => {
+            if let [_, _, _, token, tries] = words
+                && let Some(tries) = tries.parse::<u32>().ok()
+            {
+                return querying::run(rt, port, token, tries);
+            }
+            println!(rt; "usage: examples query PORT TOKEN TRIES")?
+        }
         ("server", Some(port)) => serving::serve(rt, port)?,
         ("engine", None) => noting::note_all(rt)?,
-        _ => println!(rt; "usage: examples driver PORT, examples server PORT or examples engine")?,
+        _ => println!(rt;
+            "usage: examples query PORT TOKEN TRIES, examples driver PORT, examples server PORT or examples engine"
+        )?,
     }
     Ok(None)
 }

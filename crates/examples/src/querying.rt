@@ -1,0 +1,141 @@
+//! Sends a transaction under a token to a port of this machine until it is known, and then runs a query and prints its rows.
+
+use client::ClientFault;
+use connects::{Asked, Connection, Connects, Fault, Query, text_cell, until_known};
+use driver::{Fate, Rows};
+use messages::{Auth, Count, Mode};
+use std::alloc::{AllocError, Global};
+use std::io;
+use std::net::TcpStream;
+use std::time::Duration;
+use streams::Over;
+use structures::Cell;
+use wire::Wish;
+
+/// Why the program ends before it knows.
+enum Stopped {
+    Memory,
+    Io(io::Error),
+    Fault(Fault),
+}
+
+impl From<AllocError> for Stopped {
+    fn from(_error: AllocError) -> Stopped {
+        Stopped::Memory
+    }
+}
+
+impl From<ClientFault> for Stopped {
+    fn from(_fault: ClientFault) -> Stopped {
+        Stopped::Memory
+    }
+}
+
+impl From<io::Error> for Stopped {
+    fn from(error: io::Error) -> Stopped {
+        Stopped::Io(error)
+    }
+}
+
+impl From<Fault> for Stopped {
+    fn from(fault: Fault) -> Stopped {
+        Stopped::Fault(fault)
+    }
+}
+
+fn auth(alloc: Global) -> Result<Auth, AllocError> {
+    let text = |s: &str| String::from_str(alloc, s);
+    Ok(Auth {
+        scheme: text("basic")?,
+        principal: text("user")?,
+        credentials: text("pass")?,
+    })
+}
+
+/// A query of the key `a`.
+fn query(alloc: Global, text: &str, value: Option<Cell>) -> Result<Query, AllocError> {
+    let mut params = Vec::new(alloc);
+    params.push((String::from_str(alloc, "key")?, text_cell(alloc, "a")?))?;
+    if let Some(value) = value {
+        params.push((String::from_str(alloc, "value")?, value))?;
+    }
+    Ok(Query {
+        text: String::from_str(alloc, text)?,
+        params,
+    })
+}
+
+/// A port of this machine, and how long a read of one of its streams may wait.
+#[derive(Drop)]
+struct Port<'a> {
+    rt: &'a HostRuntime,
+    port: u16,
+    silence: Duration,
+}
+
+impl Connects for Port<'_> {
+    type In = Over<TcpStream>;
+
+    type Out = Over<TcpStream>;
+
+    fn connect(&mut self) -> Option<(Over<TcpStream>, Over<TcpStream>)> {
+        let stream = TcpStream::connect(self.rt, ("127.0.0.1", self.port)).ok()?;
+        stream.set_read_timeout(Some(self.silence)).ok()?;
+        let other = stream.try_clone().ok()?;
+        Some((Over::new(stream), Over::new(other)))
+    }
+}
+
+/// What each attempt asks: to put a value, under this token.
+fn asked(alloc: Global, token: &str) -> Result<Asked, AllocError> {
+    Ok(Asked {
+        wish: Wish::Newest,
+        agent: String::from_str(alloc, "example/1")?,
+        auth: auth(alloc)?,
+        mode: Mode::Write,
+        token: String::from_str(alloc, token)?,
+        queries: vec![in alloc; query(alloc, "PUT", Some(Cell::Int(1)))?]?,
+    })
+}
+
+/// Puts a value under a token, and gets it. The answer is what is known of the transaction.
+fn put_and_get(
+    rt: &HostRuntime,
+    port: &mut Port<'_>,
+    token: &str,
+    tries: u32,
+) -> Result<Fate, Stopped> {
+    let alloc = rt.alloc();
+    let fate = until_known(alloc, &asked(alloc, token)?, port, tries);
+    println!(rt; "{fate:?}")?;
+
+    let Some((source, sink)) = port.connect() else {
+        return Err(Stopped::Io(io::ErrorKind::NotConnected.into()));
+    };
+    let mut connection = Connection::new(alloc, source, sink, Wish::Newest, 1000)?;
+    connection.open(String::from_str(alloc, "example/1")?, auth(alloc)?)?;
+    let get = query(alloc, "GET", None)?;
+    let answer = connection.run(&get, Mode::Read, Rows::Pull(Count::All))?;
+    for row in connection.rows(answer.rows) {
+        println!(rt; "row {row:?}")?;
+    }
+    Ok(fate)
+}
+
+/// The same at a port. What it answers is why the transaction isn't known to stand, if it isn't.
+pub(crate) fn run(
+    rt: &HostRuntime,
+    port: u16,
+    token: &str,
+    tries: u32,
+) -> io::Result<Option<String>> {
+    let silence = Duration::from_secs(10);
+    let why = match put_and_get(rt, &mut Port { rt, port, silence }, token, tries) {
+        Ok(Fate::Stands) => return Ok(None),
+        Ok(_) => "not known to be committed",
+        Err(Stopped::Memory) => return Err(io::Error::from(AllocError)),
+        Err(Stopped::Io(error)) => return Err(error),
+        Err(Stopped::Fault(fault)) => return Ok(Some(format!(in rt.alloc(); "{fault}")?)),
+    };
+    Ok(Some(String::from_str(rt.alloc(), why)?))
+}
