@@ -10,6 +10,7 @@ use streams::{Sink, Source};
 /// What opens connections, one after the other, each to the same server.
 pub trait Connects {
     type In: Source + Drop;
+
     type Out: Sink + Drop;
 
     /// The streams of one more, of which nothing was read or written yet; none where it can't be had. Before it the caller may wait.
@@ -31,12 +32,7 @@ fn try_once<C: Connects>(alloc: Global, asked: &Asked, connects: &mut C) -> Tell
 /// Stands: it is committed. Clash: other writes stand under the token. Refused: the server refuses it, and nothing of it stands. Where the tries
 /// are used up, Open if an attempt may have committed, else Absent. No attempt follows one by which it is known. What these mean for the ledger of a
 /// server of this product is the law `sent_until_known` of `known`.
-pub fn until_known<C: Connects>(
-    alloc: Global,
-    asked: &Asked,
-    connects: &mut C,
-    tries: u32,
-) -> Fate
+pub fn until_known<C: Connects>(alloc: Global, asked: &Asked, connects: &mut C, tries: u32) -> Fate
     ensures { IsKnown (asked_view asked.now) tries result }
 {
     let mut doubtful = false;
