@@ -63,4 +63,4 @@ def fault(words, port):
         for tries, before in ((1, []), (3, []), (3, [lost])):
             if not sends.is_true(tries, *before, cut):
                 return f"{tries} tries, cut at {[*before, cut]}"
-    return None if len(cuts) > 400 else f"{len(cuts)} cuts"
+    return None if len(cuts) > 300 else f"{len(cuts)} cuts"
