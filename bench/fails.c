@@ -49,14 +49,6 @@ ssize_t write(int file, const void *bytes, size_t count) {
     return -1;
 }
 
-ssize_t pwrite(int file, const void *bytes, size_t count, off_t at) {
-    NEXT(pwrite);
-    if (!fails(file)) return next(file, bytes, count, at);
-    if (count > 1) next(file, bytes, count / 2, at);
-    errno = EIO;
-    return -1;
-}
-
 ssize_t pwrite64(int file, const void *bytes, size_t count, off64_t at) {
     NEXT(pwrite64);
     if (!fails(file)) return next(file, bytes, count, at);
@@ -64,6 +56,8 @@ ssize_t pwrite64(int file, const void *bytes, size_t count, off64_t at) {
     errno = EIO;
     return -1;
 }
+
+ssize_t pwrite(int file, const void *bytes, size_t count, off_t at) { return pwrite64(file, bytes, count, at); }
 
 int fsync(int file) {
     NEXT(fsync);
@@ -75,12 +69,9 @@ int fdatasync(int file) {
     return fails(file) ? -1 : next(file);
 }
 
-int ftruncate(int file, off_t size) {
-    NEXT(ftruncate);
-    return fails(file) ? -1 : next(file, size);
-}
-
 int ftruncate64(int file, off64_t size) {
     NEXT(ftruncate64);
     return fails(file) ? -1 : next(file, size);
 }
+
+int ftruncate(int file, off_t size) { return ftruncate64(file, size); }
