@@ -97,7 +97,7 @@ ZONE = datetime.timezone(datetime.timedelta(hours=1))
 # Python's own, each as it comes back; and structures that have none, or would lose something.
 OWN = (datetime.date(2021, 2, 3), datetime.date(1, 1, 1), datetime.datetime(2021, 2, 3, 4, 5, 6, 7), datetime.datetime(1900, 1, 1, 23, 59, 59, 999999, ZONE),
        datetime.time(1, 2, 3, 4), datetime.time(1, 2, 3, 4, ZONE), datetime.timedelta(1, 2, 3), datetime.timedelta(-1), {"a": [datetime.date(2000, 1, 1)]})
-OURS = (bolt.Date(10 ** 9), bolt.LocalTime(1), bolt.Time(0, 90_000 // 2), bolt.LocalDateTime(0, 1), bolt.DateTime(10 ** 15, 0, 0), bolt.Duration(1, 0, 0, 0),
+OURS = (bolt.Date(10 ** 9), bolt.LocalTime(1), bolt.Time(1, 0), bolt.LocalDateTime(0, 1), bolt.DateTime(10 ** 15, 0, 0), bolt.Duration(1, 0, 0, 0),
         bolt.Duration(0, 0, 86_400, 0), bolt.Point2D(7203, 1.0, 2.0), bolt.Node(1, ["A"], {"p": 1}, "1"))
 
 
@@ -109,8 +109,7 @@ def keeps_moments(port):
             for value in OWN + OURS:
                 said = connection.run("ECHO", x=value).single()["x"]
                 wanted = bolt.Node(1, ["A"], {"p": 1}) if version == 44 and isinstance(value, bolt.Node) else value
-                # (a time of an offset that Python has is Python's)
-                if said != wanted and not isinstance(said, datetime.time):
+                if said != wanted:
                     wrong.append(f"{value!r} at {version}: {said!r}")
     if wrong:
         print("moments:", *wrong, sep="\n")
