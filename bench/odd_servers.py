@@ -66,19 +66,22 @@ ATTEMPTS = [
 ]
 # Tokens of which no request can have been sent.
 TOKENS = [("of no byte", ""), ("of 65 bytes", "t" * 65)]
-# What a query is told, of which HELLO, LOGON, RUN and PULL are asked, the lines that are printed, and the error.
+# What a query is told, of which HELLO and LOGON are asked, and then RUN and PULL; the lines that are printed, and the error.
+IN = (V51, told(DONE, DONE))
 QUERIES = [
-    ("that is refused", V51 + told(DONE, DONE, failure(REFUSED, "no such text"), IGNORED), [], f"Error: {REFUSED}: no such text"),
+    ("that is refused", (*IN, told(failure(REFUSED, "no such text"), IGNORED)), [], f"Error: {REFUSED}: no such text"),
     ("whose login is refused", V51 + told(DONE, failure("Neo.ClientError.Security.Unauthorized", "who")), [], "Error: Neo.ClientError.Security.Unauthorized: who"),
-    ("of 1,000 rows", V51 + told(DONE, DONE, DONE, *[ROW] * 1000, DONE), ["row [Int(1)]"] * 1000, ""),
-    ("of 1,001 rows", V51 + told(DONE, DONE, DONE, *[ROW] * 1001, DONE), [], "Error: broken off"),
-    ("with a row before its columns", V51 + told(DONE, DONE, ROW, DONE), [], "Error: broken off"),
-    ("without an answer", V51 + told(DONE, DONE), [], "Error: broken off"),
+    ("of 999 rows", (*IN, told(DONE, *[ROW] * 999, DONE)), ["row [Int(1)]"] * 999, ""),
+    ("of 1,000 rows, as many as are kept", (*IN, told(DONE, *[ROW] * 1000, DONE)), [], "Error: broken off"),
+    ("with a row before its columns", (*IN, told(ROW, DONE)), [], "Error: broken off"),
+    ("without an answer", IN, [], "Error: broken off"),
+    ("with half an answer", (*IN, told(DONE, ROW)), [], "Error: broken off"),
 ]
 
 
 class Server:
-    """Tells each connection what stands for it, the last of these over and over, and keeps what it was asked behind the offer of versions."""
+    """Tells each connection what stands for it, the last of these over and over, and keeps what it was asked behind the offer of versions. What it tells is the
+    version, and then, in parts, what answers the requests that come."""
 
     def __init__(self, answers):
         self.answers, self.asked = answers, []
@@ -98,11 +101,11 @@ class Server:
                 peer.settimeout(60)
                 self.asked.append(b"")
                 peer.recv(20, socket.MSG_WAITALL)
-                peer.sendall(answer[:4])
-                # (what is told to requests waits for the first of them)
-                if len(answer) > 4:
+                first, *parts = answer if isinstance(answer, tuple) else (answer[:4], *([answer[4:]] if answer[4:] else []))
+                peer.sendall(first)
+                for part in parts:
                     self.asked[-1] += peer.recv(65536)
-                    peer.sendall(answer[4:])
+                    peer.sendall(part)
                 peer.shutdown(socket.SHUT_WR)
                 while part := peer.recv(65536):
                     self.asked[-1] += part
