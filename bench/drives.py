@@ -74,7 +74,8 @@ def transacts(port):
             why = breaks.raised(lambda: tx.run("PUT", key="goes", value=1))
             is_refused = isinstance(why, bolt.Refused) and why.code.endswith("ReadOnly")
             tx.is_open = False
-        return is_kept and is_over and is_refused and connection.run("ONE").single() == [1] and (value_of(port, "stays"), value_of(port, "goes")) == ([1], [])
+        goes_on = connection.run("ONE").single() == [1]
+    return is_kept and is_over and is_refused and goes_on and (value_of(port, "stays"), value_of(port, "goes")) == ([1], [])
 
 
 def pipes(port):
@@ -255,8 +256,9 @@ def installs(port):
         environment = {key: it for key, it in os.environ.items() if key not in ("BOLT_SO", "PYTHONPATH")}
         run = lambda *words: subprocess.run(words, check=True, stdout=subprocess.PIPE, text=True, env=environment, cwd=folder).stdout
         wheel = run(sys.executable, "-c", f"import sys; sys.path.insert(0, {str(source)!r}); import backend; print(backend.build_wheel({folder!r}))").strip()
-        run(sys.executable, "-m", "venv", f"{folder}/fresh")
-        run(f"{folder}/fresh/bin/python", "-m", "pip", "install", "-q", "--no-index", "--disable-pip-version-check", f"{folder}/{wheel}")
+        run(sys.executable, "-m", "venv", "--without-pip", f"{folder}/fresh")
+        pip = [sys.executable, "-m", "pip", "--python", f"{folder}/fresh/bin/python", "--disable-pip-version-check", "install", "-q", "--no-index"]
+        run(*pip, f"{folder}/{wheel}")
         said = run(f"{folder}/fresh/bin/python", "-B", "-c", program.replace("7687", str(port)))
     return bool(wanted) and said == "".join(f"{line.strip()}\n" for line in wanted.split("\n"))
 

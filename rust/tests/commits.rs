@@ -1,4 +1,5 @@
-//! A transaction and one that is sent until it is known, through cuts at each byte, against the server at the port of BOLT_PORT, which `bench/languages` starts.
+//! A transaction and one that is sent until it is known, through cuts at each byte, against the server at the port of BOLT_PORT, which `bench/languages` starts. It
+//! has one client at a time: run with `--test-threads=1`.
 
 use bolt::{until_known, Connection, Error, Fate, Login, Outcome, Query, Value};
 use std::io::{self, Read, Write};
@@ -125,6 +126,8 @@ fn what_is_refused_is_told() {
     let answer = connection.run(&Query::new("ROWS", [("n", 3.into())])).unwrap();
     assert_eq!((answer.fields.as_slice(), answer.rows.len()), (["i".to_owned()].as_slice(), 3));
     assert!(answer.bookmark.is_some());
+    // (the server has one client at a time)
+    drop(connection);
     assert_eq!(until_known(|| connect(WHOLE, WHOLE), &login(), "rust clash", &[put("rust clash")], 3), Fate::Stands);
     assert_eq!(until_known(|| connect(WHOLE, WHOLE), &login(), "rust clash", &[put("rust other")], 3), Fate::Clash);
     assert_eq!(until_known(|| connect(WHOLE, WHOLE), &login(), "rust no", &[Query::new("NOPE", [])], 3), Fate::Refused);
