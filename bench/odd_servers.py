@@ -146,7 +146,8 @@ def fault(words):
 
 def starved(words, port):
     """What isn't true of transactions whose program has one allocation refused, each in turn, at a server, or None."""
-    sends, number, asked = untils.Sends(words, port), 0, 1
+    # (the first run has none refused, and counts them)
+    sends, number, asked = untils.Sends(words, port), -1, 1
     with tempfile.TemporaryDirectory() as folder:
         shim, count = f"{folder}/refuse.so", f"{folder}/count"
         subprocess.run([os.environ.get("CC", "cc"), "-O2", "-shared", "-fPIC", "-o", shim, str(HERE / "refuse.c")], check=True)
@@ -159,6 +160,6 @@ def starved(words, port):
             # (the look adds an entry, and so may the query behind the transaction)
             added, sends.entries = now - sends.entries - 1, now
             least, most = {"Stands": (1, 2), "Open": (0, 2), "Absent": (0, 1)}[said[0] if said else "Absent"]
-            if not least <= added <= most or (done.returncode == 0) != (said[1:] == ["row [Int(1)]"]):
+            if not least <= added <= most or (done.returncode == 0) != (said == ["Stands", "row [Int(1)]"]):
                 return f"allocation {number} refused: {said}, {done.stderr}, {done.returncode}, {added} entries"
     return None if asked > 30 else f"{asked} allocations"
