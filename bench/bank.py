@@ -1,4 +1,4 @@
-"""bank.py PORT ROUNDS SEED: transfers between accounts of a `bolt serve` by python/bolt.py. Each has a token, and is sent again until it is known.
+"""bank.py PORT ROUNDS SEED: transfers between accounts of a `bolt serve` by the package of python/bolt. Each has a token, and is sent again until it is known.
 
 Most attempts go through a proxy that cuts them at a byte by chance, either way; into half of them an exception comes by a signal, at a moment by
 chance. What the client says of each attempt is held to the ledger as another connection sees it. In the end each transfer stands in the
@@ -67,7 +67,7 @@ class Bank:
 
     def alone(self, *words):
         """What another connection is told: the rows, and the number of the ledger's last entry, which this request makes."""
-        with bolt.Connection("127.0.0.1", self.port, USER) as connection:
+        with bolt.Session("127.0.0.1", self.port, USER) as connection:
             asked = connection.ask_run(*words)
             connection.settle()
         self.entries += 1
@@ -89,7 +89,7 @@ class Bank:
         try:
             try:
                 times = [self.timed(0, moments)]
-                with bolt.Connection("127.0.0.1", proxy.port, USER, timeout=20) as connection:
+                with bolt.Session("127.0.0.1", proxy.port, USER, timeout=20) as connection:
                     held.append(connection)
                     times.append(self.timed(1, moments))
                     work(connection, token, writes)

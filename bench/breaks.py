@@ -1,4 +1,4 @@
-"""What python/bolt.py does where a call of it is broken off or can't be: rows that `bench/languages` tries, each against a server of its own."""
+"""What the package of python/bolt does where a call of it is broken off or can't be: rows that `bench/languages` tries, each against a server of its own."""
 import contextlib
 import gc
 import os
@@ -31,9 +31,9 @@ def raised(call):
 
 
 def code_of(call):
-    """The code of the Fault that a call raises, 0 where it answers, None of what is no Fault."""
+    """The code of the NotSent that a call raises, 0 where it answers, None of what is none."""
     why = raised(call)
-    return 0 if why is None else why.code if isinstance(why, bolt.Fault) else None
+    return 0 if why is None else why.code if isinstance(why, bolt.NotSent) else None
 
 
 # Works, each of which puts a key, and answers what was asked.
@@ -110,7 +110,7 @@ class Interrupt(Exception):
 
 
 INTERRUPTS = KeyboardInterrupt, Interrupt, TimeoutError
-VALUES = ("pack", "pack_int", "sized", "fields_of", "number", "bytes", "of_length", "fields", "value")  # of these each line once
+VALUES = ("pack", "pack_int", "sized", "fields_of", "names_of", "number", "bytes", "of_length", "fields", "value")  # of these each line once
 
 
 class Interrupted:
@@ -120,7 +120,7 @@ class Interrupted:
         self.number, self.passed, self.seen, self.raised = number, 0, set(), None
 
     def __call__(self, frame, event, _):
-        if frame.f_code.co_filename != bolt.__file__ or frame.f_code.co_name == "__del__":
+        if os.path.dirname(frame.f_code.co_filename) != os.path.dirname(bolt.__file__) or frame.f_code.co_name == "__del__":
             return None
         line = frame.f_lineno
         if event == "line" and not (frame.f_code.co_name in VALUES and line in self.seen):
@@ -135,20 +135,20 @@ class Interrupted:
 def interrupted(port, before, work, key, number):
     """What became of what was asked, where an interrupt comes at a line of a work by number: None where the work has fewer lines."""
     interrupt = Interrupted(number)
-    with bolt.Connection("127.0.0.1", port, USER) as connection:
+    with bolt.Session("127.0.0.1", port, USER) as connection:
         before(connection, key)
         came = None
         sys.settrace(interrupt)
         try:
             work(connection, key)
-        except (*INTERRUPTS, bolt.Error) as why:
+        except (*INTERRUPTS, bolt.BoltError) as why:
             came = why
         finally:
             sys.settrace(None)
         requests, told = list(connection.requests), [it.outcome for it in connection.requests]
         connection.timeout = 10
         # It goes on, or something is to be settled, or it has ended.
-        is_defined = code_of(lambda: connection.run("ONE")) in (0, bolt.NOT_ALLOWED, bolt.CLOSED)
+        is_defined = code_of(lambda: connection.run("ONE")) in (0, bolt.library.NOT_ALLOWED, bolt.library.CLOSED)
     stays = all(it.outcome in bolt.OUTCOMES and before in (None, it.outcome) for it, before in zip(requests, told))
     outcome = {it.text: it.outcome for it in requests}.get("PULL of PUT" if work is alone else "COMMIT")
     return (outcome, is_defined and stays and came is interrupt.raised) if interrupt.raised else None
@@ -162,7 +162,7 @@ def interrupts(port, before, work):
         told[f"line{number}"] = held
         number += 1
     wrong = [key for key, (outcome, is_defined) in told.items() if not is_defined]
-    with bolt.Connection("127.0.0.1", port, USER) as connection:
+    with bolt.Session("127.0.0.1", port, USER) as connection:
         for key, (outcome, _) in told.items():
             is_there = connection.run("GET", {"key": key}, write=False) == [[1]]
             wrong += [] if is_right(outcome, is_there) or before is refused and not is_there else [f"{key} {outcome} {is_there}"]
@@ -219,7 +219,7 @@ def ends(_):
             server = threading.Thread(target=ending, args=(listener, said, again, how), daemon=True)
             server.start()
             began = time.monotonic()
-            why = raised(lambda: bolt.Connection("127.0.0.1", listener.getsockname()[1], USER, timeout=0.4))
+            why = raised(lambda: bolt.Session("127.0.0.1", listener.getsockname()[1], USER, timeout=0.4))
             took = time.monotonic() - began
             server.join()
         if not (isinstance(why, bolt.Broken) and str(why) == text and text.endswith(f"({why.why})") and took < 4):
@@ -233,10 +233,10 @@ def ends(_):
 
 def gives_up(port):
     """Whether an interrupt and want of memory are told as such, and behind the end too."""
-    with bolt.Connection("127.0.0.1", port, USER) as connection:
+    with bolt.Session("127.0.0.1", port, USER) as connection:
         connection.ask_begin()
-        short = str(raised(lambda: connection._moved(bolt.MEMORY)))
-    with bolt.Connection("127.0.0.1", port, USER) as connection:
+        short = str(raised(lambda: connection._moved(bolt.library.MEMORY)))
+    with bolt.Session("127.0.0.1", port, USER) as connection:
         asked = connection.ask_run("ROWS", {"n": 2})
         connection._message = lambda: interrupt()
         is_raised = isinstance(raised(connection.settle), Interrupt) and asked.outcome == bolt.UNKNOWN
@@ -270,9 +270,9 @@ MISTAKEN = (
     (51, lambda c: c.ask("NONE", 0x7E), f"{NONE}: M3"),
     (51, lambda c: c.ask_begin(write="r"), "write is True or False"),
     (51, lambda c: c.ask_run("ONE", write=0), "write is True or False"),
-    (51, lambda c: bolt.Connection("127.0.0.1", c.port, USER, versions=5.1), "versions is NEWEST, V4_4, V5_0 or V5_1"),
-    (51, lambda c: bolt.Connection("127.0.0.1", c.port, USER, versions=52), "versions is NEWEST, V4_4, V5_0 or V5_1"),
-    (51, lambda c: bolt.Connection("127.0.0.1", c.port, USER[:2]), "auth is the scheme, the principal and the credentials"),
+    (51, lambda c: bolt.Session("127.0.0.1", c.port, USER, versions=5.1), "versions is NEWEST, V4_4, V5_0 or V5_1"),
+    (51, lambda c: bolt.Session("127.0.0.1", c.port, USER, versions=52), "versions is NEWEST, V4_4, V5_0 or V5_1"),
+    (51, lambda c: bolt.Session("127.0.0.1", c.port, USER[:2]), "auth is the scheme, the principal and the credentials"),
 )
 
 
@@ -280,11 +280,11 @@ def names_mistakes(port):
     """Whether each mistake is told by a text of its own, and leaves the connection as it was; and how many there are."""
     wrong = []
     for version in (44, 51):
-        with bolt.Connection("127.0.0.1", port, USER, versions=version) as connection:
+        with bolt.Session("127.0.0.1", port, USER, versions=version) as connection:
             connection.port = port
             for _, call, text in (it for it in MISTAKEN if it[0] == version):
                 why = raised(lambda: call(connection))
-                wrong += [] if str(why) == text and isinstance(why, (bolt.Fault, TypeError, ValueError)) else [f"{why!r} for {text}"]
+                wrong += [] if str(why) == text and isinstance(why, (bolt.NotSent, TypeError, ValueError)) else [f"{why!r} for {text}"]
             wrong += [] if connection.run("ONE") == [[1]] else ["it doesn't go on"]
     if wrong:
         print("mistakes:", *wrong, sep="\n")
@@ -296,7 +296,7 @@ def settles_first(port):
     calls = (lambda c: c.run("PUT", {"key": "swallowed", "value": 1}), lambda c: c.begin(), lambda c: c.commit(), lambda c: c.rollback(), lambda c: c.reset())
     told = []
     for call in calls:
-        with bolt.Connection("127.0.0.1", port, USER) as connection:
+        with bolt.Session("127.0.0.1", port, USER) as connection:
             connection.ask_begin()
             unpacked = raised(lambda: connection.ask_run("PUT", {"key": "swallowed", "value": {1, 2}}))
             told.append(str(raised(lambda: call(connection))))
@@ -319,12 +319,12 @@ with concurrent.futures.ProcessPoolExecutor(1) as pool:
 def crosses_processes(values):
     """Whether what is raised, and each structure, is the same after it was pickled, and a pool of processes lives on."""
     asked = [bolt.Request("COMMIT", bolt.UNKNOWN, {"a": 1}, [[1]])]
-    errors = bolt.Fault(8, "S3", 2), bolt.Fault(4, hint=bolt.GONE), bolt.Refused("a.B", "c", asked), bolt.Broken(asked, bolt.TIMED_OUT)
+    errors = bolt.NotSent(8, "S3", 2), bolt.NotSent(4, hint=bolt.GONE), bolt.Refused("a.B", "c", asked), bolt.Broken(asked, bolt.TIMED_OUT)
     held = [pickle.loads(pickle.dumps(it)) == it for it in values]
     for error in errors:
         there = pickle.loads(pickle.dumps(error))
-        held.append(isinstance(error, bolt.Error) and (type(there), str(there), vars(there)) == (type(error), str(error), vars(error)))
-    environment = {**os.environ, "PYTHONPATH": os.path.dirname(bolt.__file__)}
+        held.append(isinstance(error, bolt.BoltError) and (type(there), str(there), vars(there)) == (type(error), str(error), vars(error)))
+    environment = {**os.environ, "PYTHONPATH": os.path.dirname(os.path.dirname(bolt.__file__))}
     pool = subprocess.run([sys.executable, "-B", "-c", POOL], env=environment, stdout=subprocess.PIPE, stderr=subprocess.DEVNULL, text=True, timeout=60)
     wanted = "Broken([Request(text='COMMIT', outcome='UNKNOWN', metadata={}, rows=[])], 'the server closed the connection')\nDate(days=1)\n"
     return all(held) and pool.stdout == wanted, len(held)
@@ -332,7 +332,7 @@ def crosses_processes(values):
 
 def frees(port):
     """Whether a connection that is dropped and isn't closed frees its client and its socket, and says so."""
-    connection = bolt.Connection("127.0.0.1", port, USER)
+    connection = bolt.Session("127.0.0.1", port, USER)
     handle, other = connection._handle, connection._socket
     asked = connection.ask_begin()
     with warnings.catch_warnings(record=True) as told:

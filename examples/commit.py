@@ -1,7 +1,7 @@
 """commit.py ADDRESS PORT KEY: puts a key in a transaction, all of it in one pipeline, and prints what became of each of its requests, and where the connection
 broke, why.
 
-It finds the module in ../python, and libbolt.so beside it or where BOLT_SO says; bench/build_c makes it.
+It finds the package in ../python, or where it is installed; bench/build_c makes its libbolt.so, which may lie elsewhere, where BOLT_SO says.
 """
 import os
 import sys
@@ -11,11 +11,12 @@ import bolt
 
 
 def commit(address, port, key):
-    with bolt.Connection(address, port, auth=("basic", "user", "pass")) as connection:
-        connection.ask_begin()
-        connection.ask_run("PUT", {"key": key, "value": 1})
-        connection.ask_commit()
-        return connection.settle()
+    with bolt.connect(address, port, auth=("user", "pass")) as connection:
+        with connection.pipeline() as asked:
+            asked.begin()
+            asked.run("PUT", key=key, value=1)
+            asked.commit()
+        return connection.session.requests
 
 
 def main(address, port, key):

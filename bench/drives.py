@@ -1,0 +1,266 @@
+"""What the package of python/bolt does for who runs queries, transactions, and a transaction until it is known: rows that `bench/languages` tries, each against a server of
+its own."""
+import contextlib
+import datetime
+import os
+import pathlib
+import shutil
+import socket
+import ssl
+import subprocess
+import sys
+import tempfile
+import threading
+
+import bolt
+import breaks
+import proxy
+
+USER = ("user", "pass")
+HERE = pathlib.Path(__file__).resolve().parent.parent
+
+
+def connected(port, **words):
+    return bolt.connect("127.0.0.1", port, auth=USER, **words)
+
+
+def value_of(port, key):
+    """The values that stand under a key, as another connection sees them."""
+    with connected(port) as connection:
+        return [it["value"] for it in connection.read("GET", key=key)]
+
+
+def length(port):
+    """How many entries the ledger has, that of this look among them."""
+    with connected(port) as connection:
+        return int(connection.run("ONE").summary.bookmark.split(":")[1])
+
+
+def reads_rows(port):
+    """Whether records have names, are pulled as they are read, and are kept where something else is asked meanwhile."""
+    with connected(port, fetch=2) as connection:
+        records = connection.run("ROWS", n=5)
+        first = next(records)
+        other = connection.run("ROWS", n=1).single()
+        rest = list(records)
+        kept = connection.run("ROWS", n=5)
+        summary = kept.consume()
+        three = connection.run("ROWS", n=3)
+        return ((first["i"], first[0], first.get("j", 7), first.data(), first.keys(), first.values()) == (1, 1, 7, {"i": 1}, ["i"], [1])
+                and other == [1] and [it["i"] for it in rest] == [2, 3, 4, 5] and summary.outcome == bolt.COMMITTED and summary.bookmark.startswith("bk:")
+                and list(kept) == [] and three.data() == [{"i": 1}, {"i": 2}, {"i": 3}] and three.keys() == ["i"]
+                and isinstance(breaks.raised(lambda: connection.run("ROWS", n=2).single()), ValueError)
+                and isinstance(breaks.raised(lambda: first["j"]), KeyError) and connection.run("ROWS", n=0).values() == [])
+
+
+def transacts(port):
+    """Whether a transaction commits at the block's end, and not where an exception or a FAILURE ends it; the connection goes on each time."""
+    with connected(port) as connection:
+        with connection.transaction() as tx:
+            tx.run("PUT", key="stays", value=1)
+            seen = [it["value"] for it in tx.run("GET", key="stays")]
+        is_kept = (seen, tx.outcome, tx.bookmark[:3]) == ([1], bolt.COMMITTED, "bk:")
+        with contextlib.suppress(KeyError), connection.transaction() as tx:
+            tx.run("PUT", key="goes", value=1)
+            raise KeyError
+        with contextlib.suppress(bolt.Refused), connection.transaction() as tx:
+            tx.run("PUT", key="goes", value=1)
+            tx.run("NOPE")
+        with connection.transaction() as tx:
+            tx.run("PUT", key="goes", value=1)
+            tx.rollback()
+            is_over = isinstance(breaks.raised(lambda: tx.run("ONE")), ValueError)
+        with connection.transaction(write=False) as tx:
+            why = breaks.raised(lambda: tx.run("PUT", key="goes", value=1))
+            is_refused = isinstance(why, bolt.Refused) and why.code.endswith("ReadOnly")
+            tx.is_open = False
+        goes_on = connection.run("ONE").single() == [1]
+    return is_kept and is_over and is_refused and goes_on and (value_of(port, "stays"), value_of(port, "goes")) == ([1], [])
+
+
+def pipes(port):
+    """Whether a pipeline's records are there at its end, and nothing of one goes out that an exception ends."""
+    with connected(port) as connection:
+        with connection.pipeline() as asked:
+            asked.begin()
+            asked.run("PUT", key="piped", value=2)
+            got = asked.run("GET", key="piped")
+            early = breaks.raised(lambda: list(got))
+            asked.commit()
+        held = [it["value"] for it in got] == [2] and isinstance(early, ValueError)
+    with contextlib.suppress(KeyError), connected(port) as connection, connection.pipeline() as asked:
+        asked.run("PUT", key="unsent", value=1)
+        raise KeyError
+    return held and (value_of(port, "piped"), value_of(port, "unsent")) == ([2], [])
+
+
+ZONE = datetime.timezone(datetime.timedelta(hours=1))
+# Python's own, each as it comes back; and structures that have none, or would lose something.
+OWN = (datetime.date(2021, 2, 3), datetime.date(1, 1, 1), datetime.datetime(2021, 2, 3, 4, 5, 6, 7), datetime.datetime(1900, 1, 1, 23, 59, 59, 999999, ZONE),
+       datetime.time(1, 2, 3, 4), datetime.time(1, 2, 3, 4, ZONE), datetime.timedelta(1, 2, 3), datetime.timedelta(-1), {"a": [datetime.date(2000, 1, 1)]})
+OURS = (bolt.Date(10 ** 9), bolt.LocalTime(1), bolt.Time(1, 0), bolt.LocalDateTime(0, 1), bolt.DateTime(10 ** 15, 0, 0), bolt.Duration(1, 0, 0, 0),
+        bolt.Duration(0, 0, 86_400, 0), bolt.Point2D(7203, 1.0, 2.0), bolt.Node(1, ["A"], {"p": 1}, "1"))
+
+
+def keeps_moments(port):
+    """Whether Python's moments and spans come back as they were, at each version, and structures that have none of Python's as they are."""
+    wrong = []
+    for version in (44, 50, 51):
+        with connected(port, versions=version) as connection:
+            for value in OWN + OURS:
+                said = connection.run("ECHO", x=value).single()["x"]
+                wanted = bolt.Node(1, ["A"], {"p": 1}) if version == 44 and isinstance(value, bolt.Node) else value
+                if said != wanted:
+                    wrong.append(f"{value!r} at {version}: {said!r}")
+    if wrong:
+        print("moments:", *wrong, sep="\n")
+    return not wrong
+
+
+def tells_errors(port):
+    """Whether each error is one of the package's, and says what became of the commit."""
+    with socket.socket() as taken:
+        taken.bind(("127.0.0.1", 0))
+        unreached = breaks.raised(lambda: connected(taken.getsockname()[1]))
+    stranger = breaks.raised(lambda: bolt.connect("127.0.0.1", port, auth=("user", "no")))
+    with connected(port) as connection:
+        unsent = breaks.raised(lambda: connection.run("ECHO", x=bolt.Date("no")))
+        goes_on = connection.run("ONE").single() == [1]
+    return ((type(unreached), unreached.why, unreached.outcome, type(unreached.__cause__)) == (bolt.Broken, bolt.UNREACHED, None, ConnectionRefusedError)
+            and (type(stranger), stranger.code[-12:]) == (bolt.Refused, "Unauthorized") and (type(unsent), unsent.rule) == (bolt.NotSent, "S3") and goes_on
+            and all(isinstance(it, bolt.BoltError) for it in (unreached, stranger, unsent)))
+
+
+def put(key, value):
+    def work(tx):
+        tx.run("PUT", key=key, value=value)
+        return value
+    return work
+
+
+def settles(port):
+    """Whether a transaction under a token is sent until it is known through cuts at each byte of its first attempt, either way; and how many cuts there were."""
+    with proxy.Door(port, []) as door:
+        whole = bolt.until_known(lambda: connected(door.listener.getsockname()[1]), put("whole", 1))
+    wrong = [] if (whole.fate, whole.value) == (bolt.STANDS, 1) else ["whole"]
+    cuts = [(way, at) for way in ("told", "asked") for at in range(door.passed[0][way] + 1)]
+    before = length(port)
+    for number, (way, at) in enumerate(cuts):
+        with proxy.Door(port, [{way: at}]) as door:
+            connect = lambda: connected(door.listener.getsockname()[1])
+            once = bolt.until_known(connect, put(f"{way} {at}", 1), f"t{number}", tries=1)
+            is_there = value_of(port, f"{way} {at}") == [1]
+            if is_there != (once.fate == bolt.STANDS) and once.fate != bolt.OPEN:
+                wrong.append(f"{way} {at}: {once.fate}, and it {'stands' if is_there else 'is missing'}")
+            again = bolt.until_known(connect, put(f"{way} {at}", 1), f"t{number}", pause=lambda _: 0)
+            wrong += [] if again.stands else [f"{way} {at}: {again}"]
+    # (a look at the value of each, and the last look)
+    if length(port) != before + 2 * len(cuts) + 1:
+        wrong.append(f"{length(port) - before} entries of {len(cuts)} transactions")
+    if wrong:
+        print("until it is known:", *wrong[:9], sep="\n")
+    return not wrong and len(cuts) > 300, len(cuts)
+
+
+def tells_fates(port):
+    """Whether other writes under a token, a refusal, and a server that isn't there are told as such."""
+    connect = lambda: connected(port)
+    made = bolt.until_known(connect, put("fates", 1))
+    clash = bolt.until_known(connect, put("fates", 2), made.token)
+    again = bolt.until_known(connect, put("fates", 1), made.token)
+    refused = bolt.until_known(connect, lambda tx: tx.run("NOPE"), tries=3)
+    absent = bolt.until_known(lambda: connected(1), put("fates", 3), tries=2, pause=lambda _: 0)
+    late = bolt.until_known(lambda: connected(1), put("fates", 3), tries=9, within=0, pause=lambda _: 0.01)
+    own = breaks.raised(lambda: bolt.until_known(connect, lambda tx: tx.run("PUT", key={1}, value=1)))
+    return ((made.fate, clash.fate, again.fate, refused.fate, absent.fate, late.fate) == (bolt.STANDS, bolt.CLASH, bolt.STANDS, bolt.REFUSED, bolt.ABSENT, bolt.ABSENT)
+            and made.bookmark == again.bookmark and len(made.token) == 32 and isinstance(own, TypeError) and isinstance(refused.error, bolt.Refused)
+            and value_of(port, "fates") == [1])
+
+
+def interrupted(port, key, number):
+    """What became of the COMMIT of a transaction in which an interrupt comes at a line of the package, by number; None where it has fewer lines."""
+    interrupt, came = breaks.Interrupted(number), None
+    with connected(port) as connection:
+        sys.settrace(interrupt)
+        try:
+            with connection.transaction() as tx:
+                tx.run("PUT", key=key, value=1)
+        except (*breaks.INTERRUPTS, bolt.BoltError) as why:
+            came = why
+        finally:
+            sys.settrace(None)
+        requests = list(connection.session.requests)
+    return ({it.text: it.outcome for it in requests}.get("COMMIT"), came is interrupt.raised) if interrupt.raised else None
+
+
+def keeps_accounts(port):
+    """Whether an interrupt at each line of a transaction is raised, and leaves a true account of it; and how many lines there are."""
+    told, number = {}, 1
+    while (held := interrupted(port, f"line{number}", number)) is not None:
+        told[f"line{number}"] = held
+        number += 1
+    wrong = [f"{key} {outcome}" for key, (outcome, is_raised) in told.items()
+             if not (is_raised and breaks.is_right(outcome, value_of(port, key) == [1]))]
+    if wrong:
+        print(f"interrupts of a transaction, of {number - 1} lines:", *wrong[:9])
+    return not wrong and number > 100, number - 1
+
+
+class Tunnel:
+    """Takes TLS connections with a certificate of its own, and passes them on to a port."""
+
+    def __init__(self, port, folder):
+        self.port, self.certificate = port, f"{folder}/certificate.pem"
+        words = ["openssl", "req", "-x509", "-newkey", "rsa:2048", "-nodes", "-keyout", f"{folder}/key.pem", "-out", self.certificate, "-days", "2", "-subj",
+                 "/CN=localhost", "-addext", "subjectAltName=DNS:localhost"]
+        subprocess.run(words, check=True, stdout=subprocess.DEVNULL, stderr=subprocess.DEVNULL)
+        self.context = ssl.SSLContext(ssl.PROTOCOL_TLS_SERVER)
+        self.context.load_cert_chain(self.certificate, f"{folder}/key.pem")
+        self.listener = socket.create_server(("127.0.0.1", 0))
+        threading.Thread(target=self.serve, daemon=True).start()
+
+    def serve(self):
+        while True:
+            peer, _ = self.listener.accept()
+            threading.Thread(target=self.take, args=(peer,), daemon=True).start()
+
+    def take(self, peer):
+        with contextlib.suppress(OSError), self.context.wrap_socket(peer, server_side=True) as client:
+            proxy.Passing().pass_on(client, self.port)
+
+
+def encrypts(port):
+    """Whether a connection goes through TLS to a server whose certificate is known, and not to another."""
+    with tempfile.TemporaryDirectory() as folder:
+        tunnel = Tunnel(port, folder)
+        there = tunnel.listener.getsockname()[1]
+        with bolt.connect("localhost", there, auth=USER, tls=ssl.create_default_context(cafile=tunnel.certificate)) as connection:
+            said = connection.run("ROWS", n=1024).values()
+        stranger = breaks.raised(lambda: bolt.connect("localhost", there, auth=USER, tls=True))
+        plain = breaks.raised(lambda: bolt.connect("localhost", there, auth=USER, timeout=2))
+    return (len(said), type(stranger), type(stranger.__cause__), type(plain)) == (1024, bolt.Broken, ssl.SSLCertVerificationError, bolt.Broken)
+
+
+FIRST = "```python\n"
+
+
+def installs(port):
+    """Whether the wheel is built and installed into an environment of its own, and the page's first program prints there what the page says."""
+    page = (HERE / "docs" / "PYTHON.md").read_text()
+    program, _, behind = page.partition(FIRST)[2].partition("```\n")
+    wanted = behind.partition("prints\n\n")[2].partition("\n\n")[0]
+    with tempfile.TemporaryDirectory() as folder:
+        source = pathlib.Path(folder) / "python"
+        shutil.copytree(HERE / "python", source, ignore=shutil.ignore_patterns("libbolt.*", "__pycache__"))
+        shutil.copy(os.environ["BOLT_SO"], source / "bolt" / "libbolt.so")
+        environment = {key: it for key, it in os.environ.items() if key not in ("BOLT_SO", "PYTHONPATH")}
+        run = lambda *words: subprocess.run(words, check=True, stdout=subprocess.PIPE, text=True, env=environment, cwd=folder).stdout
+        wheel = run(sys.executable, "-c", f"import sys; sys.path.insert(0, {str(source)!r}); import backend; print(backend.build_wheel({folder!r}))").strip()
+        run(sys.executable, "-m", "venv", "--without-pip", f"{folder}/fresh")
+        pip = [sys.executable, "-m", "pip", "--python", f"{folder}/fresh/bin/python", "--disable-pip-version-check", "install", "-q", "--no-index"]
+        run(*pip, f"{folder}/{wheel}")
+        said = run(f"{folder}/fresh/bin/python", "-B", "-c", program.replace("7687", str(port)))
+    return bool(wanted) and said == "".join(f"{line.strip()}\n" for line in wanted.split("\n"))
+
+
+WORKS = (reads_rows, transacts, pipes, keeps_moments, tells_errors, tells_fates, encrypts, installs)

@@ -1,0 +1,31 @@
+"""A driver of Bolt 4.4, 5.0 and 5.1: the proved client of libbolt.so keeps the protocol, this package has the socket and the values.
+
+    with bolt.connect("127.0.0.1", 7687, auth=("user", "pass")) as connection:
+        for record in connection.run("ROWS", n=3): print(record["i"])
+
+    known = bolt.until_known(lambda: bolt.connect("127.0.0.1", 7687, auth=("user", "pass")), lambda tx: tx.run("PUT", key="a", value=1))
+    assert known.stands
+
+If a connection breaks, `Broken` tells what became of each request that was asked since the last time all was settled: what it was told, else LOST
+(the server can't have committed by it) or UNKNOWN (it may have). Under a token a transaction may be sent again until it is known.
+
+An exception from elsewhere in the midst of a call, as KeyboardInterrupt or that of a signal handler, ends the connection, and `session.requests` has what
+became of each request; one that comes between two calls changes nothing. Once the connection is closed each has its outcome.
+"""
+from .connection import Connection, Deferred, Pipeline, Transaction, connect
+from .errors import (BAD_ANSWER, COMMITTED, DONE, FAILED, GONE, IGNORED, INTERRUPTED, LOST, NO_MEMORY, NO_VERSION, NOT_BOLT, OUTCOMES, REFUSED, TIMED_OUT, UNKNOWN,
+                     UNREACHED, BoltError, Broken, NotSent, Refused, Request)
+from .results import Record, Result, Summary
+from .retry import ABSENT, CLASH, OPEN, STANDS, Known, until_known
+from .session import Session
+from .values import (Date, DateTime, Duration, LocalDateTime, LocalTime, Node, Path, Point2D, Point3D, Relationship, Structure, Time, UnboundRelationship,
+                     ZonedLocal, ZonedUtc, pack, unpack)
+from .versions import NEWEST, V4_4, V5_0, V5_1
+
+__version__ = "1.0"
+__all__ = ["connect", "Connection", "Transaction", "Pipeline", "Deferred", "Result", "Record", "Summary", "until_known", "Known",
+           "STANDS", "CLASH", "OPEN", "ABSENT", "Session", "Request", "BoltError", "NotSent", "Refused", "Broken", "NEWEST", "V4_4", "V5_0", "V5_1",
+           "OUTCOMES", "DONE", "COMMITTED", "REFUSED", "IGNORED", "LOST", "UNKNOWN",
+           "NO_VERSION", "NOT_BOLT", "TIMED_OUT", "GONE", "FAILED", "UNREACHED", "BAD_ANSWER", "NO_MEMORY", "INTERRUPTED",
+           "Structure", "Node", "Relationship", "UnboundRelationship", "Path", "Date", "Time", "LocalTime", "LocalDateTime", "DateTime", "ZonedLocal", "ZonedUtc",
+           "Duration", "Point2D", "Point3D", "pack", "unpack"]

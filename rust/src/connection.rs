@@ -1,0 +1,335 @@
+//! A connection over any stream.
+
+use crate::error::{Error, Outcome, Request};
+use crate::ffi::{Client, CLOSED, FULL, HALTED, LOSSES, MEMORY, MESSAGE, ROW, SUMMARY, VERSION};
+use crate::value::{dict, put, Reading, Value};
+use std::io::{self, Read, Write};
+
+/// How a client logs in: its name, and who it is.
+#[derive(Clone, Debug)]
+pub struct Login {
+    pub agent: String,
+    pub principal: String,
+    pub credentials: String,
+}
+
+/// A query: its text and its parameters.
+#[derive(Clone, Debug)]
+pub struct Query {
+    pub text: String,
+    pub params: Value,
+}
+
+impl Query {
+    pub fn new<const N: usize>(text: &str, params: [(&str, Value); N]) -> Query {
+        Query { text: text.to_owned(), params: dict(params) }
+    }
+}
+
+/// The rows of a query, and the names of their columns.
+#[derive(Clone, Debug, PartialEq)]
+pub struct Answer {
+    pub fields: Vec<String>,
+    pub rows: Vec<Vec<Value>>,
+    /// That of the entry that was committed, if one was.
+    pub bookmark: Option<String>,
+}
+
+/// A session of a server over a stream. A stream's own times bound its reads and writes.
+///
+/// Requests are asked, and go out as one pipeline when they are settled. [`requests`](Connection::requests) are those asked since all was settled, each
+/// with what became of it, after each call, also one that failed.
+pub struct Connection<S> {
+    stream: S,
+    client: Client,
+    buffer: Vec<u8>,
+    requests: Vec<Request>,
+    first: u64,
+    is_settled: bool,
+    went_out: bool,
+    /// Why nothing more is sent.
+    cut: Option<io::Error>,
+}
+
+fn message(tag: u8, fields: Vec<Value>) -> Vec<u8> {
+    let mut out = Vec::new();
+    put(&mut out, &Value::Structure(tag, fields));
+    out
+}
+
+/// The entries of a BEGIN or a RUN beside its text.
+fn extra(write: bool, token: Option<&str>) -> Value {
+    let mut entries = Vec::new();
+    if !write {
+        entries.push(("mode".to_owned(), Value::from("r")));
+    }
+    if let Some(token) = token {
+        entries.push(("tx_metadata".to_owned(), dict([("token", Value::from(token))])));
+    }
+    Value::Dict(entries)
+}
+
+impl<S: Read + Write> Connection<S> {
+    /// Offers 5.1, 5.0 and 4.4 over a stream of which nothing was read or written yet, and logs in.
+    pub fn open(stream: S, login: &Login) -> Result<Connection<S>, Error> {
+        let client = Client::open(0).map_err(refusal)?;
+        let mut connection = Connection {
+            stream,
+            client,
+            buffer: vec![0; MESSAGE],
+            requests: Vec::new(),
+            first: 0,
+            is_settled: true,
+            went_out: false,
+            cut: None,
+        };
+        while connection.client.state().version == 0 {
+            connection.exchange()?;
+        }
+        let has_logon = connection.client.state().version >= 51;
+        let who = [("scheme", Value::from("basic")), ("principal", Value::from(login.principal.as_str())), ("credentials", Value::from(login.credentials.as_str()))];
+        let mut hello = vec![("user_agent".to_owned(), Value::from(login.agent.as_str()))];
+        if !has_logon {
+            hello.extend(who.clone().map(|(key, value)| (key.to_owned(), value)));
+        }
+        connection.ask("HELLO", 0x01, vec![Value::Dict(hello)])?;
+        if has_logon {
+            connection.ask("LOGON", 0x6A, vec![dict(who)])?;
+        }
+        connection.settle()?;
+        Ok(connection)
+    }
+
+    /// The stream, for who sets its times.
+    pub fn stream(&self) -> &S {
+        &self.stream
+    }
+
+    /// The requests that were asked since all was settled, in order, each with its outcome once it is known.
+    pub fn requests(&self) -> &[Request] {
+        &self.requests
+    }
+
+    /// Submits a request; it goes out when it is settled. Answers its place among the requests.
+    fn ask(&mut self, text: &str, tag: u8, fields: Vec<Value>) -> Result<usize, Error> {
+        let state = self.client.state();
+        if self.is_settled && state.has_ended == 0 {
+            self.requests.clear();
+            self.first = state.first;
+            self.is_settled = false;
+            self.went_out = false;
+        }
+        self.client.submit(&message(tag, fields)).map_err(|(code, told)| {
+            let rule: String = if told.rule == 0 { String::new() } else { [(told.rule >> 8) as u8 as char, told.rule as u8 as char].iter().collect() };
+            Error::NotSent { code, rule, place: told.place }
+        })?;
+        self.requests.push(Request { text: text.to_owned(), outcome: None, metadata: Value::Null, rows: Vec::new() });
+        Ok(self.requests.len() - 1)
+    }
+
+    /// A BEGIN, under the token if there is one.
+    pub fn ask_begin(&mut self, write: bool, token: Option<&str>) -> Result<usize, Error> {
+        self.ask("BEGIN", 0x11, vec![extra(write, token)])
+    }
+
+    /// A RUN and a PULL of all its rows, both or neither. Answers the place of the RUN; behind it stands the PULL.
+    pub fn ask_run(&mut self, query: &Query, write: bool, token: Option<&str>) -> Result<usize, Error> {
+        if self.client.state().pending as usize > LOSSES - 2 {
+            return Err(refusal(FULL));
+        }
+        let run = self.ask(&format!("RUN {}", query.text), 0x10, vec![Value::from(query.text.as_str()), query.params.clone(), extra(write, token)])?;
+        match self.ask(&format!("PULL of {}", query.text), 0x3F, vec![dict([("n", Value::Int(-1))])]) {
+            Ok(_) => Ok(run),
+            // (memory ran out between the two)
+            Err(_) => Err(self.lose("out of memory", None)),
+        }
+    }
+
+    pub fn ask_commit(&mut self) -> Result<usize, Error> {
+        self.ask("COMMIT", 0x12, Vec::new())
+    }
+
+    pub fn ask_rollback(&mut self) -> Result<usize, Error> {
+        self.ask("ROLLBACK", 0x13, Vec::new())
+    }
+
+    pub fn ask_reset(&mut self) -> Result<usize, Error> {
+        self.ask("RESET", 0x0F, Vec::new())
+    }
+
+    /// Sends all that waits. Where the stream takes no more, nothing more is sent, and what the server has said may still be heard.
+    fn send(&mut self) -> Result<(), Error> {
+        while self.cut.is_none() {
+            let count = match self.client.take(&mut self.buffer) {
+                Ok(count) => count,
+                Err(_) => return Err(self.lose("out of memory", None)),
+            };
+            if count == 0 {
+                self.cut = self.stream.flush().err();
+                break;
+            }
+            self.went_out = true;
+            self.cut = self.stream.write_all(&self.buffer[..count]).err();
+        }
+        Ok(())
+    }
+
+    /// The fields of the row or summary that was heard last.
+    fn heard(&mut self) -> Result<Vec<Value>, Error> {
+        match self.client.message(&mut self.buffer) {
+            Ok(length) => Ok(Reading(&self.buffer[..length]).structure().map_or(Vec::new(), |(_, fields)| fields)),
+            Err(_) => Err(self.lose("out of memory", None)),
+        }
+    }
+
+    /// Feeds a piece to the end of an item, and answers how many bytes were used: all behind the client's end, where nothing is heard.
+    fn hear(&mut self, piece: &[u8]) -> Result<usize, Error> {
+        let state = self.client.state();
+        let heard = match self.client.feed(piece) {
+            Ok(heard) => heard,
+            Err(CLOSED) => return Ok(piece.len()),
+            Err(MEMORY) => return Err(self.lose("out of memory", None)),
+            Err(_) if state.version == 0 => return Err(self.lose("not Bolt: the answer isn't a version that was offered", None)),
+            Err(_) => return Err(self.lose("the server sent what no server may", None)),
+        };
+        match heard.kind {
+            VERSION if heard.version == 0 => return Err(self.lose("the server took no version", None)),
+            ROW => {
+                let row = self.heard()?.into_iter().next();
+                let place = (state.first - self.first) as usize;
+                if let (Some(Value::List(cells)), Some(request)) = (row, self.requests.get_mut(place)) {
+                    request.rows.push(cells);
+                }
+            }
+            SUMMARY => {
+                let place = (heard.ordinal - self.first) as usize;
+                if let Some(request) = self.requests.get_mut(place) {
+                    request.outcome = Some(Outcome::of(u64::from(heard.outcome)));
+                }
+                let metadata = self.heard()?.into_iter().next();
+                if let (Some(metadata), Some(request)) = (metadata, self.requests.get_mut(place)) {
+                    request.metadata = metadata;
+                }
+            }
+            _ => {}
+        }
+        Ok(heard.used)
+    }
+
+    /// Sends what waits, and hears a piece of the server's bytes.
+    fn exchange(&mut self) -> Result<(), Error> {
+        self.send()?;
+        let mut piece = [0; 4096];
+        let (count, error) = match self.stream.read(&mut piece) {
+            Ok(count) => (count, None),
+            Err(error) if error.kind() == io::ErrorKind::Interrupted => return Ok(()),
+            Err(error) => (0, Some(error)),
+        };
+        if count == 0 {
+            let error = self.cut.take().or(error);
+            let why = match &error {
+                None => "the server closed the connection",
+                Some(error) if matches!(error.kind(), io::ErrorKind::TimedOut | io::ErrorKind::WouldBlock) => "time-out",
+                Some(_) => "the stream failed",
+            };
+            return Err(self.lose(why, error));
+        }
+        let mut rest = &piece[..count];
+        while !rest.is_empty() {
+            let used = self.hear(rest)?;
+            rest = &rest[used..];
+        }
+        Ok(())
+    }
+
+    /// Nothing is heard any more: what became of each request is known.
+    fn end(&mut self) {
+        for loss in self.client.lost() {
+            if let Some(request) = self.requests.get_mut(loss.ordinal.wrapping_sub(self.first) as usize) {
+                request.outcome = Some(Outcome::of(loss.outcome));
+            }
+        }
+        for request in &mut self.requests {
+            // (nothing was committed by what no byte of has gone out)
+            if request.outcome.is_none() || !self.went_out {
+                request.outcome = Some(Outcome::Lost);
+            }
+        }
+        self.is_settled = true;
+    }
+
+    fn lose(&mut self, why: &'static str, error: Option<io::Error>) -> Error {
+        self.end();
+        Error::Broken { why, error, requests: self.requests.clone() }
+    }
+
+    /// Sends what was asked, and hears all answers. The first FAILURE is an error, after a RESET where the session still ignores what it is asked.
+    pub fn settle(&mut self) -> Result<&[Request], Error> {
+        while self.client.state().awaits == 1 {
+            self.exchange()?;
+        }
+        let state = self.client.state();
+        if state.has_ended == 1 {
+            self.end();
+        }
+        let requests = self.requests.clone();
+        let refused = requests.iter().find(|it| it.outcome == Some(Outcome::Refused));
+        let Some(refused) = refused else {
+            self.is_settled = true;
+            if requests.iter().any(|it| matches!(it.outcome, Some(Outcome::Lost | Outcome::Unknown))) {
+                return Err(Error::Broken { why: "a summary ended the session", error: None, requests });
+            }
+            return Ok(&self.requests);
+        };
+        if state.has_ended == 0 && state.phase == HALTED {
+            self.ask_reset()?;
+            while self.client.state().awaits == 1 {
+                self.exchange()?;
+            }
+            self.requests.clone_from(&requests);
+        }
+        self.is_settled = true;
+        let told = |key| refused.metadata.get(key).and_then(Value::as_text).unwrap_or_default().to_owned();
+        Err(Error::Refused { code: told("code"), message: told("message"), requests: requests.clone() })
+    }
+
+    /// Runs a query and answers its rows: in the transaction that is open, or of its own, which is committed with its last row.
+    pub fn run(&mut self, query: &Query) -> Result<Answer, Error> {
+        let run = self.ask_run(query, true, None)?;
+        self.settle()?;
+        Ok(self.answer(run))
+    }
+
+    /// The rows of a query that was asked, by the place of its RUN.
+    pub fn answer(&self, run: usize) -> Answer {
+        let fields = match self.requests[run].metadata.get("fields") {
+            Some(Value::List(names)) => names.iter().filter_map(|it| it.as_text().map(str::to_owned)).collect(),
+            _ => Vec::new(),
+        };
+        let pull = &self.requests[run + 1];
+        Answer { fields, rows: pull.rows.clone(), bookmark: pull.metadata.get("bookmark").and_then(Value::as_text).map(str::to_owned) }
+    }
+
+    /// Runs queries in one transaction, as one pipeline, under a token if there is one. Answers the rows of each.
+    pub fn transact(&mut self, token: Option<&str>, queries: &[Query]) -> Result<Vec<Answer>, Error> {
+        self.ask_begin(true, token)?;
+        let mut runs = Vec::new();
+        for query in queries {
+            match self.ask_run(query, true, None) {
+                Ok(run) => runs.push(run),
+                // (nothing of it may go out)
+                Err(refused) => {
+                    self.end();
+                    return Err(refused);
+                }
+            }
+        }
+        self.ask_commit()?;
+        self.settle()?;
+        Ok(runs.into_iter().map(|run| self.answer(run)).collect())
+    }
+}
+
+fn refusal(code: u32) -> Error {
+    Error::NotSent { code, rule: String::new(), place: 0 }
+}

@@ -1,0 +1,84 @@
+//! What became of requests, and why they weren't all done.
+
+use crate::value::Value;
+use std::fmt;
+use std::io;
+
+/// What became of a request.
+#[derive(Clone, Copy, Debug, PartialEq, Eq)]
+pub enum Outcome {
+    /// SUCCESS, and there was nothing to commit.
+    Done,
+    /// SUCCESS, and what it commits stands.
+    Committed,
+    /// FAILURE.
+    Refused,
+    /// IGNORED: behind a failure, or before a RESET.
+    Ignored,
+    /// No summary came, and the server can't have committed by it.
+    Lost,
+    /// No summary came, and the server may have committed by it.
+    Unknown,
+}
+
+impl Outcome {
+    pub(crate) fn of(number: u64) -> Outcome {
+        match number {
+            0 => Outcome::Done,
+            1 => Outcome::Committed,
+            2 => Outcome::Refused,
+            3 => Outcome::Ignored,
+            4 => Outcome::Lost,
+            _ => Outcome::Unknown,
+        }
+    }
+}
+
+/// A request that was asked: what it is called, and once it is known its outcome, metadata and rows.
+#[derive(Clone, Debug, PartialEq)]
+pub struct Request {
+    pub text: String,
+    pub outcome: Option<Outcome>,
+    pub metadata: Value,
+    pub rows: Vec<Vec<Value>>,
+}
+
+/// Why requests weren't all done.
+#[derive(Debug)]
+pub enum Error {
+    /// A call was refused, and nothing has changed. The code is that of bolt.h; the rule is the one that the message breaks, as `M5`, and behind it where.
+    NotSent { code: u32, rule: String, place: u64 },
+    /// The server's FAILURE. The session goes on if it lives on; a transaction that was open is gone.
+    Refused { code: String, message: String, requests: Vec<Request> },
+    /// The connection broke, or was given up: why, the stream's own error if there is one, and what became of each request.
+    Broken { why: &'static str, error: Option<io::Error>, requests: Vec<Request> },
+}
+
+impl Error {
+    /// The requests that were asked since all was settled, in order, each with its outcome.
+    pub fn requests(&self) -> &[Request] {
+        match self {
+            Error::NotSent { .. } => &[],
+            Error::Refused { requests, .. } | Error::Broken { requests, .. } => requests,
+        }
+    }
+
+    /// Whether one of them may have been committed, though that isn't known.
+    pub fn is_unknown(&self) -> bool {
+        self.requests().iter().any(|it| it.outcome == Some(Outcome::Unknown))
+    }
+}
+
+impl fmt::Display for Error {
+    fn fmt(&self, f: &mut fmt::Formatter<'_>) -> fmt::Result {
+        match self {
+            Error::NotSent { code, rule, place } if !rule.is_empty() => write!(f, "not sent ({code}): {rule} at {place}"),
+            Error::NotSent { code, .. } => write!(f, "not sent ({code})"),
+            Error::Refused { code, message, .. } => write!(f, "{code}: {message}"),
+            Error::Broken { why, error: Some(error), .. } => write!(f, "{why}: {error}"),
+            Error::Broken { why, .. } => write!(f, "{why}"),
+        }
+    }
+}
+
+impl std::error::Error for Error {}

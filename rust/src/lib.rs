@@ -1,0 +1,26 @@
+//! A driver of Bolt 4.4, 5.0 and 5.1 over the proved client of libbolt.a, for any stream, with the standard library alone.
+//!
+//! ```no_run
+//! use bolt::{until_known, Connection, Login, Query};
+//! use std::net::TcpStream;
+//!
+//! let login = Login { agent: "example/1".into(), principal: "user".into(), credentials: "pass".into() };
+//! let put = Query::new("PUT", [("key", "a".into()), ("value", 1.into())]);
+//! let fate = until_known(|| TcpStream::connect("127.0.0.1:7687").ok(), &login, "my-token", &[put], 5);
+//! println!("{fate:?}");
+//! let mut connection = Connection::open(TcpStream::connect("127.0.0.1:7687").unwrap(), &login).unwrap();
+//! for row in connection.run(&Query::new("GET", [("key", "a".into())])).unwrap().rows {
+//!     println!("{row:?}");
+//! }
+//! ```
+
+mod connection;
+mod error;
+mod ffi;
+mod retry;
+mod value;
+
+pub use connection::{Answer, Connection, Login, Query};
+pub use error::{Error, Outcome, Request};
+pub use retry::{until_known, Fate};
+pub use value::{dict, Value};

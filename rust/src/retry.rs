@@ -1,0 +1,46 @@
+//! A transaction that is sent under its token until it is known what became of it.
+
+use crate::connection::{Connection, Login, Query};
+use crate::error::{Error, Outcome};
+use std::io::{Read, Write};
+
+/// What is known of a transaction under a token.
+#[derive(Clone, Copy, Debug, PartialEq, Eq)]
+pub enum Fate {
+    /// It is committed, once.
+    Stands,
+    /// Other writes stand under the token.
+    Clash,
+    /// The server refuses it, and nothing of it stands.
+    Refused,
+    /// The tries are used up, and it may stand.
+    Open,
+    /// The tries are used up, and nothing of it stands.
+    Absent,
+}
+
+const CLASH: &str = "Neo.ClientError.Transaction.TokenClash";
+const FINAL: &str = "Neo.ClientError.";
+
+/// Sends queries as one transaction under a token, each time over a stream of its own, until it is known what became of it, and `tries` times at most.
+/// `connect` opens the streams, waits between two tries as it likes, and answers None where it has none.
+pub fn until_known<S: Read + Write>(mut connect: impl FnMut() -> Option<S>, login: &Login, token: &str, queries: &[Query], tries: u32) -> Fate {
+    let mut is_doubtful = false;
+    for _ in 0..tries {
+        let Some(stream) = connect() else { continue };
+        let told = Connection::open(stream, login).and_then(|mut connection| connection.transact(Some(token), queries));
+        match told {
+            Ok(_) => return Fate::Stands,
+            Err(Error::Refused { code, .. }) if code == CLASH => return Fate::Clash,
+            Err(Error::Refused { code, requests, .. }) => {
+                if requests.iter().any(|it| it.outcome == Some(Outcome::Unknown)) {
+                    is_doubtful = true;
+                } else if code.starts_with(FINAL) && !is_doubtful {
+                    return Fate::Refused;
+                }
+            }
+            Err(error) => is_doubtful |= error.is_unknown(),
+        }
+    }
+    if is_doubtful { Fate::Open } else { Fate::Absent }
+}

@@ -1,0 +1,230 @@
+//! Values of PackStream.
+
+/// A value. A structure is its tag and its fields, as docs/PROFILE.md has them.
+#[derive(Clone, Debug, PartialEq)]
+pub enum Value {
+    Null,
+    Bool(bool),
+    Int(i64),
+    Float(f64),
+    Bytes(Vec<u8>),
+    Text(String),
+    List(Vec<Value>),
+    Dict(Vec<(String, Value)>),
+    Structure(u8, Vec<Value>),
+}
+
+impl Value {
+    pub fn as_int(&self) -> Option<i64> {
+        if let Value::Int(it) = self { Some(*it) } else { None }
+    }
+
+    pub fn as_text(&self) -> Option<&str> {
+        if let Value::Text(it) = self { Some(it) } else { None }
+    }
+
+    pub fn as_bool(&self) -> Option<bool> {
+        if let Value::Bool(it) = self { Some(*it) } else { None }
+    }
+
+    /// The value under a key of a dictionary.
+    pub fn get(&self, key: &str) -> Option<&Value> {
+        let Value::Dict(entries) = self else { return None };
+        entries.iter().find(|(name, _)| name == key).map(|(_, value)| value)
+    }
+}
+
+impl From<i32> for Value {
+    fn from(it: i32) -> Value {
+        Value::Int(it.into())
+    }
+}
+
+impl From<i64> for Value {
+    fn from(it: i64) -> Value {
+        Value::Int(it)
+    }
+}
+
+impl From<bool> for Value {
+    fn from(it: bool) -> Value {
+        Value::Bool(it)
+    }
+}
+
+impl From<f64> for Value {
+    fn from(it: f64) -> Value {
+        Value::Float(it)
+    }
+}
+
+impl From<&str> for Value {
+    fn from(it: &str) -> Value {
+        Value::Text(it.to_owned())
+    }
+}
+
+impl From<String> for Value {
+    fn from(it: String) -> Value {
+        Value::Text(it)
+    }
+}
+
+impl From<Vec<Value>> for Value {
+    fn from(it: Vec<Value>) -> Value {
+        Value::List(it)
+    }
+}
+
+/// A dictionary of these entries.
+pub fn dict<const N: usize>(entries: [(&str, Value); N]) -> Value {
+    Value::Dict(entries.into_iter().map(|(key, value)| (key.to_owned(), value)).collect())
+}
+
+fn put_sized(out: &mut Vec<u8>, length: usize, tiny: Option<u8>, first: u8) {
+    match (tiny, length) {
+        (Some(tiny), 0..=15) => out.push(tiny | length as u8),
+        (_, 0..=0xFF) => out.extend([first, length as u8]),
+        (_, 0x100..=0xFFFF) => {
+            out.push(first + 1);
+            out.extend((length as u16).to_be_bytes());
+        }
+        _ => {
+            out.push(first + 2);
+            out.extend((length as u32).to_be_bytes());
+        }
+    }
+}
+
+fn put_int(out: &mut Vec<u8>, it: i64) {
+    if (-16..128).contains(&it) {
+        out.push(it as u8);
+    } else if let Ok(it) = i8::try_from(it) {
+        out.extend([0xC8, it as u8]);
+    } else if let Ok(it) = i16::try_from(it) {
+        out.push(0xC9);
+        out.extend(it.to_be_bytes());
+    } else if let Ok(it) = i32::try_from(it) {
+        out.push(0xCA);
+        out.extend(it.to_be_bytes());
+    } else {
+        out.push(0xCB);
+        out.extend(it.to_be_bytes());
+    }
+}
+
+/// Appends the bytes of a value. Of a length past 32 bits, or a structure of more than 15 fields, they are no value, and the library refuses them.
+pub(crate) fn put(out: &mut Vec<u8>, value: &Value) {
+    match value {
+        Value::Null => out.push(0xC0),
+        Value::Bool(it) => out.push(if *it { 0xC3 } else { 0xC2 }),
+        Value::Int(it) => put_int(out, *it),
+        Value::Float(it) => {
+            out.push(0xC1);
+            out.extend(it.to_be_bytes());
+        }
+        Value::Bytes(it) => {
+            put_sized(out, it.len(), None, 0xCC);
+            out.extend(it);
+        }
+        Value::Text(it) => {
+            put_sized(out, it.len(), Some(0x80), 0xD0);
+            out.extend(it.as_bytes());
+        }
+        Value::List(members) => {
+            put_sized(out, members.len(), Some(0x90), 0xD4);
+            members.iter().for_each(|it| put(out, it));
+        }
+        Value::Dict(entries) => {
+            put_sized(out, entries.len(), Some(0xA0), 0xD8);
+            for (key, it) in entries {
+                put_sized(out, key.len(), Some(0x80), 0xD0);
+                out.extend(key.as_bytes());
+                put(out, it);
+            }
+        }
+        Value::Structure(tag, fields) => {
+            out.extend([0xB0 | fields.len().min(15) as u8, *tag]);
+            fields.iter().for_each(|it| put(out, it));
+        }
+    }
+}
+
+/// Reads values from the front of bytes; None where they spell none.
+pub(crate) struct Reading<'a>(pub &'a [u8]);
+
+impl<'a> Reading<'a> {
+    fn bytes(&mut self, count: usize) -> Option<&'a [u8]> {
+        let (front, rest) = self.0.split_at_checked(count)?;
+        self.0 = rest;
+        Some(front)
+    }
+
+    fn number(&mut self, width: usize) -> Option<u64> {
+        Some(self.bytes(width)?.iter().fold(0, |sum, it| sum << 8 | u64::from(*it)))
+    }
+
+    fn signed(&mut self, width: usize) -> Option<i64> {
+        let shift = 64 - 8 * width as u32;
+        Some((self.number(width)? << shift) as i64 >> shift)
+    }
+
+    fn text(&mut self, length: u64) -> Option<String> {
+        String::from_utf8(self.bytes(usize::try_from(length).ok()?)?.to_vec()).ok()
+    }
+
+    fn list(&mut self, count: u64) -> Option<Vec<Value>> {
+        (0..count).map(|_| self.value()).collect()
+    }
+
+    fn dict(&mut self, count: u64) -> Option<Vec<(String, Value)>> {
+        (0..count).map(|_| Some((self.value()?.as_text()?.to_owned(), self.value()?))).collect()
+    }
+
+    pub fn structure(&mut self) -> Option<(u8, Vec<Value>)> {
+        let marker = self.number(1)?;
+        if marker >> 4 != 0xB {
+            return None;
+        }
+        let tag = self.number(1)? as u8;
+        Some((tag, self.list(marker & 15)?))
+    }
+
+    pub fn value(&mut self) -> Option<Value> {
+        let marker = *self.0.first()?;
+        if marker >> 4 == 0xB {
+            let (tag, fields) = self.structure()?;
+            return Some(Value::Structure(tag, fields));
+        }
+        self.0 = &self.0[1..];
+        let tiny = u64::from(marker & 15);
+        Some(match marker {
+            0x00..=0x7F => Value::Int(i64::from(marker)),
+            0xF0..=0xFF => Value::Int(i64::from(marker as i8)),
+            0x80..=0x8F => Value::Text(self.text(tiny)?),
+            0x90..=0x9F => Value::List(self.list(tiny)?),
+            0xA0..=0xAF => Value::Dict(self.dict(tiny)?),
+            0xC0 => Value::Null,
+            0xC1 => Value::Float(f64::from_bits(self.number(8)?)),
+            0xC2 | 0xC3 => Value::Bool(marker == 0xC3),
+            0xC8..=0xCB => Value::Int(self.signed(1 << (marker - 0xC8))?),
+            0xCC..=0xCE => {
+                let length = self.number(1 << (marker - 0xCC))?;
+                Value::Bytes(self.bytes(usize::try_from(length).ok()?)?.to_vec())
+            }
+            0xD0..=0xD2 => {
+                let length = self.number(1 << (marker - 0xD0))?;
+                Value::Text(self.text(length)?)
+            }
+            0xD4..=0xD6 => {
+                let count = self.number(1 << (marker - 0xD4))?;
+                Value::List(self.list(count)?)
+            }
+            0xD8..=0xDA => {
+                let count = self.number(1 << (marker - 0xD8))?;
+                Value::Dict(self.dict(count)?)
+            }
+            _ => return None,
+        })
+    }
+}

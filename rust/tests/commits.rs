@@ -1,0 +1,149 @@
+//! A transaction and one that is sent until it is known, through cuts at each byte, against the server at the port of BOLT_PORT, which `bench/languages` starts. It
+//! has one client at a time: run with `--test-threads=1`.
+
+use bolt::{until_known, Connection, Error, Fate, Login, Outcome, Query, Value};
+use std::io::{self, Read, Write};
+use std::net::TcpStream;
+use std::time::Duration;
+
+fn login() -> Login {
+    Login { agent: "test/1".into(), principal: "user".into(), credentials: "pass".into() }
+}
+
+/// A stream that ends after so many bytes each way, and counts them.
+struct Cut {
+    stream: TcpStream,
+    told: usize,
+    asked: usize,
+}
+
+impl Read for Cut {
+    fn read(&mut self, into: &mut [u8]) -> io::Result<usize> {
+        let room = into.len().min(self.told);
+        let count = if room == 0 { 0 } else { self.stream.read(&mut into[..room])? };
+        self.told -= count;
+        Ok(count)
+    }
+}
+
+impl Write for Cut {
+    fn write(&mut self, bytes: &[u8]) -> io::Result<usize> {
+        if self.asked == 0 {
+            // (who cuts the line closes it, so that nobody waits for an answer)
+            let _closed = self.stream.shutdown(std::net::Shutdown::Write);
+            return Err(io::ErrorKind::BrokenPipe.into());
+        }
+        let count = self.stream.write(&bytes[..bytes.len().min(self.asked)])?;
+        self.asked -= count;
+        Ok(count)
+    }
+
+    fn flush(&mut self) -> io::Result<()> {
+        Ok(())
+    }
+}
+
+const WHOLE: usize = 1 << 40;
+
+fn connect(told: usize, asked: usize) -> Option<Cut> {
+    let port: u16 = std::env::var("BOLT_PORT").ok()?.parse().ok()?;
+    let stream = TcpStream::connect(("127.0.0.1", port)).ok()?;
+    stream.set_read_timeout(Some(Duration::from_secs(10))).ok()?;
+    stream.set_nodelay(true).ok()?;
+    Some(Cut { stream, told, asked })
+}
+
+fn put(key: &str) -> Query {
+    Query::new("PUT", [("key", key.into()), ("value", 1.into())])
+}
+
+fn open() -> Connection<Cut> {
+    Connection::open(connect(WHOLE, WHOLE).unwrap(), &login()).unwrap()
+}
+
+fn stands(key: &str) -> bool {
+    let answer = open().run(&Query::new("GET", [("key", key.into())])).unwrap();
+    answer.rows == [[Value::Int(1)]]
+}
+
+/// How many bytes of each way a transaction takes.
+fn passed() -> (usize, usize) {
+    let mut connection = Connection::open(connect(WHOLE, WHOLE).unwrap(), &login()).unwrap();
+    connection.transact(None, &[put("rust whole")]).unwrap();
+    (WHOLE - connection.stream().told, WHOLE - connection.stream().asked)
+}
+
+#[test]
+fn each_cut_is_told_rightly() {
+    let (told, asked) = passed();
+    let cuts = (0..=told).map(|at| (at, WHOLE, format!("rust t{at}"))).chain((0..=asked).map(|at| (WHOLE, at, format!("rust a{at}"))));
+    let mut unknown = [false, false];
+    for (told, asked, key) in cuts {
+        let said = Connection::open(connect(told, asked).unwrap(), &login()).and_then(|mut it| it.transact(None, &[put(&key)]));
+        let outcome = match &said {
+            Ok(_) => Some(Outcome::Committed),
+            Err(Error::Broken { requests, .. }) => requests.iter().find(|it| it.text == "COMMIT").and_then(|it| it.outcome),
+            Err(error) => panic!("{key}: {error}"),
+        };
+        let there = stands(&key);
+        match outcome {
+            Some(Outcome::Committed) => assert!(there, "{key}"),
+            Some(Outcome::Unknown) => unknown[usize::from(there)] = true,
+            None | Some(Outcome::Lost) => assert!(!there, "{key}"),
+            Some(other) => panic!("{key}: {other:?}"),
+        }
+    }
+    assert_eq!(unknown, [true, true]);
+}
+
+#[test]
+fn it_is_sent_until_it_is_known() {
+    let (told, asked) = passed();
+    for (told, asked) in (0..=told).map(|at| (at, WHOLE)).chain((0..=asked).map(|at| (WHOLE, at))) {
+        let key = format!("rust until {told} {asked}");
+        let mut tried = 0;
+        let fate = until_known(
+            || {
+                tried += 1;
+                if tried == 1 { connect(told, asked) } else { connect(WHOLE, WHOLE) }
+            },
+            &login(),
+            &key,
+            &[put(&key)],
+            3,
+        );
+        assert_eq!((fate, stands(&key)), (Fate::Stands, true), "{key}");
+    }
+}
+
+#[test]
+fn what_is_refused_is_told() {
+    let mut connection = open();
+    let refused = connection.run(&Query::new("NOPE", []));
+    assert!(matches!(refused, Err(Error::Refused { ref code, .. }) if code == "Neo.ClientError.Statement.UnknownText"));
+    let unsent = connection.run(&Query::new("ECHO", [("x", Value::Structure(0x44, vec!["no".into()]))]));
+    assert!(matches!(unsent, Err(Error::NotSent { ref rule, place: 0, .. }) if rule == "S3"));
+    let answer = connection.run(&Query::new("ROWS", [("n", 3.into())])).unwrap();
+    assert_eq!((answer.fields.as_slice(), answer.rows.len()), (["i".to_owned()].as_slice(), 3));
+    assert!(answer.bookmark.is_some());
+    // (the server has one client at a time)
+    drop(connection);
+    assert_eq!(until_known(|| connect(WHOLE, WHOLE), &login(), "rust clash", &[put("rust clash")], 3), Fate::Stands);
+    assert_eq!(until_known(|| connect(WHOLE, WHOLE), &login(), "rust clash", &[put("rust other")], 3), Fate::Clash);
+    assert_eq!(until_known(|| connect(WHOLE, WHOLE), &login(), "rust no", &[Query::new("NOPE", [])], 3), Fate::Refused);
+    assert_eq!(until_known(|| None::<Cut>, &login(), "rust none", &[], 3), Fate::Absent);
+    assert_eq!(until_known(|| connect(100, WHOLE), &login(), "rust open", &[put("rust open")], 2), Fate::Open);
+}
+
+#[test]
+fn values_come_back() {
+    let ints = [0, -16, -17, 127, 128, -128, -129, 32_767, 32_768, i64::from(i32::MIN), i64::from(i32::MAX) + 1, i64::MIN, i64::MAX];
+    let mut values: Vec<Value> = ints.map(Value::Int).into();
+    values.extend([Value::Null, true.into(), 2.5.into(), "zürich".into(), "x".repeat(300).into(), Value::Bytes(vec![0, 1]), Value::Bytes(vec![7; 300])]);
+    values.extend([vec![Value::Int(0); 40].into(), bolt::dict([("a", vec![1.into(), bolt::dict([("b", Value::Null)])].into())]), Value::Structure(0x44, vec![1.into()])]);
+    let mut connection = open();
+    for value in values {
+        let answer = connection.run(&Query::new("ECHO", [("x", value.clone())])).unwrap();
+        assert_eq!(answer.rows, [[value]]);
+    }
+}
