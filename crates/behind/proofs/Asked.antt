@@ -25,7 +25,7 @@ use Rattle.world.proofs.Headline.{reached_inv}
 use Rattle.world.proofs.Served.{unseen}
 use Rattle.behind.specs.Prelude.{Moment, asks, client_calls, run_of, IsFront, IsLinked}
 use Rattle.behind.proofs.Pieces.{front_length, front_trans, front_none, front_next, takes_front}
-use Rattle.behind.proofs.Histories.{peer_by, Meets, Side, At, AtMoments, Stands, server_still, gave_still, at_other, at_own, took_in, gave_in, said_in, run_more, summaries_among}
+use Rattle.behind.proofs.Histories.{peer_by, Meets, Side, At, AtMoments, Stands, server_still, gave_still, at_other, at_own, took_in, gave_in, said_in, run_more, answers_among}
 
 -- a client that has taken nothing accepts nothing, since it knows no version
 quiet_sent : (wish : Wish) (c : ℕ) (ms : List Moment) (x : ClientCall) → (run_of wish c ms).sent ≡ [] → (run_of wish c ms).took ≡ [] → (called (run_of wish c ms) x).sent ≡ []
@@ -171,7 +171,7 @@ module _ {G : Type 0} (answer : Definition) (accepts : G → List ℕ → List �
         joined = b ∙ f.joined;
         taken = d ∙ f.taken;
         given = record { count = f.given.count; is = f.given.is ∙ ap (take f.given.count) (sym e); most = subst (λ t. f.given.count ≤ t) (sym g) f.given.most; all = λ alive. f.given.all (sym h ∙ alive) ∙ sym g };
-        told = ap summaries_among i ∙ f.told;
+        told = ap answers_among i ∙ f.told;
         side = side_then k2 m;
       }
 

@@ -7,7 +7,7 @@ use Rattle.std.proofs.Math.Seq.{take-add}
 use Rattle.wire.specs.declared.Wish.{Wish}
 use Rattle.messages.specs.Prelude.{Arrival, Shook}
 use Rattle.engine.specs.Prelude.{EntryView}
-use Rattle.session.specs.Prelude.{Setting, Done, Wrote, work_kept}
+use Rattle.session.specs.Prelude.{Setting, Done, WroteRow, Wrote, work_kept}
 use Rattle.server.specs.declared.Took.{Took}
 use Rattle.server.specs.Prelude.{Rest, Live, is_full, find, setting, feed_at, work_at, take_out_at, Event as Call, opens, feeds, works, takes, noops, loses, after_call, after_event, used_of, took_by, fed_live, taken_from, noop_put, with_session, after_step}
 use Rattle.lines.specs.Prelude.{out_of, gave_by}
@@ -23,12 +23,12 @@ use Rattle.world.proofs.Kept.{tells}
 use Rattle.world.proofs.Clients.{knows_if}
 use Rattle.world.proofs.Headline.{reached_inv, all_good}
 use Rattle.world.proofs.Served.{find_at, alike, feed_served, work_served, noop_served, take_served, lost_served, open_served}
-use Rattle.behind.specs.Prelude.{Moment, serves, client_calls, run_of, step_summary, call_summary, summary_by, counted_if, IsFront, IsLinked}
+use Rattle.behind.specs.Prelude.{Moment, serves, client_calls, run_of, step_said, call_said, counted_if, IsFront, IsLinked}
 use Rattle.behind.proofs.Pieces.{front_next, front_trans, feed_front}
 use Rattle.behind.proofs.Places.{IsGone, idle_call, idle_loss, push_cases}
 use Rattle.behind.proofs.Replayed.{same_count}
 use Rattle.behind.proofs.Ended.{all_out}
-use Rattle.behind.proofs.Histories.{summaries_among, peer_by, IsOut, Meets, Side, Facts, Unopened, OnConn, IsSilent, silent_other, silent_gone, AtMoments, Stands, server_then, took_then, run_then, at_then, at_still}
+use Rattle.behind.proofs.Histories.{answers_among, peer_by, IsOut, Meets, Side, Facts, Unopened, OnConn, IsSilent, silent_other, silent_gone, AtMoments, Stands, server_then, took_then, run_then, at_then, at_still}
 
 -- what a session says changes nothing of what was taken out before
 front_in_two : (xs : List ℕ) (down taken : ℕ) → down ≤ taken → take taken xs ≡ take down xs ++ take (taken - down) (drop down xs)
@@ -58,12 +58,13 @@ speaks_side p same (Some wish) run h = record { lives = same.lost ∙ h.lives; s
 speaks_joined : {k : Connection} {x : Effect} → Speaks k x → x.conn.cut ≡ k.cut
 speaks_joined (says t xs up commit seen may a b) = refl
 
--- the summaries that were said then
-told_work : (d : Done) (xs : List Said) → summaries_among (said_by d ++ xs) ≡ summary_by d ++ summaries_among xs
+-- the rows and summaries that were said then
+told_work : (d : Done) (xs : List Said) → answers_among (said_by d ++ xs) ≡ said_by d ++ answers_among xs
+told_work (WroteRow row) xs = refl
 told_work (Wrote x) xs = refl
 told_work _ xs = refl
 
-told_item : (o : Option Arrival) (xs : List Said) → summaries_among (said_to o ++ xs) ≡ summaries_among xs
+told_item : (o : Option Arrival) (xs : List Said) → answers_among (said_to o ++ xs) ≡ answers_among xs
 told_item (Some (Shook v)) xs = refl
 told_item _ xs = refl
 
@@ -79,7 +80,7 @@ ended_alone _ _ _ _ x y z h = cc
 
 -- Facts of a connection after an effect, by what it adds.
 spoken_facts : {k : Connection} {x : Effect} → Sound k → Speaks k x → (o : Option Wish) (run : Wish → Run) (up out more : List ℕ) (said new : List Said) → Facts o run up out said k
-    → x.conn.up ≡ k.up ++ more → summaries_among x.conn.says ≡ new ++ summaries_among k.says → Facts o run (up ++ more) (out ++ []) (new ++ said) x.conn
+    → x.conn.up ≡ k.up ++ more → answers_among x.conn.says ≡ new ++ answers_among k.says → Facts o run (up ++ more) (out ++ []) (new ++ said) x.conn
 spoken_facts {k = k} s p o run up out more said new f u t =
     let same = speaks_alike k s p in
     record {
@@ -214,13 +215,13 @@ module _ {G : Type 0} (answer : Definition) (accepts : G → List ℕ → List �
         working counts =
             let x = work S c (ledger w) k in let served = work_served G gate w c k here alive s answer accepts in
             let d = work_kept S c (ledger w) (kept_of k) k.ended in
-            let wrote : call_summary answer accepts c (works c) r ≡ summary_by d.answer = cond-true (c == c) _ _ (eq-eqb c c refl) ∙ ap (λ (o : Option Live). step_summary answer accepts o r) found in
+            let wrote : call_said answer accepts c (works c) r ≡ said_by d.answer = cond-true (c == c) _ _ (eq-eqb c c refl) ∙ ap (λ (o : Option Live). step_said answer accepts o r) found in
             record {
               effect = x;
               reached = goes_on w (after_effect w c k x) (Work c) x.seen st.reached (record { steps = acts (Work c) x (either (Work c) x refl (λ _. refl)); made = tt; counted = subst counted_if served counts });
               server = ap (λ o. after_call o r) (sym served);
               at = at_then answer accepts gate ours brought ms w st.server (works c) c (Some x.conn)
-                  (spoken_facts s (work_speaks S c (ledger w) k) (ours c) _ _ _ [] _ (call_summary answer accepts c (works c) r) f (sym (append-nil k.up)) (told_work d.answer k.says ∙ ap (λ z. z ++ summaries_among k.says) (sym wrote)));
+                  (spoken_facts s (work_speaks S c (ledger w) k) (ours c) _ _ _ [] _ (call_said answer accepts c (works c) r) f (sym (append-nil k.up)) (told_work d.answer k.says ∙ ap (λ z. z ++ answers_among k.says) (sym wrote)));
             }
 
         putting : Does (noops c)
@@ -231,7 +232,7 @@ module _ {G : Type 0} (answer : Definition) (accepts : G → List ℕ → List �
               reached = goes_on w (after_effect w c k x) (PutsNoop c) x.seen st.reached (record { steps = acts (PutsNoop c) x (either (PutsNoop c) x refl (λ _. refl)); made = tt; counted = tt });
               server = ap (λ o. after_call o r) (sym served);
               at = at_then answer accepts gate ours brought ms w st.server (noops c) c (Some x.conn)
-                  (spoken_facts s (noop_speaks k) (ours c) _ _ _ [] _ [] f (sym (append-nil k.up)) (noop_case (λ y. summaries_among y.conn.says ≡ summaries_among k.says) k refl (λ _ _. refl)));
+                  (spoken_facts s (noop_speaks k) (ours c) _ _ _ [] _ [] f (sym (append-nil k.up)) (noop_case (λ y. answers_among y.conn.says ≡ answers_among k.says) k refl (λ _ _. refl)));
             }
 
         losing : Does (loses c)
@@ -342,7 +343,7 @@ module _ {G : Type 0} (answer : Definition) (accepts : G → List ℕ → List �
             let took_is : took_by c (feeds c piece) r ≡ take took.used piece = cond-true (c == c) _ _ (eq-eqb c c refl) ∙ ap (used_of piece) served in
             at_then answer accepts gate ours brought ms w st.server (feeds c piece) c (Some (feed p k).conn)
             (spoken_facts s (feed_speaks k s p) (ours c) _ _ _ (took_by c (feeds c piece) r) _ [] f (up ∙ ap (λ z. k.up ++ z) (sym took_is))
-            (feed_case (λ y. summaries_among y.conn.says ≡ summaries_among k.says) p k (λ what. refl) (λ _ _ _. told_item _ k.says)))
+            (feed_case (λ y. answers_among y.conn.says ≡ answers_among k.says) p k (λ what. refl) (λ _ _ _. told_item _ k.says)))
 
         up_more : (p : List ℕ) → (feed p k).conn.up ≡ k.up ++ take (used_seen (feed p k).seen) p
         up_more p = feed_case (λ y. y.conn.up ≡ k.up ++ take (used_seen y.seen) p) p k (λ what. sym (append-nil k.up)) (λ _ _ _. refl)

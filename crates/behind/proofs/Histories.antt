@@ -8,15 +8,16 @@ use Rattle.lines.specs.Prelude.{out_of, gave_by, bytes_given}
 use Rattle.lines.proofs.Moved.{after_both, taken_both, given_both}
 use Rattle.client.specs.Prelude.{Call as ClientCall, Run, starts, call as called, calls}
 use Rattle.session.specs.Prelude.{Setting}
-use Rattle.world.specs.Prelude.{Peer, Ours, Foreign, Connection, Said, SaysSummary, output, bytes_delivered, World, Reached, server_rest, Definition, setting_of}
-use Rattle.behind.specs.Prelude.{Moment, serves, asks, server_calls, client_calls, run_of, step_summary, call_summary, summaries}
+use Rattle.world.specs.Prelude.{Peer, Ours, Foreign, Connection, Said, SaysRow, SaysSummary, output, bytes_delivered, World, Reached, server_rest, Definition, setting_of}
+use Rattle.behind.specs.Prelude.{Moment, serves, asks, server_calls, client_calls, run_of, step_said, call_said, all_said}
 use Rattle.behind.proofs.Places.{IsGone, found_none}
 
--- the summaries among what was said
-abbrev pub summaries_among : List Said → List Said
-summaries_among [] = []
-summaries_among (SaysSummary x ∷ xs) = SaysSummary x ∷ summaries_among xs
-summaries_among (_ ∷ xs) = summaries_among xs
+-- the rows and summaries among what was said
+abbrev pub answers_among : List Said → List Said
+answers_among [] = []
+answers_among (SaysRow row ∷ xs) = SaysRow row ∷ answers_among xs
+answers_among (SaysSummary x ∷ xs) = SaysSummary x ∷ answers_among xs
+answers_among (_ ∷ xs) = answers_among xs
 
 abbrev pub peer_by : Option Wish → Peer
 peer_by None = Foreign
@@ -39,14 +40,14 @@ abbrev pub Side : Option Wish → (Wish → Run) → Connection → Type 0
 Side None run k = k.server_lost ≡ false → k.down ≡ k.taken
 Side (Some wish) run k = Meets (run wish) k
 
--- What is so of a connection, by its peer, by its client, by the bytes that its session took and that came out of it, and by the summaries
--- that it wrote.
+-- What is so of a connection, by its peer, by its client, by the bytes that its session took and that came out of it, and by the rows
+-- and summaries that it said.
 pub record Facts (o : Option Wish) (run : Wish → Run) (up out : List ℕ) (said : List Said) (k : Connection) : Type 0 where
   pub peer : k.peer ≡ peer_by o
   pub joined : k.cut ≡ false
   pub taken : k.up ≡ up
   pub given : IsOut k out
-  pub told : summaries_among k.says ≡ said
+  pub told : answers_among k.says ≡ said
   pub side : Side o run k
 
 -- and of a number that wasn't opened
@@ -111,18 +112,18 @@ OnConn conn (noops c) = c ≡ conn
 OnConn conn (loses c) = c ≡ conn
 
 module _ {G : Type 0} (answer : Definition) (accepts : G → List ℕ → List ℕ → Bool) where
-  summaries_both : (conn : ℕ) (es : List Call) (e : Call) (r : Rest G) → summaries answer accepts conn (es ++ e ∷ []) r ≡ call_summary answer accepts conn e (after_events answer accepts es r) ++ summaries answer accepts conn es r
-  summaries_both conn [] e r = sym (append-nil (call_summary answer accepts conn e r))
-  summaries_both conn (d ∷ es) e r =
+  said_both : (conn : ℕ) (es : List Call) (e : Call) (r : Rest G) → all_said answer accepts conn (es ++ e ∷ []) r ≡ call_said answer accepts conn e (after_events answer accepts es r) ++ all_said answer accepts conn es r
+  said_both conn [] e r = sym (append-nil (call_said answer accepts conn e r))
+  said_both conn (d ∷ es) e r =
       let r2 = after_event answer accepts d r in
-      ap (λ z. z ++ call_summary answer accepts conn d r) (summaries_both conn es e r2)
-      ∙ append_assoc (call_summary answer accepts conn e (after_events answer accepts es r2)) (summaries answer accepts conn es r2) (call_summary answer accepts conn d r)
+      ap (λ z. z ++ call_said answer accepts conn d r) (said_both conn es e r2)
+      ∙ append_assoc (call_said answer accepts conn e (after_events answer accepts es r2)) (all_said answer accepts conn es r2) (call_said answer accepts conn d r)
 
   -- a call adds nothing to what is told of a connection
   pub record IsSilent (e : Call) (r : Rest G) (conn : ℕ) : Type 0 where
     pub took : took_by conn e r ≡ []
     pub gave : gave_by conn e r ≡ []
-    pub wrote : call_summary answer accepts conn e r ≡ []
+    pub wrote : call_said answer accepts conn e r ≡ []
 
   pub silent_other : (e : Call) (c conn : ℕ) (r : Rest G) → OnConn c e → c ≢ conn → IsSilent e r conn
   silent_other opens c conn r o n = absurd o
@@ -147,8 +148,8 @@ module _ {G : Type 0} (answer : Definition) (accepts : G → List ℕ → List �
     silent_gone (works d) conn o = record {
       took = refl;
       gave = refl;
-      wrote = cond_both (d == conn) (step_summary answer accepts (find d r.sessions) r) [] (λ z. z ≡ [])
-          (λ _. ap (λ j. step_summary answer accepts (find j r.sessions) r) o ∙ ap (λ (x : Option Live). step_summary answer accepts x r) (found_none gate w c gone)) (λ _. refl);
+      wrote = cond_both (d == conn) (step_said answer accepts (find d r.sessions) r) [] (λ z. z ≡ [])
+          (λ _. ap (λ j. step_said answer accepts (find j r.sessions) r) o ∙ ap (λ (x : Option Live). step_said answer accepts x r) (found_none gate w c gone)) (λ _. refl);
     }
     silent_gone (takes d n) conn o = record {
       took = refl;
@@ -176,7 +177,7 @@ module _ {G : Type 0} (answer : Definition) (accepts : G → List ℕ → List �
   gave_in c ms = bytes_given answer accepts c (server_calls ms) r0
 
   abbrev pub said_in : ℕ → List Moment → List Said
-  said_in c ms = summaries answer accepts c (server_calls ms) r0
+  said_in c ms = all_said answer accepts c (server_calls ms) r0
 
   abbrev pub runs_in : ℕ → List Moment → Wish → Run
   runs_in c ms wish = run_of wish c ms
@@ -211,16 +212,16 @@ module _ {G : Type 0} (answer : Definition) (accepts : G → List ℕ → List �
           ap (λ es. bytes_given answer accepts c es r0) (serves_more ms e) ∙ given_both answer accepts c (server_calls ms) (e ∷ []) r0 (rest w) (sym server)
           ∙ ap (λ z. gave_in c ms ++ z) (append-nil (gave_by c e (rest w)))
 
-      said_then : said_in c ms2 ≡ call_summary answer accepts c e (rest w) ++ said_in c ms
+      said_then : said_in c ms2 ≡ call_said answer accepts c e (rest w) ++ said_in c ms
       said_then =
-          ap (λ es. summaries answer accepts c es r0) (serves_more ms e) ∙ summaries_both answer accepts c (server_calls ms) e r0
-          ∙ ap (λ z. call_summary answer accepts c e z ++ said_in c ms) (sym server)
+          ap (λ es. all_said answer accepts c es r0) (serves_more ms e) ∙ said_both answer accepts c (server_calls ms) e r0
+          ∙ ap (λ z. call_said answer accepts c e z ++ said_in c ms) (sym server)
 
       pub run_then : (wish : Wish) → run_of wish c ms2 ≡ run_of wish c ms
       run_then wish = ap (calls (starts wish)) (asks_same c ms e)
 
       -- where it adds this to what is told of a connection
-      pub at_then : (k : Option Connection) → At (ours c) (runs_in c ms) (took_in c ms ++ took_by c e (rest w)) (gave_in c ms ++ gave_by c e (rest w)) (call_summary answer accepts c e (rest w) ++ said_in c ms) k → AtMoments ms2 c k
+      pub at_then : (k : Option Connection) → At (ours c) (runs_in c ms) (took_in c ms ++ took_by c e (rest w)) (gave_in c ms ++ gave_by c e (rest w)) (call_said answer accepts c e (rest w) ++ said_in c ms) k → AtMoments ms2 c k
       at_then k = at_as (ours c) _ _ _ _ _ _ _ _ k (λ wish. sym (run_then wish)) (sym took_then) (sym gave_then) (sym said_then)
 
       -- where it adds nothing
@@ -242,7 +243,7 @@ module _ {G : Type 0} (answer : Definition) (accepts : G → List ℕ → List �
 
     -- of the connection of another, and of its own
     pub at_other : (c : ℕ) (k : Option Connection) → d ≢ c → AtMoments ms c k → AtMoments ms3 c k
-    at_other c k n = at_as (ours c) _ _ _ _ _ _ _ _ k (λ wish. ap (calls (starts wish)) (sym (asks_other c ms d x n))) (ap (λ es. bytes_taken answer accepts c es r0) (sym (serves_same ms d x))) (sym (gave_still c)) (ap (λ es. summaries answer accepts c es r0) (sym (serves_same ms d x)))
+    at_other c k n = at_as (ours c) _ _ _ _ _ _ _ _ k (λ wish. ap (calls (starts wish)) (sym (asks_other c ms d x n))) (ap (λ es. bytes_taken answer accepts c es r0) (sym (serves_same ms d x))) (sym (gave_still c)) (ap (λ es. all_said answer accepts c es r0) (sym (serves_same ms d x)))
 
     pub at_own : (k : Option Connection) → At (ours d) (λ wish. called (run_of wish d ms) x) (took_in d ms) (gave_in d ms) (said_in d ms) k → AtMoments ms3 d k
-    at_own k = at_as (ours d) _ _ _ _ _ _ _ _ k (λ wish. sym (run_more wish d ms x)) (ap (λ es. bytes_taken answer accepts d es r0) (sym (serves_same ms d x))) (sym (gave_still d)) (ap (λ es. summaries answer accepts d es r0) (sym (serves_same ms d x)))
+    at_own k = at_as (ours d) _ _ _ _ _ _ _ _ k (λ wish. sym (run_more wish d ms x)) (ap (λ es. bytes_taken answer accepts d es r0) (sym (serves_same ms d x))) (sym (gave_still d)) (ap (λ es. all_said answer accepts d es r0) (sym (serves_same ms d x)))

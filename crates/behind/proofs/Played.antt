@@ -10,9 +10,9 @@ use Rattle.world.specs.Prelude.{Connection, bytes_delivered, World, ClientLost, 
 use Rattle.world.proofs.Deeds.{get_set}
 use Rattle.world.proofs.Served.{unseen}
 use Rattle.known.specs.Tied.{IsAt}
-use Rattle.behind.specs.Prelude.{counted_if, Moment, serves, asks, server_calls, run_of, attempt_of, ArePlayed, IsRun, AreRuns, summaries}
+use Rattle.behind.specs.Prelude.{counted_if, Moment, serves, asks, server_calls, run_of, attempt_of, ArePlayed, IsRun, AreRuns, all_said}
 use Rattle.behind.proofs.Replayed.{begun}
-use Rattle.behind.proofs.Histories.{summaries_among, peer_by, Meets, Side, AtMoments, Stands}
+use Rattle.behind.proofs.Histories.{answers_among, peer_by, Meets, Side, AtMoments, Stands}
 use Rattle.behind.proofs.Called.{calls}
 use Rattle.behind.proofs.Asked.{asked}
 
@@ -71,7 +71,7 @@ module _ {G : Type 0} (answer : Definition) (accepts : G → List ℕ → List �
 
     pub record IsHere (n c : ℕ) (k : Connection) : Type 0 where
       pub peer : k.peer ≡ peer_by (ours c)
-      pub told : summaries_among k.says ≡ summaries answer accepts c (server_calls ms) r0
+      pub told : answers_among k.says ≡ all_said answer accepts c (server_calls ms) r0
       pub met : (wish : Wish) → ours c ≡ Some wish → IsMet n c wish k
 
     pub record Ends (n : ℕ) : Type 0 where
