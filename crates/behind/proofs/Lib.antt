@@ -1,0 +1,9 @@
+pub mod Pieces
+pub mod Places
+pub mod Replayed
+pub mod Ended
+pub mod Histories
+pub mod Called
+pub mod Asked
+pub mod Played
+pub mod Relied

@@ -1,0 +1,5 @@
+pub mod Calls
+pub mod Moments
+pub mod Runs
+pub mod Standing
+pub mod Prelude
