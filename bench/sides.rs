@@ -131,7 +131,7 @@ impl Run {
 const KEYS: u32 = 65_536;
 
 /// The number and the size of a pipeline, as the library has them.
-fn numbered(pipeline: Pipeline) -> (u8, u32) {
+pub fn numbered(pipeline: Pipeline) -> (u8, u32) {
     match pipeline {
         Pipeline::Ones(count) => (0, count),
         Pipeline::Rows(count) => (1, count),

@@ -1,4 +1,5 @@
 //! Workloads of whole requests.
+use crate::asking::Asks;
 use crate::link::{Link, Ours, Pair, Stopped, new_server};
 use crate::played::work;
 use crate::requests::{ask, ask_put, connect, key_parameter, parameter};
@@ -47,7 +48,7 @@ impl Pipeline {
 }
 
 /// Submits so many times RUN of one row and PULL of all.
-fn submit_ones(alloc: Global, link: &mut Link, count: u32) -> Result<(), Stopped> {
+fn submit_ones<A: Asks>(alloc: Global, link: &mut A, count: u32) -> Result<(), Stopped> {
     for _ in 0..count {
         ask(alloc, link, "ONE", Vec::new(alloc))?;
     }
@@ -55,9 +56,9 @@ fn submit_ones(alloc: Global, link: &mut Link, count: u32) -> Result<(), Stopped
 }
 
 /// Submits one pipeline, by its number.
-pub(crate) fn submit(
+pub(crate) fn submit<A: Asks>(
     alloc: Global,
-    link: &mut Link,
+    link: &mut A,
     pipeline: Pipeline,
     number: u32,
     x: &Vec<u8>,

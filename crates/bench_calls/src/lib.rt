@@ -4,6 +4,7 @@
 #![tactic(auto)]
 
 mod answers;
+mod asking;
 mod batches;
 mod codec;
 mod growth;
@@ -21,7 +22,7 @@ use crate::answers::rows_heard;
 use crate::batches::{Pipeline, sessions};
 use crate::growth::{pieces_taken, records_read, records_written};
 use crate::pieces::Long;
-use crate::played::{Watch, client_alone, server_alone};
+use crate::played::{Watch, client_alone, driver_alone, server_alone};
 use crate::workload::{Workload, run};
 use std::alloc::Global;
 
@@ -103,6 +104,18 @@ pub extern "C" fn bench_client_alone(
     recording: &[u8],
 ) -> u64 {
     client_alone(alloc, Pipeline::of(kind, size), recording, Watch::of(watch)).unwrap_or(0)
+}
+
+/// The same through the driver, which keeps what is told until each exchange is over; then it is counted and forgotten.
+#[unsafe(no_mangle)]
+pub extern "C" fn bench_driver_alone(
+    alloc: Global,
+    kind: u8,
+    size: u32,
+    watch: u8,
+    recording: &[u8],
+) -> u64 {
+    driver_alone(alloc, Pipeline::of(kind, size), recording, Watch::of(watch)).unwrap_or(0)
 }
 
 /// Reads a record of one dictionary with so many keys so many times, and answers the bytes of its text.

@@ -1,6 +1,7 @@
 //! A server with its sessions' clients, in one process.
 use crate::tally::Tally;
 use client::{Client, ClientFault, SubmitFault};
+use driver::FeedFault;
 use engine::{Engine, FixedTable, OneUser};
 use server::{Refused, Server};
 use std::alloc::{AllocError, AllocFailed, Global};
@@ -54,6 +55,12 @@ impl From<Refused> for Stopped {
 
 impl From<ClientFault> for Stopped {
     fn from(_fault: ClientFault) -> Stopped {
+        Stopped
+    }
+}
+
+impl From<FeedFault> for Stopped {
+    fn from(_fault: FeedFault) -> Stopped {
         Stopped
     }
 }

@@ -1,10 +1,11 @@
 //! One end alone, to which the recorded bytes of the other are played. A recording is a row of exchanges: what a client has said, and what it was
 //! answered; before each of the two stands its length in three bytes. Of each session it begins with the handshake, and with HELLO and LOGON.
+use crate::asking::{Asks, Tracked};
 use crate::batches::{Pipeline, submit};
 use crate::link::{Link, Ours, Stopped, new_server};
 use crate::requests::{hello, logon};
 use crate::tally::Tally;
-use crate::transport::{PIECE, feed_piece, hear};
+use crate::transport::{PIECE, feed_piece};
 use client::Client;
 use engine::Engine;
 use server::Worked;
@@ -145,28 +146,29 @@ pub(crate) fn server_alone(
     Ok(entries.wrapping_add(recording.len() as u64))
 }
 
-/// A client has asked: takes out its requests, and plays it their answers. Answers what is recorded behind them.
-fn settle<'a>(
-    link: &mut Link,
+/// A caller has asked: takes out its requests, and plays it their answers. Answers what is recorded behind them.
+fn settle<'a, A: Asks>(
+    link: &mut A,
     tally: &mut Tally,
     recording: &'a [u8],
     watch: Watch,
 ) -> Result<&'a [u8], Stopped> {
     let (requests, behind) = part(recording)?;
     for expected in requests.chunks(PIECE) {
-        let piece = link.client.take_out(PIECE)?;
+        let piece = link.take_out(PIECE)?;
         if !is_expected(&piece, expected, watch) {
             return Err(Stopped);
         }
     }
     let (answers, rest) = part(behind)?;
     for piece in answers.chunks(PIECE) {
-        hear(link, piece, tally)?;
+        link.hear(piece, tally)?;
     }
+    link.settle(tally)?;
     Ok(rest)
 }
 
-/// A client alone. Answers the check number of the rows and summaries that it heard, and the recording's length.
+/// A client alone, by its own calls. Answers the check number of the rows and summaries that it heard, and the recording's length.
 pub(crate) fn client_alone(
     alloc: Global,
     pipeline: Pipeline,
@@ -175,19 +177,41 @@ pub(crate) fn client_alone(
 ) -> Result<u64, Stopped> {
     let client = Client::new(alloc, Wish::Newest)?;
     let mut link = Link { conn: 0, client };
+    alone(alloc, &mut link, pipeline, recording, watch)
+}
+
+/// The same through the driver.
+pub(crate) fn driver_alone(
+    alloc: Global,
+    pipeline: Pipeline,
+    recording: &[u8],
+    watch: Watch,
+) -> Result<u64, Stopped> {
+    let mut tracked = Tracked::new(alloc, Wish::Newest)?;
+    alone(alloc, &mut tracked, pipeline, recording, watch)
+}
+
+/// Asks pipelines of a kind, and is played what is recorded.
+fn alone<A: Asks>(
+    alloc: Global,
+    link: &mut A,
+    pipeline: Pipeline,
+    recording: &[u8],
+    watch: Watch,
+) -> Result<u64, Stopped> {
     let mut tally = Tally::new();
     let x = pipeline.sevens(alloc)?;
-    let mut rest = settle(&mut link, &mut tally, recording, watch)?;
-    link.client.submit(hello(alloc)?)?;
-    link.client.submit(logon(alloc)?)?;
-    rest = settle(&mut link, &mut tally, rest, watch)?;
+    let mut rest = settle(link, &mut tally, recording, watch)?;
+    link.ask(hello(alloc)?)?;
+    link.ask(logon(alloc)?)?;
+    rest = settle(link, &mut tally, rest, watch)?;
     let mut number = 0u32;
     for _ in 0..recording.len() {
         if rest.is_empty() {
             break;
         }
-        submit(alloc, &mut link, pipeline, number, &x)?;
-        rest = settle(&mut link, &mut tally, rest, watch)?;
+        submit(alloc, link, pipeline, number, &x)?;
+        rest = settle(link, &mut tally, rest, watch)?;
         number = number.wrapping_add(1);
     }
     Ok(tally.check(recording.len()))

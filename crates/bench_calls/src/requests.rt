@@ -1,4 +1,5 @@
 //! The requests of the workloads.
+use crate::asking::Asks;
 use crate::link::{Link, Ours, Pair, Stopped, new_server};
 use crate::tally::Tally;
 use crate::transport::{exchange, turn};
@@ -61,31 +62,29 @@ pub(crate) fn logon(alloc: Global) -> Result<Request, AllocError> {
 }
 
 /// Submits a RUN with these parameters, and a PULL of all.
-pub(crate) fn ask(
+pub(crate) fn ask<A: Asks>(
     alloc: Global,
-    link: &mut Link,
+    link: &mut A,
     text: &str,
     params: Vec<(String, Cell)>,
 ) -> Result<(), Stopped> {
-    link.client.submit(run(alloc, text, params)?)?;
-    link.client.submit(Request::Pull(Count::All))?;
-    Ok(())
+    link.ask(run(alloc, text, params)?)?;
+    link.ask(Request::Pull(Count::All))
 }
 
 /// Submits a transaction of one put, under a token or under none: the value of a number for its key.
-pub(crate) fn ask_put(
+pub(crate) fn ask_put<A: Asks>(
     alloc: Global,
-    link: &mut Link,
+    link: &mut A,
     number: u32,
     token: Option<String>,
 ) -> Result<(), Stopped> {
-    link.client.submit(Request::Begin {
+    link.ask(Request::Begin {
         mode: Mode::Write,
         token,
     })?;
     ask(alloc, link, "PUT", put_parameters(alloc, number, number)?)?;
-    link.client.submit(Request::Commit)?;
-    Ok(())
+    link.ask(Request::Commit)
 }
 
 /// The key of a number, and a value.

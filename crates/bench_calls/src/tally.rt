@@ -37,15 +37,17 @@ impl Tally {
     pub fn hear(&mut self, heard: Heard) {
         match heard {
             Heard::Nothing | Heard::Version(_) => {}
-            Heard::Row(cells) => {
-                self.rows = self.rows.wrapping_add(1);
-                self.cells = self.cells.wrapping_add(first_of(&cells));
-            }
+            Heard::Row(cells) => self.hear_row(&cells),
             Heard::Summary { outcome, .. } => self.conclude(outcome),
         }
     }
 
-    fn conclude(&mut self, outcome: Outcome) {
+    pub fn hear_row(&mut self, cells: &[Cell]) {
+        self.rows = self.rows.wrapping_add(1);
+        self.cells = self.cells.wrapping_add(first_of(cells));
+    }
+
+    pub fn conclude(&mut self, outcome: Outcome) {
         match outcome {
             Outcome::Done => self.done = self.done.wrapping_add(1),
             Outcome::Committed => self.committed = self.committed.wrapping_add(1),

@@ -1,24 +1,36 @@
 //! A client that keeps track of its requests.
 ghost use Rattle.std.specs.Prelude.{◌≡◌, ◌⊎◌, ◌^◌, [], Some, None, ◌≤◌, ◌<◌, IfOk, IfErr, OnErr, IsErrOf, take, length, true, false, not, ◌==◌};
-ghost use Rattle.messages.specs.View.{request_view};
+ghost use Rattle.std.specs.Vec.{vec_len, vec_capacity};
+ghost use Rattle.messages.specs.View.{request_view, response_view};
 ghost use Rattle.client.specs.Rest.{begun, refuses, refuses_at_once, after_submit, feed_of, taken_out, losses, after_drop, awaits};
 ghost use Rattle.client.specs.Fits.{IsAccepted};
 ghost use Rattle.client.specs.Held.{WantsRoom};
 ghost use Rattle.machine.specs.Limits.{max_waiting};
-ghost use Rattle.driver.specs.Account.{untold, keeps_row, with_losses, settled};
+ghost use Rattle.driver.specs.Account.{untold, keeps_row, with_row, with_summary, with_losses, settled};
 ghost use Rattle.driver.specs.Feeding.{is_idle, is_full, used_by, tracked_feed, UnlessMemory};
-ghost use Rattle.driver.specs.Holding.{rest_in, account_of};
+ghost use Rattle.driver.specs.Holding.{rest_in, account_of, row_view};
 
 use crate::faults::{FeedFault, fault_of};
 use crate::replies::Reply;
 use bytes::Bytes;
-use client::{Client, ClientFault, Heard, Losses, SubmitFault};
+use client::{Client, ClientFault, Heard, Losses, Outcome, SubmitFault};
 use machine::Phase;
-use messages::Request;
+use messages::{Request, Response};
 use std::alloc::Global;
 use std::mem;
 use structures::Cell;
 use wire::{Version, Wish};
+
+/// Takes all rows. Where there are none, the room for them stays.
+fn taken(rows: &mut Vec<Vec<Cell>>, alloc: Global) -> Vec<Vec<Cell>>
+    ensures taken { result.items ≡ rows.old.items }
+    ensures none { rows.new.items ≡ [] }
+{
+    if rows.is_empty() {
+        return Vec::new(alloc);
+    }
+    mem::replace(rows, Vec::new(alloc))
+}
 
 /// A client, and the account of what it told: a reply for each request that has its summary, the rows of the one that waits first, and what became
 /// of those that were lost. What was told stays in it until `settle`, whatever a call answers.
@@ -96,6 +108,37 @@ impl TrackingClient {
         self.left == 0 && self.rows.len() < self.limit
     }
 
+    /// Keeps a row of the request that waits first, or counts it.
+    fn add_row(&mut self, cells: Vec<Cell>)
+        requires { vec_len self.old.rows < vec_capacity self.old.rows }
+        ensures client { rest_in self.new ≡ rest_in self.old }
+        ensures account { account_of self.new ≡ with_row (account_of self.old) (row_view cells) }
+    {
+        if self.keeps_row() {
+            self.rows.push_reserved(cells);
+        } else if self.left < u64::MAX {
+            self.left += 1;
+        }
+    }
+
+    /// Keeps the summary of the request that waited first: the rows so far are its own.
+    fn add_summary(&mut self, ordinal: u64, outcome: Outcome, response: Response)
+        requires { vec_len self.old.replies < vec_capacity self.old.replies }
+        ensures client { rest_in self.new ≡ rest_in self.old }
+        ensures account { account_of self.new
+            ≡ with_summary (account_of self.old) ordinal outcome (response_view response) }
+    {
+        let rows = taken(&mut self.rows, self.alloc);
+        let left = mem::replace(&mut self.left, 0);
+        self.replies.push_reserved(Reply {
+            ordinal,
+            outcome,
+            response,
+            rows,
+            left,
+        });
+    }
+
     /// Whether some rows have to be taken before a piece is used.
     fn is_full(&self) -> bool
         ensures { result ≡ is_full (rest_in self.now).knows (account_of self.now) }
@@ -165,29 +208,13 @@ impl TrackingClient {
             Err(fault) => return Err(fault_of(fault)),
         };
         match heard {
-            Heard::Row(cells) => {
-                if self.keeps_row() {
-                    self.rows.push_reserved(cells);
-                } else if self.left < u64::MAX {
-                    self.left += 1;
-                }
-            }
+            Heard::Row(cells) => self.add_row(cells),
             Heard::Summary {
                 ordinal,
                 outcome,
                 response,
                 ..
-            } => {
-                let rows = mem::replace(&mut self.rows, Vec::new(self.alloc));
-                self.replies.push_reserved(Reply {
-                    ordinal,
-                    outcome,
-                    response,
-                    rows,
-                    left: self.left,
-                });
-                self.left = 0;
-            }
+            } => self.add_summary(ordinal, outcome, response),
             Heard::Nothing | Heard::Version(_) => {}
         }
         Ok(used)

@@ -8,6 +8,7 @@ mod driving;
 mod notes;
 mod noting;
 mod querying;
+mod reading;
 mod serving;
 mod tracked;
 mod values;
