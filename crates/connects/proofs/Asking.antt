@@ -29,17 +29,17 @@ pub asks_behind : (from to : Stand) (q : RequestView) (qs : List RequestView) (o
 asks_behind from to q qs None e h = ((e, h.0), h.1)
 asks_behind from to q qs (Some rule) e h = record { before = q ∷ h.before; request = h.request; behind = h.behind; parts = ap (λ l. q ∷ l) h.parts; accepted = (e, h.accepted); stays = h.stays; first = h.first }
 
-ask_run : (x : TrackedRun) (q : RequestView) → refuses x.run.rest.knows q ≡ None → GoesOn x (tracked_call x (Asks q)) (asked_stand (stand_in x) q) (q ∷ []) [] false
-ask_run x q e = subst (λ o. GoesOn x (record x { run = submits x.run q o }) (asked_stand (stand_in x) q) (q ∷ []) [] false) (sym e) (record { stands = refl; sent = refl; took = sym (append-nil x.run.took); lose = or_false x.run.lost })
+ask_run : (x : TrackedRun) (q : RequestView) → refuses x.run.rest.knows q ≡ None → GoesOn x (tracked_call x (Asks q)) (asked_stand (stand_in x) q) (q ∷ []) [] [] false
+ask_run x q e = subst (λ o. GoesOn x (record x { run = submits x.run q o }) (asked_stand (stand_in x) q) (q ∷ []) [] [] false) (sym e) (record { stands = refl; sent = refl; took = sym (append-nil x.run.took); put = sym (append-nil x.run.out); lose = or_false x.run.lost })
   where
     or_false : (a : Bool) → a ≡ (a || false)
     or_false true = refl
     or_false false = refl
 
-leads_ask : (s : Stand) (q : RequestView) → refuses s.rest.knows q ≡ None → Leads s (Asks q ∷ []) (asked_stand s q) (q ∷ []) [] false
-leads_ask s q e x f = subst (λ (z : Stand). GoesOn x (tracked_call x (Asks q)) (asked_stand z q) (q ∷ []) [] false) f (ask_run x q (ap (λ (z : Stand). refuses z.rest.knows q) f ∙ e))
+leads_ask : (s : Stand) (q : RequestView) → refuses s.rest.knows q ≡ None → Leads s (Asks q ∷ []) (asked_stand s q) (q ∷ []) [] [] false
+leads_ask s q e x f = subst (λ (z : Stand). GoesOn x (tracked_call x (Asks q)) (asked_stand z q) (q ∷ []) [] [] false) f (ask_run x q (ap (λ (z : Stand). refuses z.rest.knows q) f ∙ e))
 
-pub leads_asks : (s : Stand) (qs : List RequestView) → AcceptsEach s qs → Leads s (map Asks qs) (asked_all s qs) qs [] false
+pub leads_asks : (s : Stand) (qs : List RequestView) → AcceptsEach s qs → Leads s (map Asks qs) (asked_all s qs) qs [] [] false
 leads_asks s [] h = leads_nowhere s
 leads_asks s (q ∷ qs) h = leads_on (Asks q ∷ []) (map Asks qs) (leads_ask s q h.0) (leads_asks (asked_stand s q) qs h.1)
 

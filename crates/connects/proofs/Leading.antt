@@ -1,6 +1,6 @@
 -- How calls lead on, one after the other.
-use Rattle.std.proofs.Common.{◌≡◌, refl, sym, ◌∙◌, ap, subst, ℕ, Bool, true, false, ◌||◌, if◌then◌else◌, Option, Some, None, Ok, Err, List, [], ◌∷◌, ◌++◌, map, take, append_assoc, append-nil}
-use Rattle.std.proofs.lemmas.List.{map-append}
+use Rattle.std.proofs.Common.{◌≡◌, refl, sym, ◌∙◌, ap, subst, ℕ, Bool, true, false, ◌||◌, if◌then◌else◌, Option, Some, None, Ok, Err, List, [], ◌∷◌, ◌++◌, length, map, take, append_assoc, append-nil, arith}
+use Rattle.std.proofs.lemmas.List.{map-append, take_all}
 use Rattle.wire.specs.Prelude.{takes, at_client, Item}
 use Rattle.messages.specs.Prelude.{RequestView}
 use Rattle.client.specs.declared.ClientFault.TheVariants as client_fault
@@ -8,7 +8,7 @@ use Rattle.client.specs.Prelude.{Rest, Fed, used_of, feed_of, fed_item, fed_open
 use Rattle.driver.specs.declared.faults.FeedFault.TheVariants as feed_fault
 use Rattle.driver.specs.Feeding.{is_full, Tracked, with_answer, used_by, tracked_feed}
 use Rattle.driver.specs.Runs.{TrackedCall, Hears as HearsPiece, Sends, IsLost, TrackedRun, tracked_call, tracked_calls}
-use Rattle.connects.specs.Prelude.{Stand, stand_in, GoesOn, Leads, heard_count, heard_stand, lost_stand, taken_stand, Hears}
+use Rattle.connects.specs.Prelude.{Stand, stand_in, GoesOn, Leads, heard_count, heard_stand, lost_stand, taken_stand, emptied_stand, Hears}
 
 or_assoc : (a b c : Bool) → ((a || b) || c) ≡ (a || (b || c))
 or_assoc true b c = refl
@@ -22,41 +22,49 @@ pub calls_append : (x : TrackedRun) (cs ds : List TrackedCall) → tracked_calls
 calls_append x [] ds = refl
 calls_append x (c ∷ cs) ds = calls_append (tracked_call x c) cs ds
 
-pub leads_nowhere : (s : Stand) → Leads s [] s [] [] false
-leads_nowhere s x e = record { stands = e; sent = sym (append-nil x.run.sent); took = sym (append-nil x.run.took); lose = or_false x.run.lost }
+pub leads_nowhere : (s : Stand) → Leads s [] s [] [] [] false
+leads_nowhere s x e = record { stands = e; sent = sym (append-nil x.run.sent); took = sym (append-nil x.run.took); put = sym (append-nil x.run.out); lose = or_false x.run.lost }
 
-pub leads_on : {a b c : Stand} (cs ds : List TrackedCall) {asked more : List RequestView} {bytes later : List ℕ} {l m : Bool} → Leads a cs b asked bytes l → Leads b ds c more later m → Leads a (cs ++ ds) c (asked ++ more) (bytes ++ later) (l || m)
-leads_on {a = a} {b = b} {c = c} cs ds {asked = asked} {more = more} {bytes = bytes} {later = later} {l = l} {m = m} f g x e =
+pub leads_on : {a b c : Stand} (cs ds : List TrackedCall) {asked more : List RequestView} {bytes later out next : List ℕ} {l m : Bool} → Leads a cs b asked bytes out l → Leads b ds c more later next m → Leads a (cs ++ ds) c (asked ++ more) (bytes ++ later) (out ++ next) (l || m)
+leads_on {a = a} {b = b} {c = c} cs ds {asked = asked} {more = more} {bytes = bytes} {later = later} {out = out} {next = next} {l = l} {m = m} f g x e =
     let p = f x e in
     let y = tracked_calls x cs in
     let q = g y p.stands in
-    subst (λ z. GoesOn x z c (asked ++ more) (bytes ++ later) (l || m)) (sym (calls_append x cs ds))
+    subst (λ z. GoesOn x z c (asked ++ more) (bytes ++ later) (out ++ next) (l || m)) (sym (calls_append x cs ds))
     (record {
       stands = q.stands;
       sent = q.sent ∙ ap (λ l. l ++ more) p.sent ∙ append_assoc x.run.sent asked more;
       took = q.took ∙ ap (λ l. l ++ later) p.took ∙ append_assoc x.run.took bytes later;
+      put = q.put ∙ ap (λ l. l ++ next) p.put ∙ append_assoc x.run.out out next;
       lose = q.lose ∙ ap (λ b. b || m) p.lose ∙ or_assoc x.run.lost l m;
     })
 
 -- by one call
-hears_run : (x : TrackedRun) (piece : List ℕ) → GoesOn x (tracked_call x (HearsPiece piece)) (heard_stand (stand_in x) piece) [] (take (heard_count (stand_in x) piece) piece) false
+hears_run : (x : TrackedRun) (piece : List ℕ) → GoesOn x (tracked_call x (HearsPiece piece)) (heard_stand (stand_in x) piece) [] (take (heard_count (stand_in x) piece) piece) [] false
 hears_run x piece = go (is_full x.run.rest.knows x.account)
   where
     go : (b : Bool)
         → let t : Tracked = (if b then record { rest = x.run.rest; account = x.account; answer = Err feed_fault.Full } else record { rest = (feed_of x.run.rest piece).rest; account = with_answer x.account (feed_of x.run.rest piece).answer; answer = used_by (feed_of x.run.rest piece).answer }) in
         let s : Stand = record { rest = t.rest; account = t.account } in
-        GoesOn x (record x { run = (if b then x.run else call x.run (FeedsPiece piece)); account = t.account }) s [] (take (if b then 0 else used_of x.run.rest piece) piece) false
-    go true = record { stands = refl; sent = sym (append-nil x.run.sent); took = sym (append-nil x.run.took); lose = or_false x.run.lost }
-    go false = record { stands = refl; sent = sym (append-nil x.run.sent); took = refl; lose = or_false x.run.lost }
+        GoesOn x (record x { run = (if b then x.run else call x.run (FeedsPiece piece)); account = t.account }) s [] (take (if b then 0 else used_of x.run.rest piece) piece) [] false
+    go true = record { stands = refl; sent = sym (append-nil x.run.sent); took = sym (append-nil x.run.took); put = sym (append-nil x.run.out); lose = or_false x.run.lost }
+    go false = record { stands = refl; sent = sym (append-nil x.run.sent); took = refl; put = sym (append-nil x.run.out); lose = or_false x.run.lost }
 
-pub leads_hears : (s : Stand) (piece : List ℕ) → Leads s (HearsPiece piece ∷ []) (heard_stand s piece) [] (take (heard_count s piece) piece) false
-leads_hears s piece x e = subst (λ (z : Stand). GoesOn x (tracked_call x (HearsPiece piece)) (heard_stand z piece) [] (take (heard_count z piece) piece) false) e (hears_run x piece)
+pub leads_hears : (s : Stand) (piece : List ℕ) → Leads s (HearsPiece piece ∷ []) (heard_stand s piece) [] (take (heard_count s piece) piece) [] false
+leads_hears s piece x e = subst (λ (z : Stand). GoesOn x (tracked_call x (HearsPiece piece)) (heard_stand z piece) [] (take (heard_count z piece) piece) [] false) e (hears_run x piece)
 
-pub leads_sends : (s : Stand) (max : ℕ) → Leads s (Sends max ∷ []) (taken_stand s max) [] [] false
-leads_sends s max x e = record { stands = ap (λ (z : Stand). taken_stand z max) e; sent = sym (append-nil x.run.sent); took = sym (append-nil x.run.took); lose = or_false x.run.lost }
+-- all that waits is put out
+pub leads_out : (s : Stand) → Leads s (Sends (length s.rest.unsent) ∷ []) (emptied_stand s) [] [] s.rest.unsent false
+leads_out s x e = record {
+  stands = ap (λ (z : Stand). taken_stand z (length s.rest.unsent)) e;
+  sent = sym (append-nil x.run.sent);
+  took = sym (append-nil x.run.took);
+  put = ap (λ (z : Stand). x.run.out ++ take (length s.rest.unsent) z.rest.unsent) e ∙ ap (λ l. x.run.out ++ l) (take_all (length s.rest.unsent) s.rest.unsent (omega arith));
+  lose = or_false x.run.lost;
+}
 
-pub leads_lost : (s : Stand) → Leads s (IsLost ∷ []) (lost_stand s) [] [] true
-leads_lost s x e = record { stands = ap lost_stand e; sent = sym (append-nil x.run.sent); took = sym (append-nil x.run.took); lose = or_true x.run.lost }
+pub leads_lost : (s : Stand) → Leads s (IsLost ∷ []) (lost_stand s) [] [] [] true
+leads_lost s x e = record { stands = ap lost_stand e; sent = sym (append-nil x.run.sent); took = sym (append-nil x.run.took); put = sym (append-nil x.run.out); lose = or_true x.run.lost }
   where
     or_true : (b : Bool) → true ≡ (b || true)
     or_true true = refl
@@ -89,7 +97,7 @@ hears_none s = record { pieces = []; leads = leads_nowhere s }
 pub hears_on : {a b c : Stand} {bytes later : List ℕ} → Hears a b bytes → Hears b c later → Hears a c (bytes ++ later)
 hears_on {a = a} {b = b} {c = c} {bytes = bytes} {later = later} f g = record {
   pieces = f.pieces ++ g.pieces;
-  leads = subst (λ cs. Leads a cs c [] (bytes ++ later) false) (sym (map-append HearsPiece f.pieces g.pieces)) (leads_on (map HearsPiece f.pieces) (map HearsPiece g.pieces) f.leads g.leads);
+  leads = subst (λ cs. Leads a cs c [] (bytes ++ later) [] false) (sym (map-append HearsPiece f.pieces g.pieces)) (leads_on (map HearsPiece f.pieces) (map HearsPiece g.pieces) f.leads g.leads);
 }
 
 pub hears_piece : (s : Stand) (piece : List ℕ) → Hears s (heard_stand s piece) (take (heard_count s piece) piece)

@@ -1,5 +1,6 @@
 pub mod Leading
 pub mod Reading
+pub mod Keeping
 pub mod Asking
 pub mod Trying
 pub mod Adding

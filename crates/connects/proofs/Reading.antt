@@ -1,10 +1,10 @@
 -- What comes of an exchange, part by part.
-use Rattle.std.proofs.Common.{◌≡◌, refl, sym, ◌∙◌, ap, ap₂, subst, ℕ, ◌<◌, Bool, true, false, Option, Result, Ok, Err, List, [], ◌∷◌, ◌++◌, length, map, take, drop, append_assoc, append-nil, true≢false, inl, ⊎_elim, is_err, OnErr, IsErrOf}
+use Rattle.std.proofs.Common.{◌≡◌, refl, sym, ◌∙◌, ap, ap₂, subst, ℕ, Bool, true, false, Option, Result, Ok, Err, List, [], ◌∷◌, ◌++◌, length, map, take, drop, append_assoc, append-nil, true≢false, inl, inr, ◌⊎◌, ⊎_elim, is_err, OnErr, IsErrOf}
 use Rattle.std.specs.Io.KnownBytes.{Appends, Consumes, Keeps}
 use Rattle.std.proofs.KnownBytes.{Consumes-kept, Consumes-nil, Consumes-trans}
 use Rattle.client.specs.Prelude.{Knows, Rest, awaits}
 use Rattle.streams.specs.Prelude.{AppendsFront}
-use Rattle.streams.proofs.Parts.{fed_more, take_short}
+use Rattle.streams.proofs.Parts.{fed_more}
 use Rattle.driver.specs.declared.faults.FeedFault.{FeedFault}
 use Rattle.driver.specs.declared.faults.FeedFault.TheVariants as feed_fault
 use Rattle.driver.specs.Account.{Account}
@@ -12,8 +12,8 @@ use Rattle.driver.specs.Feeding.{tracked_feed, UnlessMemory}
 use Rattle.driver.specs.Runs.{TrackedCall, Hears as HearsPiece, Sends, IsLost}
 use Rattle.connects.specs.declared.breaks.Break.{Break}
 use Rattle.connects.specs.declared.breaks.Break.TheVariants as break
-use Rattle.connects.specs.Prelude.{Stand, Leads, heard_count, heard_stand, lost_stand, taken_stand, Place, place, Hears, IsWhole, Unbroken, Feeds, ReadsOn, Writes, PutsOut, Ends, Converses, Exchanges}
-use Rattle.connects.proofs.Leading.{leads_on, leads_sends, leads_lost, used_is, hears_none, hears_on, hears_piece}
+use Rattle.connects.specs.Prelude.{Stand, Leads, heard_count, heard_stand, lost_stand, emptied_stand, Place, place, Hears, IsWhole, Unbroken, Feeds, ReadsOn, Writes, PutsOut, Ends, Converses, Exchanges}
+use Rattle.connects.proofs.Leading.{leads_on, leads_out, leads_lost, used_is, hears_none, hears_on, hears_piece}
 
 pub stand_is : (a b : Stand) → a.rest ≡ b.rest → a.account ≡ b.account → a ≡ b
 stand_is a b e f = ap₂ (λ (r : Rest) (z : Account). let s : Stand = record { rest = r; account = z } in s) e f
@@ -99,36 +99,36 @@ reads_on {a = a} {b = b} {c = c} {l = l} {m = m} {n = n} f still_open g =
 pub broken_off : {a b : Stand} {l m : Option (List ℕ)} → ReadsOn a b l m (Ok tt) → (e : Break) → ReadsOn a b l m (Err e)
 broken_off f e = record { heard = f.heard; unheard = f.unheard; input = f.input; hears = f.hears; whole = tt }
 
--- bytes that are fewer than were asked for are all that there is
-pub all_taken : (n : ℕ) (xs bytes : List ℕ) → bytes ≡ take n xs → length bytes < n → (bytes ≡ xs) × (drop n xs ≡ [])
-all_taken n xs bytes e l = let t = take_short n xs (subst (λ (z : List ℕ). length z < n) e l) in (e ∙ t.0, t.1)
-
 -- what was answered, by a test of it
 pub on_err : {T E : Type 0} (x : Result T E) (P : Type 0) → is_err x ≡ true → OnErr x P → P
 on_err (Ok t) P e h = absurd (true≢false (sym e))
 on_err (Err f) P e h = h
 
 -- what was written whole stays so, whatever comes of the reading
-pub written_then : (out : List ℕ) (n : ℕ) (r : Result (Unit {0}) Break) (a b : Option (List ℕ)) → (IsErrOf r break.WriteFailed → ⊥) → Appends a b out × (drop n out ≡ []) → Writes out n r a b
-written_then out n (Ok u) a b sound h = h
-written_then out n (Err break.ReadFailed) a b sound h = h
-written_then out n (Err break.WriteFailed) a b sound h = absurd (sound refl)
-written_then out n (Err break.Memory) a b sound h = (out, [], append-nil out, h.0)
-written_then out n (Err break.BadAnswer) a b sound h = h
-written_then out n (Err break.AtEnd) a b sound h = h
-written_then out n (Err break.Ended) a b sound h = h
-written_then out n (Err break.TooManyRows) a b sound h = h
+pub written_then : (out : List ℕ) (r : Result (Unit {0}) Break) (a b : Option (List ℕ)) → (IsErrOf r break.WriteFailed → ⊥) → Appends a b out → Writes out r a b
+written_then out (Ok u) a b sound h = h
+written_then out (Err break.ReadFailed) a b sound h = h
+written_then out (Err break.WriteFailed) a b sound h = absurd (sound refl)
+written_then out (Err break.Memory) a b sound h = h
+written_then out (Err break.BadAnswer) a b sound h = h
+written_then out (Err break.AtEnd) a b sound h = h
+written_then out (Err break.Ended) a b sound h = h
+written_then out (Err break.TooManyRows) a b sound h = h
+
+-- all of it was written, or the sink failed
+pub writes_or : (out : List ℕ) (r : Result (Unit {0}) Break) (a b : Option (List ℕ)) → Writes out r a b → Appends a b out ⊎ (IsErrOf r break.WriteFailed × AppendsFront a b out)
+writes_or out (Ok u) a b h = inl h
+writes_or out (Err break.ReadFailed) a b h = inl h
+writes_or out (Err break.WriteFailed) a b h = inr (refl, h)
+writes_or out (Err break.Memory) a b h = inl h
+writes_or out (Err break.BadAnswer) a b h = inl h
+writes_or out (Err break.AtEnd) a b h = inl h
+writes_or out (Err break.Ended) a b h = inl h
+writes_or out (Err break.TooManyRows) a b h = inl h
 
 -- it is a beginning of the output
-pub writes_front : (out : List ℕ) (n : ℕ) (r : Result (Unit {0}) Break) (a b : Option (List ℕ)) → Writes out n r a b → AppendsFront a b out
-writes_front out n (Ok u) a b h = (out, [], append-nil out, h.0)
-writes_front out n (Err break.ReadFailed) a b h = (out, [], append-nil out, h.0)
-writes_front out n (Err break.WriteFailed) a b h = h
-writes_front out n (Err break.Memory) a b h = h
-writes_front out n (Err break.BadAnswer) a b h = (out, [], append-nil out, h.0)
-writes_front out n (Err break.AtEnd) a b h = (out, [], append-nil out, h.0)
-writes_front out n (Err break.Ended) a b h = (out, [], append-nil out, h.0)
-writes_front out n (Err break.TooManyRows) a b h = (out, [], append-nil out, h.0)
+pub writes_front : (out : List ℕ) (r : Result (Unit {0}) Break) (a b : Option (List ℕ)) → Writes out r a b → AppendsFront a b out
+writes_front out r a b h = ⊎_elim (λ w. (out, [], append-nil out, w)) (λ f. f.1) (writes_or out r a b h)
 
 -- an exchange leads on by calls
 pub record Led (from to : Place) (r : Result (Unit {0}) Break) : Type 0 where
@@ -136,31 +136,43 @@ pub record Led (from to : Place) (r : Result (Unit {0}) Break) : Type 0 where
   pub heard : List ℕ
   pub unheard : List ℕ
   pub lost : Bool
-  pub leads : Leads from.stand calls to.stand [] heard lost
+  pub leads : Leads from.stand calls to.stand [] heard from.stand.rest.unsent lost
   pub input : Consumes from.left to.left (heard ++ unheard)
   pub whole : Unbroken r (IsWhole unheard to.stand)
 
 pub exchange_led : (from to : Place) (r : Result (Unit {0}) Break) → Exchanges from to r → Led from to r
-exchange_led from to (Ok u) x = record {
-  calls = Sends x.converses.out ∷ map HearsPiece x.converses.reads.hears.pieces;
-  heard = x.converses.reads.heard;
-  unheard = x.converses.reads.unheard;
-  lost = false;
-  leads = subst (λ (s : Stand). Leads from.stand (Sends x.converses.out ∷ map HearsPiece x.converses.reads.hears.pieces) s [] x.converses.reads.heard false) (sym x.settles) (leads_on (Sends x.converses.out ∷ []) (map HearsPiece x.converses.reads.hears.pieces) (leads_sends from.stand x.converses.out) x.converses.reads.hears.leads);
-  input = x.converses.reads.input;
-  whole = subst (λ (s : Stand). IsWhole x.converses.reads.unheard s) (sym x.settles) x.converses.reads.whole;
-}
-exchange_led from to (Err e) x = record {
-  calls = Sends x.converses.out ∷ (map HearsPiece x.converses.reads.hears.pieces ++ IsLost ∷ []);
-  heard = x.converses.reads.heard;
-  unheard = x.converses.reads.unheard;
-  lost = true;
-  leads = subst (λ (s : Stand). Leads from.stand (Sends x.converses.out ∷ (map HearsPiece x.converses.reads.hears.pieces ++ IsLost ∷ [])) s [] x.converses.reads.heard true) (sym x.settles)
-      (subst (λ bs. Leads from.stand (Sends x.converses.out ∷ (map HearsPiece x.converses.reads.hears.pieces ++ IsLost ∷ [])) (lost_stand x.answered) [] bs true) (append-nil x.converses.reads.heard)
-      (leads_on (Sends x.converses.out ∷ []) (map HearsPiece x.converses.reads.hears.pieces ++ IsLost ∷ []) (leads_sends from.stand x.converses.out) (leads_on (map HearsPiece x.converses.reads.hears.pieces) (IsLost ∷ []) x.converses.reads.hears.leads (leads_lost x.answered))));
-  input = x.converses.reads.input;
-  whole = tt;
-}
+exchange_led from to (Ok u) x =
+    let calls = Sends (length from.stand.rest.unsent) ∷ map HearsPiece x.converses.reads.hears.pieces in
+    let heard = x.converses.reads.heard in
+    let unsent = from.stand.rest.unsent in
+    record {
+      calls = calls;
+      heard = heard;
+      unheard = x.converses.reads.unheard;
+      lost = false;
+      leads = subst (λ (s : Stand). Leads from.stand calls s [] heard unsent false) (sym x.settles)
+          (subst (λ out. Leads from.stand calls x.answered [] heard out false) (append-nil unsent)
+          (leads_on (Sends (length unsent) ∷ []) (map HearsPiece x.converses.reads.hears.pieces) (leads_out from.stand) x.converses.reads.hears.leads));
+      input = x.converses.reads.input;
+      whole = subst (λ (s : Stand). IsWhole x.converses.reads.unheard s) (sym x.settles) x.converses.reads.whole;
+    }
+exchange_led from to (Err e) x =
+    let pieces = map HearsPiece x.converses.reads.hears.pieces in
+    let calls = Sends (length from.stand.rest.unsent) ∷ (pieces ++ IsLost ∷ []) in
+    let heard = x.converses.reads.heard in
+    let unsent = from.stand.rest.unsent in
+    record {
+      calls = calls;
+      heard = heard;
+      unheard = x.converses.reads.unheard;
+      lost = true;
+      leads = subst (λ (s : Stand). Leads from.stand calls s [] heard unsent true) (sym x.settles)
+          (subst (λ bs. Leads from.stand calls (lost_stand x.answered) [] bs unsent true) (append-nil heard)
+          (subst (λ out. Leads from.stand calls (lost_stand x.answered) [] (heard ++ []) out true) (append-nil unsent)
+          (leads_on (Sends (length unsent) ∷ []) (pieces ++ IsLost ∷ []) (leads_out from.stand) (leads_on pieces (IsLost ∷ []) x.converses.reads.hears.leads (leads_lost x.answered)))));
+      input = x.converses.reads.input;
+      whole = tt;
+    }
 
 pub ends_not : (e : Break) (s : Stand) (left : Option (List ℕ)) → (e ≡ break.AtEnd → ⊥) → Ends (Err e) s left
 ends_not break.ReadFailed s left n = tt
@@ -174,16 +186,14 @@ ends_not break.TooManyRows s left n = tt
 -- where the output wasn't written whole, nothing is read
 pub says_unwritten : (from : Place) (s : Stand) (written : Option (List ℕ)) (e : Break) → (e ≡ break.AtEnd → ⊥) → PutsOut from.stand s from.written written (Err e) → Converses from (place s from.left written) (Err e)
 says_unwritten from s written e n h = record {
-  out = h.0;
-  writes = h.1;
-  reads = subst (λ (z : Stand). ReadsOn (taken_stand from.stand h.0) z from.left from.left (Err e)) (sym h.2) (reads_empty (taken_stand from.stand h.0) from.left from.left e (Consumes-nil from.left));
+  writes = h.0;
+  reads = subst (λ (z : Stand). ReadsOn (emptied_stand from.stand) z from.left from.left (Err e)) (sym h.1) (reads_empty (emptied_stand from.stand) from.left from.left e (Consumes-nil from.left));
   ends = ends_not e s from.left n;
 }
 
 pub says_written : (from : Place) (mid to : Stand) (left written : Option (List ℕ)) (r : Result (Unit {0}) Break) → PutsOut from.stand mid from.written written (Ok tt) → (IsErrOf r break.WriteFailed → ⊥) → ReadsOn mid to from.left left r → Ends r to left → Converses from (place to left written) r
 says_written from mid to left written r h n x e = record {
-  out = h.0;
-  writes = written_then from.stand.rest.unsent h.0 r from.written written n h.1;
-  reads = subst (λ (z : Stand). ReadsOn z to from.left left r) h.2 x;
+  writes = written_then from.stand.rest.unsent r from.written written n h.0;
+  reads = subst (λ (z : Stand). ReadsOn z to from.left left r) h.1 x;
   ends = e;
 }

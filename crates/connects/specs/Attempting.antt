@@ -1,14 +1,15 @@
 -- An attempt of a transaction under a token, over streams.
-use Rattle.std.specs.Prelude.{◌≡◌, ℕ, Bool, true, Option, Some, None, List, ◌∷◌, ◌++◌, map, slice_get, string_bytes}
-use Rattle.std.specs.Io.KnownBytes.{Consumes}
+use Rattle.std.specs.Prelude.{◌≡◌, ◌⊎◌, ℕ, Bool, true, Option, Some, None, List, ◌∷◌, ◌++◌, map, slice_get, string_bytes}
+use Rattle.std.specs.Io.KnownBytes.{Appends, Consumes}
 use Rattle.wire.specs.declared.Wish.{Wish}
 use Rattle.wire.specs.Offers.{offer_of}
 use Rattle.messages.specs.declared.Mode.{Mode}
 use Rattle.messages.specs.declared.Count.TheVariants as count
 use Rattle.messages.specs.View.{AuthView, auth_view, RequestView}
+use Rattle.client.specs.Moments.{put_out}
 use Rattle.streams.specs.Fronts.{AppendsFront}
 use Rattle.driver.specs.declared.attempts.Tells.{Tells}
-use Rattle.driver.specs.Attempts.{Made, tells_in}
+use Rattle.driver.specs.Attempts.{Made, read, tells_in}
 use Rattle.connects.specs.declared.attempting.Asked.{Asked}
 use Rattle.connects.specs.Requests.{QueryView, query_view, within, greeting}
 
@@ -46,18 +47,35 @@ pub record IsSent (a : AskedView) (conn : ℕ) (m : Made) : Type 0 where
   pub lost : m.attempt.lost ≡ true
   pub at : m.conn ≡ conn
 
--- And by these bytes of the source the attempt tells what it tells.
-pub record IsAttempt (a : AskedView) (conn : ℕ) (left left_now : Option (List ℕ)) (m : Made) : Type 0 where
+-- Where the streams of a connection stand: the bytes that are left to be read, and those that were written, where they are known; and whether
+-- the sink has failed.
+pub record Streams : Type 0 where
+  pub left : Option (List ℕ)
+  pub written : Option (List ℕ)
+  pub failed : Bool
+
+abbrev pub streams : Option (List ℕ) → Option (List ℕ) → Bool → Streams
+streams left written failed = record { left = left; written = written; failed = failed }
+
+-- These bytes were written, all of them; or the sink has failed, and it took a beginning of them.
+abbrev pub IsWritten : Streams → Streams → List ℕ → Type 0
+IsWritten from to bytes =
+    Appends from.written to.written bytes
+    ⊎ ((to.failed ≡ true) × AppendsFront from.written to.written bytes)
+
+-- All of them were sent, and their bytes were written, those of the offer first; and by these bytes of the source the attempt tells what it tells.
+pub record IsAttempt (a : AskedView) (conn : ℕ) (from to : Streams) (m : Made) : Type 0 where
   pub sent : IsSent a conn m
+  pub written : IsWritten from to (put_out a.wish (read m.attempt).version m.attempt.sent)
   pub unheard : List ℕ
-  pub took : Consumes left left_now (m.attempt.took ++ unheard)
+  pub took : Consumes from.left to.left (m.attempt.took ++ unheard)
 
 -- An attempt was made; or none was, since nothing but the offer went out.
-abbrev pub Attempts : AskedView → ℕ → Option (List ℕ) → Option (List ℕ) → Option (List ℕ) → Option (List ℕ) → Option Made → Type 0
-Attempts a conn left left_now written written_now None = AppendsFront written written_now (offer_of a.wish)
-Attempts a conn left left_now written written_now (Some m) = IsAttempt a conn left left_now m
+abbrev pub Attempts : AskedView → ℕ → Streams → Streams → Option Made → Type 0
+Attempts a conn from to None = AppendsFront from.written to.written (offer_of a.wish)
+Attempts a conn from to (Some m) = IsAttempt a conn from to m
 
 -- This is what it tells, whatever number its connection has.
-abbrev pub TellsOf : AskedView → Option (List ℕ) → Option (List ℕ) → Option (List ℕ) → Option (List ℕ) → Tells → Type 0
-TellsOf a left left_now written written_now told =
-    (conn : ℕ) → (m : Option Made) × (tells_in m ≡ told) × Attempts a conn left left_now written written_now m
+abbrev pub TellsOf : AskedView → Streams → Streams → Tells → Type 0
+TellsOf a from to told =
+    (conn : ℕ) → (m : Option Made) × (tells_in m ≡ told) × Attempts a conn from to m

@@ -1,17 +1,17 @@
 -- What is written of a tracking client, and what it makes of the bytes that are read.
-use Rattle.std.specs.Prelude.{◌≡◌, ◌⊎◌, ℕ, true, false, Option, Result, Ok, Err, List, [], ◌++◌, map, drop}
+use Rattle.std.specs.Prelude.{◌≡◌, ◌⊎◌, ℕ, true, false, Option, Result, Ok, Err, List, [], ◌++◌, map}
 use Rattle.std.specs.Io.KnownBytes.{Appends, Consumes, IsAtEnd}
 use Rattle.client.specs.Rest.{awaits}
 use Rattle.streams.specs.Fronts.{AppendsFront}
 use Rattle.driver.specs.Runs.{Hears as HearsPiece}
 use Rattle.connects.specs.declared.breaks.Break.{Break}
 use Rattle.connects.specs.declared.breaks.Break.TheVariants as break
-use Rattle.connects.specs.Stands.{Stand, Leads, lost_stand, taken_stand, Place, place}
+use Rattle.connects.specs.Stands.{Stand, Leads, lost_stand, emptied_stand, Place, place}
 
 -- Pieces were fed, of which these bytes were taken.
 pub record Hears (from to : Stand) (bytes : List ℕ) : Type 0 where
   pub pieces : List (List ℕ)
-  pub leads : Leads from (map HearsPiece pieces) to [] bytes false
+  pub leads : Leads from (map HearsPiece pieces) to [] bytes [] false
 
 -- all was heard, or the client has ended
 abbrev pub IsWhole : List ℕ → Stand → Type 0
@@ -40,16 +40,15 @@ pub record ReadsOn (from to : Stand) (left left_now : Option (List ℕ))
   pub hears : Hears from to heard
   pub whole : Unbroken result (IsWhole unheard to)
 
--- What was written of the output, of which n bytes were taken out: all of it, or a beginning where the sink failed or memory ran out.
-abbrev pub Writes : List ℕ → ℕ → Result (Unit {0}) Break → Option (List ℕ) → Option (List ℕ) → Type 0
-Writes out n (Err break.WriteFailed) before after = AppendsFront before after out
-Writes out n (Err break.Memory) before after = AppendsFront before after out
-Writes out n result before after = Appends before after out × (drop n out ≡ [])
+-- What was written of the output: all of it, or a beginning where the sink failed.
+abbrev pub Writes : List ℕ → Result (Unit {0}) Break → Option (List ℕ) → Option (List ℕ) → Type 0
+Writes out (Err break.WriteFailed) before after = AppendsFront before after out
+Writes out result before after = Appends before after out
 
--- The output was taken out, and written.
+-- The output was written, and taken out.
 abbrev pub PutsOut : Stand → Stand → Option (List ℕ) → Option (List ℕ) → Result (Unit {0}) Break → Type 0
 PutsOut from to before after result =
-    (n : ℕ) × Writes from.rest.unsent n result before after × (to ≡ taken_stand from n)
+    Writes from.rest.unsent result before after × (to ≡ emptied_stand from)
 
 -- Without a fault all was answered: no answer is to come, and no request waits. Where the source has ended, it is at its end.
 abbrev pub Ends : Result (Unit {0}) Break → Stand → Option (List ℕ) → Type 0
@@ -65,9 +64,8 @@ after_exchange (Err e) s = lost_stand s
 -- All that waits was written, and then bytes were read and fed until all was answered, or why not. What came of that is what pieces of just
 -- these bytes make of the client and of its account.
 pub record Converses (from to : Place) (result : Result (Unit {0}) Break) : Type 0 where
-  pub out : ℕ
-  pub writes : Writes from.stand.rest.unsent out result from.written to.written
-  pub reads : ReadsOn (taken_stand from.stand out) to.stand from.left to.left result
+  pub writes : Writes from.stand.rest.unsent result from.written to.written
+  pub reads : ReadsOn (emptied_stand from.stand) to.stand from.left to.left result
   pub ends : Ends result to.stand to.left
 
 -- The same; and where it broke off, the client is lost.

@@ -1,5 +1,5 @@
 -- Where a tracking client stands, and how calls lead on from there.
-use Rattle.std.specs.Prelude.{◌≡◌, ℕ, Bool, ◌||◌, if◌then◌else◌, Option, List, ◌++◌}
+use Rattle.std.specs.Prelude.{◌≡◌, ℕ, Bool, ◌||◌, if◌then◌else◌, Option, List, ◌++◌, length}
 use Rattle.messages.specs.View.{RequestView}
 use Rattle.client.specs.Rest.{Rest, losses, after_drop, taken_out}
 use Rattle.client.specs.Moments.{used_of}
@@ -21,18 +21,20 @@ stand_of t = record { rest = rest_in t; account = account_of t }
 abbrev pub stand_in : TrackedRun → Stand
 stand_in x = record { rest = x.run.rest; account = x.account }
 
--- A run has come to a stand, by which these requests more were accepted, these bytes more taken; lost: and the client was lost.
-pub record GoesOn (x y : TrackedRun) (to : Stand) (asked : List RequestView) (bytes : List ℕ)
+-- A run has come to a stand, by which these requests more were accepted, these bytes more taken, and these bytes more put out; lost: and the
+-- client was lost.
+pub record GoesOn (x y : TrackedRun) (to : Stand) (asked : List RequestView) (bytes out : List ℕ)
     (lost : Bool) : Type 0 where
   pub stands : stand_in y ≡ to
   pub sent : y.run.sent ≡ x.run.sent ++ asked
   pub took : y.run.took ≡ x.run.took ++ bytes
+  pub put : y.run.out ≡ x.run.out ++ out
   pub lose : y.run.lost ≡ (x.run.lost || lost)
 
 -- Calls lead from a stand to another: so each run goes on that stands there.
-abbrev pub Leads : Stand → List TrackedCall → Stand → List RequestView → List ℕ → Bool → Type 0
-Leads from cs to asked bytes lost =
-    (x : TrackedRun) → stand_in x ≡ from → GoesOn x (tracked_calls x cs) to asked bytes lost
+abbrev pub Leads : Stand → List TrackedCall → Stand → List RequestView → List ℕ → List ℕ → Bool → Type 0
+Leads from cs to asked bytes out lost =
+    (x : TrackedRun) → stand_in x ≡ from → GoesOn x (tracked_calls x cs) to asked bytes out lost
 
 -- how many bytes of a piece are taken: none where rows have to be taken first
 abbrev pub heard_count : Stand → List ℕ → ℕ
@@ -55,6 +57,10 @@ lost_stand s = record {
 -- once so many bytes are taken out
 abbrev pub taken_stand : Stand → ℕ → Stand
 taken_stand s max = record s { rest = taken_out s.rest max }
+
+-- once all that waits to go out is taken out
+abbrev pub emptied_stand : Stand → Stand
+emptied_stand s = taken_stand s (length s.rest.unsent)
 
 -- Where a connection stands: its client and its account, the bytes that are left to be read, and those that were written, where they are known.
 pub record Place : Type 0 where

@@ -2,7 +2,7 @@
 ghost use Rattle.std.specs.Prelude.{◌≡◌, ◌∷◌, ◌++◌, ◌<◌, ◌^◌, IfOk, Some, map, string_bytes, length};
 ghost use Rattle.messages.specs.View.{request_view};
 ghost use Rattle.connects.specs.Stands.{stand_of, place};
-ghost use Rattle.connects.specs.Attempting.{asked_view, requests_of, TellsOf};
+ghost use Rattle.connects.specs.Attempting.{asked_view, requests_of, streams, TellsOf};
 
 use crate::exchanging::exchange;
 use crate::pipelines::ask_all;
@@ -44,15 +44,17 @@ fn requests_of(
 }
 
 /// Makes an attempt over streams of which nothing was read or written yet, and answers what it tells: the version is heard, and then the greeting,
-/// BEGIN under the token, the queries, whose rows are dropped, and COMMIT are sent as one pipeline, all of them or none.
+/// BEGIN under the token, the queries, whose rows are dropped, and COMMIT are sent as one pipeline, all of them or none. Where they are sent, their
+/// bytes are written whole, unless the sink fails.
 pub fn attempt_over<I: Source, O: Sink>(
     alloc: Global,
     asked: &Asked,
     source: &mut I,
     sink: &mut O,
 ) -> Tells
-    ensures { TellsOf (asked_view asked.now) (I.left source.old) (I.left source.new)
-        (O.taken sink.old) (O.taken sink.new) result }
+    ensures { TellsOf (asked_view asked.now)
+        (streams (I.left source.old) (O.taken sink.old) (O.has_failed sink.old))
+        (streams (I.left source.new) (O.taken sink.new) (O.has_failed sink.new)) result }
 {
     let Ok(mut tracking) = TrackingClient::new(alloc, asked.wish, 0) else {
         return Tells::Nothing;

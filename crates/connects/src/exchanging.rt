@@ -91,7 +91,7 @@ fn read_on<I: Source>(tracking: &mut TrackingClient, source: &mut I) -> Result<(
     Ok(())
 }
 
-/// Writes all that the client puts out.
+/// Writes all that the client puts out. It takes no memory.
 fn write_out<O: Sink>(tracking: &mut TrackingClient, sink: &mut O) -> Result<(), Break>
     ensures out { PutsOut (stand_of tracking.old) (stand_of tracking.new) (O.taken sink.old)
         (O.taken sink.new) result }
@@ -102,10 +102,10 @@ fn write_out<O: Sink>(tracking: &mut TrackingClient, sink: &mut O) -> Result<(),
     ensures read { IsErrOf result Break.ReadFailed → ⊥ }
     ensures end { IsErrOf result Break.AtEnd → ⊥ }
 {
-    let Ok(bytes) = tracking.take_out(usize::MAX) else {
-        return Err(Break::Memory);
-    };
-    if write_all(sink, bytes.as_slice()).is_err() {
+    let written = write_all(sink, tracking.unsent());
+    let count = tracking.unsent().len();
+    tracking.sent(count);
+    if written.is_err() {
         return Err(Break::WriteFailed);
     }
     Ok(())

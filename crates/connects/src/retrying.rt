@@ -1,5 +1,5 @@
 //! A transaction that is sent under its token until it is known.
-ghost use Rattle.connects.specs.Attempting.{asked_view};
+ghost use Rattle.connects.specs.Attempting.{asked_view, streams};
 ghost use Rattle.connects.specs.Retrying.{Tries, IsKnown};
 
 use crate::attempting::{Asked, attempt_over};
@@ -13,13 +13,20 @@ pub trait Connects {
 
     type Out: Sink + Drop;
 
+    // What is said of the streams of one more, or that it can't be had, and of what opens them before and after. Who can say nothing says `⊤`.
+    ghost opens: { Self → Option (Self.In × Self.Out) → Self → Type 0 };
+
+    ghost use Rattle.std.specs.Prelude.{Option};
+
     /// The streams of one more, of which nothing was read or written yet; none where it can't be had. Before it the caller may wait.
-    fn connect(&mut self) -> Option<(Self::In, Self::Out)>;
+    fn connect(&mut self) -> Option<(Self::In, Self::Out)>
+        ensures { opens self.old result self.new };
 }
 
-/// One attempt, which tells nothing where no connection is had.
+/// One attempt over a connection that is opened for it, which tells nothing where that can't be had.
 fn try_once<C: Connects>(alloc: Global, asked: &Asked, connects: &mut C) -> Tells
-    ensures { Tries (asked_view asked.now) result }
+    ensures { Tries C.opens (λ s. streams (C.In.left s.0) (C.Out.taken s.1) (C.Out.has_failed s.1))
+        (asked_view asked.now) connects.old connects.new result }
 {
     match connects.connect() {
         Some((mut source, mut sink)) => attempt_over(alloc, asked, &mut source, &mut sink),
@@ -30,10 +37,11 @@ fn try_once<C: Connects>(alloc: Global, asked: &Asked, connects: &mut C) -> Tell
 /// Sends a transaction under its token, each time over a connection of its own, until it is known what became of it, and `tries` times at most.
 ///
 /// Stands: it is committed. Clash: other writes stand under the token. Refused: the server refuses it, and nothing of it stands. Where the tries
-/// are used up, Open if an attempt may have committed, else Absent. No attempt follows one by which it is known. What these mean for the ledger of a
-/// server of this product is the law `sent_until_known` of `known`.
+/// are used up, Open if an attempt may have committed, else Absent. Each connection that is opened has one attempt over its streams, and none is opened
+/// once it is known. What these mean for the ledger of a server of this product is the law `sent_until_known` of `known`.
 pub fn until_known<C: Connects>(alloc: Global, asked: &Asked, connects: &mut C, tries: u32) -> Fate
-    ensures { IsKnown (asked_view asked.now) tries result }
+    ensures { IsKnown C.opens (λ s. streams (C.In.left s.0) (C.Out.taken s.1) (C.Out.has_failed s.1))
+        (asked_view asked.now) connects.old connects.new tries result }
 {
     let mut doubtful = false;
     for _ in 0..tries {

@@ -10,7 +10,7 @@ use Rattle.client.specs.declared.Outcome.{Outcome}
 use Rattle.client.specs.declared.ClientFault.{ClientFault}
 use Rattle.client.specs.declared.ClientFault.TheVariants as client_fault
 use Rattle.client.specs.declared.SubmitFault.{SubmitFault}
-use Rattle.client.specs.Prelude.{Told, Got, GotRow, Note, Nothing, Chose, Row, Summary, note_of, Knows, Rest, Hearing, heard_as, Fed, fed_item, fed_open, feed_of, refuses, losses, reading_of, knows_of, Submits, Feeds, TakesOut, Loses, Run, submits, used_of, tellings, tellings_in, call}
+use Rattle.client.specs.Prelude.{Told, Got, GotRow, Note, Nothing, Chose, Row, Summary, note_of, Knows, Rest, Hearing, heard_as, Fed, fed_item, fed_open, feed_of, refuses, losses, reading_of, knows_of, Submits, Feeds, TakesOut, Loses, Run, submits, used_of, tellings, tellings_in, call, IsByBytes}
 use Rattle.client.proofs.Makes.{Makes, makes, spoils, turns_away, takes_version, tells_none, tells_row, tells_summary}
 use Rattle.client.proofs.Runs.{Holds, calls_hold, starts_hold}
 use Rattle.driver.specs.Account.{Account, ReplyView, keeps_row, with_row, with_note, with_losses, reply_in, outcome_lost, outcome_of, without_rows, taken_or}
@@ -235,3 +235,7 @@ pub accounts_by_bytes : AccountsByBytes
 accounts_by_bytes wish limit cs i =
     let x = tracked_calls (tracking wish limit) cs in
     by_bytes wish x.run x.account (calls_fine wish cs (tracking wish limit) (tracking_fine wish limit)) i
+
+-- the client of a run is what its wish, its requests and its bytes make of it
+pub run_by_bytes : (wish : Wish) (limit : ℕ) (cs : List TrackedCall) → IsByBytes wish (tracked_calls (tracking wish limit) cs).run
+run_by_bytes wish limit cs = (calls_fine wish cs (tracking wish limit) (tracking_fine wish limit)).holds.by_bytes

@@ -1,11 +1,10 @@
--- Attempts so far, and what is known by one more.
-use Rattle.std.proofs.Common.{◌≡◌, sym, ◌∙◌, ap, ℕ, suc, ◌+◌, ◌-◌, ◌<◌, ◌≤◌, Bool, true, false, refl, Option, Some, List, [], ◌∷◌, ◌++◌, map, append_assoc, append-nil, arith}
+-- What was told so far, and what is known by one more.
+use Rattle.std.proofs.Common.{◌≡◌, refl, sym, ◌∙◌, ap, ℕ, suc, ◌+◌, ◌-◌, ◌<◌, ◌≤◌, Bool, true, false, Some, List, [], ◌∷◌, ◌++◌, append_assoc, append-nil, arith}
 use Rattle.driver.specs.declared.attempts.Tells.{Tells}
 use Rattle.driver.specs.declared.attempts.Tells.TheVariants as tells
 use Rattle.driver.specs.declared.attempts.Fate.{Fate}
 use Rattle.driver.specs.declared.attempts.Fate.TheVariants as fate
 use Rattle.driver.specs.Fates.{fate_of}
-use Rattle.driver.specs.Attempts.{Made, tells_in, Tries, Knows}
 
 -- what is known by what the next tells, whatever was doubtful
 pub stands : (d : Bool) (n : ℕ) → fate_of d (suc n) (tells.Stands ∷ []) ≡ Some fate.Stands
@@ -24,48 +23,33 @@ pub doubts : (d : Bool) (n : ℕ) (later : List Tells) → fate_of d (suc n) (te
 doubts true n later = refl
 doubts false n later = refl
 
--- so many attempts were made, and what is known by all depends on those that come
-pub record SoFar (tries made : ℕ) (doubtful : Bool) (before now : List (Option Made)) : Type 0 where
-  pub more : List (Option Made)
-  pub grown : now ≡ before ++ more
-  pub goes : (later : List Tells) → fate_of false tries (map tells_in more ++ later) ≡ fate_of doubtful (tries - made) later
+-- so many attempts told this, and what is known by all depends on those that come
+abbrev pub SoFar : ℕ → ℕ → Bool → List Tells → Type 0
+SoFar tries made d told = (later : List Tells) → fate_of false tries (told ++ later) ≡ fate_of d (tries - made) later
 
-pub none_yet : (tries : ℕ) (before : List (Option Made)) → SoFar tries 0 false before before
-none_yet tries before = record { more = []; grown = sym (append-nil before); goes = λ later. let same : tries ≡ tries - 0 = omega arith in ap (λ n. fate_of false n later) same }
+pub none_yet : (tries : ℕ) → SoFar tries 0 false []
+none_yet tries later = let same : tries ≡ tries - 0 = omega arith in ap (λ n. fate_of false n later) same
 
--- what more attempts tell, the last of them this
-told_with : (ms : List (Option Made)) (m : Option Made) (t : Tells) → tells_in m ≡ t → (later : List Tells) → map tells_in (ms ++ m ∷ []) ++ later ≡ map tells_in ms ++ t ∷ later
-told_with [] m t e later = ap (λ x. x ∷ later) e
-told_with (x ∷ ms) m t e later = ap (λ z. tells_in x ∷ z) (told_with ms m t e later)
+-- one more was made
+pub with_one : (tries made : ℕ) (d : Bool) (told : List Tells) (t : Tells) → SoFar tries made d told → made < tries
+    → (later : List Tells) → fate_of false tries ((told ++ t ∷ []) ++ later) ≡ fate_of d (suc (tries - (made + 1))) (t ∷ later)
+with_one tries made d told t s l later =
+    let one : tries - made ≡ suc (tries - (made + 1)) = omega (arith, l) in
+    ap (fate_of false tries) (append_assoc told (t ∷ []) later) ∙ s (t ∷ later) ∙ ap (λ n. fate_of d n (t ∷ later)) one
 
--- by one more
-pub one_more : (tries made : ℕ) (d d2 : Bool) (before now next : List (Option Made)) (t : Tells) → SoFar tries made d before now → made < tries → Tries now next t
-    → ((n : ℕ) (later : List Tells) → fate_of d (suc n) (t ∷ later) ≡ fate_of d2 n later) → SoFar tries (made + 1) d2 before next
-one_more tries made d d2 before now next t s l (m, e, tell) step =
-    record {
-      more = s.more ++ m ∷ [];
-      grown = e ∙ ap (λ z. z ++ m ∷ []) s.grown ∙ append_assoc before s.more (m ∷ []);
-      goes = λ later.
-          let one : tries - made ≡ suc (tries - (made + 1)) = omega (arith, l) in
-          ap (fate_of false tries) (told_with s.more m t tell later) ∙ s.goes (t ∷ later) ∙ ap (λ n. fate_of d n (t ∷ later)) one ∙ step (tries - (made + 1)) later;
-    }
+pub one_more : (tries made : ℕ) (d d2 : Bool) (told : List Tells) (t : Tells) → SoFar tries made d told → made < tries
+    → ((n : ℕ) (later : List Tells) → fate_of d (suc n) (t ∷ later) ≡ fate_of d2 n later) → SoFar tries (made + 1) d2 (told ++ t ∷ [])
+one_more tries made d d2 told t s l step later = with_one tries made d told t s l later ∙ step (tries - (made + 1)) later
 
 -- it is known by the last
-pub known_by : (tries made : ℕ) (d : Bool) (before now next : List (Option Made)) (t : Tells) (f : Fate) → SoFar tries made d before now → made < tries → Tries now next t
-    → ((n : ℕ) → fate_of d (suc n) (t ∷ []) ≡ Some f) → Knows tries before next f
-known_by tries made d before now next t f s l (m, e, tell) step = (
-  s.more ++ m ∷ [],
-  e ∙ ap (λ z. z ++ m ∷ []) s.grown ∙ append_assoc before s.more (m ∷ []),
-  let one : tries - made ≡ suc (tries - (made + 1)) = omega (arith, l) in
-      ap (fate_of false tries) (sym (append-nil (map tells_in (s.more ++ m ∷ []))) ∙ told_with s.more m t tell []) ∙ s.goes (t ∷ []) ∙ ap (λ n. fate_of d n (t ∷ [])) one ∙ step (tries - (made + 1)),
-)
+pub known_by : (tries made : ℕ) (d : Bool) (told : List Tells) (t : Tells) (f : Fate) → SoFar tries made d told → made < tries
+    → ((n : ℕ) → fate_of d (suc n) (t ∷ []) ≡ Some f) → fate_of false tries (told ++ t ∷ []) ≡ Some f
+known_by tries made d told t f s l step =
+    ap (fate_of false tries) (sym (append-nil (told ++ t ∷ []))) ∙ with_one tries made d told t s l [] ∙ step (tries - (made + 1))
 
 -- the tries are used up
-pub used_up : (tries made : ℕ) (d : Bool) (before now : List (Option Made)) (f : Fate) → SoFar tries made d before now → tries ≤ made
-    → fate_of d 0 [] ≡ Some f → Knows tries before now f
-used_up tries made d before now f s l e = (
-  s.more,
-  s.grown,
-  let none : tries - made ≡ 0 = omega (arith, l) in
-      ap (fate_of false tries) (sym (append-nil (map tells_in s.more))) ∙ s.goes [] ∙ ap (λ n. fate_of d n []) none ∙ e,
-)
+pub used_up : (tries made : ℕ) (d : Bool) (told : List Tells) (f : Fate) → SoFar tries made d told → tries ≤ made
+    → fate_of d 0 [] ≡ Some f → fate_of false tries told ≡ Some f
+used_up tries made d told f s l e =
+    let none : tries - made ≡ 0 = omega (arith, l) in
+    ap (fate_of false tries) (sym (append-nil told)) ∙ s [] ∙ ap (λ n. fate_of d n []) none ∙ e

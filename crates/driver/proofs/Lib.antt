@@ -5,4 +5,5 @@ pub mod FewRows
 pub mod Sure
 pub mod Taking
 pub mod Idle
+pub mod Beyond
 pub mod HeldRows

@@ -1,5 +1,5 @@
 -- An attempt of a transaction as its caller saw it, and what it tells.
-use Rattle.std.specs.Prelude.{◌≡◌, ℕ, Bool, false, ◌==◌, if◌then◌else◌, Option, Some, None, List, [], ◌∷◌, ◌++◌, length, map}
+use Rattle.std.specs.Prelude.{ℕ, Bool, false, ◌==◌, if◌then◌else◌, Option, Some, None, List, [], ◌∷◌, length}
 use Rattle.std.specs.Option.{option_or}
 use Rattle.wire.specs.declared.Wish.{Wish}
 use Rattle.messages.specs.View.{RequestView}
@@ -9,10 +9,8 @@ use Rattle.client.specs.Rest.{losses}
 use Rattle.client.specs.Client.{Reading, knows_of, reading_of}
 use Rattle.driver.specs.declared.attempts.Tells.{Tells}
 use Rattle.driver.specs.declared.attempts.Tells.TheVariants as tells_variant
-use Rattle.driver.specs.declared.attempts.Fate.{Fate}
 use Rattle.driver.specs.Account.{outcome_lost}
 use Rattle.driver.specs.Telling.{tells_by}
-use Rattle.driver.specs.Fates.{fate_of}
 
 -- what its client wished, the requests that it accepted, the bytes that it took, and whether it was lost
 pub record Attempt : Type 0 where
@@ -56,13 +54,3 @@ tells m = tells_by (told_of m.attempt) m.commit m.clash m.final (length m.attemp
 abbrev pub tells_in : Option Made → Tells
 tells_in None = tells_variant.Nothing
 tells_in (Some m) = tells m
-
--- One attempt more was made, and this is what it tells.
-abbrev pub Tries : List (Option Made) → List (Option Made) → Tells → Type 0
-Tries before after t = (m : Option Made) × (after ≡ before ++ m ∷ []) × (tells_in m ≡ t)
-
--- The attempts that were made are more than before, and by them this is known.
-abbrev pub Knows : ℕ → List (Option Made) → List (Option Made) → Fate → Type 0
-Knows tries before after f =
-    (more : List (Option Made)) × (after ≡ before ++ more)
-    × (fate_of false tries (map tells_in more) ≡ Some f)

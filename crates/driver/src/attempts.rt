@@ -1,6 +1,4 @@
-//! Attempts of one transaction under one token, until it is known.
-ghost use Rattle.std.specs.Prelude.{◌≡◌};
-ghost use Rattle.driver.specs.Attempts.{Knows};
+//! What attempts of one transaction under one token tell, and what is known by them.
 
 /// What one attempt of a transaction under a token tells.
 #[derive(Clone, Copy, Debug, PartialEq, Eq)]
@@ -30,42 +28,4 @@ pub enum Fate {
     Open,
     /// The tries are used up, and no attempt may have committed.
     Absent,
-}
-
-/// What makes attempts, each over a connection of its own, of the same requests in the same order under one token.
-pub trait Attempts {
-    // The attempts that were made, the oldest first; none where no connection could be opened.
-    ghost made: { Self → List (Option Made) };
-
-    ghost use Rattle.std.specs.Prelude.{List, Option};
-    ghost use Rattle.driver.specs.Attempts.{Made, Tries};
-
-    /// One attempt more. Before it the caller may wait.
-    fn attempt(&mut self) -> Tells
-        ensures { Tries (made self.old) (made self.new) result };
-}
-
-/// Makes attempts until it is known, and as many as `tries` at most: no attempt follows one that tells Stands or Clash, or one that tells
-/// Refused where none before it tells a doubt. A refusal behind a doubt settles nothing, since what is in doubt may be why it was refused.
-pub fn until_known<A: Attempts>(attempts: &mut A, tries: u32) -> Fate
-    ensures { Knows tries (A.made attempts.old) (A.made attempts.new) result }
-{
-    let mut doubtful = false;
-    for _ in 0..tries {
-        match attempts.attempt() {
-            Tells::Stands => return Fate::Stands,
-            Tells::Clash => return Fate::Clash,
-            Tells::Refused => {
-                if !doubtful {
-                    return Fate::Refused;
-                }
-            }
-            Tells::Nothing => {}
-            Tells::Doubt => doubtful = true,
-        }
-    }
-    if doubtful {
-        return Fate::Open;
-    }
-    Fate::Absent
 }

@@ -1,5 +1,5 @@
-//! What stands between a client and who calls it, without input or output: a client that keeps track of its requests, and attempts of one
-//! transaction under one token until it is known.
+//! What stands between a client and who calls it, without input or output: a client that keeps track of its requests, and what attempts of one
+//! transaction under one token tell.
 //!
 //! A caller moves the bytes: it takes out what is to be sent, and feeds what came. At any moment, after any call that was cut off too, the account
 //! says of each request what is known of it.
@@ -13,7 +13,7 @@ mod requests;
 mod telling;
 mod tracking;
 
-pub use attempts::{Attempts, Fate, Tells, until_known};
+pub use attempts::{Fate, Tells};
 pub use faults::FeedFault;
 pub use requests::Rows;
 pub use tracking::TrackingClient;

@@ -1,4 +1,5 @@
 //! Sends a transaction under a token to a port of this machine until it is known, and then runs a query and prints its rows.
+ghost use Rattle.std.specs.Prelude.{⊤};
 
 use client::ClientFault;
 use connects::{Asked, Connection, Connects, Fault, Query, text_cell, until_known};
@@ -77,6 +78,9 @@ impl Connects for Port<'_> {
     type In = Over<TcpStream>;
 
     type Out = Over<TcpStream>;
+
+    // Nothing can be said of what a socket gives.
+    ghost opens = { λ _ _ _. ⊤ };
 
     fn connect(&mut self) -> Option<(Over<TcpStream>, Over<TcpStream>)> {
         let stream = TcpStream::connect(self.rt, ("127.0.0.1", self.port)).ok()?;

@@ -5,7 +5,7 @@ use Rattle.session.specs.Session.{Setting}
 use Rattle.driver.specs.declared.Fate.{Fate}
 use Rattle.driver.specs.Attempts.{Made, tells_in}
 use Rattle.driver.specs.Fates.{fate_of}
-use Rattle.connects.specs.Attempting.{AskedView}
+use Rattle.connects.specs.Attempting.{AskedView, Streams}
 use Rattle.connects.specs.Retrying.{AreTries}
 use Rattle.world.specs.Connections.{Connection}
 use Rattle.world.specs.World.{World, Reached}
@@ -18,11 +18,13 @@ abbrev pub IsMet : World → Option Made → Type 0
 IsMet w None = Unit {0}
 IsMet w (Some m) = (k : Connection) × IsAt w m.conn k m.attempt
 
--- In every reached world in which the attempts of a call are connections of ours, whoever else uses its token, what is known by them is so.
+-- In every reached world in which the attempts of a call over the connections that it opened are connections of ours, whoever else uses its token,
+-- what is known by them is so.
 abbrev pub SentUntilKnown : Type 0
 SentUntilKnown =
     (S : Setting) (brought : List EntryView) (w : World) → Reached S brought w
-    → (a : AskedView) (conns : ℕ → ℕ) (made : List (Option Made)) → AreTries a conns 0 made
+    → (a : AskedView) (conns : ℕ → ℕ) (used : List (Option (Streams × Streams)))
+    → (made : List (Option Made)) → AreTries a conns 0 used made
     → Each (IsMet w) made
     → (tries : ℕ) (f : Fate) → fate_of false tries (map tells_in made) ≡ Some f
     → Means S a.token w made f

@@ -60,8 +60,8 @@ pub fn one_caller_may_rely()
     ensures { OneCallerMayRely }
 {}
 
-/// The same of a call of `until_known` of `connects`: in every reached world in which the attempts that it made are connections of ours, what
-/// it answers means that of the ledger.
+/// What a call of `until_known` of `connects` answers means that of the ledger, in every reached world in which the attempts that it made over the
+/// connections that it opened are connections of ours.
 pub fn sent_until_known()
     ensures { SentUntilKnown }
 {}
