@@ -1,8 +1,9 @@
 -- What a call on the one session makes of a server: its place there, what each call does to it, and that it lives on while the ledger grows.
 use Rattle.std.proofs.Common.{◌≡◌, refl, ap, ℕ, List, [], ◌∷◌, true, false, Bool, Some, sym, subst, ◌∙◌, ◌++◌, Option, None, Result, Ok, Err, ◌<◌, length, ◌≤◌, arith, append_assoc, append-nil, IsSome, option_map, option_and_then, unwrap_or, if◌then◌else◌, inl, inr, take, drop, option_to_list}
 use Rattle.std.proofs.lemmas.Bool.Decides.{nat_tests}
-use Rattle.server.specs.Prelude.{Live, Rest, find, replace, without, with_session, on_live, after_step, setting, work_at, take_out_at, fed_live, feed_at, cause_or, lost_at, Feeding, feeding, takes_none, takes_item, arrival}
-use Rattle.server.specs.Serving.{cause_at}
+use Rattle.std.proofs.lemmas.List.{drop_all}
+use Rattle.server.specs.Prelude.{Live, Rest, find, replace, without, with_session, on_live, after_step, setting, work_at, sent_at, fed_live, feed_at, cause_or, lost_at, Feeding, feeding, takes_none, takes_item, arrival}
+use Rattle.server.specs.Serving.{cause_at, left_by, unsent_at}
 use Rattle.server.proofs.Known.{gone}
 use Rattle.server.proofs.Runs.{find_replaced, find-conn}
 use Rattle.engine.specs.Prelude.{EntryView, WriteView, ParameterView, AnswerView, QueryFault}
@@ -15,7 +16,6 @@ use Rattle.session.specs.declared.kinds.Worked.{Worked}
 use Rattle.std.specs.Io.KnownBytes.{Appends}
 use Rattle.std.proofs.KnownBytes.{Appends-trans}
 use Rattle.streams.specs.declared.fault.StreamFault.{StreamFault}
-use Rattle.streams.proofs.Parts.{take_short}
 use Rattle.wire.proofs.Readers.{reads_pieces, takes_outputs}
 use Rattle.server.specs.declared.kinds.Took.{Took}
 use Rattle.session.specs.declared.kinds.What.{What}
@@ -113,13 +113,18 @@ module _ {G : Type 0} (r : Rest G) (conn : ℕ) (lives : IsSome (find conn r.ses
 abbrev left : {G : Type 0} → Rest G → Live → List ℕ → Rest G
 left r s z = with_session (record { conn = s.conn; kept = record s.kept { unsent = z }; unfinished = s.unfinished }) r
 
--- fewer than were asked for are all
-pub all_out : {G : Type 0} (max conn : ℕ) (r new : Rest G) (x : List ℕ) → length x < max → take_out_at conn max r ≡ Some (x, new) → on_live said_by conn r ≡ Some (x, new)
-all_out {G = G} max conn r new x l e =
-    by_option (λ o. option_map {U = List ℕ × Rest G} (λ (s : Live). (take max s.kept.unsent, left r s (drop max s.kept.unsent))) o ≡ Some (x, new) → option_map {U = List ℕ × Rest G} (λ (s : Live). (s.kept.unsent, left r s [])) o ≡ Some (x, new)) (find conn r.sessions)
-    (λ s _ e.
-    let t = take_short max s.kept.unsent (subst (λ (z : List ℕ). length z < max) (sym (some_first (take max s.kept.unsent) x (left r s (drop max s.kept.unsent)) new e)) l) in
-    sym (ap (λ z. Some (pair z (left r s (drop max s.kept.unsent)))) t.0 ∙ ap (λ z. Some (pair s.kept.unsent (left r s z))) t.1) ∙ e) (λ _ e. cc) e
+-- no session has the number where nothing is lent
+pub none_lent : {G : Type 0} (conn : ℕ) (r : Rest G) → unsent_at conn r ≡ None → find conn r.sessions ≡ None
+none_lent conn r = by_option (λ o. option_map (λ (s : Live). s.kept.unsent) o ≡ None → o ≡ None) (find conn r.sessions) (λ s _ e. absurd cc) (λ _ e. refl)
+
+-- all that was lent is gone
+pub lent_out : {G : Type 0} (conn count : ℕ) (r new : Rest G) (x : List ℕ) → unsent_at conn r ≡ Some x → count ≡ length x → new ≡ sent_at conn count r → on_live said_by conn r ≡ Some (x, new)
+lent_out {G = G} conn count r new x e n gone =
+    by_option (λ o. option_map (λ (s : Live). s.kept.unsent) o ≡ Some x → new ≡ left_by r (option_map {U = List ℕ × Rest G} (λ (s : Live). (take count s.kept.unsent, left r s (drop count s.kept.unsent))) o) → option_map {U = List ℕ × Rest G} (λ (s : Live). (s.kept.unsent, left r s [])) o ≡ Some (x, new)) (find conn r.sessions)
+    (λ s _ e gone.
+    let same : s.kept.unsent ≡ x = ap (λ o. unwrap_or o x) e in
+    let none : drop count s.kept.unsent ≡ [] = drop_all count s.kept.unsent (omega (arith, n, ap length same)) in
+    ap (λ z. Some (pair z (left r s []))) same ∙ ap (λ z. Some (pair x z)) (sym (gone ∙ ap (left r s) none))) (λ _ e gone. absurd cc) e gone
 
 abbrev pub by_room : Bool → Bool → Opened → Kept → TookOf Opened Item → Feeding
 by_room shut full u k t = if shut then takes_none What.Closed k u else (if full then takes_none What.Full k u else takes_item k t)

@@ -1,5 +1,5 @@
 //! All that is due of a session is worked, and what it has said is written.
-ghost use Rattle.std.specs.Prelude.{◌≡◌, ℕ, List, [], Option, IsSome, IfErr, false, true};
+ghost use Rattle.std.specs.Prelude.{◌≡◌, ℕ, List, [], Option, None, IsSome, IfErr, IsErrOf, false, true};
 ghost use Rattle.wire.specs.Framing.{Opened};
 ghost use Rattle.server.specs.Serving.{Rest, cause_at, find, setting, work_at};
 ghost use Rattle.server.specs.Views.{rest_of, Fits};
@@ -23,8 +23,8 @@ enum Next {
     Rest,
 }
 
-/// Writes all that a session has said. I2 where the sink fails, with a beginning of it written; I3 for want of memory, and then nothing has
-/// changed.
+/// Writes all that waits to go of a session, where it lies, and then lets it go. I2 where the sink fails, with a beginning of it written; I3
+/// where no session has the number, and then nothing has changed. It takes no memory of its own.
 pub(crate) fn put_out<E: Engine, G: Gate, O: Sink>(
     server: &mut Server<E, G>,
     conn: u64,
@@ -33,16 +33,21 @@ pub(crate) fn put_out<E: Engine, G: Gate, O: Sink>(
     ensures grows { GrowsOn conn (Fits E.entries server.old) (Fits E.entries server.new) }
     ensures puts { Puts conn (rest_of E.entries server.old) (rest_of E.entries server.new)
         (O.taken sink.old) (O.taken sink.new) result }
+    ensures unknown { IsErrOf result StreamFault.Memory
+        → find conn (rest_of E.entries server.old).sessions ≡ None }
     ensures failed { IfErr result (λ e. IsDueTo e false (O.has_failed sink.new)) }
     ensures stays { O.has_failed sink.old ≡ true → O.has_failed sink.new ≡ true }
 {
-    let Ok(bytes) = server.take_out(conn, usize::MAX) else {
+    let Some(bytes) = server.unsent(conn) else {
         return Err(StreamFault::Memory);
     };
-    let Ok(()) = write_all(sink, bytes.as_slice()) else {
-        return Err(StreamFault::WriteFailed);
-    };
-    Ok(())
+    let count = bytes.len();
+    let written = write_all(sink, bytes);
+    server.sent(conn, count);
+    match written {
+        Ok(()) => Ok(()),
+        Err(_) => Err(StreamFault::WriteFailed),
+    }
 }
 
 /// How many steps may be due at most, and more than there ever are.

@@ -34,7 +34,8 @@ pub fn serve_one<E: Engine, G: Gate, I: Peer, O: Sink>(
     // all that they make due, for at most 4,096 bytes. No other read is made.
     requires turns { LetsRead I.may_read (λ s taken. (r : Rest G) → Fits E.entries server.old r
         → find conn r.sessions ≡ Some (fresh conn)
-        → IsTurn r conn (setting E.answer G.accepts r) (I.left source.old) (I.left s) (O.taken sink.old) taken) }
+        → IsTurn r conn (setting E.answer G.accepts r) (I.left source.old) (I.left s)
+        (O.taken sink.old) taken) }
     // Of a fresh session, some bytes were read: the sink took what the conversation puts out for them, the ledger is as it leaves it, the
     // cause is that of its end, and with that or the input the reading ended; at a fault the conversation was broken off at some moment of it:
     // the sink took a beginning of what was put out by then, and the ledger is the one of then. The session lives no more.
@@ -68,7 +69,8 @@ pub fn converse<E: Engine, G: Gate, I: Peer, O: Sink>(
     requires live { IsLive E.entries conn server.old }
     requires turns { LetsRead I.may_read (λ s taken. (r : Rest G) → Fits E.entries server.old r
         → find conn r.sessions ≡ Some (fresh conn)
-        → IsTurn r conn (setting E.answer G.accepts r) (I.left source.old) (I.left s) (O.taken sink.old) taken) }
+        → IsTurn r conn (setting E.answer G.accepts r) (I.left source.old) (I.left s)
+        (O.taken sink.old) taken) }
     ensures live { IsLive E.entries conn server.new }
     ensures grows { LivesOn conn (Fits E.entries server.old) (Fits E.entries server.new) }
     ensures converses { (r : Rest G) → Fits E.entries server.old r
@@ -97,7 +99,8 @@ fn converse_by<E: Engine, G: Gate, I: Peer, O: Sink>(
     requires few { length buffer.old ≤ max_piece }
     requires turns { LetsRead I.may_read (λ s taken. (r : Rest G) → Fits E.entries server.old r
         → find conn r.sessions ≡ Some (fresh conn)
-        → IsTurn r conn (setting E.answer G.accepts r) (I.left source.old) (I.left s) (O.taken sink.old) taken) }
+        → IsTurn r conn (setting E.answer G.accepts r) (I.left source.old) (I.left s)
+        (O.taken sink.old) taken) }
     ensures live { IsLive E.entries conn server.new }
     ensures grows { LivesOn conn (Fits E.entries server.old) (Fits E.entries server.new) }
     ensures converses { (r : Rest G) → Fits E.entries server.old r

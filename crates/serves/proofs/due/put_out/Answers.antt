@@ -1,30 +1,24 @@
-use Rattle.std.proofs.Common.{ℕ, List, ◌<◌, length, refl, inl, inr, subst, ◌∙◌, arith}
-use Rattle.std.specs.Io.KnownBytes.{Appends}
-use Rattle.server.specs.Prelude.{taken_from}
-use Rattle.serves.proofs.Called.{all_out, grows_called}
+use Rattle.std.proofs.Common.{refl, sym, inl, inr}
+use Rattle.server.specs.Prelude.{rest_of}
+use Rattle.serves.specs.Prelude.{said_by}
+use Rattle.serves.proofs.Called.{grows_called, lent_out, none_lent}
 use Rattle.std.proofs.KnownBytes.{Appends-nil}
 use Rattle.serves.proofs.due.put_out.Goals as goal
 
--- as many as there may be
-abbrev most : ℕ
-most = 18446744073709551615
-
 pub returns-in_default-clause-puts : goal.returns-in_default-clause-puts
-returns-in_default-clause-puts g c = inl (c.in_default.ensures.refused, Appends-nil (g.O.Sink.taken c.args.sink.now))
+returns-in_default-clause-puts g c = inl (refl, Appends-nil (g.O.Sink.taken c.args.sink.now))
 
-pub returns-in_default-write_all-clause-grows : goal.returns-in_default-write_all-clause-grows
-returns-in_default-write_all-clause-grows g c = grows_called c.args.conn (taken_from most) (λ s. refl) _ _ c.in-Ok.bytes c.in-Ok.ensures.done
+pub returns-in_default-clause-unknown : goal.returns-in_default-clause-unknown
+returns-in_default-clause-unknown g c = λ e. none_lent c.args.conn (rest_of g.E.Engine.entries c.args.server.now) (sym c.in_default.ensures)
 
-pub returns-clause-grows : goal.returns-clause-grows
-returns-clause-grows g c = grows_called c.args.conn (taken_from most) (λ s. refl) _ _ c.in-Ok.bytes c.in-Ok.ensures.done
+pub returns-in-Ok-clause-grows : goal.returns-in-Ok-clause-grows
+returns-in-Ok-clause-grows g c = grows_called c.args.conn said_by (λ s. refl) _ _ c.in-Some.bytes.now (lent_out c.args.conn _ _ _ c.in-Some.bytes.now (sym c.in-Some.ensures) refl c.sent.ensures)
 
-pub returns-in_default-write_all-clause-puts : goal.returns-in_default-write_all-clause-puts
-returns-in_default-write_all-clause-puts g c =
-    let few : length c.in-Ok.bytes < most = subst (λ (b : List ℕ). length b < most) c.as_slice.ensures (omega (arith, c.as_slice.type_inv.1)) in
-    let w = c.in_default-write_all.ensures.front in
-    inr (c.in-Ok.bytes, all_out most c.args.conn _ _ c.in-Ok.bytes few c.in-Ok.ensures.done, (w.0, w.1, w.2 ∙ c.as_slice.ensures, w.3))
+pub returns-in-Ok-clause-puts : goal.returns-in-Ok-clause-puts
+returns-in-Ok-clause-puts g c = (c.in-Some.bytes.now, lent_out c.args.conn _ _ _ c.in-Some.bytes.now (sym c.in-Some.ensures) refl c.sent.ensures, c.in-Ok.ensures.ok)
 
-pub returns-clause-puts : goal.returns-clause-puts
-returns-clause-puts g c =
-    let few : length c.in-Ok.bytes < most = subst (λ (b : List ℕ). length b < most) c.as_slice.ensures (omega (arith, c.as_slice.type_inv.1)) in
-    (c.in-Ok.bytes, all_out most c.args.conn _ _ c.in-Ok.bytes few c.in-Ok.ensures.done, subst (Appends (g.O.Sink.taken c.args.sink.now) (g.O.Sink.taken c.write_all.new.sink)) c.as_slice.ensures c.in-Ok-write_all.ensures.ok)
+pub returns-in-Err-clause-grows : goal.returns-in-Err-clause-grows
+returns-in-Err-clause-grows g c = grows_called c.args.conn said_by (λ s. refl) _ _ c.in-Some.bytes.now (lent_out c.args.conn _ _ _ c.in-Some.bytes.now (sym c.in-Some.ensures) refl c.sent.ensures)
+
+pub returns-in-Err-clause-puts : goal.returns-in-Err-clause-puts
+returns-in-Err-clause-puts g c = inr (c.in-Some.bytes.now, lent_out c.args.conn _ _ _ c.in-Some.bytes.now (sym c.in-Some.ensures) refl c.sent.ensures, c.in-Err.ensures.front)
