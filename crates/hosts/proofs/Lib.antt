@@ -1,0 +1,5 @@
+pub mod Lists
+pub mod Calls
+pub mod Led
+pub mod Served
+pub mod Ran

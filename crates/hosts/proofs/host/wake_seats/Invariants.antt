@@ -1,0 +1,11 @@
+use Rattle.std.proofs.Common.{◌≡◌, ◌++◌, map, take, drop}
+use Rattle.std.specs.VecDeque.{deque_len, deque_capacity}
+use Rattle.hosts.specs.Prelude.{woken_seat}
+use Rattle.hosts.proofs.host.wake_seats.Given as goal
+
+abbrev pub invariant-loop-at : goal.invariant-loop-at
+invariant-loop-at l = record {
+  items : l.seats.items ≡ map (woken_seat l.conn l.ready) (take l.at l.fn.seats.items) ++ drop l.at l.fn.seats.items;
+  len : deque_len l.seats ≡ deque_len l.fn.seats;
+  capacity : deque_capacity l.seats ≡ deque_capacity l.fn.seats;
+}

@@ -1,0 +1,4 @@
+pub mod Standing
+pub mod Running
+pub mod Waiting
+pub mod Prelude

@@ -1,0 +1,16 @@
+//! Who is told of each end.
+ghost use Rattle.std.specs.Prelude.{◌≡◌, Option, List, [], ◌∷◌};
+ghost use Rattle.hosts.specs.Standing.{Told};
+ghost use Rattle.hosts.specs.Running.{TellsMore};
+
+use lines::Parting;
+
+/// Who is told of each connection whose session was given up.
+pub trait Journal {
+    // The ends that were told, in order, where they are known.
+    ghost told: { Self → Option (List Told) };
+
+    /// The session of the connection with this number was given up so.
+    fn note(&mut self, conn: u64, parting: Parting)
+        ensures { TellsMore (told self.old) (told self.new) (record { conn = conn; parting = parting } ∷ []) };
+}
