@@ -25,16 +25,16 @@ def entries(port):
 
 
 class Sends:
-    """Runs of `examples query`, by the words that start it, each under a token of its own."""
+    """Runs of `examples query`, by the words that start it, each under a token of its own and of so many queries."""
 
-    def __init__(self, words, port):
-        self.words, self.port, self.token, self.entries = words, port, 0, entries(port)
+    def __init__(self, words, port, puts):
+        self.words, self.port, self.puts, self.token, self.entries = words, port, puts, 0, entries(port)
 
     def run(self, tries, cuts):
         """What is printed and the status, how many entries the transaction added, and how many bytes passed on each connection."""
         self.token += 1
         with proxy.Door(self.port, cuts) as door:
-            words = [*self.words, "query", str(door.listener.getsockname()[1]), f"token {self.token}", str(tries)]
+            words = [*self.words, "query", str(door.listener.getsockname()[1]), f"{self.puts} token {self.token}", str(tries), str(self.puts)]
             done = subprocess.run(words, stdout=subprocess.PIPE, stderr=subprocess.DEVNULL, text=True, timeout=120)
         now = entries(self.port)
         # (the query that is run behind the transaction adds an entry too, and so does the look)
@@ -49,18 +49,22 @@ class Sends:
         return added in allowed and (status == 0) == (fate == "Stands") and (fate == "Stands" or tries <= len(cuts)) and (not added or said[1] == "row [Int(1)]")
 
 
-def fault(words, port):
-    """What isn't so of the attempts of these runs, or None: each is cut at each byte, alone, as the first, and behind one whose answer was lost."""
-    sends = Sends(words, port)
+def fault_of(sends, bytes_at, least):
+    """What isn't so of the attempts of these runs, or None: each is cut at each of these places, alone, as the first, and behind one whose answer was lost."""
     said, status, added, passed = sends.run(1, [])
     if (said[:2], status, added) != (["Stands", "row [Int(1)]"], 0, 1):
-        return f"an attempt that isn't cut: {said}, {status}, {added}"
+        return f"an attempt of {sends.puts} queries that isn't cut: {said}, {status}, {added}"
     whole = passed[0]
     # (the COMMIT stands, and nobody was told)
     lost = {"told": whole["told"] - 1}
-    cuts = [{way: count} for way in ("asked", "told") for count in range(whole[way] + 1)]
+    cuts = [{way: count} for way in ("asked", "told") for count in bytes_at(whole[way])]
     for cut in cuts:
         for tries, before in ((1, []), (3, []), (3, [lost])):
             if not sends.is_true(tries, *before, cut):
-                return f"{tries} tries, cut at {[*before, cut]}"
-    return None if len(cuts) > 300 else f"{len(cuts)} cuts"
+                return f"{sends.puts} queries, {tries} tries, cut at {[*before, cut]}"
+    return None if len(cuts) > least else f"{len(cuts)} cuts"
+
+
+def fault(words, port):
+    """The same of an attempt of one query, cut at each byte, and of one of 20, whose requests go out in two parts, cut at each seventh and at the last."""
+    return fault_of(Sends(words, port, 1), lambda length: range(length + 1), 300) or fault_of(Sends(words, port, 20), lambda length: [*range(0, length, 7), length], 100)

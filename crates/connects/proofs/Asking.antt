@@ -36,7 +36,7 @@ ask_run x q e = subst (λ o. GoesOn x (record x { run = submits x.run q o }) (as
     or_false true = refl
     or_false false = refl
 
-leads_ask : (s : Stand) (q : RequestView) → refuses s.rest.knows q ≡ None → Leads s (Asks q ∷ []) (asked_stand s q) (q ∷ []) [] [] false
+pub leads_ask : (s : Stand) (q : RequestView) → refuses s.rest.knows q ≡ None → Leads s (Asks q ∷ []) (asked_stand s q) (q ∷ []) [] [] false
 leads_ask s q e x f = subst (λ (z : Stand). GoesOn x (tracked_call x (Asks q)) (asked_stand z q) (q ∷ []) [] [] false) f (ask_run x q (ap (λ (z : Stand). refuses z.rest.knows q) f ∙ e))
 
 pub leads_asks : (s : Stand) (qs : List RequestView) → AcceptsEach s qs → Leads s (map Asks qs) (asked_all s qs) qs [] [] false

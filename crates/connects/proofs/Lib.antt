@@ -2,6 +2,7 @@ pub mod Leading
 pub mod Reading
 pub mod Keeping
 pub mod Asking
+pub mod Parting
 pub mod Trying
 pub mod Adding
 pub mod Columns

@@ -139,6 +139,7 @@ pub record Led (from to : Place) (r : Result (Unit {0}) Break) : Type 0 where
   pub leads : Leads from.stand calls to.stand [] heard from.stand.rest.unsent lost
   pub input : Consumes from.left to.left (heard ++ unheard)
   pub whole : Unbroken r (IsWhole unheard to.stand)
+  pub unlost : Unbroken r (lost ≡ false)
 
 pub exchange_led : (from to : Place) (r : Result (Unit {0}) Break) → Exchanges from to r → Led from to r
 exchange_led from to (Ok u) x =
@@ -155,6 +156,7 @@ exchange_led from to (Ok u) x =
           (leads_on (Sends (length unsent) ∷ []) (map HearsPiece x.converses.reads.hears.pieces) (leads_out from.stand) x.converses.reads.hears.leads));
       input = x.converses.reads.input;
       whole = subst (λ (s : Stand). IsWhole x.converses.reads.unheard s) (sym x.settles) x.converses.reads.whole;
+      unlost = refl;
     }
 exchange_led from to (Err e) x =
     let pieces = map HearsPiece x.converses.reads.hears.pieces in
@@ -172,6 +174,7 @@ exchange_led from to (Err e) x =
           (leads_on (Sends (length unsent) ∷ []) (pieces ++ IsLost ∷ []) (leads_out from.stand) (leads_on pieces (IsLost ∷ []) x.converses.reads.hears.leads (leads_lost x.answered)))));
       input = x.converses.reads.input;
       whole = tt;
+      unlost = tt;
     }
 
 pub ends_not : (e : Break) (s : Stand) (left : Option (List ℕ)) → (e ≡ break.AtEnd → ⊥) → Ends (Err e) s left

@@ -1,31 +1,30 @@
 -- What an attempt over streams tells.
-use Rattle.std.proofs.Common.{◌≡◌, refl, sym, ◌∙◌, ap, subst, ℕ, suc, Bool, true, false, ◌||◌, Some, None, Result, Ok, Err, List, [], ◌∷◌, ◌++◌, length, map, slice_get, append_assoc, append-nil, is_err, inl, inr, ⊎_elim, IsErrOf}
+use Rattle.std.proofs.Common.{◌≡◌, refl, sym, ◌∙◌, ap, subst, ℕ, suc, Bool, true, false, ◌||◌, Option, Some, None, Result, Ok, Err, List, [], ◌∷◌, ◌++◌, ◌<◌, if◌then◌else◌, length, slice_get, option_map, append_assoc, append-nil, is_err, inl, inr, ⊎_elim, arith}
+use Rattle.std.proofs.lemmas.List.{append_cancel_right}
 use Rattle.std.specs.Io.KnownBytes.{Consumes}
-use Rattle.std.specs.Result.{result_err}
 use Rattle.std.proofs.KnownBytes.{Consumes-trans, Appends-trans}
 use Rattle.wire.specs.declared.Wish.{Wish}
-use Rattle.wire.specs.Prelude.{offer_of}
+use Rattle.wire.specs.declared.Version.{Version}
+use Rattle.wire.specs.Prelude.{offer_of, bytes_in_order}
 use Rattle.messages.specs.declared.Count.TheVariants as counts
 use Rattle.messages.specs.Prelude.{RequestView}
-use Rattle.client.specs.declared.SubmitFault.{SubmitFault}
-use Rattle.client.specs.Rest.{begun}
-use Rattle.client.specs.Moments.{put_out}
+use Rattle.client.specs.Rest.{begun, asking_bytes}
+use Rattle.client.specs.Moments.{put_out, IsByBytes}
 use Rattle.streams.specs.Prelude.{AppendsFront}
 use Rattle.driver.specs.declared.attempts.Tells.{Tells}
 use Rattle.driver.specs.declared.attempts.Tells.TheVariants as tells_variant
-use Rattle.driver.specs.Account.{untold, failure_of}
-use Rattle.driver.specs.Attempts.{Made, read, tells}
+use Rattle.driver.specs.Account.{Account, ReplyView, untold, failure_of, reply_in}
+use Rattle.driver.specs.Attempts.{Made, read, told_of, tells}
 use Rattle.driver.specs.Telling.{is_clash, any_final, tells_of}
-use Rattle.driver.specs.Runs.{TrackedCall, Asks, IsLost, TrackedRun, tracking, tracked_calls, attempt_of}
-use Rattle.driver.proofs.Accounts.{run_by_bytes}
+use Rattle.driver.specs.Runs.{TrackedCall, IsLost, TrackedRun, tracking, tracked_calls, attempt_of}
+use Rattle.driver.proofs.Accounts.{accounts_by_bytes, run_by_bytes}
 use Rattle.driver.proofs.Joined.{account_tells}
 use Rattle.connects.specs.declared.breaks.Break.{Break}
-use Rattle.connects.specs.declared.breaks.Break.TheVariants as break
-use Rattle.connects.specs.Prelude.{Stand, GoesOn, Leads, lost_stand, Place, place, IsWhole, Exchanges, asked_all, AcceptsEach, AskedView, requests_of, asks_of, greeting, Streams, streams, IsWritten, TellsOf}
+use Rattle.connects.specs.Prelude.{Stand, GoesOn, Leads, lost_stand, Place, Exchanges, is_done, IsWritten, is_whole, gone, is_answered, IsQuiet, SendsInParts, AskedView, requests_of, asks_of, greeting, Streams, streams, TellsOf}
 use Rattle.connects.proofs.Leading.{leads_on, leads_lost}
-use Rattle.connects.proofs.Reading.{none_unheard, writes_or, writes_front, Led, exchange_led}
+use Rattle.connects.proofs.Reading.{none_unheard, writes_front, Led, exchange_led}
+use Rattle.connects.proofs.Parting.{answered_done, losses_replies, exchanged_told}
 use Rattle.connects.proofs.Keeping.{exchange_empties}
-use Rattle.connects.proofs.Asking.{leads_asks}
 
 -- where a client has just been made
 abbrev pub at_first : Wish → ℕ → Stand
@@ -54,107 +53,151 @@ or_lost true b = refl
 or_lost false true = refl
 or_lost false false = refl
 
-module _ (a : AskedView) (login : Bool) (from heard done : Place) (start : from.stand ≡ at_first a.wish 0) (first : Exchanges from heard (Ok tt)) (qs : List RequestView) (all : qs ≡ requests_of login a) (still_open : heard.stand.rest.knows.over ≡ true → ⊥) (accepted : AcceptsEach heard.stand qs)
-    (r : Result (Unit {0}) Break) (second : Exchanges (place (asked_all heard.stand qs) heard.left heard.written) done r) (failed had : Bool) (fails : IsErrOf r break.WriteFailed → failed ≡ true) (n : ℕ) (count : length qs ≡ suc n) (told : Tells) (tell : told ≡ tells_of (lost_stand done.stand).account n (suc n)) where
+-- where the version was heard nothing waits
+pub heard_quiet : (wish : Wish) (from heard : Place) (r : Result (Unit {0}) Break) → Exchanges from heard r → r ≡ Ok tt → from.stand ≡ at_first wish 0 → IsQuiet heard.stand
+heard_quiet wish from heard r y e start =
+    let x : Exchanges from heard (Ok tt) = subst (λ (z : Result (Unit {0}) Break). Exchanges from heard z) e y in
+    record {
+      waits = ap (λ (s : Stand). s.rest.knows.waiting) x.settles ∙ x.converses.ends.1;
+      unsent = exchange_empties from heard (Ok tt) x;
+      lost = exchanged_told from heard x ∙ ap (λ (s : Stand). s.account.lost) start;
+    }
+
+-- the bytes of requests behind others
+bytes_append : (f : RequestView → List ℕ) (xs ys : List RequestView) → bytes_in_order f (xs ++ ys) ≡ bytes_in_order f xs ++ bytes_in_order f ys
+bytes_append f [] ys = refl
+bytes_append f (x ∷ xs) ys = ap (λ l. f x ++ l) (bytes_append f xs ys) ∙ sym (append_assoc (f x) (bytes_in_order f xs) (bytes_in_order f ys))
+
+-- COMMIT is the last of them
+pub commits : (a : AskedView) (login : Bool) (n : ℕ) → length (requests_of login a) ≡ suc n → slice_get (requests_of login a) n ≡ Some RequestView.Commit
+commits a login n count =
+    let before : List RequestView = greeting login a.agent a.auth ++ RequestView.Begin a.mode (Some a.token) ∷ asks_of a.mode (RequestView.Discard counts.All) a.queries in
+    let parts : requests_of login a ≡ before ++ RequestView.Commit ∷ [] = sym (append_assoc (greeting login a.agent a.auth) (RequestView.Begin a.mode (Some a.token) ∷ asks_of a.mode (RequestView.Discard counts.All) a.queries) (RequestView.Commit ∷ [])) in
+    let at : length before ≡ n = suc_same (length before) n (sym (length_last before RequestView.Commit) ∙ ap length (sym parts) ∙ count) in
+    subst (λ (z : List RequestView). slice_get z n ≡ Some RequestView.Commit) (sym parts) (subst (λ k. slice_get (before ++ RequestView.Commit ∷ []) k ≡ Some RequestView.Commit) at (last_of before RequestView.Commit))
+
+-- there is one at least
+pub some_requests : (a : AskedView) (login : Bool) → 0 < length (requests_of login a)
+some_requests a true = omega arith
+some_requests a false = omega arith
+
+module _ (a : AskedView) (login : Bool) (from heard done : Place) (start : from.stand ≡ at_first a.wish 0) (first : Exchanges from heard (Ok tt)) (still_open : heard.stand.rest.knows.over ≡ true → ⊥)
+    (failed had : Bool) (n : ℕ) (s : SendsInParts heard done failed (requests_of login a) n) (commit : ℕ) (count : length (requests_of login a) ≡ suc commit) (told : Tells) (tell : told ≡ tells_of (lost_stand done.stand).account commit n) where
   one : Led from heard (Ok tt)
   one = exchange_led from heard (Ok tt) first
 
-  two : Led (place (asked_all heard.stand qs) heard.left heard.written) done r
-  two = exchange_led (place (asked_all heard.stand qs) heard.left heard.written) done r second
+  abbrev sent : List RequestView
+  sent = s.before ++ s.last
 
   abbrev calls : List TrackedCall
-  calls = one.calls ++ (map Asks qs ++ (two.calls ++ IsLost ∷ []))
+  calls = one.calls ++ (s.calls ++ IsLost ∷ [])
 
   abbrev bytes : List ℕ
-  bytes = one.heard ++ ([] ++ (two.heard ++ []))
+  bytes = one.heard ++ (s.heard ++ [])
 
   abbrev offer : List ℕ
   offer = from.stand.rest.unsent
 
-  abbrev asked : List ℕ
-  asked = (asked_all heard.stand qs).rest.unsent
-
-  leads : Leads from.stand calls (lost_stand done.stand) ([] ++ (qs ++ ([] ++ []))) bytes (offer ++ ([] ++ (asked ++ []))) (one.lost || (false || (two.lost || true)))
-  leads = leads_on one.calls (map Asks qs ++ (two.calls ++ IsLost ∷ [])) one.leads (leads_on (map Asks qs) (two.calls ++ IsLost ∷ []) (leads_asks heard.stand qs accepted) (leads_on two.calls (IsLost ∷ []) two.leads (leads_lost done.stand)))
+  leads : Leads from.stand calls (lost_stand done.stand) ([] ++ (sent ++ [])) bytes (offer ++ (s.out ++ [])) (one.lost || (s.lost || true))
+  leads = leads_on one.calls (s.calls ++ IsLost ∷ []) one.leads (leads_on s.calls (IsLost ∷ []) s.leads (leads_lost done.stand))
 
   abbrev made : ℕ → TrackedRun → Made
-  made conn x = record { attempt = attempt_of a.wish x.run; commit = n; clash = is_clash (failure_of x.account n); final = any_final x.account (length x.run.sent); conn = conn }
+  made conn x = record { attempt = attempt_of a.wish x.run; commit = commit; clash = is_clash (failure_of x.account commit); final = any_final x.account (length x.run.sent); conn = conn }
 
   abbrev run : TrackedRun
   run = tracked_calls (tracking a.wish 0) calls
 
-  goes : GoesOn (tracking a.wish 0) run (lost_stand done.stand) ([] ++ (qs ++ ([] ++ []))) bytes (offer ++ ([] ++ (asked ++ []))) (one.lost || (false || (two.lost || true)))
+  goes : GoesOn (tracking a.wish 0) run (lost_stand done.stand) ([] ++ (sent ++ [])) bytes (offer ++ (s.out ++ [])) (one.lost || (s.lost || true))
   goes = leads (tracking a.wish 0) (sym start)
 
-  sent : run.run.sent ≡ qs
-  sent = goes.sent ∙ append-nil qs
+  sent_is : run.run.sent ≡ sent
+  sent_is = goes.sent ∙ append-nil sent
 
-  took : run.run.took ≡ one.heard ++ two.heard
-  took = goes.took ∙ ap (λ l. one.heard ++ l) (append-nil two.heard)
+  took : run.run.took ≡ one.heard ++ s.heard
+  took = goes.took ∙ ap (λ l. one.heard ++ l) (append-nil s.heard)
 
-  whole_first : IsWhole one.unheard heard.stand
-  whole_first = one.whole
-
-  input : Consumes from.left done.left ((one.heard ++ two.heard) ++ two.unheard)
+  input : Consumes from.left done.left ((one.heard ++ s.heard) ++ s.unheard)
   input =
-      let whole : one.heard ++ one.unheard ≡ one.heard = ap (λ l. one.heard ++ l) (none_unheard one.unheard heard.stand whole_first still_open) ∙ append-nil one.heard in
-      subst (Consumes from.left done.left) (ap (λ l. l ++ (two.heard ++ two.unheard)) whole ∙ sym (append_assoc one.heard two.heard two.unheard))
-      (Consumes-trans from.left heard.left done.left (one.heard ++ one.unheard) (two.heard ++ two.unheard) one.input two.input)
+      let whole : one.heard ++ one.unheard ≡ one.heard = ap (λ l. one.heard ++ l) (none_unheard one.unheard heard.stand one.whole still_open) ∙ append-nil one.heard in
+      subst (Consumes from.left done.left) (ap (λ l. l ++ (s.heard ++ s.unheard)) whole ∙ sym (append_assoc one.heard s.heard s.unheard))
+      (Consumes-trans from.left heard.left done.left (one.heard ++ one.unheard) (s.heard ++ s.unheard) one.input s.input)
 
-  -- all that its client ever puts out was put out
-  puts : offer ++ asked ≡ put_out a.wish (read (attempt_of a.wish run.run)).version run.run.sent
-  puts =
-      let none : run.run.rest.unsent ≡ [] = ap (λ (s : Stand). s.rest.unsent) goes.stands ∙ exchange_empties (place (asked_all heard.stand qs) heard.left heard.written) done r second in
-      ap (λ l. offer ++ l) (sym (append-nil asked)) ∙ sym goes.put ∙ sym (append-nil run.run.out) ∙ ap (λ l. run.run.out ++ l) (sym none) ∙ (run_by_bytes a.wish 0 calls).out
+  by_bytes : IsByBytes a.wish run.run
+  by_bytes = run_by_bytes a.wish 0 calls
 
-  abbrev from_streams : Streams
-  from_streams = streams from.left from.written had
+  abbrev version : Option Version
+  version = (read (attempt_of a.wish run.run)).version
 
-  abbrev done_streams : Streams
-  done_streams = streams done.left done.written failed
+  -- what went out is the offer and the requests of each part that was asked whole
+  puts : offer ++ s.out ≡ put_out a.wish version (gone s.before s.last s.later)
+  puts = go (is_whole s.last s.later) left
+    where
+      out : run.run.out ≡ offer ++ s.out
+      out = goes.put ∙ ap (λ l. offer ++ l) (append-nil s.out)
 
-  written : IsWritten from_streams done_streams (offer ++ asked)
+      text : RequestView → List ℕ
+      text = asking_bytes version
+
+      same : done.stand.rest.knows.version ≡ version
+      same = ap (λ (z : Stand). z.rest.knows.version) (sym goes.stands) ∙ ap (λ k. k.version) by_bytes.knows
+
+      left : run.run.rest.unsent ≡ (if is_whole s.last s.later then [] else bytes_in_order text s.last)
+      left = ap (λ (z : Stand). z.rest.unsent) goes.stands ∙ s.unsent ∙ ap (λ v. if is_whole s.last s.later then [] else bytes_in_order (asking_bytes v) s.last) same
+
+      all : (offer ++ s.out) ++ run.run.rest.unsent ≡ put_out a.wish version sent
+      all = ap (λ l. l ++ run.run.rest.unsent) (sym out) ∙ by_bytes.out ∙ ap (put_out a.wish version) sent_is
+
+      go : (b : Bool) → run.run.rest.unsent ≡ (if b then [] else bytes_in_order text s.last) → offer ++ s.out ≡ put_out a.wish version (if b then sent else s.before)
+      go true e = sym (append-nil (offer ++ s.out)) ∙ ap (λ l. (offer ++ s.out) ++ l) (sym e) ∙ all
+      go false e =
+          append_cancel_right (offer ++ s.out) (put_out a.wish version s.before) (bytes_in_order text s.last)
+          (ap (λ l. (offer ++ s.out) ++ l) (sym e) ∙ all ∙ ap (λ l. offer_of a.wish ++ l) (bytes_append text s.before s.last) ∙ sym (append_assoc (offer_of a.wish) (bytes_in_order text s.before) (bytes_in_order text s.last)))
+
+  written : IsWritten from.written done.written failed (offer ++ s.out)
   written =
-      ⊎_elim (λ w. inl (Appends-trans from.written heard.written done.written offer asked first.converses.writes w))
-      (λ f. inr (fails f.0, (offer ++ f.1.0, f.1.1, append_assoc offer f.1.0 f.1.1 ∙ ap (λ l. offer ++ l) f.1.2, Appends-trans from.written heard.written done.written offer f.1.0 first.converses.writes f.1.3)))
-      (writes_or asked r heard.written done.written second.converses.writes)
+      ⊎_elim (λ w. inl (Appends-trans from.written heard.written done.written offer s.out first.converses.writes w))
+      (λ f. inr (f.0, (offer ++ f.1.0, f.1.1, append_assoc offer f.1.0 f.1.1 ∙ ap (λ l. offer ++ l) f.1.2, Appends-trans from.written heard.written done.written offer f.1.0 first.converses.writes f.1.3)))
+      s.written
 
   tells_it : (conn : ℕ) → tells (made conn run) ≡ told
   tells_it conn =
-      sym (account_tells a.wish 0 calls n conn)
-      ∙ ap (λ (z : ℕ). tells_of run.account n z) (ap length sent ∙ count)
-      ∙ ap (λ (s : Stand). tells_of s.account n (suc n)) goes.stands ∙ sym tell
+      sym (account_tells a.wish 0 calls commit conn)
+      ∙ ap (λ (z : ℕ). tells_of run.account commit z) (ap length sent_is ∙ sym s.count)
+      ∙ ap (λ (z : Stand). tells_of z.account commit n) goes.stands ∙ sym tell
 
-  commits : slice_get qs n ≡ Some RequestView.Commit
-  commits =
-      let before : List RequestView = greeting login a.agent a.auth ++ RequestView.Begin a.mode (Some a.token) ∷ asks_of a.mode (RequestView.Discard counts.All) a.queries in
-      let parts : qs ≡ before ++ RequestView.Commit ∷ [] = all ∙ sym (append_assoc (greeting login a.agent a.auth) (RequestView.Begin a.mode (Some a.token) ∷ asks_of a.mode (RequestView.Discard counts.All) a.queries) (RequestView.Commit ∷ [])) in
-      let at : length before ≡ n = suc_same (length before) n (sym (length_last before RequestView.Commit) ∙ ap length (sym parts) ∙ count) in
-      subst (λ (z : List RequestView). slice_get z n ≡ Some RequestView.Commit) (sym parts) (subst (λ k. slice_get (before ++ RequestView.Commit ∷ []) k ≡ Some RequestView.Commit) at (last_of before RequestView.Commit))
+  done_before : (i : ℕ) → i < length s.before → is_done (told_of (attempt_of a.wish run.run) i) ≡ true
+  done_before i l =
+      let account : run.account ≡ (lost_stand done.stand).account = ap (λ (z : Stand). z.account) goes.stands in
+      let answered : is_answered run.account i ≡ true = ap (λ rs. is_done (option_map (λ (r : ReplyView). r.outcome) (reply_in i rs))) (ap (λ (z : Account). z.replies) account ∙ losses_replies done.stand.account _) ∙ s.done i l in
+      ap is_done (sym (accounts_by_bytes a.wish 0 calls i)) ∙ answered_done run.account i answered
 
-  pub attempted : TellsOf a from_streams done_streams told
+  pub attempted : TellsOf a (streams from.left from.written had) (streams done.left done.written failed) told
   attempted conn = (
     Some (made conn run),
     tells_it conn,
     record {
       sent = record {
         login = login;
+        before = s.before;
+        last = s.last;
+        later = s.later;
+        asks = s.asks;
+        parts = s.parts;
+        whole = s.whole;
+        few = s.few;
+        done = done_before;
         wish = refl;
-        sent = sent ∙ all;
-        commit = ap (λ z. slice_get z n) sent ∙ commits;
-        lost = goes.lose ∙ or_lost one.lost two.lost;
+        sent = sent_is;
+        commit = commits a login commit count;
+        lost = goes.lose ∙ or_lost one.lost s.lost;
         at = refl;
       };
-      written = subst (λ l. IsWritten from_streams done_streams l) puts written;
-      unheard = two.unheard;
-      took = subst (λ l. Consumes from.left done.left (l ++ two.unheard)) (sym took) input;
+      written = subst (IsWritten from.written done.written failed) puts written;
+      unheard = s.unheard;
+      took = subst (λ l. Consumes from.left done.left (l ++ s.unheard)) (sym took) input;
     },
   )
 
 pub ok_of : (x : Result (Unit {0}) Break) → is_err x ≡ false → x ≡ Ok tt
 ok_of (Ok u) e = refl
 ok_of (Err e) h = cc
-
-pub all_asked : (x : Result ℕ SubmitFault) → is_err x ≡ false → result_err x ≡ None
-all_asked (Ok n) e = refl
-all_asked (Err e) h = cc

@@ -1,6 +1,7 @@
 pub mod Stands
 pub mod Exchanges
 pub mod Pipelines
+pub mod Parts
 pub mod Requests
 pub mod Opening
 pub mod Metadata

@@ -5,7 +5,7 @@ ghost use Rattle.connects.specs.Stands.{stand_of, place};
 ghost use Rattle.connects.specs.Attempting.{asked_view, requests_of, streams, TellsOf};
 
 use crate::exchanging::exchange;
-use crate::pipelines::ask_all;
+use crate::parts::send_in_parts;
 use crate::queries::{Query, add_queries, greeting, is_login_in_hello};
 use driver::{Rows, Tells, TrackingClient};
 use messages::{Auth, Count, Mode, Request};
@@ -24,28 +24,31 @@ pub struct Asked {
     pub queries: Vec<Query>,
 }
 
-/// Its requests: HELLO, and those behind it.
-fn requests_of(
-    alloc: Global,
-    asked: &Asked,
-    has_login: bool,
-) -> Result<(Request, Vec<Request>), AllocError>
-    ensures { IfOk result (λ g. request_view g.0 ∷ map request_view g.1.items
-        ≡ requests_of has_login (asked_view asked.now)) }
+/// Its requests.
+fn requests_of(alloc: Global, asked: &Asked, has_login: bool) -> Result<Vec<Request>, AllocError>
+    ensures { IfOk result (λ v. map request_view v.items ≡ requests_of has_login (asked_view asked.now)) }
 {
     let agent = asked.agent.clone()?;
     let auth = asked.auth.clone()?;
     let token = Some(asked.token.clone()?);
-    let (hello, mut others) = greeting(alloc, has_login, agent, auth)?;
+    let (hello, mut requests) = greeting(alloc, has_login, agent, auth)?;
+    requests.insert(0, hello)?;
     let mode = asked.mode;
-    others.push(Request::Begin { mode, token })?;
-    add_queries(&mut others, mode, &asked.queries, Rows::Discard(Count::All))?;
-    Ok((hello, others))
+    requests.push(Request::Begin { mode, token })?;
+    add_queries(
+        &mut requests,
+        mode,
+        &asked.queries,
+        Rows::Discard(Count::All),
+    )?;
+    Ok(requests)
 }
 
 /// Makes an attempt over streams of which nothing was read or written yet, and answers what it tells: the version is heard, and then the greeting,
-/// BEGIN under the token, the queries, whose rows are dropped, and COMMIT are sent as one pipeline, all of them or none. Where they are sent, their
-/// bytes are written whole, unless the sink fails.
+/// BEGIN under the token, the queries, whose rows are dropped, and COMMIT are sent in parts of at most 32 requests, each as one pipeline.
+///
+/// A part goes out once each of its requests is accepted, and none behind it is asked unless each is done: so COMMIT goes out only then. The bytes
+/// of what goes out are written whole, unless the sink fails.
 pub fn attempt_over<I: Source, O: Sink>(
     alloc: Global,
     asked: &Asked,
@@ -62,15 +65,15 @@ pub fn attempt_over<I: Source, O: Sink>(
     if exchange(&mut tracking, source, sink).is_err() {
         return Tells::Nothing;
     }
-    let has_login = is_login_in_hello(tracking.version());
-    let Ok((hello, others)) = requests_of(alloc, asked, has_login) else {
-        return Tells::Nothing;
-    };
-    let commit = others.len() as u64;
-    if ask_all(&mut tracking, hello, others).is_err() {
+    if tracking.has_ended() {
         return Tells::Nothing;
     }
-    let _broken = exchange(&mut tracking, source, sink);
+    let has_login = is_login_in_hello(tracking.version());
+    let Ok(requests) = requests_of(alloc, asked, has_login) else {
+        return Tells::Nothing;
+    };
+    let commit = requests.len() as u64 - 1;
+    let count = send_in_parts(&mut tracking, source, sink, requests);
     tracking.lost();
-    tracking.tells(commit, commit + 1)
+    tracking.tells(commit, count)
 }

@@ -8,6 +8,7 @@ mod breaks;
 mod connection;
 mod exchanging;
 mod faults;
+mod parts;
 mod pipelines;
 mod queries;
 mod retrying;

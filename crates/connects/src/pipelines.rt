@@ -68,7 +68,7 @@ fn or_undone(found: Option<u64>, ordinal: u64, outcome: Option<Outcome>) -> Opti
 }
 
 /// The first of so many from an ordinal on that isn't told to be done.
-fn first_undone(tracking: &TrackingClient, first: u64, count: u64) -> Option<u64>
+pub(crate) fn first_undone(tracking: &TrackingClient, first: u64, count: u64) -> Option<u64>
     requires { first + count < 2 ^ 64 }
     ensures { result ≡ first_undone (outcome_of (account_of tracking.now)) first count }
 {

@@ -30,17 +30,18 @@ fn run(rt: &HostRuntime, words: &[String]) -> io::Result<Option<String>> {
     match (name, port_of(words.get(2))) {
         ("driver", Some(port)) => return driving::drive(rt, port),
         ("query", Some(port)) => {
-            if let [_, _, _, token, tries] = words
+            if let [_, _, _, token, tries, puts] = words
                 && let Some(tries) = tries.parse::<u32>().ok()
+                && let Some(puts) = puts.parse::<u32>().ok()
             {
-                return querying::run(rt, port, token, tries);
+                return querying::run(rt, port, token, tries, puts);
             }
-            println!(rt; "usage: examples query PORT TOKEN TRIES")?
+            println!(rt; "usage: examples query PORT TOKEN TRIES PUTS")?
         }
         ("server", Some(port)) => serving::serve(rt, port)?,
         ("engine", None) => noting::note_all(rt)?,
         _ => println!(rt;
-            "usage: examples query PORT TOKEN TRIES, examples driver PORT, examples server PORT or examples engine"
+            "usage: examples query PORT TOKEN TRIES PUTS, examples driver PORT, examples server PORT or examples engine"
         )?,
     }
     Ok(None)

@@ -90,27 +90,32 @@ impl Connects for Port<'_> {
     }
 }
 
-/// What each attempt asks: to put a value, under this token.
-fn asked(alloc: Global, token: &str) -> Result<Asked, AllocError> {
+/// What each attempt asks: to put a value so many times, under this token.
+fn asked(alloc: Global, token: &str, puts: u32) -> Result<Asked, AllocError> {
+    let mut queries = Vec::new(alloc);
+    for _ in 0..puts {
+        queries.push(query(alloc, "PUT", Some(Cell::Int(1)))?)?;
+    }
     Ok(Asked {
         wish: Wish::Newest,
         agent: String::from_str(alloc, "example/1")?,
         auth: auth(alloc)?,
         mode: Mode::Write,
         token: String::from_str(alloc, token)?,
-        queries: vec![in alloc; query(alloc, "PUT", Some(Cell::Int(1)))?]?,
+        queries,
     })
 }
 
-/// Puts a value under a token, and gets it. The answer is what is known of the transaction.
+/// Puts a value so many times under a token, and gets it. The answer is what is known of the transaction.
 fn put_and_get(
     rt: &HostRuntime,
     port: &mut Port<'_>,
     token: &str,
     tries: u32,
+    puts: u32,
 ) -> Result<Fate, Stopped> {
     let alloc = rt.alloc();
-    let fate = until_known(alloc, &asked(alloc, token)?, port, tries);
+    let fate = until_known(alloc, &asked(alloc, token, puts)?, port, tries);
     println!(rt; "{fate:?}")?;
 
     let Some((source, sink)) = port.connect() else {
@@ -132,9 +137,10 @@ pub(crate) fn run(
     port: u16,
     token: &str,
     tries: u32,
+    puts: u32,
 ) -> io::Result<Option<String>> {
     let silence = Duration::from_secs(10);
-    let why = match put_and_get(rt, &mut Port { rt, port, silence }, token, tries) {
+    let why = match put_and_get(rt, &mut Port { rt, port, silence }, token, tries, puts) {
         Ok(Fate::Stands) => return Ok(None),
         Ok(_) => "not known to be committed",
         Err(Stopped::Memory) => return Err(io::Error::from(AllocError)),

@@ -40,14 +40,14 @@ was_refused (Some Outcome.Unknown) h = cc
 was_refused None h = cc
 
 -- what the tests were, by what is told
-abbrev tested : Bool → Bool → Bool → Tells → Type 0
+abbrev pub tested : Bool → Bool → Bool → Tells → Type 0
 tested c k a Tells.Stands = c ≡ true
 tested c k a Tells.Clash = k ≡ true
 tested c k a Tells.Refused = a ≡ true
 tested c k a Tells.Nothing = a ≡ true
 tested c k a Tells.Doubt = Unit {0}
 
-told_by : (c k a r : Bool) → tested c k a (if c then Tells.Stands else (if k then Tells.Clash else (if not a then Tells.Doubt else (if r then Tells.Refused else Tells.Nothing))))
+pub told_by : (c k a r : Bool) → tested c k a (if c then Tells.Stands else (if k then Tells.Clash else (if not a then Tells.Doubt else (if r then Tells.Refused else Tells.Nothing))))
 told_by true k a r = refl
 told_by false true a r = refl
 told_by false false false r = tt

@@ -1,15 +1,18 @@
 -- Attempts that send the requests of one call are attempts under its token.
-use Rattle.std.proofs.Common.{◌≡◌, refl, sym, subst, ap, ◌∙◌, ℕ, suc, Bool, true, false, Option, Some, None, List, [], ◌∷◌, ◌++◌}
+use Rattle.std.proofs.Common.{◌≡◌, refl, sym, subst, ap, ◌∙◌, ℕ, zero, suc, ◌<◌, ◌≤◌, Bool, true, false, ◌&&◌, Option, Some, None, List, [], ◌∷◌, ◌++◌, length, slice_get, append_assoc, arith, inl, inr, ◌⊎◌, ⊎_elim}
 use Rattle.messages.specs.declared.Count.TheVariants as count
 use Rattle.messages.specs.declared.Mode.{Mode}
 use Rattle.messages.specs.Prelude.{RequestView}
-use Rattle.driver.specs.Attempts.{Made}
+use Rattle.driver.specs.declared.Tells.{Tells}
+use Rattle.driver.specs.Telling.{is_committed, is_refused, all_nothing}
+use Rattle.driver.specs.Attempts.{Made, told_of, tells}
+use Rattle.driver.proofs.Beyond.{told_beyond}
 use Rattle.connects.specs.Prelude.{AskedView, QueryView, asks_of, requests_of, Streams, Attempts, AreTries}
 use Rattle.world.specs.Prelude.{World, Each}
 use Rattle.known.specs.Attempts.{BeginsUnder}
 use Rattle.known.specs.OneCaller.{IsTry}
 use Rattle.known.specs.Sending.{IsMet, SentUntilKnown}
-use Rattle.known.proofs.OneCaller.{one_caller_may_rely}
+use Rattle.known.proofs.OneCaller.{tested, told_by, one_caller_may_rely}
 
 -- behind BEGIN no other follows
 no_begin : (t : List ℕ) (mode : Mode) (qs : List QueryView) → BeginsUnder t (asks_of mode (RequestView.Discard count.All) qs ++ RequestView.Commit ∷ [])
@@ -20,15 +23,56 @@ under : (a : AskedView) (login : Bool) → BeginsUnder a.token (requests_of logi
 under a true = (refl, no_begin a.token a.mode a.queries)
 under a false = (refl, no_begin a.token a.mode a.queries)
 
+-- those before others
+under_front : (t : List ℕ) (xs ys : List RequestView) → BeginsUnder t (xs ++ ys) → BeginsUnder t xs
+under_front t [] ys h = tt
+under_front t (RequestView.Begin mode token ∷ xs) ys h = (h.0, under_front t xs ys h.1)
+under_front t (RequestView.Hello agent login ∷ xs) ys h = under_front t xs ys h
+under_front t (RequestView.Logon login ∷ xs) ys h = under_front t xs ys h
+under_front t (RequestView.Logoff ∷ xs) ys h = under_front t xs ys h
+under_front t (RequestView.Goodbye ∷ xs) ys h = under_front t xs ys h
+under_front t (RequestView.Reset ∷ xs) ys h = under_front t xs ys h
+under_front t (RequestView.Run text params mode token ∷ xs) ys h = under_front t xs ys h
+under_front t (RequestView.Pull n ∷ xs) ys h = under_front t xs ys h
+under_front t (RequestView.Discard n ∷ xs) ys h = under_front t xs ys h
+under_front t (RequestView.Commit ∷ xs) ys h = under_front t xs ys h
+under_front t (RequestView.Rollback ∷ xs) ys h = under_front t xs ys h
+
+get_front : (xs ys : List RequestView) (i : ℕ) → i < length xs → slice_get (xs ++ ys) i ≡ slice_get xs i
+get_front [] ys i l = absurd (omega (arith, l))
+get_front (x ∷ xs) ys zero l = refl
+get_front (x ∷ xs) ys (suc i) l = get_front xs ys i (omega (arith, l))
+
+-- an attempt that stands was told of its COMMIT, so that was sent
+committed_sent : (m : Made) → tells m ≡ Tells.Stands → m.commit < length m.attempt.sent
+committed_sent m h = ⊎_elim (λ l. l) (λ (past : length m.attempt.sent ≤ m.commit). absurd (never past)) (lt_or_le m.commit (length m.attempt.sent))
+  where
+    done : is_committed (told_of m.attempt m.commit) ≡ true
+    done = subst (tested (is_committed (told_of m.attempt m.commit)) (is_refused (told_of m.attempt m.commit) && m.clash) (all_nothing (told_of m.attempt) (length m.attempt.sent))) h
+        (told_by (is_committed (told_of m.attempt m.commit)) (is_refused (told_of m.attempt m.commit) && m.clash) (all_nothing (told_of m.attempt) (length m.attempt.sent)) m.final)
+
+    never : length m.attempt.sent ≤ m.commit → ⊥
+    never past = let no : false ≡ true = sym (ap is_committed (told_beyond m.attempt m.commit past)) ∙ done in cc
+
+    lt_or_le : (i n : ℕ) → (i < n) ⊎ (n ≤ i)
+    lt_or_le i zero = inr (omega arith)
+    lt_or_le zero (suc n) = inl (omega arith)
+    lt_or_le (suc i) (suc n) = ⊎_elim (λ (l : i < n). inl (omega (arith, l))) (λ (l : n ≤ i). inr (omega (arith, l))) (lt_or_le i n)
+
 -- an attempt over streams, or none, where its connection is one of the world
 is_try : (a : AskedView) (w : World) (conn : ℕ) (from to : Streams) (o : Option Made) → Attempts a conn from to o → IsMet w o → IsTry a.token w o
 is_try a w conn from to None h met = tt
-is_try a w conn from to (Some m) h met = record {
-  connection = met.0;
-  at = met.1;
-  under = subst (BeginsUnder a.token) (sym h.sent.sent) (under a h.sent.login);
-  commits = λ _. h.sent.commit;
-}
+is_try a w conn from to (Some m) h met =
+    let s = h.sent in
+    let all : requests_of s.login a ≡ (s.before ++ s.last) ++ s.later = s.asks ∙ sym (append_assoc s.before s.last s.later) in
+    record {
+      connection = met.0;
+      at = met.1;
+      under = subst (BeginsUnder a.token) (sym s.sent) (under_front a.token (s.before ++ s.last) s.later (subst (BeginsUnder a.token) all (under a s.login)));
+      commits = λ stands.
+          let l : m.commit < length (s.before ++ s.last) = subst (λ qs. m.commit < length qs) s.sent (committed_sent m stands) in
+          ap (λ qs. slice_get qs m.commit) s.sent ∙ sym (get_front (s.before ++ s.last) s.later m.commit l) ∙ ap (λ qs. slice_get qs m.commit) (sym all) ∙ s.commit;
+    }
 
 -- where no connection was had there is none
 no_try : (a : AskedView) (w : World) (o : Option Made) → o ≡ None → IsTry a.token w o

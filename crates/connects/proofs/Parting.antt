@@ -1,0 +1,367 @@
+-- Requests that are sent in parts, step by step.
+use Rattle.std.proofs.Common.{◌≡◌, refl, sym, ◌∙◌, ap, ap₂, subst, ℕ, zero, suc, ◌+◌, ◌-◌, ◌*◌, ◌<◌, ◌≤◌, ◌==◌, Bool, true, false, ◌||◌, if◌then◌else◌, Option, Some, None, Result, Ok, Err, List, [], ◌∷◌, ◌++◌, length, option_map, append_assoc, append-nil, inl, inr, ◌⊎◌, ⊎_elim, IsErrOf, IfOk, is_err, arith, length-append}
+use Rattle.std.specs.Option.{option_or}
+use Rattle.std.specs.Io.KnownBytes.{Appends, Consumes}
+use Rattle.std.proofs.KnownBytes.{Appends-nil, Appends-trans, Consumes-nil, Consumes-trans}
+use Rattle.std.proofs.lemmas.Bool.{cond-true, cond-false}
+use Rattle.std.proofs.lemmas.Bool.Decides.{nat_tests}
+use Rattle.wire.specs.Prelude.{bytes_in_order}
+use Rattle.messages.specs.Prelude.{RequestView}
+use Rattle.machine.specs.Limits.{max_waiting}
+use Rattle.client.specs.declared.Outcome.{Outcome}
+use Rattle.client.specs.Prelude.{refuses, after_submit, asking_bytes}
+use Rattle.client.proofs.Runs.{texts_more}
+use Rattle.driver.specs.Account.{Account, ReplyView, with_losses, reply_in, outcome_of}
+use Rattle.driver.specs.Runs.{TrackedCall, Asks}
+use Rattle.connects.specs.declared.breaks.Break.{Break}
+use Rattle.connects.specs.declared.breaks.Break.TheVariants as break
+use Rattle.connects.specs.Prelude.{Stand, Leads, Place, place, IsWhole, Exchanges, asked_stand, is_done, or_undone, first_undone, is_whole, is_answered, IsQuiet, SendsPart, MakesRoom, SendsInParts}
+use Rattle.connects.proofs.Leading.{leads_nowhere, leads_on}
+use Rattle.connects.proofs.Reading.{stand_is, none_unheard, writes_or, Led, exchange_led}
+use Rattle.connects.proofs.Keeping.{hears_keeps, exchange_empties}
+use Rattle.connects.proofs.Asking.{leads_ask, accepted_open}
+
+-- Those of the parts before were done; those of the last part wait, and nothing of it went out.
+pub record SoSent (from now : Place) (before last : List RequestView) : Type 0 where
+  pub parts : ℕ
+  pub whole : length before ≡ max_waiting * parts
+  pub few : length last ≤ max_waiting
+  pub done : (i : ℕ) → i < length before → is_answered now.stand.account i ≡ true
+  pub told : now.stand.account.lost ≡ []
+  pub waits : now.stand.rest.knows.waiting ≡ last
+  pub calls : List TrackedCall
+  pub heard : List ℕ
+  pub unheard : List ℕ
+  pub out : List ℕ
+  pub leads : Leads from.stand calls now.stand (before ++ last) heard out false
+  pub input : Consumes from.left now.left (heard ++ unheard)
+  pub quiet : IsWhole unheard now.stand
+  pub is_open : 0 < length last → now.stand.rest.knows.over ≡ true → ⊥
+  pub written : Appends from.written now.written out
+  pub unsent : now.stand.rest.unsent ≡ bytes_in_order (asking_bytes now.stand.rest.knows.version) last
+
+pub none_sent : (from : Place) → IsQuiet from.stand → SoSent from from [] []
+none_sent from q = record {
+  parts = 0;
+  whole = refl;
+  few = omega arith;
+  done = λ i l. absurd (omega (arith, l));
+  told = q.lost;
+  waits = q.waits;
+  calls = [];
+  heard = [];
+  unheard = [];
+  out = [];
+  leads = leads_nowhere from.stand;
+  input = Consumes-nil from.left;
+  quiet = inl refl;
+  is_open = λ l. absurd (omega (arith, l));
+  written = Appends-nil from.written;
+  unsent = q.unsent;
+}
+
+longer : (xs : List RequestView) (x : RequestView) → length (xs ++ x ∷ []) ≡ suc (length xs)
+longer xs x = length-append xs (x ∷ []) ∙ omega arith
+
+-- one request more is accepted
+module _ (from now : Place) (before last : List RequestView) (s : SoSent from now before last) (q : RequestView) (accepted : refuses now.stand.rest.knows q ≡ None) (room : length last < max_waiting) where
+  asked_leads : Leads from.stand (s.calls ++ Asks q ∷ []) (asked_stand now.stand q) (before ++ (last ++ q ∷ [])) s.heard s.out false
+  asked_leads =
+      subst (λ qs. Leads from.stand (s.calls ++ Asks q ∷ []) (asked_stand now.stand q) qs s.heard s.out false) (append_assoc before last (q ∷ []))
+      (subst (λ bs. Leads from.stand (s.calls ++ Asks q ∷ []) (asked_stand now.stand q) ((before ++ last) ++ q ∷ []) bs s.out false) (append-nil s.heard)
+      (subst (λ bs. Leads from.stand (s.calls ++ Asks q ∷ []) (asked_stand now.stand q) ((before ++ last) ++ q ∷ []) (s.heard ++ []) bs false) (append-nil s.out)
+      (leads_on s.calls (Asks q ∷ []) s.leads (leads_ask now.stand q accepted))))
+
+  one_asked : SoSent from (place (asked_stand now.stand q) now.left now.written) before (last ++ q ∷ [])
+  one_asked = record {
+    parts = s.parts;
+    whole = s.whole;
+    few = let n = longer last q in omega (arith, n, room);
+    done = s.done;
+    told = s.told;
+    waits = ap (λ l. l ++ q ∷ []) s.waits;
+    calls = s.calls ++ Asks q ∷ [];
+    heard = s.heard;
+    unheard = s.unheard;
+    out = s.out;
+    leads = asked_leads;
+    input = s.input;
+    quiet = s.quiet;
+    is_open = λ _ o. accepted_open now.stand.rest.knows q accepted o;
+    written = s.written;
+    unsent = ap (λ l. l ++ asking_bytes now.stand.rest.knows.version q) s.unsent ∙ sym (texts_more (asking_bytes now.stand.rest.knows.version) last q);
+  }
+
+  pub one_sent : (new : Stand) → new.rest ≡ after_submit now.stand.rest q → new.account ≡ now.stand.account → SoSent from (place new now.left now.written) before (last ++ q ∷ [])
+  one_sent new r a = subst (λ (z : Stand). SoSent from (place z now.left now.written) before (last ++ q ∷ [])) (sym (stand_is new (asked_stand now.stand q) r a)) one_asked
+
+-- a reply stays, whatever is told behind it
+reply_stays : (i : ℕ) (rs more : List ReplyView) → is_done (option_map (λ (r : ReplyView). r.outcome) (reply_in i rs)) ≡ true → is_done (option_map (λ (r : ReplyView). r.outcome) (reply_in i (rs ++ more))) ≡ true
+reply_stays i [] more e = cc
+reply_stays i (r ∷ rs) more e = go (r.ordinal == i) (reply_stays i rs more) e
+  where
+    go : (b : Bool) → (is_done (option_map (λ (r : ReplyView). r.outcome) (reply_in i rs)) ≡ true → is_done (option_map (λ (r : ReplyView). r.outcome) (reply_in i (rs ++ more))) ≡ true) → is_done (option_map (λ (r : ReplyView). r.outcome) (if b then Some r else reply_in i rs)) ≡ true → is_done (option_map (λ (r : ReplyView). r.outcome) (if b then Some r else reply_in i (rs ++ more))) ≡ true
+    go true f e = e
+    go false f e = f e
+
+answer_stays : (a b : Account) (more : List ReplyView) (i : ℕ) → b.replies ≡ a.replies ++ more → is_answered a i ≡ true → is_answered b i ≡ true
+answer_stays a b more i e h = ap (λ rs. is_done (option_map (λ (r : ReplyView). r.outcome) (reply_in i rs))) e ∙ reply_stays i a.replies more h
+
+or_nothing : (o : Option Outcome) → option_or o None ≡ o
+or_nothing None = refl
+or_nothing (Some x) = refl
+
+-- where nothing was lost, what is done was answered
+done_answered : (a : Account) (i : ℕ) → a.lost ≡ [] → is_done (outcome_of a i) ≡ true → is_answered a i ≡ true
+done_answered a i e h =
+    let same : outcome_of a i ≡ option_map (λ (r : ReplyView). r.outcome) (reply_in i a.replies) = ap (λ ls. outcome_of (record a { lost = ls }) i) e ∙ or_nothing (option_map (λ (r : ReplyView). r.outcome) (reply_in i a.replies)) in
+    ap is_done (sym same) ∙ h
+
+-- what was answered is done, whatever was lost
+done_or : (o l : Option Outcome) → is_done o ≡ true → is_done (option_or o l) ≡ true
+done_or None l e = cc
+done_or (Some x) l e = e
+
+pub answered_done : (a : Account) (i : ℕ) → is_answered a i ≡ true → is_done (outcome_of a i) ≡ true
+answered_done a i e = done_or (option_map (λ (r : ReplyView). r.outcome) (reply_in i a.replies)) _ e
+
+-- each of those is done among which none was found that isn't
+undone_none : (o : Option ℕ) (n : ℕ) (x : Option Outcome) → or_undone o n x ≡ None → (o ≡ None) × (is_done x ≡ true)
+undone_none (Some i) n x e = cc
+undone_none None n x e = (refl, go (is_done x) e)
+  where
+    go : (b : Bool) → (if b then None else Some n) ≡ None → b ≡ true
+    go true e = refl
+    go false e = cc
+
+each_done : (told : ℕ → Option Outcome) (first n : ℕ) → first_undone told first n ≡ None → (i : ℕ) → i < n → is_done (told (first + i)) ≡ true
+each_done told first zero e i l = absurd (omega (arith, l))
+each_done told first (suc n) e i l =
+    let p = undone_none (first_undone told first n) (first + n) (told (first + n)) e in
+    ⊎_elim (λ (m : i < n). each_done told first n p.0 i m) (λ (m : i ≡ n). ap (λ k. is_done (told (first + k))) m ∙ p.1) (le_cases i n (omega (arith, l)))
+  where
+    le_cases : (i n : ℕ) → i ≤ n → (i < n) ⊎ (i ≡ n)
+    le_cases zero zero l = inr refl
+    le_cases zero (suc n) l = inl (omega arith)
+    le_cases (suc i) zero l = absurd (omega (arith, l))
+    le_cases (suc i) (suc n) l = ⊎_elim (λ (m : i < n). inl (omega (arith, m))) (λ (m : i ≡ n). inr (ap suc m)) (le_cases i n (omega (arith, l)))
+
+pub losses_replies : (a : Account) (ls : List (ℕ × Outcome)) → (with_losses a ls).replies ≡ a.replies
+losses_replies a [] = refl
+losses_replies a (x ∷ xs) = refl
+
+-- what an exchange leaves of the account
+exchanged_longer : (from to : Place) (r : Result (Unit {0}) Break) → Exchanges from to r → (more : List ReplyView) × (to.stand.account.replies ≡ from.stand.account.replies ++ more)
+exchanged_longer from to (Ok u) x = let k = hears_keeps x.converses.reads.hears in (k.more, ap (λ (s : Stand). s.account.replies) x.settles ∙ k.replies)
+exchanged_longer from to (Err e) x = let k = hears_keeps x.converses.reads.hears in (k.more, ap (λ (s : Stand). s.account.replies) x.settles ∙ losses_replies x.answered.account _ ∙ k.replies)
+
+pub exchanged_told : (from to : Place) → Exchanges from to (Ok tt) → to.stand.account.lost ≡ from.stand.account.lost
+exchanged_told from to x = ap (λ (s : Stand). s.account.lost) x.settles ∙ (hears_keeps x.converses.reads.hears).lost
+
+-- the last part is sent
+module _ (from now to : Place) (before last : List RequestView) (s : SoSent from now before last) (some : 0 < length last) where
+  none_unread : s.unheard ≡ []
+  none_unread = none_unheard s.unheard now.stand s.quiet (s.is_open some)
+
+  module _ (r : Result (Unit {0}) Break) (x : Exchanges now to r) where
+    led : Led now to r
+    led = exchange_led now to r x
+
+    input : Consumes from.left to.left ((s.heard ++ led.heard) ++ led.unheard)
+    input =
+        let whole : s.heard ++ s.unheard ≡ s.heard = ap (λ l. s.heard ++ l) none_unread ∙ append-nil s.heard in
+        subst (Consumes from.left to.left) (ap (λ l. l ++ (led.heard ++ led.unheard)) whole ∙ sym (append_assoc s.heard led.heard led.unheard))
+        (Consumes-trans from.left now.left to.left (s.heard ++ s.unheard) (led.heard ++ led.unheard) s.input led.input)
+
+    leads : Leads from.stand (s.calls ++ led.calls) to.stand (before ++ last) (s.heard ++ led.heard) (s.out ++ now.stand.rest.unsent) led.lost
+    leads =
+        subst (λ qs. Leads from.stand (s.calls ++ led.calls) to.stand qs (s.heard ++ led.heard) (s.out ++ now.stand.rest.unsent) led.lost) (append-nil (before ++ last))
+        (leads_on s.calls led.calls s.leads led.leads)
+
+    stays : (i : ℕ) → i < length before → is_answered to.stand.account i ≡ true
+    stays i l = let k = exchanged_longer now to r x in answer_stays now.stand.account to.stand.account k.0 i k.1 (s.done i l)
+
+    pub part_ended : (failed : Bool) → (IsErrOf r break.WriteFailed → failed ≡ true) → (later all : List RequestView) (n : ℕ) → is_whole last later ≡ true → all ≡ before ++ (last ++ later) → n ≡ length (before ++ last) → SendsInParts from to failed all n
+    part_ended failed fails later all n w asks count = record {
+      before = before;
+      last = last;
+      later = later;
+      asks = asks;
+      count = count;
+      parts = s.parts;
+      whole = s.whole;
+      few = s.few;
+      done = stays;
+      calls = s.calls ++ led.calls;
+      heard = s.heard ++ led.heard;
+      unheard = led.unheard;
+      out = s.out ++ now.stand.rest.unsent;
+      lost = led.lost;
+      leads = leads;
+      input = input;
+      written =
+          ⊎_elim (λ a. inl (Appends-trans from.written now.written to.written s.out now.stand.rest.unsent s.written a))
+          (λ f. inr (fails f.0, (s.out ++ f.1.0, f.1.1, append_assoc s.out f.1.0 f.1.1 ∙ ap (λ l. s.out ++ l) f.1.2, Appends-trans from.written now.written to.written s.out f.1.0 s.written f.1.3)))
+          (writes_or now.stand.rest.unsent r now.written to.written x.converses.writes);
+      unsent = exchange_empties now to r x ∙ sym (cond-true (is_whole last later) [] (bytes_in_order (asking_bytes to.stand.rest.knows.version) last) w);
+    }
+
+  -- and each of it is done
+  pub part_done : (failed : Bool) → length last ≡ max_waiting → SendsPart now to failed (length before) max_waiting true → SoSent from to (before ++ last) []
+  part_done failed full p =
+      let done = p.is_done refl in
+      let x : Exchanges now to (Ok tt) = subst (λ (r : Result (Unit {0}) Break). Exchanges now to r) done.0 p.exchanged in
+      let told : to.stand.account.lost ≡ [] = exchanged_told now to x ∙ s.told in
+      record {
+        parts = suc s.parts;
+        whole = length-append before last ∙ ap₂ (λ a b. a + b) s.whole full ∙ omega arith;
+        few = omega arith;
+        done = λ i l. ⊎_elim (λ (m : i < length before). stays (Ok tt) x i m)
+            (λ (m : length before ≤ i).
+            let n : length (before ++ last) ≡ length before + length last = length-append before last in
+            let at : length before + (i - length before) ≡ i = omega (arith, m) in
+            done_answered to.stand.account i told (ap (λ k. is_done (outcome_of to.stand.account k)) (sym at) ∙ each_done (outcome_of to.stand.account) (length before) max_waiting done.1 (i - length before) (omega (arith, l, n, full, m))))
+            (lt_or_le i (length before));
+        told = told;
+        waits = ap (λ (s : Stand). s.rest.knows.waiting) x.settles ∙ ends x;
+        calls = s.calls ++ (led (Ok tt) x).calls;
+        heard = s.heard ++ (led (Ok tt) x).heard;
+        unheard = (led (Ok tt) x).unheard;
+        out = s.out ++ now.stand.rest.unsent;
+        leads = subst (λ qs. Leads from.stand (s.calls ++ (led (Ok tt) x).calls) to.stand qs (s.heard ++ (led (Ok tt) x).heard) (s.out ++ now.stand.rest.unsent) false) (sym (append-nil (before ++ last)))
+            (subst (λ b. Leads from.stand (s.calls ++ (led (Ok tt) x).calls) to.stand (before ++ last) (s.heard ++ (led (Ok tt) x).heard) (s.out ++ now.stand.rest.unsent) b) (led (Ok tt) x).unlost (leads (Ok tt) x));
+        input = input (Ok tt) x;
+        quiet = (led (Ok tt) x).whole;
+        is_open = λ l. absurd (omega (arith, l));
+        written = Appends-trans from.written now.written to.written s.out now.stand.rest.unsent s.written x.converses.writes;
+        unsent = exchange_empties now to (Ok tt) x;
+      }
+    where
+      ends : (x : Exchanges now to (Ok tt)) → x.answered.rest.knows.waiting ≡ []
+      ends x = x.converses.ends.1
+
+      lt_or_le : (i n : ℕ) → (i < n) ⊎ (n ≤ i)
+      lt_or_le i zero = inr (omega arith)
+      lt_or_le zero (suc n) = inl (omega arith)
+      lt_or_le (suc i) (suc n) = ⊎_elim (λ (m : i < n). inl (omega (arith, m))) (λ (m : n ≤ i). inr (omega (arith, m))) (lt_or_le i n)
+
+-- a request isn't accepted, and the last part never goes out
+pub stopped : (from now : Place) (before last : List RequestView) → SoSent from now before last → (failed : Bool) (q : RequestView) (behind all : List RequestView) (n : ℕ) → length last < max_waiting → all ≡ before ++ (last ++ q ∷ behind) → n ≡ length (before ++ last) → SendsInParts from now failed all n
+stopped from now before last s failed q behind all n room asks count = record {
+  before = before;
+  last = last;
+  later = q ∷ behind;
+  asks = asks;
+  count = count;
+  parts = s.parts;
+  whole = s.whole;
+  few = s.few;
+  done = s.done;
+  calls = s.calls;
+  heard = s.heard;
+  unheard = s.unheard;
+  out = s.out;
+  lost = false;
+  leads = s.leads;
+  input = s.input;
+  written = inl s.written;
+  unsent = s.unsent ∙ sym (cond-false (is_whole last (q ∷ behind)) [] (bytes_in_order (asking_bytes now.stand.rest.knows.version) last) (grind (arith, nat_tests)));
+}
+
+-- So many requests were accepted, the last of them in the part that waits.
+pub record SoAsked (from now : Place) (qs : List RequestView) (n : ℕ) : Type 0 where
+  pub before : List RequestView
+  pub last : List RequestView
+  pub parts : qs ≡ before ++ last
+  pub count : n ≡ length qs
+  pub sent : SoSent from now before last
+  pub some : 0 < length qs → 0 < length last
+
+-- what holds of what was answered, by a test of it
+pub ok_part : {T E : Type 0} (x : Result T E) (P : T → Type 0) → is_err x ≡ false → IfOk x P → (y : T) × P y
+ok_part (Ok y) P e h = (y, h)
+ok_part (Err f) P e h = cc
+
+pub none_asked : (from : Place) → IsQuiet from.stand → SoAsked from from [] 0
+none_asked from q = record { before = []; last = []; parts = refl; count = refl; sent = none_sent from q; some = λ l. absurd (omega (arith, l)) }
+
+-- So they were, and there is room for one more.
+pub record HasRoom (from now : Place) (qs : List RequestView) : Type 0 where
+  pub before : List RequestView
+  pub last : List RequestView
+  pub parts : qs ≡ before ++ last
+  pub sent : SoSent from now before last
+  pub room : length last < max_waiting
+
+-- a part that is full has as many requests as may wait, and they are the last of those that were asked
+full_length : (from now : Place) (before last : List RequestView) → SoSent from now before last → max_waiting ≤ length now.stand.rest.knows.waiting → length last ≡ max_waiting
+full_length from now before last s m = let n = ap length s.waits in let few = s.few in omega (arith, m, n, few)
+
+full_first : (before last qs : List RequestView) (n : ℕ) → qs ≡ before ++ last → n ≡ length qs → length last ≡ max_waiting → n - max_waiting ≡ length before
+full_first before last qs n e c f =
+    let k : length qs ≡ length before + length last = ap length e ∙ length-append before last in
+    omega (arith, c, k, f)
+
+pub room_made : (from now mid : Place) (qs : List RequestView) (n : ℕ) (failed room : Bool) → SoAsked from now qs n → MakesRoom now mid failed n room → room ≡ true → HasRoom from mid qs
+room_made from now mid qs n failed room s m has =
+    ⊎_elim
+    (λ few.
+    let k = ap length s.sent.waits in
+    let less = few.0 in
+    record {
+      before = s.before;
+      last = s.last;
+      parts = s.parts;
+      sent = subst (λ (z : Place). SoSent from z s.before s.last) (sym few.1.0) s.sent;
+      room = omega (arith, k, less);
+    })
+    (λ full.
+    let f = full_length from now s.before s.last s.sent full.0 in
+    record {
+      before = s.before ++ s.last;
+      last = [];
+      parts = s.parts ∙ sym (append-nil (s.before ++ s.last));
+      sent = part_done from now mid s.before s.last s.sent (omega (arith, f)) failed f (subst (λ k. SendsPart now mid failed k max_waiting true) (full_first s.before s.last qs n s.parts s.count f) (subst (λ b. SendsPart now mid failed (n - max_waiting) max_waiting b) has full.1));
+      room = omega arith;
+    })
+    m
+
+whole_full : (last later : List RequestView) → length last ≡ max_waiting → is_whole last later ≡ true
+whole_full last later f = ap (λ n. n == max_waiting || length later == 0) f
+
+whole_end : (last : List RequestView) → is_whole last [] ≡ true
+whole_end last = or_true (length last == max_waiting)
+  where
+    or_true : (b : Bool) → (b || true) ≡ true
+    or_true true = refl
+    or_true false = refl
+
+behind_parts : (all qs before last later : List RequestView) → all ≡ qs ++ later → qs ≡ before ++ last → all ≡ before ++ (last ++ later)
+behind_parts all qs before last later e p = e ∙ ap (λ l. l ++ later) p ∙ append_assoc before last later
+
+pub no_room : (from now to : Place) (qs : List RequestView) (n : ℕ) (failed : Bool) → SoAsked from now qs n → (room : Bool) → MakesRoom now to failed n room → room ≡ false → (later all : List RequestView) → all ≡ qs ++ later → SendsInParts from to failed all n
+no_room from now to qs n failed s room m lacks later all e =
+    ⊎_elim (λ few. let no : false ≡ true = sym lacks ∙ few.1.1 in cc)
+    (λ full.
+    let f = full_length from now s.before s.last s.sent full.0 in
+    part_ended from now to s.before s.last s.sent (omega (arith, f)) full.1.broken full.1.exchanged failed full.1.fails later all n (whole_full s.last later f) (behind_parts all qs s.before s.last later e s.parts) (s.count ∙ ap length s.parts))
+    m
+
+pub one_more : (from now : Place) (qs : List RequestView) (n : ℕ) → HasRoom from now qs → n ≡ length qs → (q : RequestView) (new : Stand) → refuses now.stand.rest.knows q ≡ None → new.rest ≡ after_submit now.stand.rest q → new.account ≡ now.stand.account → SoAsked from (place new now.left now.written) (qs ++ q ∷ []) (n + 1)
+one_more from now qs n h c q new accepted r a = record {
+  before = h.before;
+  last = h.last ++ q ∷ [];
+  parts = ap (λ l. l ++ q ∷ []) h.parts ∙ append_assoc h.before h.last (q ∷ []);
+  count = ap (λ k. k + 1) c ∙ sym (length-append qs (q ∷ []));
+  sent = one_sent from now h.before h.last h.sent q accepted h.room new r a;
+  some = λ _. let k = longer h.last q in omega (arith, k);
+}
+
+pub none_more : (from now : Place) (qs : List RequestView) (n : ℕ) (failed : Bool) → HasRoom from now qs → n ≡ length qs → (q : RequestView) (behind all : List RequestView) → all ≡ qs ++ q ∷ behind → (new : Stand) → new ≡ now.stand → SendsInParts from (place new now.left now.written) failed all n
+none_more from now qs n failed h c q behind all e new same =
+    subst (λ (z : Stand). SendsInParts from (place z now.left now.written) failed all n) (sym same)
+    (stopped from now h.before h.last h.sent failed q behind all n h.room (behind_parts all qs h.before h.last (q ∷ behind) e h.parts) (c ∙ ap length h.parts))
+
+pub all_sent : (from now to : Place) (qs : List RequestView) (n : ℕ) (failed : Bool) → SoAsked from now qs n → 0 < length qs → (r : Result (Unit {0}) Break) → Exchanges now to r → (IsErrOf r break.WriteFailed → failed ≡ true) → SendsInParts from to failed qs n
+all_sent from now to qs n failed s l r x fails =
+    part_ended from now to s.before s.last s.sent (s.some l) r x failed fails [] qs n (whole_end s.last) (behind_parts qs qs s.before s.last [] (sym (append-nil qs)) s.parts) (s.count ∙ ap length s.parts)
