@@ -3,7 +3,7 @@
 
 use engine::{FixedTable, OneUser};
 use lasting::Lasting;
-use programs::{drain, escape, serve_next};
+use programs::{ServerStreams, drain, escape, serve_next};
 use server::Server;
 use sqlite::{Connection, File, FileStore};
 use std::fmt::Display;
@@ -65,11 +65,14 @@ fn serve(rt: &HostRuntime, port: u16, file: &str) -> io::Result<()> {
         let Ok(stream) = stream.and_then(timed) else {
             continue;
         };
-        let (mut source, mut sink) = (Over::new(&stream), Over::new(&stream));
-        let _cause = serve_next(alloc, &mut server, &mut source, &mut sink, &mut out);
+        let mut streams = ServerStreams {
+            source: Over::new(&stream),
+            sink: Over::new(&stream),
+        };
+        let _cause = serve_next(alloc, &mut server, &mut streams, &mut out);
         // A close with bytes unread would throw away what hasn't arrived.
         let _stopped = stream.shutdown(Shutdown::Write);
-        drain(&mut Over::new(&stream));
+        drain(&mut streams);
         if server.engine().is_stopped() {
             return say(rt, file, &"the disk failed; start the server again");
         }
