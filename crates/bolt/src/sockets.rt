@@ -7,14 +7,16 @@ ghost use Rattle.bolt.specs.Served.{IsAtFirst, HasServedAll, listening_line};
 
 use crate::reasons::{put_connected, put_failed, put_lost, put_unreached, put_unread};
 use engine::{FixedTable, OneUser};
-use programs::{BothWays, OneWay, ShellStreams, drain, put_fault, run_loop, serve_next, shell};
+use programs::{
+    BothWays, OneWay, ServerStreams, ShellStreams, drain, put_fault, run_loop, serve_next, shell,
+};
 use server::Server;
 use std::alloc::{AllocError, Global};
 use std::io::{Read, Write};
 use std::net::{Shutdown, TcpListener, TcpStream};
 use std::time::Duration;
 use std::{fs, io};
-use streams::{Over, Sink, StreamFault, write_all};
+use streams::{Over, Sink, Source, StreamFault, write_all};
 
 /// The address of this machine for itself.
 const HERE: &str = "127.0.0.1";
@@ -104,10 +106,12 @@ fn serve_count<O: Sink>(
         };
         send_at_once(&stream);
         wait_at_most(&stream, SILENCE);
-        let mut source = Over::new(&stream);
-        let mut sink = Over::new(&stream);
-        serve_next(alloc, &mut server, &mut source, &mut sink, out)?;
-        close(&stream);
+        let mut streams = ServerStreams {
+            source: Over::new(&stream),
+            sink: Over::new(&stream),
+        };
+        serve_next(alloc, &mut server, &mut streams, out)?;
+        close(&stream, &mut streams);
     }
     Ok(())
 }
@@ -216,9 +220,9 @@ fn wait_at_most(stream: &TcpStream, seconds: u64) {
     let _written = stream.set_write_timeout(wait);
 }
 
-/// Lets what was written arrive before the stream is closed: stops writing, and takes what the peer still sends.
-fn close(stream: &TcpStream) {
+/// Lets what was written arrive before the stream is closed: stops writing, and takes what the peer still sends, unless reading has failed.
+fn close<I: Source, O: Sink>(stream: &TcpStream, streams: &mut ServerStreams<I, O>) {
     let _stopped = stream.shutdown(Shutdown::Write);
     wait_at_most(stream, LAST_WAIT);
-    drain(&mut Over::new(stream));
+    drain(streams);
 }

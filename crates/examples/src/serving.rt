@@ -1,7 +1,7 @@
 //! Serves a fixed table at a port of this machine, one connection after another, until it is ended.
 
 use engine::{FixedTable, OneUser};
-use programs::{ServedOne, drain, put_fault, serve_next};
+use programs::{ServedOne, ServerStreams, drain, put_fault, serve_next};
 use server::Server;
 use std::io;
 use std::net::{Shutdown, TcpListener, TcpStream};
@@ -36,14 +36,17 @@ pub(crate) fn serve(rt: &HostRuntime, port: u16) -> io::Result<()> {
         let Ok(stream) = stream.and_then(timed) else {
             continue;
         };
-        let (mut source, mut sink) = (Over::new(&stream), Over::new(&stream));
-        let told = serve_next(alloc, &mut server, &mut source, &mut sink, &mut out);
+        let mut streams = ServerStreams {
+            source: Over::new(&stream),
+            sink: Over::new(&stream),
+        };
+        let told = serve_next(alloc, &mut server, &mut streams, &mut out);
         if let Some(fault) = fault_of(told) {
             let _status = put_fault(fault, &mut err);
         }
         // A close with bytes unread would throw away what hasn't arrived.
         let _stopped = stream.shutdown(Shutdown::Write);
-        drain(&mut Over::new(&stream));
+        drain(&mut streams);
     }
     Ok(())
 }

@@ -1,7 +1,8 @@
 -- Each request of a conversation has one line.
-use Rattle.std.proofs.Common.{◌≡◌, refl, sym, ap, subst, ◌∙◌, ℕ, suc, ◌+◌, Bool, true, false, not, ◌&&◌, ◌||◌, cond, true≢false, List, [], ◌∷◌, ◌++◌, length, drop, append_assoc, append-nil, Option, Some, None, is_none, unwrap_or, length-append, ◌⊎◌, ⊎_elim, inl, inr, arith}
+use Rattle.std.proofs.Common.{◌≡◌, refl, sym, ap, subst, ◌∙◌, ℕ, suc, ◌+◌, Bool, true, false, not, ◌&&◌, ◌||◌, cond, true≢false, List, [], ◌∷◌, ◌++◌, length, drop, append_assoc, append-nil, Option, Some, None, is_none, unwrap_or, length-append, ◌⊎◌, ⊎_elim, inl, inr, arith, not-suc-le-zero}
 use Rattle.std.proofs.lemmas.Bool.{cond_both}
 use Rattle.std.proofs.lemmas.Grind.{flat_map-append}
+use Rattle.std.proofs.lemmas.List.Elements.{All-push}
 use Rattle.wire.specs.declared.Version.{Version}
 use Rattle.wire.specs.declared.Version.TheVariants.{V51}
 use Rattle.wire.specs.declared.Wish.{Wish}
@@ -21,7 +22,7 @@ use Rattle.streams.specs.Prelude.{AppendsFront}
 use Rattle.asks.specs.Prelude.{Tale, after_all, after_notes, all_answered, given_up, hears_all, notes_of, tale_of}
 use Rattle.scripts.specs.Prelude.{Text, meant}
 use Rattle.programs.specs.Names.{outcome_name, phase_name}
-use Rattle.programs.specs.Prelude.{AtLoss, AreFates, AreTold, Accounts, EachHasALine, Exchanges, Fate, Gets, HeardUpTo, Holds, IsBegun, IsCut, IsExplained, Log, OnErrors, OnOutput, Place, Printed, Puts, Sending, Stands, Streams, Talked, TalksLine, Unanswered, and_then, answers_line, asked_bytes, behind_line, failure_told, first_place, greeting_after, in_line, is_printed, lines_from, lost_line, lost_of, losses_text, next_line, opens, parting, printed_line, refuses_line, summaries_text, summary_line, told_line, told_more, unmade, version_after, versions_after, why_text}
+use Rattle.programs.specs.Prelude.{AtLoss, Accounts, EachHasALine, Exchanges, Fate, Gets, HeardUpTo, Holds, IsBegun, IsFate, IsCut, Log, OnErrors, OnOutput, Place, Printed, Puts, Sending, Stands, Streams, Talked, TalksLine, Unanswered, and_then, answers_line, asked_bytes, behind_line, explained, explained_all, failure_told, first_place, greeting_after, in_line, is_printed, lines_from, lost_line, lost_of, losses_text, next_line, opens, parting, printed_line, refuses_line, summaries_text, summary_line, told_line, told_more, unmade, version_after, versions_after, why_text}
 use Rattle.programs.specs.Talking.{is_settled}
 use Rattle.programs.specs.Telling.{heard_line}
 use Rattle.programs.proofs.Moved.{gets_then}
@@ -30,7 +31,7 @@ use Rattle.streams.proofs.Fronts.{front_whole}
 
 -- ---- what a client makes of items, while at most one request waits
 
--- nothing waits
+-- so many were answered, and nothing waits
 abbrev NoneWaits : ℕ → Knows → Type 0
 NoneWaits n k = (k.waiting ≡ []) × (k.first ≡ n)
 
@@ -38,50 +39,58 @@ NoneWaits n k = (k.waiting ≡ []) × (k.first ≡ n)
 abbrev OneWaits : ℕ → RequestView → Knows → Type 0
 OneWaits n q k = (k.waiting ≡ q ∷ []) × (k.first ≡ n)
 
--- its summary was told
-record IsSummed (n : ℕ) (t : Tale) : Type 0 where
+-- nothing was answered
+abbrev Unmoved : Knows → Knows → Type 0
+Unmoved k j = (j.waiting ≡ k.waiting) × (j.first ≡ k.first)
+
+-- The summary of the first that waited was told; nothing waits then where it was the only one.
+record IsSummed (k : Knows) (notes : List Note) (then : Knows) : Type 0 where
+  first : RequestView
+  later : List RequestView
   before : List Note
   after : List Note
   phase : Phase
   outcome : Outcome
   said : ResponseView
-  notes : t.notes ≡ before ++ Summary n phase outcome said ∷ after
-  now : NoneWaits (suc n) t.knows
+  waits : k.waiting ≡ first ∷ later
+  told : notes ≡ before ++ Summary k.first phase outcome said ∷ after
+  now : later ≡ [] → NoneWaits (suc k.first) then
 
-step_none : (wish : Wish) (k : Knows) (x : Heard) (h : Hearing) → Makes wish k x h → k.waiting ≡ [] → NoneWaits k.first h.knows
-step_none wish k x h (tells_summary a s) e = let bad : [] ≡ s.first ∷ s.later = sym e ∙ s.waits in absurd cc
-step_none wish k x h _ e = (e, refl)
+step : (wish : Wish) (k : Knows) (x : Heard) (h : Hearing) → Makes wish k x h → Unmoved k h.knows ⊎ IsSummed k (notes_of x h) h.knows
+step wish k x h (tells_summary a s) = inr (record { first = s.first; later = s.later; before = []; after = []; phase = _; outcome = _; said = _; waits = s.waits; told = refl; now = λ e. (ap (drop 1) s.waits ∙ e, refl) })
+step wish k x h _ = inl (refl, refl)
 
-tale_none : (wish : Wish) (k : Knows) (items : List Item) → k.waiting ≡ [] → NoneWaits k.first (tale_of wish k items).knows
-tale_none wish k [] e = (e, refl)
-tale_none wish k (x ∷ xs) e =
+tale : (wish : Wish) (k : Knows) (items : List Item) → (let t = tale_of wish k items in Unmoved k t.knows ⊎ IsSummed k t.notes t.knows)
+tale wish k [] = inl (refl, refl)
+tale wish k (x ∷ xs) =
     let said = heard_as k.version x in
     let h = hears_item wish k said in
-    cond_both k.over (record { knows = k; notes = [] }) (after_notes (notes_of said h) (tale_of wish h.knows xs)) (λ (t : Tale). NoneWaits k.first t.knows) (λ _. (e, refl))
-    (λ _. let s = step_none wish k said h (makes wish k said) e in let more = tale_none wish h.knows xs s.0 in (more.0, more.1 ∙ s.1))
-
-step_one : (wish : Wish) (k : Knows) (x : Heard) (h : Hearing) (q : RequestView) → Makes wish k x h → k.waiting ≡ q ∷ [] → OneWaits k.first q h.knows ⊎ ((phase : Phase) × (outcome : Outcome) × (said : ResponseView) × (notes_of x h ≡ Summary k.first phase outcome said ∷ []) × NoneWaits (suc k.first) h.knows)
-step_one wish k x h q (tells_summary a s) e = inr (_, _, _, refl, (ap (drop 1) e, refl))
-step_one wish k x h q _ e = inl (e, refl)
-
-tale_one : (wish : Wish) (k : Knows) (items : List Item) (q : RequestView) → k.waiting ≡ q ∷ [] → (let t = tale_of wish k items in OneWaits k.first q t.knows ⊎ IsSummed k.first t)
-tale_one wish k [] q e = inl (e, refl)
-tale_one wish k (x ∷ xs) q e =
-    let said = heard_as k.version x in
-    let h = hears_item wish k said in
-    let notes = notes_of said h in
     let rest = tale_of wish h.knows xs in
-    cond_both k.over (record { knows = k; notes = [] }) (after_notes notes rest) (λ (t : Tale). OneWaits k.first q t.knows ⊎ IsSummed k.first t) (λ _. inl (e, refl)) (λ _. ⊎_elim
-    (λ s. ⊎_elim (λ w. inl (w.0, w.1 ∙ s.1)) (λ w. inr (record {
-      before = notes ++ w.before;
+    cond_both k.over (record { knows = k; notes = [] }) (after_notes (notes_of said h) rest) (λ (t : Tale). Unmoved k t.knows ⊎ IsSummed k t.notes t.knows) (λ _. inl (refl, refl)) (λ _. ⊎_elim
+    (λ s. ⊎_elim (λ u. inl (u.0 ∙ s.0, u.1 ∙ s.1)) (λ w. inr (record {
+      first = w.first;
+      later = w.later;
+      before = notes_of said h ++ w.before;
       after = w.after;
       phase = w.phase;
       outcome = w.outcome;
       said = w.said;
-      notes = simp (w.notes, append_assoc, s.1);
-      now = (w.now.0, w.now.1 ∙ ap suc s.1);
-    })) (tale_one wish h.knows xs q s.0))
-    (λ s. let none = tale_none wish h.knows xs s.4.0 in inr (record { before = []; after = rest.notes; phase = s.0; outcome = s.1; said = s.2; notes = ap (λ (z : List Note). z ++ rest.notes) s.3; now = (none.0, none.1 ∙ s.4.1) })) (step_one wish k said h q (makes wish k said) e))
+      waits = sym s.0 ∙ w.waits;
+      told = simp (w.told, append_assoc, s.1);
+      now = λ e. let n = w.now e in (n.0, n.1 ∙ ap suc s.1);
+    })) (tale wish h.knows xs))
+    (λ s. inr (record {
+      first = s.first;
+      later = s.later;
+      before = s.before;
+      after = s.after ++ rest.notes;
+      phase = s.phase;
+      outcome = s.outcome;
+      said = s.said;
+      waits = s.waits;
+      told = simp (s.told, append_assoc);
+      now = λ e. let n = s.now e in ⊎_elim (λ u. (u.0 ∙ n.0, u.1 ∙ n.1)) (λ w. let bad : [] ≡ w.first ∷ w.later = sym n.0 ∙ w.waits in absurd cc) (tale wish h.knows xs);
+    })) (step wish k said h (makes wish k said)))
 
 -- ---- lines that texts hold
 
@@ -96,20 +105,14 @@ holds_before lines first text h = holds_then [] lines first text tt h
 holds_behind : (lines : List (List ℕ)) (text more : List ℕ) → Holds lines text → Holds lines (text ++ more)
 holds_behind lines text more h = rw (← append-nil lines) (holds_then lines [] text more h tt)
 
-lines_last : (line : ℕ → Fate → List (List ℕ)) (n : ℕ) (fs : List Fate) (f : Fate) → lines_from line n (fs ++ f ∷ []) ≡ lines_from line n fs ++ line (n + length fs) f
-lines_last line n [] f = append-nil (line n f) ∙ ap (λ (m : ℕ). line m f) (omega arith)
-lines_last line n (g ∷ gs) f = rw (lines_last line (n + 1) gs f) (simp append_assoc (ap (λ m. line n g ++ (lines_from line (n + 1) gs ++ line m f)) (omega arith)))
+lines_last : (line : ℕ → Fate → List (List ℕ)) (n : ℕ) (qs : List Sending) (q : Sending) → lines_from line n (qs ++ q ∷ []) ≡ lines_from line n qs ++ line (n + length qs) q.fate
+lines_last line n [] q = append-nil (line n q.fate) ∙ ap (λ (m : ℕ). line m q.fate) (omega arith)
+lines_last line n (r ∷ rs) q = rw (lines_last line (n + 1) rs q) (simp append_assoc (ap (λ m. line n r.fate ++ (lines_from line (n + 1) rs ++ line m q.fate)) (omega arith)))
 
-holds_last : (line : ℕ → Fate → List (List ℕ)) (fs : List Fate) (f : Fate) (text rest : List ℕ) → Holds (lines_from line 0 fs) text → Holds (line (length fs) f) rest → Holds (lines_from line 0 (fs ++ f ∷ [])) (text ++ rest)
-holds_last line fs f text rest h k =
-    let here : 0 + length fs ≡ length fs = omega arith in
-    rw (lines_last line 0 fs f, here) (holds_then (lines_from line 0 fs) (line (length fs) f) text rest h k)
-
-fates_last : (qs : List Sending) (fs : List Fate) (q : Sending) (f : Fate) → AreFates qs fs → (f ≡ Unanswered → is_goodbye (kind_of q.said) ≡ true) → AreFates (qs ++ q ∷ []) (fs ++ f ∷ [])
-fates_last [] [] q f h k = (k, tt)
-fates_last [] (g ∷ gs) q f h k = absurd h
-fates_last (r ∷ rs) [] q f h k = absurd h
-fates_last (r ∷ rs) (g ∷ gs) q f h k = (h.0, fates_last rs gs q f h.1 k)
+holds_last : (line : ℕ → Fate → List (List ℕ)) (qs : List Sending) (q : Sending) (text rest : List ℕ) → Holds (lines_from line 0 qs) text → Holds (line (length qs) q.fate) rest → Holds (lines_from line 0 (qs ++ q ∷ [])) (text ++ rest)
+holds_last line qs q text rest h k =
+    let here : 0 + length qs ≡ length qs = omega arith in
+    rw (lines_last line 0 qs q, here) (holds_then (lines_from line 0 qs) (line (length qs) q.fate) text rest h k)
 
 bytes_last : (qs : List Sending) (q : Sending) → asked_bytes (qs ++ q ∷ []) ≡ asked_bytes qs ++ asking_bytes q.version q.said
 bytes_last qs q = simp (flat_map-append, append-nil, append_assoc)
@@ -129,27 +132,26 @@ module _ (n : ℕ) (phase : Phase) (outcome : Outcome) (said : ResponseView) whe
 
   holds_cut : (v : Version) (fault : StreamFault) (begun first : List ℕ) → IsCut v summary fault begun first → Holds (line ∷ []) begun ⊎ Holds (line ∷ []) first
   holds_cut v fault begun first (unmade cells e) = absurd cc
-  holds_cut v fault begun first (in_line l front e p) = inr ([], [], sym (append-nil line), tt)
-  holds_cut v fault begun first (behind_line f l front e p) = inl ([], front, ap (λ (z : List ℕ). z ++ front) e, tt)
+  holds_cut v fault begun first (in_line front p) = inr ([], [], sym (append-nil line), tt)
+  holds_cut v fault begun first (behind_line f front p) = inl ([], front, refl, tt)
 
   holds_begun : (broken : Option StreamFault) (v : Version) (front rest : List Note) (begun told : List ℕ) → IsBegun broken v (front ++ summary ∷ rest) begun told → Holds (line ∷ []) begun ⊎ Holds (line ∷ []) told
   holds_begun None v [] rest begun told h = absurd cc
   holds_begun None v (x ∷ xs) rest begun told h = absurd cc
-  holds_begun (Some fault) v [] rest begun told h = ⊎_elim inl (λ k. inr (subst (Holds (line ∷ [])) (sym h.2) (holds_behind (line ∷ []) h.0 (summaries_text rest) k))) (holds_cut (version_after v summary) fault begun h.0 h.1)
-  holds_begun (Some fault) v (x ∷ xs) rest begun told h = inr (subst (Holds (line ∷ [])) (sym h.2) (holds_before (line ∷ []) h.0 (summaries_text (xs ++ summary ∷ rest)) (holds_summaries xs rest)))
+  holds_begun (Some fault) v [] rest begun told h = ⊎_elim inl (λ k. inr (rw h.2 (holds_behind (line ∷ []) h.0 (summaries_text rest) k))) (holds_cut (version_after v summary) fault begun h.0 h.1)
+  holds_begun (Some fault) v (x ∷ xs) rest begun told h = inr (rw h.2 (holds_before (line ∷ []) h.0 (summaries_text (xs ++ summary ∷ rest)) (holds_summaries xs rest)))
 
   -- among the notes that are printed, or among the others
-  holds_line : (broken : Option StreamFault) (v : Version) (before after shown unshown : List Note) (text begun told : List ℕ) → before ++ summary ∷ after ≡ shown ++ unshown → AreTold v shown text → IsBegun broken (versions_after v shown) unshown begun told
-      → Holds (line ∷ []) (text ++ begun) ⊎ Holds (line ∷ []) told
-  holds_line broken v before after [] unshown text begun told e h k = subst (λ (t : List ℕ). Holds (line ∷ []) (t ++ begun) ⊎ Holds (line ∷ []) told) (sym h) (holds_begun broken v before after begun told (subst (λ (ns : List Note). IsBegun broken v ns begun told) (sym e) k))
-  holds_line broken v [] after (x ∷ xs) unshown text begun told e h k =
+  holds_line : (broken : Option StreamFault) (v : Version) (before after shown unshown : List Note) (begun told : List ℕ) → before ++ summary ∷ after ≡ shown ++ unshown → IsBegun broken (versions_after v shown) unshown begun told
+      → Holds (line ∷ []) (explained_all v shown ++ begun) ⊎ Holds (line ∷ []) told
+  holds_line broken v before after [] unshown begun told e k = holds_begun broken v before after begun told (subst (λ (ns : List Note). IsBegun broken v ns begun told) (sym e) k)
+  holds_line broken v [] after (x ∷ xs) unshown begun told e k =
       let same : x ≡ summary = cc in
-      let first : IsExplained (version_after v summary) summary h.0 = subst (λ (z : Note). IsExplained (version_after v z) z h.0) same h.2 in
-      inl (holds_behind (line ∷ []) text begun ([], failure_told summary ++ h.1, simp (h.4, first.2, first.1, append_assoc), tt))
-  holds_line broken v (b ∷ bs) after (x ∷ xs) unshown text begun told e h k =
+      inl (rw same ([], failure_told summary ++ (explained_all (version_after v summary) xs ++ begun), simp append_assoc, tt))
+  holds_line broken v (b ∷ bs) after (x ∷ xs) unshown begun told e k =
       let tail : bs ++ summary ∷ after ≡ xs ++ unshown = cc in
-      ⊎_elim (λ z. inl (rw (h.4, append_assoc) (holds_before (line ∷ []) h.0 (h.1 ++ begun) z))) inr
-      (holds_line broken (version_after v x) bs after xs unshown h.1 begun told tail h.3 k)
+      let w = version_after v x in
+      ⊎_elim (λ z. inl (rw append_assoc (holds_before (line ∷ []) (explained w x) (explained_all w xs ++ begun) z))) inr (holds_line broken w bs after xs unshown begun told tail k)
 
 -- ---- a request that has no answer
 
@@ -212,16 +214,16 @@ module _ {Gone : Type 0} {fault : Option StreamFault} {p q : Place} {log : Log} 
 
   -- nothing waited
   first_exchange : NoneWaits 0 p.rest.knows → q.rest.knows.over ≡ false → NoneWaits 0 q.rest.knows
-  first_exchange w o = let t = tale_none p.rest.wish p.rest.knows (outputs at_client p.rest.item did.fed) w.0 in then_none o 0 (t.0, t.1 ∙ w.1)
+  first_exchange w o = then_none o 0 (⊎_elim (λ u. (u.0 ∙ w.0, u.1 ∙ w.1)) (λ s. let bad : [] ≡ s.first ∷ s.later = sym w.0 ∙ s.waits in absurd cc) (tale p.rest.wish p.rest.knows (outputs at_client p.rest.item did.fed)))
 
   -- its summary came
-  answered : (n : ℕ) (a : RequestView) → IsSummed n (hears_all p.rest did.fed) → HasFate n a log
-  answered n a s = ⊎_elim (λ h. record { fate = OnOutput s.phase s.outcome; ends = λ e. absurd cc; on_output = subst (Holds one) (sym (ap (λ (l : Log). l.printed) x.moved)) h; on_errors = tt })
+  answered : (n : ℕ) (a : RequestView) → p.rest.knows.first ≡ n → IsSummed p.rest.knows (hears_all p.rest did.fed).notes knows → HasFate n a log
+  answered n a e s = rw (← e) (⊎_elim (λ h. record { fate = OnOutput s.phase s.outcome; ends = λ e. absurd cc; on_output = subst (Holds one) (sym (ap (λ (l : Log). l.printed) x.moved)) h; on_errors = tt })
       (λ h. record { fate = OnErrors s.phase s.outcome; ends = λ e. absurd cc; on_output = tt; on_errors = subst (Holds one) (sym (ap (λ (l : Log). l.told) x.moved)) (holds_behind one lines.told (parting fault knows) h) })
-      (holds_line n s.phase s.outcome s.said did.broken p.version s.before s.after lines.shown lines.unshown lines.text lines.begun lines.told (sym s.notes ∙ lines.parts) lines.prints lines.next)
+      (holds_line p.rest.knows.first s.phase s.outcome s.said did.broken p.version s.before s.after lines.shown lines.unshown lines.begun lines.told (sym s.told ∙ lines.parts) lines.next))
     where
       one : List (List ℕ)
-      one = heard_line n (outcome_name s.outcome) (phase_name s.phase) ∷ []
+      one = heard_line p.rest.knows.first (outcome_name s.outcome) (phase_name s.phase) ∷ []
 
   -- none came
   unanswered : (n : ℕ) (a : RequestView) → OneWaits n a knows → HasFate n a log
@@ -242,20 +244,22 @@ module _ {Gone : Type 0} {fault : Option StreamFault} {p q : Place} {log : Log} 
 
   -- one of the two, and where the client stands then
   one_exchange : (n : ℕ) (a : RequestView) → OneWaits n a p.rest.knows → HasFate n a log × (q.rest.knows.over ≡ false → NoneWaits (suc n) q.rest.knows)
-  one_exchange n a w = ⊎_elim (λ h. (unanswered n a h, λ o. absurd (true≢false (sym (on o).1 ∙ not_answered knows n a h)))) (λ h. (answered n a h, λ o. then_none o (suc n) h.now))
-      (subst (λ (m : ℕ). OneWaits m a knows ⊎ IsSummed m (hears_all p.rest did.fed)) w.1 (tale_one p.rest.wish p.rest.knows (outputs at_client p.rest.item did.fed) a w.0))
+  one_exchange n a w = ⊎_elim
+      (λ u. let h : OneWaits n a knows = (u.0 ∙ w.0, u.1 ∙ w.1) in (unanswered n a h, λ o. absurd (true≢false (sym (on o).1 ∙ not_answered knows n a h))))
+      (λ s. let only : s.later ≡ [] = ap (drop 1) (sym s.waits ∙ w.0) in (answered n a w.1 s, λ o. then_none o (suc n) (subst (λ (m : ℕ). NoneWaits (suc m) knows) w.1 (s.now only))))
+      (tale p.rest.wish p.rest.knows (outputs at_client p.rest.item did.fed))
 
 -- ---- a conversation
 
 -- what became of its requests
 record SoFar (fault : Option StreamFault) (log : Log) (p : Place) : Type 0 where
   lines : EachHasALine log.sent log.printed log.told
-  next : fault ≡ None → p.rest.knows.over ≡ false → NoneWaits (length lines.fates) p.rest.knows
+  next : fault ≡ None → p.rest.knows.over ≡ false → NoneWaits (length lines.requests) p.rest.knows
   unsent : fault ≡ None → p.rest.unsent ≡ []
 
 first_so_far : {Gone : Type 0} {fault : Option StreamFault} {log : Log} {p : Place} (told : List ℕ) → Exchanges Gone fault first_place log p → SoFar fault (told_more log told) p
 first_so_far told x = record {
-  lines = record { requests = []; fates = []; asked = ap (λ (l : Log). l.sent) x.moved ∙ sym (append-nil (offer_of Newest)); ends = tt; on_output = tt; on_errors = tt };
+  lines = record { requests = []; asked = ap (λ (l : Log). l.sent) x.moved ∙ sym (append-nil (offer_of Newest)); ends = λ k d l. absurd (not-suc-le-zero l); on_output = tt; on_errors = tt };
   next = λ e o. first_exchange x (refl, refl) o;
   unsent = λ e. sent_all x e;
 }
@@ -264,11 +268,10 @@ first_so_far told x = record {
 abbrev each_more : {sent now printed told : List ℕ} (out err : List ℕ) → now ≡ sent → EachHasALine sent printed told → EachHasALine now (printed ++ out) (told ++ err)
 each_more {printed = printed} {told = told} out err same each = record {
   requests = each.requests;
-  fates = each.fates;
   asked = same ∙ each.asked;
   ends = each.ends;
-  on_output = holds_behind (lines_from printed_line 0 each.fates) printed out each.on_output;
-  on_errors = holds_behind (lines_from told_line 0 each.fates) told err each.on_errors;
+  on_output = holds_behind (lines_from printed_line 0 each.requests) printed out each.on_output;
+  on_errors = holds_behind (lines_from told_line 0 each.requests) told err each.on_errors;
 }
 
 line_so_far : {Gone : Type 0} {fault : Option StreamFault} {l : ℕ × Text} {log more : Log} {p r : Place} → SoFar None log p → TalksLine Gone fault p l more r → SoFar fault (and_then log more) r
@@ -279,20 +282,19 @@ line_so_far {log = log} {p = p} so (answers_line q more r e d x) =
     let said = meant p.version q in
     let known = p.rest.knows.version in
     let w = so.next refl (accepted_facts p.rest.knows said d).0 in
-    let did = one_exchange x (length each.fates) said (ap (λ (ws : List RequestView). ws ++ said ∷ []) w.0, w.1) in
+    let did = one_exchange x (length each.requests) said (ap (λ (ws : List RequestView). ws ++ said ∷ []) w.0, w.1) in
     let f = did.0 in
-    let sending : Sending = record { version = known; said = said } in
+    let sending : Sending = record { version = known; said = said; fate = f.fate } in
     let sent = ap (λ (l : Log). l.sent) x.moved ∙ ap (λ (z : List ℕ). z ++ asking_bytes known said) (so.unsent refl) in
     record {
       lines = record {
         requests = each.requests ++ sending ∷ [];
-        fates = each.fates ++ f.fate ∷ [];
         asked = ap (λ (z : List ℕ). z ++ more.sent) each.asked ∙ ap (λ (z : List ℕ). asked_bytes each.requests ++ z) sent ∙ sym (bytes_last each.requests sending);
-        ends = fates_last each.requests each.fates sending f.fate each.ends f.ends;
-        on_output = holds_last printed_line each.fates f.fate log.printed more.printed each.on_output f.on_output;
-        on_errors = holds_last told_line each.fates f.fate log.told more.told each.on_errors f.on_errors;
+        ends = All-push IsFate each.requests sending each.ends f.ends;
+        on_output = holds_last printed_line each.requests sending log.printed more.printed each.on_output f.on_output;
+        on_errors = holds_last told_line each.requests sending log.told more.told each.on_errors f.on_errors;
       };
-      next = λ e o. subst (λ (m : ℕ). NoneWaits m r.rest.knows) (sym (length-append each.fates (f.fate ∷ []) ∙ omega arith)) (did.1 o);
+      next = λ e o. subst (λ (m : ℕ). NoneWaits m r.rest.knows) (sym (length-append each.requests (sending ∷ []) ∙ omega arith)) (did.1 o);
       unsent = λ e. sent_all x e;
     }
 

@@ -6,6 +6,7 @@ use Rattle.std.specs.Str.{chars, encode_utf8_all, all_scalars}
 use Rattle.std.specs.Char.{encode_utf8}
 use Rattle.std.proofs.Math.Utf8.{scalar}
 use Rattle.std.proofs.lemmas.Bool.{and_parts, cond_both, ltb-true, agree_below_at, false≢true}
+use Rattle.cells.proofs.Both.{both_true}
 use Rattle.std.proofs.lemmas.List.Folds.{list_all-append}
 use Rattle.std.proofs.lemmas.Str.{chars-encodes, encodes-chars, encodes-append, scalars-chars, encode_ascii, chars_past_char, chars-nil}
 use Rattle.programs.specs.Prelude.{is_unprintable, hex_number, escape, shown, escaped, is_clean}
@@ -14,11 +15,8 @@ use Rattle.programs.specs.Prelude.{is_unprintable, hex_number, escape, shown, es
 abbrev is_plain : ℕ → Bool
 is_plain b = nat_lt b 128 && not (is_unprintable b)
 
-both : (p q : Bool) → p ≡ true → q ≡ true → (p && q) ≡ true
-both p q e f = ap (λ x. x && q) e ∙ f
-
 joined : (p : ℕ → Bool) (xs ys : List ℕ) → list_all p xs ≡ true → list_all p ys ≡ true → list_all p (xs ++ ys) ≡ true
-joined p xs ys e f = list_all-append p xs ys ∙ both (list_all p xs) (list_all p ys) e f
+joined p xs ys e f = list_all-append p xs ys ∙ both_true (list_all p xs) (list_all p ys) e f
 
 glyph_plain : (d : ℕ) → d < 16 → is_plain (digit_glyph false d) ≡ true
 glyph_plain d h = agree_below_at (λ d. is_plain (digit_glyph false d)) (λ d. true) 16 d refl h
@@ -26,7 +24,7 @@ glyph_plain d h = agree_below_at (λ d. is_plain (digit_glyph false d)) (λ d. t
 digits_plain : (k n : ℕ) (acc : List ℕ) → list_all is_plain acc ≡ true → list_all is_plain (digits_onto k 16 false n acc) ≡ true
 digits_plain zero n acc h = h
 digits_plain (suc k) n acc h =
-    let more : list_all is_plain (digit_glyph false (n % 16) ∷ acc) ≡ true = both (is_plain (digit_glyph false (n % 16))) (list_all is_plain acc) (glyph_plain (n % 16) (omega arith)) h in
+    let more : list_all is_plain (digit_glyph false (n % 16) ∷ acc) ≡ true = both_true (is_plain (digit_glyph false (n % 16))) (list_all is_plain acc) (glyph_plain (n % 16) (omega arith)) h in
     cond_both (n / 16 == 0) _ _ (λ (ds : List ℕ). list_all is_plain ds ≡ true) (λ _. more) (λ _. digits_plain k (n / 16) (digit_glyph false (n % 16) ∷ acc) more)
 
 all_digits_plain : (n : ℕ) → list_all is_plain (digits 16 false n) ≡ true
@@ -55,7 +53,7 @@ all_from : (p q : ℕ → Bool) (xs : List ℕ) → ((x : ℕ) → p x ≡ true 
 all_from p q [] f h = refl
 all_from p q (x ∷ xs) f h =
     let e = and_parts (p x) (list_all p xs) h in
-    both (q x) (list_all q xs) (f x e.0) (all_from p q xs f e.1)
+    both_true (q x) (list_all q xs) (f x e.0) (all_from p q xs f e.1)
 
 plain_printed : (x : ℕ) → is_plain x ≡ true → not (is_unprintable x) ≡ true
 plain_printed x h = (and_parts (nat_lt x 128) (not (is_unprintable x)) h).1
@@ -66,31 +64,28 @@ plain_scalar x h = agree_below_at scalar (λ b. true) 128 x refl (ltb-true x 128
 shown_step : (hidden : Bool) (p : ℕ → Bool) (c : ℕ) → is_unprintable c ≡ hidden → ((x : ℕ) → is_plain x ≡ true → p x ≡ true) → (not (is_unprintable c) ≡ true → p c ≡ true)
     → list_all p (cond hidden (escape c) (c ∷ [])) ≡ true
 shown_step true p c e plain own = all_from is_plain p (escape c) plain (escape_plain c)
-shown_step false p c e plain own = both (p c) true (own (ap not e)) refl
+shown_step false p c e plain own = both_true (p c) true (own (ap not e)) refl
 
 -- what is printed of characters passes a test that plain ones pass, and each that is printed as it is
-shown_all : (p : ℕ → Bool) (cs : List ℕ) → ((x : ℕ) → is_plain x ≡ true → p x ≡ true) → ((x : ℕ) → not (is_unprintable x) ≡ true → p x ≡ true) → list_all p (flat_map shown cs) ≡ true
-shown_all p [] plain own = refl
-shown_all p (c ∷ cs) plain own = joined p (shown c) (flat_map shown cs) (shown_step (is_unprintable c) p c refl plain (own c)) (shown_all p cs plain own)
-
--- what is printed of characters is characters
-shown_scalars : (cs : List ℕ) → all_scalars cs ≡ true → list_all scalar (flat_map shown cs) ≡ true
-shown_scalars [] h = refl
-shown_scalars (c ∷ cs) h =
-    let p = and_parts (scalar c) (all_scalars cs) h in
-    joined scalar (shown c) (flat_map shown cs) (shown_step (is_unprintable c) scalar c refl plain_scalar (λ e. p.0)) (shown_scalars cs p.1)
+shown_all : (p : ℕ → Bool) (cs : List ℕ) → ((x : ℕ) → is_plain x ≡ true → p x ≡ true) → ((x : ℕ) → scalar x ≡ true → not (is_unprintable x) ≡ true → p x ≡ true) → all_scalars cs ≡ true → list_all p (flat_map shown cs) ≡ true
+shown_all p [] plain own h = refl
+shown_all p (c ∷ cs) plain own h =
+    let s = and_parts (scalar c) (all_scalars cs) h in
+    joined p (shown c) (flat_map shown cs) (shown_step (is_unprintable c) p c refl plain (own c s.0)) (shown_all p cs plain own s.1)
 
 scalars_all : (cs : List ℕ) → list_all scalar cs ≡ true → all_scalars cs ≡ true
 scalars_all [] h = refl
 scalars_all (c ∷ cs) h =
     let p = and_parts (scalar c) (list_all scalar cs) h in
-    both (scalar c) (all_scalars cs) p.0 (scalars_all cs p.1)
+    both_true (scalar c) (all_scalars cs) p.0 (scalars_all cs p.1)
 
 -- what is printed of a text may be printed as it is
 pub escaped_clean : (t : List ℕ) → IsUtf8 t → is_clean (escaped t) ≡ true
 escaped_clean t u =
-    ap (list_all (λ c. not (is_unprintable c))) (chars-encodes (flat_map shown (chars t)) (scalars_all (flat_map shown (chars t)) (shown_scalars (chars t) (scalars-chars t u))))
-    ∙ shown_all (λ c. not (is_unprintable c)) (chars t) plain_printed (λ x e. e)
+    let cs = chars t in
+    let good = scalars-chars t u in
+    ap (list_all (λ c. not (is_unprintable c))) (chars-encodes (flat_map shown cs) (scalars_all (flat_map shown cs) (shown_all scalar cs plain_scalar (λ x s e. s) good)))
+    ∙ shown_all (λ c. not (is_unprintable c)) cs plain_printed (λ x s e. e) good
 
 same_step : (hidden : Bool) (c : ℕ) (front rest cs : List ℕ) → not hidden ≡ true → rest ≡ cs → cond hidden front (c ∷ []) ++ rest ≡ c ∷ cs
 same_step true c front rest cs h e = absurd (false≢true h)

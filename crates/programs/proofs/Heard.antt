@@ -12,10 +12,10 @@ use Rattle.streams.specs.Prelude.{StaysSound}
 use Rattle.asks.proofs.Asked.{needed_taken}
 use Rattle.asks.proofs.Tales.{hears_all-append}
 use Rattle.programs.specs.declared.caller.Caller.{Caller}
-use Rattle.programs.specs.Prelude.{Asks, Converses, Gets, HeardUpTo, Hears, HearsAll, IsAt, IsBegun, Log, Moves, Place, Printed, Puts, Streams, heard_log, is_printed, parting, place_after, sent_out, versions_after}
+use Rattle.programs.specs.Prelude.{Asks, Converses, Gets, HeardUpTo, Hears, HearsAll, IsAt, IsBegun, Log, Moves, Place, Printed, Puts, Streams, and_then, heard_log, is_printed, parting, place_after, sent_out, versions_after}
 use Rattle.programs.specs.Shelling.{PrintsNotes}
 use Rattle.programs.proofs.Moved.{moves_by, moves_none, moves_read, moves_then, moves_told, moves_weak, used_at_end}
-use Rattle.programs.proofs.Printed.{printed_all, printed_none, printed_then}
+use Rattle.programs.proofs.Printed.{logs_then, printed_all, printed_none, printed_then}
 use Rattle.programs.proofs.Turned.{place_more}
 
 -- a client that awaits an answer goes on
@@ -88,7 +88,7 @@ hears_piece {p = p} {a = a} {c = c} {notes = notes} {broken = broken} left reads
         needed = r.needed;
         broken = broken;
         breaks = breaks;
-        printed = record { shown = x.shown; unshown = x.unshown; text = x.text; begun = x.begun; told = x.told; parts = sym r.told ∙ x.parts; prints = x.prints; next = x.next };
+        printed = record { shown = x.shown; unshown = x.unshown; begun = x.begun; told = x.told; parts = sym r.told ∙ x.parts; next = x.next };
         whole = λ e. let w = whole e in ((printed_all x w.1).3, r.all w.0);
       };
       moves = moves_read left reads failed (r.fed ++ r.unheard) r.input sound (moves_by breaks pr.moves) refl;
@@ -96,10 +96,6 @@ hears_piece {p = p} {a = a} {c = c} {notes = notes} {broken = broken} left reads
     }
 
 -- ---- one piece after another
-
--- what moved in both, where all was heard in the first
-logs_join : (f u g w t b s c o p : List ℕ) → u ≡ [] → b ≡ [] → o ≡ [] → ◌≡◌ {A = Log} (record { sent = []; read = (f ++ u) ++ (g ++ w); printed = (t ++ b) ++ (s ++ c); told = o ++ p }) (record { sent = []; read = (f ++ g) ++ w; printed = (t ++ s) ++ c; told = p })
-logs_join f u g w t b s c o p none_u none_b none_o = rw (none_u, none_b, none_o, append-nil f, append-nil t, append_assoc f g w, append_assoc t s c) refl
 
 module _ {p : Place} {a b : Streams} {k : Caller} (x : Hears None p a b k) (waits : awaits (hears_all p.rest x.heard.fed).knows ≡ true) where
   abbrev so : HeardUpTo None p
@@ -127,17 +123,19 @@ module _ {p : Place} {a b : Streams} {k : Caller} (x : Hears None p a b k) (wait
 
     pub hears_then : Hears fault p a c l
     hears_then =
-        let q = printed_all so.printed (⊎_elim (λ e. e) (λ e. e) so.breaks) in
+        let quiet = ⊎_elim (λ e. e) (λ e. e) so.breaks in
         let all : HeardUpTo fault p = record {
           fed = so.fed ++ more.fed;
           unheard = more.unheard;
           needed = needed more.needed;
           broken = more.broken;
           breaks = more.breaks;
-          printed = printed_then so.printed (⊎_elim (λ e. e) (λ e. e) so.breaks) more.printed (ap (λ (t : Tale). t.notes) tale);
+          printed = printed_then so.printed quiet more.printed (ap (λ (t : Tale). t.notes) tale);
           whole = λ e. let w = more.whole e in (w.0, ⊎_elim inl (λ o. inr (ap (λ (t : Tale). t.knows.over) tale ∙ o)) w.1);
         } in
-        let logs = logs_join so.fed so.unheard more.fed more.unheard so.printed.text so.printed.begun more.printed.text more.printed.begun so.printed.told more.printed.told all_fed q.1 q.2 in
+        let read : (so.fed ++ so.unheard) ++ (more.fed ++ more.unheard) ≡ (so.fed ++ more.fed) ++ more.unheard =
+        ap (λ (z : List ℕ). z ++ (more.fed ++ more.unheard)) (ap (λ (z : List ℕ). so.fed ++ z) all_fed ∙ append-nil so.fed) ∙ sym bytes in
+        let logs = ap (λ (z : List ℕ). record (and_then (heard_log [] so) (heard_log [] more)) { read = z }) read ∙ logs_then so.printed quiet more.printed [] _ in
         record { heard = all; moves = subst (Moves fault a c) logs (moves_then x.moves y.moves); at = subst (IsAt l) (sym (place_more p so.fed more.fed)) y.at }
 
 -- nothing is heard

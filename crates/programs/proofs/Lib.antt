@@ -11,3 +11,4 @@ pub mod Turned
 pub mod Looped
 pub mod Broken
 pub mod Served
+pub mod Spelled

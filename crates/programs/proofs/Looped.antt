@@ -22,12 +22,12 @@ use Rattle.programs.specs.declared.caller.Caller.{Caller}
 use Rattle.programs.specs.declared.loops.Pair.{Pair}
 use Rattle.programs.specs.declared.stop.StopReason.{StopReason}
 use Rattle.programs.specs.declared.stop.StopReason.TheVariants.{Unreadable, Broken}
-use Rattle.programs.specs.Prelude.{Alters, BreaksAtSource, Comes, ComesOn, IsHeardAll, IsOn, LetsReadWaiting, Loops, Numbers, Passes, Prints, Sits}
+use Rattle.programs.specs.Prelude.{Alters, BreaksAtSource, Comes, ComesOn, IsHeardAll, IsOn, LetsReadWaiting, Loops, Numbers, Passes, Sits}
 use Rattle.programs.specs.Prelude.{HasOpened, StandsAt, TellsLine, Way, Ways, entries_text, Gets, stop_status, stop_text, IsAt, first_place, Place}
-use Rattle.programs.specs.Prelude.{submitted, with_request, Turns, IsQuiet, AreQuiet, all_sent, answer_to, exchanged, given, line_by, no_turns, place_after, shown_of, talk_for, turns_of}
+use Rattle.programs.specs.Prelude.{submitted, with_request, Turns, IsQuiet, AreQuiet, all_sent, answer_to, exchanged, given, line_by, no_turns, place_after, text_of, talk_for, turns_of}
 use Rattle.programs.proofs.Served.{found_by}
 use Rattle.programs.proofs.Stops.{broken_stops}
-use Rattle.programs.proofs.Turned.{answer_is, given_more, given_none, prints_none, prints_then, with_item}
+use Rattle.programs.proofs.Turned.{answer_is, given_more, given_none, with_item}
 
 -- the streams
 pub passes_none : {w : Way} → Passes w w []
@@ -81,52 +81,45 @@ module _ {G : Type 0} {Near Far : Way → Type 0} {setting_at : Rest G → Setti
   on_at {t = t} h = record { rest = o.rest; start = o.start; turns = t; found = o.found; near = o.near; far = o.far; comes = h }
 
 module _ {G : Type 0} {r : Rest G} {conn : ℕ} {S : Setting} where
-  -- the session
-  sits_by : {Now : Rest G → Type 0} {up out : List ℕ} {standing : Standing} (u : Opened) (t : Talk) → t ≡ talk_for S conn r.ledger up → Now (with_talk r conn u t.ledger t.kept) → out ≡ t.out → standing ≡ standing_of t.kept.ended → (standing ≡ Open → u ≡ state at_server at_server.start up)
-      → Sits r conn S Now up out standing
-  sits_by {Now = Now} u t e now o s g = record {
-    unfinished = u;
-    now = subst (λ (t : Talk). Now (with_talk r conn u t.ledger t.kept)) e now;
-    out = o ∙ ap (λ (t : Talk). t.out) e;
-    stands = s ∙ ap (λ (t : Talk). standing_of t.kept.ended) e;
-    goes_on = g;
-  }
-
-  -- once it has ended it takes no more
+  -- a session that has ended takes no more
   pub sits_over : {Now : Rest G → Type 0} {up out : List ℕ} {standing : Standing} (more : List ℕ) → standing ≡ Over → Sits r conn S Now up out standing → Sits r conn S Now (up ++ more) out standing
-  sits_over {up = up} more o s =
-      let was = talk_by_items S conn r.ledger up in
-      let ended : IsSome (told_by r conn S up).kept.ended = subst (λ (t : Talk). IsSome t.kept.ended) was (over_ended (talk_for S conn r.ledger up).kept.ended (sym o ∙ s.stands)) in
-      let same = was ∙ sym (told_over r conn S up more ended) ∙ sym (talk_by_items S conn r.ledger (up ++ more)) in
-      sits_by s.unfinished (talk_for S conn r.ledger up) same s.now s.out s.stands (λ g. let bad : Over ≡ Open = sym o ∙ g in cc)
+  sits_over {Now = Now} {up = up} {out = out} {standing = standing} more o s =
+      let same = told_over r conn S up more (over_ended (told_by r conn S up).kept.ended (sym o ∙ s.stands)) in
+      record {
+        unfinished = s.unfinished;
+        now = rw same s.now;
+        out = rw same s.out;
+        stands = rw same s.stands;
+        goes_on = λ g. let bad : Over ≡ Open = sym o ∙ g in cc;
+      }
 
   module _ {Now : Rest G → Type 0} {up out : List ℕ} {standing : Standing} (s : Sits r conn S Now up out standing) (g : standing ≡ Open) where
     pub sits_open : (told_by r conn S up).kept.ended ≡ None
-    sits_open = ap (λ (t : Talk). t.kept.ended) (sym (talk_by_items S conn r.ledger up)) ∙ open_goes_on (talk_for S conn r.ledger up).kept.ended (sym g ∙ s.stands)
+    sits_open = open_goes_on (told_by r conn S up).kept.ended (sym g ∙ s.stands)
 
     pub sits_stands : Stands r conn S Now (Some []) (Some out) up
-    sits_stands = (
-      subst (λ (t : Talk). Now (with_talk r conn (state at_server at_server.start up) t.ledger t.kept)) (talk_by_items S conn r.ledger up)
-          (subst (λ (u : Opened). Now (with_talk r conn u (talk_for S conn r.ledger up).ledger (talk_for S conn r.ledger up).kept)) (s.goes_on g) s.now),
-      s.out ∙ ap (λ (t : Talk). t.out) (talk_by_items S conn r.ledger up),
-    )
+    sits_stands = (rw (← s.goes_on g) s.now, s.out)
 
   pub sits_takes : {Now : Rest G → Type 0} {out : List ℕ} (up piece : List ℕ) (standing : Standing) → TakesPiece r conn S Now (Some []) (Some out) up piece (Ok standing) → Sits r conn S Now (up ++ piece) out standing
-  sits_takes up piece Open h =
-      sits_by (state at_server at_server.start (up ++ piece)) (told_by r conn S (up ++ piece)) (sym (talk_by_items S conn r.ledger (up ++ piece))) h.0.0 h.0.1 (ap standing_of (sym h.1)) (λ e. refl)
-  sits_takes up piece Over h =
+  sits_takes up piece Open h = record { unfinished = state at_server at_server.start (up ++ piece); now = h.0.0; out = h.0.1; stands = ap standing_of (sym h.1); goes_on = λ e. refl }
+  sits_takes {Now = Now} {out = out} up piece Over h =
       let used = up ++ h.front in
-      let joined : used ++ h.rest ≡ up ++ piece = append_assoc up h.front h.rest ∙ ap (λ z. up ++ z) h.parts in
-      let same : told_by r conn S used ≡ talk_for S conn r.ledger (up ++ piece) = sym (told_over r conn S used h.rest h.over) ∙ ap (told_by r conn S) joined ∙ sym (talk_by_items S conn r.ledger (up ++ piece)) in
-      sits_by (state at_server at_server.start used) (told_by r conn S used) same h.stands.0 h.stands.1 (over_by (told_by r conn S used).kept.ended h.over) (λ e. cc)
+      let so : Sits r conn S Now used out Over = record { unfinished = state at_server at_server.start used; now = h.stands.0; out = h.stands.1; stands = over_by (told_by r conn S used).kept.ended h.over; goes_on = λ e. cc } in
+      subst (λ (z : List ℕ). Sits r conn S Now z out Over) (append_assoc up h.front h.rest ∙ ap (λ z. up ++ z) h.parts) (sits_over h.rest refl so)
     where
       over_by : (o : Option Cause) → IsSome o → Over ≡ standing_of o
       over_by (Some c) e = refl
       over_by None e = cc
 
+  -- the session is as its conversation leaves it
+  pub sits_talk : {Now : Rest G → Type 0} {up out : List ℕ} {standing : Standing} (s : Sits r conn S Now up out standing) → Now (with_talk r conn s.unfinished (talk_for S conn r.ledger up).ledger (talk_for S conn r.ledger up).kept)
+  sits_talk {Now = Now} {up = up} s = subst (λ (t : Talk). Now (with_talk r conn s.unfinished t.ledger t.kept)) (sym (talk_by_items S conn r.ledger up)) s.now
+
   -- what is put out for a piece is the answer to it
   pub answer_due : {Now Then : Rest G → Type 0} {up old new : List ℕ} {was is : Standing} (piece answer : List ℕ) → Sits r conn S Now up old was → Sits r conn S Then (up ++ piece) new is → answer ≡ drop (length old) new → answer ≡ answer_to S conn r.ledger up piece
-  answer_due {up = up} {new = new} piece answer h s e = e ∙ ap (λ z. drop (length z) new) h.out ∙ ap (drop (length (talk_for S conn r.ledger up).out)) s.out
+  answer_due {up = up} {new = new} piece answer h s e =
+      let by_items = λ (z : List ℕ). ap (λ (t : Talk). t.out) (sym (talk_by_items S conn r.ledger z)) in
+      e ∙ ap (λ z. drop (length z) new) (h.out ∙ by_items up) ∙ ap (drop (length (talk_for S conn r.ledger up).out)) (s.out ∙ by_items (up ++ piece))
 
   -- both: a piece of the client was passed, answered and heard
   pub comes_given : {start a b : Ways} {t : Turns} {x y : Pair} {Now Then : Rest G → Type 0} {piece : List ℕ} (answer : List ℕ)
@@ -135,21 +128,19 @@ module _ {G : Type 0} {r : Rest G} {conn : ℕ} {S : Setting} where
       → Passes a.down b.down answer → IsHeardAll t.place answer y.caller a.out b.out → Comes r conn S start b (given S conn r.ledger t piece) y Then
   comes_given {start = start} {a = a} {b = b} {t = t} {x = x} {y = y} {piece = piece} answer h lives up s same down heard =
       let before = (talk_for S conn r.ledger t.sent).out in
-      let all : x.said.bytes.items ++ answer ≡ y.said.bytes.items =
-      ap (λ z. z ++ answer) h.session.out ∙ ap (λ z. before ++ z) same ∙ sym (answer_is S conn r.ledger t.sent piece) ∙ sym s.out in
       record {
         lives = lives;
         client = subst (λ (z : List ℕ). StandsAt y.caller (place_after t.place z)) same heard.stands;
         session = s;
         up = passes_then h.up up;
-        down = subst (Passes start.down b.down) all (passes_then h.down down);
-        printed = subst (λ (z : List ℕ). Prints (t.shown ++ shown_of t.place z) start.out b.out) same
-            (prints_then t.shown (shown_of t.place answer) start.out a.out b.out h.printed heard.printed);
+        down = subst (Passes start.down b.down) (ap (λ z. before ++ z) same ∙ sym (answer_is S conn r.ledger t.sent piece)) (passes_then h.down down);
+        printed = subst (λ (z : List ℕ). Appends start.out b.out (t.text ++ text_of t.place z)) same
+            (Appends-trans start.out a.out b.out t.text (text_of t.place answer) h.printed heard.printed);
       }
 
 -- what a client has to send was taken out
 abbrev pub all_out : Turns → Turns
-all_out t = record { place = all_sent t.place; sent = t.sent; shown = t.shown }
+all_out t = record { place = all_sent t.place; sent = t.sent; text = t.text }
 
 pub stands_out : {b c : Caller} {p : Place} (max : ℕ) (h : StandsAt b p) → Fits c.client (taken_out (with_item p.rest h.item) max)
     → drop max p.rest.unsent ≡ [] → c.version ≡ b.version → StandsAt c (all_sent p)
@@ -221,7 +212,7 @@ line_sent {start = start} {t = t} q h s = record {
   session = h.session;
   up = h.up;
   down = h.down;
-  printed = subst (λ (z : Option (List ℕ)). Prints t.shown start.out z) (sym s.1) h.printed;
+  printed = subst (λ (z : Option (List ℕ)). Appends start.out z t.text) (sym s.1) h.printed;
 }
 
 -- the whole of a loop, on a server on which no session lives
@@ -238,11 +229,10 @@ module _ {G : Type 0} (r : Rest G) (S : Setting) where
         record {
           lives = lives_same conn Now (opened r) o.now found;
           client = record { item = first_place.rest.item; at = at; same = λ e. refl };
-          session = sits_by at_server.start (told_by (opened r) conn S []) (sym (talk_by_items S conn r.ledger [])) (subst Now (sym same) o.now) e g
-              (λ o. refl);
+          session = record { unfinished = at_server.start; now = subst Now (sym same) o.now; out = e; stands = g; goes_on = λ o. refl };
           up = passes_none;
-          down = subst (Passes a.down a.down) (sym e) passes_none;
-          printed = prints_none a.out;
+          down = subst (Passes a.down a.down) (ap (λ (t : Talk). t.out) (sym (talk_by_items S conn r.ledger []))) passes_none;
+          printed = Appends-nil a.out;
         },
       )
 
@@ -254,17 +244,14 @@ module _ {G : Type 0} (r : Rest G) (S : Setting) where
       → Loops r S lines Now start (record { up = b.up; down = b.down; out = out; out_failed = failed })
   loops_whole {start = start} {b = b} {p = p} {Now = Now} {out = out} lines conn e came es k same =
       let h = subst (λ (n : ℕ). Comes (opened r) n S start b (turns_of S n r.ledger lines) p Now × AreQuiet S n r.ledger (exchanged S n r.ledger no_turns) lines) e came in
-      let t = h.0.session in
-      let text = h.0.printed in
+      let now = sits_talk h.0.session in
       record {
-        unfinished = t.unfinished;
-        text = text.0;
-        shown = text.1;
-        printed = Appends-trans start.out b.out out text.0 _ text.2 (subst (λ (z : List EntryView). Appends b.out out (entries_text z)) (same _ t.now) k);
+        unfinished = h.0.session.unfinished;
+        printed = Appends-trans start.out b.out out _ _ h.0.printed (subst (λ (z : List EntryView). Appends b.out out (entries_text z)) (same _ now) k);
         up = h.0.up;
-        down = subst (Passes start.down b.down) t.out h.0.down;
+        down = h.0.down;
         quiet = h.1;
-        now = t.now;
+        now = now;
       }
 
 -- the number that is told is that of the stop

@@ -1,10 +1,10 @@
 -- What streams get, one thing after another.
-use Rattle.std.proofs.Common.{◌≡◌, sym, subst, ◌∙◌, ℕ, Bool, true, false, List, [], ◌∷◌, ◌++◌, append-nil, Option, Some, None, ◌⊎◌, inl, inr}
+use Rattle.std.proofs.Common.{◌≡◌, sym, ap, subst, ◌∙◌, append_assoc, ℕ, Bool, true, false, List, [], ◌∷◌, ◌++◌, append-nil, Option, Some, None, ◌⊎◌, inl, inr}
 use Rattle.std.specs.Io.KnownBytes.{Appends, Consumes, IsAtEnd}
 use Rattle.std.proofs.KnownBytes.{Appends-nil, Appends-trans, Consumes-nil, Consumes-trans}
 use Rattle.streams.specs.declared.fault.StreamFault.{StreamFault}
 use Rattle.streams.specs.declared.fault.StreamFault.TheVariants.{ReadFailed, WriteFailed}
-use Rattle.streams.specs.Prelude.{StaysSound}
+use Rattle.streams.specs.Prelude.{AppendsFront, StaysSound}
 use Rattle.streams.proofs.Fronts.{front_after, front_whole}
 use Rattle.programs.specs.Prelude.{Gets, Log, and_then, said, is_printed, IsUsedUp, Streams, Puts, Moves}
 
@@ -16,6 +16,10 @@ puts_whole false a b xs h = front_whole a b xs h
 puts_then : (w : Bool) (a b c : Option (List ℕ)) (xs ys : List ℕ) → Appends a b xs → Puts w b c ys → Puts w a c (xs ++ ys)
 puts_then true a b c xs ys h k = Appends-trans a b c xs ys h k
 puts_then false a b c xs ys h k = front_after a b c xs ys h k
+
+-- a beginning of a text begins what has more behind it
+pub front_in : (a b : Option (List ℕ)) (xs ys : List ℕ) → AppendsFront a b xs → AppendsFront a b (xs ++ ys)
+front_in a b xs ys h = (h.0, h.1 ++ ys, sym (append_assoc h.0 h.1 ys) ∙ ap (λ z. z ++ ys) h.2, h.3)
 
 -- what standard error gets
 pub gets_none : (d : Bool) (a : Option (List ℕ)) → Gets d d a a []

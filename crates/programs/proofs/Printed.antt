@@ -4,7 +4,7 @@ use Rattle.std.proofs.lemmas.Grind.{flat_map-append}
 use Rattle.wire.specs.declared.Version.{Version}
 use Rattle.client.specs.Prelude.{Note}
 use Rattle.streams.specs.declared.fault.StreamFault.{StreamFault}
-use Rattle.programs.specs.Prelude.{AreTold, IsBegun, IsCut, IsExplained, Moves, Printed, Streams, TellsMore, and_then, said, summaries_text, summary_line, version_after, versions_after}
+use Rattle.programs.specs.Prelude.{IsBegun, IsCut, Log, Moves, Printed, Streams, TellsMore, explained, printed_text, said, summaries_text, summary_line, texts_of, version_after, versions_after}
 use Rattle.programs.specs.Shelling.{PrintsNotes}
 use Rattle.programs.proofs.Moved.{moves_none, moves_then, moves_told}
 
@@ -12,11 +12,10 @@ pub versions_more : (v : Version) (ns ms : List Note) → versions_after v (ns +
 versions_more v [] ms = refl
 versions_more v (n ∷ ns) ms = versions_more (version_after v n) ns ms
 
-pub told_then : (v : Version) (ns ms : List Note) (t u : List ℕ) → AreTold v ns t → AreTold (versions_after v ns) ms u → AreTold v (ns ++ ms) (t ++ u)
-told_then v [] ms t u h k = subst (λ (z : List ℕ). AreTold v ms (z ++ u)) (sym h) k
-told_then v (n ∷ ns) ms t u h k = (h.0, h.1 ++ u, h.2, told_then (version_after v n) ns ms h.1 u h.3 k, simp (h.4, append_assoc))
+pub texts_more : (text : Version → Note → List ℕ) (v : Version) (ns ms : List Note) → texts_of text v (ns ++ ms) ≡ texts_of text v ns ++ texts_of text (versions_after v ns) ms
+texts_more text v [] ms = refl
+texts_more text v (n ∷ ns) ms = simp (texts_more text (version_after v n) ns ms, append_assoc)
 
--- what standard error gets of one summary more
 summaries_more : (ns : List Note) (n : Note) → summaries_text (ns ++ n ∷ []) ≡ summaries_text ns ++ summary_line n
 summaries_more ns n = flat_map-append summary_line ns (n ∷ []) ∙ ap (λ (z : List ℕ). summaries_text ns ++ z) (append-nil (summary_line n))
 
@@ -26,13 +25,13 @@ begun_more f v (m ∷ ms) n begun told h = (h.0, h.1, rw (h.2, summaries_more ms
 
 -- none, or one whole, or one cut
 abbrev pub printed_none : (v : Version) → Printed v [] None
-printed_none v = record { shown = []; unshown = []; text = []; begun = []; told = []; parts = refl; prints = refl; next = (refl, refl, refl) }
+printed_none v = record { shown = []; unshown = []; begun = []; told = []; parts = refl; next = (refl, refl, refl) }
 
-abbrev pub printed_whole : {v : Version} {n : Note} (text : List ℕ) → IsExplained (version_after v n) n text → Printed v (n ∷ []) None
-printed_whole {n = n} text h = record { shown = n ∷ []; unshown = []; text = text; begun = []; told = []; parts = refl; prints = (text, [], h, refl, sym (append-nil text)); next = (refl, refl, refl) }
+abbrev pub printed_whole : (v : Version) (n : Note) → Printed v (n ∷ []) None
+printed_whole v n = record { shown = n ∷ []; unshown = []; begun = []; told = []; parts = refl; next = (refl, refl, refl) }
 
 abbrev pub printed_cut : {v : Version} {n : Note} (f : StreamFault) (begun told : List ℕ) → IsCut (version_after v n) n f begun told → Printed v (n ∷ []) (Some f)
-printed_cut {n = n} f begun told h = record { shown = []; unshown = n ∷ []; text = []; begun = begun; told = told; parts = refl; prints = refl; next = (told, h, sym (append-nil told)) }
+printed_cut {n = n} f begun told h = record { shown = []; unshown = n ∷ []; begun = begun; told = told; parts = refl; next = (told, h, sym (append-nil told)) }
 
 -- where no fault comes all are printed
 pub printed_all : {v : Version} {ns : List Note} {broken : Option StreamFault} (x : Printed v ns broken) → broken ≡ None → (x.shown ≡ ns) × (x.begun ≡ []) × (x.told ≡ []) × (x.unshown ≡ [])
@@ -41,25 +40,24 @@ printed_all {v = v} x e =
     (sym (x.parts ∙ ap (λ (z : List Note). x.shown ++ z) k.0 ∙ append-nil x.shown), k.1, k.2, k.0)
 
 -- one piece after another
-abbrev pub printed_then : {v : Version} {ns ms all : List Note} {quiet broken : Option StreamFault} (x : Printed v ns quiet) → quiet ≡ None → Printed (versions_after v ns) ms broken → all ≡ ns ++ ms → Printed v all broken
-printed_then {v = v} {ns = ns} {broken = broken} x e y same = record {
-  shown = ns ++ y.shown;
-  unshown = y.unshown;
-  text = x.text ++ y.text;
-  begun = y.begun;
-  told = y.told;
-  parts = same ∙ simp (y.parts, append_assoc);
-  prints = told_then v ns y.shown x.text y.text (subst (λ (z : List Note). AreTold v z x.text) (printed_all x e).0 x.prints) y.prints;
-  next = subst (λ (w : Version). IsBegun broken w y.unshown y.begun y.told) (sym (versions_more v ns y.shown)) y.next;
-}
+module _ {v : Version} {ns ms : List Note} {quiet broken : Option StreamFault} (x : Printed v ns quiet) (e : quiet ≡ None) (y : Printed (versions_after v ns) ms broken) where
+  abbrev pub printed_then : {all : List Note} → all ≡ ns ++ ms → Printed v all broken
+  printed_then same = record {
+    shown = ns ++ y.shown;
+    unshown = y.unshown;
+    begun = y.begun;
+    told = y.told;
+    parts = same ∙ simp (y.parts, append_assoc);
+    next = subst (λ (w : Version). IsBegun broken w y.unshown y.begun y.told) (sym (versions_more v ns y.shown)) y.next;
+  }
+
+  pub logs_then : (a b : List ℕ) → ◌≡◌ {A = Log} (record { sent = a; read = b; printed = printed_text x ++ printed_text y; told = x.told ++ y.told })
+      (record { sent = a; read = b; printed = texts_of explained v (ns ++ y.shown) ++ y.begun; told = y.told })
+  logs_then a b = let q = printed_all x e in rw (q.0, q.1, q.2, texts_more explained v ns y.shown) (simp (append_assoc, append-nil))
 
 pub notes_then : {v : Version} {ns ms : List Note} {broken : Option StreamFault} {a b c : Streams} → PrintsNotes v ns None a b → PrintsNotes (versions_after v ns) ms broken b c → PrintsNotes v (ns ++ ms) broken a c
 notes_then {broken = broken} {a = a} {c = c} x y =
-    let h = x.done in
-    let k = y.done in
-    let q = printed_all h refl in
-    let same : and_then (said (h.text ++ h.begun) h.told) (said (k.text ++ k.begun) k.told) ≡ said ((h.text ++ k.text) ++ k.begun) k.told = rw (q.1, q.2, append-nil h.text, append_assoc h.text k.text k.begun) refl in
-    record { done = printed_then h refl k refl; moves = subst (Moves broken a c) same (moves_then x.moves y.moves) }
+    record { done = printed_then x.done refl y.done refl; moves = subst (Moves broken a c) (logs_then x.done refl y.done [] []) (moves_then x.moves y.moves) }
 
 -- nothing is printed, or one note is told after a fault
 pub notes_none : (v : Version) (a : Streams) → PrintsNotes v [] None a a
@@ -71,11 +69,9 @@ told_next {v = v} {ns = ns} {f = f} {a = a} {b = b} {c = c} n x h =
     let done : Printed v (ns ++ n ∷ []) (Some f) = record {
       shown = p.shown;
       unshown = p.unshown ++ n ∷ [];
-      text = p.text;
       begun = p.begun;
       told = p.told ++ summary_line n;
       parts = simp (p.parts, append_assoc);
-      prints = p.prints;
       next = begun_more f (versions_after v p.shown) p.unshown n p.begun p.told p.next;
     } in
-    record { done = done; moves = subst (λ (z : Streams). Moves (Some f) a z (said (p.text ++ p.begun) (p.told ++ summary_line n))) (sym h.only) (moves_told c.told c.deaf (summary_line n) x.moves h.got) }
+    record { done = done; moves = subst (λ (z : Streams). Moves (Some f) a z (said (printed_text p) (p.told ++ summary_line n))) (sym h.only) (moves_told c.told c.deaf (summary_line n) x.moves h.got) }

@@ -1,6 +1,6 @@
 -- The line of each request that a client at a shell sends.
 use Rattle.std.specs.Prelude.{◌≡◌, ℕ, ◌+◌, true, List, [], ◌∷◌, ◌++◌, Option}
-use Rattle.std.specs.List.{flat_map}
+use Rattle.std.specs.List.{All, flat_map}
 use Rattle.std.specs.Io.KnownBytes.{Appends}
 use Rattle.wire.specs.declared.Version.{Version}
 use Rattle.wire.specs.declared.Wish.TheVariants.{Newest}
@@ -16,12 +16,7 @@ use Rattle.programs.specs.Stopping.{Gets}
 use Rattle.programs.specs.Telling.{heard_line, lost_line}
 use Rattle.programs.specs.Ways.{Streams}
 
--- a request that was sent, and the version that was known then
-pub record Sending : Type 0 where
-  pub version : Option Version
-  pub said : RequestView
-
--- What became of it: its summary is printed; or told on standard error, where standard output took no more; or it is lost; or it is a GOODBYE,
+-- What became of a request: its summary is printed; or told on standard error, where standard output took no more; or it is lost; or it is a GOODBYE,
 -- which has no answer.
 pub data Fate : Type 0 where
   OnOutput : Phase → Outcome → Fate
@@ -44,24 +39,26 @@ told_line n (OnErrors phase outcome) = heard_line n (outcome_name outcome) (phas
 told_line n (AtLoss outcome) = lost_line (n, outcome) ∷ []
 told_line n Unanswered = []
 
--- those of requests with the ordinals from here on
-abbrev pub lines_from : (ℕ → Fate → List (List ℕ)) → ℕ → List Fate → List (List ℕ)
+-- a request that was sent, the version that was known then, and what became of it
+pub record Sending : Type 0 where
+  pub version : Option Version
+  pub said : RequestView
+  pub fate : Fate
+
+-- none but a GOODBYE is unanswered
+abbrev pub IsFate : Sending → Type 0
+IsFate q = q.fate ≡ Unanswered → is_goodbye (kind_of q.said) ≡ true
+
+-- the lines of requests with the ordinals from here on
+abbrev pub lines_from : (ℕ → Fate → List (List ℕ)) → ℕ → List Sending → List (List ℕ)
 lines_from line n [] = []
-lines_from line n (f ∷ fs) = line n f ++ lines_from line (n + 1) fs
+lines_from line n (q ∷ qs) = line n q.fate ++ lines_from line (n + 1) qs
 
 -- a text holds these lines, one behind the other
 abbrev pub Holds : List (List ℕ) → List ℕ → Type 0
 Holds [] text = Unit {0}
 Holds (line ∷ lines) text =
     (before : List ℕ) × (after : List ℕ) × (text ≡ before ++ (line ++ after)) × Holds lines after
-
--- each request has its fate, and none but a GOODBYE is unanswered
-abbrev pub AreFates : List Sending → List Fate → Type 0
-AreFates [] [] = Unit {0}
-AreFates [] (f ∷ fs) = ⊥
-AreFates (q ∷ qs) [] = ⊥
-AreFates (q ∷ qs) (f ∷ fs) =
-    (f ≡ Unanswered → is_goodbye (kind_of q.said) ≡ true) × AreFates qs fs
 
 -- the bytes of an offer and of requests
 abbrev pub asked_bytes : List Sending → List ℕ
@@ -70,11 +67,10 @@ asked_bytes qs = offer_of Newest ++ flat_map (λ q. asking_bytes q.version q.sai
 -- Each request that is among the bytes to be sent has one line: `heard` or `lost`, with its ordinal.
 pub record EachHasALine (sent printed told : List ℕ) : Type 0 where
   pub requests : List Sending
-  pub fates : List Fate
   pub asked : sent ≡ asked_bytes requests
-  pub ends : AreFates requests fates
-  pub on_output : Holds (lines_from printed_line 0 fates) printed
-  pub on_errors : Holds (lines_from told_line 0 fates) told
+  pub ends : All IsFate requests
+  pub on_output : Holds (lines_from printed_line 0 requests) printed
+  pub on_errors : Holds (lines_from told_line 0 requests) told
 
 -- The server was sent these bytes or a beginning of them, and each request among them has its line in what was printed and told.
 pub record Accounts (start now : Streams) : Type 0 where

@@ -10,55 +10,37 @@ use Rattle.scripts.specs.Views.{ScriptRequestView}
 use Rattle.programs.specs.declared.stop.StopReason.TheVariants.{Broken}
 use Rattle.programs.specs.Stopping.{IsStopOf}
 use Rattle.programs.specs.Telling.{IsFront}
-use Rattle.programs.specs.Turns.{Shown, AreShown, Turns, stages_of, talk_for}
+use Rattle.programs.specs.Turns.{Turns, stages_of, talk_for}
 use Rattle.programs.specs.Ways.{Ways}
 use Rattle.programs.specs.Passing.{FailsToRead, FailsToWrite, Passes}
-use Rattle.programs.specs.Looping.{IsFrontOf, Loops, ReadsUpTo, end, entries_text, whole_talk}
+use Rattle.programs.specs.Looping.{Loops, ReadsUpTo, all_text, end, entries_text, whole_talk}
 
 module _ (S : Setting) (conn : ℕ) (ledger : List EntryView) where
   -- A fault came when both had come so far, while the client heard this answer of the session: it has read all that was answered before, and a
-  -- beginning of the answer. At most 4,096 bytes more were read and not heard. What is shown of what was heard is printed, unless the fault
-  -- came on the way.
-  abbrev pub BreaksIn : Ways → Ways → Turns → List ℕ → Type 0
-  BreaksIn start now t answer = ReadsUpTo (talk_for S conn ledger t.sent).out t.shown t.place answer
+  -- beginning of the answer. At most 4,096 bytes more were read and not heard. What is printed of what was heard was, or a beginning of
+  -- it where the fault came on the way.
+  abbrev pub BreaksIn : Ways → Ways → Turns × List ℕ → Type 0
+  BreaksIn start now s = ReadsUpTo (talk_for S conn ledger s.0.sent).out s.0.text s.0.place s.1
       start.down.left now.down.left start.out now.out
 
   -- a fault came at one of these stages
   abbrev pub BreaksAt : Ways → Ways → List (Turns × List ℕ) → Type 0
   BreaksAt start now [] = ⊥
-  BreaksAt start now (s ∷ ss) = BreaksIn start now s.0 s.1 ⊎ BreaksAt start now ss
-
--- so much is put out of what is to be printed next: a beginning of the next line, or of the text behind all lines
-abbrev pub IsFrontOfNext : List Shown → List ℕ → List ℕ → Type 0
-IsFrontOfNext [] behind begun = IsFront begun behind
-IsFrontOfNext (x ∷ xs) behind begun = IsFrontOf x begun
-
--- What was printed is a beginning of what is printed of all of these, and of the text behind that.
-pub record PrintsFront (all : List Shown) (behind : List ℕ) (before after : Option (List ℕ)) : Type 0 where
-  pub done : List Shown
-  pub rest : List Shown
-  pub text : List ℕ
-  pub begun : List ℕ
-  pub parts : all ≡ done ++ rest
-  pub shown : AreShown done text
-  pub front : IsFrontOfNext rest behind begun
-  pub printed : Appends before after (text ++ begun)
+  BreaksAt start now (s ∷ ss) = BreaksIn start now s ⊎ BreaksAt start now ss
 
 module _ {G : Type 0} (r : Rest G) (S : Setting) (lines : List (ℕ × ScriptRequestView)) where
-  -- A fault came behind the lines: all that is shown of them is printed, and a beginning of the lines of the ledger.
+  -- A fault came behind the lines: all that is printed of them was, and a beginning of the lines of the ledger.
   pub record BreaksBehind (start last : Ways) : Type 0 where
-    pub text : List ℕ
-    pub shown : AreShown (end r S lines).shown text
     pub up : Passes start.up last.up (end r S lines).sent
     pub down : Passes start.down last.down (whole_talk r S lines).out
-    pub printed : AppendsFront start.out last.out
-        (text ++ entries_text (whole_talk r S lines).ledger)
+    pub begun : List ℕ
+    pub front : IsFront begun (entries_text (whole_talk r S lines).ledger)
+    pub printed : Appends start.out last.out ((end r S lines).text ++ begun)
 
   -- Where a fault breaks a loop off, what was printed is a beginning of what a whole run prints, and what the client has heard by then is printed,
   -- unless the fault came while it was.
   pub record Breaks (start last : Ways) : Type 0 where
-    pub begins : PrintsFront (end r S lines).shown (entries_text (whole_talk r S lines).ledger)
-        start.out last.out
+    pub begins : AppendsFront start.out last.out (all_text r S lines)
     pub printed : BreaksAt S r.next r.ledger start last (stages_of S r.next r.ledger lines)
         ⊎ BreaksBehind start last
 

@@ -18,8 +18,7 @@ use Rattle.programs.specs.declared.stop.StopReason.{StopReason}
 use Rattle.programs.specs.declared.stop.StopReason.TheVariants.{Unreadable, Broken}
 use Rattle.programs.specs.Stopping.{Gets, IsStopOf, stop_text}
 use Rattle.programs.specs.Talking.{Place, IsAt}
-use Rattle.programs.specs.Telling.{IsFront}
-use Rattle.programs.specs.Turns.{Shown, IsShown, AreShown, shown_of, place_after, Turns, IsQuiet, AreQuiet, after_line, talk_for, turns_of}
+use Rattle.programs.specs.Turns.{text_of, place_after, Turns, IsQuiet, AreQuiet, after_line, talk_for, turns_of}
 use Rattle.programs.specs.Ways.{Way, Ways}
 use Rattle.programs.specs.Passing.{FailsToRead, FailsToWrite, Passes}
 use Rattle.server.specs.Serving.{Rest, find, opened}
@@ -27,8 +26,9 @@ use Rattle.streams.specs.declared.fault.StreamFault.{StreamFault}
 use Rattle.serves.specs.declared.standing.Standing.{Standing}
 use Rattle.serves.specs.declared.standing.Standing.TheVariants.{Open}
 use Rattle.serves.specs.Conversing.{Talk, with_talk}
+use Rattle.streams.specs.Fronts.{AppendsFront}
 use Rattle.streams.specs.Limits.{max_piece}
-use Rattle.serves.specs.Settling.{Grows, standing_of}
+use Rattle.serves.specs.Settling.{Grows, standing_of, told_by}
 
 -- what ends the line of an entry: its token in hex, where it has one
 abbrev pub token_ending : Token → List ℕ
@@ -66,41 +66,17 @@ pub record RunsNothing {S W : Type 0} (script : List ℕ) (server server_now : S
 abbrev pub HasLooped : {G : Type 0} → Rest G → (Rest G → Type 0) → Type 0
 HasLooped r Now = Now r ⊎ Grows (opened r) r.next Now
 
--- these are printed
-abbrev pub Prints : List Shown → Option (List ℕ) → Option (List ℕ) → Type 0
-Prints xs before after = (text : List ℕ) × AreShown xs text × Appends before after text
-
--- so much is put out of what is to be printed next: nothing, or a beginning of its line
-abbrev pub IsFrontOf : Shown → List ℕ → Type 0
-IsFrontOf x begun = (begun ≡ []) ⊎ ((line : List ℕ) × IsShown x line × IsFront begun line)
-
--- The first of these are printed, and a beginning of the next one's line: a fault came then.
-pub record PrintsUpTo (xs : List Shown) (before after : Option (List ℕ)) : Type 0 where
-  pub done : List Shown
-  pub next : Shown
-  pub rest : List Shown
-  pub text : List ℕ
-  pub begun : List ℕ
-  pub parts : xs ≡ done ++ next ∷ rest
-  pub shown : AreShown done text
-  pub front : IsFrontOf next begun
-  pub printed : Appends before after (text ++ begun)
-
--- all of these are printed, or a fault came on the way
-abbrev pub PrintsPart : List Shown → Option (List ℕ) → Option (List ℕ) → Type 0
-PrintsPart xs before after = Prints xs before after ⊎ PrintsUpTo xs before after
-
--- A fault came while a client heard these bytes: it has heard a beginning of them, and what is shown of that is printed, unless the fault came
--- on the way.
+-- A fault came while a client heard these bytes: it has heard a beginning of them, and what is printed is what is printed of that, or a beginning
+-- where the fault came on the way.
 pub record HearsFront (p : Place) (bytes : List ℕ) (before after : Option (List ℕ)) : Type 0 where
   pub heard : List ℕ
   pub rest : List ℕ
   pub parts : heard ++ rest ≡ bytes
-  pub prints : PrintsPart (shown_of p heard) before after
+  pub prints : AppendsFront before after (text_of p heard)
 
--- The same of an answer that it read, of which it stood there, when these bytes were read and these are shown: it has heard a beginning of the
+-- The same of an answer that it read, of which it stood there, when these bytes were read and this text was printed: it has heard a beginning of the
 -- answer, and at most 4,096 bytes more were read and not heard.
-pub record ReadsUpTo (behind : List ℕ) (shown : List Shown) (p : Place) (answer : List ℕ)
+pub record ReadsUpTo (behind text : List ℕ) (p : Place) (answer : List ℕ)
     (left left_now before after : Option (List ℕ)) : Type 0 where
   pub heard : List ℕ
   pub rest : List ℕ
@@ -108,7 +84,7 @@ pub record ReadsUpTo (behind : List ℕ) (shown : List Shown) (p : Place) (answe
   pub parts : heard ++ rest ≡ answer
   pub read : Consumes left left_now (behind ++ (heard ++ unheard))
   pub few : length unheard ≤ max_piece
-  pub prints : PrintsPart (shown ++ shown_of p heard) before after
+  pub prints : AppendsFront before after (text ++ text_of p heard)
 
 -- The client stands there; of one that has ended it isn't said which item of its bytes isn't whole.
 pub record StandsAt (c : Caller) (p : Place) : Type 0 where
@@ -124,10 +100,10 @@ pub record StandsAt (c : Caller) (p : Place) : Type 0 where
   })
   pub same : p.rest.knows.over ≡ false → item ≡ p.rest.item
 
--- The client has heard all of these bytes, and what is shown of them is printed.
+-- The client has heard all of these bytes, and what is printed of them was.
 pub record IsHeardAll (p : Place) (bytes : List ℕ) (c : Caller) (before after : Option (List ℕ)) : Type 0 where
   pub stands : StandsAt c (place_after p bytes)
-  pub printed : Prints (shown_of p bytes) before after
+  pub printed : Appends before after (text_of p bytes)
 
 module _ {G : Type 0} (r : Rest G) (conn : ℕ) where
   -- A fault broke it off, which is I1 only where a way breaks at its source, and I2 only where a sink has failed: how far it had come is told.
@@ -147,10 +123,10 @@ module _ {G : Type 0} (r : Rest G) (conn : ℕ) (S : Setting) where
   -- The session is as these bytes of its client leave it, and this is all that it has put out.
   pub record Sits (Now : Rest G → Type 0) (sent put_out : List ℕ) (standing : Standing) : Type 0 where
     pub unfinished : Opened
-    pub now : Now (with_talk r conn unfinished (talk_for S conn r.ledger sent).ledger
-        (talk_for S conn r.ledger sent).kept)
-    pub out : put_out ≡ (talk_for S conn r.ledger sent).out
-    pub stands : standing ≡ standing_of (talk_for S conn r.ledger sent).kept.ended
+    pub now : Now (with_talk r conn unfinished (told_by r conn S sent).ledger
+        (told_by r conn S sent).kept)
+    pub out : put_out ≡ (told_by r conn S sent).out
+    pub stands : standing ≡ standing_of (told_by r conn S sent).kept.ended
     pub goes_on : standing ≡ Open → unfinished ≡ state at_server at_server.start sent
 
   -- Both have come so far, and all passed over the streams and is printed. The session lives, and the ledger has at most grown.
@@ -160,8 +136,8 @@ module _ {G : Type 0} (r : Rest G) (conn : ℕ) (S : Setting) where
       pub client : StandsAt pair.caller t.place
       pub session : Sits Now t.sent pair.said.bytes.items pair.standing
       pub up : Passes start.up now.up t.sent
-      pub down : Passes start.down now.down pair.said.bytes.items
-      pub printed : Prints t.shown start.out now.out
+      pub down : Passes start.down now.down (talk_for S conn r.ledger t.sent).out
+      pub printed : Appends start.out now.out t.text
 
   -- the same after a line more, and after it no answer is still to come either
   pub record ComesOn (start now : Ways) (t : Turns) (l : ℕ × ScriptRequestView) (pair : Pair)
@@ -189,14 +165,16 @@ module _ {G : Type 0} (r : Rest G) (S : Setting) (lines : List (ℕ × ScriptReq
   abbrev pub whole_talk : Talk
   whole_talk = talk_for S r.next r.ledger end.sent
 
+  -- the lines of what the client heard and of what it refused, and then those of the ledger that the session leaves
+  abbrev pub all_text : List ℕ
+  all_text = end.text ++ entries_text whole_talk.ledger
+
   -- Where all goes well, what is printed are the lines of what the client heard and of what it refused, and then those of the ledger that the
   -- session leaves; what passed over the streams is all that the client sent and all that the session answered; and after no line an answer
   -- is still to come.
   pub record Loops (Now : Rest G → Type 0) (start last : Ways) : Type 0 where
     pub unfinished : Opened
-    pub text : List ℕ
-    pub shown : AreShown end.shown text
-    pub printed : Appends start.out last.out (text ++ entries_text whole_talk.ledger)
+    pub printed : Appends start.out last.out all_text
     pub up : Passes start.up last.up end.sent
     pub down : Passes start.down last.down whole_talk.out
     pub quiet : AreQuiet S r.next r.ledger (turns_of S r.next r.ledger []) lines

@@ -1,5 +1,5 @@
 -- What serving one connection after another does.
-use Rattle.std.specs.Prelude.{◌≡◌, ◌⊎◌, ◌≤◌, ℕ, ◌+◌, Bool, true, List, [], ◌∷◌, ◌++◌, codes, length, Option, Some, None, Result, Ok, Err}
+use Rattle.std.specs.Prelude.{◌≡◌, ◌⊎◌, ◌≤◌, ℕ, ◌+◌, Bool, true, List, [], ◌∷◌, ◌++◌, codes, length, Option, Some, None, Result, Ok, Err, IfErr}
 use Rattle.std.specs.Fmt.{decimal}
 use Rattle.std.specs.Io.KnownBytes.{Consumes, IsAtEnd}
 use Rattle.engine.specs.Views.{EntryView}
@@ -13,6 +13,7 @@ use Rattle.serves.specs.Settling.{IsDueTo}
 use Rattle.serves.specs.Serving.{Serves}
 use Rattle.programs.specs.declared.connections.ServedOne.{ServedOne}
 use Rattle.programs.specs.Names.{cause_code}
+use Rattle.programs.specs.Ways.{Connection}
 
 -- no session lives
 abbrev pub IsVacant : {E G : Type 0} → (E → List EntryView) → Server E G → Type 0
@@ -22,11 +23,10 @@ IsVacant {G = G} entries s = (r : Rest G) × Fits entries s r × (r.sessions ≡
 abbrev pub conn_line : ℕ → Cause → List ℕ
 conn_line conn cause = codes "conn " ++ decimal conn ++ codes " " ++ cause_code cause ++ 10 ∷ []
 
--- what is told of a connection: the cause of its end; or that it is lost, and the fault that broke it off, which is a stream's only where that has failed
-abbrev pub IsEndOf : ServedOne → Result Cause StreamFault → Bool → Bool → Type 0
-IsEndOf told (Ok ended) input output = (told.cause ≡ ended) × (told.fault ≡ None)
-IsEndOf told (Err fault) input output =
-    (told.cause ≡ Cause.Lost) × (told.fault ≡ Some fault) × IsDueTo fault input output
+-- what is told of a connection: the cause of its end; or that it is lost, and the fault that broke it off
+abbrev pub told_of : Result Cause StreamFault → ServedOne
+told_of (Ok cause) = record { cause = cause; fault = None }
+told_of (Err fault) = record { cause = Cause.Lost; fault = Some fault }
 
 module _ {G : Type 0} (r : Rest G) where
   -- A session was opened with this number, the next, and the server stands so.
@@ -43,17 +43,20 @@ module _ {G : Type 0} (r : Rest G) where
   abbrev pub MayHaveServed : (Rest G → Type 0) → Type 0
   MayHaveServed Now = Now r ⊎ HasServed Now
 
-  -- The connection was served as the conversation for what was read has it, whole or up to a fault, and this is told of it.
-  abbrev pub ServesSo : ℕ → Setting → (Rest G → Type 0) → Option (List ℕ) → Option (List ℕ)
-      → Option (List ℕ) → Option (List ℕ) → Bool → Bool → ServedOne → Type 0
-  ServesSo conn S Now left left_now old new input output told =
-      (served : Result Cause StreamFault) × Serves r conn S Now left left_now old new served
-      × IsEndOf told served input output
+  -- The connection was served as the conversation for what was read has it, whole or up to a fault, which is a stream's only where that has
+  -- failed; and this is told of it.
+  abbrev pub ServesSo : ℕ → Setting → (Rest G → Type 0) → Connection → Connection → ServedOne → Type 0
+  ServesSo conn S Now before after told =
+      (served : Result Cause StreamFault)
+      × Serves r conn S Now before.left after.left before.written after.written served
+      × (told ≡ told_of served)
+      × IfErr served (λ e. IsDueTo e after.read_failed after.write_failed)
 
--- Bytes were read and dropped, 65,536 at most: to the end of the input, to a failure, or by 64 reads that gave some.
-pub record Drains (failed : Bool) (reads reads_now : ℕ) (left left_now : Option (List ℕ))
-    : Type 0 where
+-- Bytes were read and dropped, 65,536 at most: to the end of the input, to a failure, or by 64 reads that gave some. Nothing was written.
+pub record Drains (before after : Connection) : Type 0 where
   pub dropped : List ℕ
-  pub read : Consumes left left_now dropped
+  pub read : Consumes before.left after.left dropped
   pub few : length dropped ≤ 65536
-  pub ends : IsAtEnd left_now ⊎ (failed ≡ true) ⊎ (reads_now + 64 ≤ reads)
+  pub ends : IsAtEnd after.left ⊎ (after.read_failed ≡ true) ⊎ (after.reads + 64 ≤ before.reads)
+  pub written : after.written ≡ before.written
+  pub write_failed : after.write_failed ≡ before.write_failed

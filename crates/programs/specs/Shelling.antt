@@ -21,7 +21,7 @@ use Rattle.programs.specs.declared.stop.StopReason.TheVariants.{Unreadable, Brok
 use Rattle.programs.specs.Names.{refusal_code}
 use Rattle.programs.specs.Stopping.{Gets, IsStopOf, ends_with, said_of}
 use Rattle.programs.specs.Telling.{refused_line}
-use Rattle.programs.specs.Talking.{FailsToPut, Place, IsAt, submitted, sent_out, said, Printed, HeardUpTo, heard_log, Log, Exchanges, IsServersTurn, Moves, IsUsedUp, Stands, Anywhere}
+use Rattle.programs.specs.Talking.{FailsToPut, Place, IsAt, submitted, sent_out, said, Printed, printed_text, HeardUpTo, heard_log, Log, Exchanges, IsServersTurn, Moves, IsUsedUp, Stands, Anywhere}
 use Rattle.programs.specs.Turns.{place_after}
 use Rattle.programs.specs.Ways.{Streams}
 
@@ -29,7 +29,7 @@ use Rattle.programs.specs.Ways.{Streams}
 pub record PrintsNotes (v : Version) (notes : List Note) (broken : Option StreamFault)
     (before after : Streams) : Type 0 where
   pub done : Printed v notes broken
-  pub moves : Moves broken before after (said (done.text ++ done.begun) done.told)
+  pub moves : Moves broken before after (said (printed_text done) done.told)
 
 -- what is seen of a server's answers
 pub record ServerSide : Type 0 where

@@ -23,7 +23,7 @@ use Rattle.scripts.specs.Rows.{request_line_of}
 use Rattle.programs.specs.declared.caller.Caller.{Caller}
 use Rattle.programs.specs.Names.{refusal_code, version_name}
 use Rattle.programs.specs.Stopping.{Gets}
-use Rattle.programs.specs.Telling.{AreTold, IsBegun, IsFront, lost_line, refused_line, versions_after}
+use Rattle.programs.specs.Telling.{IsBegun, IsFront, explained_all, lost_line, refused_line, versions_after}
 use Rattle.programs.specs.Ways.{Streams}
 
 -- where a client stands, and the version at which rows are printed and requests are made
@@ -122,12 +122,15 @@ told_more l text = record l { told = l.told ++ text }
 pub record Printed (v : Version) (notes : List Note) (broken : Option StreamFault) : Type 0 where
   pub shown : List Note
   pub unshown : List Note
-  pub text : List ℕ
   pub begun : List ℕ
   pub told : List ℕ
   pub parts : notes ≡ shown ++ unshown
-  pub prints : AreTold v shown text
   pub next : IsBegun broken (versions_after v shown) unshown begun told
+
+-- what is printed of them
+abbrev pub printed_text : {v : Version} {notes : List Note} {broken : Option StreamFault}
+    → Printed v notes broken → List ℕ
+printed_text {v = v} x = explained_all v x.shown ++ x.begun
 
 -- Bytes are read as long as an answer is still to come, and printed as they are heard. A fault may break it off, perhaps while a note is printed.
 -- After a sink's failure, and where memory ran out, some of what was read wasn't fed or printed.
@@ -146,7 +149,7 @@ abbrev pub heard_log : {fault : Option StreamFault} {p : Place} → List ℕ →
 heard_log sent h = record {
   sent = sent;
   read = h.fed ++ h.unheard;
-  printed = h.printed.text ++ h.printed.begun;
+  printed = printed_text h.printed;
   told = h.printed.told;
 }
 

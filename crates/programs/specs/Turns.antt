@@ -1,41 +1,23 @@
 -- What a client and a session make of the lines of a script, an exchange after each: what the client sends, what the session answers, and what
 -- is printed of it.
 use Rattle.std.specs.Prelude.{◌≡◌, ℕ, false, List, [], ◌∷◌, ◌++◌, length, drop, Option, Some, None}
-use Rattle.wire.specs.declared.Version.{Version}
+use Rattle.std.specs.Option.{option_map_or}
 use Rattle.messages.specs.View.{RequestView}
 use Rattle.engine.specs.Views.{EntryView}
 use Rattle.session.specs.Session.{Setting}
 use Rattle.client.specs.declared.SubmitFault.{SubmitFault}
-use Rattle.client.specs.Rest.{Note, refuses, awaits}
+use Rattle.client.specs.Rest.{refuses, awaits}
 use Rattle.serves.specs.Conversing.{Talk, conversation}
 use Rattle.asks.specs.Asking.{hears_all, after_all}
 use Rattle.scripts.specs.Views.{ScriptRequestView}
 use Rattle.scripts.specs.Meant.{meant}
 use Rattle.programs.specs.Names.{refusal_code}
-use Rattle.programs.specs.Telling.{IsTold, refused_line, version_after, versions_after}
+use Rattle.programs.specs.Telling.{notes_text, refused_line, versions_after}
 use Rattle.programs.specs.Talking.{Place, first_place, submitted}
 
--- what is printed: what the client heard, at the version that was heard by then; or that a line's request is refused, and why
-pub data Shown : Type 0 where
-  OfNote : Version → Note → Shown
-  OfRefusal : ℕ → SubmitFault → Shown
-
--- its line, or nothing
-abbrev pub IsShown : Shown → List ℕ → Type 0
-IsShown (OfNote v n) text = IsTold v n text
-IsShown (OfRefusal n why) text =
-    (code : List ℕ) × (refusal_code why ≡ Some code) × (text ≡ refused_line n code)
-
--- the lines of all, in order
-abbrev pub AreShown : List Shown → List ℕ → Type 0
-AreShown [] text = text ≡ []
-AreShown (x ∷ xs) text =
-    (front : List ℕ) × (rest : List ℕ) × IsShown x front × AreShown xs rest × (text ≡ front ++ rest)
-
--- notes, each at the version that was heard by then
-abbrev pub notes_shown : Version → List Note → List Shown
-notes_shown v [] = []
-notes_shown v (n ∷ ns) = OfNote (version_after v n) n ∷ notes_shown (version_after v n) ns
+-- what is printed of a line whose request is refused; want of memory is no refusal
+abbrev pub refusal_text : ℕ → SubmitFault → List ℕ
+refusal_text n why = option_map_or (refused_line n) (refusal_code why) []
 
 -- where a client stands after these bytes of its server
 abbrev pub place_after : Place → List ℕ → Place
@@ -45,8 +27,8 @@ place_after p bytes = record {
 }
 
 -- what is printed of these bytes
-abbrev pub shown_of : Place → List ℕ → List Shown
-shown_of p bytes = notes_shown p.version (hears_all p.rest bytes).notes
+abbrev pub text_of : Place → List ℕ → List ℕ
+text_of p bytes = notes_text p.version (hears_all p.rest bytes).notes
 
 -- where a client stands once all that it has to send was taken out
 abbrev pub all_sent : Place → Place
@@ -55,24 +37,24 @@ all_sent p = record {
   version = p.version;
 }
 
--- how far the two have come: where the client stands, all that it has sent, and what was printed
+-- how far the two have come: where the client stands, all that it has sent, and what is printed
 pub record Turns : Type 0 where
   pub place : Place
   pub sent : List ℕ
-  pub shown : List Shown
+  pub text : List ℕ
 
 -- before the first exchange
 abbrev pub no_turns : Turns
-no_turns = record { place = first_place; sent = []; shown = [] }
+no_turns = record { place = first_place; sent = []; text = [] }
 
 -- a request is accepted
 abbrev pub with_request : Turns → RequestView → Turns
-with_request t q = record { place = submitted t.place q; sent = t.sent; shown = t.shown }
+with_request t q = record { place = submitted t.place q; sent = t.sent; text = t.text }
 
 -- a request is refused
 abbrev pub with_refusal : Turns → ℕ → SubmitFault → Turns
 with_refusal t n why =
-    record { place = t.place; sent = t.sent; shown = t.shown ++ OfRefusal n why ∷ [] }
+    record { place = t.place; sent = t.sent; text = t.text ++ refusal_text n why }
 
 -- no answer is still to come; a GOODBYE has none
 abbrev pub IsQuiet : Turns → Type 0
@@ -96,12 +78,12 @@ module _ (S : Setting) (conn : ℕ) (ledger : List EntryView) where
   given t more = record {
     place = place_after t.place (answer_to t.sent more);
     sent = t.sent ++ more;
-    shown = t.shown ++ shown_of t.place (answer_to t.sent more);
+    text = t.text ++ text_of t.place (answer_to t.sent more);
   }
 
   -- An exchange: the client sends all that it has to send, and hears all that the session answers.
   abbrev pub exchanged : Turns → Turns
-  exchanged t = given (record { place = all_sent t.place; sent = t.sent; shown = t.shown })
+  exchanged t = given (record { place = all_sent t.place; sent = t.sent; text = t.text })
       t.place.rest.unsent
 
   -- A line with this number: its request is accepted, and an exchange follows; or the client refuses it, which is printed.
@@ -119,20 +101,20 @@ module _ (S : Setting) (conn : ℕ) (ledger : List EntryView) where
   stage_by None t n q = (with_request t q, due (with_request t q))
   stage_by (Some why) t n q = (with_refusal t n why, [])
 
-  -- the same before it is begun, and then
-  abbrev pub line_stages : Turns → ℕ × ScriptRequestView → List (Turns × List ℕ)
-  line_stages t l = (t, []) ∷ stage_by (refuses t.place.rest.knows (meant t.place.version l.1)) t l.0
-      (meant t.place.version l.1) ∷ []
+  -- the same of what a line says, at the version that was heard
+  abbrev pub stage : Turns → ℕ × ScriptRequestView → Turns × List ℕ
+  stage t l = stage_by (refuses t.place.rest.knows (meant t.place.version l.1)) t l.0
+      (meant t.place.version l.1)
 
   -- Lines, in order.
   abbrev pub after_lines : Turns → List (ℕ × ScriptRequestView) → Turns
   after_lines t [] = t
   after_lines t (l ∷ ls) = after_lines (after_line t l) ls
 
-  -- all their stages
+  -- the stage of each
   abbrev pub stages : Turns → List (ℕ × ScriptRequestView) → List (Turns × List ℕ)
   stages t [] = []
-  stages t (l ∷ ls) = line_stages t l ++ stages (after_line t l) ls
+  stages t (l ∷ ls) = stage t l ∷ stages (after_line t l) ls
 
   -- Before the lines and after each of them no answer is still to come.
   abbrev pub AreQuiet : Turns → List (ℕ × ScriptRequestView) → Type 0

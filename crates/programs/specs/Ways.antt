@@ -1,4 +1,4 @@
--- What is seen of the streams of a loop and of a shell.
+-- What is seen of the streams of a loop, of a shell, and of a server's connection.
 use Rattle.std.specs.Prelude.{ℕ, Bool, List, Option}
 
 -- what holds streams, and what has come of them
@@ -32,3 +32,12 @@ pub record Streams : Type 0 where
   pub write_failed : Bool
   pub print_failed : Bool
   pub deaf : Bool
+
+-- The streams of a connection at its server's end: the bytes left of its client's, and how many more reads may give some; those that were written
+-- to it; and what has failed.
+pub record Connection : Type 0 where
+  pub left : Option (List ℕ)
+  pub reads : ℕ
+  pub written : Option (List ℕ)
+  pub read_failed : Bool
+  pub write_failed : Bool

@@ -6,7 +6,7 @@ ghost use Rattle.client.specs.Notes.{note};
 ghost use Rattle.streams.specs.Failing.{StaysSound, UnlessTold};
 ghost use Rattle.scripts.specs.Meant.{meant};
 ghost use Rattle.scripts.specs.Views.{script_request_view};
-ghost use Rattle.programs.specs.Telling.{IsTold, PutsLine, version_after};
+ghost use Rattle.programs.specs.Telling.{PutsLine, note_text, version_after};
 ghost use Rattle.programs.specs.Talking.{IsAt, Place, first_place};
 ghost use Rattle.programs.specs.Shelling.{PrintsNotes, Submits, server_side};
 
@@ -55,7 +55,7 @@ impl Caller {
 
     /// Prints what was heard: `row HEX`, `heard ORDINAL OUTCOME PHASE`, or nothing.
     pub fn put_heard<O: Sink>(&mut self, heard: Heard, out: &mut O) -> Result<(), StreamFault>
-        ensures puts { PutsLine (IsTold (version_after self.old.version (note heard)) (note heard))
+        ensures puts { PutsLine (note_text (version_after self.old.version (note heard)) (note heard))
             (O.taken out.old) (O.taken out.new) result }
         ensures read { IsErrOf result StreamFault.ReadFailed → ⊥ }
         ensures written { IsErrOf result StreamFault.WriteFailed → O.has_failed out.new ≡ true }

@@ -5,9 +5,10 @@ ghost use Rattle.server.specs.Serving.{Rest, find, fresh, opened, setting};
 ghost use Rattle.server.specs.Views.{Fits};
 ghost use Rattle.serves.specs.Settling.{IsLive};
 ghost use Rattle.serves.specs.Serving.{LeavesOthers};
-ghost use Rattle.programs.specs.Serving.{Drains, IsVacant, HasOpened, HasServed, MayHaveServed, ServesSo, conn_line};
+ghost use Rattle.programs.specs.Serving.{Drains, IsVacant, HasOpened, HasServed, MayHaveServed, ServesSo, conn_line, told_of};
 
 use crate::printed_lines::put_end;
+use crate::ways::ServerStreams;
 use engine::{Engine, Gate};
 use server::{Cause, Server};
 use serves::serve_one;
@@ -31,8 +32,7 @@ pub struct ServedOne {
 pub fn serve_next<E: Engine, G: Gate, I: Source, O: Sink, P: Sink>(
     alloc: Global,
     server: &mut Server<E, G>,
-    source: &mut I,
-    sink: &mut O,
+    streams: &mut ServerStreams<I, O>,
     out: &mut P,
 ) -> Result<ServedOne, StreamFault>
     requires { IsVacant E.entries server.old }
@@ -49,9 +49,8 @@ pub fn serve_next<E: Engine, G: Gate, I: Source, O: Sink, P: Sink>(
         (conn_line r.next told.cause)) }
     // What the client was answered, the ledger, the cause and the fault are those of its conversation, for the bytes that were read.
     ensures serves { (r : Rest G) → Fits E.entries server.old r → r.sessions ≡ []
-        → IfOk result (ServesSo (opened r) r.next (setting E.answer G.accepts r) (Fits E.entries server.new)
-        (I.left source.old) (I.left source.new) (O.taken sink.old) (O.taken sink.new)
-        (I.has_failed source.new) (O.has_failed sink.new)) }
+        → IfOk result (ServesSo (opened r) r.next (setting E.answer G.accepts r)
+        (Fits E.entries server.new) streams.old.at streams.new.at) }
     ensures read { IsErrOf result StreamFault.ReadFailed → ⊥ }
     ensures written { IsErrOf result StreamFault.WriteFailed → P.has_failed out.new ≡ true }
 {
@@ -59,7 +58,7 @@ pub fn serve_next<E: Engine, G: Gate, I: Source, O: Sink, P: Sink>(
         Ok(conn) => conn,
         Err(fault) => return Err(fault),
     };
-    let told = serve_opened(alloc, server, conn, source, sink);
+    let told = serve_opened(alloc, server, conn, streams);
     match put_end(alloc, conn, told.cause, out) {
         Ok(()) => Ok(told),
         Err(fault) => Err(fault),
@@ -86,8 +85,7 @@ fn serve_opened<E: Engine, G: Gate, I: Source, O: Sink>(
     alloc: Global,
     server: &mut Server<E, G>,
     conn: u64,
-    source: &mut I,
-    sink: &mut O,
+    streams: &mut ServerStreams<I, O>,
 ) -> ServedOne
     requires { IsLive E.entries conn server.old }
     ensures leaves { (r : Rest G) → Fits E.entries server.old r → IsSome (find conn r.sessions)
@@ -95,10 +93,17 @@ fn serve_opened<E: Engine, G: Gate, I: Source, O: Sink>(
     ensures serves { (r : Rest G) → Fits E.entries server.old r
         → find conn r.sessions ≡ Some (fresh conn)
         → ServesSo r conn (setting E.answer G.accepts r) (Fits E.entries server.new)
-        (I.left source.old) (I.left source.new) (O.taken sink.old) (O.taken sink.new)
-        (I.has_failed source.new) (O.has_failed sink.new) result }
+        streams.old.at streams.new.at result }
 {
-    match serve_one(alloc, server, conn, source, sink) {
+    let served = serve_one(alloc, server, conn, &mut streams.source, &mut streams.sink);
+    told_of(served)
+}
+
+/// How a connection has ended that was served so.
+fn told_of(served: Result<Cause, StreamFault>) -> ServedOne
+    ensures { result ≡ told_of served }
+{
+    match served {
         Ok(cause) => ServedOne { cause, fault: None },
         Err(fault) => ServedOne {
             cause: Cause::Lost,
@@ -116,13 +121,12 @@ const LAST_READS: u32 = 64;
 ///
 /// A connection that is closed while bytes of its peer are unread is reset, which throws away what was written and hasn't arrived. So whoever
 /// serves stops writing, drains, and then closes.
-pub fn drain<I: Source>(source: &mut I)
-    ensures { Drains (I.has_failed source.new) (I.reads source.old) (I.reads source.new)
-        (I.left source.old) (I.left source.new) }
+pub fn drain<I: Source, O: Sink>(streams: &mut ServerStreams<I, O>)
+    ensures { Drains streams.old.at streams.new.at }
 {
     let mut buffer = [0; LAST_PIECE];
     for _ in 0..LAST_READS {
-        let Ok(count) = source.read(&mut buffer) else {
+        let Ok(count) = streams.source.read(&mut buffer) else {
             return;
         };
         if count == 0 {

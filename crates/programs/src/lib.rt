@@ -25,4 +25,4 @@ pub use printed_lines::entry_text;
 pub use shells::shell;
 pub use stop::put_fault;
 pub use summaries::summary;
-pub use ways::{BothWays, OneWay, ShellStreams};
+pub use ways::{BothWays, OneWay, ServerStreams, ShellStreams};

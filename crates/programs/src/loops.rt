@@ -1,21 +1,22 @@
 //! A client and a server in one process, over the two ends of a connection.
 ghost use Rattle.std.specs.Prelude.{◌≡◌, ◌⊎◌, ◌≤◌, ◌<◌, ◌+◌, ◌++◌, ◌∷◌, ℕ, List, [], drop, length, map, true, None, IsSome, IfErr, OnOk, OnErr, IsErrOf, MatchResult};
-ghost use Rattle.std.specs.Io.KnownBytes.{Consumes};
+ghost use Rattle.std.specs.Io.KnownBytes.{Appends, Consumes};
 ghost use Rattle.server.specs.Serving.{Rest, find, setting};
 ghost use Rattle.server.specs.Views.{Fits};
 ghost use Rattle.serves.specs.Settling.{IsLive, LivesOn};
 ghost use Rattle.programs.specs.Passing.{BreaksAtSource, FailsToRead, FailsToWrite, GivesNoMore, GivesSome, LetsReadWaiting, Passes};
-ghost use Rattle.programs.specs.Looping.{Comes, ComesOn, Goes, HasLooped, HearsFront, IsHeardAll, IsOn, Loops, Numbers, Prints, PrintsUpTo, ReadsUpTo, RunsNothing, Sits, StandsAt, TellsLine};
+ghost use Rattle.programs.specs.Looping.{Comes, ComesOn, Goes, HasLooped, HearsFront, IsHeardAll, IsOn, Loops, Numbers, ReadsUpTo, RunsNothing, Sits, StandsAt, TellsLine};
 ghost use Rattle.programs.specs.Breaking.{Breaks, BreaksAt, BreaksIn, EndsAt};
 ghost use Rattle.programs.specs.Serving.{IsVacant};
 ghost use Rattle.programs.specs.Talking.{Place};
 ghost use Rattle.client.specs.Notes.{note};
-ghost use Rattle.programs.specs.Telling.{versions_after};
-ghost use Rattle.programs.specs.Turns.{AreQuiet, IsQuiet, Turns, after_lines, answer_to, due, exchanged, given, line_stages, notes_shown, stages};
+ghost use Rattle.programs.specs.Telling.{notes_text, versions_after};
+ghost use Rattle.programs.specs.Turns.{AreQuiet, IsQuiet, Turns, after_lines, answer_to, due, exchanged, given, stage, stages};
 ghost use Rattle.programs.specs.Ways.{Ways};
 ghost use Rattle.scripts.specs.Rows.{request_line_of};
 ghost use Rattle.scripts.specs.Script.{filled_lines, lines_read, said_requests, unreadable};
 ghost use Rattle.scripts.specs.Views.{script_request_view};
+ghost use Rattle.streams.specs.Fronts.{AppendsFront};
 ghost use Rattle.programs.specs.Stopping.{Ends, IsStopOf, stop_status};
 
 use crate::caller::Caller;
@@ -113,11 +114,11 @@ fn hear<O: Sink>(caller: &mut Caller, part: &[u8], out: &mut O) -> Result<(), St
 
 fn put_all<O: Sink>(caller: &mut Caller, heard: Vec<Heard>, out: &mut O) -> Result<(), StreamFault>
     ensures prints { MatchResult result
-        (λ _. Prints (notes_shown caller.old.version (map note heard.items)) (O.taken out.old)
-        (O.taken out.new)
+        (λ _. Appends (O.taken out.old) (O.taken out.new)
+        (notes_text caller.old.version (map note heard.items))
         × (caller.new.version ≡ versions_after caller.old.version (map note heard.items)))
-        (λ _. PrintsUpTo (notes_shown caller.old.version (map note heard.items)) (O.taken out.old)
-        (O.taken out.new)) }
+        (λ _. AppendsFront (O.taken out.old) (O.taken out.new)
+        (notes_text caller.old.version (map note heard.items))) }
     ensures client { caller.new.client ≡ caller.old.client }
     ensures read { IsErrOf result StreamFault.ReadFailed → ⊥ }
     ensures written { IsErrOf result StreamFault.WriteFailed → O.has_failed out.new ≡ true }
@@ -232,8 +233,8 @@ fn turn<E: Engine, G: Gate, A: Peer, B: Sink, C: Peer, D: Sink, O: Sink>(
         (Comes r conn (setting E.answer G.accepts r) start ways.new.at
         (given (setting E.answer G.accepts r) conn r.ledger t piece.now) pair.new
         (Fits E.entries server.new))
-        (BreaksIn (setting E.answer G.accepts r) conn r.ledger start ways.new.at t
-        (answer_to (setting E.answer G.accepts r) conn r.ledger t.sent piece.now))
+        (BreaksIn (setting E.answer G.accepts r) conn r.ledger start ways.new.at
+        (t, answer_to (setting E.answer G.accepts r) conn r.ledger t.sent piece.now))
         result }
 {
     match pass(pair.caller.alloc, piece, &mut ways.up) {
@@ -270,8 +271,8 @@ fn exchange<E: Engine, G: Gate, A: Peer, B: Sink, C: Peer, D: Sink, O: Sink>(
         (exchanged (setting E.answer G.accepts r) conn r.ledger t) pair.new
         (Fits E.entries server.new)
         × IsQuiet (exchanged (setting E.answer G.accepts r) conn r.ledger t))
-        (BreaksIn (setting E.answer G.accepts r) conn r.ledger start ways.new.at t
-        (due (setting E.answer G.accepts r) conn r.ledger t))
+        (BreaksIn (setting E.answer G.accepts r) conn r.ledger start ways.new.at
+        (t, due (setting E.answer G.accepts r) conn r.ledger t))
         result }
 {
     let Ok(bytes) = pair.caller.client.take_out(usize::MAX) else {
@@ -308,8 +309,8 @@ fn run_line<E: Engine, G: Gate, A: Peer, B: Sink, C: Peer, D: Sink, O: Sink>(
         → Goes r conn start ways.new.at (Fits E.entries server.new)
         (ComesOn r conn (setting E.answer G.accepts r) start ways.new.at t
         (line.number, script_request_view line.said) pair.new (Fits E.entries server.new))
-        (BreaksAt (setting E.answer G.accepts r) conn r.ledger start ways.new.at
-        (line_stages (setting E.answer G.accepts r) conn r.ledger t
+        (BreaksIn (setting E.answer G.accepts r) conn r.ledger start ways.new.at
+        (stage (setting E.answer G.accepts r) conn r.ledger t
         (line.number, script_request_view line.said)))
         result }
 {

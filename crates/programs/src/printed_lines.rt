@@ -13,7 +13,7 @@ ghost use Rattle.streams.specs.Fronts.{AppendsFront};
 ghost use Rattle.programs.specs.Looping.{entries_text, entry_line};
 ghost use Rattle.programs.specs.Serving.{conn_line};
 ghost use Rattle.programs.specs.Names.{outcome_name, phase_name};
-ghost use Rattle.programs.specs.Telling.{IsRowLine, IsTold, PutsLine, failure_line, heard_line as heard_text, refused_line};
+ghost use Rattle.programs.specs.Telling.{PutsLine, failure_line, heard_line as heard_text, note_text, refused_line, row_text};
 ghost use Rattle.programs.specs.Shelling.{PrintsNotes, server_side};
 
 use crate::errors::tell;
@@ -32,6 +32,7 @@ use wire::Version;
 
 /// Writes a text.
 pub(crate) fn put<O: Sink>(text: &[u8], out: &mut O) -> Result<(), StreamFault>
+    ensures puts { PutsLine text.now (O.taken out.old) (O.taken out.new) result }
     ensures text { OnOk result (Appends (O.taken out.old) (O.taken out.new) text.now) }
     ensures front { OnErr result (AppendsFront (O.taken out.old) (O.taken out.new) text.now) }
     ensures fault { IfErr result (λ e. e ≡ StreamFault.WriteFailed) }
@@ -53,7 +54,7 @@ pub(crate) fn put_heard<O: Sink>(
     heard: Heard,
     out: &mut O,
 ) -> Result<(), StreamFault>
-    ensures puts { PutsLine (IsTold version (note heard)) (O.taken out.old) (O.taken out.new) result }
+    ensures puts { PutsLine (note_text version (note heard)) (O.taken out.old) (O.taken out.new) result }
     ensures read { IsErrOf result StreamFault.ReadFailed → ⊥ }
     ensures written { IsErrOf result StreamFault.WriteFailed → O.has_failed out.new ≡ true }
     ensures sound { UnlessTold result StreamFault.WriteFailed
@@ -78,7 +79,7 @@ fn put_line<O: Sink>(
     phase: Phase,
     out: &mut O,
 ) -> Result<(), StreamFault>
-    ensures puts { PutsLine (λ t. t ≡ heard_text ordinal (outcome_name outcome) (phase_name phase))
+    ensures puts { PutsLine (heard_text ordinal (outcome_name outcome) (phase_name phase))
         (O.taken out.old) (O.taken out.new) result }
     ensures read { IsErrOf result StreamFault.ReadFailed → ⊥ }
     ensures written { IsErrOf result StreamFault.WriteFailed → O.has_failed out.new ≡ true }
@@ -96,7 +97,8 @@ pub(crate) fn put_row<O: Sink>(
     cells: Vec<Cell>,
     out: &mut O,
 ) -> Result<(), StreamFault>
-    ensures puts { PutsLine (IsRowLine version (shapes cells.items)) (O.taken out.old) (O.taken out.new) result }
+    ensures puts { PutsLine (row_text version (shapes cells.items)) (O.taken out.old)
+        (O.taken out.new) result }
     ensures read { IsErrOf result StreamFault.ReadFailed → ⊥ }
     ensures written { IsErrOf result StreamFault.WriteFailed → O.has_failed out.new ≡ true }
     ensures sound { UnlessTold result StreamFault.WriteFailed
@@ -119,8 +121,8 @@ pub(crate) fn put_summary<S: Peer, T: Sink, O: Sink, E: Sink>(
     streams: &mut ShellStreams<S, T, O, E>,
 ) -> Result<(), StreamFault>
     ensures prints { (v : Version)
-        → PrintsNotes v (Summary ordinal phase outcome (response_view response.now) ∷ []) (result_err result)
-        streams.old.at streams.new.at }
+        → PrintsNotes v (Summary ordinal phase outcome (response_view response.now) ∷ [])
+        (result_err result) streams.old.at streams.new.at }
     ensures read { IsErrOf result StreamFault.ReadFailed → ⊥ }
     ensures written { IsErrOf result StreamFault.WriteFailed → streams.new.at.print_failed ≡ true }
     ensures kept { server_side streams.new.at ≡ server_side streams.old.at }
@@ -138,7 +140,8 @@ pub(crate) fn put_summary<S: Peer, T: Sink, O: Sink, E: Sink>(
 
 /// Prints `fault CODE MESSAGE` of a FAILURE, and nothing else.
 fn put_failure<O: Sink>(alloc: Global, response: &Response, out: &mut O) -> Result<(), StreamFault>
-    ensures puts { PutsLine (λ t. t ≡ failure_line (response_view response.now)) (O.taken out.old) (O.taken out.new) result }
+    ensures puts { PutsLine (failure_line (response_view response.now)) (O.taken out.old)
+        (O.taken out.new) result }
     ensures read { IsErrOf result StreamFault.ReadFailed → ⊥ }
     ensures written { IsErrOf result StreamFault.WriteFailed → O.has_failed out.new ≡ true }
     ensures sound { UnlessTold result StreamFault.WriteFailed

@@ -31,7 +31,8 @@ struct Conversation {
 
 impl Conversation {
     fn new(alloc: Global) -> Result<Conversation, StreamFault>
-        ensures new { IfOk result (λ c. IsAt c.caller first_place × (c.begun.items ≡ []) × (c.number ≡ 1)) }
+        ensures new { IfOk result
+            (λ c. IsAt c.caller first_place × (c.begun.items ≡ []) × (c.number ≡ 1)) }
         ensures memory { IfErr result (λ e. e ≡ StreamFault.Memory) }
     {
         match Caller::new(alloc) {
@@ -190,7 +191,8 @@ fn run<I: Source, S: Peer, T: Sink, O: Sink, E: Sink>(
     streams: &mut ShellStreams<S, T, O, E>,
 ) -> Result<(), StopReason>
     requires { LetsRead S.may_read (λ s. IsServersTurn streams.old.at (S.left s)) }
-    ensures runs { Runs (result_err result) (I.left input.old) (I.left input.new) streams.old.at streams.new.at }
+    ensures runs { Runs (result_err result) (I.left input.old) (I.left input.new)
+        streams.old.at streams.new.at }
     ensures read { IsErrOf result (StopReason.Broken StreamFault.ReadFailed)
         → (I.has_failed input.new ≡ true) ⊎ (streams.new.at.read_failed ≡ true) }
     ensures written { IsErrOf result (StopReason.Broken StreamFault.WriteFailed)

@@ -2,7 +2,7 @@
 ghost use Rattle.std.specs.Prelude.{◌≡◌, IfOk, string_bytes};
 ghost use Rattle.cells.specs.Shape.{shape, shapes};
 ghost use Rattle.messages.specs.View.{response_view};
-ghost use Rattle.programs.specs.Telling.{IsSpelled, IsRowLine, row_line, heard_line, fault_line, failure_line};
+ghost use Rattle.programs.specs.Telling.{IsSpelled, row_line, row_text, heard_line, fault_line, failure_line};
 ghost use Rattle.programs.specs.Names.{outcome_name, phase_name};
 
 use crate::escapes::escape;
@@ -39,7 +39,7 @@ pub(crate) fn heard_line(ordinal: u64, outcome: Outcome, phase: Phase) -> ArrayS
 
 /// `row HEX` on a line. A row that was heard at the version can be written.
 pub(crate) fn row(alloc: Global, version: Version, cells: Vec<Cell>) -> Result<String, AllocError>
-    ensures { IfOk result (λ t. IsRowLine version (shapes cells.items) (string_bytes t)) }
+    ensures { IfOk result (λ t. string_bytes t ≡ row_text version (shapes cells.items)) }
 {
     let list = Cell::List(cells);
     let hex = spelled(alloc, version, &list)?;

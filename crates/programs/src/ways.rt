@@ -1,6 +1,6 @@
-//! The streams that a loop and a shell run over.
+//! The streams that a loop, a shell and a server of connections run over.
 use std::marker::Model;
-use streams::{Peer, Sink};
+use streams::{Peer, Sink, Source};
 
 /// One way of a connection: the sink where bytes go in, and the source where they come out, at the other end.
 #[derive(Drop)]
@@ -77,6 +77,30 @@ impl<S: Peer, T: Sink, O: Sink, E: Sink> Model for ShellStreams<S, T, O, E> {
         write_failed = T.has_failed w.sink;
         print_failed = O.has_failed w.out;
         deaf = E.has_failed w.err;
+      };
+    } };
+}
+
+/// The streams of a connection at its server's end: what comes of its client, and what is sent there.
+#[derive(Drop)]
+pub struct ServerStreams<I: Source, O: Sink> {
+    pub source: I,
+    pub sink: O,
+}
+
+impl<I: Source, O: Sink> Model for ServerStreams<I, O> {
+    ghost use Rattle.programs.specs.Ways.{Connection, Seen};
+
+    ghost Value = { Seen (I × O) Connection };
+
+    ghost view = { λ w. record {
+      held = (w.source, w.sink);
+      at = record {
+        left = I.left w.source;
+        reads = I.reads w.source;
+        written = O.taken w.sink;
+        read_failed = I.has_failed w.source;
+        write_failed = O.has_failed w.sink;
       };
     } };
 }

@@ -9,10 +9,12 @@ loop-preserved g c =
     let few : length piece ≤ 1024 = search rules in
     let all : length (i.dropped ++ piece) ≡ length i.dropped + length piece = length-append i.dropped piece in
     let some : 0 < c.in-Ok.count = search rules in
-    let lower : g.I.Source.reads c.read.new.self < g.I.Source.reads c.loop.source = c.in-Ok.ensures.lowers some in
+    let lower : g.I.Source.reads c.read.new.self < g.I.Source.reads c.loop.streams-inside.source = c.in-Ok.ensures.lowers some in
     record {
       dropped = i.dropped ++ piece;
-      read = Consumes-trans (g.I.Source.left c.args.source.now) (g.I.Source.left c.loop.source) (g.I.Source.left c.read.new.self) i.dropped piece i.read c.in-Ok.ensures.bytes.0;
+      read = Consumes-trans c.args.streams.now.at.left (g.I.Source.left c.loop.streams-inside.source) (g.I.Source.left c.read.new.self) i.dropped piece i.read c.in-Ok.ensures.bytes.0;
       few = omega (arith, i.few, few, all);
       reads = omega (arith, i.reads, lower);
+      written = i.written;
+      write_failed = i.write_failed;
     }

@@ -1,4 +1,4 @@
-use Rattle.std.proofs.Common.{ℕ, List, length, ◌≤◌, ◌*◌, ◌+◌}
+use Rattle.std.proofs.Common.{◌≡◌, ℕ, List, length, ◌≤◌, ◌*◌, ◌+◌}
 use Rattle.std.specs.Io.KnownBytes.{Consumes}
 use Rattle.programs.proofs.connections.drain.Given as goal
 
@@ -6,7 +6,9 @@ use Rattle.programs.proofs.connections.drain.Given as goal
 abbrev pub invariant-loop : goal.invariant-loop
 invariant-loop g l = record {
   dropped : List ℕ;
-  read : Consumes (g.I.Source.left l.fn.source) (g.I.Source.left l.source) dropped;
+  read : Consumes l.fn.streams.at.left (g.I.Source.left l.streams-inside.source) dropped;
   few : length dropped ≤ 1024 * l.counter;
-  reads : g.I.Source.reads l.source + l.counter ≤ g.I.Source.reads l.fn.source;
+  reads : g.I.Source.reads l.streams-inside.source + l.counter ≤ l.fn.streams.at.reads;
+  written : g.O.Sink.taken l.streams-inside.sink ≡ l.fn.streams.at.written;
+  write_failed : g.O.Sink.has_failed l.streams-inside.sink ≡ l.fn.streams.at.write_failed;
 }

@@ -31,10 +31,8 @@ pub returns-in-Ok-put_end-clause-serves : goal.returns-in-Ok-put_end-clause-serv
 returns-in-Ok-put_end-clause-serves g c = λ r f e.
     let o = c.in-Ok.ensures.opens r f in
     let S = setting g.E.Engine.answer g.G.Gate.accepts r in
-    let I = g.I.Source in
     let told = c.serve_opened-told in
-    subst (λ (n : ℕ). ServesSo (opened r) n S (Fits g.E.Engine.entries told.new.server) (I.left c.args.source.now) (I.left told.new.source)
-    (g.O.Sink.taken c.args.sink.now) (g.O.Sink.taken told.new.sink) (I.has_failed told.new.source) (g.O.Sink.has_failed told.new.sink) told.result)
+    subst (λ (n : ℕ). ServesSo (opened r) n S (Fits g.E.Engine.entries told.new.server) c.args.streams.now.at told.new.streams.at told.result)
     o.number (told.ensures.serves (opened r) o.now (found_by r e o.number))
 
 pub returns-in-Ok-put_end-clause-told : goal.returns-in-Ok-put_end-clause-told

@@ -2,12 +2,13 @@ use Rattle.std.proofs.Common.{◌++◌, ◌∙◌, [], append_assoc, refl, arith
 use Rattle.programs.specs.Prelude.{place_after}
 use Rattle.programs.proofs.Broken.{reads_front, reads_none, reads_past}
 use Rattle.programs.proofs.Looped.{lets_after, passes_none, passes_then, source_after}
-use Rattle.programs.proofs.Turned.{heard_more, heard_none}
+use Rattle.std.proofs.KnownBytes.{Appends-nil}
+use Rattle.programs.proofs.Turned.{heard_more}
 use Rattle.streams.proofs.Parts.{all_done, empty_nil}
 use Rattle.programs.proofs.loops.hand_over.Goals as goal
 
 pub loop-rest-init : goal.loop-rest-init
-loop-rest-init g c = record { done = []; parts = refl; passes = passes_none; heard = λ p s. heard_none p c.args.caller.now (g.O.Sink.taken c.args.out.now) s }
+loop-rest-init g c = record { done = []; parts = refl; passes = passes_none; heard = λ p s. record { stands = s; printed = Appends-nil (g.O.Sink.taken c.args.out.now) } }
 
 pub pass-requires : goal.pass-requires
 pass-requires g c = let so = c.loop-rest.invariant in lets_after (so.done, so.passes) c.requires

@@ -1,11 +1,12 @@
 use Rattle.std.proofs.Common.{◌∷◌, [], ap, refl, inr, Err, Some, None, ℕ}
+use Rattle.std.proofs.KnownBytes.{Appends-trans}
 use Rattle.server.specs.Prelude.{setting}
 use Rattle.scripts.specs.Prelude.{ScriptRequestView, meant, script_request_view}
-use Rattle.programs.specs.Prelude.{IsAt, Place, OfRefusal, Ways, refused_line, with_request}
+use Rattle.programs.specs.Prelude.{IsAt, Place, Ways, refused_line, with_request}
 use Rattle.programs.proofs.Broken.{breaks_submit, stage_broken}
 use Rattle.programs.proofs.Looped.{line_goes, line_sent, on_at}
 use Rattle.programs.proofs.Stops.{cause_of}
-use Rattle.programs.proofs.Turned.{prints_one, prints_then, with_item}
+use Rattle.programs.proofs.Turned.{with_item}
 use Rattle.programs.proofs.loops.run_line.Goals as goal
 
 pub exchange-requires : goal.exchange-requires
@@ -40,9 +41,6 @@ returns-in-Ok-false g c = λ r start t i h0.
     let l : ℕ × ScriptRequestView = (c.args.line.number, script_request_view c.args.line.said) in
     let here : Place = record { rest = with_item t.place.rest h.client.item; version = t.place.version } in
     let s = rw c.in-Ok-false.field-0-test at (c.in-Ok-false.ensures.submits here h.client.at) in
-    let x = OfRefusal l.0 s.0 in
-    let was = g.O.Sink.taken c.ways.inside.out in
-    let now = g.O.Sink.taken c.submit.new.out in
     line_goes l (Some s.0) s.2 (
       record {
         lives = h.lives;
@@ -50,7 +48,7 @@ returns-in-Ok-false g c = λ r start t i h0.
         session = h.session;
         up = h.up;
         down = h.down;
-        printed = prints_then t.shown (x ∷ []) start.out was now h.printed (prints_one x was now (refused_line l.0 s.1) (s.1, s.3, refl) s.4);
+        printed = rw s.3 (Appends-trans start.out (g.O.Sink.taken c.ways.inside.out) (g.O.Sink.taken c.submit.new.out) t.text (refused_line l.0 s.1) h.printed s.4);
       },
       λ q. q,
     )
@@ -65,5 +63,5 @@ returns-in-Err g c = λ r start t i h0.
     record {
       lives = h.lives;
       cause = cause_of c.in-Err.fault _ _ (λ e. absurd (c.in-Err.ensures.read (ap Err e))) (λ e. inr (inr (c.in-Err.ensures.written (ap Err e))));
-      there = breaks_submit h l now (IsAt c.submit.new.self) here c.in-Err.fault refl refl (c.in-Err.ensures.submits here h.client.at) refl;
+      there = breaks_submit h l now refl (IsAt c.submit.new.self) here c.in-Err.fault refl refl (c.in-Err.ensures.submits here h.client.at);
     }
