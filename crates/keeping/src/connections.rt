@@ -9,7 +9,7 @@ ghost use Rattle.keeping.specs.Serving.{EndsFor, GoesOn, Shows, TellsFault, faul
 use crate::reasons::{Reason, tell};
 use engine::{Engine, Gate};
 use lasting::Lasting;
-use programs::{ServedOne, drain, serve_next};
+use programs::{ServedOne, ServerStreams, drain, serve_next};
 use server::Server;
 use sqlite::Alter;
 use std::alloc::Global;
@@ -55,8 +55,7 @@ fn tell_fault<W: Sink>(fault: Option<StreamFault>, err: &mut W)
 fn serve_told<E: Engine, G: Gate, I: Source, K: Sink, O: Sink, W: Sink>(
     alloc: Global,
     server: &mut Server<E, G>,
-    source: &mut I,
-    sink: &mut K,
+    streams: &mut ServerStreams<I, K>,
     out: &mut O,
     err: &mut W,
 ) -> Result<ServedOne, StreamFault>
@@ -71,7 +70,7 @@ fn serve_told<E: Engine, G: Gate, I: Source, K: Sink, O: Sink, W: Sink>(
         (MayHaveServed (rest_of E.entries server.old) (λ r. rest_of E.entries server.new ≡ r)) }
     ensures written { IsErrOf result StreamFault.WriteFailed → O.has_failed out.new ≡ true }
 {
-    match serve_next(alloc, server, source, sink, out) {
+    match serve_next(alloc, server, streams, out) {
         Ok(told) => {
             tell_fault(told.fault, err);
             Ok(told)
@@ -97,12 +96,14 @@ fn serve_stream<E: Engine, G: Gate, O: Sink, W: Sink>(
         (MayHaveServed (rest_of E.entries server.old) (λ r. rest_of E.entries server.new ≡ r)) }
     ensures written { IsErrOf result StreamFault.WriteFailed → O.has_failed out.new ≡ true }
 {
-    let mut source = Over::new(stream);
-    let mut sink = Over::new(stream);
-    let told = serve_told(alloc, server, &mut source, &mut sink, out, err);
+    let mut streams = ServerStreams {
+        source: Over::new(stream),
+        sink: Over::new(stream),
+    };
+    let told = serve_told(alloc, server, &mut streams, out, err);
     // A close with bytes unread would throw away what hasn't arrived.
     let _stopped = stream.shutdown(Shutdown::Write);
-    drain(&mut Over::new(stream));
+    drain(&mut streams);
     told
 }
 
