@@ -123,7 +123,7 @@ class Server:
 def queried(words, answers, token, tries):
     """The lines that are printed, the error, the status, and what each connection was asked."""
     with Server(answers) as server:
-        done = subprocess.run([*words, "query", str(server.port), token, str(tries)], capture_output=True, text=True, timeout=120)
+        done = subprocess.run([*words, "query", str(server.port), token, str(tries), "1"], capture_output=True, text=True, timeout=120)
     return done.stdout.splitlines(), done.stderr.strip(), done.returncode, server.asked
 
 
@@ -147,14 +147,14 @@ def fault(words):
 def starved(words, port):
     """What isn't true of transactions whose program has one allocation refused, each in turn, at a server, or None."""
     # (the first run has none refused, and counts them)
-    sends, number, asked = untils.Sends(words, port), -1, 1
+    sends, number, asked = untils.Sends(words, port, 1), -1, 1
     with tempfile.TemporaryDirectory() as folder:
         shim, count = f"{folder}/refuse.so", f"{folder}/count"
         subprocess.run([os.environ.get("CC", "cc"), "-O2", "-shared", "-fPIC", "-o", shim, str(HERE / "refuse.c")], check=True)
         while number < asked:
             number += 1
             environment = {**os.environ, "LD_PRELOAD": shim, "REFUSED": str(number), "COUNT": count}
-            done = subprocess.run([*words, "query", str(port), f"starved {number}", "1"], capture_output=True, text=True, timeout=120, env=environment)
+            done = subprocess.run([*words, "query", str(port), f"starved {number}", "1", "1"], capture_output=True, text=True, timeout=120, env=environment)
             asked = max(asked, int(pathlib.Path(count).read_text().split()[0]))
             said, now = done.stdout.splitlines(), untils.entries(port)
             # (the look adds an entry, and so may the query behind the transaction)
