@@ -89,7 +89,7 @@ module _ {G : Type 0} (answer : Definition) (accepts : G → List ℕ → List �
           (λ apart. subst (AtMoments answer accepts gate ours brought ms_with j) (sym (n.others j apart)) (at_other answer accepts gate ours brought ms c x j (slice_get w.conns j) apart (st.at j))) (cases_eq c j);
     }
 
-    -- the same world
+    -- where the world doesn't change
     same_world : AtMoments answer accepts gate ours brought ms_with c (slice_get w.conns c) → StandsIn ms_with
     same_world h = next (record { world = w; reached = st.reached; server = refl; others = λ j n. refl; at = h })
 

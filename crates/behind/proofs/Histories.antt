@@ -61,7 +61,7 @@ abbrev pub At : Option Wish → (Wish → Run) → List ℕ → List ℕ → Lis
 At o run up out said None = Unopened o run up out said
 At o run up out said (Some k) = Facts o run up out said k
 
--- the same by other words
+-- and so by other words
 pub at_as : (o : Option Wish) (run run2 : Wish → Run) (up up2 out out2 : List ℕ) (said said2 : List Said) (k : Option Connection) → ((wish : Wish) → run wish ≡ run2 wish) → up ≡ up2 → out ≡ out2 → said ≡ said2 → At o run up out said k → At o run2 up2 out2 said2 k
 at_as o run run2 up up2 out out2 said said2 k a b c d h =
     subst (λ (z : (Wish → Run) × (List ℕ × (List ℕ × List Said))). At o z.0 z.1.0 z.1.1.0 z.1.1.1 k) (λ i. ((λ wish. a wish i), (b i, (c i, d i)))) h

@@ -35,7 +35,7 @@ client_calls conn (asks c call ∷ ms) =
 abbrev pub run_of : Wish → ℕ → List Moment → Run
 run_of wish conn ms = calls (starts wish) (client_calls conn ms)
 
--- the same as an attempt: its wish, the requests that it accepted, the bytes that it took, and whether it was lost
+-- such a run as an attempt: its wish, the requests that it accepted, the bytes that it took, and whether it was lost
 abbrev pub attempt_by : Wish → Run → Attempt
 attempt_by wish x = record { wish = wish; sent = x.sent; took = x.took; lost = x.lost }
 
