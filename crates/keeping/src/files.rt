@@ -32,7 +32,8 @@ pub fn open_ledger<E: Engine + Drop, S: Alter + Drop>(
     // The database has the ledger that is shown, and so has what any crash leaves of it.
     ensures endures { IfOk result (Endures E.entries S.Store) }
     // A ledger that was committed is the one that is shown.
-    ensures finds { IfOk opened (λ conn. (es : List EntryView) → HoldsLedger (state S.Store conn).committed.trees es
+    ensures finds { IfOk opened (λ conn. (es : List EntryView)
+        → HoldsLedger (state S.Store conn).committed.trees es
         → IfOk result (λ l. HasCleanDisk (state S.Store l.conn) → ledger_of E.entries l ≡ es)) }
     ensures unopened { IfErr opened (λ e. result ≡ Err (Reason.Unopened e)) }
     ensures unread { IfOk opened (λ conn. IfErr result IsUnread) }
