@@ -3,3 +3,4 @@ pub mod Calls
 pub mod Led
 pub mod Served
 pub mod Ran
+pub mod Once

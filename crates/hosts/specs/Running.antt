@@ -1,5 +1,5 @@
 -- What a server among its connections has done.
-use Rattle.std.specs.Prelude.{◌≡◌, ◌+◌, ◌*◌, ◌≤◌, ℕ, List, [], ◌∷◌, ◌++◌, map, length, Bool, Option, Some, None, Result}
+use Rattle.std.specs.Prelude.{◌≡◌, ◌+◌, ◌*◌, ◌≤◌, ℕ, List, [], ◌∷◌, ◌++◌, map, length, Bool, Option, Some, None, Result, ◌==◌, if◌then◌else◌}
 use Rattle.std.specs.List.{AllByRecursion}
 use Rattle.engine.specs.declared.answer.Mode.{Mode as QueryMode}
 use Rattle.engine.specs.Views.{WriteView, ParameterView, EntryView, AnswerView, QueryFault}
@@ -27,6 +27,11 @@ gone_with conn ends = map (λ e. record { conn = conn; end = e }) ends
 abbrev pub gone_by : {G : Type 0} → Event → Rest G → List Gone
 gone_by (loses conn) r = gone_with conn (end_of (find conn r.sessions))
 gone_by _ r = []
+
+-- how often the session with a number was given up
+abbrev pub times_gone : ℕ → List Gone → ℕ
+times_gone conn [] = 0
+times_gone conn (g ∷ gs) = (if g.conn == conn then 1 else 0) + times_gone conn gs
 
 -- An end is told as it was: with its cause, and as whole exactly where all that the session had said was taken out before.
 abbrev pub Tells : Parting → End → Type 0

@@ -51,7 +51,8 @@ impl Host {
     /// Takes all that is ready, and keeps it. No byte moves.
     pub fn hear<P: Peers>(&mut self, peers: &mut P)
         ensures seats { map seat_held self.new.seats.items ≡ map seat_held self.old.seats.items }
-        ensures closings { map closing_owed self.new.closings.items ≡ map closing_owed self.old.closings.items }
+        ensures closings { map closing_owed self.new.closings.items
+            ≡ map closing_owed self.old.closings.items }
         ensures wire { (k : ℕ) → P.wire peers.new k ≡ P.wire peers.old k }
     {
         for made in 0..u64::MAX {
@@ -65,7 +66,8 @@ impl Host {
     /// Keeps what is ready.
     fn heed(&mut self, ready: Ready)
         ensures seats { map seat_held self.new.seats.items ≡ map seat_held self.old.seats.items }
-        ensures closings { map closing_owed self.new.closings.items ≡ map closing_owed self.old.closings.items }
+        ensures closings { map closing_owed self.new.closings.items
+            ≡ map closing_owed self.old.closings.items }
     {
         match ready {
             Ready::Guest => self.guest = Some(0),

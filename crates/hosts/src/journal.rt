@@ -12,5 +12,6 @@ pub trait Journal {
 
     /// The session of the connection with this number was given up so.
     fn note(&mut self, conn: u64, parting: Parting)
-        ensures { TellsMore (told self.old) (told self.new) (record { conn = conn; parting = parting } ∷ []) };
+        ensures { TellsMore (told self.old) (told self.new)
+            (record { conn = conn; parting = parting } ∷ []) };
 }

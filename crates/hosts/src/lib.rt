@@ -1,11 +1,12 @@
 //! A server and all its connections at once: who is let in, whose turn it is, how long each is waited for, and how its end is made. No socket,
 //! clock or thread is here: the world outside is a [`lines::Peers`].
 //!
-//! [`serve`] is the loop; a [`Host`] is what it keeps between two rounds.
+//! [`serve`] is the loop; a [`Host`] is what it keeps between two rounds. [`laws`] says that each session is given up once.
 #![tactic(auto)]
 
 mod host;
 mod journal;
+pub mod laws;
 mod rounds;
 mod serving;
 mod turns;

@@ -106,8 +106,8 @@ impl Host {
     )
         requires room { length self.old.seats.items < 16 }
         requires places { length self.old.seats.items + length self.old.closings.items < 32 }
-        requires seated { IsSeated (standing E.entries P.wire J.told self.old.seats.items self.old.closings.items
-            server.old peers.old journal.old) }
+        requires seated { IsSeated (standing E.entries P.wire J.told
+            self.old.seats.items self.old.closings.items server.old peers.old journal.old) }
         ensures { Leads E.answer G.accepts 3
             (standing E.entries P.wire J.told self.old.seats.items self.old.closings.items
             server.old peers.old journal.old)
@@ -171,8 +171,8 @@ impl Host {
     )
         requires room { length self.old.seats.items < 16 }
         requires places { length self.old.seats.items + length self.old.closings.items < 32 }
-        requires seated { IsSeated (standing E.entries P.wire J.told (seat ∷ self.old.seats.items) self.old.closings.items
-            server.old peers.old journal.old) }
+        requires seated { IsSeated (standing E.entries P.wire J.told
+            (seat ∷ self.old.seats.items) self.old.closings.items server.old peers.old journal.old) }
         ensures leads { Leads E.answer G.accepts (turn_calls limits.now)
             (standing E.entries P.wire J.told (seat ∷ self.old.seats.items) self.old.closings.items
             server.old peers.old journal.old)
