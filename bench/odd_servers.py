@@ -5,8 +5,8 @@ import pathlib
 import socket
 import subprocess
 import tempfile
-import threading
 
+import proxy
 import untils
 
 HERE = pathlib.Path(__file__).resolve().parent
@@ -79,45 +79,29 @@ QUERIES = [
 ]
 
 
-class Server:
+class Server(proxy.Listening):
     """Tells each connection what stands for it, the last of these over and over, and keeps what it was asked behind the offer of versions. What it tells is the
     version, and then, in parts, what answers the requests that come."""
 
     def __init__(self, answers):
         self.answers, self.asked = answers, []
-        self.listener = socket.create_server(("127.0.0.1", 0))
+        super().__init__()
         self.port = self.listener.getsockname()[1]
-        self.over = threading.Thread(target=self.serve, daemon=True)
-        self.over.start()
 
-    def serve(self):
-        while True:
-            try:
-                peer, _ = self.listener.accept()
-            except OSError:
-                return
-            answer = self.answers[min(len(self.asked), len(self.answers) - 1)]
-            with peer, contextlib.suppress(OSError):
-                peer.settimeout(60)
-                self.asked.append(b"")
-                peer.recv(20, socket.MSG_WAITALL)
-                first, *parts = answer if isinstance(answer, tuple) else (answer[:4], *([answer[4:]] if answer[4:] else []))
-                peer.sendall(first)
-                for part in parts:
-                    self.asked[-1] += peer.recv(65536)
-                    peer.sendall(part)
-                peer.shutdown(socket.SHUT_WR)
-                while part := peer.recv(65536):
-                    self.asked[-1] += part
-
-    def __enter__(self):
-        return self
-
-    def __exit__(self, *_):
-        with contextlib.suppress(OSError):
-            self.listener.shutdown(socket.SHUT_RDWR)
-        self.over.join()
-        self.listener.close()
+    def answer(self, client):
+        answer = self.answers[min(len(self.asked), len(self.answers) - 1)]
+        with client, contextlib.suppress(OSError):
+            client.settimeout(60)
+            self.asked.append(b"")
+            client.recv(20, socket.MSG_WAITALL)
+            first, *parts = answer if isinstance(answer, tuple) else (answer[:4], *([answer[4:]] if answer[4:] else []))
+            client.sendall(first)
+            for part in parts:
+                self.asked[-1] += client.recv(65536)
+                client.sendall(part)
+            client.shutdown(socket.SHUT_WR)
+            while part := client.recv(65536):
+                self.asked[-1] += part
 
 
 def queried(words, answers, token, tries):

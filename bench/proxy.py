@@ -70,11 +70,10 @@ class Proxy(Passing):
             self.pass_on(client, port)
 
 
-class Door:
-    """Passes connections on to a port, one after the other: the first are cut so, the others not at all."""
+class Listening:
+    """A port of this machine, whose connections are answered one after the other by `answer`."""
 
-    def __init__(self, port, cuts):
-        self.port, self.cuts, self.passed = port, list(cuts), []
+    def __init__(self):
         self.listener = socket.create_server(("127.0.0.1", 0))
         self.over = threading.Thread(target=self.serve, daemon=True)
         self.over.start()
@@ -85,10 +84,7 @@ class Door:
                 client, _ = self.listener.accept()
             except OSError:
                 return
-            one = Passing(**(self.cuts.pop(0) if self.cuts else {}))
-            with contextlib.suppress(OSError):
-                one.pass_on(client, self.port)
-            self.passed.append(one.passed)
+            self.answer(client)
 
     def __enter__(self):
         return self
@@ -98,3 +94,17 @@ class Door:
             self.listener.shutdown(socket.SHUT_RDWR)
         self.over.join()
         self.listener.close()
+
+
+class Door(Listening):
+    """Passes connections on to a port, one after the other: the first are cut so, the others not at all."""
+
+    def __init__(self, port, cuts):
+        self.port, self.cuts, self.passed = port, list(cuts), []
+        super().__init__()
+
+    def answer(self, client):
+        one = Passing(**(self.cuts.pop(0) if self.cuts else {}))
+        with contextlib.suppress(OSError):
+            one.pass_on(client, self.port)
+        self.passed.append(one.passed)
