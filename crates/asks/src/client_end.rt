@@ -100,7 +100,7 @@ pub fn hear_piece<I: Peer, O: Sink>(
     hear_into(client, source, sink, heard, &mut buffer)
 }
 
-/// The same, by a buffer for the piece.
+/// The loop of `hear_piece`, over its buffer.
 fn hear_into<I: Peer, O: Sink>(
     client: &mut Client,
     source: &mut I,

@@ -74,7 +74,7 @@ pub record HearsFront (p : Place) (bytes : List ℕ) (before after : Option (Lis
   pub parts : heard ++ rest ≡ bytes
   pub prints : AppendsFront before after (text_of p heard)
 
--- The same of an answer that it read, of which it stood there, when these bytes were read and this text was printed: it has heard a beginning of the
+-- A fault came while it read an answer, at which it stood there, when these bytes were read and this text was printed: it has heard a beginning of the
 -- answer, and at most 4,096 bytes more were read and not heard.
 pub record ReadsUpTo (behind text : List ℕ) (p : Place) (answer : List ℕ)
     (left left_now before after : Option (List ℕ)) : Type 0 where

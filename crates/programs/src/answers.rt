@@ -40,7 +40,7 @@ impl Caller {
         asked
     }
 
-    /// The same, without its end.
+    /// As `ask`, but the client isn't given up at the end.
     fn converse<S: Peer, T: Sink, O: Sink, E: Sink>(
         &mut self,
         streams: &mut ShellStreams<S, T, O, E>,

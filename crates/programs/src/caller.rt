@@ -66,7 +66,7 @@ impl Caller {
         put_heard(self.alloc, self.version, heard, out)
     }
 
-    /// The same of what was heard at the version that is kept, and behind the line of a FAILURE `fault CODE MESSAGE`. Where the line of a summary
+    /// Prints what was heard, at the version that is kept, and behind the line of a FAILURE `fault CODE MESSAGE`. If the line of a summary
     /// isn't taken whole, it is told on standard error.
     pub fn put_explained<S: Peer, T: Sink, O: Sink, E: Sink>(
         &self,

@@ -364,7 +364,7 @@ fn run_lines<E: Engine, G: Gate, A: Peer, B: Sink, C: Peer, D: Sink, O: Sink>(
     Ok(())
 }
 
-/// The same, of a server on which no session lives, and then prints its ledger.
+/// Runs the lines over a server on which no session lives, and then prints its ledger.
 fn run_opened<E: Engine, G: Gate, A: Peer, B: Sink, C: Peer, D: Sink, O: Sink>(
     alloc: Global,
     server: &mut Server<E, G>,

@@ -170,7 +170,7 @@ module _ {G : Type 0} (r : Rest G) (conn : ℕ) where
     pub enough : due so_far.kept ≤ most
     pub holds : Holds u so_far Now before taken
 
-  -- The same after one step more; or nothing is due, and the session stands so; or a fault came.
+  -- One step more was worked, and the rest follows; or nothing is due, and the session stands so; or a fault came.
   abbrev pub Steps : Opened → Talk → Setting → (Rest G → Type 0) → Option (List ℕ)
       → Option (List ℕ) → Result (Option Standing) StreamFault → Type 0
   Steps u t S Now before taken (Ok None) = GoesOn u t S Now before taken

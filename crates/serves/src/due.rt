@@ -24,7 +24,7 @@ enum Next {
 }
 
 /// Writes all that waits to go of a session, where it lies, and then lets it go. I2 where the sink fails, with a beginning of it written; I3
-/// where no session has the number, and then nothing has changed. It takes no memory of its own.
+/// where no session has the number, and then nothing has changed. Takes no memory of its own.
 pub(crate) fn put_out<E: Engine, G: Gate, O: Sink>(
     server: &mut Server<E, G>,
     conn: u64,

@@ -58,7 +58,7 @@ pub fn serve_one<E: Engine, G: Gate, I: Peer, O: Sink>(
     }
 }
 
-/// The same, and the session lives on.
+/// As `serve_one`, but the session isn't given up.
 pub fn converse<E: Engine, G: Gate, I: Peer, O: Sink>(
     alloc: Global,
     server: &mut Server<E, G>,
@@ -86,7 +86,7 @@ pub fn converse<E: Engine, G: Gate, I: Peer, O: Sink>(
     converse_by(server, conn, source, sink, buffer.as_mut_slice())
 }
 
-/// The same, by a buffer for the pieces.
+/// The loop of `converse`, over its buffer.
 fn converse_by<E: Engine, G: Gate, I: Peer, O: Sink>(
     server: &mut Server<E, G>,
     conn: u64,

@@ -11,7 +11,7 @@ fn cell(alloc: Global, version: Version, input: &[u8]) -> Result<Cell, Fail> {
     Ok(read(alloc, version, &packed)?)
 }
 
-/// The same, None where it is refused.
+/// The cell of these bytes, None if it is refused.
 fn cell_of(alloc: Global, version: Version, input: &[u8]) -> Option<Cell> {
     match decode(alloc, input) {
         Ok(packed) => read(alloc, version, &packed).ok(),
