@@ -31,7 +31,8 @@ use std::alloc::Global;
 use std::collections::VecDeque;
 use wire::{Version, Wish, offer};
 
-/// All of a piece was used, and nothing ended with it. A call of its own writes the answer once, where the caller reads it.
+/// All of a piece was used, and nothing ended with it. It isn't inlined, so that the answer is written once, where the caller reads it:
+/// put together in bytes and read back in words it would stall the processor.
 #[inline(never)]
 fn used_up(used: usize) -> Result<(usize, Heard), ClientFault>
     ensures { result ≡ Ok (used, Heard.Nothing) }

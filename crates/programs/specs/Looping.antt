@@ -23,12 +23,12 @@ use Rattle.programs.specs.Ways.{Way, Ways}
 use Rattle.programs.specs.Passing.{FailsToRead, FailsToWrite, Passes}
 use Rattle.server.specs.Serving.{Rest, find, opened}
 use Rattle.streams.specs.declared.fault.StreamFault.{StreamFault}
-use Rattle.serves.specs.declared.standing.Standing.{Standing}
-use Rattle.serves.specs.declared.standing.Standing.TheVariants.{Open}
+use Rattle.serves.specs.declared.liveness.Liveness.{Liveness}
+use Rattle.serves.specs.declared.liveness.Liveness.TheVariants.{Open}
 use Rattle.serves.specs.Conversing.{Talk, with_talk}
 use Rattle.streams.specs.Fronts.{AppendsFront}
 use Rattle.streams.specs.Limits.{max_piece}
-use Rattle.serves.specs.Settling.{Grows, standing_of, told_by}
+use Rattle.serves.specs.Settling.{Grows, liveness_of, told_by}
 
 -- what ends the line of an entry: its token in hex, where it has one
 abbrev pub token_ending : Token → List ℕ
@@ -121,20 +121,20 @@ module _ {G : Type 0} (r : Rest G) (conn : ℕ) where
 
 module _ {G : Type 0} (r : Rest G) (conn : ℕ) (S : Setting) where
   -- The session is as these bytes of its client leave it, and this is all that it has put out.
-  pub record Sits (Now : Rest G → Type 0) (sent put_out : List ℕ) (standing : Standing) : Type 0 where
+  pub record Sits (Now : Rest G → Type 0) (sent put_out : List ℕ) (liveness : Liveness) : Type 0 where
     pub unfinished : Opened
     pub now : Now (with_talk r conn unfinished (told_by r conn S sent).ledger
         (told_by r conn S sent).kept)
     pub out : put_out ≡ (told_by r conn S sent).out
-    pub stands : standing ≡ standing_of (told_by r conn S sent).kept.ended
-    pub goes_on : standing ≡ Open → unfinished ≡ state at_server at_server.start sent
+    pub stands : liveness ≡ liveness_of (told_by r conn S sent).kept.ended
+    pub goes_on : liveness ≡ Open → unfinished ≡ state at_server at_server.start sent
 
   -- Both have come so far, and all passed over the streams and is printed. The session lives, and the ledger has at most grown.
   pub record Comes (start now : Ways) (t : Turns) (pair : Pair) (Now : Rest G → Type 0) : Type 0
     where
       pub lives : Grows r conn Now
       pub client : StandsAt pair.caller t.place
-      pub session : Sits Now t.sent pair.said.bytes.items pair.standing
+      pub session : Sits Now t.sent pair.said.bytes.items pair.liveness
       pub up : Passes start.up now.up t.sent
       pub down : Passes start.down now.down (talk_for S conn r.ledger t.sent).out
       pub printed : Appends start.out now.out t.text

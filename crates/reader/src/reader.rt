@@ -14,8 +14,8 @@ use packstream::{PackFault, Packed, decode};
 use std::alloc::{AllocError, Global};
 use std::marker::Model;
 
-/// Reads one value from bytes that come in pieces. It has the bytes that it was fed; or, once each continuation of them
-/// has one fault at one place, that fault. And it holds a point to which it can return.
+/// Checks one value that is fed in pieces, and keeps its bytes. Once no continuation could be valid it is bad, and keeps the fault and
+/// its offset. `hold` sets a checkpoint, and `back` rolls back to it.
 ///
 /// ```rust
 /// let mut reader = Reader::new(alloc);

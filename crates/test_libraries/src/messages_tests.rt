@@ -1,3 +1,4 @@
+//! Messages and their bytes, at each version.
 use crate::answers::said_request;
 use bytes::BytesMut;
 use messages::*;

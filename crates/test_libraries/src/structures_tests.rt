@@ -1,3 +1,4 @@
+//! Cells and their bytes, at each version.
 use crate::answers::gives;
 use crate::reader_tests::DEEPEST;
 use packstream::decode;
