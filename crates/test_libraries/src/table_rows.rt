@@ -56,7 +56,7 @@ const FIFTH: EntryId = EntryId {
     ordinal: 4,
 };
 
-const OTHER: EntryId = EntryId {
+pub const OTHER: EntryId = EntryId {
     conn: 1,
     ordinal: 7,
 };

@@ -3,7 +3,8 @@
 use crate::table_rows::Plain::*;
 use crate::table_rows::Step::*;
 use crate::table_rows::Told::*;
-use crate::table_rows::{ASKED, CALLER, FIRST, Named, Plain, Step, Told};
+use crate::table_rows::{ASKED, CALLER, FIRST, Named, OTHER, Plain, Step, Told};
+use engine::Commit::*;
 use engine::laws::{commit_and_get, commit_and_run};
 use engine::*;
 use std::alloc::{AllocError, Global};
