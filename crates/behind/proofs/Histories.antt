@@ -1,5 +1,5 @@
 -- What a connection of a world stands for after calls at both ends, and what a call adds to it.
-use Rattle.std.proofs.Common.{◌≡◌, ◌≢◌, refl, sym, ◌∙◌, ap, subst, ℕ, ◌≤◌, ◌==◌, Bool, false, if◌then◌else◌, Option, Some, None, option_map, List, [], ◌∷◌, ◌++◌, take, slice_get, append-nil, append_assoc}
+use Rattle.std.proofs.Common.{◌≡◌, ◌≢◌, refl, sym, ◌∙◌, ap, subst, ℕ, ◌≤◌, ◌==◌, false, if◌then◌else◌, Option, Some, None, option_map, List, [], ◌∷◌, ◌++◌, take, slice_get, append-nil, append_assoc}
 use Rattle.std.proofs.lemmas.Bool.{cond-true, cond-false, cond_both, ne_eqb, eq-eqb}
 use Rattle.wire.specs.declared.Wish.{Wish}
 use Rattle.engine.specs.Prelude.{EntryView, Welcome}

@@ -1,5 +1,5 @@
 -- What clients of ours may rely on, by the calls at both ends alone.
-use Rattle.std.proofs.Common.{map, nat_le, ◌≡◌, refl, sym, ◌∙◌, ap, ap₂, subst, ℕ, zero, suc, arith, ◌<◌, ◌==◌, Bool, if◌then◌else◌, Option, Some, None, List, [], ◌∷◌, ◌++◌, take, slice_get, length}
+use Rattle.std.proofs.Common.{map, nat_le, ◌≡◌, refl, sym, ◌∙◌, ap, ap₂, subst, ℕ, zero, suc, arith, ◌<◌, ◌==◌, if◌then◌else◌, Option, Some, None, List, [], ◌∷◌, ◌++◌, take, slice_get, length}
 use Rattle.std.proofs.lemmas.Bool.{cond-true, cond-false, cond_both}
 use Rattle.wire.specs.declared.Wish.{Wish}
 use Rattle.wire.specs.Prelude.{bytes_newest_first}

@@ -1,5 +1,5 @@
 -- Lists of calls on a server as events of a world whose peers are foreign.
-use Rattle.std.specs.Prelude.{◌≡◌, ℕ, Bool, Option, Some, None, List, ◌∷◌, ◌++◌, map, slice_get}
+use Rattle.std.specs.Prelude.{◌≡◌, ℕ, Option, Some, None, List, ◌∷◌, ◌++◌, map, slice_get}
 use Rattle.engine.specs.Views.{EntryView}
 use Rattle.engine.specs.Welcomes.{Welcome}
 use Rattle.session.specs.declared.Worked.{Worked}

@@ -1,5 +1,5 @@
 -- Calls at both ends in the order of time: on one server, and on clients of ours at the other ends of its connections.
-use Rattle.std.specs.Prelude.{◌≡◌, ℕ, ◌==◌, if◌then◌else◌, Bool, Option, Some, None, List, [], ◌∷◌, ◌++◌}
+use Rattle.std.specs.Prelude.{◌≡◌, ℕ, ◌==◌, if◌then◌else◌, Option, Some, None, List, [], ◌∷◌, ◌++◌}
 use Rattle.wire.specs.declared.Wish.{Wish}
 use Rattle.messages.specs.View.{RequestView}
 use Rattle.engine.specs.Welcomes.{Welcome}

@@ -1,5 +1,5 @@
 -- A run, by where a server stands.
-use Rattle.std.proofs.Common.{◌≡◌, refl, ap, sym, subst, map, ℕ, arith, Bool, List, [], ◌++◌, Option, Result}
+use Rattle.std.proofs.Common.{◌≡◌, refl, ap, sym, subst, map, ℕ, arith, List, [], ◌++◌, Option, Result}
 use Rattle.engine.specs.declared.answer.Mode.{Mode as QueryMode}
 use Rattle.engine.specs.Prelude.{WriteView, ParameterView, EntryView, AnswerView, QueryFault, Welcome}
 use Rattle.server.specs.Prelude.{Rest, Live, Event, find}

@@ -1,5 +1,5 @@
 -- What is done with one connection, and with a list of them in turn.
-use Rattle.std.proofs.Common.{◌≡◌, ◌⊎◌, inl, inr, ◌<◌, ◌≤◌, ◌+◌, ◌-◌, ◌*◌, add-one, refl, sym, ap, subst, ◌∙◌, ℕ, arith, length, Bool, true, List, [], ◌∷◌, ◌++◌, map, append_assoc, IsSome, Option, Some, None, Result, Ok, Err}
+use Rattle.std.proofs.Common.{◌≡◌, ◌⊎◌, inl, inr, ◌<◌, ◌≤◌, ◌+◌, ◌-◌, ◌*◌, add-one, refl, sym, ap, subst, ◌∙◌, ℕ, arith, length, true, List, [], ◌∷◌, ◌++◌, map, append_assoc, IsSome, Option, Some, None, Result, Ok, Err}
 use Rattle.std.proofs.Math.Nat.{suc-mul, mul-le-mul_right}
 use Rattle.std.specs.Prelude.{unwrap_or}
 use Rattle.std.specs.List.{AllByRecursion}

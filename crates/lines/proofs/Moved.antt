@@ -1,5 +1,5 @@
 -- Moves of a connection, one after the other.
-use Rattle.std.proofs.Common.{◌≡◌, refl, sym, ap, subst, ◌∙◌, ℕ, ◌+◌, ◌≤◌, arith, length-append, Bool, List, [], ◌∷◌, ◌++◌, take, drop, append_assoc, append-nil, take-append-drop, Some, Result}
+use Rattle.std.proofs.Common.{◌≡◌, refl, sym, ap, subst, ◌∙◌, ℕ, ◌+◌, ◌≤◌, arith, length-append, List, [], ◌∷◌, ◌++◌, take, drop, append_assoc, append-nil, take-append-drop, Some, Result}
 use Rattle.std.proofs.lemmas.Bool.{eq-eqb}
 use Rattle.std.specs.Io.KnownBytes.{Appends}
 use Rattle.std.proofs.KnownBytes.{Appends-nil, Appends-trans}

@@ -1,5 +1,5 @@
 -- How a session that lives is given up.
-use Rattle.std.proofs.Common.{◌≡◌, ◌↔◌, refl, sym, ap, subst, ◌∙◌, ℕ, ◌<◌, arith, length, min, length-take, append-nil, IsSome, IfSome, option_map, List, [], ◌∷◌, ◌++◌, take, drop, Bool, Option, Some, None, Result, Err}
+use Rattle.std.proofs.Common.{◌≡◌, ◌↔◌, refl, sym, ap, subst, ◌∙◌, ℕ, ◌<◌, arith, length, min, length-take, append-nil, IsSome, IfSome, option_map, List, [], ◌∷◌, ◌++◌, take, drop, Option, Some, None, Result, Err}
 use Rattle.std.specs.Prelude.{unwrap_or, IsErrOf}
 use Rattle.std.proofs.lemmas.Bool.{eq-eqb}
 use Rattle.std.proofs.lemmas.List.{drop_all}

@@ -1,5 +1,5 @@
 -- What contracts see of a connection's bytes.
-use Rattle.std.specs.Prelude.{◌≡◌, ◌≢◌, ◌+◌, ◌≤◌, ℕ, Bool, List, [], ◌∷◌, ◌++◌, drop, take, length, Result}
+use Rattle.std.specs.Prelude.{◌≡◌, ◌≢◌, ◌+◌, ◌≤◌, ℕ, List, [], ◌∷◌, ◌++◌, drop, take, length, Result}
 use Rattle.std.specs.Io.KnownBytes.{Appends}
 use Rattle.engine.specs.declared.answer.Mode.{Mode as QueryMode}
 use Rattle.engine.specs.Views.{WriteView, ParameterView, EntryView, AnswerView, QueryFault}

@@ -1,5 +1,5 @@
 -- What came of a session's bytes: over a list of calls, the bytes that its feeds took, and the requests that its steps answered.
-use Rattle.std.specs.Prelude.{◌≡◌, ℕ, ◌==◌, if◌then◌else◌, Bool, List, [], ◌∷◌, ◌++◌, length, take, map, Option, Some, None, Result}
+use Rattle.std.specs.Prelude.{◌≡◌, ℕ, ◌==◌, if◌then◌else◌, List, [], ◌∷◌, ◌++◌, length, take, map, Option, Some, None, Result}
 use Rattle.wire.specs.declared.Version.{Version}
 use Rattle.wire.specs.Reader.{state}
 use Rattle.wire.specs.Framing.{at_server}

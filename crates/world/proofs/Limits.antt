@@ -1,5 +1,5 @@
 -- What a step leaves as it was, how the ledger grows, and how much is kept.
-use Rattle.std.proofs.Common.{◌==◌, ◌≡◌, ℕ, Some, List, refl, sym, ◌∙◌, subst, Option, Ok, None, [], ◌∷◌, ◌++◌, length, take, drop, slice_get, slice_set, append-nil, append_assoc, length-append, length-set, ◌<◌, arith, ◌⊎◌, inl, inr, ap, ◌+◌, ◌-◌, ◌≤◌, Bool, true, false, min, true≢false, is_some, ⊎_elim}
+use Rattle.std.proofs.Common.{◌==◌, ◌≡◌, ℕ, Some, List, refl, sym, ◌∙◌, subst, Option, Ok, None, [], ◌∷◌, ◌++◌, length, take, drop, slice_get, slice_set, append-nil, append_assoc, length-append, length-set, ◌<◌, arith, ◌⊎◌, inl, inr, ap, ◌+◌, ◌-◌, ◌≤◌, true, false, min, true≢false, is_some, ⊎_elim}
 use Rattle.messages.specs.Prelude.{RequestView, Arrival, Asked}
 use Rattle.machine.specs.declared.State.{State}
 use Rattle.engine.specs.Prelude.{EntryView, TokensOnce, added_by, Welcome}

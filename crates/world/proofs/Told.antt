@@ -1,5 +1,5 @@
 -- What a report tells, and events one after the other.
-use Rattle.std.proofs.Common.{◌≡◌, refl, sym, ◌∙◌, ap, ap₂, subst, ℕ, ◌+◌, ◌<◌, Bool, Option, Some, None, List, [], ◌∷◌, length, slice_get, slice_index_or, arith, option_and_then, option_map, inl, inr, Result, Ok, Err, IsErr, OnOk, ◌++◌}
+use Rattle.std.proofs.Common.{◌≡◌, refl, sym, ◌∙◌, ap, ap₂, subst, ℕ, ◌+◌, ◌<◌, Option, Some, None, List, [], ◌∷◌, length, slice_get, slice_index_or, arith, option_and_then, option_map, inl, inr, Result, Ok, Err, IsErr, OnOk, ◌++◌}
 use Rattle.world.proofs.Turning.{along_at, held_at, cause_is, still_there}
 use Rattle.engine.specs.Prelude.{EntryView, Welcome}
 use Rattle.session.specs.declared.Cause.{Cause}
