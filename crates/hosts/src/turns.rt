@@ -19,7 +19,7 @@ pub(crate) fn goes_on<E: Engine, G: Gate, P: Peers>(
     limits: &Limits,
     now: u64,
 ) -> bool
-    ensures moves { Moves E.answer G.accepts (limits.now.reads * (limits.now.steps * 2) + 1)
+    ensures moves { Moves E.answer G.welcomes (limits.now.reads * (limits.now.steps * 2) + 1)
         (limits.now.reads + 2) []
         (rest_of E.entries server.old) (rest_of E.entries server.new)
         (seat_held seat.old) (seat_held seat.new) (P.wire peers.old) (P.wire peers.new) }

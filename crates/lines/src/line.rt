@@ -77,7 +77,7 @@ impl Line {
         server: &mut Server<E, G>,
         steps: u32,
     ) -> Stand
-        ensures { (w : ℕ → Wire) → Moves E.answer G.accepts (steps * 2) 0 [] (rest_of E.entries server.old)
+        ensures { (w : ℕ → Wire) → Moves E.answer G.welcomes (steps * 2) 0 [] (rest_of E.entries server.old)
             (rest_of E.entries server.new) (held_of self.old) (held_of self.new) w w }
     {
         for made in 0..steps {
@@ -91,7 +91,7 @@ impl Line {
 
     /// Works, or where nothing is due feeds an item.
     fn step<E: Engine, G: Gate>(&mut self, server: &mut Server<E, G>) -> Stand
-        ensures { (w : ℕ → Wire) → Moves E.answer G.accepts 2 0 [] (rest_of E.entries server.old)
+        ensures { (w : ℕ → Wire) → Moves E.answer G.welcomes 2 0 [] (rest_of E.entries server.old)
             (rest_of E.entries server.new) (held_of self.old) (held_of self.new) w w }
     {
         let Ok(worked) = server.work(self.conn) else {
@@ -107,7 +107,7 @@ impl Line {
 
     /// Feeds an item at most of what was read. Where nothing is taken of it, no ordinal is left.
     fn feed<E: Engine, G: Gate>(&mut self, server: &mut Server<E, G>) -> Stand
-        ensures { (w : ℕ → Wire) → Moves E.answer G.accepts 1 0 [] (rest_of E.entries server.old)
+        ensures { (w : ℕ → Wire) → Moves E.answer G.welcomes 1 0 [] (rest_of E.entries server.old)
             (rest_of E.entries server.new) (held_of self.old) (held_of self.new) w w }
     {
         if self.fed == self.read {
@@ -140,7 +140,7 @@ impl Line {
 
     /// Takes out all that the session has said, where all that was taken out before is written; whether that could be.
     pub(crate) fn draw<E: Engine, G: Gate>(&mut self, server: &mut Server<E, G>) -> bool
-        ensures { (w : ℕ → Wire) → Moves E.answer G.accepts 1 0 [] (rest_of E.entries server.old)
+        ensures { (w : ℕ → Wire) → Moves E.answer G.welcomes 1 0 [] (rest_of E.entries server.old)
             (rest_of E.entries server.new) (held_of self.old) (held_of self.new) w w }
     {
         if self.is_going() {
@@ -172,7 +172,7 @@ impl Line {
         server: &mut Server<E, G>,
     ) -> (Parting, Bytes, Bytes)
         requires { IsSome (find self.conn (rest_of E.entries server.old).sessions) }
-        ensures { (w : ℕ → Wire) → Parts E.answer G.accepts result.0 (rest_of E.entries server.old)
+        ensures { (w : ℕ → Wire) → Parts E.answer G.welcomes result.0 (rest_of E.entries server.old)
             (rest_of E.entries server.new) (held_of self) (result.1 ++ result.2) w }
     {
         let drawn = server.take_out(self.conn, usize::MAX);

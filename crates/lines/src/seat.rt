@@ -148,7 +148,7 @@ impl Seat {
         peers: &mut P,
         now: u64,
     ) -> bool
-        ensures moves { Moves E.answer G.accepts 1 2 [] (rest_of E.entries server.old)
+        ensures moves { Moves E.answer G.welcomes 1 2 [] (rest_of E.entries server.old)
             (rest_of E.entries server.new) (seat_held self.old) (seat_held self.new)
             (P.wire peers.old) (P.wire peers.new) }
         ensures times { IsAsOld self.old self.new }
@@ -191,7 +191,7 @@ impl Seat {
         limits: &Limits,
         now: u64,
     ) -> Turned
-        ensures moves { Moves E.answer G.accepts (limits.now.reads * (limits.now.steps * 2)) limits.now.reads []
+        ensures moves { Moves E.answer G.welcomes (limits.now.reads * (limits.now.steps * 2)) limits.now.reads []
             (rest_of E.entries server.old) (rest_of E.entries server.new)
             (seat_held self.old) (seat_held self.new) (P.wire peers.old) (P.wire peers.new) }
         ensures times { IsAsOld self.old self.new }
@@ -229,7 +229,7 @@ impl Seat {
         limits: &Limits,
         now: u64,
     ) -> Turned
-        ensures moves { Moves E.answer G.accepts (limits.now.reads * (limits.now.steps * 2) + 1) (limits.now.reads + 2) []
+        ensures moves { Moves E.answer G.welcomes (limits.now.reads * (limits.now.steps * 2) + 1) (limits.now.reads + 2) []
             (rest_of E.entries server.old) (rest_of E.entries server.new)
             (seat_held self.old) (seat_held self.new) (P.wire peers.old) (P.wire peers.new) }
         ensures lives { IsSome (find (seat_held self.old).conn (rest_of E.entries server.old).sessions)
@@ -258,7 +258,7 @@ impl Seat {
     pub fn give_up<E: Engine, G: Gate>(self, server: &mut Server<E, G>) -> (Parting, Closing)
         requires { IsSome (find (seat_held self).conn (rest_of E.entries server.old).sessions) }
         ensures conn { result.1.conn ≡ (seat_held self).conn }
-        ensures parts { (w : ℕ → Wire) → Parts E.answer G.accepts result.0 (rest_of E.entries server.old)
+        ensures parts { (w : ℕ → Wire) → Parts E.answer G.welcomes result.0 (rest_of E.entries server.old)
             (rest_of E.entries server.new) (seat_held self) (owed_of result.1) w }
     {
         let conn = self.line.conn;

@@ -49,7 +49,7 @@ pub fn serve_next<E: Engine, G: Gate, I: Source, O: Sink, P: Sink>(
         (conn_line r.next told.cause)) }
     // What the client was answered, the ledger, the cause and the fault are those of its conversation, for the bytes that were read.
     ensures serves { (r : Rest G) → Fits E.entries server.old r → r.sessions ≡ []
-        → IfOk result (ServesSo (opened r) r.next (setting E.answer G.accepts r)
+        → IfOk result (ServesSo (opened r) r.next (setting E.answer G.welcomes r)
         (Fits E.entries server.new) streams.old.at streams.new.at) }
     ensures read { IsErrOf result StreamFault.ReadFailed → ⊥ }
     ensures written { IsErrOf result StreamFault.WriteFailed → P.has_failed out.new ≡ true }
@@ -92,7 +92,7 @@ fn serve_opened<E: Engine, G: Gate, I: Source, O: Sink>(
         → LeavesOthers r conn (Fits E.entries server.new) }
     ensures serves { (r : Rest G) → Fits E.entries server.old r
         → find conn r.sessions ≡ Some (fresh conn)
-        → ServesSo r conn (setting E.answer G.accepts r) (Fits E.entries server.new)
+        → ServesSo r conn (setting E.answer G.welcomes r) (Fits E.entries server.new)
         streams.old.at streams.new.at result }
 {
     let served = serve_one(alloc, server, conn, &mut streams.source, &mut streams.sink);

@@ -4,6 +4,7 @@ use Rattle.std.specs.Str.{bytes_eq}
 use Rattle.std.specs.declared.alloc.AllocError.{AllocError}
 use Rattle.engine.specs.Queries.{fixed_answer}
 use Rattle.engine.specs.Views.{EntryView}
+use Rattle.engine.specs.Welcomes.{under_own_name}
 use Rattle.session.specs.Session.{Setting}
 use Rattle.scripts.specs.Views.{LineView}
 use Rattle.programs.specs.Telling.{refused_line}
@@ -24,7 +25,7 @@ lets_in principal credentials =
 
 -- over a fixed table
 abbrev pub serving : Setting
-serving = record { run = fixed_answer; check = lets_in }
+serving = record { run = fixed_answer; welcome = under_own_name lets_in }
 
 -- an event of a world: a step, or a refusal that leaves all as it was
 abbrev pub Takes : Setting → World → Event → Came → World → Type 0

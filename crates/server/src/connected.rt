@@ -105,7 +105,7 @@ impl Connected {
         gate: &G,
     ) -> Result<Worked, AllocError>
         ensures ok { IfOk result
-            (λ w. stepped (record { run = E.answer; check = G.accepts gate.now }) self.old.conn
+            (λ w. stepped (record { run = E.answer; welcome = G.welcomes gate.now }) self.old.conn
             (record { kept = (live_of self.old).kept; ledger = E.entries engine.old })
             ≡ (w, record { kept = (live_of self.new).kept; ledger = E.entries engine.new })) }
         ensures live { live_of self.new ≡ with_kept (live_of self.old) (live_of self.new).kept }

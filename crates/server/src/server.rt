@@ -97,7 +97,7 @@ impl<E: Engine, G: Gate> Server<E, G> {
     /// Does one step of a session: nothing, a row, a summary or an end. N1 exactly where no live session has the number; N3 for want of
     /// memory; nothing has changed then, nor has the ledger.
     pub fn work(&mut self, conn: u64) -> Result<Worked, Refused>
-        ensures done { IfOk result (λ worked. work_at E.answer G.accepts conn
+        ensures done { IfOk result (λ worked. work_at E.answer G.welcomes conn
             (rest_of E.entries self.old) ≡ Some (worked, rest_of E.entries self.new)) }
         ensures unknown { IsErrOf result Refused.NoSuchConnection
             ↔ (find conn (rest_of E.entries self.old).sessions ≡ None) }

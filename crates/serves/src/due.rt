@@ -63,7 +63,7 @@ pub(crate) fn settle<E: Engine, G: Gate, O: Sink>(
     ensures settles { (r : Rest G) (u : Opened) (t : Talk) (before : Option (List ℕ))
         → IsSome (find conn r.sessions) → t.kept.unsent ≡ [] → IsPlaced t.kept.waiting
         → Holds r conn u t (Fits E.entries server.old) before (O.taken sink.old)
-        → Settles r conn u t (setting E.answer G.accepts r) (Fits E.entries server.new) before
+        → Settles r conn u t (setting E.answer G.welcomes r) (Fits E.entries server.new) before
         (O.taken sink.new) result }
     ensures failed { IfErr result (λ e. IsDueTo e false (O.has_failed sink.new)) }
 {
@@ -86,9 +86,9 @@ fn work_once<E: Engine, G: Gate, O: Sink>(
     ensures grows { GrowsOn conn (Fits E.entries server.old) (Fits E.entries server.new) }
     ensures steps { (r : Rest G) (u : Opened) (t : Talk) (before : Option (List ℕ))
         → IsSome (find conn r.sessions)
-        → GoesOn r conn u t (setting E.answer G.accepts r) (Fits E.entries server.old) before
+        → GoesOn r conn u t (setting E.answer G.welcomes r) (Fits E.entries server.old) before
         (O.taken sink.old)
-        → Steps r conn u t (setting E.answer G.accepts r) (Fits E.entries server.new) before
+        → Steps r conn u t (setting E.answer G.welcomes r) (Fits E.entries server.new) before
         (O.taken sink.new) result }
     ensures failed { IfErr result (λ e. IsDueTo e false (O.has_failed sink.new)) }
 {
@@ -106,7 +106,7 @@ fn work_once<E: Engine, G: Gate, O: Sink>(
 /// Works a step. I3 for want of memory, and then nothing has changed.
 fn work_step<E: Engine, G: Gate>(server: &mut Server<E, G>, conn: u64) -> Result<Next, StreamFault>
     ensures grows { GrowsOn conn (Fits E.entries server.old) (Fits E.entries server.new) }
-    ensures works { Works (work_at E.answer G.accepts conn) (rest_of E.entries server.old)
+    ensures works { Works (work_at E.answer G.welcomes conn) (rest_of E.entries server.old)
         (rest_of E.entries server.new) result }
     ensures memory { IfErr result (λ e. e ≡ StreamFault.Memory) }
 {

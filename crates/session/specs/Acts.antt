@@ -46,7 +46,7 @@ use Rattle.engine.specs.Limits.{ledger_bound}
 
 -- a summary, as the definitions of messages have it
 abbrev pub summary_of : Summary → messages.Summary
-summary_of (summary.Greeting conn) = messages.Greeting conn
+summary_of (summary.Greeting agent conn) = messages.Greeting agent.name.now conn
 summary_of summary.RowsLeft = messages.RowsLeft
 summary_of (summary.Closing len mode) = messages.Closing len mode
 summary_of (summary.Committed len) = messages.Committed len

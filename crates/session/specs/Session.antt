@@ -22,17 +22,18 @@ use Rattle.engine.specs.declared.answer.Mode.{Mode as QueryMode}
 use Rattle.engine.specs.declared.answer.Mode.TheVariants as query
 use Rattle.engine.specs.Views.{WriteView, ParameterView, Token, EntryView, AnswerView, QueryFault}
 use Rattle.engine.specs.Tokens.{Found, Free, There, Other, found_in}
+use Rattle.engine.specs.Welcomes.{Welcome}
 use Rattle.session.specs.declared.fault.Fault.{Fault}
 use Rattle.session.specs.declared.fault.Fault.TheVariants as fault
 use Rattle.session.specs.Faults.{failure, of_query, of_writer}
 use Rattle.session.specs.Said.{fits}
 use Rattle.session.specs.Limits.{max_writes}
 
--- what the engine answers and whom the gate lets in, by their definitions
+-- what the engine answers, and whom the gate lets in under which name of the server, by their definitions
 pub record Setting : Type 0 where
   pub run : List EntryView → List WriteView → List ℕ → List ParameterView → QueryMode
       → Result AnswerView QueryFault
-  pub check : List ℕ → List ℕ → Bool
+  pub welcome : Welcome
 
 -- The open result: its rows left, as the version has them; its mode; the write that its last summary commits, which a transaction
 -- has already taken over; and how many rows were written for the waiting PULL.
@@ -160,7 +161,7 @@ pull v s ledger n (r ∷ rs) left tx =
 -- the answer to who the client is: this response where the gate lets it in, by the one scheme of this product
 abbrev pub reply_to_login : Setting → AuthView → ResponseView → Reply
 reply_to_login S a m =
-    if bytes_eq a.scheme (codes "basic") && S.check a.principal a.credentials then succeeds m
+    if bytes_eq a.scheme (codes "basic") && S.welcome.accepts a.principal a.credentials then succeeds m
     else fails fault.Unauthorized
 
 -- a transaction with one more write
@@ -223,8 +224,8 @@ reply_to_hello S (Some a) m = reply_to_login S a m
 -- a HELLO, which logs on where it carries who the client is
 abbrev pub greets : Setting → Version → ℕ → Option AuthView → Reply
 greets S v c auth =
-    if hello_has_login v then reply_to_hello S auth (response_of_summary (Greeting c))
-    else succeeds (response_of_summary (Greeting c))
+    if hello_has_login v then reply_to_hello S auth (response_of_summary (Greeting S.welcome.agent c))
+    else succeeds (response_of_summary (Greeting S.welcome.agent c))
 
 -- a request that has a row in its state
 abbrev pub perform : Setting → Version → ℕ → List EntryView → State → Open → Tx → RequestView

@@ -7,6 +7,8 @@ mod ask_tests;
 #[cfg(test)]
 mod heard;
 #[cfg(test)]
+mod named_tests;
+#[cfg(test)]
 mod over_tests;
 #[cfg(test)]
 mod requests;
