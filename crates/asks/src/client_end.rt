@@ -162,7 +162,7 @@ fn read_on<I: PeerSource, O: Sink>(
     Ok(())
 }
 
-/// Writes all that the client puts out. I2 if the sink fails, with a beginning of it written, or I3.
+/// Writes all that the client puts out. I2 if the sink fails, with a beginning of it written. Takes no memory.
 pub fn write_out<O: Sink>(client: &mut Client, sink: &mut O) -> Result<(), StreamFault>
     ensures out { (r : Rest) → Fits client.old r
         → PutsOut r (O.taken sink.old) (O.taken sink.new) (Fits client.new) (result_err result) }
@@ -171,11 +171,12 @@ pub fn write_out<O: Sink>(client: &mut Client, sink: &mut O) -> Result<(), Strea
         (StaysSound (O.has_failed sink.old) (O.has_failed sink.new)) }
     ensures stays { O.has_failed sink.old ≡ true → O.has_failed sink.new ≡ true }
     ensures fault { IfErr result (λ e. e ≡ StreamFault.ReadFailed → ⊥) }
+    ensures memory { IsErrOf result StreamFault.Memory → ⊥ }
 {
-    let Ok(bytes) = client.take_out(usize::MAX) else {
-        return Err(StreamFault::Memory);
-    };
-    if write_all(sink, bytes.as_slice()).is_err() {
+    let written = write_all(sink, client.unsent());
+    let count = client.unsent().len();
+    client.sent(count);
+    if written.is_err() {
         return Err(StreamFault::WriteFailed);
     }
     Ok(())
