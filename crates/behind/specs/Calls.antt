@@ -12,7 +12,7 @@ use Rattle.world.specs.Rests.{server_rest}
 use Rattle.world.specs.Contract.{Replays}
 use Rattle.world.specs.Turns.{Definition, setting_of}
 
--- the event that a call is where the peer is foreign; bytes that are taken out of a session reach its peer at once
+-- the event that a call is if the peer is foreign; bytes that are taken out of a session reach its peer at once
 abbrev pub event_of : Call → Event
 event_of opens = Opens Foreign
 event_of (feeds conn piece) = Feeds conn piece
@@ -21,7 +21,7 @@ event_of (takes conn max) = ToClient conn max
 event_of (noops conn) = PutsNoop conn
 event_of (loses conn) = ServerLost conn
 
--- a commit that a step told is of a ledger shorter than 2^63; where no session has the number, nothing was told
+-- a commit that a step told is of a ledger shorter than 2^63; if no session has the number, nothing was told
 abbrev pub counted_if : {G : Type 0} → Option (Worked × Rest G) → Type 0
 counted_if None = Unit {0}
 counted_if (Some p) = IsCounted p.0

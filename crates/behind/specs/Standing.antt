@@ -38,7 +38,7 @@ pub record TellsFront (said : List Said) (told : List Told) : Type 0 where
   pub tells : told ≡ tellings_of heard
 
 module _ {G : Type 0} (answer : Definition) (welcomes : G → Welcome) where
-  -- the row or summary that a step of the session says; none where no session lives
+  -- the row or summary that a step of the session says; none if no session lives
   abbrev pub step_said : Option Live → Rest G → List Said
   step_said None r = []
   step_said (Some s) r =

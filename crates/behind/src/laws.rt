@@ -22,7 +22,7 @@ pub fn calls_are_runs<E: Engine, G: Gate>()
 
 /// After such calls no token stands twice in the ledger, and what each client of ours tells is so. The rows and summaries that it told are
 /// the first of those that its session's steps said, in order. What it tells committed stands exactly once with its writes, by its token
-/// where it has one. What it tells done, refused, ignored or lost has no entry, and what is unknown one at most. Each request has at most
+/// if it has one. What it tells done, refused, ignored or lost has no entry, and what is unknown one at most. Each request has at most
 /// one entry of its own, and no other entry is of its connection.
 pub fn clients_may_rely<E: Engine, G: Gate>()
     ensures { (gate : G) (ours : ℕ → Option Wish) → ClientsMayRely E.answer G.welcomes gate ours }

@@ -34,7 +34,7 @@ abbrev pub times_gone : ℕ → List Gone → ℕ
 times_gone conn [] = 0
 times_gone conn (g ∷ gs) = (if g.conn == conn then 1 else 0) + times_gone conn gs
 
--- An end is told as it was: with its cause, and as whole exactly where all that the session had said was taken out before.
+-- An end is told as it was: with its cause, and as whole exactly if all that the session had said was taken out before.
 abbrev pub Tells : Parting → End → Type 0
 Tells (Whole cause) e = e ≡ record { cause = cause; unsaid = [] }
 Tells (Cut cause) e = (x : ℕ) × (xs : List ℕ) × (e ≡ record { cause = cause; unsaid = x ∷ xs })
@@ -45,7 +45,7 @@ AreTold [] [] = Unit {0}
 AreTold (t ∷ ts) (g ∷ gs) = (t.conn ≡ g.conn) × Tells t.parting g.end × AreTold ts gs
 AreTold _ _ = ⊥
 
--- more was told, where that is known
+-- more was told, if that is known
 abbrev pub TellsMore : Option (List Told) → Option (List Told) → List Told → Type 0
 TellsMore None new more = Unit {0}
 TellsMore (Some xs) None more = ⊥

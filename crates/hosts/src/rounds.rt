@@ -21,7 +21,7 @@ impl Host {
     ghost use Rattle.hosts.specs.Running.{Leads, Ends, turn_calls, round_calls};
     ghost use Rattle.hosts.specs.Waiting.{AddsInTime, Fades, InTime, remains};
 
-    /// A round at this time: lets in who waits, as far as there is room; then each connection has one turn, where that would do something;
+    /// A round at this time: lets in who waits, as far as there is room; then each connection has one turn, if that would do something;
     /// and each of which there are no further turns, or whose time is up, is given up, and at last closed.
     pub fn round<E: Engine, G: Gate, P: Peers, J: Journal>(
         &mut self,
@@ -95,7 +95,7 @@ impl Host {
         }
     }
 
-    /// Opens a session for the guest, and gives it a seat. Where that can't be, it is sent away; and its session is given up, where one
+    /// Opens a session for the guest, and gives it a seat. If that can't be, it is sent away; and its session is given up, if one
     /// was opened.
     fn let_in<E: Engine, G: Gate, P: Peers, J: Journal>(
         &mut self,

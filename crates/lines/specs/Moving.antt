@@ -36,7 +36,7 @@ abbrev pub AreOn : ℕ → List Event → Type 0
 AreOn conn [] = Unit {0}
 AreOn conn (e ∷ es) = IsOn conn e × AreOn conn es
 
--- the bytes that were taken out, where a session lives
+-- the bytes that were taken out, if a session lives
 abbrev pub out_of : {G : Type 0} → Option (List ℕ × Rest G) → List ℕ
 out_of None = []
 out_of (Some p) = p.0
@@ -46,7 +46,7 @@ abbrev pub gave_by : {G : Type 0} → ℕ → Event → Rest G → List ℕ
 gave_by conn (takes c max) r = if c == conn then out_of (take_out_at c max r) else []
 gave_by conn _ r = []
 
--- how a session ends that is given up now; not at all where none lives
+-- how a session ends that is given up now; not at all if none lives
 abbrev pub end_of : Option Live → List End
 end_of None = []
 end_of (Some s) = record { cause = cause_or s.kept.ended; unsaid = s.kept.unsent } ∷ []

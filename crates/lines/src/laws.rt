@@ -22,7 +22,7 @@ pub fn turns_are_one_run<E: Engine, G: Gate>()
         → Along E.answer G.welcomes conn calls r (held conn) (before conn) (after conn) }
 {}
 
-/// A move leaves every other session as it was, and its own lives on where it isn't given up.
+/// A move leaves every other session as it was, and its own lives on if it isn't given up.
 pub fn moves_leave_others<E: Engine, G: Gate>()
     ensures others { (most asks : ℕ) (ends : List End) (r s : Rest G) (old new : Held)
         (before after : ℕ → Wire) (other : ℕ)

@@ -89,7 +89,7 @@ impl Line {
         Stand::More
     }
 
-    /// Works, or where nothing is due feeds an item.
+    /// Works, or if nothing is due feeds an item.
     fn step<E: Engine, G: Gate>(&mut self, server: &mut Server<E, G>) -> Stand
         ensures { (w : ℕ → Wire) → Moves E.answer G.welcomes 2 0 [] (rest_of E.entries server.old)
             (rest_of E.entries server.new) (held_of self.old) (held_of self.new) w w }
@@ -105,7 +105,7 @@ impl Line {
         }
     }
 
-    /// Feeds an item at most of what was read. Where nothing is taken of it, no ordinal is left.
+    /// Feeds an item at most of what was read. If nothing is taken of it, no ordinal is left.
     fn feed<E: Engine, G: Gate>(&mut self, server: &mut Server<E, G>) -> Stand
         ensures { (w : ℕ → Wire) → Moves E.answer G.welcomes 1 0 [] (rest_of E.entries server.old)
             (rest_of E.entries server.new) (held_of self.old) (held_of self.new) w w }
@@ -125,7 +125,7 @@ impl Line {
         Stand::More
     }
 
-    /// Reads a piece, where all of the last was fed.
+    /// Reads a piece, if all of the last was fed.
     pub(crate) fn hear<P: Peers>(&mut self, peers: &mut P) -> Result<Got, Failed>
         ensures { Carries 1 (held_of self.old) (held_of self.new) (P.wire peers.old) (P.wire peers.new) }
     {
@@ -138,7 +138,7 @@ impl Line {
         got
     }
 
-    /// Takes out all that the session has said, where all that was taken out before is written; whether that could be.
+    /// Takes out all that the session has said, if all that was taken out before is written; whether that could be.
     pub(crate) fn draw<E: Engine, G: Gate>(&mut self, server: &mut Server<E, G>) -> bool
         ensures { (w : ℕ → Wire) → Moves E.answer G.welcomes 1 0 [] (rest_of E.entries server.old)
             (rest_of E.entries server.new) (held_of self.old) (held_of self.new) w w }
@@ -165,7 +165,7 @@ impl Line {
         Ok(count)
     }
 
-    /// Takes out all that the session has said, where there is memory, and gives the session up. It answers what was going, and what was
+    /// Takes out all that the session has said, if there is memory, and gives the session up. It answers what was going, and what was
     /// taken out behind it.
     pub(crate) fn give_up<E: Engine, G: Gate>(
         self,

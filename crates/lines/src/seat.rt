@@ -102,7 +102,7 @@ impl Seat {
         goes_on || self.ready.writes && self.line.is_going()
     }
 
-    /// When its peer is given up, where nothing moves until then: one that was let in for its silence, any other for the time that it takes.
+    /// When its peer is given up, if nothing moves until then: one that was let in for its silence, any other for the time that it takes.
     pub fn deadline(&self, limits: &Limits) -> u64
         ensures { result ≡ seat_deadline self.now limits.now }
     {
@@ -113,7 +113,7 @@ impl Seat {
         }
     }
 
-    /// Writes some of what is going, where that may do something.
+    /// Writes some of what is going, if that may do something.
     fn utter<P: Peers>(&mut self, peers: &mut P, now: u64)
         ensures carries { Carries 1 (seat_held self.old) (seat_held self.new) (P.wire peers.old) (P.wire peers.new) }
         ensures times { IsAsOld self.old self.new }
@@ -254,7 +254,7 @@ impl Seat {
         }
     }
 
-    /// Takes out all that the session has said, where there is memory, and gives the session up. What its peer is owed is with the answer.
+    /// Takes out all that the session has said, if there is memory, and gives the session up. What its peer is owed is with the answer.
     pub fn give_up<E: Engine, G: Gate>(self, server: &mut Server<E, G>) -> (Parting, Closing)
         requires { IsSome (find (seat_held self).conn (rest_of E.entries server.old).sessions) }
         ensures conn { result.1.conn ≡ (seat_held self).conn }

@@ -17,7 +17,7 @@ pub data Summary : Type 0 where
   Greeting : List ℕ → ℕ → Summary
   -- of a PULL after which rows are left
   RowsLeft : Summary
-  -- of the last PULL or DISCARD of a result, with the place of its entry in the ledger, from 1, where it committed, and what the result was for
+  -- of the last PULL or DISCARD of a result, with the place of its entry in the ledger, from 1, if it committed, and what the result was for
   Closing : Option ℕ → Mode → Summary
   -- of a COMMIT, with the place of its entry in the ledger, from 1
   Committed : ℕ → Summary

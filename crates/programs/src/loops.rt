@@ -70,7 +70,7 @@ fn read_known<T: Sink, S: PeerSource>(
     Ok(())
 }
 
-/// Writes a part, and reads it at the other end, where it is known to wait then. I1 also where other bytes come.
+/// Writes a part, and reads it at the other end, if it is known to wait then. I1 also if other bytes come.
 fn pass<T: Sink, S: PeerSource>(
     alloc: Global,
     bytes: &[u8],
@@ -95,7 +95,7 @@ fn pass<T: Sink, S: PeerSource>(
     Ok(())
 }
 
-/// Feeds a part to the client, and prints what it tells, also where memory runs out while it is fed.
+/// Feeds a part to the client, and prints what it tells, also if memory runs out while it is fed.
 fn hear<O: Sink>(caller: &mut Caller, part: &[u8], out: &mut O) -> Result<(), StreamFault>
     ensures hears { (p : Place) → StandsAt caller.old p
         → MatchResult result
@@ -254,7 +254,7 @@ fn turn<E: Engine, G: Gate, A: PeerSource, B: Sink, C: PeerSource, D: Sink, O: S
     Ok(())
 }
 
-/// The client writes all that it has to say, in pieces, a turn for each. Where an answer is still to come then, the session has none: I3.
+/// The client writes all that it has to say, in pieces, a turn for each. If an answer is still to come then, the session has none: I3.
 fn exchange<E: Engine, G: Gate, A: PeerSource, B: Sink, C: PeerSource, D: Sink, O: Sink>(
     pair: &mut Pair,
     server: &mut Server<E, G>,
@@ -293,7 +293,7 @@ fn exchange<E: Engine, G: Gate, A: PeerSource, B: Sink, C: PeerSource, D: Sink, 
     Ok(())
 }
 
-/// Submits a line; where it isn't refused, its request is written and its answers are heard.
+/// Submits a line; if it isn't refused, its request is written and its answers are heard.
 fn run_line<E: Engine, G: Gate, A: PeerSource, B: Sink, C: PeerSource, D: Sink, O: Sink>(
     pair: &mut Pair,
     server: &mut Server<E, G>,
@@ -442,10 +442,10 @@ fn run<E: Engine, G: Gate, A: PeerSource, B: Sink, C: PeerSource, D: Sink, O: Si
 /// Runs the request lines of a script through a client, which takes the newest version, and a session of the server, on which none lives,
 /// over both ways of a connection. The client hears the version, and then submits one line after another. After each it writes what it has
 /// to say, at most 4,096 bytes at once; the server reads just those, feeds them and works, and writes what it put out in parts of at most
-/// 4,096 bytes, each read by the client before the next is written. So neither reads where nothing is known to wait.
+/// 4,096 bytes, each read by the client before the next is written. So neither reads if nothing is known to wait.
 ///
 /// It prints on `ways.out` each `row HEX` and `heard ORDINAL OUTCOME PHASE`, and `line I C1` for a request that the client refuses; at last
-/// `entry CONN ORDINAL COUNT` for each entry of the ledger, with ` token HEX` behind it where it has a token. The exit status is 0; 1 for a
+/// `entry CONN ORDINAL COUNT` for each entry of the ledger, with ` token HEX` behind it if it has a token. The exit status is 0; 1 for a
 /// stream that has failed (`fault I1` for a source, also where it ends before the bytes that were written came, or gives others; `fault I2`
 /// for a sink), 3 for want of memory (`fault I3`); 2 for a line that can't be read: then nothing was run, and `line I unreadable` stands on
 /// `err`, and on the next line what is expected there.
@@ -470,8 +470,8 @@ pub fn run_loop<
     // and they weren't read. No other read is made.
     requires near { LetsReadWaiting A.left A.may_read ways.old.at.down }
     requires far { LetsReadWaiting C.left C.may_read ways.old.at.up }
-    // The status and the text on standard error are those of why it stops; I1 only where a source gives no more or other bytes than were
-    // written, I2 only where a sink has failed.
+    // The status and the text on standard error are those of why it stops; I1 only if a source gives no more or other bytes than were
+    // written, I2 only if a sink has failed.
     ensures ends { Ends result (FailsToRead ways.old.at ways.new.at) (FailsToWrite ways.new.at)
         (F.has_failed err.new) (F.taken err.old) (F.taken err.new) }
     // 0 is only for a script of which each line can be read, and 2 only for one of which one can't: nothing is run then.

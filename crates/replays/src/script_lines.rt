@@ -89,7 +89,7 @@ fn do_line<E: Engine, G: Gate>(
     once(world, event)
 }
 
-/// The version of the requests of a connection: the one that its client wishes, and the newest where it has none.
+/// The version of the requests of a connection: the one that its client wishes, and the newest if it has none.
 fn version_at<E: Engine, G: Gate>(world: &World<E, G>, conn: u64) -> Version
     ensures { (gate : G) (brought : List EntryView) (w : WorldSeen)
         → Reached (setting_of E.answer G.welcomes gate) brought w

@@ -35,7 +35,7 @@ took_by conn _ r = []
 
 module _ {G : Type 0} (answer : List EntryView → List WriteView → List ℕ → List ParameterView
     → QueryMode → Result AnswerView QueryFault) (welcomes : G → Welcome) where
-  -- the request that a step of the session answers by a summary; none where no session lives
+  -- the request that a step of the session answers by a summary; none if no session lives
   abbrev pub step_answered : Option Live → Rest G → List RequestView
   step_answered None r = []
   step_answered (Some s) r =

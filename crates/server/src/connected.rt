@@ -69,7 +69,7 @@ impl Connected {
         self.session.unsent()
     }
 
-    /// As many bytes of it are gone, or all where no more wait.
+    /// As many bytes of it are gone, or all if no more wait.
     pub(crate) fn sent(&mut self, count: usize)
         ensures { (taken_from count (live_of self.old)).1 ≡ live_of self.new }
     {

@@ -10,7 +10,7 @@ use Rattle.session.specs.Rest.{Kept}
 use Rattle.serves.specs.declared.response.End.{End}
 use Rattle.serves.specs.declared.response.End.TheVariants.{Live, Over}
 
--- how a session stands: over by this cause, or live in this state where there is none
+-- how a session stands: over by this cause, or live in this state if there is none
 abbrev pub end_by : Option Cause → State → End
 end_by None state = Live state
 end_by (Some cause) state = Over cause

@@ -24,7 +24,7 @@ enum Next {
 }
 
 /// Writes all that waits to go of a session, where it lies, and then lets it go. I2 where the sink fails, with a beginning of it written; I3
-/// where no session has the number, and then nothing has changed. Takes no memory of its own.
+/// if no session has the number, and then nothing has changed. Takes no memory of its own.
 pub(crate) fn put_out<E: Engine, G: Gate, O: Sink>(
     server: &mut Server<E, G>,
     conn: u64,
@@ -53,7 +53,7 @@ pub(crate) fn put_out<E: Engine, G: Gate, O: Sink>(
 /// A bound on steps by which the loop ends for the prover. It is never reached.
 const MOST_STEPS: u64 = u64::MAX;
 
-/// Works until nothing is due. What the session says waits there, and is written only where so much waits that no step is done.
+/// Works until nothing is due. What the session says waits there, and is written only if so much waits that no step is done.
 pub(crate) fn settle<E: Engine, G: Gate, O: Sink>(
     server: &mut Server<E, G>,
     conn: u64,
@@ -77,7 +77,7 @@ pub(crate) fn settle<E: Engine, G: Gate, O: Sink>(
     Err(StreamFault::Memory)
 }
 
-/// Works a step, or makes room for it by writing what waits to go; or answers how the session stands where nothing is due.
+/// Works a step, or makes room for it by writing what waits to go; or answers how the session stands if nothing is due.
 fn work_once<E: Engine, G: Gate, O: Sink>(
     server: &mut Server<E, G>,
     conn: u64,

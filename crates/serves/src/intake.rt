@@ -21,8 +21,8 @@ struct Taken {
 }
 
 /// Takes a piece, item by item, up to the end of a session that lives, works what it makes due, and writes what the session says: all of it at
-/// once, or before that where 65,536 bytes or more wait to go. It answers whether the session goes on. I2 where the sink fails, with a beginning
-/// written; I3 for want of memory or where no ordinal is left.
+/// once, or before that where 65,536 bytes or more wait to go. It answers whether the session goes on. I2 if the sink fails, with a beginning
+/// written; I3 for want of memory or if no ordinal is left.
 pub fn take_piece<E: Engine, G: Gate, O: Sink>(
     server: &mut Server<E, G>,
     conn: u64,
@@ -142,7 +142,7 @@ fn liveness_after(what: What) -> Option<Liveness>
     }
 }
 
-/// Feeds one item at most of a piece, and answers how many bytes were used, and what ended with them. None are used where no ordinal is left:
+/// Feeds one item at most of a piece, and answers how many bytes were used, and what ended with them. None are used if no ordinal is left:
 /// that is I3, as is want of memory.
 fn feed_one<E: Engine, G: Gate>(
     server: &mut Server<E, G>,

@@ -20,7 +20,7 @@ use streams::{MAX_PIECE, PeerSource, Sink, StreamFault};
 ///
 /// It reads only while the session goes on and nothing is due any more: what the bytes so far make due was put out by then, all of it.
 ///
-/// I1 where the source fails; I2 where the sink does, with a beginning of what is due written; I3 for want of memory or where no ordinal is
+/// I1 if the source fails; I2 if the sink does, with a beginning of what is due written; I3 for want of memory or if no ordinal is
 /// left. The session is given up then too. What was written is of work that was done: an answer to a commit only where the commit stands.
 pub fn serve_one<E: Engine, G: Gate, I: PeerSource, O: Sink>(
     alloc: Global,
@@ -46,7 +46,7 @@ pub fn serve_one<E: Engine, G: Gate, I: PeerSource, O: Sink>(
     // Of any session that lived: it lives no more, the others are as before, and the ledger has at most grown.
     ensures leaves { (r : Rest G) → Fits E.entries server.old r → IsSome (find conn r.sessions)
         → LeavesOthers r conn (Fits E.entries server.new) }
-    // A stream is told to have failed only where it has.
+    // A stream is told to have failed only if it has.
     ensures failed { IfErr result
         (λ e. IsDueTo e (I.has_failed source.new) (O.has_failed sink.new)) }
 {

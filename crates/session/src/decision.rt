@@ -86,7 +86,7 @@ impl Session {
             && (!is_used_up(count, self.result.written) && self.result.rows.count != 0)
     }
 
-    /// What the first request is answered, where it is owed no row and runs no query.
+    /// What the first request is answered, if it is owed no row and runs no query.
     pub(crate) fn decide<'a, E: Engine, G: Gate>(
         &self,
         conn: u64,
@@ -206,7 +206,7 @@ impl Session {
     }
 }
 
-/// A copy of the token of a RUN, where it has one.
+/// A copy of the token of a RUN, if it has one.
 pub(crate) fn token_of(request: &Request) -> Result<Option<String>, AllocError>
     ensures { IfOk result (λ t. token_view t ≡ token_of_run (request_view request.now)) }
 {

@@ -98,7 +98,7 @@ impl Session {
         self.answer_next(conn, engine, gate)
     }
 
-    /// Answers the first request, where no RESET interrupts and no row is owed to it.
+    /// Answers the first request, if no RESET interrupts and no row is owed to it.
     #[inline(never)]
     fn answer_next<E: Engine, G: Gate>(
         &mut self,
@@ -138,7 +138,7 @@ impl Session {
         self.queue.has_reset() && is_interruptible(self.state)
     }
 
-    /// Writes the row that is due, or the FAILURE where it can't be written.
+    /// Writes the row that is due, or the FAILURE if it can't be written.
     fn send<E: Engine>(
         &mut self,
         conn: u64,
@@ -178,7 +178,7 @@ impl Session {
         true
     }
 
-    /// Writes the row that is due by way of its text, or the FAILURE where it can't be written.
+    /// Writes the row that is due by way of its text, or the FAILURE if it can't be written.
     #[inline(never)]
     fn send_spelled<E: Engine>(
         &mut self,

@@ -24,7 +24,7 @@ pub(crate) enum Summary<'a> {
     Greeting(Agent<'a>, u64),
     /// Of a PULL or DISCARD after which rows are left.
     RowsLeft,
-    /// Of the last PULL or DISCARD of a result, with the place of its entry in the ledger, from 1, where it commits, and the result's
+    /// Of the last PULL or DISCARD of a result, with the place of its entry in the ledger, from 1, if it commits, and the result's
     /// mode.
     Closing(Option<u64>, Mode),
     /// Of a COMMIT, with the place of its entry.
@@ -37,7 +37,7 @@ pub(crate) enum Summary<'a> {
 }
 
 impl<'a> Summary<'a> {
-    /// The text of the response, where it is always the same.
+    /// The text of the response, if it is always the same.
     #[tactic(auto, unfolding(packstream::specs::Canon::head, packstream::specs::Canon::int_bytes))]
     pub(crate) fn ready(self) -> Option<&'static [u8]>
         ensures text { IfSome result (λ b. b.now ≡ canon (form_of (summary_of self.entry))) }
@@ -54,7 +54,7 @@ impl<'a> Summary<'a> {
         }
     }
 
-    /// Adds the text of the response, where it tells a name, a number or a failure.
+    /// Adds the text of the response, if it tells a name, a number or a failure.
     pub(crate) fn put(self, out: &mut Adding) -> Result<(), AllocError>
         requires { is_ready self ≡ false }
         ensures before { out.new.before ≡ out.old.before }

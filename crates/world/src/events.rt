@@ -12,7 +12,7 @@ use engine::{Engine, FixedTable, Gate, OneUser};
 use std::alloc::{AllocError, Global};
 
 /// The world after one step for each event in order, over an empty `FixedTable` and the gate of `user` with `pass`. Events that V1
-/// to V3 refuse are left out, and no others; V4 where a step, or making the gate, finds no memory.
+/// to V3 refuse are left out, and no others; V4 if a step, or making the gate, finds no memory.
 pub fn replay(alloc: Global, events: &[Event]) -> Result<World<FixedTable, OneUser>, Refused>
     ensures ok { IfOk result (Replayed (map event_of events.now)) }
     ensures fault { IfErr result (λ e. e ≡ Refused.Memory) }

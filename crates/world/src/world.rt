@@ -48,7 +48,7 @@ impl<E: Engine, G: Gate> World<E, G> {
         }
     }
 
-    /// One event; or V1 to V3 where it can't be, or V4, and nothing has changed but that a `ToClient` may have taken bytes out.
+    /// One event; or V1 to V3 if it can't be, or V4, and nothing has changed but that a `ToClient` may have taken bytes out.
     pub fn step(&mut self, event: Event) -> Result<Seen, Refused>
         ensures { (gate : G) → Steps (setting_of E.answer G.welcomes gate) (event_of event)
             (seen_in result) (FitsWorld E.entries self.old gate)
@@ -84,7 +84,7 @@ impl<E: Engine, G: Gate> World<E, G> {
         self.links.len() as u64
     }
 
-    /// What is reported of a connection; None where no such was opened.
+    /// What is reported of a connection; None if no such was opened.
     pub(crate) fn connection(&self, conn: u64) -> Option<Connection<'_>>
         ensures { (gate : G) (brought : List EntryView) (w : WorldSeen)
             → Reached (setting_of E.answer G.welcomes gate) brought w
