@@ -128,18 +128,6 @@ Opens old None rows n new = (n ≡ 10) × (new ≡ old)
 Opens old (Some w) rows n new =
     (n ≡ 0 → Opened w rows new) × ((n ≡ 0 → ⊥) → (n ≡ 5) × (new ≡ old))
 
-<<<<<<< HEAD
--- `bolt_lost`: the outcome of each request that waited, if there is room for 32; else nothing has changed
-pub record Loses (old : Held) (before : List Loss) (count result : ℕ) (after : List Loss)
-    (told : ℕ) (new : Held) : Type 0 where
-  pub short : length before < max_waiting
-      → (result ≡ 11) × (after ≡ before) × (told ≡ count) × (new ≡ old)
-  pub done : max_waiting ≤ length before → (result ≡ 0) × (new.last ≡ old.last)
-  pub tells : max_waiting ≤ length before
-      → (rest_of new.client ≡ after_drop (rest_of old.client))
-      × (told ≡ length (losses (rest_of old.client).knows))
-      × (after ≡ map loss_of (losses (rest_of old.client).knows) ++ drop told before)
-=======
 -- `bolt_ask` of the bytes of a message: its code, and what it fills in, are those of the driver's answer
 abbrev pub Asking : List ℕ → ℕ → Told → Told → Held → Held → Type 0
 Asking bytes n before after old new =
@@ -214,7 +202,6 @@ Settling n old new =
     (n ≡ (if is_idle (held_rest old).knows then 0 else 1))
     × (held_rest new ≡ held_rest old)
     × (held_account new ≡ (if is_idle (held_rest old).knows then settled (held_account old) else held_account old))
->>>>>>> 557e7e72c500ab7c44d00884a3e1d673468c3d8b
 
 -- a truth as a number
 abbrev pub flag : Bool → ℕ

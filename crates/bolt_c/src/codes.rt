@@ -40,37 +40,6 @@ pub struct Asked {
     pub place: u64,
 }
 
-<<<<<<< HEAD
-/// What a call of `bolt_feed` used, and what ended with it.
-#[repr(C)]
-#[derive(Drop)]
-pub struct Heard {
-    /// How many bytes of the piece were used.
-    pub used: usize,
-    /// Of a summary, the ordinal of its request, from 0.
-    pub ordinal: u64,
-    /// 0 for nothing, 1 for the version, 2 for a row, 3 for a summary.
-    pub kind: u32,
-    /// Of the version, 44, 50 or 51, or 0 if none was taken.
-    pub version: u32,
-    /// Of a summary, what became of its request, 0 to 3.
-    pub outcome: u32,
-    /// Of a summary, the phase that it leads to, 0 to 7.
-    pub phase: u32,
-}
-
-/// A request that waited when the client was lost.
-#[repr(C)]
-#[derive(Clone, Copy, Drop)]
-pub struct Loss {
-    /// Its ordinal, from 0.
-    pub ordinal: u64,
-    /// 4 if it is lost, 5 where it may have committed.
-    pub outcome: u64,
-}
-
-=======
->>>>>>> 557e7e72c500ab7c44d00884a3e1d673468c3d8b
 /// Where a client stands.
 #[repr(C)]
 #[derive(Drop)]

@@ -79,65 +79,7 @@ pub extern "C" fn bolt_ask(
 
 /// The bytes that aren't sent go into the buffer, as many as there is room for; tells how many there are. They stay. Takes no memory.
 #[unsafe(no_mangle)]
-<<<<<<< HEAD
-pub extern "C" fn bolt_take(
-    alloc: Global,
-    handle: &mut Handle,
-    into: &mut [u8],
-    taken: &mut usize,
-) -> u32
-    ensures { OnHeld handle.old.held handle.new.held
-        ((result ≡ 100) × (into.new ≡ into.old) × (taken.new ≡ taken.old))
-        (Taking into.old result into.new taken.old taken.new) }
-{
-    let Some(mut held) = handle.take(alloc) else {
-        return NO_CLIENT;
-    };
-    let answer = held.take(into);
-    handle.put(alloc, held);
-    match answer {
-        Ok(count) => {
-            *taken = count;
-            OK
-        }
-        Err(fault) => fault_code(fault),
-    }
-}
-
-/// Uses bytes of the server to the end of the item begun, and tells what ended with the last of them. Answers 4 if the client has ended,
-/// 6 at a bad answer, 5 for want of memory: nothing was used then.
-#[unsafe(no_mangle)]
-pub extern "C" fn bolt_feed(
-    alloc: Global,
-    handle: &mut Handle,
-    piece: &[u8],
-    heard: &mut Heard,
-) -> u32
-    ensures { OnHeld handle.old.held handle.new.held
-        ((result ≡ 100) × (heard.new ≡ heard.old))
-        (Feeding piece.now result heard.old heard.new) }
-{
-    let Some(mut held) = handle.take(alloc) else {
-        return NO_CLIENT;
-    };
-    let answer = held.feed(piece);
-    handle.put(alloc, held);
-    match answer {
-        Ok((used, event)) => {
-            *heard = as_heard(used, event);
-            OK
-        }
-        Err(fault) => fault_code(fault),
-    }
-}
-
-/// The bytes of the row or summary that was heard last go into the buffer, as many as there is room for; tells how many there are. Answers 9
-/// if none was heard, 7 if it can't be written, 5 for want of memory: nothing has changed then.
-#[unsafe(no_mangle)]
-pub extern "C" fn bolt_message(
-=======
 pub extern "C" fn bolt_unsent(
->>>>>>> 557e7e72c500ab7c44d00884a3e1d673468c3d8b
     alloc: Global,
     handle: &mut Handle,
     into: &mut [u8],
@@ -239,12 +181,7 @@ pub extern "C" fn bolt_response(
     }
 }
 
-<<<<<<< HEAD
-/// No byte comes any more: the client has ended, and the outcome of each request that waited goes into the buffer, in order.
-/// If that hasn't room for 32, it answers 11, and nothing has changed.
-=======
 /// Tells how many rows are held of a request, and how many came behind them that aren't kept. Takes no memory.
->>>>>>> 557e7e72c500ab7c44d00884a3e1d673468c3d8b
 #[unsafe(no_mangle)]
 pub extern "C" fn bolt_rows(
     alloc: Global,

@@ -118,12 +118,6 @@ impl Held {
         (used, None)
     }
 
-<<<<<<< HEAD
-    /// The bytes of the row or summary that was heard last go into the buffer, as many as there is room for; how many there are.
-    /// If none was heard, or memory ran out, nothing has changed.
-    pub(crate) fn message(&self, alloc: Global, into: &mut [u8]) -> Result<usize, MessageFault>
-        ensures { Tells (message_of (held_rest self.now).knows.version (last_of self.now))
-=======
     /// The bytes of a request's summary go into the buffer, as many as there is room for; how many there are.
     /// If none has come, or memory ran out, nothing has changed.
     pub(crate) fn response(
@@ -164,7 +158,6 @@ impl Held {
     ) -> Result<usize, MessageFault>
         ensures { Tells (message_of (held_rest self.now).knows.version (row_at
             (rows_of (held_rest self.now).knows.first (held_account self.now) ordinal) index))
->>>>>>> 557e7e72c500ab7c44d00884a3e1d673468c3d8b
             into.old result into.new }
     {
         tell(self.row_text(alloc, ordinal, index), into)

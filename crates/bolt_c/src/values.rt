@@ -74,7 +74,7 @@ fn number(wide: Width, bytes: &[u8]) -> Option<u64>
     })
 }
 
-/// The same in two's complement.
+/// A number of so many bytes in two's complement.
 fn signed(wide: Width, bytes: &[u8]) -> Option<i64>
     ensures some { IfSome result (λ n. (n ≡ twos_complement (width wide) (big_number (width wide) bytes.now))
         × (width wide ≤ length bytes.now)) }
