@@ -1,4 +1,4 @@
-"""A driver of Bolt 4.4, 5.0 and 5.1: the proved client of libbolt.so keeps the protocol, this package has the socket and the values.
+"""A driver of Bolt 4.4, 5.0 and 5.1: the proved driver of libbolt.so keeps the protocol and the account, this package has the socket and the values.
 
     with bolt.connect("127.0.0.1", 7687, auth=("user", "pass")) as connection:
         for record in connection.run("ROWS", n=3): print(record["i"])
