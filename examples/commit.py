@@ -28,6 +28,9 @@ def main(address: str, port: str, key: str) -> None:
     except bolt.Refused as refused:
         print(refused)
         requests = refused.requests
+    except bolt.NotSent as unsent:
+        print(unsent)
+        requests = []
     for request in requests:
         print(f"{request.text}: {request.outcome}")
 

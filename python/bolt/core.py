@@ -3,7 +3,6 @@ keeps the protocol and the account; `session` and `aio` have the sockets."""
 from __future__ import annotations
 
 import functools
-import socket
 import time
 import warnings
 from typing import Any, Callable, Generator, NoReturn, Optional, TypeVar
@@ -15,7 +14,6 @@ from .values import pack_structure
 from .versions import V5_1, VERSIONS
 
 PHASES = ("FRESH", "UNAUTH", "READY", "STREAMING", "TX_READY", "TX_STREAMING", "HALTED", "DEFUNCT")
-TIMEOUTS = TimeoutError, socket.timeout  # (one class from Python 3.10 on)
 Answer = TypeVar("Answer")
 # What a call does, step by step: behind each, what waits is to be sent, and a piece of the server's bytes to be heard.
 Steps = Generator[None, None, Answer]
@@ -276,4 +274,4 @@ def reason(failed: Optional[OSError]) -> str:
     """Why a connection is gone whose socket failed so, or came to its end where that is None."""
     if failed is None or isinstance(failed, ConnectionError):
         return GONE
-    return TIMED_OUT if isinstance(failed, TIMEOUTS) else FAILED
+    return TIMED_OUT if isinstance(failed, TimeoutError) else FAILED

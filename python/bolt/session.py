@@ -5,7 +5,7 @@ import socket
 import ssl
 from typing import Any, Optional, Union
 
-from .core import TIMEOUTS, Answer, Core, Steps, ends, extra
+from .core import Answer, Core, Steps, ends, extra
 from .errors import TIMED_OUT, Broken, NotSent, Request
 from .library import MESSAGE
 from .versions import NEWEST
@@ -20,7 +20,8 @@ def own(failed: OSError) -> OSError:
         frames = frames.tb_next
     if frames:
         raise failed
-    return failed.with_traceback(None)
+    # (a time out has a class of its own before Python 3.10)
+    return TimeoutError(*failed.args) if isinstance(failed, socket.timeout) else failed.with_traceback(None)
 
 
 class Session(Core):
@@ -97,7 +98,7 @@ class Session(Core):
         """The next bytes of the server, none where no more come. Once the call's time has passed, or a send took it up, what is there already is
         still heard, in one piece, and nothing else."""
         try:
-            left = 0 if isinstance(self._cut, TIMEOUTS) else self._left()
+            left = 0 if isinstance(self._cut, TimeoutError) else self._left()
             if left == 0 and self._is_late:
                 raise TimeoutError(TIMED_OUT)
             self._is_late = left == 0
