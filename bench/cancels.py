@@ -108,9 +108,9 @@ async def code_of(call):
     return 0
 
 
-def all_broken_off(port, name, versions, ways):
-    """Whether a work that is broken off at each of its places, by these ways, leaves a true account and a defined state; and how many places there are. A way
-    answers, of a number, what does the work: that answers whether it was broken off as it should, None if the work has no such place."""
+def all_broken_off(port, name, versions, ways, step=1):
+    """Whether a work that is broken off at each of its places, or at one of so many, by these ways, leaves a true account and a defined state; and how many these
+    are. A way answers, of a number, what does the work: that answers whether it was broken off as it should, None if the work has no such place."""
     wrong, keys = [], {}
     for version in versions:
         for work in WORKS:
@@ -123,7 +123,7 @@ def all_broken_off(port, name, versions, ways):
                         break
                     keys[key] = outcome
                     wrong += [] if is_defined and came else [f"{key} {outcome} {is_defined} {came}"]
-                    number += 1
+                    number += step
     with bolt.Session("127.0.0.1", port, breaks.USER) as connection:
         for key, outcome in keys.items():
             is_there = connection.run("GET", {"key": key}, write=False) == [[1]]
@@ -169,8 +169,8 @@ def interrupting(number):
 
 
 def interrupts(port):
-    """Interrupts at each line of the package that a work runs."""
-    return all_broken_off(port, "interrupted", (51,), (interrupting,))
+    """Interrupts at each third line of the package that a work runs."""
+    return all_broken_off(port, "interrupted", (51,), (interrupting,), 3)
 
 
 def connecting(port):

@@ -7,7 +7,7 @@ import weakref
 from typing import Any, Optional
 
 from .errors import LOST, OUTCOMES, UNKNOWN, NotSent
-from .values import unpack_message
+from .values import unpack, unpack_message
 
 OK, NOT_ALLOWED, FULL, CLOSED, MEMORY, BAD_PEER, NO_CLIENT = 0, 1, 2, 4, 5, 6, 100
 WAITS, MESSAGE, PIPELINE, ALL = 6, 65536, 32, (1 << 63) - 1
@@ -26,7 +26,8 @@ class Standing(ctypes.Structure):
 
 
 def library(path: str) -> Any:
-    made = ctypes.CDLL(path)
+    # (a call holds the interpreter's lock, so that a handle is given to one call at a time, whatever threads ask for outcomes)
+    made = ctypes.PyDLL(path)
     code, number, count, text = ctypes.c_uint32, ctypes.c_uint64, ctypes.c_size_t, ctypes.c_char_p
     to = ctypes.POINTER
     calls: tuple[tuple[Any, ...], ...] = (
@@ -108,7 +109,8 @@ class Client:
         for index in range(held.value):
             if code := row(handle, ordinal, index, buffer, MESSAGE, length):
                 raise NotSent(code)
-            rows.append(unpack_message(text[:length.value].tobytes())[1][0])
+            # (behind the two bytes of a row stands the list of its cells)
+            rows.append(unpack(text[2:length.value].tobytes()))
         if rows:
             check(LIBRARY.bolt_drop_rows(handle, ordinal))
         return rows
