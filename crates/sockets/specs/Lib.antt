@@ -1,0 +1,4 @@
+pub mod Failures
+pub mod Printing
+pub mod Reasons
+pub mod Serving
