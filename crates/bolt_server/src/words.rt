@@ -75,9 +75,24 @@ fn command(alloc: Global) -> Result<Command<'static>, AllocError> {
         .arg(user)?
         .arg(file)?
         .arg(sessions)?
-        .arg(seconds(alloc, "silence", "60", "How long a client may send and take nothing"))?
-        .arg(seconds(alloc, "arrival", "10", "How long a client may take to log on"))?
-        .arg(seconds(alloc, "last", "1", "How long what a client still sends is read after its end"))
+        .arg(seconds(
+            alloc,
+            "silence",
+            "60",
+            "How long a client may send and take nothing",
+        ))?
+        .arg(seconds(
+            alloc,
+            "arrival",
+            "10",
+            "How long a client may take to log on",
+        ))?
+        .arg(seconds(
+            alloc,
+            "last",
+            "1",
+            "How long what a client still sends is read after its end",
+        ))
 }
 
 /// The number that an argument was given, or its default.

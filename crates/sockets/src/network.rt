@@ -161,7 +161,10 @@ impl<'a, R: Net + Clock + Drop> Peers for Network<'a, R> {
             return Err(Failed);
         }
         let most = if self.is_to_greet() { 0 } else { most };
-        match self.poll.poll(&mut self.events, Some(Duration::from_millis(most))) {
+        match self
+            .poll
+            .poll(&mut self.events, Some(Duration::from_millis(most)))
+        {
             Ok(()) => Ok(()),
             Err(error) => {
                 self.error = Some(error);

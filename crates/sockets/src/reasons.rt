@@ -47,12 +47,7 @@ fn fault_of(reason: Reason) -> StreamFault
 }
 
 /// What is said beside the fault, where the system has said why.
-fn words_of(
-    alloc: Global,
-    host: &str,
-    port: u16,
-    reason: Reason,
-) -> Result<String, AllocError>
+fn words_of(alloc: Global, host: &str, port: u16, reason: Reason) -> Result<String, AllocError>
     ensures { IfOk result (λ words. IsSaidOf host.now port reason (string_bytes words)) }
 {
     match reason {
@@ -73,13 +68,7 @@ fn words_of(
 
 /// Says why a server at this port of the host ends: its fault on a line, `fault I1` and the like, and on the next the system's reason, where
 /// there is one and memory for it. It answers the exit status: 3 for want of memory, else 1.
-pub fn put_reason<W: Sink>(
-    alloc: Global,
-    host: &str,
-    port: u16,
-    reason: Reason,
-    err: &mut W,
-) -> u8
+pub fn put_reason<W: Sink>(alloc: Global, host: &str, port: u16, reason: Reason, err: &mut W) -> u8
     ensures status { result ≡ stop_status (StopReason.Broken (fault_of reason)) }
     ensures text { (text : List ℕ) × IsTold host.now port reason text
         × Gets (W.has_failed err.old) (W.has_failed err.new) (W.taken err.old) (W.taken err.new) text }
