@@ -137,7 +137,7 @@ pub record ReadsOn (r : Rest) (left left_now : Option (List ℕ)) (before after 
   pub needed : IsNeeded r (fed ++ unheard)
   pub whole : (unheard ≡ []) ⊎ ((hears_all r fed).knows.over ≡ true)
 
--- The same to the end of the input or of what is waited for, or to a fault; where memory ran out, some of the last piece wasn't fed.
+-- Bytes were read and fed to the end of the input or of what is waited for, or to a fault; if memory ran out, some of the last piece wasn't fed.
 pub record ReadsAll (r : Rest) (left left_now : Option (List ℕ)) (before after : List Note)
     (Now : Rest → Type 0) (fault : Option StreamFault) : Type 0 where
   pub fed : List ℕ

@@ -12,7 +12,7 @@ ghost use Rattle.streams.specs.Limits.{max_piece};
 
 use client::{Client, ClientFault, Heard, Losses};
 use std::alloc::Global;
-use streams::{MAX_PIECE, Peer, Sink, StreamFault, write_all};
+use streams::{MAX_PIECE, PeerSource, Sink, StreamFault, write_all};
 
 /// What came of asking.
 #[derive(Drop)]
@@ -78,7 +78,7 @@ pub fn feed_piece(
 /// Reads a piece of at most 4,096 bytes and feeds it whole, or up to the client's end, and adds what was told. It answers whether there
 /// was a piece: none is the end of the input. I1 where the source fails, and nothing has changed; I3 where memory runs out: then some of it was fed.
 /// The sink is that of what the client puts out.
-pub fn hear_piece<I: Peer, O: Sink>(
+pub fn hear_piece<I: PeerSource, O: Sink>(
     client: &mut Client,
     source: &mut I,
     sink: &O,
@@ -100,8 +100,8 @@ pub fn hear_piece<I: Peer, O: Sink>(
     hear_into(client, source, sink, heard, &mut buffer)
 }
 
-/// The same, by a buffer for the piece.
-fn hear_into<I: Peer, O: Sink>(
+/// The loop of `hear_piece`, over its buffer.
+fn hear_into<I: PeerSource, O: Sink>(
     client: &mut Client,
     source: &mut I,
     sink: &O,
@@ -134,7 +134,7 @@ fn hear_into<I: Peer, O: Sink>(
 }
 
 /// Reads and feeds as long as an answer is still to come, to the end of the input. I1 or I3.
-fn read_on<I: Peer, O: Sink>(
+fn read_on<I: PeerSource, O: Sink>(
     client: &mut Client,
     source: &mut I,
     sink: &O,
@@ -196,7 +196,7 @@ pub fn give_up(client: &mut Client) -> Losses
 }
 
 /// Writes all that the client puts out, and then reads and feeds what it waits for.
-fn converse<I: Peer, O: Sink>(
+fn converse<I: PeerSource, O: Sink>(
     client: &mut Client,
     source: &mut I,
     sink: &mut O,
@@ -226,7 +226,7 @@ fn converse<I: Peer, O: Sink>(
 /// What is told is what the client makes of the bytes that were fed, however they were cut. I1 where the source fails,
 /// I2 where the sink does: what was written is then a beginning of the output; I3 for want of memory. With each of them the
 /// client is lost too, unless all was answered.
-pub fn ask_all<I: Peer, O: Sink>(
+pub fn ask_all<I: PeerSource, O: Sink>(
     alloc: Global,
     client: &mut Client,
     source: &mut I,

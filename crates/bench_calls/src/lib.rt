@@ -106,7 +106,7 @@ pub extern "C" fn bench_client_alone(
     client_alone(alloc, Pipeline::of(kind, size), recording, Watch::of(watch)).unwrap_or(0)
 }
 
-/// The same through the driver, which keeps what is told until each exchange is over; then it is counted and forgotten.
+/// A client alone, through the driver, which keeps what is told until each exchange is over; then it is counted and forgotten.
 #[unsafe(no_mangle)]
 pub extern "C" fn bench_driver_alone(
     alloc: Global,

@@ -180,7 +180,7 @@ pub(crate) fn client_alone(
     alone(alloc, &mut link, pipeline, recording, watch)
 }
 
-/// The same through the driver.
+/// A client alone, through the driver. Answers what `client_alone` does.
 pub(crate) fn driver_alone(
     alloc: Global,
     pipeline: Pipeline,

@@ -12,7 +12,7 @@ pub extern "C" fn bench_table_puts(alloc: Global, keys: u32, puts: u32) -> u64 {
     length_after(alloc, keys, puts, Tokens::Without)
 }
 
-/// The same, each commit under a token of its own.
+/// As `bench_table_puts`, each commit under a token of its own.
 #[unsafe(no_mangle)]
 pub extern "C" fn bench_table_tokens(alloc: Global, keys: u32, puts: u32) -> u64 {
     length_after(alloc, keys, puts, Tokens::OfTheirOwn)

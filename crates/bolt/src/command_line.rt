@@ -30,8 +30,8 @@ pub(crate) fn words_of<R: Env + AllocGlobal>(rt: &R) -> Result<Vec<String>, Unre
     Ok(words)
 }
 
-/// Says why there are no words, behind a word that can't be read the help, and answers the exit status. The texts are fixed, so that it
-/// takes no memory.
+/// Says why there are no words, behind a word that can't be read the help, and answers the exit status. Its texts are fixed.
+/// Takes no memory.
 pub(crate) fn refuse<E: Sink>(unread: Unread, err: &mut E) -> u8
     ensures status { result ≡ unread_status unread }
     ensures text { Gets (E.has_failed err.old) (E.has_failed err.new) (E.taken err.old)

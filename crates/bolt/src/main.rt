@@ -1,4 +1,4 @@
-//! The program `bolt`: what a server answers to the bytes that a client sends.
+//! The program `bolt`: its commands over sockets stand here, the others in `commands`.
 #![tactic(auto)]
 
 mod command_line;

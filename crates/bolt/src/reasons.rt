@@ -22,7 +22,7 @@ pub(crate) fn put_unread<E: Sink>(alloc: Global, file: &str, error: &io::Error, 
     status
 }
 
-/// The same of a connection, by its host and port.
+/// Says why a host and port can't be reached, as `put_unread` does of a file.
 pub(crate) fn put_unreached<E: Sink>(
     alloc: Global,
     host: &str,
@@ -46,7 +46,7 @@ pub(crate) fn put_failed<S, E: Sink>(alloc: Global, what: &str, stream: &Over<S>
     }
 }
 
-/// The same of the server's stream. Where it let a read or a write wait for too long, what it didn't do for that long is the reason.
+/// Says why the server's stream failed, as `put_failed` does. If a read or a write timed out, the reason is what the server didn't do for that long.
 pub(crate) fn put_lost<S, E: Sink>(alloc: Global, silence: &str, stream: &Over<S>, err: &mut E) {
     let Some(error) = stream.error() else {
         return;

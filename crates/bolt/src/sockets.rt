@@ -42,7 +42,7 @@ pub(crate) fn shell_at(rt: &HostRuntime, host: &str, port: u16) -> u8 {
     talk(rt.alloc(), &stream, rt.stdin(), rt.stdout(), err)
 }
 
-/// The same over a connection.
+/// A client at a shell, over a connection.
 fn talk<I: Read + Drop, O: Write + Drop, E: Sink + Drop>(
     alloc: Global,
     stream: &TcpStream,
@@ -86,7 +86,7 @@ pub(crate) fn serve_on(rt: &HostRuntime, port: u16, count: u32) -> u8 {
     }
 }
 
-/// The same of a listener: I1 where it gives no connection, I2 where standard output fails.
+/// Serves so many connections of a listener: I1 if it gives none, I2 if standard output fails.
 fn serve_count<O: Sink>(
     alloc: Global,
     listener: &TcpListener,
@@ -168,7 +168,7 @@ pub(crate) fn loop_through(rt: &HostRuntime, file: &str) -> u8 {
     loop_lines(rt, script.as_slice(), out, &mut err)
 }
 
-/// The same of the lines themselves.
+/// Runs request lines with both ends in this process.
 fn loop_lines<O: Sink + Drop, E: Sink>(rt: &HostRuntime, script: &[u8], out: O, err: &mut E) -> u8
     // 0 is only for lines that can all be read.
     ensures readable { result ≡ 0 → unreadable request_line_of (filled_lines script.now) ≡ None }

@@ -177,7 +177,7 @@ fn check_walk(
     Err((Reason::PathShape, seen))
 }
 
-/// The same of a list of these cells.
+/// Looks at each cell of a list, as `check_cell` does of one.
 #[cycle(judge)]
 pub fn check_cells(
     version: Version,
@@ -194,7 +194,7 @@ pub fn check_cells(
     Ok(number)
 }
 
-/// The same of a dictionary of these entries.
+/// Looks at the cell of each entry of a dictionary, as `check_cell` does of one.
 #[cycle(judge)]
 pub fn check_entries(
     version: Version,

@@ -31,7 +31,8 @@ use std::alloc::Global;
 use std::collections::VecDeque;
 use wire::{Version, Wish, offer};
 
-/// All of a piece was used, and nothing ended with it. A call of its own writes the answer once, where the caller reads it.
+/// All of a piece was used, and nothing ended with it. It isn't inlined, so that the answer is written once, where the caller reads it:
+/// put together in bytes and read back in words it would stall the processor.
 #[inline(never)]
 fn used_up(used: usize) -> Result<(usize, Heard), ClientFault>
     ensures { result ≡ Ok (used, Heard.Nothing) }
@@ -108,14 +109,14 @@ impl Client {
         Ok(bytes)
     }
 
-    /// The bytes that aren't taken out, after the client's end too: lent, so that a stream can write them. It takes no memory.
+    /// The bytes that aren't taken out, after the client's end too: lent, so that a stream can write them. Takes no memory.
     pub fn unsent(&self) -> &[u8]
         ensures { result.now ≡ (rest_of self.now).unsent }
     {
         self.out.as_slice()
     }
 
-    /// Takes out the next bytes, the smaller of `count` and what waits, as `take_out` does, for who wrote them from `unsent`. It takes no memory.
+    /// Takes out the next bytes, the smaller of `count` and what waits, as `take_out` does, for who wrote them from `unsent`. Takes no memory.
     pub fn sent(&mut self, count: usize)
         ensures { rest_of self.new ≡ taken_out (rest_of self.old) count }
     {
@@ -184,7 +185,7 @@ impl Client {
     }
 
     /// What was read of the message that isn't whole: its data, or a fault that each continuation of them has. The point that it
-    /// holds is where it stands. It takes no memory.
+    /// holds is where it stands. Takes no memory.
     pub fn reader(&self) -> &Reader
         ensures data { Reads result.now.here (data_of (rest_of self.now).item) }
         ensures held { result.now.held ≡ result.now.here }
@@ -192,7 +193,7 @@ impl Client {
         self.stream.inbox.reader()
     }
 
-    /// The client is lost: no byte comes any more, and the outcome of each request that waited is known. It takes no memory.
+    /// The client is lost: no byte comes any more, and the outcome of each request that waited is known. Takes no memory.
     pub fn lost(&mut self) -> Losses
         ensures { (result ≡ losses (rest_of self.old).knows)
             × (rest_of self.new ≡ after_drop (rest_of self.old)) }
@@ -200,21 +201,21 @@ impl Client {
         self.pipeline.lose()
     }
 
-    /// The version that the server took, none before its answer. It takes no memory.
+    /// The version that the server took, none before its answer. Takes no memory.
     pub fn version(&self) -> Option<Version>
         ensures { result ≡ (rest_of self.now).knows.version }
     {
         self.pipeline.version
     }
 
-    /// The phase that the last summary told, Fresh before one. It takes no memory.
+    /// The phase that the last summary told, Fresh before one. Takes no memory.
     pub fn phase(&self) -> Phase
         ensures { result ≡ (rest_of self.now).knows.phase }
     {
         self.pipeline.phase
     }
 
-    /// How many requests wait, none after `lost`. It takes no memory.
+    /// How many requests wait, none after `lost`. Takes no memory.
     pub fn pending(&self) -> usize
         ensures count { result ≡ length (rest_of self.now).knows.waiting }
         ensures few { result ≤ max_waiting }
@@ -222,14 +223,14 @@ impl Client {
         self.pipeline.waiting.len()
     }
 
-    /// The ordinal of the first request that waits; where none does, that of the next. It takes no memory.
+    /// The ordinal of the first request that waits; where none does, that of the next. Takes no memory.
     pub fn first_waiting(&self) -> u64
         ensures { result ≡ (rest_of self.now).knows.first }
     {
         self.pipeline.first
     }
 
-    /// Whether the client has ended: by itself, by a bad answer, or because it was lost. It takes no memory.
+    /// Whether the client has ended: by itself, by a bad answer, or because it was lost. Takes no memory.
     pub fn has_ended(&self) -> bool
         ensures { result ≡ (rest_of self.now).knows.over }
     {
@@ -237,7 +238,7 @@ impl Client {
     }
 
     /// Whether an answer is still to come: the version, or the summary of a request that isn't GOODBYE, which has none. None comes
-    /// after the client's end. It takes no memory.
+    /// after the client's end. Takes no memory.
     pub fn awaits(&self) -> bool
         ensures { result ≡ awaits (rest_of self.now).knows }
     {

@@ -26,7 +26,7 @@ impl Model for Losses {
 }
 
 impl Losses {
-    /// Of no request. It takes no memory.
+    /// Of no request. Takes no memory.
     pub fn new() -> Losses
         ensures { result ≡ [] }
     {

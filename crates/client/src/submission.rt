@@ -41,7 +41,7 @@ impl Pipeline {
         allowed(version, self.follow(version), kind(request))
     }
 
-    /// The version at which a request may be sent; else C4, C1 or C2, the first that holds. It takes no memory.
+    /// The version at which a request may be sent; else C4, C1 or C2, the first that holds. Takes no memory.
     pub fn admit(&mut self, request: &Request) -> Result<Version, SubmitFault>
         ensures ok { IfOk result
             (λ v. (self.old.version ≡ Some v)
@@ -81,7 +81,7 @@ impl Pipeline {
         false
     }
 
-    /// Whether an answer is still to come. It takes no memory.
+    /// Whether an answer is still to come. Takes no memory.
     pub fn awaits(&self) -> bool
         ensures { result ≡ awaits (knowledge_of self.now) }
     {

@@ -76,7 +76,7 @@ fn is_digit(byte: u8) -> bool
     matches!(byte, b'0'..=b'9' | b'A'..=b'F' | b'a'..=b'f')
 }
 
-/// The same of bytes: a server over an empty table, with one user.
+/// What a server over an empty table, with one user, answers to these bytes.
 fn answer_bytes(alloc: Global, bytes: &[u8]) -> Result<Responded, AllocError>
     ensures { IfOk result (λ a. Answers bytes.now a.out.items a.last) }
 {

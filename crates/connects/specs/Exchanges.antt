@@ -68,7 +68,7 @@ pub record Converses (from to : Place) (result : Result (Unit {0}) Break) : Type
   pub reads : ReadsOn (emptied_stand from.stand) to.stand from.left to.left result
   pub ends : Ends result to.stand to.left
 
--- The same; and where it broke off, the client is lost.
+-- An exchange as `Converses` has it, after which the client is lost if it broke off.
 pub record Exchanges (from to : Place) (result : Result (Unit {0}) Break) : Type 0 where
   pub answered : Stand
   pub converses : Converses from (place answered to.left to.written) result

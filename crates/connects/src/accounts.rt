@@ -26,14 +26,14 @@ fn named<'a>(entries: &'a [(String, Cell)], name: &str) -> Option<&'a Cell>
 }
 
 impl<S: Source + Drop, T: Sink + Drop> Connection<S, T> {
-    /// What became of a request; none where it wasn't asked since the last call began. It takes no memory.
+    /// What became of a request; none where it wasn't asked since the last call began. Takes no memory.
     pub fn outcome(&self, ordinal: u64) -> Option<Outcome>
         ensures { result ≡ outcome_of (account_of self.now.tracking) ordinal }
     {
         self.tracking.outcome(ordinal)
     }
 
-    /// The code and the message of its FAILURE, if it has one. It takes no memory.
+    /// The code and the message of its FAILURE, if it has one. Takes no memory.
     pub fn failure(&self, ordinal: u64) -> Option<(&str, &str)>
         ensures { option_map (λ f. (f.0.now, f.1.now)) result
             ≡ failure_of (account_of self.now.tracking) ordinal }
@@ -42,7 +42,7 @@ impl<S: Source + Drop, T: Sink + Drop> Connection<S, T> {
     }
 
     /// The value that its SUCCESS has under this name: of a RUN `fields`, of the request for its rows `has_more`, and `bookmark` where it
-    /// committed. It takes no memory.
+    /// committed. Takes no memory.
     pub fn metadata(&self, ordinal: u64, name: &str) -> Option<&Cell>
         ensures { option_map (λ c. shape c.now) result
             ≡ named name.now (metadata_in (response_of (account_of self.now.tracking) ordinal)) }
@@ -53,7 +53,7 @@ impl<S: Source + Drop, T: Sink + Drop> Connection<S, T> {
         }
     }
 
-    /// The rows that are held of a request for rows, the first that came, in order. It takes no memory.
+    /// The rows that are held of a request for rows, the first that came, in order. Takes no memory.
     pub fn rows(&self, ordinal: u64) -> &[Vec<Cell>]
         ensures { map row_view result.now
             ≡ rows_of (rest_in self.now.tracking).knows.first (account_of self.now.tracking) ordinal }
@@ -61,7 +61,7 @@ impl<S: Source + Drop, T: Sink + Drop> Connection<S, T> {
         self.tracking.rows(ordinal)
     }
 
-    /// Takes the rows that are held of a request for rows, in order. It takes no memory.
+    /// Takes the rows that are held of a request for rows, in order. Takes no memory.
     pub fn take_rows(&mut self, ordinal: u64) -> Vec<Vec<Cell>>
         ensures rows { map row_view result.items
             ≡ rows_of (rest_in self.old.tracking).knows.first (account_of self.old.tracking) ordinal }
@@ -73,7 +73,7 @@ impl<S: Source + Drop, T: Sink + Drop> Connection<S, T> {
         self.tracking.take_rows(ordinal)
     }
 
-    /// How many of its rows came behind those that were kept: each was read and dropped. It takes no memory.
+    /// How many of its rows came behind those that were kept: each was read and dropped. Takes no memory.
     pub fn rows_left(&self, ordinal: u64) -> u64
         ensures { result
             ≡ left_of (rest_in self.now.tracking).knows.first (account_of self.now.tracking) ordinal }
@@ -81,14 +81,14 @@ impl<S: Source + Drop, T: Sink + Drop> Connection<S, T> {
         self.tracking.rows_left(ordinal)
     }
 
-    /// The version that the server took, none before its answer. It takes no memory.
+    /// The version that the server took, none before its answer. Takes no memory.
     pub fn version(&self) -> Option<Version>
         ensures { result ≡ (rest_in self.now.tracking).knows.version }
     {
         self.tracking.version()
     }
 
-    /// Whether it has ended: then no request is accepted any more. It takes no memory.
+    /// Whether it has ended: then no request is accepted any more. Takes no memory.
     pub fn has_ended(&self) -> bool
         ensures { result ≡ (rest_in self.now.tracking).knows.over }
     {

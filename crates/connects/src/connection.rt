@@ -115,7 +115,7 @@ impl<S: Source + Drop, T: Sink + Drop> Connection<S, T> {
         )
     }
 
-    /// The same of one request.
+    /// Asks one request, as `ask` does. Answers its ordinal.
     fn ask_one(&mut self, request: Request) -> Result<u64, Fault>
         ensures says { Says
             (place (stand_of self.old.tracking) (S.left self.old.source) (T.taken self.old.sink))

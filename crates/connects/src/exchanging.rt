@@ -91,7 +91,7 @@ fn read_on<I: Source>(tracking: &mut TrackingClient, source: &mut I) -> Result<(
     Ok(())
 }
 
-/// Writes all that the client puts out. It takes no memory.
+/// Writes all that the client puts out. Takes no memory.
 fn write_out<O: Sink>(tracking: &mut TrackingClient, sink: &mut O) -> Result<(), Break>
     ensures out { PutsOut (stand_of tracking.old) (stand_of tracking.new) (O.taken sink.old)
         (O.taken sink.new) result }
@@ -111,7 +111,7 @@ fn write_out<O: Sink>(tracking: &mut TrackingClient, sink: &mut O) -> Result<(),
     Ok(())
 }
 
-/// The same, and the client isn't lost where it breaks off.
+/// As `exchange`, but the client isn't lost if it breaks off.
 fn converse<I: Source, O: Sink>(
     tracking: &mut TrackingClient,
     source: &mut I,

@@ -28,7 +28,7 @@ fn ask_each(tracking: &mut TrackingClient, requests: Vec<Request>) -> Result<(),
     Ok(())
 }
 
-/// The same of a request and those behind it. Answers the ordinal of the first.
+/// Asks a request and then those behind it, up to the first that isn't accepted. Answers the ordinal of the first.
 pub(crate) fn ask_all(
     tracking: &mut TrackingClient,
     first: Request,

@@ -88,7 +88,7 @@ pub(crate) fn greeting(
     Ok((Request::Hello { agent, auth: None }, others))
 }
 
-/// The same by a version, where one is known.
+/// Whether HELLO carries the login, by the version if one is known.
 pub(crate) fn is_login_in_hello(version: Option<Version>) -> bool
     ensures { result ≡ is_login_in_hello version }
 {

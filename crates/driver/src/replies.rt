@@ -74,7 +74,7 @@ fn failure_in(response: &Response) -> Option<(&str, &str)>
 }
 
 impl TrackingClient {
-    /// What became of a request, as soon as it is known; none while it waits. It takes no memory.
+    /// What became of a request, as soon as it is known; none while it waits. Takes no memory.
     pub fn outcome(&self, ordinal: u64) -> Option<Outcome>
         ensures { result ≡ outcome_of (account_of self.now) ordinal }
     {
@@ -84,7 +84,7 @@ impl TrackingClient {
         }
     }
 
-    /// Its summary, if it has come: the metadata, or the FAILURE's code and message. It takes no memory.
+    /// Its summary, if it has come: the metadata, or the FAILURE's code and message. Takes no memory.
     pub fn response(&self, ordinal: u64) -> Option<&Response>
         ensures { option_map (λ x. response_view x.now) result
             ≡ response_of (account_of self.now) ordinal }
@@ -93,7 +93,7 @@ impl TrackingClient {
         Some(&reply.response)
     }
 
-    /// The code and the message of its FAILURE, if that has come. It takes no memory.
+    /// The code and the message of its FAILURE, if that has come. Takes no memory.
     pub fn failure(&self, ordinal: u64) -> Option<(&str, &str)>
         ensures { option_map (λ f. (f.0.now, f.1.now)) result
             ≡ failure_of (account_of self.now) ordinal }
@@ -102,7 +102,7 @@ impl TrackingClient {
         failure_in(&reply.response)
     }
 
-    /// The rows that are held of a request, the first that came, in order; those so far, while it waits. It takes no memory.
+    /// The rows that are held of a request, the first that came, in order; those so far, while it waits. Takes no memory.
     pub fn rows(&self, ordinal: u64) -> &[Vec<Cell>]
         ensures { map row_view result.now
             ≡ rows_of (rest_in self.now).knows.first (account_of self.now) ordinal }
@@ -119,7 +119,7 @@ impl TrackingClient {
         }
     }
 
-    /// How many rows of a request came behind those that were kept: each was read and dropped. It takes no memory.
+    /// How many rows of a request came behind those that were kept: each was read and dropped. Takes no memory.
     pub fn rows_left(&self, ordinal: u64) -> u64
         ensures { result ≡ left_of (rest_in self.now).knows.first (account_of self.now) ordinal }
     {
@@ -135,7 +135,7 @@ impl TrackingClient {
         }
     }
 
-    /// Takes the rows that are held of a request, which may go on to come while it waits first. It takes no memory.
+    /// Takes the rows that are held of a request, which may go on to come while it waits first. Takes no memory.
     pub fn take_rows(&mut self, ordinal: u64) -> Vec<Vec<Cell>>
         ensures rows { map row_view result.items
             ≡ rows_of (rest_in self.old).knows.first (account_of self.old) ordinal }

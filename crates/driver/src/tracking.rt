@@ -220,7 +220,7 @@ impl TrackingClient {
         Ok(used)
     }
 
-    /// No byte comes any more: each request that waited has its outcome in the account. A second call changes nothing. It takes no memory.
+    /// No byte comes any more: each request that waited has its outcome in the account. A second call changes nothing. Takes no memory.
     pub fn lost(&mut self)
         ensures client { rest_in self.new ≡ after_drop (rest_in self.old) }
         ensures account { account_of self.new
@@ -233,7 +233,7 @@ impl TrackingClient {
         }
     }
 
-    /// Forgets what was told, where nothing waits; answers whether it did. It takes no memory.
+    /// Forgets what was told, where nothing waits; answers whether it did. Takes no memory.
     pub fn settle(&mut self) -> bool
         ensures settles { result ≡ is_idle (rest_in self.old).knows }
         ensures client { rest_in self.new ≡ rest_in self.old }
@@ -250,7 +250,7 @@ impl TrackingClient {
         true
     }
 
-    /// The bytes for the server that aren't taken out: lent, so that a stream can write them. It takes no memory.
+    /// The bytes for the server that aren't taken out: lent, so that a stream can write them. Takes no memory.
     pub fn unsent(&self) -> &[u8]
         ensures { result.now ≡ (rest_in self.now).unsent }
     {
@@ -258,7 +258,7 @@ impl TrackingClient {
     }
 
     /// Takes out the next bytes, the smaller of `count` and what waits, as `take_out` does, for who wrote them from `unsent`. The account stays.
-    /// It takes no memory.
+    /// Takes no memory.
     pub fn sent(&mut self, count: usize)
         ensures sent { rest_in self.new ≡ taken_out (rest_in self.old) count }
         ensures account { account_of self.new ≡ account_of self.old }
@@ -266,35 +266,35 @@ impl TrackingClient {
         self.client.sent(count)
     }
 
-    /// Whether bytes wait to be written to the server. It takes no memory.
+    /// Whether bytes wait to be written to the server. Takes no memory.
     pub fn wants_write(&self) -> bool
         ensures { result ≡ not (length (rest_in self.now).unsent == 0) }
     {
         !self.client.unsent().is_empty()
     }
 
-    /// Whether an answer is still to come, as `Client::awaits` says. It takes no memory.
+    /// Whether an answer is still to come, as `Client::awaits` says. Takes no memory.
     pub fn wants_read(&self) -> bool
         ensures { result ≡ awaits (rest_in self.now).knows }
     {
         self.client.awaits()
     }
 
-    /// The version that the server took, none before its answer. It takes no memory.
+    /// The version that the server took, none before its answer. Takes no memory.
     pub fn version(&self) -> Option<Version>
         ensures { result ≡ (rest_in self.now).knows.version }
     {
         self.client.version()
     }
 
-    /// The phase that the last summary told, Fresh before one. It takes no memory.
+    /// The phase that the last summary told, Fresh before one. Takes no memory.
     pub fn phase(&self) -> Phase
         ensures { result ≡ (rest_in self.now).knows.phase }
     {
         self.client.phase()
     }
 
-    /// How many requests wait, at most 32, and none after `lost`. It takes no memory.
+    /// How many requests wait, at most 32, and none after `lost`. Takes no memory.
     pub fn pending(&self) -> usize
         ensures count { result ≡ length (rest_in self.now).knows.waiting }
         ensures few { result ≤ max_waiting }
@@ -302,7 +302,7 @@ impl TrackingClient {
         self.client.pending()
     }
 
-    /// Whether the client has ended: by itself, by a bad answer, or because it was lost. It takes no memory.
+    /// Whether the client has ended: by itself, by a bad answer, or because it was lost. Takes no memory.
     pub fn has_ended(&self) -> bool
         ensures { result ≡ (rest_in self.now).knows.over }
     {

@@ -96,7 +96,7 @@ impl Places {
     }
 }
 
-/// The same of a token whose fingerprint another has. A place by its text wants a copy of it, so it is looked for first: where it is there, no memory is taken. Its
+/// As `find_or_keep`, of a token whose fingerprint another has. A place by its text wants a copy of it, so it is looked for first: if it is there, no memory is taken. Its
 /// place is given up again where the next entry finds none.
 #[tactic(auto, using(std::proofs::lemmas::Map::Text::text_keys))]
 fn find_or_keep_other(

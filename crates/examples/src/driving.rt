@@ -183,7 +183,7 @@ fn ask(rt: &HostRuntime, stream: &TcpStream) -> Result<Option<String>, Stopped> 
     }
 }
 
-/// The same over a connection to a port of this machine.
+/// Drives a client over a connection to a port of this machine.
 pub(crate) fn drive(rt: &HostRuntime, port: u16) -> io::Result<Option<String>> {
     let stream = TcpStream::connect(rt, ("127.0.0.1", port))?;
     match ask(rt, &stream) {

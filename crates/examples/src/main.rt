@@ -47,7 +47,7 @@ fn run(rt: &HostRuntime, words: &[String]) -> io::Result<Option<String>> {
     Ok(None)
 }
 
-/// The same of the words of the command line.
+/// Runs the program that the words of the command line name.
 fn run_words(rt: &HostRuntime) -> io::Result<Option<String>> {
     let words: Vec<String> = std::env::args(rt)?.collect(rt.alloc())?;
     run(rt, words.as_slice())

@@ -131,7 +131,7 @@ fn put_and_get(
     Ok(fate)
 }
 
-/// The same at a port. What it answers is why the transaction isn't known to stand, if it isn't.
+/// Puts a value and gets it, at a port. What it answers is why the transaction isn't known to stand, if it isn't.
 pub(crate) fn run(
     rt: &HostRuntime,
     port: u16,

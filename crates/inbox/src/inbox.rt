@@ -38,7 +38,7 @@ impl Inbox {
     ghost use Rattle.reader.specs.Piecewise.{Reads};
     ghost use Rattle.inbox.specs.Taking.{Takes, used_up, WantsRoom};
 
-    /// Before the first byte of the chunks. It takes no memory.
+    /// Before the first byte of the chunks. Takes no memory.
     pub fn new(alloc: Global) -> Inbox
         ensures { result ≡ fresh }
     {
@@ -130,7 +130,7 @@ impl Inbox {
     }
 
     /// What was read of the message that isn't whole: its data, or a fault that each continuation of them has. The point that it holds is
-    /// where it stands. It takes no memory.
+    /// where it stands. Takes no memory.
     pub fn reader(&self) -> &Reader
         ensures data { Reads result.now.here self.now.body }
         ensures held { result.now.held ≡ result.now.here }

@@ -85,7 +85,7 @@ impl<E: Engine + Drop, S: Alter + Drop> Lasting<E, S> {
         }
     }
 
-    /// How many entries the database is known to have. It takes no memory.
+    /// How many entries the database is known to have. Takes no memory.
     pub fn kept(&self) -> usize
         ensures count { result ≡ self.now.count }
         // The database has these entries.
@@ -94,14 +94,14 @@ impl<E: Engine + Drop, S: Alter + Drop> Lasting<E, S> {
         self.kept
     }
 
-    /// The number of this opening of the database, from 1: one more than the last that added an entry. It takes no memory.
+    /// The number of this opening of the database, from 1: one more than the last that added an entry. Takes no memory.
     pub fn opening(&self) -> i64
         ensures { result ≡ self.now.opening }
     {
         self.opening
     }
 
-    /// Whether the engine has stopped. It takes no memory.
+    /// Whether the engine has stopped. Takes no memory.
     pub fn is_stopped(&self) -> bool
         ensures value { result ≡ self.now.is_stopped }
         // Unless it has, whatever crash comes leaves the ledger that is shown.

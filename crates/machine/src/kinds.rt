@@ -1,3 +1,5 @@
+//! Kinds of requests.
+
 /// What a request asks for, without its fields.
 #[derive(Clone, Copy, Debug, PartialEq, Eq)]
 pub enum Kind {

@@ -1,3 +1,4 @@
+//! Sets of phases.
 ghost use Rattle.std.specs.Prelude.{◌≡◌, List, [], ◌∷◌};
 ghost use Rattle.machine.specs.Following.{has, union};
 

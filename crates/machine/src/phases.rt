@@ -1,3 +1,4 @@
+//! What a client can tell of a state: its phase.
 ghost use Rattle.std.specs.Prelude.{◌≡◌};
 ghost use Rattle.machine.specs.Following.{state_of};
 ghost use Rattle.machine.specs.States.{phase_of};

@@ -1,3 +1,4 @@
+//! What kind a request is.
 ghost use Rattle.std.specs.Prelude.{◌≡◌};
 ghost use Rattle.messages.specs.View.{request_view};
 ghost use Rattle.machine.specs.Asks.{kind_of, in_part, is_reset, is_goodbye};

@@ -1,3 +1,4 @@
+//! The rules for each request, as a table asks them.
 ghost use Rattle.std.specs.Prelude.{◌≡◌, Some, option_map, option_and_then};
 ghost use Rattle.machine.specs.Asks.{is_of};
 ghost use Rattle.machine.specs.Rows.{row_at, row_of, goal, Split};

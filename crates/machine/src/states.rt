@@ -1,3 +1,5 @@
+//! States of a session, and what a client can tell apart of them.
+
 /// Where a session of the server stands.
 #[derive(Clone, Copy, Debug, PartialEq, Eq)]
 pub enum State {

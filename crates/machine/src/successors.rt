@@ -1,3 +1,4 @@
+//! Which phases may follow a request, and which requests may be sent in them.
 ghost use Rattle.std.specs.Prelude.{◌≡◌, [], ◌∷◌, Option, Some, None};
 ghost use Rattle.messages.specs.View.{request_view};
 ghost use Rattle.machine.specs.Asks.{kind_of, in_part};

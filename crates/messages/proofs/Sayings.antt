@@ -108,7 +108,7 @@ asked v t s h e =
     let m = message_says v requests t s requests_laid e in
     row_each v (layout m.0) t s m.2 h (IsAsked v) (asks v m.0 (is_laid requests requests (layout m.0) requests_laid m.1).2)
 
--- The same of responses.
+-- A response holds it, and is so made.
 abbrev pub IsAnswered : Version → Contents → Type 0
 IsAnswered v s = (response_contents (response_held s) ≡ s) × IsResponse v (response_held s)
 

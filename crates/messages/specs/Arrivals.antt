@@ -265,7 +265,7 @@ SaysArrive = (v : Version) (xs : List Heard) (n : ℕ) → IsSpoken v xs
     → hears (take n (bytes_newest_first (heard_bytes v) xs))
     ≡ within_newest_first (heard_bytes v) n xs
 
--- The same of all that a server has said by a moment: nothing yet, or what begins with a version.
+-- All that a server has said by a moment: nothing yet, or what begins with a version.
 abbrev pub IsSaidSoFar : Version → List Heard → Type 0
 IsSaidSoFar v xs = (xs ≡ []) ⊎ IsSpoken v xs
 

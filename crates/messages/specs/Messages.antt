@@ -61,7 +61,7 @@ abbrev pub UnlessMemory : {A : Type 0} → Result A MsgFault → Type 0 → Type
 UnlessMemory (Ok x) p = p
 UnlessMemory (Err e) p = (e ≡ fault.Memory → ⊥) → p
 
--- The same as functions, for what stands above.
+-- These rules as functions, for the crates above.
 
 -- what bytes say by the table, from what the decoder tells of them
 abbrev pub contents_by : Version → List Row → Result Tree (Reason × ℕ) → Result Contents MsgFault

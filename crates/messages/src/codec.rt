@@ -56,7 +56,7 @@ pub fn read_request(alloc: Global, version: Version, bytes: &[u8]) -> Result<Req
     ensures fault { (e : AnyFault)
         → UnlessMemory result ((result ≡ Err e) ↔ NoRequest version e bytes.now) }
 
-    // The same as a function of the bytes.
+    // Both as a function of the bytes.
     ensures same { Answers request_view result (request_of version bytes.now) }
 {
     request_in(alloc, version, bytes)
@@ -73,7 +73,7 @@ pub fn read_response(alloc: Global, version: Version, bytes: &[u8]) -> Result<Re
     ensures fault { (e : AnyFault)
         → UnlessMemory result ((result ≡ Err e) ↔ NoResponse version e bytes.now) }
 
-    // The same as a function of the bytes.
+    // Both as a function of the bytes.
     ensures same { Answers response_view result (response_of version bytes.now) }
 {
     response_in(alloc, version, bytes)

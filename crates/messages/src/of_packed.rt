@@ -30,7 +30,7 @@ pub fn request_of(alloc: Global, version: Version, packed: &Packed) -> Result<Re
     ensures fault { (b : List ℕ) (e : AnyFault) → Spells packed.now b
         → UnlessMemory result ((result ≡ Err e) ↔ NoRequest version e b) }
 
-    // The same as a function of the bytes.
+    // Both as a function of the bytes.
     ensures same { (b : List ℕ) → Spells packed.now b
         → Answers request_view result (request_by version b) }
 {
@@ -52,7 +52,7 @@ pub fn response_of(alloc: Global, version: Version, packed: &Packed) -> Result<R
     ensures fault { (b : List ℕ) (e : AnyFault) → Spells packed.now b
         → UnlessMemory result ((result ≡ Err e) ↔ NoResponse version e b) }
 
-    // The same as a function of the bytes.
+    // Both as a function of the bytes.
     ensures same { (b : List ℕ) → Spells packed.now b
         → Answers response_view result (response_by version b) }
 {

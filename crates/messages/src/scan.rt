@@ -21,8 +21,8 @@ use crate::tags;
 use scanner::{Unscanned, scan_dict, scan_int, scan_list, scan_text};
 use std::alloc::Global;
 
-/// How deep a field may nest.
-const ROOM: u8 = 31;
+/// How deep a field may nest: the message itself is one level of the 32.
+const FIELD_DEPTH: u8 = 31;
 
 /// That nothing is left.
 fn end(rest: &[u8]) -> Result<(), Unscanned>
@@ -82,7 +82,7 @@ fn mode_of(bytes: &[u8]) -> Result<Mode, Unscanned>
 }
 
 /// A PULL behind its head.
-fn pull_of(bytes: &[u8]) -> Result<Request, Unscanned>
+fn scan_pull(bytes: &[u8]) -> Result<Request, Unscanned>
     ensures { (v : AnyVersion)
         → IfOk result (λ r. SpellsForm (form_put v (request_contents (request_view r)))
         (0xB1 ∷ pull_tag ∷ bytes.now)) }
@@ -115,13 +115,13 @@ fn begin_of(bytes: &[u8]) -> Result<Request, Unscanned>
 }
 
 /// A RUN behind its head.
-fn run_of(alloc: Global, bytes: &[u8]) -> Result<Request, Unscanned>
+fn scan_run(alloc: Global, bytes: &[u8]) -> Result<Request, Unscanned>
     ensures { (v : AnyVersion)
         → IfOk result (λ r. SpellsForm (form_put v (request_contents (request_view r)))
         (0xB3 ∷ run_tag ∷ bytes.now)) }
 {
     let (query, rest) = scan_text(bytes)?;
-    let (params, rest) = scan_dict(alloc, rest, ROOM)?;
+    let (params, rest) = scan_dict(alloc, rest, FIELD_DEPTH)?;
     let mode = mode_of(rest)?;
     let text = String::from_str(alloc, query)?;
     Ok(Request::Run {
@@ -138,7 +138,7 @@ fn success_of(alloc: Global, bytes: &[u8]) -> Result<Response, Unscanned>
         → IfOk result (λ r. SpellsForm (form_put v (response_contents (response_view r)))
         (0xB1 ∷ success_tag ∷ bytes.now)) }
 {
-    let (metadata, rest) = scan_dict(alloc, bytes, ROOM)?;
+    let (metadata, rest) = scan_dict(alloc, bytes, FIELD_DEPTH)?;
     end(rest)?;
     Ok(Response::Success(metadata))
 }
@@ -149,7 +149,7 @@ fn record_of(alloc: Global, bytes: &[u8]) -> Result<Response, Unscanned>
         → IfOk result (λ r. SpellsForm (form_put v (response_contents (response_view r)))
         (0xB1 ∷ record_tag ∷ bytes.now)) }
 {
-    let (row, rest) = scan_list(alloc, bytes, ROOM)?;
+    let (row, rest) = scan_list(alloc, bytes, FIELD_DEPTH)?;
     end(rest)?;
     Ok(Response::Record(row))
 }
@@ -170,13 +170,13 @@ fn plain_of(tag: u8) -> Result<Request, Unscanned>
     }
 }
 
-fn request_in(alloc: Global, bytes: &[u8]) -> Result<Request, Unscanned>
+fn scan_fields(alloc: Global, bytes: &[u8]) -> Result<Request, Unscanned>
     ensures { (v : AnyVersion)
         → IfOk result (λ r. SpellsForm (form_put v (request_contents (request_view r))) bytes.now) }
 {
     match bytes {
-        [0xB3, tags::RUN, rest @ ..] => run_of(alloc, rest),
-        [0xB1, tags::PULL, rest @ ..] => pull_of(rest),
+        [0xB3, tags::RUN, rest @ ..] => scan_run(alloc, rest),
+        [0xB1, tags::PULL, rest @ ..] => scan_pull(rest),
         [0xB1, tags::DISCARD, rest @ ..] => discard_of(rest),
         [0xB1, tags::BEGIN, rest @ ..] => begin_of(rest),
         [0xB0, tag] => plain_of(*tag),
@@ -199,7 +199,7 @@ fn response_in(alloc: Global, bytes: &[u8]) -> Result<Response, Unscanned>
 pub(crate) fn scan_request(alloc: Global, bytes: &[u8]) -> Result<Request, Unscanned>
     ensures { (v : AnyVersion) → IfOk result (λ r. Req v (request_view r) bytes.now) }
 {
-    request_in(alloc, bytes)
+    scan_fields(alloc, bytes)
 }
 
 /// The response that the bytes stand for at every version.

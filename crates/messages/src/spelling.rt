@@ -24,8 +24,8 @@ use packstream::MAX_SIZE;
 use speller::{Adding, Unspelled, put_dict, put_int, put_list, put_text};
 use structures::Cell;
 
-/// How deep a field may nest.
-const ROOM: u8 = 31;
+/// How deep a field may nest: the message itself is one level of the 32.
+const FIELD_DEPTH: u8 = 31;
 
 /// The head of a structure.
 fn put_structure(out: &mut Adding, count: u8, tag: u8) -> Result<(), Unspelled>
@@ -146,7 +146,7 @@ fn put_run(
 {
     put_structure(out, 3, tags::RUN)?;
     put_text(out, text.as_str())?;
-    put_dict(out, params.as_slice(), ROOM)?;
+    put_dict(out, params.as_slice(), FIELD_DEPTH)?;
     put_transaction(out, mode, token)?;
     Ok(())
 }
@@ -159,7 +159,7 @@ fn put_success(out: &mut Adding, metadata: &Vec<(String, Cell)>) -> Result<(), U
         out.old.more out.new.more) }
 {
     put_structure(out, 1, tags::SUCCESS)?;
-    put_dict(out, metadata.as_slice(), ROOM)?;
+    put_dict(out, metadata.as_slice(), FIELD_DEPTH)?;
     Ok(())
 }
 
@@ -170,7 +170,7 @@ fn put_record(out: &mut Adding, row: &Vec<Cell>) -> Result<(), Unspelled>
         out.old.more out.new.more) }
 {
     put_structure(out, 1, tags::RECORD)?;
-    put_list(out, row.as_slice(), ROOM)?;
+    put_list(out, row.as_slice(), FIELD_DEPTH)?;
     Ok(())
 }
 

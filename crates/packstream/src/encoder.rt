@@ -101,7 +101,7 @@ fn put_key(out: &mut Adding, key: &str) -> Result<(), Unwritten>
     Ok(())
 }
 
-/// The same by a call, which keeps `put_value` small.
+/// A text, by a call, which keeps `put_value` small.
 #[inline(never)]
 fn put_text(out: &mut Adding, text: &str) -> Result<(), Unwritten>
     ensures before { out.new.before ≡ out.old.before }
@@ -276,7 +276,7 @@ fn spell(out: &mut Adding, packed: &Packed) -> Result<(), PackFault>
     Ok(())
 }
 
-/// How many bytes the shortest spelling of the value takes, or 65,537 where that is more. It takes no memory.
+/// How many bytes the shortest spelling of the value takes, or 65,537 where that is more. Takes no memory.
 pub fn size(packed: &Packed) -> usize
     ensures { result ≡ min (length (canon packed.now)) (max_size + 1) }
 {

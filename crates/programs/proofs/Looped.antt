@@ -12,9 +12,9 @@ use Rattle.client.specs.declared.SubmitFault.{SubmitFault}
 use Rattle.client.specs.Prelude.{Fits, refuses, taken_out}
 use Rattle.client.specs.Rest.{Rest as ClientRest}
 use Rattle.messages.specs.View.{RequestView}
-use Rattle.serves.specs.declared.standing.Standing.{Standing}
-use Rattle.serves.specs.declared.standing.Standing.TheVariants.{Open, Over}
-use Rattle.serves.specs.Prelude.{Grows, LivesOn, Talk, with_talk, Stands, TakesPiece, standing_of, told_by}
+use Rattle.serves.specs.declared.liveness.Liveness.{Liveness}
+use Rattle.serves.specs.declared.liveness.Liveness.TheVariants.{Open, Over}
+use Rattle.serves.specs.Prelude.{Grows, LivesOn, Talk, with_talk, Stands, TakesPiece, liveness_of, told_by}
 use Rattle.serves.proofs.Talks.{open_goes_on, over_ended, talk_by_items, told_over}
 use Rattle.serves.proofs.Called.{live_then, lives_same, lives_then, replace-itself}
 use Rattle.scripts.specs.Prelude.{ScriptRequestView, meant}
@@ -82,8 +82,8 @@ module _ {G : Type 0} {Near Far : Way → Type 0} {setting_at : Rest G → Setti
 
 module _ {G : Type 0} {r : Rest G} {conn : ℕ} {S : Setting} where
   -- a session that has ended takes no more
-  pub sits_over : {Now : Rest G → Type 0} {up out : List ℕ} {standing : Standing} (more : List ℕ) → standing ≡ Over → Sits r conn S Now up out standing → Sits r conn S Now (up ++ more) out standing
-  sits_over {Now = Now} {up = up} {out = out} {standing = standing} more o s =
+  pub sits_over : {Now : Rest G → Type 0} {up out : List ℕ} {liveness : Liveness} (more : List ℕ) → liveness ≡ Over → Sits r conn S Now up out liveness → Sits r conn S Now (up ++ more) out liveness
+  sits_over {Now = Now} {up = up} {out = out} {liveness = liveness} more o s =
       let same = told_over r conn S up more (over_ended (told_by r conn S up).kept.ended (sym o ∙ s.stands)) in
       record {
         unfinished = s.unfinished;
@@ -93,30 +93,30 @@ module _ {G : Type 0} {r : Rest G} {conn : ℕ} {S : Setting} where
         goes_on = λ g. let bad : Over ≡ Open = sym o ∙ g in cc;
       }
 
-  module _ {Now : Rest G → Type 0} {up out : List ℕ} {standing : Standing} (s : Sits r conn S Now up out standing) (g : standing ≡ Open) where
+  module _ {Now : Rest G → Type 0} {up out : List ℕ} {liveness : Liveness} (s : Sits r conn S Now up out liveness) (g : liveness ≡ Open) where
     pub sits_open : (told_by r conn S up).kept.ended ≡ None
     sits_open = open_goes_on (told_by r conn S up).kept.ended (sym g ∙ s.stands)
 
     pub sits_stands : Stands r conn S Now (Some []) (Some out) up
     sits_stands = (rw (← s.goes_on g) s.now, s.out)
 
-  pub sits_takes : {Now : Rest G → Type 0} {out : List ℕ} (up piece : List ℕ) (standing : Standing) → TakesPiece r conn S Now (Some []) (Some out) up piece (Ok standing) → Sits r conn S Now (up ++ piece) out standing
-  sits_takes up piece Open h = record { unfinished = state at_server at_server.start (up ++ piece); now = h.0.0; out = h.0.1; stands = ap standing_of (sym h.1); goes_on = λ e. refl }
+  pub sits_takes : {Now : Rest G → Type 0} {out : List ℕ} (up piece : List ℕ) (liveness : Liveness) → TakesPiece r conn S Now (Some []) (Some out) up piece (Ok liveness) → Sits r conn S Now (up ++ piece) out liveness
+  sits_takes up piece Open h = record { unfinished = state at_server at_server.start (up ++ piece); now = h.0.0; out = h.0.1; stands = ap liveness_of (sym h.1); goes_on = λ e. refl }
   sits_takes {Now = Now} {out = out} up piece Over h =
       let used = up ++ h.front in
       let so : Sits r conn S Now used out Over = record { unfinished = state at_server at_server.start used; now = h.stands.0; out = h.stands.1; stands = over_by (told_by r conn S used).kept.ended h.over; goes_on = λ e. cc } in
       subst (λ (z : List ℕ). Sits r conn S Now z out Over) (append_assoc up h.front h.rest ∙ ap (λ z. up ++ z) h.parts) (sits_over h.rest refl so)
     where
-      over_by : (o : Option Cause) → IsSome o → Over ≡ standing_of o
+      over_by : (o : Option Cause) → IsSome o → Over ≡ liveness_of o
       over_by (Some c) e = refl
       over_by None e = cc
 
   -- the session is as its conversation leaves it
-  pub sits_talk : {Now : Rest G → Type 0} {up out : List ℕ} {standing : Standing} (s : Sits r conn S Now up out standing) → Now (with_talk r conn s.unfinished (talk_for S conn r.ledger up).ledger (talk_for S conn r.ledger up).kept)
+  pub sits_talk : {Now : Rest G → Type 0} {up out : List ℕ} {liveness : Liveness} (s : Sits r conn S Now up out liveness) → Now (with_talk r conn s.unfinished (talk_for S conn r.ledger up).ledger (talk_for S conn r.ledger up).kept)
   sits_talk {Now = Now} {up = up} s = subst (λ (t : Talk). Now (with_talk r conn s.unfinished t.ledger t.kept)) (sym (talk_by_items S conn r.ledger up)) s.now
 
   -- what is put out for a piece is the answer to it
-  pub answer_due : {Now Then : Rest G → Type 0} {up old new : List ℕ} {was is : Standing} (piece answer : List ℕ) → Sits r conn S Now up old was → Sits r conn S Then (up ++ piece) new is → answer ≡ drop (length old) new → answer ≡ answer_to S conn r.ledger up piece
+  pub answer_due : {Now Then : Rest G → Type 0} {up old new : List ℕ} {was is : Liveness} (piece answer : List ℕ) → Sits r conn S Now up old was → Sits r conn S Then (up ++ piece) new is → answer ≡ drop (length old) new → answer ≡ answer_to S conn r.ledger up piece
   answer_due {up = up} {new = new} piece answer h s e =
       let by_items = λ (z : List ℕ). ap (λ (t : Talk). t.out) (sym (talk_by_items S conn r.ledger z)) in
       e ∙ ap (λ z. drop (length z) new) (h.out ∙ by_items up) ∙ ap (drop (length (talk_for S conn r.ledger up).out)) (s.out ∙ by_items (up ++ piece))
@@ -124,7 +124,7 @@ module _ {G : Type 0} {r : Rest G} {conn : ℕ} {S : Setting} where
   -- both: a piece of the client was passed, answered and heard
   pub comes_given : {start a b : Ways} {t : Turns} {x y : Pair} {Now Then : Rest G → Type 0} {piece : List ℕ} (answer : List ℕ)
       → Comes r conn S start a t x Now → Grows r conn Then → Passes a.up b.up piece
-      → Sits r conn S Then (t.sent ++ piece) y.said.bytes.items y.standing → answer ≡ answer_to S conn r.ledger t.sent piece
+      → Sits r conn S Then (t.sent ++ piece) y.said.bytes.items y.liveness → answer ≡ answer_to S conn r.ledger t.sent piece
       → Passes a.down b.down answer → IsHeardAll t.place answer y.caller a.out b.out → Comes r conn S start b (given S conn r.ledger t piece) y Then
   comes_given {start = start} {a = a} {b = b} {t = t} {x = x} {y = y} {piece = piece} answer h lives up s same down heard =
       let before = (talk_for S conn r.ledger t.sent).out in
@@ -205,7 +205,7 @@ pub line_sent : {G : Type 0} {r : Rest G} {conn : ℕ} {S : Setting} {start a : 
     {out : Option (List ℕ)} {failed : Bool} (q : RequestView) (h : Comes r conn S start a t x Now)
     → (refuses t.place.rest.knows q ≡ None) × (out ≡ a.out) × IsAt c (submitted (record { rest = with_item t.place.rest h.client.item; version = t.place.version }) q)
     → Comes r conn S start (record { up = a.up; down = a.down; out = out; out_failed = failed }) (with_request t q)
-    (record { caller = c; said = x.said; standing = x.standing }) Now
+    (record { caller = c; said = x.said; liveness = x.liveness }) Now
 line_sent {start = start} {t = t} q h s = record {
   lives = h.lives;
   client = record { item = h.client.item; at = s.2; same = h.client.same };
@@ -218,7 +218,7 @@ line_sent {start = start} {t = t} q h s = record {
 -- the whole of a loop, on a server on which no session lives
 module _ {G : Type 0} (r : Rest G) (S : Setting) where
   pub loop_begins : {p : Pair} {conn : ℕ} {Now : Rest G → Type 0} (a : Ways) → r.sessions ≡ [] → HasOpened r conn Now → p.said.bytes.items ≡ []
-      → p.standing ≡ Open → IsAt p.caller first_place → IsSome (find conn (opened r).sessions) × Comes (opened r) conn S a a no_turns p Now
+      → p.liveness ≡ Open → IsAt p.caller first_place → IsSome (find conn (opened r).sessions) × Comes (opened r) conn S a a no_turns p Now
   loop_begins {p = p} {conn = conn} {Now = Now} a none o e g at =
       let f = found_by r none o.number in
       let found : IsSome (find conn (opened r).sessions) = subst IsSome (sym f) refl in

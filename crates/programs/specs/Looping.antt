@@ -23,12 +23,12 @@ use Rattle.programs.specs.Ways.{Way, Ways}
 use Rattle.programs.specs.Passing.{FailsToRead, FailsToWrite, Passes}
 use Rattle.server.specs.Serving.{Rest, find, opened}
 use Rattle.streams.specs.declared.fault.StreamFault.{StreamFault}
-use Rattle.serves.specs.declared.standing.Standing.{Standing}
-use Rattle.serves.specs.declared.standing.Standing.TheVariants.{Open}
+use Rattle.serves.specs.declared.liveness.Liveness.{Liveness}
+use Rattle.serves.specs.declared.liveness.Liveness.TheVariants.{Open}
 use Rattle.serves.specs.Conversing.{Talk, with_talk}
 use Rattle.streams.specs.Fronts.{AppendsFront}
 use Rattle.streams.specs.Limits.{max_piece}
-use Rattle.serves.specs.Settling.{Grows, standing_of, told_by}
+use Rattle.serves.specs.Settling.{Grows, liveness_of, told_by}
 
 -- what ends the line of an entry: its token in hex, where it has one
 abbrev pub token_ending : Token → List ℕ
@@ -74,7 +74,7 @@ pub record HearsFront (p : Place) (bytes : List ℕ) (before after : Option (Lis
   pub parts : heard ++ rest ≡ bytes
   pub prints : AppendsFront before after (text_of p heard)
 
--- The same of an answer that it read, of which it stood there, when these bytes were read and this text was printed: it has heard a beginning of the
+-- A fault came while it read an answer, at which it stood there, when these bytes were read and this text was printed: it has heard a beginning of the
 -- answer, and at most 4,096 bytes more were read and not heard.
 pub record ReadsUpTo (behind text : List ℕ) (p : Place) (answer : List ℕ)
     (left left_now before after : Option (List ℕ)) : Type 0 where
@@ -121,20 +121,20 @@ module _ {G : Type 0} (r : Rest G) (conn : ℕ) where
 
 module _ {G : Type 0} (r : Rest G) (conn : ℕ) (S : Setting) where
   -- The session is as these bytes of its client leave it, and this is all that it has put out.
-  pub record Sits (Now : Rest G → Type 0) (sent put_out : List ℕ) (standing : Standing) : Type 0 where
+  pub record Sits (Now : Rest G → Type 0) (sent put_out : List ℕ) (liveness : Liveness) : Type 0 where
     pub unfinished : Opened
     pub now : Now (with_talk r conn unfinished (told_by r conn S sent).ledger
         (told_by r conn S sent).kept)
     pub out : put_out ≡ (told_by r conn S sent).out
-    pub stands : standing ≡ standing_of (told_by r conn S sent).kept.ended
-    pub goes_on : standing ≡ Open → unfinished ≡ state at_server at_server.start sent
+    pub stands : liveness ≡ liveness_of (told_by r conn S sent).kept.ended
+    pub goes_on : liveness ≡ Open → unfinished ≡ state at_server at_server.start sent
 
   -- Both have come so far, and all passed over the streams and is printed. The session lives, and the ledger has at most grown.
   pub record Comes (start now : Ways) (t : Turns) (pair : Pair) (Now : Rest G → Type 0) : Type 0
     where
       pub lives : Grows r conn Now
       pub client : StandsAt pair.caller t.place
-      pub session : Sits Now t.sent pair.said.bytes.items pair.standing
+      pub session : Sits Now t.sent pair.said.bytes.items pair.liveness
       pub up : Passes start.up now.up t.sent
       pub down : Passes start.down now.down (talk_for S conn r.ledger t.sent).out
       pub printed : Appends start.out now.out t.text

@@ -52,14 +52,14 @@ pub record Hears (fault : Option StreamFault) (p : Place) (before after : Stream
   pub moves : Moves fault before after (heard_log [] heard)
   pub at : IsAt c (place_after p heard.fed)
 
--- The same until no answer is still to come, or the input has ended, or to a fault.
+-- Bytes were read, fed and printed until no answer was still to come, the input had ended, or a fault came.
 pub record HearsAll (fault : Option StreamFault) (p : Place) (before after : Streams) (c : Caller)
     : Type 0 where
   pub hears : Hears fault p before after c
   pub ends : fault ≡ None
       → IsAtEnd after.left ⊎ (awaits (hears_all p.rest hears.heard.fed).knows ≡ false)
 
--- The same after what waits to be sent, or some of it, of which so many bytes were taken out.
+-- What waited to be sent, or some of it, of which so many bytes were taken out, was written; then bytes were heard as `HearsAll` has it.
 pub record Converses (fault : Option StreamFault) (p : Place) (before after : Streams) (c : Caller)
     : Type 0 where
   pub out : ℕ

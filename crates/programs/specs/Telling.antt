@@ -131,7 +131,7 @@ pub data IsCut (v : Version) (n : Note) : StreamFault → List ℕ → List ℕ 
   behind_line : (fault : StreamFault) (front : List ℕ) → IsFront front (failure_told n)
       → IsCut v n fault (note_text v n ++ front) []
 
--- The same of the notes that aren't printed whole: none, or the first was cut; each summary behind it is told on standard error.
+-- Of the notes that aren't printed whole: none, or the first was cut; each summary behind it is told on standard error.
 abbrev pub IsBegun : Option StreamFault → Version → List Note → List ℕ → List ℕ → Type 0
 IsBegun None v notes begun told = (notes ≡ []) × (begun ≡ []) × (told ≡ [])
 IsBegun (Some fault) v [] begun told = ⊥

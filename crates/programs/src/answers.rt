@@ -20,12 +20,12 @@ use crate::ways::ShellStreams;
 use asks::{give_up, hear_piece, write_out};
 use client::Heard;
 use machine::Phase;
-use streams::{Peer, Sink, StreamFault};
+use streams::{PeerSource, Sink, StreamFault};
 
 impl Caller {
     /// Writes what the client puts out, and hears and prints up to the last answer that it waits for. Then it is given up, unless all was
     /// answered, also after a fault; what became of the requests that waited is told, and why no answer comes.
-    pub fn ask<S: Peer, T: Sink, O: Sink, E: Sink>(
+    pub fn ask<S: PeerSource, T: Sink, O: Sink, E: Sink>(
         &mut self,
         streams: &mut ShellStreams<S, T, O, E>,
     ) -> Result<(), StreamFault>
@@ -40,8 +40,8 @@ impl Caller {
         asked
     }
 
-    /// The same, without its end.
-    fn converse<S: Peer, T: Sink, O: Sink, E: Sink>(
+    /// As `ask`, but the client isn't given up at the end.
+    fn converse<S: PeerSource, T: Sink, O: Sink, E: Sink>(
         &mut self,
         streams: &mut ShellStreams<S, T, O, E>,
     ) -> Result<(), StreamFault>
@@ -98,7 +98,7 @@ impl Caller {
     }
 
     /// Hears and prints, a piece at a time, as long as an answer is still to come, to the end of the input.
-    fn hear_all<S: Peer, T: Sink, O: Sink, E: Sink>(
+    fn hear_all<S: PeerSource, T: Sink, O: Sink, E: Sink>(
         &mut self,
         streams: &mut ShellStreams<S, T, O, E>,
     ) -> Result<(), StreamFault>
@@ -119,7 +119,7 @@ impl Caller {
     }
 
     /// Hears a piece and prints what it tells; whether there was one.
-    fn hear_some<S: Peer, T: Sink, O: Sink, E: Sink>(
+    fn hear_some<S: PeerSource, T: Sink, O: Sink, E: Sink>(
         &mut self,
         streams: &mut ShellStreams<S, T, O, E>,
     ) -> Result<bool, StreamFault>
@@ -148,7 +148,7 @@ impl Caller {
     }
 
     /// Prints all that was heard. From a fault on each summary that isn't printed is told on standard error.
-    fn put_all<S: Peer, T: Sink, O: Sink, E: Sink>(
+    fn put_all<S: PeerSource, T: Sink, O: Sink, E: Sink>(
         &mut self,
         heard: Vec<Heard>,
         streams: &mut ShellStreams<S, T, O, E>,
@@ -169,7 +169,7 @@ impl Caller {
     }
 
     /// Prints one more, or tells it after a fault.
-    fn put_next<S: Peer, T: Sink, O: Sink, E: Sink>(
+    fn put_next<S: PeerSource, T: Sink, O: Sink, E: Sink>(
         &mut self,
         done: Result<(), StreamFault>,
         one: Heard,

@@ -16,7 +16,7 @@ use crate::ways::ShellStreams;
 use client::{Client, Heard};
 use scripts::ScriptRequest;
 use std::alloc::Global;
-use streams::{Peer, Sink, StreamFault};
+use streams::{PeerSource, Sink, StreamFault};
 use wire::{Version, Wish};
 
 /// A client that takes the newest version.
@@ -66,9 +66,9 @@ impl Caller {
         put_heard(self.alloc, self.version, heard, out)
     }
 
-    /// The same of what was heard at the version that is kept, and behind the line of a FAILURE `fault CODE MESSAGE`. Where the line of a summary
+    /// Prints what was heard, at the version that is kept, and behind the line of a FAILURE `fault CODE MESSAGE`. If the line of a summary
     /// isn't taken whole, it is told on standard error.
-    pub fn put_explained<S: Peer, T: Sink, O: Sink, E: Sink>(
+    pub fn put_explained<S: PeerSource, T: Sink, O: Sink, E: Sink>(
         &self,
         heard: Heard,
         streams: &mut ShellStreams<S, T, O, E>,

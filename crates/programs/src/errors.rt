@@ -11,7 +11,7 @@ use crate::summaries::heard_line;
 use crate::ways::ShellStreams;
 use client::{Heard, Outcome};
 use itoa::Buffer;
-use streams::{Peer, Sink, write_all};
+use streams::{PeerSource, Sink, write_all};
 use wire::Version;
 
 /// Writes a text, as far as it is taken.
@@ -40,7 +40,7 @@ pub(crate) fn greet<E: Sink>(has_ended: bool, version: Version, err: &mut E)
 }
 
 /// Tells `heard ORDINAL OUTCOME PHASE` of a summary, and of nothing else.
-pub(crate) fn put_unprinted<S: Peer, T: Sink, O: Sink, E: Sink>(
+pub(crate) fn put_unprinted<S: PeerSource, T: Sink, O: Sink, E: Sink>(
     heard: &Heard,
     streams: &mut ShellStreams<S, T, O, E>,
 )

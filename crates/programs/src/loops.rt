@@ -29,20 +29,20 @@ use client::Heard;
 use engine::{Engine, Gate};
 use scripts::{Numbered, ScriptFault, ScriptRequest, read_requests};
 use server::Server;
-use serves::{Standing, take_piece};
+use serves::{Liveness, take_piece};
 use std::alloc::Global;
-use streams::{Buffer, MAX_PIECE, Peer, Sink, StreamFault, write_all};
+use streams::{Buffer, MAX_PIECE, PeerSource, Sink, StreamFault, write_all};
 
 /// A client, all that its session has put out, and whether the session goes on.
 #[derive(Drop)]
 struct Pair {
     caller: Caller,
     said: Buffer,
-    standing: Standing,
+    liveness: Liveness,
 }
 
 /// Reads bytes that are known to wait, as many as there is room for. I1 where the source fails or ends before.
-fn read_known<T: Sink, S: Peer>(
+fn read_known<T: Sink, S: PeerSource>(
     sink: &T,
     source: &mut S,
     buffer: &mut [u8],
@@ -71,7 +71,7 @@ fn read_known<T: Sink, S: Peer>(
 }
 
 /// Writes a part, and reads it at the other end, where it is known to wait then. I1 also where other bytes come.
-fn pass<T: Sink, S: Peer>(
+fn pass<T: Sink, S: PeerSource>(
     alloc: Global,
     bytes: &[u8],
     way: &mut OneWay<T, S>,
@@ -142,7 +142,7 @@ fn next_part(bytes: &[u8]) -> (&[u8], &[u8])
 }
 
 /// Writes what the server put out in parts of at most 4,096 bytes; the client reads and hears each before the next is written.
-fn hand_over<T: Sink, S: Peer, O: Sink>(
+fn hand_over<T: Sink, S: PeerSource, O: Sink>(
     caller: &mut Caller,
     bytes: &[u8],
     way: &mut OneWay<T, S>,
@@ -181,25 +181,25 @@ fn give<E: Engine, G: Gate>(
     conn: u64,
     piece: &[u8],
     said: &mut Buffer,
-    standing: &mut Standing,
+    liveness: &mut Liveness,
 ) -> Result<(), StreamFault>
     requires { IsLive E.entries conn server.old }
     ensures live { IsLive E.entries conn server.new }
     ensures grows { LivesOn conn (Fits E.entries server.old) (Fits E.entries server.new) }
     ensures sits { (r : Rest G) (sent : List ℕ) → IsSome (find conn r.sessions)
         → Sits r conn (setting E.answer G.accepts r) (Fits E.entries server.old) sent
-        said.old.bytes.items standing.old
+        said.old.bytes.items liveness.old
         → OnOk result (Sits r conn (setting E.answer G.accepts r) (Fits E.entries server.new)
-        (sent ++ piece.now) said.new.bytes.items standing.new) }
+        (sent ++ piece.now) said.new.bytes.items liveness.new) }
     ensures fault { IfErr result (λ e. e ≡ StreamFault.Memory) }
 {
-    match *standing {
-        Standing::Open => {}
-        Standing::Over => return Ok(()),
+    match *liveness {
+        Liveness::Open => {}
+        Liveness::Over => return Ok(()),
     }
     match take_piece(server, conn, piece, said) {
         Ok(after) => {
-            *standing = after;
+            *liveness = after;
             Ok(())
         }
         Err(_) => Err(StreamFault::Memory),
@@ -217,7 +217,7 @@ fn put_out_behind(said: &Buffer, count: usize) -> &[u8]
 }
 
 /// The client writes a piece of at most 4,096 bytes; the server reads just those, feeds them and works, and hands over what it put out.
-fn turn<E: Engine, G: Gate, A: Peer, B: Sink, C: Peer, D: Sink, O: Sink>(
+fn turn<E: Engine, G: Gate, A: PeerSource, B: Sink, C: PeerSource, D: Sink, O: Sink>(
     pair: &mut Pair,
     server: &mut Server<E, G>,
     conn: u64,
@@ -242,7 +242,7 @@ fn turn<E: Engine, G: Gate, A: Peer, B: Sink, C: Peer, D: Sink, O: Sink>(
         Err(fault) => return Err(fault),
     }
     let before = pair.said.bytes().len();
-    match give(server, conn, piece, &mut pair.said, &mut pair.standing) {
+    match give(server, conn, piece, &mut pair.said, &mut pair.liveness) {
         Ok(()) => {}
         Err(fault) => return Err(fault),
     }
@@ -255,7 +255,7 @@ fn turn<E: Engine, G: Gate, A: Peer, B: Sink, C: Peer, D: Sink, O: Sink>(
 }
 
 /// The client writes all that it has to say, in pieces, a turn for each. Where an answer is still to come then, the session has none: I3.
-fn exchange<E: Engine, G: Gate, A: Peer, B: Sink, C: Peer, D: Sink, O: Sink>(
+fn exchange<E: Engine, G: Gate, A: PeerSource, B: Sink, C: PeerSource, D: Sink, O: Sink>(
     pair: &mut Pair,
     server: &mut Server<E, G>,
     conn: u64,
@@ -294,7 +294,7 @@ fn exchange<E: Engine, G: Gate, A: Peer, B: Sink, C: Peer, D: Sink, O: Sink>(
 }
 
 /// Submits a line; where it isn't refused, its request is written and its answers are heard.
-fn run_line<E: Engine, G: Gate, A: Peer, B: Sink, C: Peer, D: Sink, O: Sink>(
+fn run_line<E: Engine, G: Gate, A: PeerSource, B: Sink, C: PeerSource, D: Sink, O: Sink>(
     pair: &mut Pair,
     server: &mut Server<E, G>,
     conn: u64,
@@ -327,7 +327,7 @@ fn run_line<E: Engine, G: Gate, A: Peer, B: Sink, C: Peer, D: Sink, O: Sink>(
 }
 
 /// An exchange, in which the version is heard, and then one line after another.
-fn run_lines<E: Engine, G: Gate, A: Peer, B: Sink, C: Peer, D: Sink, O: Sink>(
+fn run_lines<E: Engine, G: Gate, A: PeerSource, B: Sink, C: PeerSource, D: Sink, O: Sink>(
     pair: &mut Pair,
     server: &mut Server<E, G>,
     conn: u64,
@@ -364,8 +364,8 @@ fn run_lines<E: Engine, G: Gate, A: Peer, B: Sink, C: Peer, D: Sink, O: Sink>(
     Ok(())
 }
 
-/// The same, of a server on which no session lives, and then prints its ledger.
-fn run_opened<E: Engine, G: Gate, A: Peer, B: Sink, C: Peer, D: Sink, O: Sink>(
+/// Runs the lines over a server on which no session lives, and then prints its ledger.
+fn run_opened<E: Engine, G: Gate, A: PeerSource, B: Sink, C: PeerSource, D: Sink, O: Sink>(
     alloc: Global,
     server: &mut Server<E, G>,
     lines: Vec<Numbered<ScriptRequest>>,
@@ -389,7 +389,7 @@ fn run_opened<E: Engine, G: Gate, A: Peer, B: Sink, C: Peer, D: Sink, O: Sink>(
     let mut pair = Pair {
         caller,
         said: Buffer::new(Vec::new(alloc)),
-        standing: Standing::Open,
+        liveness: Liveness::Open,
     };
     match run_lines(&mut pair, server, conn, lines, ways) {
         Ok(()) => {}
@@ -403,7 +403,7 @@ fn run_opened<E: Engine, G: Gate, A: Peer, B: Sink, C: Peer, D: Sink, O: Sink>(
 }
 
 /// Reads the whole script before anything is run.
-fn run<E: Engine, G: Gate, A: Peer, B: Sink, C: Peer, D: Sink, O: Sink>(
+fn run<E: Engine, G: Gate, A: PeerSource, B: Sink, C: PeerSource, D: Sink, O: Sink>(
     alloc: Global,
     server: &mut Server<E, G>,
     script: &[u8],
@@ -449,7 +449,16 @@ fn run<E: Engine, G: Gate, A: Peer, B: Sink, C: Peer, D: Sink, O: Sink>(
 /// stream that has failed (`fault I1` for a source, also where it ends before the bytes that were written came, or gives others; `fault I2`
 /// for a sink), 3 for want of memory (`fault I3`); 2 for a line that can't be read: then nothing was run, and `line I unreadable` stands on
 /// `err`, and on the next line what is expected there.
-pub fn run_loop<E: Engine, G: Gate, A: Peer, B: Sink, C: Peer, D: Sink, O: Sink, F: Sink>(
+pub fn run_loop<
+    E: Engine,
+    G: Gate,
+    A: PeerSource,
+    B: Sink,
+    C: PeerSource,
+    D: Sink,
+    O: Sink,
+    F: Sink,
+>(
     alloc: Global,
     server: &mut Server<E, G>,
     script: &[u8],

@@ -26,7 +26,7 @@ use machine::Phase;
 use messages::Response;
 use server::Cause;
 use std::alloc::{AllocError, Global};
-use streams::{Peer, Sink, StreamFault, write_all};
+use streams::{PeerSource, Sink, StreamFault, write_all};
 use structures::Cell;
 use wire::Version;
 
@@ -112,7 +112,7 @@ pub(crate) fn put_row<O: Sink>(
 
 /// Prints `heard ORDINAL OUTCOME PHASE`, and behind that of a FAILURE `fault CODE MESSAGE`. The first line takes no memory; where it isn't taken
 /// whole it is told on standard error.
-pub(crate) fn put_summary<S: Peer, T: Sink, O: Sink, E: Sink>(
+pub(crate) fn put_summary<S: PeerSource, T: Sink, O: Sink, E: Sink>(
     alloc: Global,
     ordinal: u64,
     phase: Phase,

@@ -17,7 +17,7 @@ use crate::stop::{StopReason, put_stop};
 use crate::ways::ShellStreams;
 use scripts::{LineFault, ScriptRequest, read_request};
 use std::alloc::Global;
-use streams::{MAX_PIECE, Peer, Sink, Source, StreamFault};
+use streams::{MAX_PIECE, PeerSource, Sink, Source, StreamFault};
 
 /// A client, and the line that is begun.
 #[derive(Drop)]
@@ -47,7 +47,7 @@ impl Conversation {
     }
 
     /// Hears the version, and tells it with how a line looks.
-    fn begin<S: Peer, T: Sink, O: Sink, E: Sink>(
+    fn begin<S: PeerSource, T: Sink, O: Sink, E: Sink>(
         &mut self,
         streams: &mut ShellStreams<S, T, O, E>,
     ) -> Result<(), StreamFault>
@@ -72,7 +72,7 @@ impl Conversation {
     }
 
     /// Takes a piece of the input: each line that ends in it is sent.
-    fn take<S: Peer, T: Sink, O: Sink, E: Sink>(
+    fn take<S: PeerSource, T: Sink, O: Sink, E: Sink>(
         &mut self,
         piece: &[u8],
         streams: &mut ShellStreams<S, T, O, E>,
@@ -96,7 +96,7 @@ impl Conversation {
     }
 
     /// Takes a byte of the input: a newline ends the line that was begun, which is sent; any other is one more of it.
-    fn take_byte<S: Peer, T: Sink, O: Sink, E: Sink>(
+    fn take_byte<S: PeerSource, T: Sink, O: Sink, E: Sink>(
         &mut self,
         byte: u8,
         streams: &mut ShellStreams<S, T, O, E>,
@@ -129,7 +129,7 @@ impl Conversation {
     }
 
     /// Sends the line that was begun, unless it is empty.
-    fn send<S: Peer, T: Sink, O: Sink, E: Sink>(
+    fn send<S: PeerSource, T: Sink, O: Sink, E: Sink>(
         &mut self,
         streams: &mut ShellStreams<S, T, O, E>,
     ) -> Result<(), StopReason>
@@ -160,7 +160,7 @@ impl Conversation {
     }
 
     /// Submits the request of the line that was begun and asks for its answer, or prints why it is refused.
-    fn submit<S: Peer, T: Sink, O: Sink, E: Sink>(
+    fn submit<S: PeerSource, T: Sink, O: Sink, E: Sink>(
         &mut self,
         request: ScriptRequest,
         streams: &mut ShellStreams<S, T, O, E>,
@@ -185,7 +185,7 @@ impl Conversation {
 }
 
 /// Takes the input to its end.
-fn run<I: Source, S: Peer, T: Sink, O: Sink, E: Sink>(
+fn run<I: Source, S: PeerSource, T: Sink, O: Sink, E: Sink>(
     alloc: Global,
     input: &mut I,
     streams: &mut ShellStreams<S, T, O, E>,
@@ -235,7 +235,7 @@ fn run<I: Source, S: Peer, T: Sink, O: Sink, E: Sink>(
 ///
 /// The exit status is 0; 1 for a stream that has failed (`fault I1` where it is a source, `fault I2` where it is a sink), 2 for an
 /// unreadable line, 3 for want of memory (`fault I3`).
-pub fn shell<I: Source, S: Peer, T: Sink, O: Sink, E: Sink>(
+pub fn shell<I: Source, S: PeerSource, T: Sink, O: Sink, E: Sink>(
     alloc: Global,
     input: &mut I,
     streams: &mut ShellStreams<S, T, O, E>,

@@ -27,7 +27,7 @@ impl From<StreamFault> for StopReason {
 }
 
 /// Writes why a program stops, of a line that can't be read also what is expected there, and answers its exit status: 2 for such a line, 1 for a
-/// stream that has failed, 3 for want of memory. It takes no memory.
+/// stream that has failed, 3 for want of memory. Takes no memory.
 pub(crate) fn put_stop<E: Sink>(stop: StopReason, err: &mut E) -> u8
     ensures status { result ≡ stop_status stop }
     ensures text { Gets (E.has_failed err.old) (E.has_failed err.new) (E.taken err.old)
@@ -55,7 +55,7 @@ fn put_unreadable<E: Sink>(number: usize, err: &mut E)
     );
 }
 
-/// Writes a fault on a line, `fault I1` and the like, and answers the exit status: 3 for want of memory, else 1. It takes no memory.
+/// Writes a fault on a line, `fault I1` and the like, and answers the exit status: 3 for want of memory, else 1. Takes no memory.
 pub fn put_fault<E: Sink>(fault: StreamFault, err: &mut E) -> u8
     ensures status { result ≡ stop_status (StopReason.Broken fault) }
     ensures text { Gets (E.has_failed err.old) (E.has_failed err.new) (E.taken err.old)

@@ -21,7 +21,7 @@ use wire::Version;
 /// How many bytes the line of a summary has at most: it has 49 at the longest number and names.
 const LONGEST: usize = 64;
 
-/// `heard ORDINAL OUTCOME PHASE` on a line. It takes no memory.
+/// `heard ORDINAL OUTCOME PHASE` on a line. Takes no memory.
 pub(crate) fn heard_line(ordinal: u64, outcome: Outcome, phase: Phase) -> ArrayString<LONGEST>
     ensures { result.bytes ≡ heard_line ordinal (outcome_name outcome) (phase_name phase) }
 {

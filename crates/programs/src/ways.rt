@@ -1,15 +1,15 @@
 //! The streams that a loop, a shell and a server of connections run over.
 use std::marker::Model;
-use streams::{Peer, Sink, Source};
+use streams::{PeerSource, Sink, Source};
 
 /// One way of a connection: the sink where bytes go in, and the source where they come out, at the other end.
 #[derive(Drop)]
-pub struct OneWay<T: Sink, S: Peer> {
+pub struct OneWay<T: Sink, S: PeerSource> {
     pub sink: T,
     pub source: S,
 }
 
-impl<T: Sink, S: Peer> Model for OneWay<T, S> {
+impl<T: Sink, S: PeerSource> Model for OneWay<T, S> {
     ghost use Rattle.programs.specs.Ways.{Seen, Way};
 
     ghost Value = { Seen (T × S) Way };
@@ -27,7 +27,7 @@ impl<T: Sink, S: Peer> Model for OneWay<T, S> {
 
 /// The streams of a loop: both ways of a connection, and where its lines go. Each end reads of one way and writes on the other.
 #[derive(Drop)]
-pub struct BothWays<A: Peer, B: Sink, C: Peer, D: Sink, O: Sink> {
+pub struct BothWays<A: PeerSource, B: Sink, C: PeerSource, D: Sink, O: Sink> {
     /// From the client to the session.
     pub up: OneWay<B, C>,
     /// From the session to the client.
@@ -35,7 +35,7 @@ pub struct BothWays<A: Peer, B: Sink, C: Peer, D: Sink, O: Sink> {
     pub out: O,
 }
 
-impl<A: Peer, B: Sink, C: Peer, D: Sink, O: Sink> Model for BothWays<A, B, C, D, O> {
+impl<A: PeerSource, B: Sink, C: PeerSource, D: Sink, O: Sink> Model for BothWays<A, B, C, D, O> {
     ghost use Rattle.programs.specs.Ways.{Seen, Ways};
 
     ghost Value = { Seen ((B × C) × (D × A) × O) Ways };
@@ -53,14 +53,14 @@ impl<A: Peer, B: Sink, C: Peer, D: Sink, O: Sink> Model for BothWays<A, B, C, D,
 
 /// The streams of a shell: what comes of its server and what is sent there, where its lines are printed, and where it tells what no line says.
 #[derive(Drop)]
-pub struct ShellStreams<S: Peer, T: Sink, O: Sink, E: Sink> {
+pub struct ShellStreams<S: PeerSource, T: Sink, O: Sink, E: Sink> {
     pub source: S,
     pub sink: T,
     pub out: O,
     pub err: E,
 }
 
-impl<S: Peer, T: Sink, O: Sink, E: Sink> Model for ShellStreams<S, T, O, E> {
+impl<S: PeerSource, T: Sink, O: Sink, E: Sink> Model for ShellStreams<S, T, O, E> {
     ghost use Rattle.programs.specs.Ways.{Seen, Streams};
 
     ghost Value = { Seen (S × T × O × E) Streams };

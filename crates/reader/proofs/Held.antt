@@ -12,8 +12,8 @@ use Rattle.packstream.proofs.Deciding.{whole_value, whole_fault, err_parts}
 use Rattle.reader.specs.declared.progress.Part.{Part}
 use Rattle.reader.specs.declared.progress.Part.TheVariants as part
 use Rattle.reader.specs.declared.progress.Mark.{Mark}
-use Rattle.reader.specs.declared.progress.Standing.{Standing}
-use Rattle.reader.specs.declared.stop.Stop.TheVariants as stop
+use Rattle.reader.specs.declared.progress.Cursor.{Cursor}
+use Rattle.reader.specs.declared.read_fault.ReadFault.TheVariants as stop
 use Rattle.reader.specs.Prelude.{Frame, AreLevels, part_head, Point, IsBeginning, Takes, MayGoOn, Holds, point, mark_of, at_mark, with_fault, points_at, IsKeptAt, Goes, IsLacking, IsDone, IsStanding, IsKeeping, HasGrown, IsKept, IsMark, HoldsOn, IsFaultOf}
 use Rattle.reader.proofs.Opening.{bad_behind, part_is_short}
 
@@ -69,11 +69,11 @@ here_at false h m = refl
 -- ---- what the bytes have
 
 -- bytes are missing behind what is open
-goes_short : (h : Holds) → (g : Goes h h.standing.part) → IsLacking h.standing.part → Bad h.store h.standing.read reason.Short
+goes_short : (h : Holds) → (g : Goes h h.cursor.part) → IsLacking h.cursor.part → Bad h.store h.cursor.read reason.Short
 goes_short h g lacks =
     subst (λ (n : ℕ). Bad h.store n reason.Short) (sym g.read)
     (subst (λ (b : List ℕ). Bad b (length g.full) reason.Short) (sym g.store)
-    (bad_behind g.frames g.full (part_head h.standing.part ++ g.tail) reason.Short g.are (part_is_short _ h.standing.part g.tail g.isa lacks)))
+    (bad_behind g.frames g.full (part_head h.cursor.part ++ g.tail) reason.Short g.are (part_is_short _ h.cursor.part g.tail g.isa lacks)))
 
 done_tree : (h : Holds) → (d : IsDone h) → AreBytes h.store → IsGood d.tree × Spells d.tree h.store
 done_tree h d bytes = good_spelled d.tree h.store bytes d.deep d.sound d.spells
@@ -83,7 +83,7 @@ pub may_go_on : (h : Holds) → IsKeeping h → MayGoOn h.store
 may_go_on h keeps = λ r o bad.
     elim (keeps.stands) as (λ _. r ≡ reason.Short) [
       | inl d ↦ absurd (let k = sym ((whole_value h.store keeps.bytes d.tree).1 (done_tree h d keeps.bytes)) ∙ (whole_fault h.store keeps.bytes r o).1 bad in cc)
-      | inr u ↦ (err_parts {A = Tree} r reason.Short o h.standing.read (sym ((whole_fault h.store keeps.bytes r o).1 bad) ∙ (whole_fault h.store keeps.bytes reason.Short h.standing.read).1 (goes_short h u.0 u.1))).0
+      | inr u ↦ (err_parts {A = Tree} r reason.Short o h.cursor.read (sym ((whole_fault h.store keeps.bytes r o).1 bad) ∙ (whole_fault h.store keeps.bytes reason.Short h.cursor.read).1 (goes_short h u.0 u.1))).0
     ]
 
 -- ---- a piece
@@ -95,23 +95,23 @@ keeps_on old new piece keeps are stands bytes = record {
 }
 
 -- a piece that is joined
-pub joins : (old new : Holds) (before : Point) (piece : List ℕ) → point old ≡ before → IsKeeping new → old.standing.bad ≡ None → new.store ≡ old.store ++ piece → new.standing.bad ≡ None → Takes before piece (point new)
+pub joins : (old new : Holds) (before : Point) (piece : List ℕ) → point old ≡ before → IsKeeping new → old.cursor.bad ≡ None → new.store ≡ old.store ++ piece → new.cursor.bad ≡ None → Takes before piece (point new)
 joins old new before piece is keeps good bytes still =
     subst (λ (p : Point). Takes p piece (point new)) is (rw good (inl (record { joined = bytes; good = still; goes_on = may_go_on new keeps })))
 
 -- ---- a mark that has the open levels alone
 
 -- what a standing has beside the levels that aren't open
-record IsAlike (s o : Standing) : Type 0 where
+record IsAlike (s o : Cursor) : Type 0 where
   part : s.part ≡ o.part
   read : s.read ≡ o.read
   is_whole : s.«open».is_whole ≡ o.«open».is_whole
   levels : (fs : List Frame) → AreLevels fs o.«open».depth o.«open».around → AreLevels fs s.«open».depth s.«open».around
 
-abbrev standing_so : Holds → Standing → Holds
-standing_so h s = record h { standing = s }
+abbrev cursor_so : Holds → Cursor → Holds
+cursor_so h s = record h { cursor = s }
 
-alike_goes : (h : Holds) (s : Standing) (p : Part) → IsAlike s h.standing → Goes h p → Goes (standing_so h s) p
+alike_goes : (h : Holds) (s : Cursor) (p : Part) → IsAlike s h.cursor → Goes h p → Goes (cursor_so h s) p
 alike_goes h s p like g = record {
   frames = g.frames;
   full = g.full;
@@ -126,7 +126,7 @@ alike_goes h s p like g = record {
   isa = g.isa;
 }
 
-alike_done : (h : Holds) (s : Standing) → IsAlike s h.standing → IsDone h → IsDone (standing_so h s)
+alike_done : (h : Holds) (s : Cursor) → IsAlike s h.cursor → IsDone h → IsDone (cursor_so h s)
 alike_done h s like d = record {
   tree = d.tree;
   whole = like.is_whole ∙ d.whole;
@@ -138,34 +138,34 @@ alike_done h s like d = record {
   placed = d.placed;
 }
 
-alike_stands : (h : Holds) (s : Standing) → IsAlike s h.standing → IsStanding h → IsStanding (standing_so h s)
+alike_stands : (h : Holds) (s : Cursor) → IsAlike s h.cursor → IsStanding h → IsStanding (cursor_so h s)
 alike_stands h s like (inl d) = inl (alike_done h s like d)
-alike_stands h s like (inr u) = inr (subst (λ (p : Part). Goes (standing_so h s) p × IsLacking p) (sym like.part) (alike_goes h s h.standing.part like u.0, u.1))
+alike_stands h s like (inr u) = inr (subst (λ (p : Part). Goes (cursor_so h s) p × IsLacking p) (sym like.part) (alike_goes h s h.cursor.part like u.0, u.1))
 
-alike_point : (h : Holds) (s : Standing) → s.bad ≡ h.standing.bad → point (standing_so h s) ≡ point h
+alike_point : (h : Holds) (s : Cursor) → s.bad ≡ h.cursor.bad → point (cursor_so h s) ≡ point h
 alike_point h s same = rw same refl
 
-alike_keeps : (h : Holds) (s : Standing) → IsAlike s h.standing → IsKeeping h → IsKeeping (standing_so h s)
+alike_keeps : (h : Holds) (s : Cursor) → IsAlike s h.cursor → IsKeeping h → IsKeeping (cursor_so h s)
 alike_keeps h s like keeps = record { bytes = keeps.bytes; stands = alike_stands h s like keeps.stands }
 
 -- so each held point stays
-alike_on : (h : Holds) (s : Standing) → IsAlike s h.standing → HoldsOn h (standing_so h s)
+alike_on : (h : Holds) (s : Cursor) → IsAlike s h.cursor → HoldsOn h (cursor_so h s)
 alike_on h s like = λ m kept. (record { store = kept.store; names = kept.names; here = alike_keeps h s like kept.here; behind = kept.behind; held = kept.held }, refl)
 
-marked : (h : Holds) (m : Mark) → IsMark h m → IsAlike m.standing h.standing
+marked : (h : Holds) (m : Mark) → IsMark h m → IsAlike m.cursor h.cursor
 marked h m is = record { part = is.part; read = is.read; is_whole = is.is_whole; levels = is.levels }
 
-at_marked : (h : Holds) (m : Mark) → IsMark h m → at_mark m h ≡ standing_so h m.standing
+at_marked : (h : Holds) (m : Mark) → IsMark h m → at_mark m h ≡ cursor_so h m.cursor
 at_marked h m is =
     let b = ap (λ (n : ℕ). take n h.store) is.store ∙ take-length h.store in
     let c = ap (λ (n : ℕ). take n h.names) is.names ∙ take-length h.names in
     rw (b, c) refl
 
 marked_keeps : (h : Holds) (m : Mark) → IsMark h m → IsKeeping h → IsKeeping (at_mark m h)
-marked_keeps h m is keeps = subst IsKeeping (sym (at_marked h m is)) (alike_keeps h m.standing (marked h m is) keeps)
+marked_keeps h m is keeps = subst IsKeeping (sym (at_marked h m is)) (alike_keeps h m.cursor (marked h m is) keeps)
 
 pub marked_point : (h : Holds) (m : Mark) → IsMark h m → point (at_mark m h) ≡ point h
-marked_point h m is = ap point (at_marked h m is) ∙ alike_point h m.standing is.bad
+marked_point h m is = ap point (at_marked h m is) ∙ alike_point h m.cursor is.bad
 
 -- the point that is marked is held
 pub kept_marked : (h : Holds) (m : Mark) → IsMark h m → IsKeeping h → IsKept h m
@@ -195,7 +195,7 @@ point_cut old new b is grown = ap point (cut_marked old new b is grown) ∙ mark
 
 -- a way back to where it stood does so too
 on_marked : (old : Holds) (b : Mark) → IsMark old b → HoldsOn old (at_mark b old)
-on_marked old b is = subst (λ (x : Holds). HoldsOn old x) (sym (at_marked old b is)) (alike_on old b.standing (marked old b is))
+on_marked old b is = subst (λ (x : Holds). HoldsOn old x) (sym (at_marked old b is)) (alike_on old b.cursor (marked old b is))
 
 pub on_cut : (old new : Holds) (b : Mark) → IsMark old b → HasGrown old new → HoldsOn old (at_mark b new)
 on_cut old new b is grown = subst (λ (x : Holds). HoldsOn old x) (sym (cut_marked old new b is grown)) (on_marked old b is)
@@ -205,10 +205,10 @@ pub on_bad : (old new bad : Holds) (b : Mark) (r : Reason) (o : ℕ) → IsMark 
 on_bad old new bad b r o is grown e = subst (λ (x : Holds). HoldsOn old x) (sym e)
     (λ m kept.
     (let on = on_cut old new b is grown m kept in
-    let turned = alike_on (at_mark b new) (with_fault r o (at_mark b new)).standing (record { part = refl; read = refl; is_whole = refl; levels = λ fs l. l }) m on.0 in (turned.0, turned.1 ∙ on.1)))
+    let turned = alike_on (at_mark b new) (with_fault r o (at_mark b new)).cursor (record { part = refl; read = refl; is_whole = refl; levels = λ fs l. l }) m on.0 in (turned.0, turned.1 ∙ on.1)))
 
 -- a piece in which a fault is makes it bad where it stood
-pub turns_back : (old new bad : Holds) (b : Mark) (piece : List ℕ) (r : Reason) (o : ℕ) → IsMark old b → HasGrown old new → old.standing.bad ≡ None
+pub turns_back : (old new bad : Holds) (b : Mark) (piece : List ℕ) (r : Reason) (o : ℕ) → IsMark old b → HasGrown old new → old.cursor.bad ≡ None
     → bad ≡ with_fault r o (at_mark b new) → IsFaultOf (stop.Fault r o) (old.store ++ piece) → Takes (point old) piece (point bad)
 turns_back old new bad b piece r o is grown good e fault =
     let kept = subst (λ (p : Point). IsBeginning old.store p.bytes) (sym (point_cut old new b is grown)) (begins_itself old.store) in

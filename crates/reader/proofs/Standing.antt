@@ -174,7 +174,7 @@ root_of names store first (k ∷ keys) h none = let w = (h k).0 (among_head k ke
 -- ---- what stands behind an item
 
 abbrev pub after : Open → Holds → Holds
-after o h = record h { standing = record h.standing { «open» = o } }
+after o h = record h { cursor = record h.cursor { «open» = o } }
 
 -- something is open behind it
 pub goes_on : (h : Holds) (o : Open) (gs : List Frame) → o.is_whole ≡ false → AreFrames gs h.store → AreLevels gs o.depth o.around → HaveNames gs h.names h.store → ArePlaced h.names (length h.store) → IsStanding (after o (with_item h))
@@ -201,7 +201,7 @@ left_stands h o (still gs) s i names placed = goes_on h o gs i.0 s i.1 names pla
 
 -- a value without members
 pub value_stands : (h : Holds) (m number : ℕ) (o : Open) → (g : Goes h (part.Body m number 0)) → IsValue h m number
-    → ((fs : List Frame) (t : Tree) → AreLevels fs h.standing.«open».depth h.standing.«open».around → h.standing.«open».is_whole ≡ false → IsLeft (ends fs t) o) → IsStanding (after o (with_item h))
+    → ((fs : List Frame) (t : Tree) → AreLevels fs h.cursor.«open».depth h.cursor.«open».around → h.cursor.«open».is_whole ≡ false → IsLeft (ends fs t) o) → IsStanding (after o (with_item h))
 value_stands h m number o g value left =
     let v = value g in
     left_stands h o (ends g.frames v.tree)
@@ -210,5 +210,5 @@ value_stands h m number o g value left =
     (names_end g.frames v.tree g.full h.names h.store g.are v.keyless g.named) g.placed
 
 -- what was taken with an item that ends
-pub has_taken : (h now : Holds) (o : Open) (rest : List ℕ) → now ≡ after o (with_item h) → h.standing.bad ≡ None → IsStanding (after o (with_item h)) → HasTaken (h.store ++ rest) now rest
+pub has_taken : (h now : Holds) (o : Open) (rest : List ℕ) → now ≡ after o (with_item h) → h.cursor.bad ≡ None → IsStanding (after o (with_item h)) → HasTaken (h.store ++ rest) now rest
 has_taken h now o rest is good stands = rw is (record { stands = stands; bytes = refl; ends = inl refl; bad = good })

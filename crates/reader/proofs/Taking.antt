@@ -28,7 +28,7 @@ use Rattle.reader.proofs.Pushing.{stays_open}
 
 -- with other parts, or more bytes in the store
 abbrev pub parted : Part → Holds → Holds
-parted p h = record h { standing = record h.standing { part = p } }
+parted p h = record h { cursor = record h.cursor { part = p } }
 
 abbrev pub stored : List ℕ → Holds → Holds
 stored s h = record h { store = h.store ++ s }
@@ -63,7 +63,7 @@ behind h p q s tail g store isa = record {
 
 -- ---- faults
 
-pub fault_behind : (h : Holds) (p : Part) (rest : List ℕ) (r : Reason) → (g : Goes h p) → fault_at (place g.frames) ((part_head p ++ g.tail) ++ rest) ≡ Some r → (r ≡ reason.Short → ⊥) → Bad (h.store ++ rest) h.standing.read r × (r ≡ reason.Short → ⊥)
+pub fault_behind : (h : Holds) (p : Part) (rest : List ℕ) (r : Reason) → (g : Goes h p) → fault_at (place g.frames) ((part_head p ++ g.tail) ++ rest) ≡ Some r → (r ≡ reason.Short → ⊥) → Bad (h.store ++ rest) h.cursor.read r × (r ≡ reason.Short → ⊥)
 fault_behind h p rest r g fault other =
     let all : h.store ++ rest ≡ g.full ++ ((part_head p ++ g.tail) ++ rest) = ap (λ (b : List ℕ). b ++ rest) g.store ∙ append_assoc g.full (part_head p ++ g.tail) rest in (
       subst (λ (n : ℕ). Bad (h.store ++ rest) n r) (sym g.read) (subst (λ (b : List ℕ). Bad b (length g.full) r) (sym all) (bad_behind g.frames g.full ((part_head p ++ g.tail) ++ rest) r g.are fault)),
@@ -119,11 +119,11 @@ tail_at h m number start size is g e =
 goes_parted : (h : Holds) (p q : Part) → Goes h p → Goes (parted q h) p
 goes_parted h p q g = record { frames = g.frames; full = g.full; tail = g.tail; unread = g.unread; store = g.store; are = g.are; read = g.read; levels = g.levels; named = g.named; placed = g.placed; isa = g.isa }
 
-pub part_taken : (h : Holds) (p : Part) → Goes h p → IsLacking p → h.standing.bad ≡ None → HasTaken h.store (parted p h) []
+pub part_taken : (h : Holds) (p : Part) → Goes h p → IsLacking p → h.cursor.bad ≡ None → HasTaken h.store (parted p h) []
 part_taken h p g lacks good = record { stands = inr (goes_parted h p p g, lacks); bytes = append-nil h.store; ends = inr refl; bad = good }
 
 -- a text or a byte string that goes on behind the bytes
-pub body_taken : (h : Holds) (m number lacks left : ℕ) (b s : List ℕ) (ns : List Name) → b ≡ h.store ++ s → ns ≡ h.names → Goes h (part.Body m number lacks) → left + length s ≡ lacks → 0 < left → h.standing.bad ≡ None
+pub body_taken : (h : Holds) (m number lacks left : ℕ) (b s : List ℕ) (ns : List Name) → b ≡ h.store ++ s → ns ≡ h.names → Goes h (part.Body m number lacks) → left + length s ≡ lacks → 0 < left → h.cursor.bad ≡ None
     → HasTaken (h.store ++ s) (parted (part.Body m number left) (record h { store = b; names = ns })) []
 body_taken h m number lacks left b s ns e f g all some good =
     subst (λ (x : Holds). HasTaken (h.store ++ s) (parted (part.Body m number left) x) []) (sym (stored_is h b s ns e f))
@@ -131,7 +131,7 @@ body_taken h m number lacks left b s ns e f g all some good =
 
 -- ---- what follows the value
 
-pub trails : (h : Holds) (x : ℕ) (rest : List ℕ) → (d : IsDone h) → AreBytes h.store → Bad (h.store ++ x ∷ rest) h.standing.read reason.Trailing × (reason.Trailing ≡ reason.Short → ⊥)
+pub trails : (h : Holds) (x : ℕ) (rest : List ℕ) → (d : IsDone h) → AreBytes h.store → Bad (h.store ++ x ∷ rest) h.cursor.read reason.Trailing × (reason.Trailing ≡ reason.Short → ⊥)
 trails h x rest d bytes =
     let good = good_spelled d.tree h.store bytes d.deep d.sound d.spells in (
       inr (refl, record { tree = d.tree; front = h.store; more = x ∷ rest; good = good.0; spelled = good.1; whole = refl; some = omega arith; place = d.read }),
@@ -141,7 +141,7 @@ trails h x rest d bytes =
 -- ---- a text that isn't one, and a key that stands twice
 
 pub text_bad : (h : Holds) (m number : ℕ) (size : Size) (rest : List ℕ) → marker m ≡ Some (announces.Text size) → (g : Goes h (part.Body m number 0)) → is_utf8 g.tail ≡ false
-    → Bad (h.store ++ rest) h.standing.read reason.Utf8 × (reason.Utf8 ≡ reason.Short → ⊥)
+    → Bad (h.store ++ rest) h.cursor.read reason.Utf8 × (reason.Utf8 ≡ reason.Short → ⊥)
 text_bad h m number size rest is g bad =
     let n : length g.tail ≡ size_with size number = omega (arith, g.isa.long) ∙ ap (λ (o : Option Marker). body o number) is in
     let small : number < 256 ^ size_len size = subst (λ (o : Option Marker). number < 256 ^ field o) is g.isa.small in
@@ -151,7 +151,7 @@ text_bad h m number size rest is g bad =
 
 pub key_twice : (h : Holds) (m number start : ℕ) (size : Size) (rest : List ℕ) → marker m ≡ Some (announces.Text size) → (g : Goes h (part.Body m number 0)) → (k : IsKeyFrame g.frames) → drop start h.store ≡ g.tail
     → IsUtf8 g.tail → IsNamed h.names h.store k.first (drop start h.store)
-    → Bad (h.store ++ rest) h.standing.read reason.KeyTwice × (reason.KeyTwice ≡ reason.Short → ⊥)
+    → Bad (h.store ++ rest) h.cursor.read reason.KeyTwice × (reason.KeyTwice ≡ reason.Short → ⊥)
 key_twice h m number start size rest is g k there utf8 named =
     let n : length g.tail ≡ size_with size number = omega (arith, g.isa.long) ∙ ap (λ (o : Option Marker). body o number) is in
     let small : number < 256 ^ size_len size = subst (λ (o : Option Marker). number < 256 ^ field o) is g.isa.small in
@@ -179,19 +179,19 @@ no_text m h = refl
 
 -- ---- where it stands
 
-pub goes_of : (h : Holds) → IsStanding h → h.standing.part ≡ part.Nothing → h.standing.«open».is_whole ≡ false → Goes h part.Nothing
+pub goes_of : (h : Holds) → IsStanding h → h.cursor.part ≡ part.Nothing → h.cursor.«open».is_whole ≡ false → Goes h part.Nothing
 goes_of h (inl d) none unread = absurd (let k : true ≡ false = sym d.whole ∙ unread in cc)
 goes_of h (inr u) none unread = subst (λ (p : Part). Goes h p) none u.0
 
-pub done_of : (h : Holds) → IsStanding h → h.standing.«open».is_whole ≡ true → IsDone h
+pub done_of : (h : Holds) → IsStanding h → h.cursor.«open».is_whole ≡ true → IsDone h
 done_of h (inl d) ended = d
 done_of h (inr u) ended = absurd (let k : true ≡ false = sym ended ∙ (u.0).unread in cc)
 
-pub part_of : (h : Holds) (p : Part) → IsStanding h → h.standing.part ≡ p → (p ≡ part.Nothing → ⊥) → Goes h p
+pub part_of : (h : Holds) (p : Part) → IsStanding h → h.cursor.part ≡ p → (p ≡ part.Nothing → ⊥) → Goes h p
 part_of h p (inl d) e other = absurd (other (sym e ∙ d.none))
 part_of h p (inr u) e other = subst (λ (q : Part). Goes h q) e u.0
 
-pub head_bad : (h : Holds) (m : ℕ) (rest : List ℕ) (r : Reason) → (g : Goes h part.Nothing) → (fault_at (place g.frames) (m ∷ rest) ≡ Some r) × (r ≡ reason.Short → ⊥) → Bad (h.store ++ m ∷ rest) h.standing.read r × (r ≡ reason.Short → ⊥)
+pub head_bad : (h : Holds) (m : ℕ) (rest : List ℕ) (r : Reason) → (g : Goes h part.Nothing) → (fault_at (place g.frames) (m ∷ rest) ≡ Some r) × (r ≡ reason.Short → ⊥) → Bad (h.store ++ m ∷ rest) h.cursor.read r × (r ≡ reason.Short → ⊥)
 head_bad h m rest r g f = fault_behind h part.Nothing (m ∷ rest) r g (ap (λ (t : List ℕ). fault_at (place g.frames) (t ++ m ∷ rest)) g.isa ∙ f.0) f.1
 
 -- ---- a whole piece
@@ -245,11 +245,11 @@ frames_on f n first fs front (b ∷ bs) t e lt h =
     subst (λ (k : ℕ). AreFrames (waits (with_tiny f (b ∷ bs) t) k first ∷ fs) (front ++ b ∷ bs)) left
     (subst (λ (x : List ℕ). AreFrames (waits (with_tiny f (b ∷ bs) t) (n - 1 - length bs) first ∷ fs) x) (append_assoc front (b ∷ []) bs) more)
 
-stands_on : (h : Holds) (o : Open) (bs : List ℕ) (fs : List Frame) → (g : Goes h part.Nothing) → fs ≡ g.frames → AreTiny bs → 0 < h.standing.«open».depth → o.is_whole ≡ false
-    → ((f : Frame) (around : List Frame) → AreLevels (f ∷ around) h.standing.«open».depth h.standing.«open».around → Passes f around (length bs) o) → IsStanding (after o (with_item (stored bs h)))
-stands_on h o bs [] g is t deep unread passed = absurd (omega (arith, subst (λ (x : List Frame). AreLevels x h.standing.«open».depth h.standing.«open».around) (sym is) g.levels))
+stands_on : (h : Holds) (o : Open) (bs : List ℕ) (fs : List Frame) → (g : Goes h part.Nothing) → fs ≡ g.frames → AreTiny bs → 0 < h.cursor.«open».depth → o.is_whole ≡ false
+    → ((f : Frame) (around : List Frame) → AreLevels (f ∷ around) h.cursor.«open».depth h.cursor.«open».around → Passes f around (length bs) o) → IsStanding (after o (with_item (stored bs h)))
+stands_on h o bs [] g is t deep unread passed = absurd (omega (arith, subst (λ (x : List Frame). AreLevels x h.cursor.«open».depth h.cursor.«open».around) (sym is) g.levels))
 stands_on h o bs (f ∷ fs) g is t deep unread passed =
-    let levels = subst (λ (x : List Frame). AreLevels x h.standing.«open».depth h.standing.«open».around) (sym is) g.levels in
+    let levels = subst (λ (x : List Frame). AreLevels x h.cursor.«open».depth h.cursor.«open».around) (sym is) g.levels in
     let names = subst (λ (x : List Frame). HaveNames x h.names h.store) (sym is) g.named in
     let all : g.full ≡ h.store = sym (g.store ∙ ap (λ (x : List ℕ). g.full ++ x) g.isa ∙ append-nil g.full) in
     let are = subst (λ (b : List ℕ). AreFrames (f ∷ fs) b) all (subst (λ (x : List Frame). AreFrames x g.full) (sym is) g.are) in
@@ -261,6 +261,6 @@ stands_on h o bs (f ∷ fs) g is t deep unread passed =
     (placed_more h.names h.store bs g.placed)
 
 -- so something is still open behind them
-pub tiny_stands : (h : Holds) (o : Open) (bs : List ℕ) → Goes h part.Nothing → AreTiny bs → 0 < h.standing.«open».depth → o.is_whole ≡ false
-    → ((f : Frame) (around : List Frame) → AreLevels (f ∷ around) h.standing.«open».depth h.standing.«open».around → Passes f around (length bs) o) → IsStanding (after o (with_item (stored bs h)))
+pub tiny_stands : (h : Holds) (o : Open) (bs : List ℕ) → Goes h part.Nothing → AreTiny bs → 0 < h.cursor.«open».depth → o.is_whole ≡ false
+    → ((f : Frame) (around : List Frame) → AreLevels (f ∷ around) h.cursor.«open».depth h.cursor.«open».around → Passes f around (length bs) o) → IsStanding (after o (with_item (stored bs h)))
 tiny_stands h o bs g t deep unread passed = stands_on h o bs g.frames g refl t deep unread passed

@@ -52,8 +52,8 @@ room h m number what is not nest g =
     let heads : ℕ = (place g.frames).heads in
     omega (arith, leb-false 32 heads (ap (λ (b : Bool). b && nat_le 32 heads) (sym nest) ∙ (free h m number what is not g).1), heads_are g.frames)
 
-pub has_room : (h : Holds) (m number : ℕ) (what : Marker) → marker m ≡ Some what → is_text what ≡ false → nests what ≡ true → (g : Goes h (part.Body m number 0)) → h.standing.«open».depth < 32
-has_room h m number what is not nest g = omega (arith, room h m number what is not nest g, levels_depth g.frames h.standing.«open».depth h.standing.«open».around g.levels)
+pub has_room : (h : Holds) (m number : ℕ) (what : Marker) → marker m ≡ Some what → is_text what ≡ false → nests what ≡ true → (g : Goes h (part.Body m number 0)) → h.cursor.«open».depth < 32
+has_room h m number what is not nest g = omega (arith, room h m number what is not nest g, levels_depth g.frames h.cursor.«open».depth h.cursor.«open».around g.levels)
 
 head_is : (m number : ℕ) (what : Marker) → marker m ≡ Some what → head_bytes m number ≡ m ∷ big_bytes (field (Some what)) number
 head_is m number what is = ap (λ (o : Option Marker). m ∷ big_bytes (field o) number) is
@@ -139,7 +139,7 @@ plain_value h m number (announces.Struct n) is nt nl nd ns lt = absurd (ns n ref
 
 -- ---- what nests
 
-pub list_has_room : (h : Holds) (m number count : ℕ) (what : Marker) → marker m ≡ Some what → IsListOf what number count → (g : Goes h (part.Body m number 0)) → h.standing.«open».depth < 32
+pub list_has_room : (h : Holds) (m number count : ℕ) (what : Marker) → marker m ≡ Some what → IsListOf what number count → (g : Goes h (part.Body m number 0)) → h.cursor.«open».depth < 32
 list_has_room h m number count (announces.List size) is l g = has_room h m number (announces.List size) is refl refl g
 list_has_room h m number count (announces.Struct n) is l g = has_room h m number (announces.Struct n) is refl refl g
 list_has_room h m number count what is l g = absurd l
@@ -168,7 +168,7 @@ dict_value h m number size is e lt =
 
 -- a head, and something to come
 opens : (h : Holds) (m number : ℕ) (what : Marker) (o : Open) (f : Opened) (n first : ℕ) → marker m ≡ Some what → is_text what ≡ false → nests what ≡ true → body (Some what) number ≡ 0 → (n ≡ 0 → ⊥) → (g : Goes h (part.Body m number 0))
-    → ((heads : ℕ) → heads ≤ 32 → IsFrame heads f n (m ∷ big_bytes (field (Some what)) number)) → AreLevels (waits f n first ∷ g.frames) o.depth o.around → o.is_whole ≡ h.standing.«open».is_whole → HasOwnNames (waits f n first) g.frames h.names h.store
+    → ((heads : ℕ) → heads ≤ 32 → IsFrame heads f n (m ∷ big_bytes (field (Some what)) number)) → AreLevels (waits f n first ∷ g.frames) o.depth o.around → o.is_whole ≡ h.cursor.«open».is_whole → HasOwnNames (waits f n first) g.frames h.names h.store
     → IsStanding (after o (with_item h))
 opens h m number what o f n first is not nest none some g frame levels whole names =
     let deep = room h m number what is not nest g in
@@ -186,7 +186,7 @@ opens h m number what o f n first is not nest none some g frame levels whole nam
     goes_on h o (waits f n first ∷ g.frames) (whole ∙ g.unread) (subst (λ (b : List ℕ). AreFrames (waits f n first ∷ g.frames) b) all are) levels (names, g.named) g.placed
 
 pub list_stands : (h : Holds) (m number count : ℕ) (what : Marker) (o : Open) → marker m ≡ Some what → IsListOf what number count → (count ≡ 0 → ⊥) → (g : Goes h (part.Body m number 0))
-    → ((fs : List Frame) (f : Opened) → AreLevels fs h.standing.«open».depth h.standing.«open».around → next_of f ≡ inside.Member → AreLevels (waits f count 0 ∷ fs) o.depth o.around) → o.is_whole ≡ h.standing.«open».is_whole
+    → ((fs : List Frame) (f : Opened) → AreLevels fs h.cursor.«open».depth h.cursor.«open».around → next_of f ≡ inside.Member → AreLevels (waits f count 0 ∷ fs) o.depth o.around) → o.is_whole ≡ h.cursor.«open».is_whole
     → IsStanding (after o (with_item h))
 list_stands h m number count (announces.List size) o is l some g levels whole =
     let field_is = sized_by size number count (small_by m number (announces.List size) is g.isa.small) l in
@@ -199,7 +199,7 @@ list_stands h m number count (announces.Struct n) o is l some g levels whole =
 list_stands h m number count what o is l some g levels whole = absurd l
 
 pub dict_stands : (h : Holds) (m number count : ℕ) (size : Size) (o : Open) → marker m ≡ Some (announces.Dict size) → size_with size number ≡ count → (count ≡ 0 → ⊥) → (g : Goes h (part.Body m number 0))
-    → ((fs : List Frame) (f : Opened) → AreLevels fs h.standing.«open».depth h.standing.«open».around → next_of f ≡ inside.Key → AreLevels (waits f count (length h.names) ∷ fs) o.depth o.around) → o.is_whole ≡ h.standing.«open».is_whole
+    → ((fs : List Frame) (f : Opened) → AreLevels fs h.cursor.«open».depth h.cursor.«open».around → next_of f ≡ inside.Key → AreLevels (waits f count (length h.names) ∷ fs) o.depth o.around) → o.is_whole ≡ h.cursor.«open».is_whole
     → IsStanding (after o (with_item h))
 dict_stands h m number count size o is l some g levels whole =
     let field_is = sized_by size number count (small_by m number (announces.Dict size) is g.isa.small) l in
@@ -255,12 +255,12 @@ named_is h b ns start len first found e f g = rw (e, f, g) refl
 
 pub key_stands : (h : Holds) (m number start : ℕ) (size : Size) (o : Open) → marker m ≡ Some (announces.Text size) → (g : Goes h (part.Body m number 0)) → (k : IsKeyFrame g.frames)
     → start + length g.tail ≡ length h.store → drop start h.store ≡ g.tail → IsUtf8 g.tail → (IsNamed h.names h.store k.first (drop start h.store) → ⊥)
-    → ((fs : List Frame) (es : Entries) (s : List ℕ) (n first : ℕ) → AreLevels (waits (at_key es) n first ∷ fs) h.standing.«open».depth h.standing.«open».around → AreLevels (waits (at_value es s) n first ∷ fs) o.depth o.around) → o.is_whole ≡ h.standing.«open».is_whole
+    → ((fs : List Frame) (es : Entries) (s : List ℕ) (n first : ℕ) → AreLevels (waits (at_key es) n first ∷ fs) h.cursor.«open».depth h.cursor.«open».around → AreLevels (waits (at_value es s) n first ∷ fs) o.depth o.around) → o.is_whole ≡ h.cursor.«open».is_whole
     → IsStanding (after o (with_item (named_with (record { start = start; len = length h.store - start; first = k.first }) h)))
 key_stands h m number start size o is g k from there utf8 other levels same =
     let n : Name = record { start = start; len = length h.store - start; first = k.first } in
     let here = subst (λ (fs : List Frame). AreFrames fs g.full) k.is g.are in
-    let around = subst (λ (fs : List Frame). AreLevels fs h.standing.«open».depth h.standing.«open».around) k.is g.levels in
+    let around = subst (λ (fs : List Frame). AreLevels fs h.cursor.«open».depth h.cursor.«open».around) k.is g.levels in
     let named = subst (λ (fs : List Frame). HaveNames fs h.names h.store) k.is g.named in
     let unnamed = subst (λ (s : List ℕ). IsNamed h.names h.store k.first s → ⊥) there other in
     let fresh : is_among g.tail (keys_of k.es) ≡ false = false_from_ne_true (is_among g.tail (keys_of k.es)) (λ e. unnamed ((named.0.0.0 g.tail).0 e)) in

@@ -10,11 +10,11 @@ use Rattle.packstream.specs.Plain.{AreBytes}
 use Rattle.packstream.specs.Markers.{marker}
 use Rattle.packstream.specs.Spelling.{SpellsTree}
 use Rattle.packstream.specs.Faults.{Place, Bad}
-use Rattle.reader.specs.declared.stop.Stop.{Stop}
-use Rattle.reader.specs.declared.stop.Stop.TheVariants as stop
+use Rattle.reader.specs.declared.read_fault.ReadFault.{ReadFault}
+use Rattle.reader.specs.declared.read_fault.ReadFault.TheVariants as stop
 use Rattle.reader.specs.declared.progress.Part.{Part}
 use Rattle.reader.specs.declared.progress.Part.TheVariants as part
-use Rattle.reader.specs.declared.progress.Standing.{Standing}
+use Rattle.reader.specs.declared.progress.Cursor.{Cursor}
 use Rattle.reader.specs.declared.progress.Mark.{Mark}
 use Rattle.reader.specs.declared.progress.Reading.{Reading}
 use Rattle.reader.specs.Heads.{field, body, size_with, head_bytes, part_head}
@@ -27,26 +27,26 @@ use Rattle.packstream.specs.Limits.{max_depth}
 pub record Holds : Type 0 where
   pub store : List ℕ
   pub names : List Name
-  pub standing : Standing
+  pub cursor : Cursor
 
 -- what a reading holds, as contracts see it
 abbrev pub holds : Reading → Holds
 holds r = record {
   store = r.texts.bytes;
   names = r.texts.names;
-  standing = r.standing;
+  cursor = r.cursor;
 }
 
 -- the point where it stands
 abbrev pub point : Holds → Point
-point h = record { bytes = h.store; bad = h.standing.bad }
+point h = record { bytes = h.store; bad = h.cursor.bad }
 
 -- the mark of where it stands
 abbrev pub mark_of : Holds → Mark
 mark_of h = record {
   store = length h.store;
   keys = length h.names;
-  standing = h.standing;
+  cursor = h.cursor;
 }
 
 -- what it holds once it has returned to a mark
@@ -54,17 +54,17 @@ abbrev pub at_mark : Mark → Holds → Holds
 at_mark m h = record {
   store = take m.store h.store;
   names = take m.keys h.names;
-  standing = m.standing;
+  cursor = m.cursor;
 }
 
 -- what it holds, turned bad by this fault at this place
 abbrev pub with_fault : Reason → ℕ → Holds → Holds
-with_fault r o h = record h { standing = record h.standing { bad = Some (r, o) } }
+with_fault r o h = record h { cursor = record h.cursor { bad = Some (r, o) } }
 
 -- the item that was begun is whole, and ends where the bytes do
 abbrev pub with_item : Holds → Holds
 with_item h = record h {
-  standing = record h.standing { part = part.Nothing; read = length h.store };
+  cursor = record h.cursor { part = part.Nothing; read = length h.store };
 }
 
 -- the byte announces something that may stand there
@@ -101,11 +101,11 @@ pub record Goes (h : Holds) (p : Part) : Type 0 where
   pub frames : List Frame
   pub full : List ℕ
   pub tail : List ℕ
-  pub unread : h.standing.«open».is_whole ≡ false
+  pub unread : h.cursor.«open».is_whole ≡ false
   pub store : h.store ≡ full ++ (part_head p ++ tail)
   pub are : AreFrames frames full
-  pub read : h.standing.read ≡ length full
-  pub levels : AreLevels frames h.standing.«open».depth h.standing.«open».around
+  pub read : h.cursor.read ≡ length full
+  pub levels : AreLevels frames h.cursor.«open».depth h.cursor.«open».around
   pub named : HaveNames frames h.names h.store
   pub placed : ArePlaced h.names (length h.store)
   pub isa : IsPart (place frames) p tail
@@ -132,17 +132,17 @@ IsValue h m number = (g : Goes h (part.Body m number 0)) → IsValueBehind h m n
 -- The value is whole.
 pub record IsDone (h : Holds) : Type 0 where
   pub tree : Tree
-  pub whole : h.standing.«open».is_whole ≡ true
-  pub none : h.standing.part ≡ part.Nothing
+  pub whole : h.cursor.«open».is_whole ≡ true
+  pub none : h.cursor.part ≡ part.Nothing
   pub spells : SpellsTree tree h.store
   pub sound : IsSound tree
   pub deep : depth tree ≤ max_depth
-  pub read : h.standing.read ≡ length h.store
+  pub read : h.cursor.read ≡ length h.store
   pub placed : ArePlaced h.names (length h.store)
 
 -- The value is whole; or it isn't, and a part that was begun lacks bytes.
 abbrev pub IsStanding : Holds → Type 0
-IsStanding h = IsDone h ⊎ (Goes h h.standing.part × IsLacking h.standing.part)
+IsStanding h = IsDone h ⊎ (Goes h h.cursor.part × IsLacking h.cursor.part)
 
 -- what a reader keeps
 pub record IsKeeping (h : Holds) : Type 0 where
@@ -158,16 +158,16 @@ pub record HasGrown (old new : Holds) : Type 0 where
 pub record HasTaken (b : List ℕ) (new : Holds) (rest : List ℕ) : Type 0 where
   pub stands : IsStanding new
   pub bytes : new.store ++ rest ≡ b
-  pub ends : (new.standing.part ≡ part.Nothing) ⊎ (rest ≡ [])
-  pub bad : new.standing.bad ≡ None
+  pub ends : (new.cursor.part ≡ part.Nothing) ⊎ (rest ≡ [])
+  pub bad : new.cursor.bad ≡ None
 
 -- These bytes have this fault, and it isn't for missing bytes; of want of memory nothing is known.
-abbrev pub IsFaultOf : Stop → List ℕ → Type 0
+abbrev pub IsFaultOf : ReadFault → List ℕ → Type 0
 IsFaultOf stop.Memory b = Unit {0}
 IsFaultOf (stop.Fault r o) b = Bad b o r × (r ≡ reason.Short → ⊥)
 
 -- what is answered to these bytes: those that rest, by `view`, where it took the others; or their fault
-abbrev pub Answers : {X : Type 0} → (X → List ℕ) → Result X Stop → List ℕ → Holds → Type 0
+abbrev pub Answers : {X : Type 0} → (X → List ℕ) → Result X ReadFault → List ℕ → Holds → Type 0
 Answers view (Ok x) b new = HasTaken b new (view x)
 Answers view (Err e) b new = IsFaultOf e b
 
@@ -198,12 +198,12 @@ IsKeptAt false h m = IsKept h m
 pub record IsMark (h : Holds) (m : Mark) : Type 0 where
   pub store : m.store ≡ length h.store
   pub names : m.keys ≡ length h.names
-  pub part : m.standing.part ≡ h.standing.part
-  pub read : m.standing.read ≡ h.standing.read
-  pub bad : m.standing.bad ≡ h.standing.bad
-  pub is_whole : m.standing.«open».is_whole ≡ h.standing.«open».is_whole
-  pub levels : (fs : List Frame) → AreLevels fs h.standing.«open».depth h.standing.«open».around
-      → AreLevels fs m.standing.«open».depth m.standing.«open».around
+  pub part : m.cursor.part ≡ h.cursor.part
+  pub read : m.cursor.read ≡ h.cursor.read
+  pub bad : m.cursor.bad ≡ h.cursor.bad
+  pub is_whole : m.cursor.«open».is_whole ≡ h.cursor.«open».is_whole
+  pub levels : (fs : List Frame) → AreLevels fs h.cursor.«open».depth h.cursor.«open».around
+      → AreLevels fs m.cursor.«open».depth m.cursor.«open».around
 
 -- Each point that was held before stays.
 abbrev pub HoldsOn : Holds → Holds → Type 0

@@ -11,7 +11,7 @@ ghost use Rattle.reader.specs.Holding.{holds, with_item, Goes, IsStanding, IsVal
 
 use crate::head::{body_len, field_len, join, size_in};
 use crate::progress::{Part, Reading};
-use crate::stop::Stop;
+use crate::read_fault::ReadFault;
 use packstream::Reason;
 use packstream::marker::{Marker, Size, marker_of};
 use simdutf8::basic::from_utf8;
@@ -19,25 +19,29 @@ use simdutf8::basic::from_utf8;
 impl Reading {
     /// Takes an item of which this is the marker, and answers what follows it.
     #[inline]
-    pub(crate) fn take_item<'a>(&mut self, marker: u8, bytes: &'a [u8]) -> Result<&'a [u8], Stop>
+    pub(crate) fn take_item<'a>(
+        &mut self,
+        marker: u8,
+        bytes: &'a [u8],
+    ) -> Result<&'a [u8], ReadFault>
         requires stands { IsStanding (holds self.old) }
-        requires good { (holds self.old).standing.bad ≡ None }
-        requires none { (holds self.old).standing.part ≡ part.Nothing }
+        requires good { (holds self.old).cursor.bad ≡ None }
+        requires none { (holds self.old).cursor.part ≡ part.Nothing }
         requires bytes { AreBytes (holds self.old).store }
         ensures told { Answers (λ x. x.now) result ((holds self.old).store ++ marker ∷ bytes.now)
             (holds self.new) }
         ensures shorter { IfOk result (λ x. length x.now ≤ length bytes.now) }
         ensures grown { HasGrown (holds self.old) (holds self.new) }
     {
-        let place = self.standing.read;
-        if self.standing.open.is_whole() {
-            return Err(Stop::Fault(Reason::Trailing, place));
+        let place = self.cursor.read;
+        if self.cursor.open.is_whole() {
+            return Err(ReadFault::Fault(Reason::Trailing, place));
         }
         let Some(announced) = marker_of(marker) else {
-            return Err(Stop::Fault(Reason::Marker, place));
+            return Err(ReadFault::Fault(Reason::Marker, place));
         };
-        if let Some(reason) = self.standing.open.refuses(announced) {
-            return Err(Stop::Fault(reason, place));
+        if let Some(reason) = self.cursor.open.refuses(announced) {
+            return Err(ReadFault::Fault(reason, place));
         }
         self.texts.extend(&[marker])?;
         self.take_head(announced, marker, 0, 0, bytes)
@@ -52,10 +56,10 @@ impl Reading {
         number: u64,
         has: usize,
         bytes: &'a [u8],
-    ) -> Result<&'a [u8], Stop>
+    ) -> Result<&'a [u8], ReadFault>
         requires announced { marker_at marker ≡ Some announced }
         requires goes { Goes (holds self.old) (part.Head marker number has) }
-        requires good { (holds self.old).standing.bad ≡ None }
+        requires good { (holds self.old).cursor.bad ≡ None }
         ensures told { Answers (λ x. x.now) result
             ((holds self.old).store ++ bytes.now)
             (holds self.new) }
@@ -65,7 +69,7 @@ impl Reading {
         let lacks = field_len(announced) - has;
         if bytes.len() < lacks {
             self.texts.extend(bytes)?;
-            self.standing.part = Part::Head {
+            self.cursor.part = Part::Head {
                 marker,
                 number: join(number, bytes),
                 has: has + bytes.len(),
@@ -87,10 +91,10 @@ impl Reading {
         number: u64,
         lacks: u64,
         bytes: &'a [u8],
-    ) -> Result<&'a [u8], Stop>
+    ) -> Result<&'a [u8], ReadFault>
         requires announced { marker_at marker ≡ Some announced }
         requires goes { Goes (holds self.old) (part.Body marker number lacks) }
-        requires good { (holds self.old).standing.bad ≡ None }
+        requires good { (holds self.old).cursor.bad ≡ None }
         ensures told { Answers (λ x. x.now) result
             ((holds self.old).store ++ bytes.now)
             (holds self.new) }
@@ -102,7 +106,7 @@ impl Reading {
         }
         if (bytes.len() as u64) < lacks {
             self.texts.extend(bytes)?;
-            self.standing.part = Part::Body {
+            self.cursor.part = Part::Body {
                 marker,
                 number,
                 lacks: lacks - bytes.len() as u64,
@@ -123,10 +127,10 @@ impl Reading {
         marker: u8,
         number: u64,
         rest: &'a [u8],
-    ) -> Result<&'a [u8], Stop>
+    ) -> Result<&'a [u8], ReadFault>
         requires announced { marker_at marker ≡ Some announced }
         requires goes { Goes (holds self.old) (part.Body marker number 0) }
-        requires good { (holds self.old).standing.bad ≡ None }
+        requires good { (holds self.old).cursor.bad ≡ None }
         ensures told { Answers (λ x. x.now) result
             ((holds self.old).store ++ rest.now)
             (holds self.new) }
@@ -155,10 +159,10 @@ impl Reading {
         marker: u8,
         number: u64,
         rest: &'a [u8],
-    ) -> Result<&'a [u8], Stop>
+    ) -> Result<&'a [u8], ReadFault>
         requires announced { marker_at marker ≡ Some (announces.Text size) }
         requires goes { Goes (holds self.old) (part.Body marker number 0) }
-        requires good { (holds self.old).standing.bad ≡ None }
+        requires good { (holds self.old).cursor.bad ≡ None }
         ensures told { Answers (λ x. x.now) result
             ((holds self.old).store ++ rest.now)
             (holds self.new) }
@@ -168,9 +172,9 @@ impl Reading {
         let start = self.texts.len() - size_in(size, number) as usize;
         let text = &self.texts.bytes()[start..];
         let Ok(_) = from_utf8(text) else {
-            return Err(Stop::Fault(Reason::Utf8, self.standing.read));
+            return Err(ReadFault::Fault(Reason::Utf8, self.cursor.read));
         };
-        if self.standing.open.waits_for_key() {
+        if self.cursor.open.waits_for_key() {
             return self.end_key(size, marker, number, start, rest);
         }
         self.end_value(Marker::Text(size), marker, number, rest)
@@ -184,28 +188,28 @@ impl Reading {
         number: u64,
         start: usize,
         rest: &'a [u8],
-    ) -> Result<&'a [u8], Stop>
+    ) -> Result<&'a [u8], ReadFault>
         requires announced { marker_at marker ≡ Some (announces.Text size) }
         requires goes { Goes (holds self.old) (part.Body marker number 0) }
         requires start { start + size_with size number ≡ length (holds self.old).store }
         requires text { IsUtf8 (drop start (holds self.old).store) }
         requires key { (fs : List Frame)
-            → AreLevels fs (holds self.old).standing.«open».depth
-            (holds self.old).standing.«open».around → is_some (place fs).key ≡ true }
-        requires good { (holds self.old).standing.bad ≡ None }
+            → AreLevels fs (holds self.old).cursor.«open».depth
+            (holds self.old).cursor.«open».around → is_some (place fs).key ≡ true }
+        requires good { (holds self.old).cursor.bad ≡ None }
         ensures told { Answers (λ x. x.now) result
             ((holds self.old).store ++ rest.now)
             (holds self.new) }
         ensures after { IfOk result (λ x. x.now ≡ rest.now) }
         ensures grown { HasGrown (holds self.old) (holds self.new) }
     {
-        let first = self.standing.open.keys();
+        let first = self.cursor.open.keys();
         let is_new = self.texts.join(first, start)?;
         if !is_new {
-            return Err(Stop::Fault(Reason::KeyTwice, self.standing.read));
+            return Err(ReadFault::Fault(Reason::KeyTwice, self.cursor.read));
         }
         self.end_here();
-        self.standing.open.key_ends();
+        self.cursor.open.key_ends();
         Ok(rest)
     }
 
@@ -216,11 +220,11 @@ impl Reading {
         marker: u8,
         number: u64,
         rest: &'a [u8],
-    ) -> Result<&'a [u8], Stop>
+    ) -> Result<&'a [u8], ReadFault>
         requires announced { marker_at marker ≡ Some announced }
         requires goes { Goes (holds self.old) (part.Body marker number 0) }
         requires value { IsValue (holds self.old) marker number }
-        requires good { (holds self.old).standing.bad ≡ None }
+        requires good { (holds self.old).cursor.bad ≡ None }
         ensures told { Answers (λ x. x.now) result
             ((holds self.old).store ++ rest.now)
             (holds self.new) }
@@ -228,7 +232,7 @@ impl Reading {
         ensures grown { HasGrown (holds self.old) (holds self.new) }
     {
         self.end_here();
-        self.standing.open.value_ends();
+        self.cursor.open.value_ends();
         Ok(rest)
     }
 
@@ -241,11 +245,11 @@ impl Reading {
         number: u64,
         count: u64,
         rest: &'a [u8],
-    ) -> Result<&'a [u8], Stop>
+    ) -> Result<&'a [u8], ReadFault>
         requires announced { marker_at marker ≡ Some announced }
         requires list { IsListOf announced number count }
         requires goes { Goes (holds self.old) (part.Body marker number 0) }
-        requires good { (holds self.old).standing.bad ≡ None }
+        requires good { (holds self.old).cursor.bad ≡ None }
         ensures told { Answers (λ x. x.now) result
             ((holds self.old).store ++ rest.now)
             (holds self.new) }
@@ -256,7 +260,7 @@ impl Reading {
             return self.end_value(announced, marker, number, rest);
         }
         self.end_here();
-        self.standing.open.open(count);
+        self.cursor.open.open(count);
         Ok(rest)
     }
 
@@ -268,10 +272,10 @@ impl Reading {
         marker: u8,
         number: u64,
         rest: &'a [u8],
-    ) -> Result<&'a [u8], Stop>
+    ) -> Result<&'a [u8], ReadFault>
         requires announced { marker_at marker ≡ Some (announces.Dict size) }
         requires goes { Goes (holds self.old) (part.Body marker number 0) }
-        requires good { (holds self.old).standing.bad ≡ None }
+        requires good { (holds self.old).cursor.bad ≡ None }
         ensures told { Answers (λ x. x.now) result
             ((holds self.old).store ++ rest.now)
             (holds self.new) }
@@ -284,7 +288,7 @@ impl Reading {
         }
         self.end_here();
         let keys = self.texts.count();
-        self.standing.open.open_dict(count, keys);
+        self.cursor.open.open_dict(count, keys);
         Ok(rest)
     }
 
@@ -292,9 +296,9 @@ impl Reading {
     #[inline]
     pub(crate) fn end_here(&mut self)
         ensures item { holds self.new ≡ with_item (holds self.old) }
-        ensures opened { self.new.standing.«open» ≡ self.old.standing.«open» }
+        ensures opened { self.new.cursor.«open» ≡ self.old.cursor.«open» }
     {
-        self.standing.part = Part::Nothing;
-        self.standing.read = self.texts.len();
+        self.cursor.part = Part::Nothing;
+        self.cursor.read = self.texts.len();
     }
 }

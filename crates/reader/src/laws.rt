@@ -27,7 +27,7 @@ pub fn finish_reads()
     ensures fault { (p : Point) (b : List ℕ) (told : Result Tree AnyFault) → Reads p b
         → Finishes p told → TellsFault b told }
 
-    // The same as a function of the bytes.
+    // This as a function of the bytes.
     ensures same { (p : Point) (b : List ℕ) (told : Result Tree AnyFault) → Reads p b
         → Finishes p told → Tells (λ t. t) told (whole_of b) }
 {}

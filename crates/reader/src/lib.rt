@@ -9,8 +9,8 @@ pub mod laws;
 mod open;
 mod piece;
 mod progress;
+mod read_fault;
 mod reader;
-mod stop;
 mod texts;
 
 pub use piece::read_piece;

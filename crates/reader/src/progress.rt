@@ -7,7 +7,7 @@ ghost use Rattle.reader.specs.Piecewise.{nothing_read, Takes};
 ghost use Rattle.reader.specs.Holding.{holds, point, at_mark, mark_of, with_fault, Goes, IsStanding, IsKeeping, IsMark, HoldsOn, HasGrown, HasTaken, Answers};
 
 use crate::open::Open;
-use crate::stop::Stop;
+use crate::read_fault::ReadFault;
 use crate::texts::Texts;
 use packstream::Reason;
 use packstream::marker::marker_of;
@@ -26,7 +26,7 @@ pub(crate) enum Part {
 
 /// What a reader knows beside its lists.
 #[derive(Clone, Copy)]
-pub(crate) struct Standing {
+pub(crate) struct Cursor {
     pub(crate) open: Open,
     pub(crate) part: Part,
     /// How many bytes were read, but those of the part.
@@ -39,7 +39,7 @@ pub(crate) struct Standing {
 pub(crate) struct Mark {
     pub(crate) store: usize,
     pub(crate) keys: usize,
-    pub(crate) standing: Standing,
+    pub(crate) cursor: Cursor,
 }
 
 /// The bytes that were read, which of them are keys, and what is known beside them.
@@ -47,7 +47,7 @@ pub(crate) struct Mark {
 pub(crate) struct Reading {
     pub(crate) alloc: Global,
     pub(crate) texts: Texts,
-    pub(crate) standing: Standing,
+    pub(crate) cursor: Cursor,
 }
 
 impl Reading {
@@ -58,7 +58,7 @@ impl Reading {
         Reading {
             alloc,
             texts: Texts::new(alloc),
-            standing: Standing {
+            cursor: Cursor {
                 open: Open::new(),
                 part: Part::Nothing,
                 read: 0,
@@ -74,7 +74,7 @@ impl Reading {
         Mark {
             store: self.texts.len(),
             keys: self.texts.count(),
-            standing: self.standing,
+            cursor: self.cursor,
         }
     }
 
@@ -85,10 +85,10 @@ impl Reading {
     {
         mark.store = self.texts.len();
         mark.keys = self.texts.count();
-        mark.standing.open.copy_from(&self.standing.open);
-        mark.standing.part = self.standing.part;
-        mark.standing.read = self.standing.read;
-        mark.standing.bad = self.standing.bad;
+        mark.cursor.open.copy_from(&self.cursor.open);
+        mark.cursor.part = self.cursor.part;
+        mark.cursor.read = self.cursor.read;
+        mark.cursor.bad = self.cursor.bad;
     }
 
     /// Goes back to a point where it stood.
@@ -97,21 +97,21 @@ impl Reading {
         ensures { holds self.new ≡ at_mark mark.now (holds self.old) }
     {
         self.texts.cut(mark.store, mark.keys);
-        self.standing = mark.standing;
+        self.cursor = mark.cursor;
     }
 
     /// The fault that every continuation has, where that is known.
     pub(crate) fn bad(&self) -> Option<(Reason, usize)>
-        ensures { result ≡ (holds self.now).standing.bad }
+        ensures { result ≡ (holds self.now).cursor.bad }
     {
-        self.standing.bad
+        self.cursor.bad
     }
 
     /// Every continuation has this fault at this place.
     pub(crate) fn turn_bad(&mut self, reason: Reason, place: usize)
         ensures { holds self.new ≡ with_fault reason place (holds self.old) }
     {
-        self.standing.bad = Some((reason, place));
+        self.cursor.bad = Some((reason, place));
     }
 
     /// The bytes that were read.
@@ -129,17 +129,17 @@ impl Reading {
     pub(crate) fn take_within(&mut self, piece: &[u8]) -> Result<bool, AllocError>
         requires { IsStanding (holds self.old) }
         ensures taken { result ≡ Ok true
-            → ((holds self.old).standing.bad ≡ None)
+            → ((holds self.old).cursor.bad ≡ None)
             × HasTaken ((holds self.old).store ++ piece.now) (holds self.new) [] }
         ensures grown { HasGrown (holds self.old) (holds self.new) }
         ensures other { result ≡ Ok false → self.new ≡ self.old }
         ensures err { OnErr result (self.new ≡ self.old) }
-        ensures memory { OnErr result ((holds self.old).standing.bad ≡ None) }
+        ensures memory { OnErr result ((holds self.old).cursor.bad ≡ None) }
     {
-        if self.standing.bad.is_some() {
+        if self.cursor.bad.is_some() {
             return Ok(false);
         }
-        match self.standing.part {
+        match self.cursor.part {
             Part::Nothing => self.take_members(piece),
             Part::Head { .. } => Ok(false),
             Part::Body {
@@ -154,15 +154,15 @@ impl Reading {
     #[inline]
     fn take_members(&mut self, piece: &[u8]) -> Result<bool, AllocError>
         requires stands { IsStanding (holds self.old) }
-        requires none { (holds self.old).standing.part ≡ part.Nothing }
-        requires good { (holds self.old).standing.bad ≡ None }
+        requires none { (holds self.old).cursor.part ≡ part.Nothing }
+        requires good { (holds self.old).cursor.bad ≡ None }
         ensures taken { result ≡ Ok true
             → HasTaken ((holds self.old).store ++ piece.now) (holds self.new) [] }
         ensures grown { HasGrown (holds self.old) (holds self.new) }
         ensures other { result ≡ Ok false → self.new ≡ self.old }
         ensures err { OnErr result (self.new ≡ self.old) }
     {
-        let count = self.standing.open.tiny_members(piece);
+        let count = self.cursor.open.tiny_members(piece);
         if count == 0 || count < piece.len() {
             return Ok(false);
         }
@@ -180,7 +180,7 @@ impl Reading {
         piece: &[u8],
     ) -> Result<bool, AllocError>
         requires goes { Goes (holds self.old) (part.Body marker number lacks) }
-        requires good { (holds self.old).standing.bad ≡ None }
+        requires good { (holds self.old).cursor.bad ≡ None }
         ensures taken { result ≡ Ok true
             → HasTaken ((holds self.old).store ++ piece.now) (holds self.new) [] }
         ensures grown { HasGrown (holds self.old) (holds self.new) }
@@ -191,7 +191,7 @@ impl Reading {
             return Ok(false);
         }
         self.texts.extend(piece)?;
-        self.standing.part = Part::Body {
+        self.cursor.part = Part::Body {
             marker,
             number,
             lacks: lacks - piece.len() as u64,
@@ -203,17 +203,17 @@ impl Reading {
     #[inline]
     fn take_run(&mut self, run: &[u8]) -> Result<(), AllocError>
         requires goes { Goes (holds self.old) part.Nothing }
-        requires good { (holds self.old).standing.bad ≡ None }
+        requires good { (holds self.old).cursor.bad ≡ None }
         requires tiny { AreTiny run.now }
-        requires room { HasRoom self.old.standing.«open» (length run.now) }
+        requires room { HasRoom self.old.cursor.«open» (length run.now) }
         ensures taken { OnOk result
             (HasTaken ((holds self.old).store ++ run.now) (holds self.new) []) }
-        ensures none { OnOk result ((holds self.new).standing.part ≡ part.Nothing) }
+        ensures none { OnOk result ((holds self.new).cursor.part ≡ part.Nothing) }
         ensures grown { HasGrown (holds self.old) (holds self.new) }
         ensures err { OnErr result (self.new ≡ self.old) }
     {
         self.texts.extend(run)?;
-        self.standing.open.pass(run.len() as u64);
+        self.cursor.open.pass(run.len() as u64);
         self.end_here();
         Ok(())
     }
@@ -223,7 +223,7 @@ impl Reading {
     pub(crate) fn feed(&mut self, before: &Mark, piece: &[u8]) -> Result<(), AllocError>
         requires before { IsMark (holds self.old) before.now }
         requires keeping { IsKeeping (holds self.old) }
-        requires good { (holds self.old).standing.bad ≡ None }
+        requires good { (holds self.old).cursor.bad ≡ None }
         ensures here { OnOk result
             (Takes (point (holds self.old)) piece.now (point (holds self.new))) }
         ensures held { HoldsOn (holds self.old) (holds self.new) }
@@ -231,11 +231,11 @@ impl Reading {
     {
         match self.take(piece) {
             Ok(()) => Ok(()),
-            Err(Stop::Memory) => {
+            Err(ReadFault::Memory) => {
                 self.cut(before);
                 Err(AllocError)
             }
-            Err(Stop::Fault(reason, place)) => {
+            Err(ReadFault::Fault(reason, place)) => {
                 self.cut(before);
                 self.turn_bad(reason, place);
                 Ok(())
@@ -244,9 +244,9 @@ impl Reading {
     }
 
     /// Takes the piece, item by item. What it holds only grows.
-    pub(crate) fn take(&mut self, piece: &[u8]) -> Result<(), Stop>
+    pub(crate) fn take(&mut self, piece: &[u8]) -> Result<(), ReadFault>
         requires keeping { IsKeeping (holds self.old) }
-        requires good { (holds self.old).standing.bad ≡ None }
+        requires good { (holds self.old).cursor.bad ≡ None }
         ensures told { Answers (λ x. []) result ((holds self.old).store ++ piece.now)
             (holds self.new) }
         ensures grown { HasGrown (holds self.old) (holds self.new) }
@@ -261,14 +261,14 @@ impl Reading {
     }
 
     /// Takes what the piece has of the part that isn't whole, and answers what follows it.
-    fn take_part<'a>(&mut self, piece: &'a [u8]) -> Result<&'a [u8], Stop>
+    fn take_part<'a>(&mut self, piece: &'a [u8]) -> Result<&'a [u8], ReadFault>
         requires stands { IsStanding (holds self.old) }
-        requires good { (holds self.old).standing.bad ≡ None }
+        requires good { (holds self.old).cursor.bad ≡ None }
         ensures told { Answers (λ x. x.now) result ((holds self.old).store ++ piece.now)
             (holds self.new) }
         ensures grown { HasGrown (holds self.old) (holds self.new) }
     {
-        match self.standing.part {
+        match self.cursor.part {
             Part::Nothing => Ok(piece),
             Part::Head {
                 marker,
@@ -296,16 +296,16 @@ impl Reading {
     /// Takes members of an open list or structure that are integers of one byte each, as many as stand in a row and aren't
     /// its last, and answers what follows them.
     #[inline]
-    fn take_tiny<'a>(&mut self, bytes: &'a [u8]) -> Result<&'a [u8], Stop>
+    fn take_tiny<'a>(&mut self, bytes: &'a [u8]) -> Result<&'a [u8], ReadFault>
         requires stands { IsStanding (holds self.old) }
-        requires good { (holds self.old).standing.bad ≡ None }
-        requires ends { ((holds self.old).standing.part ≡ part.Nothing) ⊎ (bytes.now ≡ []) }
+        requires good { (holds self.old).cursor.bad ≡ None }
+        requires ends { ((holds self.old).cursor.part ≡ part.Nothing) ⊎ (bytes.now ≡ []) }
         ensures told { Answers (λ x. x.now) result ((holds self.old).store ++ bytes.now)
             (holds self.new) }
         ensures shorter { IfOk result (λ x. length x.now ≤ length bytes.now) }
         ensures grown { HasGrown (holds self.old) (holds self.new) }
     {
-        let count = self.standing.open.tiny_members(bytes);
+        let count = self.cursor.open.tiny_members(bytes);
         if count == 0 {
             return Ok(bytes);
         }

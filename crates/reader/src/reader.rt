@@ -14,8 +14,8 @@ use packstream::{PackFault, Packed, decode};
 use std::alloc::{AllocError, Global};
 use std::marker::Model;
 
-/// Reads one value from bytes that come in pieces. It has the bytes that it was fed; or, once each continuation of them
-/// has one fault at one place, that fault. And it holds a point to which it can return.
+/// Checks one value that is fed in pieces, and keeps its bytes. Once no continuation could be valid it is bad, and keeps the fault and
+/// its offset. `hold` sets a checkpoint, and `back` rolls back to it.
 ///
 /// ```rust
 /// let mut reader = Reader::new(alloc);
@@ -44,7 +44,7 @@ impl Model for Reader {
 }
 
 impl Reader {
-    /// No bytes; that is the held point too. It takes no memory.
+    /// No bytes; that is the held point too. Takes no memory.
     pub fn new(alloc: Global) -> Reader
         ensures { result ≡ fresh }
     {
@@ -96,7 +96,7 @@ impl Reader {
         Ok(())
     }
 
-    /// The bytes that were read; or the fault that each continuation of them has. It takes no memory.
+    /// The bytes that were read; or the fault that each continuation of them has. Takes no memory.
     pub fn bytes(&self) -> Result<&[u8], PackFault>
         ensures ok { IfOk result
             (λ b. (self.now.here.bad ≡ None) × (b.now ≡ self.now.here.bytes)) }
@@ -129,7 +129,7 @@ impl Reader {
         }
     }
 
-    /// Makes this point the held one. It takes no memory.
+    /// Makes this point the held one. Takes no memory.
     #[tactic(auto, using(crate::proofs::Held::keeps_at, crate::proofs::Held::here_at))]
     pub fn hold(&mut self)
         ensures here { self.new.here ≡ self.old.here }
@@ -138,7 +138,7 @@ impl Reader {
         self.is_still = true;
     }
 
-    /// Returns to the held point. It takes no memory.
+    /// Returns to the held point. Takes no memory.
     pub fn back(&mut self)
         ensures here { self.new.here ≡ self.old.held }
         ensures held { self.new.held ≡ self.old.held }

@@ -99,8 +99,8 @@ impl Texts {
         self.keys.truncate(keys);
     }
 
-    /// Makes the bytes from a place on a key of the dictionary whose keys begin at `first`, and answers whether it is
-    /// none of its keys yet.
+    /// Adds the bytes from `start` on as a key of the dictionary whose keys begin at `first`. Answers false if the dictionary has
+    /// that key.
     pub(crate) fn join(&mut self, first: usize, start: usize) -> Result<bool, AllocError>
         requires start { start ≤ length self.old.bytes }
         requires root { IsRoot self.old.names first }

@@ -81,7 +81,7 @@ pub record Leads {E G : Type 0} (entries : E → List EntryView) (S : Setting) (
   pub reached : Reached S brought after
   pub fits : FitsWorld entries s gate after
 
--- The same of an answer; where memory was wanting the object fits some world that was reached.
+-- An answer leads to a world that the object fits; for want of memory it fits some world that was reached.
 abbrev pub LeadsBy : {A E G : Type 0} → (E → List EntryView) → Setting → G → List EntryView
     → (A → World → Type 0) → Result A AllocError → WorldHeld E G → Type 0
 LeadsBy entries S gate brought Way (Ok x) s = Leads entries S gate brought (Way x) s

@@ -1,4 +1,4 @@
-//! That something wasn't scanned.
+//! That the scanner declined: its caller goes by `decode`.
 
 use std::alloc::{AllocError, AllocFailed};
 

@@ -14,12 +14,11 @@ use cells::Cell;
 use packstream::marker::{Marker, Size, Width, marker_of};
 use std::alloc::Global;
 
-/// How many entries a dictionary may have: each key is compared with each before it.
+/// The most entries of a dictionary that is scanned: here equal keys are found by comparing all. Larger ones are left to `decode`.
 const FEW: u64 = 16;
 
-/// Room is made for so many members at once, and for more as they come. It is no power of two: doubled, it leaves the longest
-/// list of a message an eighth of its room, so that the list and a copy of its length are less than twice what a C library
-/// has seen given back, which it keeps.
+/// The first capacity of a list. Doubled from here the longest list of a message has room for 73,728 members. The list and a copy of
+/// it then stay below the threshold at which glibc gives memory back to the system, so no page is faulted in again for each message.
 const AT_ONCE: u64 = 1_152;
 
 /// How many members to make room for: no more than their count, the bytes that are left, and `AT_ONCE`.

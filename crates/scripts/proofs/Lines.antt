@@ -11,7 +11,7 @@ pub record HasRead {V : Type 0} (read : Text → Option V) (b : List ℕ) (out :
   pub told : lines_read read (filled_lines b) ≡ out ++ lines_read read (filled_from n ls)
   pub left : unreadable read (filled_lines b) ≡ unreadable read (filled_from n ls)
 
--- The same of lines that are lent.
+-- the texts of lines that are lent
 abbrev pub texts : List (Bor (List ℕ)) → List Text
 texts ls = map (λ l. l.now) ls
 

@@ -30,7 +30,7 @@ pub enum ScriptRequest {
     /// `begin`, `begin r`, and either with `token T` behind it.
     Begin {
         mode: Mode,
-        /// The same.
+        /// Of the transaction, if it has one.
         token: Option<String>,
     },
     /// `commit`.

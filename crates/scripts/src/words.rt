@@ -43,7 +43,7 @@ fn has_empty(words: &[&str]) -> bool
     false
 }
 
-/// The number that a word of decimal digits says: of 64 bits, without a sign; None of any other word. It takes no memory.
+/// The number that a word of decimal digits says: of 64 bits, without a sign; None of any other word. Takes no memory.
 pub fn number_of(word: &str) -> Option<u64>
     ensures { result ≡ number_of word.now }
 {

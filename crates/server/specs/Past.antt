@@ -87,7 +87,7 @@ pub record Follows (bytes : List ℕ) (answered : List RequestView) (s : Live) :
   pub handshake : Agrees (arrivals bytes) s.kept
   pub unfinished : s.unfinished ≡ state at_server at_server.start bytes
 
--- The same where the bytes are an offer of which a version is taken and then any bytes, by the grammar of chunks alone.
+-- What a session answered and what waits is what its bytes ask for, by the grammar of chunks alone: an offer of which a version is taken, and then any bytes.
 abbrev pub Asks : List ℕ → List RequestView → Live → Type 0
 Asks bytes answered s =
     (offer more : List ℕ) (v : Version) → length offer ≡ 20

@@ -15,7 +15,7 @@ use messages::Request;
 use session::{Session, What};
 use std::alloc::AllocError;
 
-/// What the session receives of what a piece of chunks brought, which never wants memory.
+/// Hands the session what the inbox read. Takes no memory.
 pub(crate) fn receive(session: &mut Session, brought: Brought<Request>) -> Result<What, AllocError>
     requires { full (kept_of session.old) ≡ false }
     ensures { (item : Option Item) → Brings

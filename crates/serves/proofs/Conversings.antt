@@ -5,8 +5,8 @@ use Rattle.std.proofs.KnownBytes.{Appends-nil, Consumes-kept, Consumes-trans, Co
 use Rattle.session.specs.Prelude.{Setting, Kept, begun}
 use Rattle.wire.specs.Prelude.{state, at_server, opening}
 use Rattle.server.specs.Prelude.{Rest, Live, find, fresh}
-use Rattle.serves.specs.declared.standing.Standing.{Standing}
-use Rattle.serves.specs.declared.standing.Standing.TheVariants.{Open, Over}
+use Rattle.serves.specs.declared.liveness.Liveness.{Liveness}
+use Rattle.serves.specs.declared.liveness.Liveness.TheVariants.{Open, Over}
 use Rattle.streams.specs.declared.fault.StreamFault.{StreamFault}
 use Rattle.streams.specs.Prelude.{AppendsFront}
 use Rattle.serves.specs.Prelude.{StandsOver, told_by, BreaksIn, Stands, HoldsAfter, BreaksHolding, TakesItems, TakesPiece, taken_and_put, Puts, IsDueTo, Talk, conversation, with_talk, IsTurn, IsBrokenOff, IsFront, Converses, ConversesFront}
@@ -37,7 +37,7 @@ module _ {G : Type 0} (r : Rest G) (conn : ℕ) (i : IsSome (find conn r.session
   held_breaks used fault h puts = breaks_whole r conn S used (holds_some i before mid taken old new h fault puts)
 
   module _ (piece : List ℕ) where
-    pub piece_taken : (items : Result Standing StreamFault) (put : Result (Unit {0}) StreamFault) → TakesItems r conn S (λ x. old ≡ x) before mid up piece items → Puts conn old new mid taken put → TakesPiece r conn S (λ x. new ≡ x) before taken up piece (taken_and_put items put)
+    pub piece_taken : (items : Result Liveness StreamFault) (put : Result (Unit {0}) StreamFault) → TakesItems r conn S (λ x. old ≡ x) before mid up piece items → Puts conn old new mid taken put → TakesPiece r conn S (λ x. new ≡ x) before taken up piece (taken_and_put items put)
     piece_taken (Ok Open) (Ok done) h puts = (held_stands (up ++ piece) h.0 puts, h.1)
     piece_taken (Ok Over) (Ok done) h puts = record { front = h.front; rest = h.rest; parts = h.parts; stands = held_stands (up ++ h.front) h.stands puts; over = h.over }
     piece_taken (Ok Open) (Err fault) h puts = breaks_off (held_breaks (up ++ piece) fault h.0 puts) (λ s p. part_stands p)
@@ -47,10 +47,10 @@ module _ {G : Type 0} (r : Rest G) (conn : ℕ) (i : IsSome (find conn r.session
     piece_taken (Err fault) put h puts = breaks_off h (λ s p. part_out i before mid taken old new p put puts)
 
 -- a fault is due to the sink as it is in the end
-pub piece_due : {mid now : Bool} (both items : Result Standing StreamFault) (put : Result (Unit {0}) StreamFault) → both ≡ taken_and_put items put → IfErr items (λ e. IsDueTo e false mid) → IfErr put (λ e. IsDueTo e false now) → (mid ≡ true → now ≡ true) → IfErr both (λ e. IsDueTo e false now)
+pub piece_due : {mid now : Bool} (both items : Result Liveness StreamFault) (put : Result (Unit {0}) StreamFault) → both ≡ taken_and_put items put → IfErr items (λ e. IsDueTo e false mid) → IfErr put (λ e. IsDueTo e false now) → (mid ≡ true → now ≡ true) → IfErr both (λ e. IsDueTo e false now)
 piece_due {mid = mid} {now = now} both items put e h k stays = subst (λ x. IfErr x (λ e. IsDueTo e false now)) (sym e) (go items put h k)
   where
-    go : (items : Result Standing StreamFault) (put : Result (Unit {0}) StreamFault) → IfErr items (λ e. IsDueTo e false mid) → IfErr put (λ e. IsDueTo e false now) → IfErr (taken_and_put items put) (λ e. IsDueTo e false now)
+    go : (items : Result Liveness StreamFault) (put : Result (Unit {0}) StreamFault) → IfErr items (λ e. IsDueTo e false mid) → IfErr put (λ e. IsDueTo e false now) → IfErr (taken_and_put items put) (λ e. IsDueTo e false now)
     go (Ok s) (Ok done) h k = tt
     go (Ok s) (Err fault) h k = k
     go (Err stream_fault.WriteFailed) put h k = stays h

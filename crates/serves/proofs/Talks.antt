@@ -10,11 +10,11 @@ use Rattle.server.specs.declared.kinds.Took.{Took as AnyTook}
 use Rattle.server.specs.Prelude.{arrives, arrival as arrival_of, Rest, feed_at, find, takes_item}
 use Rattle.serves.proofs.Called.{by_option, fed_item, fed_none}
 use Rattle.streams.specs.declared.fault.StreamFault.{StreamFault}
-use Rattle.serves.specs.Prelude.{Talk, silent, after_bytes, heard_out, steps, steps_due, talk_of_due, unless_ended, talk_then, with_talk, talk_of_arrivals, conversation, IsPartOfDue, due_of, ComesTo, nothing_yet, part_of_first, after_first, as_it_is, ConversationComesTo, IsPlaced, due, as_item, item_talk, standing_of, rest_after, Holds, HoldsPart, settled, IsPartSettled, SettlesWhole, BreaksAt, IsFront, told_by, told_to, HoldsAfter, BreaksHolding, TakesOne, TakesFront, TakesItems, Feeds}
+use Rattle.serves.specs.Prelude.{Talk, silent, after_bytes, heard_out, steps, steps_due, talk_of_due, unless_ended, talk_then, with_talk, talk_of_arrivals, conversation, IsPartOfDue, due_of, ComesTo, nothing_yet, part_of_first, after_first, as_it_is, ConversationComesTo, IsPlaced, due, as_item, item_talk, liveness_of, rest_after, Holds, HoldsPart, settled, IsPartSettled, SettlesWhole, BreaksAt, IsFront, told_by, told_to, HoldsAfter, BreaksHolding, TakesOne, TakesFront, TakesItems, Feeds}
 use Rattle.serves.proofs.Stepping.{Grown, Rested, RestsAs, after_twice, steps_grow, steps_none, steps_rest, behind, heard_same, item_behind, silent_same, front_later, front_same, front_then}
 use Rattle.wire.proofs.Readers.{outputs-append, state-append, takes_outputs}
-use Rattle.serves.specs.declared.standing.Standing.{Standing}
-use Rattle.serves.specs.declared.standing.Standing.TheVariants.{Open, Over}
+use Rattle.serves.specs.declared.liveness.Liveness.{Liveness}
+use Rattle.serves.specs.declared.liveness.Liveness.TheVariants.{Open, Over}
 use Rattle.serves.specs.declared.intake.Taken.{Taken}
 use Rattle.streams.proofs.Parts.{fed_more}
 use Rattle.wire.specs.declared.Version.{Version}
@@ -45,13 +45,13 @@ fed_placed k (Some TooLong) w = subst (λ (xs : List Arrival). IsPlaced (xs ++ T
 fed_placed k _ w = subst IsPlaced (sym w) tt
 
 -- where what arrived makes no step due
-waits_not : (k : Kept) (o : Option Arrival) (standing : Standing) → k.ended ≡ None → rest_after (what_of o) ≡ Some standing → ((after_item k o).waiting ≡ k.waiting) × (standing ≡ standing_of (after_item k o).ended)
-waits_not k None standing e h = (refl, some_is h ∙ ap standing_of (sym e))
-waits_not k (Some (Shook (Some v))) standing e h = (refl, some_is h ∙ ap standing_of (sym e))
-waits_not k (Some (Shook None)) standing e h = (refl, some_is h)
-waits_not k (Some NoMagic) standing e h = (refl, some_is h)
-waits_not k (Some arrival.Idle) standing e h = (refl, some_is h ∙ ap standing_of (sym e))
-waits_not k _ standing e h = cc
+waits_not : (k : Kept) (o : Option Arrival) (liveness : Liveness) → k.ended ≡ None → rest_after (what_of o) ≡ Some liveness → ((after_item k o).waiting ≡ k.waiting) × (liveness ≡ liveness_of (after_item k o).ended)
+waits_not k None liveness e h = (refl, some_is h ∙ ap liveness_of (sym e))
+waits_not k (Some (Shook (Some v))) liveness e h = (refl, some_is h ∙ ap liveness_of (sym e))
+waits_not k (Some (Shook None)) liveness e h = (refl, some_is h)
+waits_not k (Some NoMagic) liveness e h = (refl, some_is h)
+waits_not k (Some arrival.Idle) liveness e h = (refl, some_is h ∙ ap liveness_of (sym e))
+waits_not k _ liveness e h = cc
 
 pub settled_rests : (S : Setting) (c : ℕ) (ledger : List EntryView) (k : Kept) → IsPlaced k.waiting → RestsAs k (talk_of_due S c ledger k)
 settled_rests S c ledger k p = let h = steps_rest S c (due k) ledger (heard_out k) refl p (omega arith) in (record { sent = h.0.sent; done = h.0.done }, h.1)
@@ -229,19 +229,19 @@ module _ {G : Type 0} (r : Rest G) (conn : ℕ) (S : Setting) where
         )
 
     module _ {Now : Rest G → Type 0} {before taken : Option (List ℕ)} where
-      pub one_taken : (used : ℕ) (standing : Standing) → used ≡ t.used → SettlesWhole r conn t.rest (settled S conn fed) Now before taken standing → TakesOne r conn S Now before taken up piece (Ok (record { used = used; standing = standing }))
-      one_taken used standing e h =
-          subst (λ (n : ℕ). TakesOne r conn S Now before taken up piece (Ok (record { used = n; standing = standing }))) (sym e)
-          (subst (λ (x : Talk). Holds r conn (kept_at (up ++ take t.used piece)) x Now before taken × (standing ≡ standing_of x.kept.ended)) (sym all_next)
+      pub one_taken : (used : ℕ) (liveness : Liveness) → used ≡ t.used → SettlesWhole r conn t.rest (settled S conn fed) Now before taken liveness → TakesOne r conn S Now before taken up piece (Ok (record { used = used; liveness = liveness }))
+      one_taken used liveness e h =
+          subst (λ (n : ℕ). TakesOne r conn S Now before taken up piece (Ok (record { used = n; liveness = liveness }))) (sym e)
+          (subst (λ (x : Talk). Holds r conn (kept_at (up ++ take t.used piece)) x Now before taken × (liveness ≡ liveness_of x.kept.ended)) (sym all_next)
           (subst (λ (v : Opened). Holds r conn v (settled S conn fed) Now before taken) (sym kept_next) h.holds, h.stands))
 
       -- where no step is due
-      pub one_rested : (used : ℕ) (standing : Standing) → used ≡ t.used → rest_after (what_of (arrival_of (told up).kept t.item)) ≡ Some standing → Holds r conn t.rest fed Now before taken → TakesOne r conn S Now before taken up piece (Ok (record { used = used; standing = standing }))
-      one_rested used standing e rests h =
-          let w = waits_not (told up).kept (arrival_of (told up).kept t.item) standing goes_on rests in
+      pub one_rested : (used : ℕ) (liveness : Liveness) → used ≡ t.used → rest_after (what_of (arrival_of (told up).kept t.item)) ≡ Some liveness → Holds r conn t.rest fed Now before taken → TakesOne r conn S Now before taken up piece (Ok (record { used = used; liveness = liveness }))
+      one_rested used liveness e rests h =
+          let w = waits_not (told up).kept (arrival_of (told up).kept t.item) liveness goes_on rests in
           let none : due next ≡ 0 = ap (λ (xs : List Arrival). steps_due xs (length next.result.rows)) (w.0 ∙ (told_rests up).done goes_on) in
           let same : settled S conn fed ≡ fed = ap (λ (n : ℕ). talk_then fed (steps S conn n)) none ∙ silent_same fed in
-          one_taken used standing e (subst (λ (x : Talk). SettlesWhole r conn t.rest x Now before taken standing) (sym same) (record { holds = h; stands = w.1 }))
+          one_taken used liveness e (subst (λ (x : Talk). SettlesWhole r conn t.rest x Now before taken liveness) (sym same) (record { holds = h; stands = w.1 }))
 
       pub one_broken : BreaksAt (settled S conn fed) (IsPartSettled S conn fed) (HoldsPart r conn Now before taken) → BreaksHolding r conn S Now before taken (up ++ piece)
       one_broken h =
@@ -260,11 +260,11 @@ module _ {G : Type 0} (r : Rest G) (conn : ℕ) (S : Setting) where
         let e = fed_none r conn i (kept_at up) (told up).ledger k piece old new h.now fault feeds in
         breaks_more up piece (breaks_whole up (record { unfinished = e.0; kept = k; gone = h.gone; lost = []; parts = ap (λ (z : List ℕ). h.gone ++ z) (append-nil h.held) ∙ h.parts; took = h.took; now = e.1 }))
 
-pub open_goes_on : (o : Option Cause) → Open ≡ standing_of o → o ≡ None
+pub open_goes_on : (o : Option Cause) → Open ≡ liveness_of o → o ≡ None
 open_goes_on None e = refl
 open_goes_on (Some c) e = cc
 
-pub over_ended : (o : Option Cause) → Over ≡ standing_of o → IsSome o
+pub over_ended : (o : Option Cause) → Over ≡ liveness_of o → IsSome o
 over_ended None e = cc
 over_ended (Some c) e = refl
 
@@ -281,7 +281,7 @@ partly_begun {r = r} {conn = conn} {S = S} {before = before} {taken = taken} {up
     record { done = []; parts = refl; live = subst (λ (z : List ℕ). (told_by r conn S z).kept.ended ≡ None) same e; stands = subst (HoldsAfter r conn S Now before taken) same s }
 
 module _ {G : Type 0} {r : Rest G} {conn : ℕ} {S : Setting} {before old new : Option (List ℕ)} {up piece rest : List ℕ} {Now Then : Rest G → Type 0} (p : Partly r conn S before up piece Now old rest) where
-  pub partly_more : (taken : Taken) (after : List ℕ) → after ≡ drop taken.used rest → taken.standing ≡ Open → TakesOne r conn S Then before new (up ++ p.done) rest (Ok taken) → Partly r conn S before up piece Then new after
+  pub partly_more : (taken : Taken) (after : List ℕ) → after ≡ drop taken.used rest → taken.liveness ≡ Open → TakesOne r conn S Then before new (up ++ p.done) rest (Ok taken) → Partly r conn S before up piece Then new after
   partly_more taken after a o h =
       let joined = append_assoc up p.done (take taken.used rest) in
       record {
@@ -291,7 +291,7 @@ module _ {G : Type 0} {r : Rest G} {conn : ℕ} {S : Setting} {before old new : 
         stands = subst (HoldsAfter r conn S Then before new) joined h.0;
       }
 
-  pub partly_over : (taken : Taken) → taken.standing ≡ Over → TakesOne r conn S Then before new (up ++ p.done) rest (Ok taken) → TakesFront r conn S (HoldsAfter r conn S Then before new) up piece
+  pub partly_over : (taken : Taken) → taken.liveness ≡ Over → TakesOne r conn S Then before new (up ++ p.done) rest (Ok taken) → TakesFront r conn S (HoldsAfter r conn S Then before new) up piece
   partly_over taken o h =
       let joined = append_assoc up p.done (take taken.used rest) in
       record {

@@ -22,8 +22,8 @@ use Rattle.streams.specs.declared.fault.StreamFault.TheVariants.{ReadFailed, Wri
 use Rattle.serves.specs.declared.due.Next.{Next}
 use Rattle.serves.specs.declared.due.Next.TheVariants as next
 use Rattle.serves.specs.declared.intake.Taken.{Taken}
-use Rattle.serves.specs.declared.standing.Standing.{Standing}
-use Rattle.serves.specs.declared.standing.Standing.TheVariants.{Open, Over}
+use Rattle.serves.specs.declared.liveness.Liveness.{Liveness}
+use Rattle.serves.specs.declared.liveness.Liveness.TheVariants.{Open, Over}
 use Rattle.serves.specs.Conversing.{Talk, silent, steps, steps_due, talk_of_due, unless_ended, talk_then, with_talk}
 use Rattle.serves.specs.Breaking.{BreaksAt, BreaksOff, ComesTo}
 
@@ -38,9 +38,9 @@ abbrev pub IsLive : {E G : Type 0} → (E → List EntryView) → ℕ → Server
 IsLive {G = G} entries conn s = (r : Rest G) × Fits entries s r × IsSome (find conn r.sessions)
 
 -- how a session stands: over where its end has a cause, and else open
-abbrev pub standing_of : Option Cause → Standing
-standing_of None = Open
-standing_of (Some cause) = Over
+abbrev pub liveness_of : Option Cause → Liveness
+liveness_of None = Open
+liveness_of (Some cause) = Over
 
 -- what follows a step that did this
 abbrev pub next_of : Worked → Next
@@ -49,7 +49,7 @@ next_of worked.Full = next.Room
 next_of _ = next.Rest
 
 -- how a session stands after this ended with the bytes that it took; none where a step may be due
-abbrev pub rest_after : What → Option Standing
+abbrev pub rest_after : What → Option Liveness
 rest_after what.Part = Some Open
 rest_after what.Noop = Some Open
 rest_after (what.Handshake (Some version)) = Some Open
@@ -58,10 +58,10 @@ rest_after what.BadMagic = Some Over
 rest_after _ = None
 
 -- what was taken and put out, and the first fault where there was any
-abbrev pub taken_and_put : Result Standing StreamFault → Result (Unit {0}) StreamFault
-    → Result Standing StreamFault
-taken_and_put (Ok standing) (Ok done) = Ok standing
-taken_and_put (Ok standing) (Err fault) = Err fault
+abbrev pub taken_and_put : Result Liveness StreamFault → Result (Unit {0}) StreamFault
+    → Result Liveness StreamFault
+taken_and_put (Ok liveness) (Ok done) = Ok liveness
+taken_and_put (Ok liveness) (Err fault) = Err fault
 taken_and_put (Err fault) put = Err fault
 
 module _ {G : Type 0} where
@@ -146,15 +146,15 @@ module _ {G : Type 0} (r : Rest G) (conn : ℕ) where
 
   -- The session stands as told.
   pub record SettlesWhole (u : Opened) (t : Talk) (Now : Rest G → Type 0)
-      (before taken : Option (List ℕ)) (standing : Standing) : Type 0 where
+      (before taken : Option (List ℕ)) (liveness : Liveness) : Type 0 where
     pub holds : Holds u t Now before taken
-    pub stands : standing ≡ standing_of t.kept.ended
+    pub stands : liveness ≡ liveness_of t.kept.ended
 
   -- All that is due after a talk was worked, or a fault came.
   abbrev pub Settles : Opened → Talk → Setting → (Rest G → Type 0) → Option (List ℕ)
-      → Option (List ℕ) → Result Standing StreamFault → Type 0
-  Settles u t S Now before taken (Ok standing) =
-      SettlesWhole u (settled S conn t) Now before taken standing
+      → Option (List ℕ) → Result Liveness StreamFault → Type 0
+  Settles u t S Now before taken (Ok liveness) =
+      SettlesWhole u (settled S conn t) Now before taken liveness
   Settles u t S Now before taken (Err fault) =
       BreaksAt (settled S conn t) (IsPartSettled S conn t) (HoldsPart Now before taken)
 
@@ -170,12 +170,12 @@ module _ {G : Type 0} (r : Rest G) (conn : ℕ) where
     pub enough : due so_far.kept ≤ most
     pub holds : Holds u so_far Now before taken
 
-  -- The same after one step more; or nothing is due, and the session stands so; or a fault came.
+  -- One step more was worked, and the rest follows; or nothing is due, and the session stands so; or a fault came.
   abbrev pub Steps : Opened → Talk → Setting → (Rest G → Type 0) → Option (List ℕ)
-      → Option (List ℕ) → Result (Option Standing) StreamFault → Type 0
+      → Option (List ℕ) → Result (Option Liveness) StreamFault → Type 0
   Steps u t S Now before taken (Ok None) = GoesOn u t S Now before taken
-  Steps u t S Now before taken (Ok (Some standing)) =
-      SettlesWhole u (settled S conn t) Now before taken standing
+  Steps u t S Now before taken (Ok (Some liveness)) =
+      SettlesWhole u (settled S conn t) Now before taken liveness
   Steps u t S Now before taken (Err fault) =
       BreaksAt (settled S conn t) (IsPartSettled S conn t) (HoldsPart Now before taken)
 
@@ -215,7 +215,7 @@ module _ {G : Type 0} (r : Rest G) (conn : ℕ) where
         → Result Taken StreamFault → Type 0
     TakesOne Now before taken up piece (Ok t) =
         HoldsAfter Now before taken (up ++ take t.used piece)
-        × (t.standing ≡ standing_of (told_by (up ++ take t.used piece)).kept.ended)
+        × (t.liveness ≡ liveness_of (told_by (up ++ take t.used piece)).kept.ended)
     TakesOne Now before taken up piece (Err fault) = BreaksHolding Now before taken (up ++ piece)
 
     -- A beginning of a piece was taken, after which this is so, and with it the session ended.
@@ -227,23 +227,23 @@ module _ {G : Type 0} (r : Rest G) (conn : ℕ) where
       pub over : IsSome (told_by (up ++ front)).kept.ended
 
     -- A piece was taken whole, or up to the end of the session, and this is so after it.
-    abbrev pub TakesUp : (List ℕ → Type 0) → List ℕ → List ℕ → Standing → Type 0
+    abbrev pub TakesUp : (List ℕ → Type 0) → List ℕ → List ℕ → Liveness → Type 0
     TakesUp IsSo up piece Open =
         IsSo (up ++ piece) × ((told_by (up ++ piece)).kept.ended ≡ None)
     TakesUp IsSo up piece Over = TakesFront IsSo up piece
 
     -- A piece was taken so, and the session holds the end of what was put out; or a fault came.
     abbrev pub TakesItems : (Rest G → Type 0) → Option (List ℕ) → Option (List ℕ) → List ℕ → List ℕ
-        → Result Standing StreamFault → Type 0
-    TakesItems Now before taken up piece (Ok standing) =
-        TakesUp (HoldsAfter Now before taken) up piece standing
+        → Result Liveness StreamFault → Type 0
+    TakesItems Now before taken up piece (Ok liveness) =
+        TakesUp (HoldsAfter Now before taken) up piece liveness
     TakesItems Now before taken up piece (Err fault) = BreaksHolding Now before taken (up ++ piece)
 
     -- A piece was taken so, and all of it was put out; or a fault came.
     abbrev pub TakesPiece : (Rest G → Type 0) → Option (List ℕ) → Option (List ℕ) → List ℕ → List ℕ
-        → Result Standing StreamFault → Type 0
-    TakesPiece Now before new up piece (Ok standing) =
-        TakesUp (Stands Now before new) up piece standing
+        → Result Liveness StreamFault → Type 0
+    TakesPiece Now before new up piece (Ok liveness) =
+        TakesUp (Stands Now before new) up piece liveness
     TakesPiece Now before new up piece (Err fault) = BreaksIn (up ++ piece) Now before new
 
 -- From any rest in which it lived, the session lives on: the others are as before, and the ledger has at most grown.

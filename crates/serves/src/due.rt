@@ -5,9 +5,9 @@ ghost use Rattle.server.specs.Serving.{Rest, cause_at, find, setting, work_at};
 ghost use Rattle.server.specs.Views.{rest_of, Fits};
 ghost use Rattle.serves.specs.Conversing.{Talk};
 ghost use Rattle.serves.specs.Putting.{Puts};
-ghost use Rattle.serves.specs.Settling.{GrowsOn, IsDueTo, IsPlaced, GoesOn, Holds, Settles, Steps, Works, next_of, standing_of};
+ghost use Rattle.serves.specs.Settling.{GrowsOn, IsDueTo, IsPlaced, GoesOn, Holds, Settles, Steps, Works, next_of, liveness_of};
 
-use crate::standing::Standing;
+use crate::liveness::Liveness;
 use engine::{Engine, Gate};
 use server::{Server, Worked};
 use streams::{Sink, StreamFault, write_all};
@@ -24,7 +24,7 @@ enum Next {
 }
 
 /// Writes all that waits to go of a session, where it lies, and then lets it go. I2 where the sink fails, with a beginning of it written; I3
-/// where no session has the number, and then nothing has changed. It takes no memory of its own.
+/// where no session has the number, and then nothing has changed. Takes no memory of its own.
 pub(crate) fn put_out<E: Engine, G: Gate, O: Sink>(
     server: &mut Server<E, G>,
     conn: u64,
@@ -50,7 +50,7 @@ pub(crate) fn put_out<E: Engine, G: Gate, O: Sink>(
     }
 }
 
-/// How many steps may be due at most, and more than there ever are.
+/// A bound on steps by which the loop ends for the prover. It is never reached.
 const MOST_STEPS: u64 = u64::MAX;
 
 /// Works until nothing is due. What the session says waits there, and is written only where so much waits that no step is done.
@@ -58,7 +58,7 @@ pub(crate) fn settle<E: Engine, G: Gate, O: Sink>(
     server: &mut Server<E, G>,
     conn: u64,
     sink: &mut O,
-) -> Result<Standing, StreamFault>
+) -> Result<Liveness, StreamFault>
     ensures grows { GrowsOn conn (Fits E.entries server.old) (Fits E.entries server.new) }
     ensures settles { (r : Rest G) (u : Opened) (t : Talk) (before : Option (List ℕ))
         → IsSome (find conn r.sessions) → t.kept.unsent ≡ [] → IsPlaced t.kept.waiting
@@ -70,7 +70,7 @@ pub(crate) fn settle<E: Engine, G: Gate, O: Sink>(
     for _ in 0..MOST_STEPS {
         match work_once(server, conn, sink) {
             Ok(None) => {}
-            Ok(Some(standing)) => return Ok(standing),
+            Ok(Some(liveness)) => return Ok(liveness),
             Err(fault) => return Err(fault),
         }
     }
@@ -82,7 +82,7 @@ fn work_once<E: Engine, G: Gate, O: Sink>(
     server: &mut Server<E, G>,
     conn: u64,
     sink: &mut O,
-) -> Result<Option<Standing>, StreamFault>
+) -> Result<Option<Liveness>, StreamFault>
     ensures grows { GrowsOn conn (Fits E.entries server.old) (Fits E.entries server.new) }
     ensures steps { (r : Rest G) (u : Opened) (t : Talk) (before : Option (List ℕ))
         → IsSome (find conn r.sessions)
@@ -94,7 +94,7 @@ fn work_once<E: Engine, G: Gate, O: Sink>(
 {
     match work_step(server, conn) {
         Ok(Next::Step) => Ok(None),
-        Ok(Next::Rest) => Ok(Some(standing(server, conn))),
+        Ok(Next::Rest) => Ok(Some(liveness(server, conn))),
         Ok(Next::Room) => match put_out(server, conn, sink) {
             Ok(()) => Ok(None),
             Err(fault) => Err(fault),
@@ -128,11 +128,11 @@ fn next_after(worked: Worked) -> Next
 }
 
 /// How a session stands.
-fn standing<E: Engine, G: Gate>(server: &Server<E, G>, conn: u64) -> Standing
-    ensures { result ≡ standing_of (cause_at conn (rest_of E.entries server.now)) }
+fn liveness<E: Engine, G: Gate>(server: &Server<E, G>, conn: u64) -> Liveness
+    ensures { result ≡ liveness_of (cause_at conn (rest_of E.entries server.now)) }
 {
     match server.cause(conn) {
-        Some(_) => Standing::Over,
-        None => Standing::Open,
+        Some(_) => Liveness::Over,
+        None => Liveness::Open,
     }
 }

@@ -7,7 +7,7 @@ ghost use Rattle.server.specs.Views.{rest_of, Fits};
 ghost use Rattle.serves.specs.Settling.{GrowsOn, IsDueTo, IsLive, LivesOn, Feeds, HoldsAfter, Stands, TakesOne, TakesItems, TakesPiece, rest_after, taken_and_put, told_by};
 
 use crate::due::{put_out, settle};
-use crate::standing::Standing;
+use crate::liveness::Liveness;
 use engine::{Engine, Gate};
 use server::{Server, Took};
 use session::What;
@@ -17,7 +17,7 @@ use streams::{Sink, StreamFault};
 #[derive(Clone, Copy)]
 struct Taken {
     used: usize,
-    standing: Standing,
+    liveness: Liveness,
 }
 
 /// Takes a piece, item by item, up to the end of a session that lives, works what it makes due, and writes what the session says: all of it at
@@ -28,7 +28,7 @@ pub fn take_piece<E: Engine, G: Gate, O: Sink>(
     conn: u64,
     piece: &[u8],
     sink: &mut O,
-) -> Result<Standing, StreamFault>
+) -> Result<Liveness, StreamFault>
     requires { IsLive E.entries conn server.old }
     ensures live { IsLive E.entries conn server.new }
     ensures grows { LivesOn conn (Fits E.entries server.old) (Fits E.entries server.new) }
@@ -48,17 +48,17 @@ pub fn take_piece<E: Engine, G: Gate, O: Sink>(
 
 /// What was taken and put out; the first fault where there was any.
 fn both_of(
-    taken: Result<Standing, StreamFault>,
+    taken: Result<Liveness, StreamFault>,
     put: Result<(), StreamFault>,
-) -> Result<Standing, StreamFault>
+) -> Result<Liveness, StreamFault>
     ensures { result ≡ taken_and_put taken put }
 {
-    let standing = match taken {
-        Ok(standing) => standing,
+    let liveness = match taken {
+        Ok(liveness) => liveness,
         Err(fault) => return Err(fault),
     };
     match put {
-        Ok(()) => Ok(standing),
+        Ok(()) => Ok(liveness),
         Err(fault) => Err(fault),
     }
 }
@@ -69,7 +69,7 @@ fn take_items<E: Engine, G: Gate, O: Sink>(
     conn: u64,
     piece: &[u8],
     sink: &mut O,
-) -> Result<Standing, StreamFault>
+) -> Result<Liveness, StreamFault>
     ensures grows { GrowsOn conn (Fits E.entries server.old) (Fits E.entries server.new) }
     ensures takes { (r : Rest G) (before : Option (List ℕ)) (up : List ℕ)
         → IsSome (find conn r.sessions)
@@ -88,12 +88,12 @@ fn take_items<E: Engine, G: Gate, O: Sink>(
         };
         let (_, after) = rest.split_at(taken.used);
         rest = after;
-        match taken.standing {
-            Standing::Open => {}
-            Standing::Over => return Ok(Standing::Over),
+        match taken.liveness {
+            Liveness::Open => {}
+            Liveness::Over => return Ok(Liveness::Over),
         }
     }
-    Ok(Standing::Open)
+    Ok(Liveness::Open)
 }
 
 /// Takes one item at most of a piece, and works what it makes due.
@@ -118,26 +118,26 @@ fn take_one<E: Engine, G: Gate, O: Sink>(
         Ok(took) => took,
         Err(fault) => return Err(fault),
     };
-    let standing = match standing_after(took.what) {
-        Some(standing) => standing,
+    let liveness = match liveness_after(took.what) {
+        Some(liveness) => liveness,
         None => match settle(server, conn, sink) {
-            Ok(standing) => standing,
+            Ok(liveness) => liveness,
             Err(fault) => return Err(fault),
         },
     };
     Ok(Taken {
         used: took.used,
-        standing,
+        liveness,
     })
 }
 
 /// How a session stands after this ended with the bytes that it took; none where a step may be due.
-fn standing_after(what: What) -> Option<Standing>
+fn liveness_after(what: What) -> Option<Liveness>
     ensures { result ≡ rest_after what }
 {
     match what {
-        What::Part | What::Noop | What::Handshake(Some(_)) => Some(Standing::Open),
-        What::Handshake(None) | What::BadMagic => Some(Standing::Over),
+        What::Part | What::Noop | What::Handshake(Some(_)) => Some(Liveness::Open),
+        What::Handshake(None) | What::BadMagic => Some(Liveness::Over),
         What::Message | What::Malformed | What::Full | What::Closed => None,
     }
 }

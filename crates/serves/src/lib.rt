@@ -3,11 +3,11 @@
 
 mod due;
 mod intake;
+mod liveness;
 mod response;
 mod server_end;
-mod standing;
 
 pub use intake::take_piece;
+pub use liveness::Liveness;
 pub use response::{End, Responded, respond};
 pub use server_end::{converse, serve_one};
-pub use standing::Standing;

@@ -8,11 +8,11 @@ ghost use Rattle.streams.specs.Reading.{LetsRead};
 ghost use Rattle.streams.specs.Limits.{max_piece};
 
 use crate::intake::take_piece;
-use crate::standing::Standing;
+use crate::liveness::Liveness;
 use engine::{Engine, Gate};
 use server::{Cause, Server};
 use std::alloc::Global;
-use streams::{MAX_PIECE, Peer, Sink, StreamFault};
+use streams::{MAX_PIECE, PeerSource, Sink, StreamFault};
 
 /// Serves a session that lives: reads a piece of at most 4,096 bytes, feeds an item of it and works until nothing is due, one item after the
 /// other, writes what waits to go, and goes on, to the end of the input or of the session, or to a fault. Then the session is given up, and the
@@ -22,7 +22,7 @@ use streams::{MAX_PIECE, Peer, Sink, StreamFault};
 ///
 /// I1 where the source fails; I2 where the sink does, with a beginning of what is due written; I3 for want of memory or where no ordinal is
 /// left. The session is given up then too. What was written is of work that was done: an answer to a commit only where the commit stands.
-pub fn serve_one<E: Engine, G: Gate, I: Peer, O: Sink>(
+pub fn serve_one<E: Engine, G: Gate, I: PeerSource, O: Sink>(
     alloc: Global,
     server: &mut Server<E, G>,
     conn: u64,
@@ -58,8 +58,8 @@ pub fn serve_one<E: Engine, G: Gate, I: Peer, O: Sink>(
     }
 }
 
-/// The same, and the session lives on.
-pub fn converse<E: Engine, G: Gate, I: Peer, O: Sink>(
+/// As `serve_one`, but the session isn't given up.
+pub fn converse<E: Engine, G: Gate, I: PeerSource, O: Sink>(
     alloc: Global,
     server: &mut Server<E, G>,
     conn: u64,
@@ -86,8 +86,8 @@ pub fn converse<E: Engine, G: Gate, I: Peer, O: Sink>(
     converse_by(server, conn, source, sink, buffer.as_mut_slice())
 }
 
-/// The same, by a buffer for the pieces.
-fn converse_by<E: Engine, G: Gate, I: Peer, O: Sink>(
+/// The loop of `converse`, over its buffer.
+fn converse_by<E: Engine, G: Gate, I: PeerSource, O: Sink>(
     server: &mut Server<E, G>,
     conn: u64,
     source: &mut I,
@@ -118,8 +118,8 @@ fn converse_by<E: Engine, G: Gate, I: Peer, O: Sink>(
             return Ok(());
         }
         match take_piece(server, conn, &buffer[..count], sink) {
-            Ok(Standing::Open) => {}
-            Ok(Standing::Over) => return Ok(()),
+            Ok(Liveness::Open) => {}
+            Ok(Liveness::Over) => return Ok(()),
             Err(fault) => return Err(fault),
         }
     }

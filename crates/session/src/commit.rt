@@ -14,8 +14,8 @@ use engine::{Commit, Engine, EntryId, NoMemory, Write};
 use std::alloc::{AllocError, Global};
 use std::mem;
 
-/// Leaves open what is to be left, and commits what is to be committed, of which the ledger has nothing: the ledger's length where
-/// it did. An `Err` changes nothing.
+/// Replaces the open result and transaction as `after` says, and commits if it says so. Answers the ledger's new length if an entry
+/// was added. The ledger has no entry under its token before. An `Err` changes nothing.
 pub(crate) fn leave<E: Engine>(
     alloc: Global,
     open: &mut OpenResult,

@@ -33,7 +33,7 @@ impl Queue {
         self.waiting.len()
     }
 
-    /// Takes a slot, of which one is left. It takes no memory.
+    /// Takes a slot, of which one is left. Takes no memory.
     #[tactic(auto, using(crate::proofs::Queues::resets_pushed, crate::proofs::Queues::resets_few))]
     pub(crate) fn push(&mut self, waiting: Waiting)
         requires { length self.old.waiting.items < max_waiting }

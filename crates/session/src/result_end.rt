@@ -37,7 +37,7 @@ pub(crate) fn commit_of<E: Engine>(
     }
 }
 
-/// The same where no entry would be added.
+/// What the engine would answer to a commit if that adds no entry.
 fn known_of<E: Engine>(engine: &E, token: &Option<String>, writes: &[Write]) -> Option<Commit>
     ensures { result
         ≡ known_by (found_in (token_view token.now) (writes_view writes.now)

@@ -1,4 +1,4 @@
-//! That something wasn't spelled.
+//! That the speller declined: its caller goes by `encode`.
 
 use std::alloc::AllocError;
 

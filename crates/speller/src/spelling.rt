@@ -14,7 +14,7 @@ use crate::output::Adding;
 use cells::Cell;
 use packstream::MAX_SIZE;
 
-/// How many entries a dictionary may have: each key is compared with each before it.
+/// The most entries of a dictionary that is spelled: here equal keys are found by comparing all. Larger ones are left to `encode`.
 const FEW: usize = 16;
 
 /// Spells a cell that has no structure and nests within the room.

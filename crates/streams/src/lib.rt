@@ -10,7 +10,7 @@ mod writer;
 pub use fault::StreamFault;
 pub use memory::{Buffer, Slice};
 pub use over::Over;
-pub use traits::{Failed, Peer, Sink, Source};
+pub use traits::{Failed, PeerSource, Sink, Source};
 pub use writer::write_all;
 
 /// The most bytes that either end reads at once.

@@ -12,7 +12,7 @@ pub struct Slice<'a> {
 }
 
 impl<'a> Slice<'a> {
-    /// A source of these bytes. It takes no memory.
+    /// A source of these bytes. Takes no memory.
     pub fn new(bytes: &'a [u8]) -> Slice<'a>
         ensures { result.rest.now ≡ bytes.entry.now }
     {
@@ -46,7 +46,7 @@ pub struct Buffer {
 }
 
 impl Buffer {
-    /// A sink that puts what it takes behind these bytes. It takes no memory.
+    /// A sink that puts what it takes behind these bytes. Takes no memory.
     pub fn new(bytes: Vec<u8>) -> Buffer
         ensures { (result.bytes.items ≡ bytes.items) × (result.failed ≡ false) }
     {

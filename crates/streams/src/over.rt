@@ -26,7 +26,7 @@ pub struct Over<S> {
 }
 
 impl<S> Over<S> {
-    /// Over this reader or writer, which hasn't failed, with 2^63 reads to come. It takes no memory.
+    /// Over this reader or writer, which hasn't failed, with 2^63 reads to come. Takes no memory.
     pub fn new(stream: S) -> Over<S>
         ensures stream { result.stream ≡ stream }
         ensures reads { result.reads ≡ MOST_READS }

@@ -53,7 +53,7 @@ pub trait Sink {
 }
 
 /// Where the bytes of a peer come from that is sent something too: a source that may say when it is read. Every `Source` is one that may be read always.
-pub trait Peer {
+pub trait PeerSource {
     // The bytes that are left, where they are known.
     ghost left: { Self → Option (List ℕ) };
 
@@ -75,7 +75,7 @@ pub trait Peer {
         ensures lowers { IfOk result (λ n. 0 < n → reads self.new < reads self.old) };
 }
 
-impl<I: Source> Peer for I {
+impl<I: Source> PeerSource for I {
     ghost left = { λ s. I.left s };
 
     ghost has_failed = { λ s. I.has_failed s };

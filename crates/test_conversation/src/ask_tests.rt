@@ -1,3 +1,4 @@
+//! A client over streams, and what it tells of them.
 use crate::heard::{Said, are_heard};
 use crate::requests::request;
 use crate::streams_of::{Drip, MANY, Trickle};

@@ -1,3 +1,4 @@
+//! Readers and writers of the standard library, as sources and sinks: interrupted calls, ends and errors.
 ghost use Rattle.std.specs.Prelude.{◌≤◌, IfOk};
 
 use std::io;

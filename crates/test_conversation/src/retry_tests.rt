@@ -1,3 +1,4 @@
+//! What is known of a transaction under a token, by what its attempts tell.
 use crate::requests::{BEGIN_UNDER_NONE, PUT, request};
 use crate::streams_of::{MANY, Table, Trickle, server};
 use asks::{Told, ask_all};

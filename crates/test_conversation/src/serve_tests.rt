@@ -1,3 +1,4 @@
+//! A session over streams that fail after so many reads and writes.
 use crate::streams_of::{Drip, MANY, Trickle, served};
 use server::Cause;
 use std::alloc::Global;

@@ -31,6 +31,8 @@ mod session_tests;
 #[cfg(test)]
 mod structures_tests;
 #[cfg(test)]
+mod table_rows;
+#[cfg(test)]
 mod table_tests;
 #[cfg(test)]
 mod texts_tests;

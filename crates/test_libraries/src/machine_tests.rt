@@ -1,3 +1,4 @@
+//! The phases that may follow a request.
 use crate::answers::said_request;
 use machine::{Kind, Phase, PhaseSet, State, Verdict, after, allowed, kind, phase, row};
 use messages::{Count, Request};

@@ -1,3 +1,4 @@
+//! Cells and their bytes, at each version.
 use crate::answers::gives;
 use crate::reader_tests::DEEPEST;
 use packstream::decode;
@@ -11,7 +12,7 @@ fn cell(alloc: Global, version: Version, input: &[u8]) -> Result<Cell, Fail> {
     Ok(read(alloc, version, &packed)?)
 }
 
-/// The same, None where it is refused.
+/// The cell of these bytes, None if it is refused.
 fn cell_of(alloc: Global, version: Version, input: &[u8]) -> Option<Cell> {
     match decode(alloc, input) {
         Ok(packed) => read(alloc, version, &packed).ok(),

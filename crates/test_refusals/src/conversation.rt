@@ -43,7 +43,7 @@ fn seen_of(server: &Table) -> (Option<State>, Option<Cause>, usize) {
     )
 }
 
-/// The same of a client.
+/// What can be seen of a client without memory.
 fn seen_at(client: &Client) -> (Phase, usize, u64, bool) {
     (
         client.phase(),

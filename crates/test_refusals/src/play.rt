@@ -83,7 +83,7 @@ impl Play {
     }
 }
 
-/// A number of all that is reported of a world but who the peers are and the values of writes. It takes no memory.
+/// A number of all that is reported of a world but who the peers are and the values of writes. Takes no memory.
 fn digest(world: &World<FixedTable, OneUser>) -> u64 {
     let mut sum = 14_695_981_039_346_656_037;
     for conn in 0..MOST_CONNECTIONS {

@@ -1,3 +1,4 @@
+//! Why bytes aren't read, or a message isn't written.
 use thiserror::Error;
 
 /// Why bytes weren't read, or a message wasn't written.

@@ -52,7 +52,7 @@ impl Model for Dechunk {
 }
 
 impl Dechunk {
-    /// At the start of a stream. It takes no memory.
+    /// At the start of a stream. Takes no memory.
     pub fn new(alloc: Global) -> Dechunk
         ensures { result ≡ fresh }
     {

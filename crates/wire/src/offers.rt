@@ -23,7 +23,7 @@ const MAGIC: [u8; 4] = [0x60, 0x60, 0xB0, 0x17];
 
 /// The bytes with which a client opens a connection: `60 60 B0 17` and four proposals of four bytes, each `00`, a range, a minor
 /// version and a major version ("Bolt handshake"). `Newest` proposes a range for each major version, 5.1 with the minor version
-/// below it and then 4.4; `Only` its version alone. A proposal that is left is four zero bytes. It takes no memory.
+/// below it and then 4.4; `Only` its version alone. A proposal that is left is four zero bytes. Takes no memory.
 pub fn offer(wish: Wish) -> [u8; 20]
     ensures { result ≡ offer_of wish }
 {
@@ -48,7 +48,7 @@ pub fn offer(wish: Wish) -> [u8; 20]
 /// any other covers its major version with the minor versions from `minor - range`, or 0 where that is negative, to `minor` ("Bolt
 /// handshake").
 ///
-/// `BadMagic` exactly where the first four bytes aren't `60 60 B0 17`. It takes no memory.
+/// `BadMagic` exactly where the first four bytes aren't `60 60 B0 17`. Takes no memory.
 pub fn choose(offer: &[u8; 20]) -> Result<Option<Version>, BadMagic>
     ensures bad { IsErr result ↔ (take 4 offer.now ≢ magic) }
     ensures good { OnOk result (take 4 offer.now ≡ magic) }

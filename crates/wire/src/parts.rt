@@ -59,7 +59,7 @@ impl Model for Chunks {
 }
 
 impl Chunks {
-    /// The start of a stream. It takes no memory.
+    /// The start of a stream. Takes no memory.
     pub fn new() -> Chunks
         ensures { result ≡ start }
     {
@@ -141,7 +141,7 @@ impl Chunks {
         }
     }
 
-    /// The position behind a piece that is data of the chunk alone; none for any other piece. It takes no memory.
+    /// The position behind a piece that is data of the chunk alone; none for any other piece. Takes no memory.
     pub fn behind_data(mut self, piece: &[u8]) -> Option<Chunks>
         ensures { (behind : Place) → (result ≡ Some behind) ↔ IsData self piece.now behind }
     {
@@ -159,7 +159,7 @@ impl Chunks {
     }
 
     /// The message that the piece begins with, lent, where none is begun and it is there whole, in one chunk; else none. The place
-    /// stays: behind the message, which took four bytes more than it has, it is the same. It takes no memory.
+    /// stays: behind the message, which took four bytes more than it has, it is the same. Takes no memory.
     pub fn message_in<'a>(&self, piece: &'a [u8]) -> Option<&'a [u8]>
         ensures { (m : List ℕ) → (option_map (λ d. d.now) result ≡ Some m)
             ↔ ((self.now ≡ start) × BeginsWith m piece.now) }

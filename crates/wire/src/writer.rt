@@ -44,7 +44,7 @@ pub fn put_noop(out: &mut BytesMut) -> Result<(), WireFault>
     Ok(())
 }
 
-/// How many bytes `put_message` and `put_reserved` append for this message of at most 65,536 bytes. It takes no memory.
+/// How many bytes `put_message` and `put_reserved` append for this message of at most 65,536 bytes. Takes no memory.
 #[tactic(auto, using(crate::proofs::Runs::text_facts))]
 pub fn written_len(message: &[u8]) -> usize
     requires { length message.now ≤ max_message }

@@ -14,7 +14,7 @@ pub fn says_arrive()
     ensures { SaysArrive }
 {}
 
-/// The same of all that a server has said by a moment, which may be nothing.
+/// Of every front of all that a server has said by a moment, which may be nothing, a client hears what lies whole in it.
 #[tactic(auto, using(crate::proofs::Arriving::so_far_arrives))]
 pub fn so_far_arrives()
     ensures { SoFarArrives }

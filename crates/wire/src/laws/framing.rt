@@ -9,7 +9,7 @@ pub fn readers_read()
     ensures { ReadersRead }
 {}
 
-/// The same of every reader.
+/// Of every reader, a piece in parts does what it does whole.
 #[tactic(auto, using(crate::proofs::Readers::reads_pieces))]
 pub fn reads_pieces<R, X>()
     ensures { (p : Reader R X) → ReadsPieces R X p }

@@ -9,7 +9,7 @@ use Rattle.asks.proofs.client_end.ask_all.Goals as goal
 pub returns-clause-asks : goal.returns-clause-asks
 returns-clause-asks g c = λ r f.
     let h = c.converse.ensures.asks r f in
-    subst (λ (z : Option StreamFault). Asks r (g.I.Peer.left c.args.source.now) (g.I.Peer.left c.converse.new.source) (g.O.Sink.taken c.args.sink.now) (g.O.Sink.taken c.converse.new.sink) [] (map note c.converse.new.heard.items) (GivesUp (Fits c.give_up-losses.new.client) c.give_up-losses.result) z) (sym c.err-fault.ensures.value)
+    subst (λ (z : Option StreamFault). Asks r (g.I.PeerSource.left c.args.source.now) (g.I.PeerSource.left c.converse.new.source) (g.O.Sink.taken c.args.sink.now) (g.O.Sink.taken c.converse.new.sink) [] (map note c.converse.new.heard.items) (GivesUp (Fits c.give_up-losses.new.client) c.give_up-losses.result) z) (sym c.err-fault.ensures.value)
     (record {
       out = h.out;
       fed = h.fed;

@@ -12,7 +12,7 @@ use Rattle.asks.proofs.client_end.converse.Goals as goal
 pub returns-in_err-write_out-clause-asks : goal.returns-in_err-write_out-clause-asks
 returns-in_err-write_out-clause-asks g c = λ r f.
     let before = map note c.args.heard.now.items in
-    let left = g.I.Peer.left c.args.source.now in
+    let left = g.I.PeerSource.left c.args.source.now in
     let e : c.from_residual.result ≡ Err c.in_err-write_out.field-0.0 = search rules in
     let h = c.in_err-write_out.ensures.out r f in
     subst (λ (z : Option StreamFault). Asks r left left (g.O.Sink.taken c.args.sink.now) (g.O.Sink.taken c.write_out.new.sink) before before (Fits c.write_out.new.client) z) (sym (ap result_err e))

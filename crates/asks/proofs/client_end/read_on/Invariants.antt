@@ -6,10 +6,10 @@ use Rattle.asks.proofs.client_end.read_on.Given as goal
 
 abbrev pub invariant-loop-buffer : goal.invariant-loop-buffer
 invariant-loop-buffer g l = record {
-  reads : (r : Rest) → Fits l.fn.client r → ReadsOn r (g.I.Peer.left l.fn.source) (g.I.Peer.left l.source) (map note l.fn.heard.items) (map note l.heard.items) (Fits l.client);
-  sound : StaysSound (g.I.Peer.has_failed l.fn.source) (g.I.Peer.has_failed l.source);
-  stays : g.I.Peer.has_failed l.fn.source ≡ true → g.I.Peer.has_failed l.source ≡ true;
+  reads : (r : Rest) → Fits l.fn.client r → ReadsOn r (g.I.PeerSource.left l.fn.source) (g.I.PeerSource.left l.source) (map note l.fn.heard.items) (map note l.heard.items) (Fits l.client);
+  sound : StaysSound (g.I.PeerSource.has_failed l.fn.source) (g.I.PeerSource.has_failed l.source);
+  stays : g.I.PeerSource.has_failed l.fn.source ≡ true → g.I.PeerSource.has_failed l.source ≡ true;
 }
 
 abbrev pub decreases-loop-buffer : goal.decreases-loop-buffer
-decreases-loop-buffer g l = g.I.Peer.reads l.source
+decreases-loop-buffer g l = g.I.PeerSource.reads l.source

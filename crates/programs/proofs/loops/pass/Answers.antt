@@ -8,7 +8,7 @@ returns-clause-passes g c =
     let read : c.as_slice.result.now ≡ c.read_known.new.buffer = c.as_slice.ensures.value ∙ take_at c.read_known.new.buffer _ c.in-Ok.part.len (search rules) in
     rw (← c.way.view_is) (record {
       took = search rules;
-      gave = subst (Consumes (g.S.Peer.left c.way.inside.source) (g.S.Peer.left c.read_known.new.source)) (sym read ∙ same_then c.as_slice.result.now c.args.bytes.now (sym c.ne.ensures ∙ c.if-ne.false)) c.in_ok-read_known.ensures.reads;
+      gave = subst (Consumes (g.S.PeerSource.left c.way.inside.source) (g.S.PeerSource.left c.read_known.new.source)) (sym read ∙ same_then c.as_slice.result.now c.args.bytes.now (sym c.ne.ensures ∙ c.if-ne.false)) c.in_ok-read_known.ensures.reads;
     })
 
 pub returns-then-ne-clause-read : goal.returns-then-ne-clause-read
@@ -18,6 +18,6 @@ returns-then-ne-clause-read g c = λ e.
       written = c.args.bytes.now;
       read = c.as_slice.result.now;
       took = search rules;
-      gave = subst (Consumes (g.S.Peer.left c.way.inside.source) (g.S.Peer.left c.read_known.new.source)) (sym read) c.in_ok-read_known.ensures.reads;
+      gave = subst (Consumes (g.S.PeerSource.left c.way.inside.source) (g.S.PeerSource.left c.read_known.new.source)) (sym read) c.in_ok-read_known.ensures.reads;
       other = other_then c.as_slice.result.now c.args.bytes.now (sym c.ne.ensures ∙ c.if-ne.true);
     }))

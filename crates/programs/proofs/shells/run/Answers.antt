@@ -8,7 +8,7 @@ use Rattle.programs.proofs.Stops.{never_err, unless_so}
 use Rattle.programs.proofs.shells.run.Goals as goal
 
 pub begin-requires : goal.begin-requires
-begin-requires g c = λ s taken n few turn. c.requires s taken n few (turn_first _ (g.S.Peer.left s) taken c.in-Ok.conversation.caller c.in-Ok.ensures.new.0 turn)
+begin-requires g c = λ s taken n few turn. c.requires s taken n few (turn_first _ (g.S.PeerSource.left s) taken c.in-Ok.conversation.caller c.in-Ok.ensures.new.0 turn)
 
 pub send-requires : goal.send-requires
 send-requires g c = λ s taken n few turn. let p = c.loop-len.invariant.progress in c.requires s taken n few (turn _ p.done p.stands)

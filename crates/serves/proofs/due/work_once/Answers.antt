@@ -1,6 +1,6 @@
 use Rattle.std.proofs.Common.{◌∙◌, ap}
 use Rattle.server.specs.Prelude.{setting, rest_of}
-use Rattle.serves.specs.Prelude.{settled, standing_of}
+use Rattle.serves.specs.Prelude.{settled, liveness_of}
 use Rattle.serves.specs.declared.due.Next.TheVariants as next
 use Rattle.serves.proofs.Stepping.{goes_by, goes_with, goes_wrong, holds_part, holds_same}
 use Rattle.serves.proofs.Called.{ended_there, holds_none, holds_some}
@@ -14,7 +14,7 @@ returns-in-Ok-Rest-clause-steps g c = λ r u t before i o.
     let whole = settled (setting g.E.Engine.answer g.G.Gate.accepts r) c.args.conn t in
     let new = rest_of g.E.Engine.entries c.work_step.new.server in
     let w = goes_by i g.E.Engine.answer g.G.Gate.accepts o new next.Rest (rw c.in-Ok-Rest.field-0-is at c.in-Ok-Rest.ensures.works) in
-    record { holds = w; stands = c.standing.ensures ∙ ap standing_of (ended_there r c.args.conn i u whole.ledger (record whole.kept { unsent = w.held }) new w.now) }
+    record { holds = w; stands = c.liveness.ensures ∙ ap liveness_of (ended_there r c.args.conn i u whole.ledger (record whole.kept { unsent = w.held }) new w.now) }
 
 pub returns-in-Ok-clause-steps : goal.returns-in-Ok-clause-steps
 returns-in-Ok-clause-steps g c = λ r u t before i o.

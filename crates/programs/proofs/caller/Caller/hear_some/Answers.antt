@@ -17,16 +17,16 @@ pub returns-in-Ok-clause-hears : goal.returns-in-Ok-clause-hears
 returns-in-Ok-clause-hears g c = λ p at waits.
     let k = c.hear_piece-done in
     let none : map note c.new-heard.result.items ≡ [] = ap (map note) c.new-heard.ensures.items in
-    let h = subst (λ (z : Client). HearsPiece p.rest (g.S.Peer.left c.streams.inside.source) (g.S.Peer.left k.new.source) [] (map note k.new.heard.items) (Fits z) k.result) (sym c.put_all.ensures.client) (rw none at (k.ensures.hears p.rest at.fits)) in
-    rw (← c.streams.view_is) (hears_piece (g.S.Peer.left k.new.source) (g.S.Peer.reads k.new.source) (g.S.Peer.has_failed k.new.source) k.result waits h (unless_err k.result ReadFailed _ k.ensures.sound) at.version c.in-Ok.ensures.prints (inl refl) (λ e. (e, refl)) c.put_all.ensures.version)
+    let h = subst (λ (z : Client). HearsPiece p.rest (g.S.PeerSource.left c.streams.inside.source) (g.S.PeerSource.left k.new.source) [] (map note k.new.heard.items) (Fits z) k.result) (sym c.put_all.ensures.client) (rw none at (k.ensures.hears p.rest at.fits)) in
+    rw (← c.streams.view_is) (hears_piece (g.S.PeerSource.left k.new.source) (g.S.PeerSource.reads k.new.source) (g.S.PeerSource.has_failed k.new.source) k.result waits h (unless_err k.result ReadFailed _ k.ensures.sound) at.version c.in-Ok.ensures.prints (inl refl) (λ e. (e, refl)) c.put_all.ensures.version)
 
 pub returns-in-Err-clause-hears : goal.returns-in-Err-clause-hears
 returns-in-Err-clause-hears g c = λ p at waits.
     let k = c.hear_piece-done in
     let none : map note c.new-heard.result.items ≡ [] = ap (map note) c.new-heard.ensures.items in
-    let h = subst (λ (z : Client). HearsPiece p.rest (g.S.Peer.left c.streams.inside.source) (g.S.Peer.left k.new.source) [] (map note k.new.heard.items) (Fits z) k.result) (sym c.put_all.ensures.client) (rw none at (k.ensures.hears p.rest at.fits)) in
+    let h = subst (λ (z : Client). HearsPiece p.rest (g.S.PeerSource.left c.streams.inside.source) (g.S.PeerSource.left k.new.source) [] (map note k.new.heard.items) (Fits z) k.result) (sym c.put_all.ensures.client) (rw none at (k.ensures.hears p.rest at.fits)) in
     let sound = unless_err k.result ReadFailed _ k.ensures.sound (never_read p.rest _ _ _ k.result h c.in-Err.ensures.prints.done) in
-    rw (← c.streams.view_is) (hears_piece (g.S.Peer.left k.new.source) (g.S.Peer.reads k.new.source) (g.S.Peer.has_failed k.new.source) k.result waits h (λ _. sound) at.version c.in-Err.ensures.prints (inr refl)
+    rw (← c.streams.view_is) (hears_piece (g.S.PeerSource.left k.new.source) (g.S.PeerSource.reads k.new.source) (g.S.PeerSource.has_failed k.new.source) k.result waits h (λ _. sound) at.version c.in-Err.ensures.prints (inr refl)
     (λ e. absurd (true≢false (sym e ∙ never_printed c.in-Err.fault (λ q. c.in-Err.ensures.read (ap Err q))))) c.put_all.ensures.version)
 
 pub returns-in-Ok-clause-end : goal.returns-in-Ok-clause-end

@@ -6,7 +6,7 @@ pub ask-requires : goal.ask-requires
 ask-requires g c = λ s taken n few turn. c.requires s taken n few (λ start done s0.
     let stands = rw (← c.streams.view_is) at s0 in
     let h = rw c.in-Ok-true.field-0-test at (c.in-Ok-true.ensures.submits stands.place stands.at) in
-    turn_answer stands _ (g.S.Peer.left s) taken c.submit.new.self h.0 h.2 turn)
+    turn_answer stands _ (g.S.PeerSource.left s) taken c.submit.new.self h.0 h.2 turn)
 
 pub returns-in-Ok-true-clause-submits : goal.returns-in-Ok-true-clause-submits
 returns-in-Ok-true-clause-submits g c = λ start done line r s0.

@@ -13,7 +13,7 @@ join-requires-clause-root c =
     let h : Holds = holds c.args.self.now in
     let g = c.requires.goes in
     let k = key_frame g.frames (c.requires.key g.frames g.levels) in
-    let first : c.keys-first.result ≡ k.first = c.keys-first.ensures (waits (at_key k.es) k.lacks k.first) k.around (subst (λ (fs : List Frame). AreLevels fs h.standing.«open».depth h.standing.«open».around) k.is g.levels) in
+    let first : c.keys-first.result ≡ k.first = c.keys-first.ensures (waits (at_key k.es) k.lacks k.first) k.around (subst (λ (fs : List Frame). AreLevels fs h.cursor.«open».depth h.cursor.«open».around) k.is g.levels) in
     subst (λ (n : ℕ). IsRoot h.names n) (sym first) (key_root h c.args.marker c.args.number g k)
 
 pub returns-then-not-is_new-clause-told : goal.returns-then-not-is_new-clause-told
@@ -21,7 +21,7 @@ returns-then-not-is_new-clause-told c =
     let h : Holds = holds c.args.self.now in
     let g = c.requires.goes in
     let k = key_frame g.frames (c.requires.key g.frames g.levels) in
-    let first : c.keys-first.result ≡ k.first = c.keys-first.ensures (waits (at_key k.es) k.lacks k.first) k.around (subst (λ (fs : List Frame). AreLevels fs h.standing.«open».depth h.standing.«open».around) k.is g.levels) in
+    let first : c.keys-first.result ≡ k.first = c.keys-first.ensures (waits (at_key k.es) k.lacks k.first) k.around (subst (λ (fs : List Frame). AreLevels fs h.cursor.«open».depth h.cursor.«open».around) k.is g.levels) in
     let there = tail_at h c.args.marker c.args.number c.args.start c.args.size c.requires.announced g c.requires.start in
     let named = (c.in_ok-is_new.ensures.again (ap (λ (b : Bool). Ok b) c.if-not-is_new.true)).0 in
     key_twice h c.args.marker c.args.number c.args.start c.args.size c.args.rest.now c.requires.announced g k there (subst (λ (s : List ℕ). IsUtf8 s) there c.requires.text)
@@ -35,7 +35,7 @@ returns-clause-told c =
     let g = c.requires.goes in
     let k = key_frame g.frames (c.requires.key g.frames g.levels) in
     let o : Open = c.key_ends.new.self in
-    let first : c.keys-first.result ≡ k.first = c.keys-first.ensures (waits (at_key k.es) k.lacks k.first) k.around (subst (λ (fs : List Frame). AreLevels fs h.standing.«open».depth h.standing.«open».around) k.is g.levels) in
+    let first : c.keys-first.result ≡ k.first = c.keys-first.ensures (waits (at_key k.es) k.lacks k.first) k.around (subst (λ (fs : List Frame). AreLevels fs h.cursor.«open».depth h.cursor.«open».around) k.is g.levels) in
     let there = tail_at h m n c.args.start c.args.size c.requires.announced g c.requires.start in
     let fresh = c.in_ok-is_new.ensures.fresh (ap (λ (b : Bool). Ok b) c.if-not-is_new.false) in
     let name : Name = record { start = c.args.start; len = length h.store - c.args.start; first = k.first } in

@@ -1,7 +1,7 @@
 use Rattle.std.proofs.Common.{◌≡◌, ◌++◌, ap, refl, sym, subst, ◌∙◌}
 use Rattle.std.proofs.lemmas.List.{append-nil}
 use Rattle.packstream.proofs.Ranges.{bytes_from_each}
-use Rattle.reader.specs.declared.stop.Stop.{Stop}
+use Rattle.reader.specs.declared.read_fault.ReadFault.{ReadFault}
 use Rattle.reader.specs.Prelude.{Holds, holds, at_mark, with_fault, HoldsOn, IsFaultOf}
 use Rattle.reader.proofs.Held.{keeps_on, keeps_cut, joins, on_taken, on_cut, on_bad, turns_back}
 use Rattle.reader.proofs.progress.Reading.feed.Goals as goal
@@ -34,7 +34,7 @@ returns-in-Err-Fault c =
     let b = c.args.before.now in
     let bad : holds c.turn_bad.new.self ≡ with_fault f.reason f.place (at_mark b new) = c.turn_bad.ensures ∙ ap (with_fault f.reason f.place) c.cut-in-Err-Fault.ensures in
     record {
-      here = turns_back old new (holds c.turn_bad.new.self) b c.args.piece.now f.reason f.place c.requires.before c.take.ensures.grown c.requires.good bad (subst (λ (s : Stop). IsFaultOf s (old.store ++ c.args.piece.now)) f.field-0-is f.ensures.told);
+      here = turns_back old new (holds c.turn_bad.new.self) b c.args.piece.now f.reason f.place c.requires.before c.take.ensures.grown c.requires.good bad (subst (λ (s : ReadFault). IsFaultOf s (old.store ++ c.args.piece.now)) f.field-0-is f.ensures.told);
       held = on_bad old new (holds c.turn_bad.new.self) b f.reason f.place c.requires.before c.take.ensures.grown bad;
       err = tt;
     }

@@ -1,6 +1,6 @@
 use Rattle.std.proofs.Common.{◌≡◌, arith, rules, to_z, of_z, w64}
 use Rattle.messages.proofs.Added.{rows_scanned}
-use Rattle.messages.proofs.scan.pull_of.Goals as goal
+use Rattle.messages.proofs.scan.scan_pull.Goals as goal
 
 pub returns : goal.returns
 returns c =

@@ -2,7 +2,7 @@
 
 /// Whether a session goes on.
 #[derive(Clone, Copy, Debug, PartialEq, Eq)]
-pub enum Standing {
+pub enum Liveness {
     /// Nothing is due, and more may be taken.
     Open,
     /// The session has ended.

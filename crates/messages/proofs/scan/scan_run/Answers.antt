@@ -2,7 +2,7 @@ use Rattle.std.proofs.Common.{string_bytes, sym}
 use Rattle.packstream.proofs.Ranges.{bytes_from_each}
 use Rattle.cells.specs.Prelude.{entries}
 use Rattle.messages.proofs.Added.{run_scanned}
-use Rattle.messages.proofs.scan.run_of.Goals as goal
+use Rattle.messages.proofs.scan.scan_run.Goals as goal
 
 pub returns : goal.returns
 returns c =
