@@ -1,4 +1,6 @@
 //! The peers of a listener: connections over sockets that don't wait.
+ghost use Rattle.std.specs.Prelude.{◌≡◌, ◌==◌, ◌<◌, length, IfSome};
+ghost use Rattle.std.specs.List.{position};
 
 use crate::failures::{Refusal, refusal_of};
 use crate::serving::Place;
@@ -135,7 +137,10 @@ impl<'a, R: Net + Clock + Drop> Network<'a, R> {
 }
 
 /// Where the connection stands among the others.
-fn place_of(peers: &[Peer], conn: u64) -> Option<usize> {
+fn place_of(peers: &[Peer], conn: u64) -> Option<usize>
+    ensures first { result ≡ position (λ p. p.conn == conn) peers.now }
+    ensures within { IfSome result (λ at. at < length peers.now) }
+{
     peers.iter().position(|peer| peer.conn == conn)
 }
 

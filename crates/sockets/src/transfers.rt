@@ -1,6 +1,6 @@
 //! Reads and writes that never wait.
-ghost use Rattle.std.specs.Prelude.{◌≡◌, ◌≤◌, length, take, OnOk};
-ghost use Rattle.std.specs.Io.KnownBytes.{Appends, Consumes};
+ghost use Rattle.std.specs.Prelude.{◌≡◌, ◌<◌, ◌≤◌, length, take, IfOk};
+ghost use Rattle.std.specs.Io.KnownBytes.{Appends, Consumes, IsAtEnd};
 ghost use Rattle.lines.specs.Peers.{got_count, told_count};
 
 use lines::{Failed, Got};
@@ -13,8 +13,9 @@ const MOST_TRIES: u64 = 1 << 63;
 /// again; every other error fails the connection.
 pub fn read_now<R: Read>(stream: &mut R, buffer: &mut [u8]) -> Result<Got, Failed>
     ensures within { got_count result ≤ length buffer.new }
-    ensures bytes { OnOk result (Consumes (R.remaining stream.old) (R.remaining stream.new)
-        (take (got_count result) buffer.new)) }
+    ensures bytes { Consumes (R.remaining stream.old) (R.remaining stream.new)
+        (take (got_count result) buffer.new) }
+    ensures end { 0 < length buffer.new → IfOk result (λ got. got ≡ Got.End → IsAtEnd (R.remaining stream.new)) }
 {
     for _ in 0..MOST_TRIES {
         match stream.read(buffer) {
@@ -34,8 +35,8 @@ pub fn read_now<R: Read>(stream: &mut R, buffer: &mut [u8]) -> Result<Got, Faile
 /// fails the connection.
 pub fn write_now<W: Write>(stream: &mut W, bytes: &[u8]) -> Result<usize, Failed>
     ensures within { told_count result ≤ length bytes.now }
-    ensures bytes { OnOk result (Appends (W.contents stream.old) (W.contents stream.new)
-        (take (told_count result) bytes.now)) }
+    ensures bytes { Appends (W.contents stream.old) (W.contents stream.new)
+        (take (told_count result) bytes.now) }
 {
     for _ in 0..MOST_TRIES {
         match stream.write(bytes) {
