@@ -5,10 +5,17 @@ use Rattle.engine.specs.declared.answer.Mode.{Mode as QueryMode}
 use Rattle.engine.specs.Views.{WriteView, ParameterView, EntryView, AnswerView, QueryFault}
 use Rattle.server.specs.Serving.{Rest}
 use Rattle.server.specs.Running.{Event, after_events}
+use Rattle.sockets.specs.declared.reasons.Reason.{Reason}
+use Rattle.sockets.specs.declared.reasons.Reason.TheVariants.{Unbound}
 
 -- the line of a port at which connections are taken
 abbrev pub listening_line : ℕ → List ℕ
 listening_line port = codes "listening " ++ decimal port ++ 10 ∷ []
+
+-- the port isn't had
+abbrev pub IsUnbound : Reason → Type 0
+IsUnbound (Unbound e) = Unit {0}
+IsUnbound _ = ⊥
 
 -- The server stands as some calls leave it, one after the other, of any of its sessions. What holds of every list of calls holds of it.
 abbrev pub Reaches : {G : Type 0}

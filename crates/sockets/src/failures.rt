@@ -6,7 +6,7 @@ use std::io::ErrorKind;
 
 /// Why nobody was accepted.
 #[derive(Clone, Copy, Debug, PartialEq, Eq)]
-pub enum Refusal {
+pub(crate) enum Refusal {
     /// Nobody waits.
     Nobody,
     /// The one who waited is gone, or a signal came: the next may be tried at once.
@@ -18,7 +18,7 @@ pub enum Refusal {
 /// What an accept means that fails so. Linux tells a failure of the network on the connection that waited as one of the accept
 /// (accept(2), "Error handling"): only that connection is gone. A process or a system without a free descriptor (EMFILE, ENFILE) has no
 /// kind of its own, and is `Later` as every other.
-pub fn refusal_of(kind: ErrorKind) -> Refusal
+pub(crate) fn refusal_of(kind: ErrorKind) -> Refusal
     ensures { result ≡ refusal_of kind }
 {
     match kind {

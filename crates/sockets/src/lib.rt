@@ -1,7 +1,7 @@
 //! A server of many connections over the sockets of this machine: who waits at a port is let in, and each end is printed.
 //!
-//! [`serve_at`] is the loop of `hosts` over a [`Network`], which is the [`lines::Peers`] of a listener and its connections. No call on a socket
-//! waits but the one for all of them, and none raises a signal: a write to a peer that is gone fails.
+//! [`serve_at`] is the loop of `hosts` over the sockets of a listener and its connections. No call on a socket waits but the one for all of
+//! them, and none raises a signal: a write to a peer that is gone fails.
 #![tactic(auto)]
 
 mod failures;
@@ -11,10 +11,6 @@ mod reasons;
 mod serving;
 mod transfers;
 
-pub use failures::{Refusal, refusal_of};
 pub use hosts::Limits;
-pub use network::Network;
-pub use printed::Printed;
 pub use reasons::{Reason, put_reason};
 pub use serving::{Place, serve_at};
-pub use transfers::{read_now, write_now};

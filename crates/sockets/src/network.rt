@@ -37,7 +37,7 @@ struct Peer {
 
 /// A listener, its connections, and what is ready of them. It waits no longer once its output is told to have failed.
 #[derive(Drop)]
-pub struct Network<'a, R: Drop> {
+pub(crate) struct Network<'a, R: Drop> {
     rt: &'a R,
     has_failed: &'a Cell<bool>,
     poll: Poll,
@@ -97,12 +97,12 @@ impl<'a, R: Net + Clock + Drop> Network<'a, R> {
     }
 
     /// The address at which it listens.
-    pub fn address(&self) -> io::Result<SocketAddr> {
+    pub(crate) fn address(&self) -> io::Result<SocketAddr> {
         self.listener.local_addr()
     }
 
     /// Why the wait failed, where it did.
-    pub fn error(&self) -> Option<&io::Error> {
+    pub(crate) fn error(&self) -> Option<&io::Error> {
         self.error.as_ref()
     }
 

@@ -1,7 +1,8 @@
 //! The journal of a server, printed a line for each connection.
-ghost use Rattle.std.specs.Prelude.{◌≡◌, ◌×◌, None, List, ℕ};
+ghost use Rattle.std.specs.Prelude.{◌≡◌, None, [], ◌∷◌};
 ghost use Rattle.programs.specs.Serving.{conn_line};
 ghost use Rattle.programs.specs.Stopping.{Gets};
+ghost use Rattle.hosts.specs.Running.{TellsMore};
 ghost use Rattle.sockets.specs.Printing.{cause_of};
 
 use hosts::{Journal, Parting};
@@ -14,14 +15,14 @@ use streams::{Sink, write_all};
 /// The journal of a server: prints `conn K En` of each connection whose session was given up, its number and the cause of its end. Takes no
 /// memory.
 #[derive(Drop)]
-pub struct Printed<'a, O> {
+pub(crate) struct Printed<'a, O> {
     out: &'a mut O,
     has_failed: &'a Cell<bool>,
 }
 
 impl<'a, O: Sink> Printed<'a, O> {
     /// Prints so, and sets the cell where a line isn't taken.
-    pub fn new(out: &'a mut O, has_failed: &'a Cell<bool>) -> Printed<'a, O> {
+    pub(crate) fn new(out: &'a mut O, has_failed: &'a Cell<bool>) -> Printed<'a, O> {
         Printed { out, has_failed }
     }
 }
@@ -35,25 +36,33 @@ fn cause_of(parting: Parting) -> Cause
     }
 }
 
-/// Writes a text; whether all of it was taken.
-fn put<O: Sink>(text: &[u8], out: &mut O) -> bool
+/// Writes a text, as far as it is taken.
+fn tell<O: Sink>(text: &[u8], out: &mut O)
     ensures { Gets (O.has_failed out.old) (O.has_failed out.new) (O.taken out.old) (O.taken out.new)
         text.now }
 {
-    write_all(out, text).is_ok()
+    let _ = write_all(out, text);
 }
 
-/// Writes `conn K En` on a line; whether all of it was taken.
+/// Writes the end of a line; whether it was taken.
+fn end_line<O: Sink>(out: &mut O) -> bool
+    ensures { Gets (O.has_failed out.old) (O.has_failed out.new) (O.taken out.old) (O.taken out.new)
+        (10 ∷ []) }
+{
+    write_all(out, b"\n").is_ok()
+}
+
+/// Writes `conn K En` on a line; whether its end was taken. An output that has failed takes nothing more.
 fn put_end<O: Sink>(conn: u64, cause: Cause, out: &mut O) -> bool
     ensures { Gets (O.has_failed out.old) (O.has_failed out.new) (O.taken out.old) (O.taken out.new)
         (conn_line conn cause) }
 {
     let mut digits = Buffer::new();
-    put(b"conn ", out)
-        && put(digits.format(conn).as_bytes(), out)
-        && put(b" ", out)
-        && put(cause_code(cause).as_bytes(), out)
-        && put(b"\n", out)
+    tell(b"conn ", out);
+    tell(digits.format(conn).as_bytes(), out);
+    tell(b" ", out);
+    tell(cause_code(cause).as_bytes(), out);
+    end_line(out)
 }
 
 impl<'a, O: Sink> Journal for Printed<'a, O> {

@@ -3,7 +3,7 @@
 ghost use Rattle.std.specs.Prelude.{◌≡◌, [], true, IfOk, IfErr, OnOk, IsErrOf, string_bytes};
 ghost use Rattle.std.specs.Io.KnownBytes.{Appends};
 ghost use Rattle.server.specs.Views.{rest_of};
-ghost use Rattle.sockets.specs.Serving.{Reaches, listening_line};
+ghost use Rattle.sockets.specs.Serving.{IsUnbound, Reaches, listening_line};
 
 use crate::network::Network;
 use crate::printed::Printed;
@@ -62,7 +62,9 @@ pub fn serve_at<R: Net + Clock + Drop, E: Engine, G: Gate, O: Sink>(
     out: &mut O,
 ) -> Reason
     requires { (rest_of E.entries server.old).sessions ≡ [] }
-    ensures { Reaches E.answer G.accepts (rest_of E.entries server.old) (rest_of E.entries server.new) }
+    ensures reaches { Reaches E.answer G.accepts (rest_of E.entries server.old) (rest_of E.entries server.new) }
+    // Where the port isn't had, nothing is served.
+    ensures unbound { IsUnbound result → rest_of E.entries server.new ≡ rest_of E.entries server.old }
 {
     let has_failed = Cell::new(false);
     let mut network = match Network::bind(rt, alloc, place, &has_failed) {

@@ -11,7 +11,7 @@ const MOST_TRIES: u64 = 1 << 63;
 
 /// Reads what is there into the front of the buffer, which isn't empty. Nothing where a read would wait; what a signal interrupts is tried
 /// again; every other error fails the connection.
-pub fn read_now<R: Read>(stream: &mut R, buffer: &mut [u8]) -> Result<Got, Failed>
+pub(crate) fn read_now<R: Read>(stream: &mut R, buffer: &mut [u8]) -> Result<Got, Failed>
     ensures within { got_count result ≤ length buffer.new }
     ensures bytes { Consumes (R.remaining stream.old) (R.remaining stream.new)
         (take (got_count result) buffer.new) }
@@ -33,7 +33,7 @@ pub fn read_now<R: Read>(stream: &mut R, buffer: &mut [u8]) -> Result<Got, Faile
 
 /// Writes a front of the bytes, and answers how many; 0 where a write would wait. What a signal interrupts is tried again; every other error
 /// fails the connection.
-pub fn write_now<W: Write>(stream: &mut W, bytes: &[u8]) -> Result<usize, Failed>
+pub(crate) fn write_now<W: Write>(stream: &mut W, bytes: &[u8]) -> Result<usize, Failed>
     ensures within { told_count result ≤ length bytes.now }
     ensures bytes { Appends (W.contents stream.old) (W.contents stream.new)
         (take (told_count result) bytes.now) }

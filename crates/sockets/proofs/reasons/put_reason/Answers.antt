@@ -1,0 +1,8 @@
+use Rattle.std.proofs.Common.{refl}
+use Rattle.programs.proofs.Moved.{gets_then}
+use Rattle.sockets.proofs.reasons.put_reason.Goals as goal
+
+pub returns-clause-text : goal.returns-clause-text
+returns-clause-text g c =
+    let words = c.put_words.ensures in
+    (_, (words.0, words.1, refl), gets_then _ _ _ _ _ _ _ _ c.put_fault.ensures.text words.2)
