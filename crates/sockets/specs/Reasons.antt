@@ -16,10 +16,18 @@ fault_of (reason.Unwaited e) = fault.ReadFailed
 fault_of reason.OutputFailed = fault.WriteFailed
 fault_of reason.Memory = fault.Memory
 
--- What is said beside the fault: nothing, or what the system said, behind the host and the port where these aren't had.
+-- a host and a port: the host is a word of the command line, and escaped
+abbrev pub place_name : List ℕ → ℕ → List ℕ
+place_name host port = escaped host ++ codes " port " ++ decimal port
+
+-- what is said of a port that isn't had: the host and the port, and what the system said
+abbrev pub IsPortOf : List ℕ → ℕ → List ℕ → Type 0
+IsPortOf host port words =
+    (own : List ℕ) × (words ≡ place_name host port ++ codes ": " ++ own ++ 10 ∷ [])
+
+-- what is said beside the fault: nothing, or what the system said
 abbrev pub IsSaidOf : List ℕ → ℕ → Reason → List ℕ → Type 0
-IsSaidOf host port (reason.Unbound e) words =
-    (own : List ℕ) × (words ≡ escaped host ++ codes " port " ++ decimal port ++ codes ": " ++ own ++ 10 ∷ [])
+IsSaidOf host port (reason.Unbound e) words = IsPortOf host port words
 IsSaidOf host port (reason.Unwaited e) words =
     (own : List ℕ) × (words ≡ codes "the connections: " ++ own ++ 10 ∷ [])
 IsSaidOf host port reason.OutputFailed words = words ≡ []

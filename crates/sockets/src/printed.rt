@@ -1,5 +1,7 @@
 //! The journal of a server, printed a line for each connection.
 ghost use Rattle.std.specs.Prelude.{◌≡◌, None, [], ◌∷◌};
+ghost use Rattle.std.specs.Fmt.{decimal};
+ghost use Rattle.programs.specs.Names.{cause_code};
 ghost use Rattle.programs.specs.Serving.{conn_line};
 ghost use Rattle.programs.specs.Stopping.{Gets};
 ghost use Rattle.hosts.specs.Running.{TellsMore};
@@ -44,6 +46,23 @@ fn tell<O: Sink>(text: &[u8], out: &mut O)
     let _ = write_all(out, text);
 }
 
+/// Writes a number in decimal, as far as it is taken.
+fn tell_number<O: Sink>(number: u64, out: &mut O)
+    ensures { Gets (O.has_failed out.old) (O.has_failed out.new) (O.taken out.old) (O.taken out.new)
+        (decimal number) }
+{
+    let mut digits = Buffer::new();
+    tell(digits.format(number).as_bytes(), out);
+}
+
+/// Writes the code of a cause, as far as it is taken.
+fn tell_cause<O: Sink>(cause: Cause, out: &mut O)
+    ensures { Gets (O.has_failed out.old) (O.has_failed out.new) (O.taken out.old) (O.taken out.new)
+        (cause_code cause) }
+{
+    tell(cause_code(cause).as_bytes(), out);
+}
+
 /// Writes the end of a line; whether it was taken.
 fn end_line<O: Sink>(out: &mut O) -> bool
     ensures { Gets (O.has_failed out.old) (O.has_failed out.new) (O.taken out.old) (O.taken out.new)
@@ -57,11 +76,10 @@ fn put_end<O: Sink>(conn: u64, cause: Cause, out: &mut O) -> bool
     ensures { Gets (O.has_failed out.old) (O.has_failed out.new) (O.taken out.old) (O.taken out.new)
         (conn_line conn cause) }
 {
-    let mut digits = Buffer::new();
     tell(b"conn ", out);
-    tell(digits.format(conn).as_bytes(), out);
+    tell_number(conn, out);
     tell(b" ", out);
-    tell(cause_code(cause).as_bytes(), out);
+    tell_cause(cause, out);
     end_line(out)
 }
 

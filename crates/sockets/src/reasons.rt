@@ -3,7 +3,7 @@ ghost use Rattle.std.specs.Prelude.{◌≡◌, ◌⊎◌, ◌↔◌, List, [], �
 ghost use Rattle.std.specs.IoError.{error_kind};
 ghost use Rattle.programs.specs.Stopping.{Gets, stop_status};
 ghost use Rattle.programs.specs.declared.stop.StopReason.{StopReason};
-ghost use Rattle.sockets.specs.Reasons.{IsSaidOf, IsTold, fault_of};
+ghost use Rattle.sockets.specs.Reasons.{IsPortOf, IsSaidOf, IsTold, fault_of, place_name};
 
 use programs::{escape, put_fault};
 use std::alloc::{AllocError, Global};
@@ -46,17 +46,36 @@ fn fault_of(reason: Reason) -> StreamFault
     }
 }
 
+/// A host and a port as they are told.
+fn place_name(alloc: Global, host: &str, port: u16) -> Result<String, AllocError>
+    ensures { IfOk result (λ t. string_bytes t ≡ place_name host.now port) }
+{
+    let host = escape(alloc, host)?;
+    let name = format!(in alloc; "{host} port {port}")?;
+    Ok(name)
+}
+
+/// What is said of a port that isn't had.
+fn unbound_words(
+    alloc: Global,
+    host: &str,
+    port: u16,
+    error: io::Error,
+) -> Result<String, AllocError>
+    ensures { IfOk result (λ words. IsPortOf host.now port (string_bytes words)) }
+{
+    let place = place_name(alloc, host, port)?;
+    let own = format!(in alloc; "{error}")?;
+    let words = format!(in alloc; "{place}: {own}\n")?;
+    Ok(words)
+}
+
 /// What is said beside the fault, where the system has said why.
 fn words_of(alloc: Global, host: &str, port: u16, reason: Reason) -> Result<String, AllocError>
     ensures { IfOk result (λ words. IsSaidOf host.now port reason (string_bytes words)) }
 {
     match reason {
-        Reason::Unbound(error) => {
-            let host = escape(alloc, host)?;
-            let own = format!(in alloc; "{error}")?;
-            let words = format!(in alloc; "{host} port {port}: {own}\n")?;
-            Ok(words)
-        }
+        Reason::Unbound(error) => unbound_words(alloc, host, port, error),
         Reason::Unwaited(error) => {
             let own = format!(in alloc; "{error}")?;
             let words = format!(in alloc; "the connections: {own}\n")?;
